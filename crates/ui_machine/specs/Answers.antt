@@ -1,0 +1,50 @@
+-- An answer is what a part of a step leads to, or the arm by which the machine is stuck.
+use Rattle.std.specs.Prelude.{◌≡◌, Bool, true, false, Option, Some, None, Result, Ok, Err}
+use Rattle.ui_machine.specs.declared.arm.Arm.{Arm}
+use Rattle.ui_machine.specs.declared.arm.Halt.{Halt}
+use Rattle.ui_machine.specs.declared.arm.Halt.TheVariants as halts
+
+abbrev pub Answer : Type 0 → Type 0
+Answer A = Result A Arm
+
+infixl 10 ◌>>=◌
+abbrev pub ◌>>=◌ : {A B : Type 0} → Answer A → (A → Answer B) → Answer B
+(Ok x) >>= f = f x
+(Err arm) >>= f = Err arm
+
+-- what is there, or the arm
+abbrev pub known : {A : Type 0} → Arm → Option A → Answer A
+known arm None = Err arm
+known arm (Some x) = Ok x
+
+-- the answer if the test holds, or the arm
+abbrev pub only_if : {A : Type 0} → Bool → Arm → Answer A → Answer A
+only_if true arm answer = answer
+only_if false arm answer = Err arm
+
+-- ** what contracts say of code beside an answer
+
+-- The code's answer, seen by view, is the machine's, and what the code leaves is what the machine leaves.
+abbrev pub Gives : {S X Y : Type 0} → (X → Y) → Result X Arm → Answer (S × Y) → S → Type 0
+Gives view (Ok x) answer new = answer ≡ Ok (new, view x)
+Gives view (Err arm) answer new = answer ≡ Err arm
+
+-- why the code stopped: it found no memory, of which the machine knows nothing, or the machine is stuck there
+abbrev pub Stops : {A : Type 0} → Halt → Answer A → Type 0
+Stops halts.OutOfMemory answer = Unit {0}
+Stops (halts.Stuck arm) answer = answer ≡ Err arm
+
+-- the same as `Gives` of code that asks for memory
+abbrev pub Follows : {S X Y : Type 0} → (X → Y) → Result X Halt → Answer (S × Y) → S → Type 0
+Follows view (Ok x) answer new = answer ≡ Ok (new, view x)
+Follows view (Err halt) answer new = Stops halt answer
+
+-- code that changes nothing
+abbrev pub Offers : {X Y : Type 0} → (X → Y) → Result X Halt → Answer Y → Type 0
+Offers view (Ok x) answer = answer ≡ Ok (view x)
+Offers view (Err halt) answer = Stops halt answer
+
+-- code that answers nothing but what it leaves
+abbrev pub Goes : {S X : Type 0} → Result X Halt → Answer S → S → Type 0
+Goes (Ok x) answer new = answer ≡ Ok new
+Goes (Err halt) answer new = Stops halt answer

@@ -1,0 +1,155 @@
+-- What the machine stands at: a configuration.
+use Rattle.std.specs.Prelude.{ℕ, ℤ, Bool, List, Option}
+use Rattle.ui_machine.specs.Values.{Value}
+use Rattle.ui_machine.specs.Definition.{Method, Given, GivenProperty}
+
+-- ** objects (GObject manual, GObject)
+
+pub record Object : Type 0 where
+  pub class : ℕ
+  pub place : ℕ
+  pub values : List Value  -- of its properties, by slot
+  pub freezes : ℕ
+  pub queue : List ℕ  -- the slots whose notification waits, each once, in order of first queueing
+  pub children : List ℕ
+  pub parent : Option ℕ
+  pub disposed : Bool
+  pub peer : Option ℕ  -- its number in the pool
+
+-- by identity: identity i + 1 stands at index i, None once the object is finalised
+abbrev pub Objects : Type 0
+Objects = List (Option Object)
+
+-- ** handlers, bindings, sources, peers
+
+-- which signal of an object a handler or an emission is about; 0 is `notify`, and then the detail is a property's name
+pub record Handler : Type 0 where
+  pub number : ℕ
+  pub object : ℕ
+  pub signal : ℕ  -- its number in the list of the class
+  pub detail : Option (List ℕ)
+  pub program : ℕ
+  pub after : Bool
+  pub swapped : Bool
+  pub arg : Option ℕ  -- the data object
+  pub blocks : ℕ
+  pub by_code : Bool  -- whether bytecode connected it
+
+pub record Binding : Type 0 where
+  pub number : ℕ
+  pub name : Option (List ℕ)
+  pub source : ℕ  -- an identity
+  pub source_slot : ℕ
+  pub target : ℕ
+  pub target_slot : ℕ
+  pub flags : ℕ
+  pub setting : Bool
+
+-- an idle has no interval; `due` is looked at in a timeout alone
+pub record Source : Type 0 where
+  pub number : ℕ
+  pub program : ℕ
+  pub priority : ℤ
+  pub interval : Option ℕ
+  pub due : ℕ
+  pub arg : Option ℕ
+
+-- the abstract state of a peer
+pub record PeerState : Type 0 where
+  pub shape : List Method
+  pub is_open : Bool
+  pub calls : ℕ
+  pub faults : ℕ
+  pub values : List Value
+
+pub record Peer : Type 0 where
+  pub name : List ℕ
+  pub state : PeerState
+  pub holder : Option ℕ  -- the object that got it
+
+-- what the builder has of a definition's object
+pub data Held : Type 0 where
+  unbuilt : Held
+  built : (object : ℕ) → Held
+  released : Held
+
+-- ** tasks
+
+-- an entry of an emission's plan
+pub data Turn : Type 0 where
+  class_handler : (program : ℕ) (cleanup : Bool) → Turn
+  handler : (number : ℕ) → Turn
+  transfer : (number : ℕ) (back : Bool) → Turn
+
+pub record Emission : Type 0 where
+  pub object : ℕ
+  pub signal : ℕ
+  pub detail : Option (List ℕ)
+  pub args : List Value
+  pub by_event : Bool
+  pub value : Option Value  -- what it has accumulated
+  pub cleanup : Bool  -- whether its cleanup stage has begun
+
+-- a step of a construction that is to come
+pub data Making : Type 0 where
+  sets : (slot : ℕ) (value : Value) → Making
+  runs : (program : ℕ) → Making
+  thaws : Making
+
+-- a step of the build that is to come
+pub data Item : Type 0 where
+  makes : (place : ℕ) → Item
+  adopts : (place : ℕ) → Item  -- by the place of its parent
+  forwards : (place slot to : ℕ) → Item
+  binds : (number : ℕ) → Item
+  connects : (place number : ℕ) → Item
+
+pub data Event : Type 0 where
+  set : (place slot : ℕ) (given : Given) → Event
+  get : (place slot : ℕ) → Event
+  emit : (place signal : ℕ) (args : List Given) (detail : Option (List ℕ)) → Event
+  turn : (moment : ℕ) → Event
+  release : (place : ℕ) → Event
+
+abbrev pub Registers : Type 0
+Registers = List (Option Value)
+
+-- What there is to do is a list of tasks. What comes down from a task goes to the one below it: a program's result to its emission or
+-- source, an emission's to the program that waits for it.
+pub data Task : Type 0 where
+  Setting : (object slot : ℕ) (value : Value) → Task
+  Notifying : (object slot : ℕ) → Task  -- a notification is to begin
+  Beginning : (emission : Emission) → Task  -- an emission is to begin
+  Emitting : (emission : Emission) (turns : List Turn) → Task  -- the rest of an emission
+  Transferring : (number : ℕ) (back : Bool) → Task
+  Unsetting : (number : ℕ) → Task  -- the binding stops setting
+  Thawing : (object : ℕ) (slots : List ℕ) → Task  -- the notifications that are left of a thaw
+  Running : (program block at passes : ℕ) (into : Option ℕ) (registers : Registers) → Task  -- the rest of a program
+  Answering : (source : ℕ) → Task  -- a source whose program runs
+  Calling : (object peer method : ℕ) (args : List Value) (to : ℕ) → Task  -- a peer is to answer
+  Constructing : (object : ℕ) (steps : List Making) (held : Bool) → Task  -- held: by the builder, once it has ended
+  Building : (items : List Item) → Task
+  Carrying : (event : Event) → Task
+  Due : (source : ℕ) → Task  -- a ready source is to run
+
+-- ** the configuration
+
+-- all but the agenda and the count
+pub record World : Type 0 where
+  pub objects : Objects
+  pub handlers : List Handler  -- in order of connection
+  pub last_handler : ℕ  -- the number of the last one connected
+  pub bindings : List Binding  -- in document order
+  pub sources : List Source  -- in order of attachment
+  pub last_source : ℕ
+  pub floating : List ℕ
+  pub builder : List Held  -- by place
+  pub peers : List Peer
+  pub moment : ℕ  -- of the latest turn
+  pub transcript : List (List ℕ)  -- whole lines, without their LF
+  pub result : Option Value  -- of the event
+
+pub record Config : Type 0 where
+  pub world : World
+  pub agenda : List Task
+  pub counted : ℕ  -- the counted steps of this dispatch

@@ -1,0 +1,11 @@
+pub mod Seq
+pub mod Names
+pub mod Kinds
+pub mod Values
+pub mod Types
+pub mod Properties
+pub mod Definition
+pub mod Config
+pub mod Lines
+pub mod Text
+pub mod Answers
