@@ -6,5 +6,7 @@
 #![tactic(auto)]
 
 mod arm;
+mod device;
 
 pub use arm::{Arm, Halt};
+pub use device::{Device, DeviceFault, Feed, Sink};

@@ -1,0 +1,118 @@
+-- Dispose and finalisation (GObject manual, g_object_run_dispose and finalize).
+use Rattle.std.specs.Prelude.{ℕ, suc, Bool, true, false, cond, nat_eq, ◌||◌, not, List, [], ◌∷◌, ◌++◌, map, Option, Some, None, option_map, slice_get}
+use Rattle.std.specs.List.{filter}
+use Rattle.ui_machine.specs.Seq.{read, write}
+use Rattle.ui_machine.specs.Values.{Value}
+use Rattle.ui_machine.specs.Values as values
+use Rattle.ui_machine.specs.Properties.{Spec}
+use Rattle.ui_machine.specs.Definition.{Definition}
+use Rattle.ui_machine.specs.Lookups.{specs_of}
+use Rattle.ui_machine.specs.Lines.{Line}
+use Rattle.ui_machine.specs.Lines as lines
+use Rattle.ui_machine.specs.Config.{Object, Objects, Handler, PeerState, Peer, World}
+use Rattle.ui_machine.specs.Objects.{find, put}
+use Rattle.ui_machine.specs.Bindings.{bindings_without_end}
+use Rattle.ui_machine.specs.Worlds.{said, with_objects}
+
+-- ** what is forgotten
+
+abbrev pub names_object : ℕ → Value → Bool
+names_object id (values.bool b) = false
+names_object id (values.whole kind n) = false
+names_object id (values.text s) = false
+names_object id (values.enum type n) = false
+names_object id (values.flags type bits) = false
+names_object id (values.object None) = false
+names_object id (values.object (Some i)) = nat_eq i id
+
+abbrev pub is_object : Value → Bool
+is_object (values.bool b) = false
+is_object (values.whole kind n) = false
+is_object (values.text s) = false
+is_object (values.enum type n) = false
+is_object (values.flags type bits) = false
+is_object (values.object i) = true
+
+-- the values with null where the test holds of a property
+abbrev pub nulled : (Spec → Value → Bool) → List Spec → List Value → List Value
+nulled test [] vs = vs
+nulled test (s ∷ specs) [] = []
+nulled test (s ∷ specs) (v ∷ vs) = cond (test s v) (values.object None) v ∷ nulled test specs vs
+
+-- weak properties that name the object are null
+abbrev pub forgets : Definition → ℕ → Object → Object
+forgets d id o = record o { values = nulled (λ s v. cond s.weak (names_object id v) false) (specs_of d o.class) o.values }
+
+-- its own strong object properties are null, and its children are released
+abbrev pub lets_go : Definition → Object → Object
+lets_go d o =
+    record o { values = nulled (λ s v. cond s.weak false (is_object v)) (specs_of d o.class) o.values; children = []; disposed = true }
+
+abbrev pub without_parent : Object → Object
+without_parent o = record o { parent = None }
+
+abbrev pub orphans : List ℕ → Objects → Objects
+orphans [] os = os
+orphans (id ∷ ids) os = orphans ids (put os id (option_map without_parent (find os id)))
+
+-- the handlers on an object, or with it as data
+abbrev pub is_identity : ℕ → Option ℕ → Bool
+is_identity id None = false
+is_identity id (Some i) = nat_eq i id
+
+abbrev pub is_of_object : ℕ → Handler → Bool
+is_of_object id h = nat_eq h.object id || is_identity id h.arg
+
+abbrev pub children_of : Option Object → List ℕ
+children_of None = []
+children_of (Some o) = o.children
+
+-- ** peers
+
+abbrev pub no_peer : Peer
+no_peer = record { name = []; state = record { shape = []; is_open = false; calls = 0; faults = 0; values = [] }; holder = None }
+
+abbrev pub closed_peer : Peer → Peer
+closed_peer p = record p { state = record p.state { is_open = false } }
+
+-- the object's peer is closed if it is open
+abbrev pub closing : Definition → Option ℕ → World → World
+closing d None w = w
+closing d (Some k) w =
+    cond (read no_peer w.peers k).state.is_open
+    (said d (record w { peers = write no_peer w.peers k (closed_peer (read no_peer w.peers k)) }) (lines.close (read no_peer w.peers k).name)) w
+
+-- ** dispose
+
+abbrev pub said_if : Definition → Bool → World → Line → World
+said_if d false w line = w
+said_if d true w line = said d w line
+
+abbrev pub is_first : Option Object → Bool
+is_first None = false
+is_first (Some o) = not o.disposed
+
+abbrev pub peer_of : Option Object → Option ℕ
+peer_of None = None
+peer_of (Some o) = o.peer
+
+-- the objects after one was disposed
+abbrev pub objects_disposed : Definition → ℕ → Objects → Objects
+objects_disposed d id os =
+    orphans (children_of (find os id)) (put (map (option_map (forgets d id)) os) id (option_map (lets_go d) (find (map (option_map (forgets d id)) os) id)))
+
+-- the world after an object was disposed
+abbrev pub disposed : Definition → World → ℕ → World
+disposed d w id =
+    closing d (peer_of (find w.objects id))
+    (said_if d (is_first (find w.objects id))
+    (record w {
+      objects = objects_disposed d id w.objects;
+      handlers = filter (λ h. not (is_of_object id h)) w.handlers;
+      bindings = bindings_without_end id w.bindings
+    })
+    (lines.dispose id))
+
+-- the world after an object was finalised: disposed, again if it was, and taken out
+abbrev pub finalised : Definition → World → ℕ → World
+finalised d w id = said d (with_objects (disposed d w id) (put (disposed d w id).objects id None)) (lines.final id)

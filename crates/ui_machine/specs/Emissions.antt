@@ -1,0 +1,96 @@
+-- Emissions: what runs in them, and in which order (GObject manual, signals).
+use Rattle.std.specs.Prelude.{ℕ, zero, suc, Bool, true, false, cond, nat_eq, ◌&&◌, ◌||◌, not, List, [], ◌∷◌, ◌++◌, map, Option, Some, None, Ok, slice_get, bit_and}
+use Rattle.std.specs.List.{filter}
+use Rattle.ui_machine.specs.declared.arm.Arm.TheVariants as arms
+use Rattle.ui_machine.specs.Names.{same_name}
+use Rattle.ui_machine.specs.Properties.{Spec, has_flags}
+use Rattle.ui_machine.specs.Definition.{Definition, Signal, ClassHandler}
+use Rattle.ui_machine.specs.Lookups.{type_of, class_of, spec_of}
+use Rattle.ui_machine.specs.Lines as lines
+use Rattle.ui_machine.specs.Config.{Object, Handler, Turn, class_handler, handler, transfer, Emission, Emitting, World}
+use Rattle.ui_machine.specs.Answers.{Answer, ◌>>=◌, known}
+use Rattle.ui_machine.specs.Objects.{object_at}
+use Rattle.ui_machine.specs.Bindings.{transfers_at}
+use Rattle.ui_machine.specs.Worlds.{Started, starts, said}
+
+-- the signal of a class by its number; number 0 is `notify`
+abbrev pub signal_of : Definition → ℕ → ℕ → Option Signal
+signal_of d class number = slice_get (class_of d class).signals number
+
+-- ** class handlers
+
+abbrev pub handler_in : List ClassHandler → List ℕ → Option ℕ
+handler_in [] name = None
+handler_in (h ∷ hs) name = cond (same_name h.signal name) (Some h.program) (handler_in hs name)
+
+abbrev pub or_else : Option ℕ → Option ℕ → Option ℕ
+or_else None other = other
+or_else (Some p) other = Some p
+
+abbrev pub up : (ℕ → Option ℕ) → Option ℕ → Option ℕ
+up f None = None
+up f (Some class) = f class
+
+-- the program that the nearest class gives for a signal, at most so many classes up
+abbrev pub nearest_handler : ℕ → Definition → List ℕ → ℕ → Option ℕ
+nearest_handler zero d name class = None
+nearest_handler (suc n) d name class = or_else (handler_in (class_of d class).handlers name) (up (nearest_handler n d name) (type_of d class).parent)
+
+-- the most classes from a class up to the root
+abbrev pub most_depth : ℕ
+most_depth = 16
+
+abbrev pub class_handler_of : Definition → ℕ → List ℕ → Option ℕ
+class_handler_of d class name = nearest_handler most_depth d name class
+
+-- ** the plan
+
+abbrev pub fits_detail : Option (List ℕ) → Option (List ℕ) → Bool
+fits_detail None detail = true
+fits_detail (Some mine) None = false
+fits_detail (Some mine) (Some detail) = same_name mine detail
+
+-- whether a handler runs for an emission of the signal with the detail; one without a detail runs for all
+abbrev pub runs_for : ℕ → ℕ → Option (List ℕ) → Handler → Bool
+runs_for id signal detail h = (nat_eq h.object id && nat_eq h.signal signal) && fits_detail h.detail detail
+
+abbrev pub at_stage : Bool → Bool → Option ℕ → List Turn
+at_stage runs cleanup None = []
+at_stage runs cleanup (Some program) = cond runs (class_handler program cleanup ∷ []) []
+
+abbrev pub handlers_for : List Handler → ℕ → ℕ → Option (List ℕ) → Bool → List Turn
+handlers_for hs id signal detail after =
+    map (λ (h : Handler). handler h.number) (filter (λ (h : Handler). runs_for id signal detail h && cond after h.after (not h.after)) hs)
+
+-- the turns of an emission, taken as it begins: the class handler if RUN_FIRST; a notification's transfers; the handlers; the class
+-- handler if RUN_LAST; the handlers connected after; the class handler if RUN_CLEANUP
+abbrev pub plan : World → Option ℕ → ℕ → List Turn → ℕ → ℕ → Option (List ℕ) → List Turn
+plan w class flags transfers id signal detail =
+    at_stage (has_flags 1 flags) false class
+    ++ (transfers
+    ++ (handlers_for w.handlers id signal detail false
+    ++ (at_stage (has_flags 2 flags) false class
+    ++ (handlers_for w.handlers id signal detail true
+    ++ at_stage (has_flags 4 flags) true class))))
+
+-- ** notifications
+
+-- the flags of `notify`: RUN_FIRST and DETAILED
+abbrev pub notify_flags : ℕ
+notify_flags = 17
+
+-- an emission of `notify` for a property
+abbrev pub notification : ℕ → List ℕ → Emission
+notification id name = record { object = id; signal = 0; detail = Some name; args = []; by_event = false; value = None; cleanup = false }
+
+-- what an object and a property are notified to
+abbrev pub notify_plan : Definition → World → ℕ → ℕ → ℕ → List ℕ → List Turn
+notify_plan d w class id slot name =
+    plan w (class_handler_of d class (110 ∷ 111 ∷ 116 ∷ 105 ∷ 102 ∷ 121 ∷ [])) notify_flags (transfers_at w.bindings id slot) id 0 (Some name)
+
+-- a due notification begins
+unfoldable pub notifying : Definition → World → ℕ → ℕ → Answer Started
+notifying d w id slot = do
+  o ← object_at w.objects id
+  s ← known arms.Code (spec_of d o.class slot)
+  starts (said d w (lines.notify id s.name)) (Emitting (notification id s.name) (notify_plan d w o.class id slot s.name) ∷ [])

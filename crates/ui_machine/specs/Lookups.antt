@@ -1,0 +1,43 @@
+-- What a definition has where: classes, specs, programs and places by their numbers.
+use Rattle.std.specs.Prelude.{ℕ, suc, Bool, true, false, List, [], ◌∷◌, Option, Some, None, slice_get, option_map}
+use Rattle.ui_machine.specs.Seq.{read}
+use Rattle.ui_machine.specs.Names.{canonical, place_named}
+use Rattle.ui_machine.specs.Types.{GType, plain_class}
+use Rattle.ui_machine.specs.Properties.{Spec}
+use Rattle.ui_machine.specs.Definition.{Definition, Class, Program, Place}
+
+abbrev pub no_type : GType
+no_type = plain_class [] None []
+
+-- a type without properties, signals and programs
+abbrev pub no_class : Class
+no_class = record { specs = []; signals = []; handlers = []; constructed = None; shape = None }
+
+abbrev pub type_of : Definition → ℕ → GType
+type_of d t = read no_type d.types t
+
+abbrev pub class_of : Definition → ℕ → Class
+class_of d t = read no_class d.classes t
+
+-- the properties of a class, inherited first
+abbrev pub specs_of : Definition → ℕ → List Spec
+specs_of d class = (class_of d class).specs
+
+abbrev pub spec_of : Definition → ℕ → ℕ → Option Spec
+spec_of d class slot = slice_get (specs_of d class) slot
+
+-- the slot of the property that a name names, in either spelling (GObject manual, property names)
+abbrev pub slot_of : Definition → ℕ → List ℕ → Option ℕ
+slot_of d class name = place_named (λ (s : Spec). s.name) (specs_of d class) (canonical name)
+
+abbrev pub program_at : Definition → ℕ → Option Program
+program_at d number = slice_get d.programs number
+
+abbrev pub program_of : Definition → List ℕ → Option ℕ
+program_of d name = place_named (λ (p : Program). p.name) d.programs name
+
+abbrev pub place_at : Definition → ℕ → Option Place
+place_at d number = slice_get d.places number
+
+abbrev pub place_of : Definition → List ℕ → Option ℕ
+place_of d id = place_named (λ (p : Place). p.id) d.places id

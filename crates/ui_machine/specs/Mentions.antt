@@ -1,0 +1,76 @@
+-- What holds an object strongly. No count is stored in a configuration: it is a sum over it.
+use Rattle.std.specs.Prelude.{ℕ, ◌+◌, cond, nat_eq, List, [], ◌∷◌, Option, Some, None}
+use Rattle.ui_machine.specs.Seq.{total}
+use Rattle.ui_machine.specs.Values.{Value}
+use Rattle.ui_machine.specs.Values as values
+use Rattle.ui_machine.specs.Properties.{Spec}
+use Rattle.ui_machine.specs.Definition.{Definition}
+use Rattle.ui_machine.specs.Lookups.{specs_of}
+use Rattle.ui_machine.specs.Config.{Object, Source, Held, unbuilt, built, released, Emission, Task, Setting, Notifying, Beginning, Emitting, Transferring, Unsetting, Thawing, Running, Answering, Calling, Constructing, Building, Carrying, Due, World, Config}
+
+-- 1 where the identity is o
+abbrev pub same : ℕ → ℕ → ℕ
+same o i = cond (nat_eq i o) 1 0
+
+abbrev pub in_option : ℕ → Option ℕ → ℕ
+in_option o None = 0
+in_option o (Some i) = same o i
+
+abbrev pub in_value : ℕ → Value → ℕ
+in_value o (values.bool b) = 0
+in_value o (values.whole kind n) = 0
+in_value o (values.text s) = 0
+in_value o (values.enum type n) = 0
+in_value o (values.flags type bits) = 0
+in_value o (values.object i) = in_option o i
+
+abbrev pub in_register : ℕ → Option Value → ℕ
+in_register o None = 0
+in_register o (Some v) = in_value o v
+
+-- the properties that are not weak
+abbrev pub in_values : ℕ → List Spec → List Value → ℕ
+in_values o [] vs = 0
+in_values o (s ∷ specs) [] = 0
+in_values o (s ∷ specs) (v ∷ vs) = cond s.weak 0 (in_value o v) + in_values o specs vs
+
+-- an object's properties and children
+abbrev pub in_object : Definition → ℕ → Option Object → ℕ
+in_object d o None = 0
+in_object d o (Some x) = in_values o (specs_of d x.class) x.values + total (same o) x.children
+
+abbrev pub in_emission : ℕ → Emission → ℕ
+in_emission o e = same o e.object + (total (in_value o) e.args + in_register o e.value)
+
+abbrev pub in_task : ℕ → Task → ℕ
+in_task o (Setting object slot v) = same o object
+in_task o (Notifying object slot) = same o object
+in_task o (Beginning emission) = in_emission o emission
+in_task o (Emitting emission turns) = in_emission o emission
+in_task o (Transferring number back) = 0
+in_task o (Unsetting number) = 0
+in_task o (Thawing object slots) = same o object
+in_task o (Running program block at passes into registers) = total (in_register o) registers
+in_task o (Answering source) = 0
+in_task o (Calling object peer method args to) = same o object + total (in_value o) args
+in_task o (Constructing object steps held) = same o object
+in_task o (Building items) = 0
+in_task o (Carrying event) = 0
+in_task o (Due source) = 0
+
+abbrev pub in_source : ℕ → Source → ℕ
+in_source o s = in_option o s.arg
+
+abbrev pub in_held : ℕ → Held → ℕ
+in_held o unbuilt = 0
+in_held o (built i) = same o i
+in_held o released = 0
+
+-- how often an object stands strongly (GObject manual, references)
+abbrev pub mentions : Definition → Config → ℕ → ℕ
+mentions d c o =
+    total (in_object d o) c.world.objects
+    + (total (in_held o) c.world.builder
+    + (total (same o) c.world.floating
+    + (total (in_source o) c.world.sources
+    + total (in_task o) c.agenda)))

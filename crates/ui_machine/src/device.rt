@@ -1,0 +1,117 @@
+//! What bytes come from and what they go to.
+//!
+//! A [`Feed`] gives bytes and a [`Sink`] takes them. A call of either may fail, and the device remembers that it did: so whoever
+//! lent one can tell afterwards whether a run broke off because a device failed.
+
+ghost use Rattle.std.specs.Prelude.{◌≡◌, ◌<◌, ℕ, Bool, true, false, List, Option, length, IfOk, MatchResult};
+ghost use Rattle.std.specs.Io.{ReadsAtMost, WritesAtMost};
+ghost use Rattle.std.specs.Io.KnownBytes.{ReadConsumes, WriteAppends};
+
+use std::io::{Read, Write};
+
+/// A read or a write that failed.
+#[derive(Clone, Copy, Debug, PartialEq, Eq)]
+pub struct DeviceFault;
+
+/// Gives bytes in their order.
+pub trait Feed {
+    /// The bytes that reads will give from here on, where they are known.
+    ghost left: { Self → Option (List ℕ) };
+
+    /// Whether a read has failed.
+    ghost failed: { Self → Bool };
+
+    /// Reads some bytes into the front of `buf`, and answers how many: none only at the end, or into an empty slice.
+    /// A fault takes none and marks the feed as failed.
+    fn read(&mut self, buf: &mut [u8]) -> Result<usize, DeviceFault>
+        ensures bound { ReadsAtMost result buf.new }
+        ensures bytes { ReadConsumes (left self.old) (left self.new) result buf.new }
+        ensures marks { MatchResult result (λ _. failed self.new ≡ failed self.old) (λ _. failed self.new ≡ true) };
+
+    /// Whether a read has failed.
+    fn has_failed(&self) -> bool
+        ensures { result ≡ failed self.now };
+}
+
+/// Takes bytes in their order.
+pub trait Sink {
+    /// The bytes that it has taken, where they are known.
+    ghost taken: { Self → Option (List ℕ) };
+
+    /// Whether a write has failed.
+    ghost failed: { Self → Bool };
+
+    /// Takes a front of `bytes`, and answers how long it is: at least 1, unless there are none. A fault takes none and marks
+    /// the sink as failed.
+    fn write(&mut self, bytes: &[u8]) -> Result<usize, DeviceFault>
+        ensures bound { WritesAtMost result bytes.now }
+        ensures some { IfOk result (λ n. 0 < length bytes.now → 0 < n) }
+        ensures bytes { WriteAppends (taken self.old) (taken self.new) result bytes.now }
+        ensures marks { MatchResult result (λ _. failed self.new ≡ failed self.old) (λ _. failed self.new ≡ true) };
+
+    /// Whether a write has failed.
+    fn has_failed(&self) -> bool
+        ensures { result ≡ failed self.now };
+}
+
+/// A reader or a writer of std, and whether a call of it has failed.
+#[derive(Drop)]
+pub struct Device<T: Drop> {
+    pub inner: T,
+    pub failed: bool,
+}
+
+impl<T: Drop> Device<T> {
+    /// A device that has not failed.
+    pub fn new(inner: T) -> Device<T>
+        ensures same { result.inner ≡ inner }
+        ensures works { result.failed ≡ false }
+    {
+        Device {
+            inner,
+            failed: false,
+        }
+    }
+}
+
+impl<T: Read + Drop> Feed for Device<T> {
+    ghost left = { λ d. T.remaining d.inner };
+
+    ghost failed = { λ d. d.failed };
+
+    /// Any error of the reader is a failed call. It is not tried again.
+    fn read(&mut self, buf: &mut [u8]) -> Result<usize, DeviceFault> {
+        let Ok(count) = self.inner.read(buf) else {
+            self.failed = true;
+            return Err(DeviceFault);
+        };
+        Ok(count)
+    }
+
+    fn has_failed(&self) -> bool {
+        self.failed
+    }
+}
+
+impl<T: Write + Drop> Sink for Device<T> {
+    ghost taken = { λ d. T.contents d.inner };
+
+    ghost failed = { λ d. d.failed };
+
+    /// Any error of the writer is a failed call, and so is a write of none of some bytes.
+    fn write(&mut self, bytes: &[u8]) -> Result<usize, DeviceFault> {
+        let Ok(count) = self.inner.write(bytes) else {
+            self.failed = true;
+            return Err(DeviceFault);
+        };
+        if count == 0 && !bytes.is_empty() {
+            self.failed = true;
+            return Err(DeviceFault);
+        }
+        Ok(count)
+    }
+
+    fn has_failed(&self) -> bool {
+        self.failed
+    }
+}
