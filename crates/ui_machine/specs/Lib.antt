@@ -9,3 +9,7 @@ pub mod Config
 pub mod Lines
 pub mod Text
 pub mod Answers
+pub mod Ancestry
+pub mod Transform
+pub mod Clamp
+pub mod ValueExamples
