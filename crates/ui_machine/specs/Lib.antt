@@ -13,3 +13,13 @@ pub mod Ancestry
 pub mod Transform
 pub mod Clamp
 pub mod ValueExamples
+pub mod Lookups
+pub mod Objects
+pub mod Mentions
+pub mod Worlds
+pub mod Sets
+pub mod Emissions
+pub mod Builds
+pub mod Disposal
+pub mod Steps
+pub mod Runs

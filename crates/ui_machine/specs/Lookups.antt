@@ -2,12 +2,10 @@
 use Rattle.std.specs.Prelude.{ℕ, suc, Bool, true, false, List, [], ◌∷◌, Option, Some, None, slice_get, option_map}
 use Rattle.ui_machine.specs.Seq.{read}
 use Rattle.ui_machine.specs.Names.{canonical, place_named}
-use Rattle.ui_machine.specs.Types.{GType, plain_class}
+use Rattle.ui_machine.specs.Types.{GType}
+use Rattle.ui_machine.specs.Text.{no_type}
 use Rattle.ui_machine.specs.Properties.{Spec}
 use Rattle.ui_machine.specs.Definition.{Definition, Class, Program, Place}
-
-abbrev pub no_type : GType
-no_type = plain_class [] None []
 
 -- a type without properties, signals and programs
 abbrev pub no_class : Class

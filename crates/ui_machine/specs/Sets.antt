@@ -5,7 +5,7 @@ use Rattle.ui_machine.specs.Kinds.{Kind}
 use Rattle.ui_machine.specs.Kinds as kinds
 use Rattle.ui_machine.specs.Values.{Value}
 use Rattle.ui_machine.specs.Values as values
-use Rattle.ui_machine.specs.Transform.{has_kind, same_value}
+use Rattle.ui_machine.specs.Transform.{same_whole, same_value}
 use Rattle.ui_machine.specs.Clamp.{clamp}
 use Rattle.ui_machine.specs.Properties.{Spec, is_readable, is_explicit_notify, is_lax}
 use Rattle.ui_machine.specs.Definition.{Definition}
@@ -21,6 +21,16 @@ unfoldable pub spec_at : Definition → Objects → ℕ → ℕ → Answer Spec
 spec_at d os id slot = do
   o ← object_at os id
   known arms.Code (spec_of d o.class slot)
+
+-- whether a value is one of the kind, its members, range and class left aside
+abbrev pub has_kind : Value → Kind → Bool
+has_kind (values.bool b) kinds.bool = true
+has_kind (values.whole k n) (kinds.whole l) = same_whole k l
+has_kind (values.text s) kinds.text = true
+has_kind (values.enum t n) (kinds.enum u) = nat_eq t u
+has_kind (values.flags t bits) (kinds.flags u) = nat_eq t u
+has_kind (values.object o) (kinds.object t) = true
+has_kind _ _ = false
 
 -- an object that is named lives
 abbrev pub lives : Objects → Value → Bool

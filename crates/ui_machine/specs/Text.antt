@@ -55,9 +55,13 @@ abbrev pub nick_of : List Member → ℤ → List ℕ
 nick_of [] n = []
 nick_of (m ∷ ms) n = cond (int_eq m.number n) m.nick (nick_of ms n)
 
+-- what stands for a type that is not there
+abbrev pub no_type : GType
+no_type = plain_class [] None []
+
 -- the members of a type
 abbrev pub members_of : List GType → ℕ → List Member
-members_of types t = (read (plain_class [] None []) types t).members
+members_of types t = (read no_type types t).members
 
 -- an identity, with its `#`
 abbrev pub text_of_identity : ℕ → List ℕ
