@@ -9,3 +9,6 @@ pub mod Config
 pub mod Lines
 pub mod Text
 pub mod Answers
+pub mod Queue
+pub mod Sources
+pub mod Bindings

@@ -6,5 +6,7 @@
 #![tactic(auto)]
 
 mod arm;
+mod ids;
 
 pub use arm::{Arm, Halt};
+pub use ids::ObjectId;
