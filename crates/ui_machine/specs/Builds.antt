@@ -1,6 +1,6 @@
 -- Constructions and the build (GObject manual, object construction; GTK manual, GtkBuilder).
-use Rattle.std.specs.Prelude.{ℕ, pos, zero, suc, ◌+◌, Bool, true, false, cond, nat_eq, nat_le, ◌||◌, not, List, [], ◌∷◌, ◌++◌, map, length, Option, Some, None, Ok, slice_get}
-use Rattle.std.specs.List.{filter, flat_map}
+use Rattle.std.specs.Prelude.{ℕ, pos, zero, suc, Bool, true, false, cond, nat_eq, nat_le, ◌||◌, not, List, [], ◌∷◌, ◌++◌, map, length, Option, Some, None}
+use Rattle.std.specs.List.{flat_map}
 use Rattle.ui_machine.specs.declared.arm.Arm.TheVariants as arms
 use Rattle.ui_machine.specs.Seq.{read}
 use Rattle.ui_machine.specs.Kinds as kinds
@@ -11,7 +11,7 @@ use Rattle.ui_machine.specs.Properties.{Spec, is_construct, is_construct_only}
 use Rattle.ui_machine.specs.Definition.{Definition, Given, value, named, GivenProperty, Place}
 use Rattle.ui_machine.specs.Lookups.{type_of, class_of, specs_of, place_at}
 use Rattle.ui_machine.specs.Lines as lines
-use Rattle.ui_machine.specs.Config.{Object, Objects, Held, unbuilt, built, released, Making, sets, runs, thaws, Item, makes, adopts, forwards, binds, connects, Task, Setting, Thawing, Constructing, Building, World}
+use Rattle.ui_machine.specs.Config.{Object, Held, unbuilt, built, released, Making, sets, runs, thaws, Item, makes, adopts, forwards, binds, connects, Thawing, Constructing, World}
 use Rattle.ui_machine.specs.Answers.{Answer, ◌>>=◌, known, only_if}
 use Rattle.ui_machine.specs.Objects.{object_at, changed, frozen_less}
 use Rattle.ui_machine.specs.Worlds.{Started, starts, said, with_objects, held_at, with_held, sunk}

@@ -1,7 +1,7 @@
 -- What the machine stands at: a configuration.
 use Rattle.std.specs.Prelude.{ℕ, ℤ, Bool, List, Option}
 use Rattle.ui_machine.specs.Values.{Value}
-use Rattle.ui_machine.specs.Definition.{Method, Given, GivenProperty}
+use Rattle.ui_machine.specs.Definition.{Method, Given}
 
 -- ** objects (GObject manual, GObject)
 

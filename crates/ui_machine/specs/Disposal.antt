@@ -1,5 +1,5 @@
 -- Dispose and finalisation (GObject manual, g_object_run_dispose and finalize).
-use Rattle.std.specs.Prelude.{ℕ, suc, Bool, true, false, cond, nat_eq, ◌||◌, not, List, [], ◌∷◌, ◌++◌, map, Option, Some, None, option_map, slice_get}
+use Rattle.std.specs.Prelude.{ℕ, Bool, true, false, cond, nat_eq, ◌||◌, not, List, [], ◌∷◌, map, Option, Some, None, option_map}
 use Rattle.std.specs.List.{filter}
 use Rattle.ui_machine.specs.Seq.{read, write}
 use Rattle.ui_machine.specs.Values.{Value}
@@ -9,7 +9,7 @@ use Rattle.ui_machine.specs.Definition.{Definition}
 use Rattle.ui_machine.specs.Lookups.{specs_of}
 use Rattle.ui_machine.specs.Lines.{Line}
 use Rattle.ui_machine.specs.Lines as lines
-use Rattle.ui_machine.specs.Config.{Object, Objects, Handler, PeerState, Peer, World}
+use Rattle.ui_machine.specs.Config.{Object, Objects, Handler, Peer, World}
 use Rattle.ui_machine.specs.Objects.{find, put}
 use Rattle.ui_machine.specs.Bindings.{bindings_without_end}
 use Rattle.ui_machine.specs.Worlds.{said, with_objects}

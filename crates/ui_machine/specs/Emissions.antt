@@ -1,16 +1,16 @@
 -- Emissions: what runs in them, and in which order (GObject manual, signals).
-use Rattle.std.specs.Prelude.{ℕ, zero, suc, Bool, true, false, cond, nat_eq, ◌&&◌, ◌||◌, not, List, [], ◌∷◌, ◌++◌, map, Option, Some, None, Ok, slice_get, bit_and}
+use Rattle.std.specs.Prelude.{ℕ, zero, suc, Bool, true, false, cond, nat_eq, ◌&&◌, not, List, [], ◌∷◌, ◌++◌, map, codes, Option, Some, None, slice_get}
 use Rattle.std.specs.List.{filter}
 use Rattle.ui_machine.specs.declared.arm.Arm.TheVariants as arms
 use Rattle.ui_machine.specs.Names.{same_name}
-use Rattle.ui_machine.specs.Properties.{Spec, has_flags}
+use Rattle.ui_machine.specs.Properties.{has_flags}
 use Rattle.ui_machine.specs.Definition.{Definition, Signal, ClassHandler}
 use Rattle.ui_machine.specs.Lookups.{type_of, class_of, spec_of}
 use Rattle.ui_machine.specs.Lines as lines
-use Rattle.ui_machine.specs.Config.{Object, Handler, Turn, class_handler, handler, transfer, Emission, Emitting, World}
+use Rattle.ui_machine.specs.Config.{Handler, Turn, class_handler, handler, Emission, Emitting, World}
 use Rattle.ui_machine.specs.Answers.{Answer, ◌>>=◌, known}
 use Rattle.ui_machine.specs.Objects.{object_at}
-use Rattle.ui_machine.specs.Bindings.{transfers_at}
+use Rattle.ui_machine.specs.Bindings.{transfers}
 use Rattle.ui_machine.specs.Worlds.{Started, starts, said}
 
 -- the signal of a class by its number; number 0 is `notify`
@@ -65,9 +65,9 @@ handlers_for hs id signal detail after =
 -- the turns of an emission, taken as it begins: the class handler if RUN_FIRST; a notification's transfers; the handlers; the class
 -- handler if RUN_LAST; the handlers connected after; the class handler if RUN_CLEANUP
 abbrev pub plan : World → Option ℕ → ℕ → List Turn → ℕ → ℕ → Option (List ℕ) → List Turn
-plan w class flags transfers id signal detail =
+plan w class flags moved id signal detail =
     at_stage (has_flags 1 flags) false class
-    ++ (transfers
+    ++ (moved
     ++ (handlers_for w.handlers id signal detail false
     ++ (at_stage (has_flags 2 flags) false class
     ++ (handlers_for w.handlers id signal detail true
@@ -86,7 +86,7 @@ notification id name = record { object = id; signal = 0; detail = Some name; arg
 -- what an object and a property are notified to
 abbrev pub notify_plan : Definition → World → ℕ → ℕ → ℕ → List ℕ → List Turn
 notify_plan d w class id slot name =
-    plan w (class_handler_of d class (110 ∷ 111 ∷ 116 ∷ 105 ∷ 102 ∷ 121 ∷ [])) notify_flags (transfers_at w.bindings id slot) id 0 (Some name)
+    plan w (class_handler_of d class (codes "notify")) notify_flags (transfers id slot w.bindings) id 0 (Some name)
 
 -- a due notification begins
 unfoldable pub notifying : Definition → World → ℕ → ℕ → Answer Started

@@ -13,6 +13,9 @@ pub mod Ancestry
 pub mod Transform
 pub mod Clamp
 pub mod ValueExamples
+pub mod Queue
+pub mod Sources
+pub mod Bindings
 pub mod Lookups
 pub mod Objects
 pub mod Mentions

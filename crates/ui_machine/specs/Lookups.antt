@@ -1,5 +1,5 @@
 -- What a definition has where: classes, specs, programs and places by their numbers.
-use Rattle.std.specs.Prelude.{ℕ, suc, Bool, true, false, List, [], ◌∷◌, Option, Some, None, slice_get, option_map}
+use Rattle.std.specs.Prelude.{ℕ, List, [], Option, None, slice_get}
 use Rattle.ui_machine.specs.Seq.{read}
 use Rattle.ui_machine.specs.Names.{canonical, place_named}
 use Rattle.ui_machine.specs.Types.{GType}

@@ -6,7 +6,7 @@ use Rattle.ui_machine.specs.Values as values
 use Rattle.ui_machine.specs.Properties.{Spec}
 use Rattle.ui_machine.specs.Definition.{Definition}
 use Rattle.ui_machine.specs.Lookups.{specs_of}
-use Rattle.ui_machine.specs.Config.{Object, Source, Held, unbuilt, built, released, Emission, Task, Setting, Notifying, Beginning, Emitting, Transferring, Unsetting, Thawing, Running, Answering, Calling, Constructing, Building, Carrying, Due, World, Config}
+use Rattle.ui_machine.specs.Config.{Object, Source, Held, unbuilt, built, released, Emission, Task, Setting, Notifying, Beginning, Emitting, Transferring, Unsetting, Thawing, Running, Answering, Calling, Constructing, Building, Carrying, Due, Config}
 
 -- 1 where the identity is o
 abbrev pub same : ℕ → ℕ → ℕ

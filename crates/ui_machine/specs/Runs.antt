@@ -1,9 +1,9 @@
 -- Runs of the machine.
-use Rattle.std.specs.Prelude.{◌≡◌, ℕ, zero, suc, ◌++◌, List, [], ◌∷◌, map, Option, Some, None, Ok}
+use Rattle.std.specs.Prelude.{◌≡◌, ℕ, zero, suc, List, [], ◌∷◌, map, None, Ok}
 use Rattle.ui_machine.specs.declared.arm.Halt.{Halt}
 use Rattle.ui_machine.specs.Definition.{Definition, Place}
 use Rattle.ui_machine.specs.Lines as lines
-use Rattle.ui_machine.specs.Config.{Held, unbuilt, Task, Building, Carrying, Peer, World, Config, Event}
+use Rattle.ui_machine.specs.Config.{unbuilt, Task, Building, Carrying, Peer, World, Config, Event}
 use Rattle.ui_machine.specs.Answers.{Stops}
 use Rattle.ui_machine.specs.Worlds.{said}
 use Rattle.ui_machine.specs.Builds.{build_items}

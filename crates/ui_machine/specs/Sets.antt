@@ -1,5 +1,5 @@
 -- A set of a property, and the notification that it raises (GObject manual, g_object_set_property).
-use Rattle.std.specs.Prelude.{ℕ, Bool, true, false, cond, nat_eq, ◌&&◌, ◌||◌, not, List, [], ◌∷◌, Option, Some, None, Ok, is_some}
+use Rattle.std.specs.Prelude.{ℕ, Bool, true, false, cond, nat_eq, ◌&&◌, ◌||◌, not, [], ◌∷◌, Option, Some, None, is_some}
 use Rattle.ui_machine.specs.declared.arm.Arm.TheVariants as arms
 use Rattle.ui_machine.specs.Kinds.{Kind}
 use Rattle.ui_machine.specs.Kinds as kinds

@@ -1,5 +1,5 @@
 -- The machine: one step from a configuration.
-use Rattle.std.specs.Prelude.{ℕ, suc, cond, nat_lt, Bool, List, [], ◌∷◌, ◌++◌, length, Option, Some, None, Ok, Err}
+use Rattle.std.specs.Prelude.{ℕ, suc, nat_lt, Bool, true, List, [], ◌∷◌, ◌++◌, Option, Some, None, Ok, Err}
 use Rattle.ui_machine.specs.declared.arm.Arm.TheVariants as arms
 use Rattle.ui_machine.specs.Values.{Value}
 use Rattle.ui_machine.specs.Properties.{is_readable}

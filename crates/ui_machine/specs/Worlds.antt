@@ -4,7 +4,7 @@ use Rattle.ui_machine.specs.Seq.{read, write}
 use Rattle.ui_machine.specs.Text.{text_of_line}
 use Rattle.ui_machine.specs.Lines.{Line}
 use Rattle.ui_machine.specs.Definition.{Definition}
-use Rattle.ui_machine.specs.Config.{Objects, Held, unbuilt, built, Task, World}
+use Rattle.ui_machine.specs.Config.{Objects, Held, unbuilt, Task, World}
 use Rattle.ui_machine.specs.Answers.{Answer}
 
 -- the world with a line said

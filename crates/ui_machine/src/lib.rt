@@ -7,6 +7,8 @@
 
 mod arm;
 mod device;
+mod ids;
 
 pub use arm::{Arm, Halt};
 pub use device::{Device, DeviceFault, Feed, Sink};
+pub use ids::ObjectId;

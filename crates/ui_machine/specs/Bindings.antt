@@ -1,0 +1,58 @@
+-- Bindings between properties (GObject manual, GBinding).
+use Rattle.std.specs.Prelude.{ℕ, Bool, false, cond, not, ◌&&◌, ◌||◌, nat_eq, List, map, Option, None, Some}
+use Rattle.std.specs.List.{filter}
+use Rattle.ui_machine.specs.Names.{same_name}
+use Rattle.ui_machine.specs.Properties.{has_flags}
+use Rattle.ui_machine.specs.Config.{Binding, Turn}
+use Rattle.ui_machine.specs.Config as config
+
+-- ** who listens
+
+abbrev pub is_bidirectional : Binding → Bool
+is_bidirectional b = has_flags 1 b.flags
+
+abbrev pub is_source : (object slot : ℕ) → Binding → Bool
+is_source object slot b = nat_eq b.source object && nat_eq b.source_slot slot
+
+abbrev pub is_target : (object slot : ℕ) → Binding → Bool
+is_target object slot b = nat_eq b.target object && nat_eq b.target_slot slot
+
+-- whether a notification of the property is the binding's: at its source, and if it is bidirectional at its target
+abbrev pub listens : (object slot : ℕ) → Binding → Bool
+listens object slot b = is_source object slot b || (is_bidirectional b && is_target object slot b)
+
+-- whether the notification of the property goes from the target back to the source
+abbrev pub goes_back : (object slot : ℕ) → Binding → Bool
+goes_back object slot b = not (is_source object slot b)
+
+-- the transfers that a notification of the property is to make, in document order
+abbrev pub transfers : (object slot : ℕ) → List Binding → List Turn
+transfers object slot bindings = map (λ b. config.transfer b.number (goes_back object slot b)) (filter (listens object slot) bindings)
+
+-- ** how they end
+
+-- whether the binding is called so
+abbrev pub is_called : List ℕ → Binding → Bool
+is_called name b = called b.name
+  where
+    called : Option (List ℕ) → Bool
+    called None = false
+    called (Some own) = same_name own name
+
+-- whether the object is one of the ends
+abbrev pub is_end : ℕ → Binding → Bool
+is_end object b = nat_eq b.source object || nat_eq b.target object
+
+-- the bindings without those that are called so
+abbrev pub bindings_without : List ℕ → List Binding → List Binding
+bindings_without name bindings = filter (λ b. not (is_called name b)) bindings
+
+-- the bindings without those that have the object as an end
+abbrev pub bindings_without_end : ℕ → List Binding → List Binding
+bindings_without_end object bindings = filter (λ b. not (is_end object b)) bindings
+
+-- ** while one sets
+
+-- the bindings where the one of the number is setting or is not
+abbrev pub with_setting : (number : ℕ) → Bool → List Binding → List Binding
+with_setting number setting bindings = map (λ b. cond (nat_eq b.number number) (record b { setting = setting }) b) bindings
