@@ -1,0 +1,132 @@
+-- Lines found byte by byte.
+use Rattle.std.proofs.Common.{◌≡◌, ◌≢◌, ℕ, ◌<◌, ◌≤◌, Bool, true, false, List, [], ◌∷◌, ◌++◌, length, refl, sym, ap, ◌∙◌, append_assoc, append-nil, length-append, arith}
+use Rattle.std.specs.Prelude.{Option, Some, None, IfSome, ◌==◌, ◌||◌, if◌then◌else◌}
+use Rattle.std.specs.List.{list_any}
+use Rattle.std.specs.Io.KnownBytes.{Consumes, Keeps, IsAtEnd}
+use Rattle.std.proofs.KnownBytes.{Consumes-trans}
+use Rattle.std.proofs.lemmas.List.Folds.{list_any-append}
+use Rattle.ui_runner.specs.Lines.{lines_of, onto_first}
+use Rattle.ui_runner.specs.Reading.{WhereKnown, IsOf, Finds}
+use Rattle.ui_runner.specs.declared.TheConstants.{LINE_LIMIT}
+use Rattle.ui_runner.specs.declared.line_reader.Found.{Found}
+use Rattle.ui_runner.specs.declared.line_reader.Found.TheVariants as founds
+
+abbrev pub has_end : List ℕ → Bool
+has_end line = list_any (λ b. b == 10) line
+
+pub or_false : (a b : Bool) → (a || b) ≡ false → (a ≡ false) × (b ≡ false)
+or_false true b h = cc
+or_false false b h = (refl, h)
+
+pub has_end_push : (line : List ℕ) (b : ℕ) → has_end line ≡ false → (b == 10) ≡ false → has_end (line ++ b ∷ []) ≡ false
+has_end_push line b h k = rw (list_any-append (λ b. b == 10) line (b ∷ []), h, k) refl
+
+-- a whole line
+pub first_line : (line rest : List ℕ) → has_end line ≡ false → lines_of (line ++ 10 ∷ rest) ≡ line ∷ lines_of rest
+first_line [] rest h = refl
+first_line (b ∷ line) rest h =
+    let p = or_false (b == 10) (has_end line) h in
+    rw (p.0, first_line line rest p.1) refl
+
+-- a line that has begun
+pub begun_line : (line rest : List ℕ) → has_end line ≡ false → 0 < length line
+    → (more : List ℕ) × (others : List (List ℕ)) × (lines_of (line ++ rest) ≡ (line ++ more) ∷ others)
+begun_line [] rest h lt = absurd (omega arith)
+begun_line (b ∷ []) rest h lt =
+    let p = or_false (b == 10) false h in
+    elim (lines_of rest) as (λ ls. lines_of rest ≡ ls → (more : List ℕ) × (others : List (List ℕ)) × (lines_of (b ∷ rest) ≡ (b ∷ more) ∷ others)) [
+      | [] ↦ λ e. ([], [], rw (p.0, e) refl)
+      | line ∷ lines ↦ λ e. (line, lines, rw (p.0, e) refl)
+    ] refl
+begun_line (b ∷ c ∷ line) rest h lt =
+    let p = or_false (b == 10) (has_end (c ∷ line)) h in
+    let q = begun_line (c ∷ line) rest p.1 (omega arith) in
+    (q.0, q.1, ap (λ t. if t then [] ∷ lines_of ((c ∷ line) ++ rest) else onto_first b (lines_of ((c ∷ line) ++ rest))) p.0 ∙ ap (onto_first b) q.2)
+
+-- the last line, without an end
+pub last_line : (line : List ℕ) → has_end line ≡ false → 0 < length line → lines_of line ≡ line ∷ []
+last_line [] h lt = absurd (omega arith)
+last_line (b ∷ []) h lt = rw ((or_false (b == 10) false h).0) refl
+last_line (b ∷ c ∷ line) h lt =
+    let p = or_false (b == 10) (has_end (c ∷ line)) h in
+    rw (p.0, last_line (c ∷ line) p.1 (omega arith)) refl
+
+pub where_consumed : (a b : Option (List ℕ)) (bs : List ℕ) (P : List ℕ → List ℕ → Type 0) → Consumes a b bs
+    → ((xs ys : List ℕ) → xs ≡ bs ++ ys → P xs ys) → WhereKnown a b P
+where_consumed None b bs P h k = tt
+where_consumed (Some xs) None bs P h k = absurd h
+where_consumed (Some xs) (Some ys) bs P h k = k xs ys h
+
+at_end : (b c : Option (List ℕ)) (P : List ℕ → List ℕ → Type 0) (a : Option (List ℕ)) (bs : List ℕ) → Consumes a b bs → Keeps b c × IsAtEnd c
+    → P bs [] → WhereKnown a c P
+at_end b c P None bs h e p = tt
+at_end None c P (Some xs) bs h e p = absurd h
+at_end (Some ys) None P (Some xs) bs h e p = absurd e.0
+at_end (Some ys) (Some zs) P (Some xs) bs h e p =
+    let z : zs ≡ [] = e.1 in
+    let y : ys ≡ [] = sym e.0 ∙ z in
+    let x : xs ≡ bs = rw y at h ∙ append-nil bs in
+    rw (x, z) p
+
+pub finds_whole : (a b c : Option (List ℕ)) (line : List ℕ) → Consumes a b line → Consumes b c (10 ∷ []) → has_end line ≡ false → length line ≤ LINE_LIMIT
+    → WhereKnown a c (λ xs ys. Finds founds.Whole line xs ys)
+finds_whole a b c line h k e lt = where_consumed a c (line ++ 10 ∷ []) _ (Consumes-trans a b c line (10 ∷ []) h k) (λ xs ys x. record {
+  line = line;
+  rest = lines_of ys;
+  first = ap lines_of (x ∙ append_assoc line (10 ∷ []) ys) ∙ first_line line ys e;
+  is = (refl, lt);
+  short = rw x (simp length-append (omega arith));
+  goes_on = λ w. refl;
+})
+
+pub finds_last : (a b c : Option (List ℕ)) (line : List ℕ) → Consumes a b line → Keeps b c × IsAtEnd c → has_end line ≡ false → length line ≤ LINE_LIMIT → 0 < length line
+    → WhereKnown a c (λ xs ys. Finds founds.Whole line xs ys)
+finds_last a b c line h k e lt some = at_end b c _ a line h k (record {
+  line = line;
+  rest = [];
+  first = last_line line e some;
+  is = (refl, lt);
+  short = omega arith;
+  goes_on = λ w. refl;
+})
+
+pub finds_none : (a b c : Option (List ℕ)) (line : List ℕ) → Consumes a b line → Keeps b c × IsAtEnd c → line ≡ []
+    → WhereKnown a c (λ xs ys. xs ≡ [])
+finds_none a b c line h k e = at_end b c _ a line h k e
+
+pub finds_begun : (found : Found) (buffer : List ℕ) (a b c : Option (List ℕ)) (line : List ℕ) (x : ℕ) → Consumes a b line → Consumes b c (x ∷ [])
+    → has_end line ≡ false → (x == 10) ≡ false → ((more : List ℕ) → IsOf found buffer ((line ++ x ∷ []) ++ more)) → found ≢ founds.Whole → length line ≤ LINE_LIMIT
+    → WhereKnown a c (λ xs ys. Finds found buffer xs ys)
+finds_begun found buffer a b c line x h k e ne is other within = where_consumed a c (line ++ x ∷ []) _ (Consumes-trans a b c line (x ∷ []) h k) (λ xs ys eq.
+    let some : 0 < length (line ++ x ∷ []) = rw (length-append line (x ∷ [])) (omega arith) in
+    let q = begun_line (line ++ x ∷ []) ys (has_end_push line x e ne) some in
+    record {
+      line = (line ++ x ∷ []) ++ q.0;
+      rest = q.1;
+      first = ap lines_of eq ∙ q.2;
+      is = is q.0;
+      short = rw eq (simp length-append (omega arith));
+      goes_on = λ w. absurd (other w);
+    })
+
+-- a line with a byte too many
+pub longer : (line : List ℕ) (x : ℕ) → LINE_LIMIT ≤ length line → (more : List ℕ) → LINE_LIMIT < length ((line ++ x ∷ []) ++ more)
+longer line x h more = simp length-append (omega arith)
+
+pub known_further : (a b c : Option (List ℕ)) (P Q R : List ℕ → List ℕ → Type 0) → WhereKnown a b P → WhereKnown b c Q
+    → ((xs ys zs : List ℕ) → P xs ys → Q ys zs → R xs zs) → WhereKnown a c R
+known_further None b c P Q R h k f = tt
+known_further (Some xs) None c P Q R h k f = absurd h
+known_further (Some xs) (Some ys) None P Q R h k f = absurd k
+known_further (Some xs) (Some ys) (Some zs) P Q R h k f = f xs ys zs h k
+
+pub known_so : (a b : Option (List ℕ)) (P : List ℕ → List ℕ → Type 0) (Q : List ℕ → Type 0) → WhereKnown a b P
+    → ((xs ys : List ℕ) → P xs ys → Q xs) → IfSome a Q
+known_so None b P Q h f = tt
+known_so (Some xs) None P Q h f = absurd h
+known_so (Some xs) (Some ys) P Q h f = f xs ys h
+
+pub known_map : (a b : Option (List ℕ)) (P Q : List ℕ → List ℕ → Type 0) → WhereKnown a b P → ((xs ys : List ℕ) → P xs ys → Q xs ys) → WhereKnown a b Q
+known_map None b P Q h f = tt
+known_map (Some xs) None P Q h f = absurd h
+known_map (Some xs) (Some ys) P Q h f = f xs ys h

@@ -1,0 +1,30 @@
+use Rattle.std.proofs.Common.{arith, ◌≢◌, sym, vec_len}
+use Rattle.std.proofs.lemmas.Bool.{eqb-false, ne_eqb}
+use Rattle.ui_runner.specs.declared.line_reader.Found.TheVariants as founds
+use Rattle.ui_runner.proofs.LineLemmas.{finds_whole, finds_last, finds_begun, longer}
+use Rattle.ui_runner.proofs.line_reader.LineReader.next_line.Goals as goal
+
+pub returns-in_default-clause-reads : goal.returns-in_default-clause-reads
+returns-in_default-clause-reads g c =
+    let some : vec_len c.loop-byte.self.line ≢ 0 = eqb-false _ _ (sym c.if-is_empty.ensures) in
+    finds_last _ _ _ c.loop-byte.self.line.items c.loop-byte.invariant.consumed (rw c.in_default.is at c.in_ok-byte.ensures.byte)
+    c.loop-byte.invariant.no_end c.loop-byte.invariant.within (omega (arith, some, c.loop-byte.self.line.ok))
+
+pub returns-then-byte-eq10-clause-reads : goal.returns-then-byte-eq10-clause-reads
+returns-then-byte-eq10-clause-reads g c =
+    let byte = rw c.in-Some.is at c.in_ok-byte.ensures.byte in
+    let end = rw c.if-byte-eq10.true at byte in
+    finds_whole _ _ _ c.loop-byte.self.line.items c.loop-byte.invariant.consumed end c.loop-byte.invariant.no_end c.loop-byte.invariant.within
+
+pub returns-then-len-ge-LINE_LIMIT-clause-reads : goal.returns-then-len-ge-LINE_LIMIT-clause-reads
+returns-then-len-ge-LINE_LIMIT-clause-reads g c =
+    let byte = rw c.in-Some.is at c.in_ok-byte.ensures.byte in
+    finds_begun founds.TooLong _ _ _ _ c.loop-byte.self.line.items c.in-Some.byte c.loop-byte.invariant.consumed byte
+    c.loop-byte.invariant.no_end (ne_eqb _ _ c.if-byte-eq10.false)
+    (longer c.loop-byte.self.line.items c.in-Some.byte (omega (arith, c.loop-byte.self.line.ok))) (λ w. (cc)) c.loop-byte.invariant.within
+
+pub returns-in_default-push-clause-reads : goal.returns-in_default-push-clause-reads
+returns-in_default-push-clause-reads g c =
+    let byte = rw c.in-Some.is at c.in_ok-byte.ensures.byte in
+    finds_begun founds.NoMemory _ _ _ _ c.loop-byte.self.line.items c.in-Some.byte c.loop-byte.invariant.consumed byte
+    c.loop-byte.invariant.no_end (ne_eqb _ _ c.if-byte-eq10.false) (λ more. tt) (λ w. (cc)) c.loop-byte.invariant.within

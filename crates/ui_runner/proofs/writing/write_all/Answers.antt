@@ -1,0 +1,13 @@
+use Rattle.std.proofs.Common.{arith, length-take, length-drop, ◌∙◌}
+use Rattle.ui_runner.proofs.Pieces.{stops_before, goes_on}
+use Rattle.ui_runner.proofs.writing.write_all.Goals as goal
+
+pub returns-in_default-clause-writes : goal.returns-in_default-clause-writes
+returns-in_default-clause-writes g c = stops_before _ _ _ c.loop-done.done c.args.bytes.now c.loop-done.invariant.appends c.in_default.ensures.bytes
+
+pub loop-done-preserved : goal.loop-done-preserved
+loop-done-preserved g c = record {
+  within = omega (arith, simp (length-take, length-drop) at c.in-Ok.ensures.bound);
+  appends = goes_on _ _ _ c.args.bytes.now c.loop-done.done c.in-Ok.count c.loop-done.invariant.appends c.in-Ok.ensures.bytes;
+  works = c.in-Ok.ensures.marks ∙ c.loop-done.invariant.works;
+}

@@ -1,0 +1,115 @@
+-- What a run over the lines of a text may come to.
+use Rattle.std.specs.Prelude.{min, ◌≡◌, ◌≢◌, ℕ, ◌+◌, ◌⊎◌, Bool, true, false, ◌||◌, List, [], ◌∷◌, ◌++◌, length, fold, nat_lt, nat_eq, if◌then◌else◌}
+use Rattle.std.specs.List.{list_all, list_any}
+use Rattle.ui_machine.specs.declared.arm.Halt.{Halt}
+use Rattle.ui_machine.specs.declared.arm.Halt.TheVariants as halts
+use Rattle.ui_runner.specs.declared.TheConstants.{LINE_LIMIT, MOST_LINES}
+use Rattle.ui_runner.specs.declared.refusal.LineRefusal.{LineRefusal}
+use Rattle.ui_runner.specs.declared.refusal.LineRefusal.TheVariants as refusals
+use Rattle.ui_runner.specs.Texts.{lines_text, refused_line, stopped_line}
+
+-- how an event line ends
+pub data Outcome : Type 0 where
+  said : List (List ℕ) → Outcome  -- these lines; none for a line of blanks
+  refused : LineRefusal → Outcome  -- by this refusal, and the run goes on
+  cut_off : LineRefusal → Outcome  -- by this refusal, and the run ends
+  stopped : Halt → List (List ℕ) → Outcome  -- these lines, and then the run stops
+
+-- what is written for the line numbered n
+abbrev pub text_at : ℕ → Outcome → List ℕ
+text_at n (said lines) = lines_text lines
+text_at n (refused refusal) = refused_line n refusal
+text_at n (cut_off refusal) = refused_line n refusal
+text_at n (stopped halt lines) = lines_text lines ++ stopped_line n halt
+
+-- what is written for these lines, the first of them numbered n
+abbrev pub text_from : ℕ → List Outcome → List ℕ
+text_from n [] = []
+text_from n (outcome ∷ outcomes) = text_at n outcome ++ text_from (n + 1) outcomes
+
+abbrev pub ends : Outcome → Bool
+ends (said lines) = false
+ends (refused refusal) = false
+ends (cut_off refusal) = true
+ends (stopped halt lines) = true
+
+-- the status after a line, from the one before it
+abbrev pub status_after : ℕ → Outcome → ℕ
+status_after status (said lines) = status
+status_after status (refused refusal) = 5
+status_after status (cut_off refusal) = 5
+status_after status (stopped halt lines) = 3
+
+abbrev pub status_of : List Outcome → ℕ
+status_of outcomes = fold status_after 0 outcomes
+
+abbrev pub is_blank : List ℕ → Bool
+is_blank line = list_all (λ b. (nat_eq b 32 || nat_eq b 9) || nat_eq b 13) line
+
+-- which lines a run takes for itself, and which are the session's
+pub data Fate : Type 0 where
+  too_many : Fate
+  too_long : Fate
+  skipped : Fate
+  event : Fate
+
+abbrev pub fate : ℕ → List ℕ → Fate
+fate n line =
+    if nat_lt MOST_LINES n then too_many
+    else (if nat_lt LINE_LIMIT (length line) then too_long
+    else (if is_blank line then skipped else event))
+
+abbrev pub ends_run : Fate → Bool
+ends_run too_many = true
+ends_run too_long = true
+ends_run skipped = false
+ends_run event = false
+
+-- the lines up to the first that ends the run by its fate, the first of them numbered n
+abbrev pub told_lines : ℕ → List (List ℕ) → List (List ℕ)
+told_lines n [] = []
+told_lines n (line ∷ lines) = line ∷ (if ends_run (fate n line) then [] else told_lines (n + 1) lines)
+
+-- the bytes of these lines, of each no more than one past the limit
+abbrev pub reach : List (List ℕ) → ℕ
+reach [] = 0
+reach (line ∷ lines) = (min (length line) LINE_LIMIT + 1) + reach lines
+
+-- What a session may answer to an event line, and how it stands then.
+abbrev pub Replies : Type 0 → Type 1
+Replies S = S → List ℕ → Outcome → S → Type 0
+
+abbrev pub Meets : {S : Type 0} → Replies S → Fate → S → List ℕ → Outcome → S → Type 0
+Meets replies too_many old line outcome new = (outcome ≡ cut_off refusals.TooMany) × (new ≡ old)
+Meets replies too_long old line outcome new = (outcome ≡ cut_off refusals.TooLong) × (new ≡ old)
+Meets replies skipped old line outcome new = (outcome ≡ said []) × (new ≡ old)
+Meets replies event old line outcome new = replies old line outcome new
+
+-- the line numbered n may come to this outcome: its fate's, or want of memory before that
+abbrev pub Tells : {S : Type 0} → Replies S → S → ℕ → List ℕ → Outcome → S → Type 0
+Tells replies old n line outcome new = Meets replies (fate n line) old line outcome new ⊎ ((outcome ≡ stopped halts.OutOfMemory []) × (new ≡ old))
+
+-- the first of these lines, the first of all numbered n, come to these outcomes, one after the other, and none comes after an end
+abbrev pub Tale : {S : Type 0} → Replies S → S → ℕ → List (List ℕ) → List Outcome → S → Type 0
+Tale replies old n lines [] new = new ≡ old
+Tale replies old n [] (outcome ∷ outcomes) new = ⊥
+Tale {S} replies old n (line ∷ lines) (outcome ∷ outcomes) new =
+    (mid : S) × Tells replies old n line outcome mid × (ends outcome ≡ true → outcomes ≡ []) × Tale replies mid (n + 1) lines outcomes new
+
+-- no line is left to be told
+abbrev pub IsOver : List (List ℕ) → List Outcome → Type 0
+IsOver lines outcomes = (length outcomes ≡ length lines) ⊎ (list_any ends outcomes ≡ true)
+
+abbrev pub IsFrontOf : List ℕ → List ℕ → Type 0
+IsFrontOf text whole = (more : List ℕ) × (whole ≡ text ++ more)
+
+-- a run over these lines that ended in this status: their outcomes, and what it wrote
+pub record Story {S : Type 0} (replies : Replies S) (old : S) (lines : List (List ℕ)) (status : ℕ) (text : List ℕ) (new : S) : Type 0 where
+  pub outcomes : List Outcome
+  pub told : Tale replies old 1 lines outcomes new
+  -- a device failed: the text broke off
+  pub broke : status ≡ 4 → IsFrontOf text (text_from 1 outcomes)
+  -- none did: the whole text, to the end of the lines or of the run
+  pub whole : status ≢ 4 → text ≡ text_from 1 outcomes
+  pub over : status ≢ 4 → IsOver lines outcomes
+  pub answer : status ≢ 4 → status ≡ status_of outcomes
