@@ -52,7 +52,7 @@ of_event w event = beginning w (Carrying event)
 abbrev pub first_world : Definition → List Peer → World
 first_world d peers = record {
   objects = []; handlers = []; last_handler = 0; bindings = []; sources = []; last_source = 0; floating = [];
-  builder = map (λ (p : Place). unbuilt) d.places; peers = peers; moment = 0; transcript = []; result = None
+  builder = []; peers = peers; moment = 0; transcript = []; result = None
 }
 
 -- the build begins with its line

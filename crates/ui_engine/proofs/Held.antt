@@ -1,0 +1,182 @@
+-- While the builder and constructions hold all objects, no object is without a mention.
+use Rattle.std.proofs.Common.{◌≡◌, ◌≢◌, ℕ, zero, suc, ◌+◌, ◌<◌, ◌≤◌, Bool, true, false, cond, nat_eq, List, [], ◌∷◌, ◌++◌, length, Option, Some, None, is_some, IsSome, Result, Ok, Err, refl, sym, ap, subst, ◌∙◌, arith, inl, inr}
+use Rattle.std.specs.Prelude.{IfOk}
+use Rattle.std.proofs.lemmas.Bool.{cases_eq}
+use Rattle.std.proofs.lemmas.Bool.Decides.{nat_tests}
+use Rattle.ui_machine.specs.declared.arm.Arm.{Arm}
+use Rattle.ui_machine.specs.declared.arm.Arm.TheVariants as arms
+use Rattle.ui_machine.specs.Seq.{read, total}
+use Rattle.ui_machine.specs.Definition.{Definition}
+use Rattle.ui_machine.specs.Config.{Object, Objects, Held, built, Making, Task, Setting, Notifying, Beginning, Emitting, Transferring, Unsetting, Thawing, Running, Answering, Calling, Constructing, Building, Carrying, Due, World, Config}
+use Rattle.ui_machine.specs.Answers.{Answer, ◌>>=◌, known}
+use Rattle.ui_machine.specs.Objects.{find, put, changed, unheld_from, next_unheld}
+use Rattle.ui_machine.specs.Mentions.{same, in_held, in_task, mentions}
+use Rattle.ui_machine.specs.Worlds.{Started, holding, sunk, without}
+use Rattle.ui_machine.specs.Builds.{floats}
+use Rattle.ui_engine.specs.Holding.{making_of, IsHeld}
+use Rattle.ui_engine.proofs.Lists.{find-beside, find-more, total-append}
+
+-- ** no object is without a mention
+
+none_unheld : (m : ℕ → ℕ) (i : ℕ) (os : Objects) → ((k : ℕ) → is_some (read None os k) ≡ true → 0 < m (i + k)) → unheld_from m i os ≡ None
+none_unheld m i [] h = refl
+none_unheld m i (None ∷ os) h =
+    none_unheld m (suc i) os (λ k s. let e : i + suc k ≡ suc i + k = omega arith in subst (λ j. 0 < m j) e (h (suc k) s))
+none_unheld m i (Some o ∷ os) h =
+    let here : 0 < m i = (let e : i + 0 ≡ i = omega arith in subst (λ j. 0 < m j) e (h 0 refl)) in
+    let no : nat_eq (m i) 0 ≡ false = grind (arith, nat_tests) in
+    rw no (none_unheld m (suc i) os (λ k s. let e : i + suc k ≡ suc i + k = omega arith in subst (λ j. 0 < m j) e (h (suc k) s)))
+
+making_at_most : (o : ℕ) (t : Task) → making_of o t ≤ in_task o t
+making_at_most o (Setting object slot v) = omega arith
+making_at_most o (Notifying object slot) = omega arith
+making_at_most o (Beginning emission) = omega arith
+making_at_most o (Emitting emission turns) = omega arith
+making_at_most o (Transferring number back) = omega arith
+making_at_most o (Unsetting number) = omega arith
+making_at_most o (Thawing object slots) = omega arith
+making_at_most o (Running program block at passes into registers) = omega arith
+making_at_most o (Answering source) = omega arith
+making_at_most o (Calling object peer method args to) = omega arith
+making_at_most o (Constructing object steps true) = omega arith
+making_at_most o (Constructing object steps false) = omega arith
+making_at_most o (Building items) = omega arith
+making_at_most o (Carrying event) = omega arith
+making_at_most o (Due source) = omega arith
+
+all_at_most : (o : ℕ) (ts : List Task) → total (making_of o) ts ≤ total (in_task o) ts
+all_at_most o [] = omega arith
+all_at_most o (t ∷ ts) = omega (arith, making_at_most o t, all_at_most o ts)
+
+pub none_unmentioned : (d : Definition) (c : Config) → IsHeld c.world c.agenda → next_unheld (mentions d c) c.world.objects ≡ None
+none_unmentioned d c held = none_unheld (mentions d c) 1 c.world.objects (λ k s.
+    let h = held.lives (suc k) s in
+    let e : 1 + k ≡ suc k = omega arith in
+    let m : 0 < mentions d c (suc k) = omega (arith, all_at_most (suc k) c.agenda, h) in
+    subst (λ j. 0 < mentions d c j) (sym e) m)
+
+-- ** steps that keep what lives and what holds it
+
+pub record Quietly (w new : World) : Type 0 where
+  pub lives : (q : ℕ) → is_some (find new.objects q) ≡ true → is_some (find w.objects q) ≡ true
+  pub builder : new.builder ≡ w.builder
+  pub floating : new.floating ≡ w.floating
+
+pub quietly_on : {w v new : World} → Quietly w v → Quietly v new → Quietly w new
+quietly_on p q = record {
+  lives = λ i h. p.lives i (q.lives i h);
+  builder = q.builder ∙ p.builder;
+  floating = q.floating ∙ p.floating;
+}
+
+pub if_ok_at : {A : Type 0} (P : A → Type 0) (a : Answer A) (x : A) → IfOk a P → a ≡ Ok x → P x
+if_ok_at {A} P a x h e = subst (λ (r : Answer A). IfOk r P) e h
+
+pub bind_ok : {A B : Type 0} (a : Answer A) (f : A → Answer B) (P : B → Type 0) → ((x : A) → a ≡ Ok x → IfOk (f x) P) → IfOk (a >>= f) P
+bind_ok (Ok x) f P h = h x refl
+bind_ok (Err arm) f P h = tt
+
+pub changed_lives : {X : Type 0} (os : Objects) (id : ℕ) (change : Object → Answer (Object × X)) → IfOk (changed os id change) (λ r. (q : ℕ) → is_some (find r.0 q) ≡ true → is_some (find os q) ≡ true)
+unfolding changed
+changed_lives {X} os id change = by (find os id) refl
+  where
+    P : Objects × X → Type 0
+    P = λ r. (q : ℕ) → is_some (find r.0 q) ≡ true → is_some (find os q) ≡ true
+
+    by : (o : Option Object) → find os id ≡ o → IfOk (known arms.Operand o >>= λ x. change x >>= λ new. Ok (put os id (Some new.0), new.1)) P
+    by None e = tt
+    by (Some x) e = bind_ok (change x) (λ new. Ok (put os id (Some new.0), new.1)) P (λ new _ q h. elim (cases_eq q id) [
+      | inl is ↦ ap (λ j. is_some (find os j)) is ∙ ap is_some e
+      | inr ne ↦ ap is_some (sym (find-beside os id q (Some new.0) ne)) ∙ h
+    ])
+
+-- a step that keeps them and hands on its part of the constructions
+pub keeps_quietly : (w : World) (t : Task) (rest : List Task) (s : Started) → IsHeld w (t ∷ rest) → Quietly w s.world → ((o : ℕ) → total (making_of o) s.tasks ≡ making_of o t) → IsHeld s.world (s.tasks ++ rest)
+keeps_quietly w t rest s held quiet parts = record {
+  lives = λ id some.
+      let h = held.lives id (quiet.lives id some) in
+      let b : total (in_held id) s.world.builder ≡ total (in_held id) w.builder = ap (total (in_held id)) quiet.builder in
+      omega (arith, h, parts id, total-append (making_of id) s.tasks rest);
+  floats = λ id some.
+      let f : total (same id) s.world.floating ≡ total (same id) w.floating = ap (total (same id)) quiet.floating in
+      let h = held.floats id (omega (arith, some, f)) in
+      omega (arith, h, parts id, total-append (making_of id) s.tasks rest);
+}
+
+-- ** an object more
+
+same_self : (o : ℕ) → same o o ≡ 1
+same_self o = grind (arith, nat_tests)
+
+same_other : (o i : ℕ) → i ≢ o → same o i ≡ 0
+same_other o i ne = grind (arith, nat_tests)
+
+floats_more : (b : Bool) (q id : ℕ) (fl : List ℕ) → 0 < total (same q) (cond b (fl ++ id ∷ []) fl) → 0 < total (same q) fl + same q id
+floats_more true q id fl h = omega (arith, total-append (same q) fl (id ∷ []))
+floats_more false q id fl h = omega arith
+
+pub made_held : (w new : World) (t : Task) (rest : List Task) (o : Object) (b : Bool) (steps : List Making) (items : Task) → IsHeld w (t ∷ rest) → ((q : ℕ) → making_of q t ≡ 0)
+    → new.objects ≡ w.objects ++ Some o ∷ [] → new.builder ≡ w.builder → new.floating ≡ cond b (w.floating ++ suc (length w.objects) ∷ []) w.floating
+    → IsHeld new (Constructing (suc (length w.objects)) steps true ∷ items ∷ rest)
+made_held w new t rest o b steps items held none os builder floating = record {
+  lives = λ id some. elim (cases_eq id (suc (length w.objects))) as (λ _. 0 < total (in_held id) new.builder + (same id (suc (length w.objects)) + (making_of id items + total (making_of id) rest))) [
+    | inl is ↦ let e : same id (suc (length w.objects)) ≡ 1 = ap (same id) (sym is) ∙ same_self id in omega arith
+    | inr ne ↦
+      let some' : is_some (find w.objects id) ≡ true = find-more w.objects (Some o) id (ap (λ (xs : Objects). is_some (find xs id)) (sym os) ∙ some) ne in
+      let h = held.lives id some' in
+      let z = none id in
+      let e : total (in_held id) new.builder ≡ total (in_held id) w.builder = ap (total (in_held id)) builder in
+      omega arith
+  ];
+  floats = λ id some.
+      let f : 0 < total (same id) w.floating + same id (suc (length w.objects)) = floats_more b id (suc (length w.objects)) w.floating (subst (λ (fl : List ℕ). 0 < total (same id) fl) floating some) in
+      elim (cases_eq id (suc (length w.objects))) as (λ _. 0 < same id (suc (length w.objects)) + (making_of id items + total (making_of id) rest)) [
+        | inl is ↦ let e : same id (suc (length w.objects)) ≡ 1 = ap (same id) (sym is) ∙ same_self id in omega arith
+        | inr ne ↦
+          let z : same id (suc (length w.objects)) ≡ 0 = same_other id (suc (length w.objects)) (λ e. ne (sym e)) in
+          let h = held.floats id (omega (arith, f, z)) in
+          let y = none id in
+          omega arith
+      ];
+}
+
+-- ** the end of a construction
+
+none_with : (id i : ℕ) (rest : List ℕ) (b : Bool) → nat_eq i id ≡ b → total (same id) rest ≡ 0 → total (same id) (cond b rest (i ∷ rest)) ≡ 0
+none_with id i rest true e none = none
+none_with id i rest false e none = let z : same id i ≡ 0 = ap (λ c. cond c 1 0) e in omega (arith, z, none)
+
+without_none : (id : ℕ) (fl : List ℕ) → total (same id) (without id fl) ≡ 0
+without_none id [] = refl
+without_none id (i ∷ fl) = none_with id i (without id fl) (nat_eq i id) refl (without_none id fl)
+
+less_with : (q i : ℕ) (rest fl : List ℕ) (b : Bool) → total (same q) rest ≤ total (same q) fl → total (same q) (cond b rest (i ∷ rest)) ≤ total (same q) (i ∷ fl)
+less_with q i rest fl true less = omega (arith, less)
+less_with q i rest fl false less = omega (arith, less)
+
+without_less : (id q : ℕ) (fl : List ℕ) → total (same q) (without id fl) ≤ total (same q) fl
+without_less id q [] = omega arith
+without_less id q (i ∷ fl) = less_with q i (without id fl) fl (nat_eq i id) (without_less id q fl)
+
+pub ended_held : (w : World) (id : ℕ) (rest : List Task) → IsHeld w (Constructing id [] true ∷ rest) → IsHeld (sunk (holding w id) id) rest
+ended_held w id rest held = record {
+  lives = λ q some. let h = held.lives q some in omega (arith, h, total-append (in_held q) w.builder (built id ∷ []));
+  floats = λ q some. elim (cases_eq q id) as (λ _. 0 < total (making_of q) rest) [
+    | inl is ↦ let z : total (same q) (without id w.floating) ≡ 0 = subst (λ j. total (same j) (without id w.floating) ≡ 0) (sym is) (without_none id w.floating) in absurd (omega arith)
+    | inr ne ↦
+      let z : same q id ≡ 0 = same_other q id (λ e. ne (sym e)) in
+      let l = without_less id q w.floating in
+      let h = held.floats q (omega arith) in
+      omega (arith, h, z)
+  ];
+}
+
+-- nothing floats where nothing is under construction
+pub none_floats : (w : World) → IsHeld w [] → w.floating ≡ []
+none_floats w held = by w.floating refl
+  where
+    by : (fl : List ℕ) → w.floating ≡ fl → w.floating ≡ []
+    by [] e = e
+    by (i ∷ fl) e =
+        let some : 0 < total (same i) w.floating = subst (λ (xs : List ℕ). 0 < total (same i) xs) (sym e) (omega (arith, same_self i)) in
+        absurd (omega (arith, held.floats i some))

@@ -1,0 +1,6 @@
+pub mod Listed
+pub mod Shown
+pub mod Maps
+pub mod Lists
+pub mod Held
+pub mod Quiet

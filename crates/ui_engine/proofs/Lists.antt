@@ -1,0 +1,48 @@
+-- Lists that are read after a write, and sums over them.
+use Rattle.std.proofs.Common.{◌≡◌, ◌≢◌, ℕ, zero, suc, ◌+◌, ◌<◌, ◌≤◌, List, [], ◌∷◌, ◌++◌, length, Option, Some, None, is_some, refl, sym, ap, ◌∙◌, arith, true}
+use Rattle.ui_machine.specs.Seq.{read, write, total}
+use Rattle.ui_machine.specs.Config.{Object, Objects}
+use Rattle.ui_machine.specs.Objects.{find, put}
+
+read-written : {A : Type 0} (d : A) (xs : List A) (i : ℕ) (y : A) → read d (write d xs i y) i ≡ y
+read-written d [] zero y = refl
+read-written d [] (suc i) y = read-written d [] i y
+read-written d (x ∷ xs) zero y = refl
+read-written d (x ∷ xs) (suc i) y = read-written d xs i y
+
+read-nil : {A : Type 0} (d : A) (i : ℕ) → read d [] i ≡ d
+read-nil d i = refl
+
+read-beside : {A : Type 0} (d : A) (xs : List A) (i j : ℕ) (y : A) → j ≢ i → read d (write d xs i y) j ≡ read d xs j
+read-beside d [] zero zero y ne = absurd (ne refl)
+read-beside d [] zero (suc j) y ne = refl
+read-beside d [] (suc i) zero y ne = refl
+read-beside d [] (suc i) (suc j) y ne = read-beside d [] i j y (λ e. ne (ap suc e))
+read-beside d (x ∷ xs) zero zero y ne = absurd (ne refl)
+read-beside d (x ∷ xs) zero (suc j) y ne = refl
+read-beside d (x ∷ xs) (suc i) zero y ne = refl
+read-beside d (x ∷ xs) (suc i) (suc j) y ne = read-beside d xs i j y (λ e. ne (ap suc e))
+
+pub find-put : (os : Objects) (id : ℕ) (x : Option Object) → 0 < id → find (put os id x) id ≡ x
+find-put os zero x h = absurd (omega arith)
+find-put os (suc i) x h = read-written None os i x
+
+pub find-beside : (os : Objects) (id q : ℕ) (x : Option Object) → q ≢ id → find (put os id x) q ≡ find os q
+find-beside os zero q x ne = refl
+find-beside os (suc i) zero x ne = refl
+find-beside os (suc i) (suc j) x ne = read-beside None os i j x (λ e. ne (ap suc e))
+
+pub total-append : {A : Type 0} (f : A → ℕ) (xs ys : List A) → total f (xs ++ ys) ≡ total f xs + total f ys
+total-append f [] ys = omega arith
+total-append f (x ∷ xs) ys = omega (arith, total-append f xs ys)
+
+-- one more object: the others are found as before
+read-more : (os : Objects) (x : Option Object) (i : ℕ) → is_some (read None (os ++ x ∷ []) i) ≡ true → i ≢ length os → is_some (read None os i) ≡ true
+read-more [] x zero h ne = absurd (ne refl)
+read-more [] x (suc i) h ne = h
+read-more (o ∷ os) x zero h ne = h
+read-more (o ∷ os) x (suc i) h ne = read-more os x i h (λ e. ne (ap suc e))
+
+pub find-more : (os : Objects) (x : Option Object) (id : ℕ) → is_some (find (os ++ x ∷ []) id) ≡ true → id ≢ suc (length os) → is_some (find os id) ≡ true
+find-more os x zero h ne = h
+find-more os x (suc i) h ne = read-more os x i h (λ e. ne (ap suc e))

@@ -1,0 +1,107 @@
+-- What sets, notifications and gets leave of what holds the objects.
+use Rattle.std.proofs.Common.{◌≡◌, ℕ, ◌+◌, Bool, true, false, cond, ◌&&◌, ◌||◌, List, [], ◌∷◌, Option, Some, None, is_some, Result, Ok, Err, refl, subst, arith}
+use Rattle.std.specs.Prelude.{IfOk}
+use Rattle.ui_machine.specs.declared.arm.Arm.{Arm}
+use Rattle.ui_machine.specs.declared.arm.Arm.TheVariants as arms
+use Rattle.ui_machine.specs.Seq.{total}
+use Rattle.ui_machine.specs.Values.{Value}
+use Rattle.ui_machine.specs.Lines as lines
+use Rattle.ui_machine.specs.Transform.{same_value}
+use Rattle.ui_machine.specs.Clamp.{clamp}
+use Rattle.ui_machine.specs.Properties.{Spec, is_lax, is_readable}
+use Rattle.ui_machine.specs.Lookups.{spec_of}
+use Rattle.ui_machine.specs.Definition.{Definition, Given}
+use Rattle.ui_machine.specs.Config.{Object, Objects, Making, Task, Notifying, Thawing, World}
+use Rattle.ui_machine.specs.Answers.{Answer, known, only_if}
+use Rattle.ui_machine.specs.Objects.{find, class_in, object_at, asked, value_at, changed, with_value, raised, frozen_less}
+use Rattle.ui_machine.specs.Worlds.{Started, starts, said}
+use Rattle.ui_machine.specs.Sets.{spec_at, raising, notifies, kept, written, settled, setting, lives, has_kind}
+use Rattle.ui_machine.specs.Emissions.{notifying}
+use Rattle.ui_machine.specs.Builds.{thawing_made, given_value}
+use Rattle.ui_machine.specs.Steps.{answered, thawing, carrying_set, carrying_get, held_object}
+use Rattle.ui_engine.specs.Holding.{making_of}
+use Rattle.ui_engine.proofs.Held.{Quietly, quietly_on, if_ok_at, bind_ok, changed_lives}
+
+-- a step that keeps what holds the objects, and starts no construction
+pub record Calm (w : World) (s : Started) : Type 0 where
+  pub quiet : Quietly w s.world
+  pub none : (o : ℕ) → total (making_of o) s.tasks ≡ 0
+
+-- a world with other objects, as a change of one left them
+same_lives : {X : Type 0} (w new : World) (id : ℕ) (change : Object → Answer (Object × X)) (os : Objects × X) → changed w.objects id change ≡ Ok os → new.objects ≡ os.0 → new.builder ≡ w.builder → new.floating ≡ w.floating → Quietly w new
+same_lives {X} w new id change os e objects builder floating =
+    let h = if_ok_at (λ (r : Objects × X). (q : ℕ) → is_some (find r.0 q) ≡ true → is_some (find w.objects q) ≡ true) (changed w.objects id change) os (changed_lives w.objects id change) e in
+    record { lives = λ q s. h q (subst (λ (xs : Objects). is_some (find xs q) ≡ true) objects s); builder = builder; floating = floating }
+
+-- ** notifications
+
+none_made : (b : Bool) (id slot : ℕ) → (o : ℕ) → total (making_of o) (cond b (Notifying id slot ∷ []) []) ≡ 0
+none_made true id slot o = refl
+none_made false id slot o = refl
+
+pub raising_calm : (w : World) (id slot : ℕ) → IfOk (raising w id slot) (Calm w)
+unfolding raising
+raising_calm w id slot = bind_ok (changed w.objects id (raised slot)) _ (Calm w) (λ r e. record {
+  quiet = same_lives w (record w { objects = r.0 }) id (raised slot) r e refl refl refl;
+  none = none_made r.1 id slot;
+})
+
+calm_on : (w v : World) (a : Answer Started) → Quietly w v → IfOk a (Calm v) → IfOk a (Calm w)
+calm_on w v (Ok s) q h = record { quiet = quietly_on q h.quiet; none = h.none }
+calm_on w v (Err arm) q h = tt
+
+pub notifying_calm : (d : Definition) (w : World) (id slot : ℕ) → IfOk (notifying d w id slot) (Calm w)
+unfolding notifying
+notifying_calm d w id slot = bind_ok (object_at w.objects id) _ (Calm w) (λ o _. bind_ok (known arms.Code (spec_of d o.class slot)) _ (Calm w) (λ s _. record {
+  quiet = record { lives = λ q h. h; builder = refl; floating = refl };
+  none = λ o. refl;
+}))
+
+-- ** sets
+
+told_calm : (b : Bool) (w v : World) (id slot : ℕ) → Quietly w v → IfOk (cond b (raising v id slot) (Ok (record { world = v; tasks = [] }))) (Calm w)
+told_calm true w v id slot q = calm_on w v (raising v id slot) q (raising_calm v id slot)
+told_calm false w v id slot q = record { quiet = q; none = λ o. refl }
+
+pub written_calm : (d : Definition) (w : World) (id slot : ℕ) (s : Spec) (v : Value) → IfOk (written d w id slot s v) (Calm w)
+unfolding written
+written_calm d w id slot s v = bind_ok (changed w.objects id (with_value slot v)) _ (Calm w) (λ r e.
+    told_calm (notifies s r.1 v) w _ id slot (same_lives w _ id (with_value slot v) r e refl refl refl))
+
+settled_calm : (d : Definition) (w : World) (id slot : ℕ) (s : Spec) (v valid : Value) → IfOk (settled d w id slot s v valid) (Calm w)
+settled_calm d w id slot s v valid = by (same_value valid v || is_lax s)
+  where
+    by : (b : Bool) → IfOk (cond b (written d w id slot s (kept w.objects s valid)) (starts (said d w (lines.refused id s.name v)) [])) (Calm w)
+    by true = written_calm d w id slot s (kept w.objects s valid)
+    by false = record { quiet = record { lives = λ q h. h; builder = refl; floating = refl }; none = λ o. refl }
+
+only_calm : (w : World) (b : Bool) (arm : Arm) (a : Answer Started) → IfOk a (Calm w) → IfOk (only_if b arm a) (Calm w)
+only_calm w true arm a h = h
+only_calm w false arm a h = tt
+
+pub setting_calm : (d : Definition) (w : World) (id slot : ℕ) (v : Value) → IfOk (setting d w id slot v) (Calm w)
+unfolding setting
+setting_calm d w id slot v = bind_ok (spec_at d w.objects id slot) _ (Calm w) (λ s _. only_calm w (has_kind v s.kind && lives w.objects v) arms.Value (settled d w id slot s v (clamp (class_in w.objects) d.types s v)) (settled_calm d w id slot s v (clamp (class_in w.objects) d.types s v)))
+
+-- ** events
+
+still : (w new : World) → new.objects ≡ w.objects → new.builder ≡ w.builder → new.floating ≡ w.floating → Quietly w new
+still w new objects builder floating = record { lives = λ q h. subst (λ (xs : Objects). is_some (find xs q) ≡ true) objects h; builder = builder; floating = floating }
+
+pub carrying_set_calm : (w : World) (place slot : ℕ) (given : Given) → IfOk (carrying_set w place slot given) (Calm w)
+unfolding carrying_set
+carrying_set_calm w place slot given = bind_ok (held_object w place) _ (Calm w) (λ id _. bind_ok (known arms.Operand (given_value w given)) _ (Calm w) (λ v _. record {
+  quiet = still w w refl refl refl;
+  none = λ o. refl;
+}))
+
+pub carrying_get_calm : (d : Definition) (w : World) (place slot : ℕ) → IfOk (carrying_get d w place slot) (Calm w)
+unfolding carrying_get
+carrying_get_calm d w place slot = bind_ok (held_object w place) _ (Calm w) (λ id _. bind_ok (spec_at d w.objects id slot) _ (Calm w) (λ s _. bind_ok (asked w.objects id (value_at slot)) _ (Calm w) (λ v _.
+    only_calm w (is_readable s) arms.Flags (starts (answered (said d w (lines.get id s.name v)) v) []) (record { quiet = still w _ refl refl refl; none = λ o. refl }))))
+
+-- ** thaws
+
+pub thawing_calm : (w : World) (id : ℕ) (slots : List ℕ) → IfOk (thawing w id slots) (Calm w)
+thawing_calm w id [] = record { quiet = still w w refl refl refl; none = λ o. refl }
+thawing_calm w id (slot ∷ slots) = record { quiet = still w w refl refl refl; none = λ o. refl }

@@ -1,0 +1,29 @@
+-- What holds the objects of a session whose definition has no programs: the builder, or their own construction.
+use Rattle.std.specs.Prelude.{◌≡◌, ℕ, ◌+◌, ◌<◌, Bool, true, false, List, IsSome}
+use Rattle.ui_machine.specs.Seq.{total}
+use Rattle.ui_machine.specs.Config.{Task, Setting, Notifying, Beginning, Emitting, Transferring, Unsetting, Thawing, Running, Answering, Calling, Constructing, Building, Carrying, Due, World, Config}
+use Rattle.ui_machine.specs.Objects.{find}
+use Rattle.ui_machine.specs.Mentions.{same, in_held}
+
+-- 1 for the construction of the object that the builder will hold
+abbrev pub making_of : ℕ → Task → ℕ
+making_of o (Setting object slot v) = 0
+making_of o (Notifying object slot) = 0
+making_of o (Beginning emission) = 0
+making_of o (Emitting emission turns) = 0
+making_of o (Transferring number back) = 0
+making_of o (Unsetting number) = 0
+making_of o (Thawing object slots) = 0
+making_of o (Running program block at passes into registers) = 0
+making_of o (Answering source) = 0
+making_of o (Calling object peer method args to) = 0
+making_of o (Constructing object steps true) = same o object
+making_of o (Constructing object steps false) = 0
+making_of o (Building items) = 0
+making_of o (Carrying event) = 0
+making_of o (Due source) = 0
+
+-- each living object is held, and what floats is under construction
+pub record IsHeld (w : World) (agenda : List Task) : Type 0 where
+  pub lives : (id : ℕ) → IsSome (find w.objects id) → 0 < total (in_held id) w.builder + total (making_of id) agenda
+  pub floats : (id : ℕ) → 0 < total (same id) w.floating → 0 < total (making_of id) agenda

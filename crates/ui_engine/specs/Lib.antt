@@ -1,0 +1,2 @@
+pub mod HeapView
+pub mod Holding

@@ -1,0 +1,2 @@
+//! Sessions: a definition that runs.
+#![tactic(auto)]
