@@ -6,5 +6,9 @@
 #![tactic(auto)]
 
 mod arm;
+mod ids;
+mod limits;
 
 pub use arm::{Arm, Halt};
+pub use ids::{Channel, Entry, Member, ObjectId, Place};
+pub use limits::{LEAST_OBJECTS, LimitField, Limits, LimitsError, MOST_HANDLERS, MOST_OBJECTS};
