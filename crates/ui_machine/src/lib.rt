@@ -8,7 +8,9 @@
 mod arm;
 mod device;
 mod ids;
+mod limits;
 
 pub use arm::{Arm, Halt};
 pub use device::{Device, DeviceFault, Feed, Sink};
-pub use ids::ObjectId;
+pub use ids::{Channel, Entry, Member, ObjectId, Place};
+pub use limits::{LEAST_OBJECTS, LimitField, Limits, LimitsError, MOST_HANDLERS, MOST_OBJECTS};
