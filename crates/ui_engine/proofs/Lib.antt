@@ -4,3 +4,4 @@ pub mod Maps
 pub mod Lists
 pub mod Held
 pub mod Quiet
+pub mod Strings

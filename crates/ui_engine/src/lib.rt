@@ -1,2 +1,19 @@
 //! Sessions: a definition that runs.
+//!
+//! A [`Session`] follows the abstract machine: each step of its engine is the machine's, and the transcript of a dispatch is that of a
+//! run of it.
 #![tactic(auto)]
+
+
+
+
+
+
+
+
+
+
+mod texts;
+
+
+
