@@ -1,0 +1,5 @@
+pub mod Entries
+pub mod Lookups
+pub mod Lines
+pub mod Missing
+pub mod Texts

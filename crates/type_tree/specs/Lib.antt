@@ -1,0 +1,4 @@
+pub mod TypeName
+pub mod Entry
+pub mod Tree
+pub mod Adding

@@ -1,0 +1,9 @@
+-- What is so of every tree.
+use Rattle.std.specs.Prelude.{◌≡◌, ℕ, ◌<◌, ◌≤◌, List, length, Option, Some}
+use Rattle.ui_machine.specs.Types.{GType}
+use Rattle.ui_machine.specs.Ancestry.{parent_of}
+
+-- Parents stand before their children, and there are 256 types at most.
+pub record IsTree (types : List GType) : Type 0 where
+  pub parents_first : (t p : ℕ) → parent_of types t ≡ Some p → p < t
+  pub few : length types ≤ 256

@@ -1,0 +1,283 @@
+//! How types are added.
+
+ghost use Rattle.std.specs.Prelude.{◌≡◌, ◌<◌, List, map, length, IfOk, is_some, nat_eq, not, OnOk, IfSome, Option, Some, None};
+ghost use Rattle.std.specs.List.{list_all, list_any, filter_map, find, flat_map};
+ghost use Rattle.ui_machine.specs.Types.{predeclared};
+ghost use Rattle.type_tree.specs.Adding.{Adds, class_named, interface_named, required_named, name_fault, class_fault, parent_fault, child_fault, interface_fault, required_fault, members_fault, are_named, missing_type, first_required, required_by, would_be, room_fault, new_class, new_interface, new_enum, new_flags};
+ghost use Rattle.type_tree.specs.Entry.{enum_member, flags_member};
+
+use crate::entry::{ClassEntry, TypeEntry, TypeFlags, TypeSort};
+use crate::error::{TypeError, TypeLimit};
+use crate::member::{EnumMember, FlagsMember};
+use crate::name::is_type_name;
+use crate::tree::{MOST_DEPTH, MOST_TYPES, TypeTree, contains};
+use crate::type_id::TypeId;
+use std::alloc::{AllocError, Global};
+
+impl TypeTree {
+    // The class of a name.
+    fn find_class(&self, name: &str) -> Option<TypeId>
+        ensures class { result ≡ class_named self.now name.now }
+        ensures within { IfSome result (λ t. t < length self.now) }
+    {
+        let t = self.find(name)?;
+        if self.sort(t) == TypeSort::Class { Some(t) } else { None }
+    }
+
+    // The interface of a name.
+    fn find_interface(&self, name: &str) -> Option<TypeId>
+        ensures { result ≡ interface_named self.now name.now }
+    {
+        let t = self.find(name)?;
+        if self.sort(t) == TypeSort::Interface { Some(t) } else { None }
+    }
+
+    // The class or interface of a name.
+    fn find_required(&self, name: &str) -> Option<TypeId>
+        ensures { result ≡ required_named self.now name.now }
+    {
+        let t = self.find(name)?;
+        match self.sort(t) {
+            TypeSort::Class | TypeSort::Interface => Some(t),
+            TypeSort::Enum | TypeSort::Flags => None,
+        }
+    }
+
+    // Why no type of this name is added.
+    fn name_fault(&self, name: &str) -> Option<TypeError>
+        ensures { result ≡ name_fault self.now name.now }
+    {
+        if !is_type_name(name) {
+            return Some(TypeError::BadName);
+        }
+        match self.find(name) {
+            Some(_) => Some(TypeError::Duplicate),
+            None => None,
+        }
+    }
+
+    // Why no further type is added.
+    fn room_fault(&self) -> Option<TypeError>
+        ensures { result ≡ room_fault self.now }
+    {
+        if self.len() >= MOST_TYPES {
+            return Some(TypeError::Limit(TypeLimit::Types));
+        }
+        None
+    }
+
+    // Whether each name is of an interface.
+    fn are_interfaces(&self, names: &[&str]) -> bool
+        ensures { result ≡ are_named (λ name. interface_named self.now name.now) names.now }
+    {
+        names.iter().all(|name| self.find_interface(name).is_some())
+    }
+
+    // Whether each name is of a class or an interface.
+    fn are_required(&self, names: &[&str]) -> bool
+        ensures { result ≡ are_named (λ name. required_named self.now name.now) names.now }
+    {
+        names.iter().all(|name| self.find_required(name).is_some())
+    }
+
+    // The interfaces of these names.
+    fn find_interfaces(&self, alloc: Global, names: &[&str]) -> Result<Vec<TypeId>, AllocError>
+        ensures { IfOk result (λ v. v.items ≡ filter_map (λ name. interface_named self.now name.now) names.now) }
+    {
+        names.iter().filter_map(|name| self.find_interface(name)).collect(alloc)
+    }
+
+    // The classes and interfaces of these names.
+    fn find_all_required(&self, alloc: Global, names: &[&str]) -> Result<Vec<TypeId>, AllocError>
+        ensures { IfOk result (λ v. v.items ≡ filter_map (λ name. required_named self.now name.now) names.now) }
+    {
+        names.iter().filter_map(|name| self.find_required(name)).collect(alloc)
+    }
+
+    // Whether a type is among the interfaces of these names.
+    fn is_named(&self, names: &[&str], t: TypeId) -> bool
+        ensures { result ≡ list_any (nat_eq t) (filter_map (λ name. interface_named self.now name.now) names.now) }
+    {
+        names.iter().filter_map(|name| self.find_interface(name)).any(|u| t == u)
+    }
+
+    // Whether a class of this parent and these interfaces is the type.
+    fn would_be(&self, parent: TypeId, interfaces: &[&str], t: TypeId) -> bool
+        ensures { result ≡ would_be self.now parent (filter_map (λ name. interface_named self.now name.now) interfaces.now) t }
+    {
+        self.is_a(parent, t) || self.is_named(interfaces, t)
+    }
+
+    // The first type that an interface requires and that such a class is not.
+    fn missing_in(&self, parent: TypeId, interfaces: &[&str], interface: TypeId) -> Option<TypeId>
+        ensures { result ≡ find (λ t. not (would_be self.now parent (filter_map (λ name. interface_named self.now name.now) interfaces.now) t))
+            (required_by self.now interface) }
+    {
+        self.interfaces(interface).iter().copied().find(|t| !self.would_be(parent, interfaces, *t))
+    }
+
+    // The same of the interface of a name.
+    fn missing_of(&self, parent: TypeId, interfaces: &[&str], name: &str) -> Option<TypeId>
+        ensures { result
+            ≡ first_required (λ t. not (would_be self.now parent (filter_map (λ name. interface_named self.now name.now) interfaces.now) t))
+                (required_by self.now) (interface_named self.now name.now) }
+    {
+        match self.find_interface(name) {
+            Some(interface) => self.missing_in(parent, interfaces, interface),
+            None => None,
+        }
+    }
+
+    // The first type that one of the interfaces requires and that such a class is not.
+    fn missing_type(&self, parent: TypeId, interfaces: &[&str]) -> Option<TypeId>
+        ensures { result ≡ missing_type self.now parent (filter_map (λ name. interface_named self.now name.now) interfaces.now) }
+    {
+        'names: for name in interfaces {
+            let missing = self.missing_of(parent, interfaces, name);
+            if missing.is_some() {
+                return missing;
+            }
+        }
+        None
+    }
+
+    // Why a class of this parent is not added.
+    fn child_fault(&self, parent: TypeId, interfaces: &[&str]) -> Option<TypeError>
+        ensures { result
+            ≡ child_fault self.now parent (are_named (λ name. interface_named self.now name.now) interfaces.now)
+                (filter_map (λ name. interface_named self.now name.now) interfaces.now) }
+    {
+        if !self.are_interfaces(interfaces) {
+            return Some(TypeError::UnknownParent);
+        }
+        if self.flags(parent).is_final {
+            return Some(TypeError::FinalParent);
+        }
+        if let Some(missing) = self.missing_type(parent, interfaces) {
+            return Some(TypeError::Prerequisite(missing));
+        }
+        if self.len() >= MOST_TYPES {
+            return Some(TypeError::Limit(TypeLimit::Types));
+        }
+        if self.depth(parent) >= MOST_DEPTH {
+            return Some(TypeError::Limit(TypeLimit::Depth));
+        }
+        None
+    }
+
+    // Why a class is not added.
+    #[tactic(auto, using(crate::proofs::Texts::are_named_texts, crate::proofs::Texts::filter_map_texts))]
+    fn class_fault(&self, name: &str, parent: &str, interfaces: &[&str]) -> Option<TypeError>
+        ensures { result ≡ class_fault self.now name.now parent.now (map (λ n. n.now) interfaces.now) }
+    {
+        if let Some(fault) = self.name_fault(name) {
+            return Some(fault);
+        }
+        match self.find_class(parent) {
+            Some(parent) => self.child_fault(parent, interfaces),
+            None => Some(TypeError::UnknownParent),
+        }
+    }
+
+    // Why an interface is not added, but for its name.
+    fn required_fault(&self, required: &[&str]) -> Option<TypeError>
+        ensures { result ≡ required_fault self.now (are_named (λ name. required_named self.now name.now) required.now) }
+    {
+        if !self.are_required(required) {
+            return Some(TypeError::UnknownParent);
+        }
+        self.room_fault()
+    }
+
+    // Why an interface is not added.
+    #[tactic(auto, using(crate::proofs::Texts::are_named_texts))]
+    fn interface_fault(&self, name: &str, required: &[&str]) -> Option<TypeError>
+        ensures { result ≡ interface_fault self.now name.now (map (λ n. n.now) required.now) }
+    {
+        if let Some(fault) = self.name_fault(name) {
+            return Some(fault);
+        }
+        self.required_fault(required)
+    }
+
+    // Why an enum or a flags type is not added.
+    fn members_fault(&self, name: &str) -> Option<TypeError>
+        ensures { result ≡ members_fault self.now name.now }
+    {
+        if let Some(fault) = self.name_fault(name) {
+            return Some(fault);
+        }
+        self.room_fault()
+    }
+
+    /// Adds a class under a parent, with the interfaces that it implements. The name is tested first, then whether it is there already,
+    /// parent and interfaces, whether the parent is final, what the interfaces require, and room and depth.
+    pub fn add_class(&mut self, name: &str, parent: &str, flags: TypeFlags, interfaces: &[&str]) -> Result<TypeId, TypeError>
+        ensures { let names = map (λ n. n.now) interfaces.now in
+            Adds result (class_fault self.old name.now parent.now names) (new_class self.old name.now parent.now flags names) self.old self.new }
+    {
+        if let Some(fault) = self.class_fault(name, parent, interfaces) {
+            return Err(fault);
+        }
+        let parent = self.find_class(parent);
+        let interfaces = self.find_interfaces(self.allocator(), interfaces)?;
+        self.append(name, TypeEntry::Class(ClassEntry { parent, flags, interfaces }))
+    }
+
+    /// Adds an interface, with the classes and interfaces that it requires. The name is tested first, then whether it is there already,
+    /// what is required, and room.
+    pub fn add_interface(&mut self, name: &str, required: &[&str]) -> Result<TypeId, TypeError>
+        ensures { let names = map (λ n. n.now) required.now in
+            Adds result (interface_fault self.old name.now names) (new_interface self.old name.now names) self.old self.new }
+    {
+        if let Some(fault) = self.interface_fault(name, required) {
+            return Err(fault);
+        }
+        let required = self.find_all_required(self.allocator(), required)?;
+        self.append(name, TypeEntry::Interface(required))
+    }
+
+    /// Adds an enum. The name is tested first, then whether it is there already, and room.
+    pub fn add_enum(&mut self, name: &str, members: Vec<EnumMember>) -> Result<TypeId, TypeError>
+        ensures { Adds result (members_fault self.old name.now) (new_enum name.now (map enum_member members.items)) self.old self.new }
+    {
+        if let Some(fault) = self.members_fault(name) {
+            return Err(fault);
+        }
+        self.append(name, TypeEntry::Enum(members))
+    }
+
+    /// Adds a flags type. The name is tested first, then whether it is there already, and room.
+    pub fn add_flags(&mut self, name: &str, members: Vec<FlagsMember>) -> Result<TypeId, TypeError>
+        ensures { Adds result (members_fault self.old name.now) (new_flags name.now (map flags_member members.items)) self.old self.new }
+    {
+        if let Some(fault) = self.members_fault(name) {
+            return Err(fault);
+        }
+        self.append(name, TypeEntry::Flags(members))
+    }
+
+    /// The tree with `GObject` and its child `GInitiallyUnowned`.
+    pub fn new(alloc: Global) -> Result<Self, AllocError>
+        ensures { IfOk result (λ tree. tree ≡ predeclared) }
+    {
+        let mut tree = TypeTree::empty(alloc);
+        let root = ClassEntry {
+            parent: None,
+            flags: TypeFlags::NONE,
+            interfaces: Vec::new(alloc),
+        };
+        let Ok(root) = tree.append("GObject", TypeEntry::Class(root)) else {
+            return Err(AllocError);
+        };
+        let child = ClassEntry {
+            parent: Some(root),
+            flags: TypeFlags::NONE,
+            interfaces: Vec::new(alloc),
+        };
+        let Ok(_) = tree.append("GInitiallyUnowned", TypeEntry::Class(child)) else {
+            return Err(AllocError);
+        };
+        Ok(tree)
+    }
+}

@@ -1,0 +1,127 @@
+//! What a tree keeps of a type beside its name.
+
+ghost use Rattle.std.specs.Prelude.{◌≡◌, ℕ, List, map};
+ghost use Rattle.ui_machine.specs.Types.{enum, flags};
+ghost use Rattle.ui_machine.specs.Ancestry.{implemented};
+ghost use Rattle.type_tree.specs.Entry.{type_of, enum_member, flags_member};
+
+use crate::member::{EnumMember, FlagsMember};
+use crate::type_id::TypeId;
+
+/// What may not be done with a class.
+#[derive(Clone, Copy, Debug, PartialEq, Eq)]
+pub struct TypeFlags {
+    /// It has no instances.
+    pub is_abstract: bool,
+    /// It has no children.
+    pub is_final: bool,
+}
+
+/// A type, but for its name.
+#[derive(Drop)]
+pub enum TypeEntry {
+    Class(ClassEntry),
+    Interface(Vec<TypeId>),
+    Enum(Vec<EnumMember>),
+    Flags(Vec<FlagsMember>),
+}
+
+/// A class, but for its name.
+#[derive(Drop)]
+pub struct ClassEntry {
+    pub parent: Option<TypeId>,
+    pub flags: TypeFlags,
+    pub interfaces: Vec<TypeId>,
+}
+
+/// The sorts of types.
+#[derive(Clone, Copy, Debug, PartialEq, Eq)]
+pub enum TypeSort {
+    Class,
+    Interface,
+    Enum,
+    Flags,
+}
+
+impl TypeFlags {
+    /// All may be done.
+    pub const NONE: TypeFlags = TypeFlags {
+        is_abstract: false,
+        is_final: false,
+    };
+}
+
+impl TypeEntry {
+    /// The parent of a class.
+    pub fn parent(&self) -> Option<TypeId>
+        ensures { (name : List ℕ) → result ≡ (type_of name self.now).parent }
+    {
+        match self {
+            TypeEntry::Class(class) => class.parent,
+            TypeEntry::Interface(_) => None,
+            TypeEntry::Enum(_) => None,
+            TypeEntry::Flags(_) => None,
+        }
+    }
+
+    /// The interfaces that a class implements or an interface requires.
+    pub fn interfaces(&self) -> &[TypeId]
+        ensures { (name : List ℕ) → result.now ≡ (type_of name self.now).interfaces }
+    {
+        match self {
+            TypeEntry::Class(class) => class.interfaces.as_slice(),
+            TypeEntry::Interface(required) => required.as_slice(),
+            TypeEntry::Enum(_) => &[],
+            TypeEntry::Flags(_) => &[],
+        }
+    }
+
+    /// The interfaces that a class implements.
+    pub fn implemented(&self) -> &[TypeId]
+        ensures { (name : List ℕ) → result.now ≡ implemented (type_of name self.now).sort (type_of name self.now).interfaces }
+    {
+        match self {
+            TypeEntry::Class(class) => class.interfaces.as_slice(),
+            TypeEntry::Interface(_) => &[],
+            TypeEntry::Enum(_) => &[],
+            TypeEntry::Flags(_) => &[],
+        }
+    }
+
+    /// What may not be done with a class.
+    pub fn flags(&self) -> TypeFlags
+        ensures is_abstract { (name : List ℕ) → result.is_abstract ≡ (type_of name self.now).is_abstract }
+        ensures is_final { (name : List ℕ) → result.is_final ≡ (type_of name self.now).is_final }
+    {
+        match self {
+            TypeEntry::Class(class) => class.flags,
+            TypeEntry::Interface(_) => TypeFlags::NONE,
+            TypeEntry::Enum(_) => TypeFlags::NONE,
+            TypeEntry::Flags(_) => TypeFlags::NONE,
+        }
+    }
+
+    /// The members of an enum.
+    pub fn enum_members(&self) -> &[EnumMember]
+        ensures { (name : List ℕ) → (type_of name self.now).sort ≡ enum → map enum_member result.now ≡ (type_of name self.now).members }
+    {
+        match self {
+            TypeEntry::Enum(members) => members.as_slice(),
+            TypeEntry::Class(_) => &[],
+            TypeEntry::Interface(_) => &[],
+            TypeEntry::Flags(_) => &[],
+        }
+    }
+
+    /// The members of a flags type.
+    pub fn flags_members(&self) -> &[FlagsMember]
+        ensures { (name : List ℕ) → (type_of name self.now).sort ≡ flags → map flags_member result.now ≡ (type_of name self.now).members }
+    {
+        match self {
+            TypeEntry::Flags(members) => members.as_slice(),
+            TypeEntry::Class(_) => &[],
+            TypeEntry::Interface(_) => &[],
+            TypeEntry::Enum(_) => &[],
+        }
+    }
+}

@@ -1,0 +1,19 @@
+//! The tree of types: classes, interfaces, enums and flags.
+//!
+//! A contract sees a tree as a list of types, the pure records of the abstract machine, and a `TypeId` as a place in that list.
+#![tactic(auto)]
+
+mod adding;
+mod entry;
+mod error;
+mod member;
+mod name;
+mod tree;
+mod type_id;
+
+pub use entry::{TypeFlags, TypeSort};
+pub use error::{TypeError, TypeLimit};
+pub use member::{EnumMember, FlagsMember};
+pub use name::is_type_name;
+pub use tree::{MOST_DEPTH, MOST_TYPES, TypeTree};
+pub use type_id::TypeId;

@@ -1,0 +1,223 @@
+//! The tree, and what it tells of its types.
+
+ghost use Rattle.std.specs.Prelude.{◌≡◌, ℕ, ◌+◌, ◌<◌, ◌≤◌, List, [], ◌∷◌, ◌++◌, length, map, string_bytes, Option, None, Some, option_map, IsSome, IfSome, IfNone, ◌↔◌, nat_eq};
+ghost use Rattle.std.specs.List.{list_any};
+ghost use Rattle.std.specs.Option.{ForSome};
+ghost use Rattle.ui_machine.specs.Seq.{read};
+ghost use Rattle.ui_machine.specs.Types.{GType, enum, flags};
+ghost use Rattle.ui_machine.specs.Text.{no_type, members_of};
+ghost use Rattle.ui_machine.specs.Ancestry.{is_a, depth, parent_of, implemented_by, is_or_implements};
+ghost use Rattle.type_tree.specs.Entry.{type_of, enum_member, flags_member, view_of_sort};
+ghost use Rattle.type_tree.specs.Adding.{Adds, find_type, sort_of};
+
+use crate::entry::{TypeEntry, TypeFlags, TypeSort};
+use crate::error::TypeError;
+use crate::member::{EnumMember, FlagsMember};
+use crate::type_id::TypeId;
+use indexmap::IndexMap;
+use std::alloc::Global;
+use std::marker::Model;
+
+/// The most types in a tree, with the two that are there from the beginning.
+pub const MOST_TYPES: usize = 256;
+
+/// The most classes from the root down to any class, both included.
+pub const MOST_DEPTH: usize = 16;
+
+/// Types by their names, in the order of adding. A contract sees the list of the types, in which a `TypeId` is a place.
+#[derive(Drop)]
+pub struct TypeTree {
+    types: IndexMap<String, TypeEntry>,
+}
+
+impl Model for TypeTree {
+    ghost use Rattle.std.specs.Prelude.{List, map, string_bytes};
+    ghost use Rattle.ui_machine.specs.Types.{GType};
+    ghost use Rattle.type_tree.specs.Entry.{type_of};
+    ghost use Rattle.type_tree.specs.Tree.{IsTree};
+
+    ghost Value = { List GType };
+
+    ghost view = { λ t. map (λ e. type_of (string_bytes e.0) e.1) t.types.entries };
+
+    ghost invariant = { λ t. IsTree (map (λ e. type_of (string_bytes e.0) e.1) t.types.entries) };
+}
+
+impl TypeTree {
+    /// How many types there are.
+    pub fn len(&self) -> usize
+        ensures { result ≡ length self.now }
+    {
+        self.types.len()
+    }
+
+    /// The type of a name.
+    pub fn find(&self, name: &str) -> Option<TypeId>
+        ensures named { result ≡ find_type self.now name.now }
+        ensures within { IfSome result (λ t. t < length self.now) }
+    {
+        let index = self.types.get_index_of(name)?;
+        Some(TypeId::new(index as u16))
+    }
+
+    // What is kept of a type.
+    fn entry(&self, t: TypeId) -> Option<&TypeEntry>
+        ensures entry { IfSome result (λ e. read no_type self.now t ≡ type_of (read no_type self.now t).name e.now) }
+        ensures within { IsSome result ↔ (t < length self.now) }
+        ensures none { IfNone result (read no_type self.now t ≡ no_type) }
+    {
+        let (_, entry) = self.types.get_index(t.index())?;
+        Some(entry)
+    }
+
+    /// What sort of type it is.
+    pub fn sort(&self, t: TypeId) -> TypeSort
+        requires { t < length self.now }
+        ensures { view_of_sort result ≡ sort_of self.now t }
+    {
+        match self.entry(t) {
+            Some(TypeEntry::Interface(_)) => TypeSort::Interface,
+            Some(TypeEntry::Enum(_)) => TypeSort::Enum,
+            Some(TypeEntry::Flags(_)) => TypeSort::Flags,
+            Some(TypeEntry::Class(_)) | None => TypeSort::Class,
+        }
+    }
+
+    /// The parent of a class; the root and what is no class have none. A parent stands before its children.
+    pub fn parent(&self, t: TypeId) -> Option<TypeId>
+        ensures parent { result ≡ parent_of self.now t }
+        ensures before { IfSome result (λ p. p < t) }
+    {
+        let _ = &self.types;
+        self.entry(t)?.parent()
+    }
+
+    /// The interfaces that a class implements or an interface requires, as they were given.
+    pub fn interfaces(&self, t: TypeId) -> &[TypeId]
+        ensures { result.now ≡ (read no_type self.now t).interfaces }
+    {
+        match self.entry(t) {
+            Some(entry) => entry.interfaces(),
+            None => &[],
+        }
+    }
+
+    /// Whether a class has no instances, and whether it has no children.
+    pub fn flags(&self, t: TypeId) -> TypeFlags
+        ensures is_abstract { result.is_abstract ≡ (read no_type self.now t).is_abstract }
+        ensures is_final { result.is_final ≡ (read no_type self.now t).is_final }
+    {
+        match self.entry(t) {
+            Some(entry) => entry.flags(),
+            None => TypeFlags::NONE,
+        }
+    }
+
+    /// The name of a type.
+    pub fn name(&self, t: TypeId) -> &str
+        requires { t < length self.now }
+        ensures { result.now ≡ (read no_type self.now t).name }
+    {
+        match self.types.get_index(t.index()) {
+            Some((name, _)) => name.as_str(),
+            None => "",
+        }
+    }
+
+    /// The members of an enum, in order.
+    pub fn enum_members(&self, t: TypeId) -> &[EnumMember]
+        ensures { sort_of self.now t ≡ enum → map enum_member result.now ≡ members_of self.now t }
+    {
+        match self.entry(t) {
+            Some(entry) => entry.enum_members(),
+            None => &[],
+        }
+    }
+
+    /// The members of a flags type, in order.
+    pub fn flags_members(&self, t: TypeId) -> &[FlagsMember]
+        ensures { sort_of self.now t ≡ flags → map flags_member result.now ≡ members_of self.now t }
+    {
+        match self.entry(t) {
+            Some(entry) => entry.flags_members(),
+            None => &[],
+        }
+    }
+
+    // The interfaces that a class itself implements.
+    fn implemented(&self, t: TypeId) -> &[TypeId]
+        ensures { result.now ≡ implemented_by self.now t }
+    {
+        match self.entry(t) {
+            Some(entry) => entry.implemented(),
+            None => &[],
+        }
+    }
+
+    // Whether a type is b, or itself implements it.
+    fn is_or_implements(&self, t: TypeId, b: TypeId) -> bool
+        ensures { result ≡ is_or_implements self.now b t }
+    {
+        t == b || contains(self.implemented(t), b)
+    }
+
+    /// Whether b is a, an ancestor of a, or an interface that a or an ancestor implements. An interface is only itself.
+    pub fn is_a(&self, a: TypeId, b: TypeId) -> bool
+        ensures { result ≡ is_a self.now a b }
+    {
+        let _ = &self.types;
+        if self.is_or_implements(a, b) {
+            return true;
+        }
+        match self.parent(a) {
+            Some(parent) => self.is_a(parent, b),
+            None => false,
+        }
+    }
+
+    /// How many classes there are from the root down to this one, both included.
+    pub fn depth(&self, t: TypeId) -> usize
+        ensures depth { result ≡ depth self.now t }
+        ensures bound { result ≤ t + 1 }
+    {
+        let _ = &self.types;
+        match self.parent(t) {
+            Some(parent) => self.depth(parent) + 1,
+            None => 1,
+        }
+    }
+
+    /// A tree with nothing in it.
+    pub(crate) fn empty(alloc: Global) -> Self
+        ensures { result ≡ [] }
+    {
+        TypeTree {
+            types: IndexMap::new(alloc),
+        }
+    }
+
+    /// The allocator that the tree was made with.
+    pub(crate) fn allocator(&self) -> Global {
+        *self.types.allocator()
+    }
+
+    /// Adds a type at the end.
+    pub(crate) fn append(&mut self, name: &str, entry: TypeEntry) -> Result<TypeId, TypeError>
+        requires fresh { find_type self.old name.now ≡ None }
+        requires room { length self.old < 256 }
+        requires parent { ForSome (type_of name.now entry).parent (λ p. p < length self.old) }
+        ensures { Adds result None (type_of name.now entry) self.old self.new }
+    {
+        let number = self.types.len();
+        let name = String::from_str(*self.types.allocator(), name)?;
+        let _ = self.types.insert(name, entry)?;
+        Ok(TypeId::new(number as u16))
+    }
+}
+
+// Whether the type is one of these.
+pub(crate) fn contains(types: &[TypeId], t: TypeId) -> bool
+    ensures { result ≡ list_any (nat_eq t) types.now }
+{
+    types.iter().any(|u| t == *u)
+}
