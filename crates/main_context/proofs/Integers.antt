@@ -1,8 +1,8 @@
 -- Tests on signed numbers.
-use Rattle.std.proofs.Common.{◌≡◌, ℤ, Bool, true, false, cond, ◌||◌, refl, sym, arith, ◌⊎◌, inl, inr, int_le, int_lt}
+use Rattle.std.proofs.Common.{◌≡◌, ℤ, true, false, cond, refl, arith, ◌⊎◌, inl, inr, int_le, int_lt}
 use Rattle.std.specs.Ordering.{int_eq}
 use Rattle.std.specs.Int.{int_min}
-use Rattle.std.proofs.lemmas.Int.{ints, clamps}
+use Rattle.std.proofs.lemmas.Int.{ints}
 use Rattle.std.proofs.lemmas.Bool.Decides.{Decides-int_eq}
 
 pub int_le_same : (a : ℤ) → int_le a a ≡ true

@@ -1,7 +1,6 @@
 -- The least priority number of the ready sources, one source after the other.
-use Rattle.std.proofs.Common.{◌≡◌, ℕ, ◌+◌, ◌<◌, ℤ, Bool, true, false, List, [], length, get_or, take, map, Option, None, Some, refl, sym, ap}
-use Rattle.std.specs.List.{list_any, filter}
-use Rattle.std.proofs.lemmas.List.Folds.{list_any_more}
+use Rattle.std.proofs.Common.{◌≡◌, ℕ, ◌+◌, ◌<◌, ℤ, true, false, List, [], length, get_or, take, Option, None, Some}
+use Rattle.std.specs.List.{filter}
 use Rattle.ui_machine.specs.Config.{Source}
 use Rattle.ui_machine.specs.Sources.{is_ready, is_foremost, ready}
 use Rattle.main_context.specs.Priorities.{IsLeast, is_ready_at, lower}

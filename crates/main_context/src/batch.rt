@@ -28,7 +28,7 @@ impl Model for Batch {
 
 impl Batch {
     /// The ready sources of the least priority number.
-    pub fn ready(alloc: Global, sources: &[Source], moment: u64) -> Result<Self, AllocError>
+    pub(crate) fn ready(alloc: Global, sources: &[Source], moment: u64) -> Result<Self, AllocError>
         ensures { IfOk result (λ batch. batch ≡ map (λ s. s.number) (ready moment sources.now)) }
     {
         let Some(least) = least_priority(sources, moment) else {
@@ -42,7 +42,7 @@ impl Batch {
     }
 
     /// Takes the number whose turn is next.
-    pub fn pop(&mut self) -> Option<u64>
+    pub(crate) fn pop(&mut self) -> Option<u64>
         ensures { MatchOption result (self.old ≡ [] × self.new ≡ []) (λ number. self.old ≡ number ∷ self.new) }
     {
         let number = *self.numbers.get(self.taken)?;

@@ -16,7 +16,7 @@ pub struct Due {
 
 /// A source that is attached. It keeps the moment from which its interval runs, so that no sum of the two is ever made.
 #[derive(Debug, Drop)]
-pub struct Source {
+pub(crate) struct Source {
     number: u64,
     program: u16,
     priority: i32,

@@ -8,7 +8,7 @@ ghost use Rattle.main_context.specs.Dues.{due_of};
 use crate::source::{Due, Source};
 
 /// What is to run for the source of a number.
-pub fn find_due(sources: &[Source], number: u64) -> Option<Due>
+pub(crate) fn find_due(sources: &[Source], number: u64) -> Option<Due>
     ensures { result ≡ option_map due_of (source_of number sources.now) }
 {
     let index = index_of(sources, number)?;
@@ -16,7 +16,7 @@ pub fn find_due(sources: &[Source], number: u64) -> Option<Due>
 }
 
 /// Takes out the source of a number.
-pub fn take(sources: &mut Vec<Source>, number: u64) -> Option<Source>
+pub(crate) fn take(sources: &mut Vec<Source>, number: u64) -> Option<Source>
     ensures given { result ≡ source_of number sources.old.items }
     ensures left { sources.new.items ≡ without_source number sources.old.items }
 {
@@ -25,7 +25,7 @@ pub fn take(sources: &mut Vec<Source>, number: u64) -> Option<Source>
 }
 
 /// Takes out the first source of a program.
-pub fn take_first(sources: &mut Vec<Source>, program: u16) -> Option<Source>
+pub(crate) fn take_first(sources: &mut Vec<Source>, program: u16) -> Option<Source>
     ensures given { result ≡ find (runs_program program) sources.old.items }
     ensures left { sources.new.items ≡ without_first (runs_program program) sources.old.items }
 {
@@ -34,7 +34,7 @@ pub fn take_first(sources: &mut Vec<Source>, program: u16) -> Option<Source>
 }
 
 /// The source of a number begins its interval anew.
-pub fn reschedule(sources: &mut [Source], number: u64, moment: u64)
+pub(crate) fn reschedule(sources: &mut [Source], number: u64, moment: u64)
     ensures { sources.new ≡ rescheduled moment number sources.old }
 {
     for source in sources.iter_mut() {

@@ -1,6 +1,4 @@
-use Rattle.std.proofs.Common.{◌≡◌, ℤ, Option, None, Some, get_or, take, rules, arith, true, FitsSigned, w32, ap, ◌∙◌}
-use Rattle.ui_machine.specs.Config.{Source}
-use Rattle.ui_machine.specs.Sources.{is_ready}
+use Rattle.std.proofs.Common.{rules, arith, FitsSigned, w32, ap, ◌∙◌}
 use Rattle.main_context.specs.Priorities.{lower}
 use Rattle.main_context.proofs.LeastPriority.{passed, taken}
 use Rattle.std.proofs.lemmas.Int.{to_z-of_z}

@@ -1,4 +1,4 @@
-use Rattle.std.proofs.Common.{◌≡◌, ℕ, true, false, cond, refl, rules, arith, ◌∙◌, ap, sym}
+use Rattle.std.proofs.Common.{◌≡◌, ℕ, true, false, cond, refl, arith}
 use Rattle.ui_machine.specs.Config.{Source}
 use Rattle.ui_machine.specs.Sources.{has_number, due_after}
 use Rattle.main_context.proofs.Mapped.{mapped_written}

@@ -1,4 +1,4 @@
-use Rattle.std.proofs.Common.{sym, ◌∙◌, refl}
+use Rattle.std.proofs.Common.{sym, ◌∙◌}
 use Rattle.ui_machine.specs.Sources.{has_number}
 use Rattle.main_context.proofs.First.{absent, first}
 use Rattle.main_context.proofs.sources.take.Goals as goal

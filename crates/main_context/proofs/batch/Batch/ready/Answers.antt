@@ -1,4 +1,4 @@
-use Rattle.std.proofs.Common.{ap, map, refl, rules, ◌∙◌, sym, FitsSigned, w32}
+use Rattle.std.proofs.Common.{ap, map, refl, rules, ◌∙◌, FitsSigned, w32}
 use Rattle.std.proofs.lemmas.Int.{to_z-of_z}
 use Rattle.ui_machine.specs.Config.{Source}
 use Rattle.main_context.proofs.LeastPriority.{ready_at_least, ready_none}
