@@ -36,10 +36,10 @@ abbrev pub due_after : ℕ → Option ℕ → ℕ
 due_after moment None = 0
 due_after moment (Some interval) = moment + interval
 
--- a source that is attached at a moment, after the last number given
-abbrev pub new_source : (last moment program : ℕ) → ℤ → Option ℕ → Option ℕ → Source
-new_source last moment program priority interval arg = record {
-  number = suc last;
+-- a source of the number that is attached at the moment
+abbrev pub new_source : (number moment program : ℕ) → ℤ → Option ℕ → Option ℕ → Source
+new_source number moment program priority interval arg = record {
+  number = number;
   program = program;
   priority = priority;
   interval = interval;

@@ -1,0 +1,158 @@
+//! The context.
+
+ghost use Rattle.std.specs.Prelude.{◌≡◌, ◌+◌, ◌<◌, ◌↔◌, ◌&&◌, not, false, [], None, Some, map, option_map, OnOk, OnErr, IfOk};
+ghost use Rattle.std.specs.List.{find, position};
+ghost use Rattle.ui_machine.specs.Sources.{ready, has_room, new_source, has_number, runs_program, without_first, rescheduled, answered};
+
+use crate::batch::Batch;
+use crate::fault::{AttachError, TurnError};
+use crate::source::{Due, Source};
+use crate::sources;
+use std::alloc::Global;
+use std::marker::Model;
+use ui_machine::ObjectId;
+
+/// How many sources may be attached at a time. One whose program runs is among them until it is removed.
+pub const MAX_SOURCES: usize = 256;
+
+/// Sources in order of attachment, and the latest moment.
+#[derive(Debug, Drop)]
+pub struct Context {
+    sources: Vec<Source>,
+    last: u64,
+    moment: u64,
+}
+
+impl Model for Context {
+    ghost use Rattle.main_context.specs.Attached.{Attached};
+
+    ghost Value = { Attached };
+
+    ghost view = { λ c. record { sources = c.sources.items; last = c.last; moment = c.moment } };
+}
+
+impl Context {
+    ghost use Rattle.main_context.specs.Dues.{due_of, identity_of};
+    ghost use Rattle.main_context.specs.Attached.{with_source, is_attached, next_source, numbers_after};
+
+    /// No sources, at the moment 0. It takes no memory.
+    pub fn new(alloc: Global) -> Self
+        ensures { result ≡ record { sources = []; last = 0; moment = 0 } }
+    {
+        Context {
+            sources: Vec::new(alloc),
+            last: 0,
+            moment: 0,
+        }
+    }
+
+    /// Attaches an idle, which is always ready.
+    ///
+    /// `SourceLimit` where 256 sources are attached, or the numbers are used up: 2^64 - 1 is the last. `OutOfMemory` after
+    /// that. An error changes nothing.
+    pub fn idle(
+        &mut self,
+        program: u16,
+        priority: i32,
+        arg: Option<ObjectId>,
+    ) -> Result<(), AttachError>
+        ensures ok { OnOk result (self.new ≡ with_source self.old (new_source (self.old.last + 1) self.old.moment program priority None (identity_of arg))) }
+        ensures limit { (result ≡ Err AttachError.SourceLimit) ↔ (has_room self.old.sources self.old.last ≡ false) }
+        ensures err { OnErr result (self.new ≡ self.old) }
+    {
+        self.attach(program, priority, None, arg)
+    }
+
+    /// Attaches a timeout, which is due one interval (in milliseconds) after the latest moment, the moment 0 before any.
+    ///
+    /// It is refused as `idle` is. An error changes nothing.
+    pub fn timeout(
+        &mut self,
+        program: u16,
+        priority: i32,
+        interval: u32,
+        arg: Option<ObjectId>,
+    ) -> Result<(), AttachError>
+        ensures ok { OnOk result (self.new ≡ with_source self.old (new_source (self.old.last + 1) self.old.moment program priority (Some interval) (identity_of arg))) }
+        ensures limit { (result ≡ Err AttachError.SourceLimit) ↔ (has_room self.old.sources self.old.last ≡ false) }
+        ensures err { OnErr result (self.new ≡ self.old) }
+    {
+        self.attach(program, priority, Some(interval), arg)
+    }
+
+    fn attach(
+        &mut self,
+        program: u16,
+        priority: i32,
+        interval: Option<u32>,
+        arg: Option<ObjectId>,
+    ) -> Result<(), AttachError>
+        ensures ok { OnOk result (self.new ≡ with_source self.old (new_source (self.old.last + 1) self.old.moment program priority interval (identity_of arg))) }
+        ensures limit { (result ≡ Err AttachError.SourceLimit) ↔ (has_room self.old.sources self.old.last ≡ false) }
+        ensures err { OnErr result (self.new ≡ self.old) }
+    {
+        if self.sources.len() >= MAX_SOURCES {
+            return Err(AttachError::SourceLimit);
+        }
+        let Some(number) = self.last.checked_add(1) else {
+            return Err(AttachError::SourceLimit);
+        };
+        let source = Source::new(number, program, priority, interval, self.moment, arg);
+        self.sources.push(source)?;
+        self.last = number;
+        Ok(())
+    }
+
+    /// Takes out the first source of a program, and gives it.
+    pub fn remove(&mut self, program: u16) -> Option<Due>
+        ensures given { result ≡ option_map due_of (find (runs_program program) self.old.sources) }
+        ensures taken { self.new ≡ record self.old { sources = without_first (runs_program program) self.old.sources } }
+    {
+        let source = sources::take_first(&mut self.sources, program)?;
+        Some(source.due())
+    }
+
+    /// Begins an iteration at a moment, and takes the ready sources of the least priority number, in order of attachment. What
+    /// becomes ready later is not looked at again.
+    ///
+    /// `ClockBack` where the moment is before the latest one, then `OutOfMemory`. An error changes nothing.
+    pub fn iteration(&mut self, moment: u64) -> Result<Batch, TurnError>
+        ensures taken { IfOk result (λ batch. batch ≡ map (λ s. s.number) (ready moment self.old.sources)) }
+        ensures begun { OnOk result (self.new ≡ record self.old { moment = moment }) }
+        ensures clock_back { (result ≡ Err TurnError.ClockBack) ↔ (moment < self.old.moment) }
+        ensures err { OnErr result (self.new ≡ self.old) }
+    {
+        if moment < self.moment {
+            return Err(TurnError::ClockBack);
+        }
+        let batch = Batch::ready(*self.sources.allocator(), &self.sources, moment)?;
+        self.moment = moment;
+        Ok(batch)
+    }
+
+    /// The source of a batch whose turn is next. Those that were removed since are passed over.
+    pub fn next_of(&self, batch: &mut Batch) -> Option<Due>
+        ensures given { result ≡ option_map due_of (next_source self.now.sources batch.old) }
+        ensures left { batch.new ≡ numbers_after self.now.sources batch.old }
+    {
+        while let Some(number) = batch.pop() {
+            if let Some(due) = sources::find_due(&self.sources, number) {
+                return Some(due);
+            }
+        }
+        None
+    }
+
+    /// A source's program has answered. FALSE takes the source out; after TRUE a timeout is due one interval after the latest
+    /// moment. Where the source was removed while it ran, nothing happens. It says whether the source was taken out.
+    pub fn answered(&mut self, source: u64, keep: bool) -> bool
+        ensures removed { result ≡ (not keep && is_attached self.old.sources source) }
+        ensures sources { self.new ≡ record self.old { sources = answered self.old.moment source keep self.old.sources } }
+    {
+        if keep {
+            sources::reschedule(&mut self.sources, source, self.moment);
+            return false;
+        }
+        sources::take(&mut self.sources, source).is_some()
+    }
+}

@@ -1,0 +1,20 @@
+//! The sources of a main context, and whose turn it is.
+//!
+//! A source runs a program again and again: an idle whenever it is looked at, a timeout once its due moment has come (GLib
+//! manual, The Main Event Loop). An iteration has a moment and takes the ready sources of the least priority number, in order
+//! of attachment. Programs go by number, data objects by identity, moments and intervals are in milliseconds. A contract sees
+//! a list of sources, the number of the last one attached and the latest moment.
+#![tactic(auto)]
+
+mod batch;
+mod context;
+mod fault;
+mod source;
+mod sources;
+#[cfg(test)]
+mod tests;
+
+pub use batch::Batch;
+pub use context::{Context, MAX_SOURCES};
+pub use fault::{AttachError, TurnError};
+pub use source::Due;

@@ -1,0 +1,118 @@
+//! One source.
+
+ghost use Rattle.std.specs.Prelude.{◌≡◌};
+ghost use Rattle.ui_machine.specs.Sources.{is_ready, has_number, runs_program, due_after, new_source};
+
+use std::marker::Model;
+use ui_machine::ObjectId;
+
+/// A source that is to run: its number, the program and the data object.
+#[derive(Clone, Copy, Debug, PartialEq, Eq)]
+pub struct Due {
+    pub source: u64,
+    pub program: u16,
+    pub arg: Option<ObjectId>,
+}
+
+/// A source that is attached. It keeps the moment from which its interval runs, so that no sum of the two is ever made.
+#[derive(Debug, Drop)]
+pub(crate) struct Source {
+    number: u64,
+    program: u16,
+    priority: i32,
+    interval: Option<u32>,
+    since: u64,
+    arg: Option<ObjectId>,
+}
+
+impl Model for Source {
+    ghost use Rattle.std.specs.Prelude.{option_map};
+    ghost use Rattle.ui_machine.specs.Sources.{due_after};
+    ghost use Rattle.ui_machine.specs.Config as config;
+
+    ghost Value = { config.Source };
+
+    ghost view = { λ s. record {
+      number = s.number;
+      program = s.program;
+      priority = s.priority;
+      interval = s.interval;
+      due = due_after s.since s.interval;
+      arg = option_map (λ id. id.0) s.arg;
+    } };
+}
+
+impl Source {
+    ghost use Rattle.main_context.specs.Dues.{due_of, identity_of};
+
+    /// A source of this number that is attached at a moment. An idle has no interval.
+    pub fn new(
+        number: u64,
+        program: u16,
+        priority: i32,
+        interval: Option<u32>,
+        moment: u64,
+        arg: Option<ObjectId>,
+    ) -> Self
+        ensures { result ≡ new_source number moment program priority interval (identity_of arg) }
+    {
+        Source {
+            number,
+            program,
+            priority,
+            interval,
+            since: moment,
+            arg,
+        }
+    }
+
+    pub fn number(&self) -> u64
+        ensures { result ≡ self.now.number }
+    {
+        self.number
+    }
+
+    pub fn priority(&self) -> i32
+        ensures { result ≡ self.now.priority }
+    {
+        self.priority
+    }
+
+    pub fn has_number(&self, number: u64) -> bool
+        ensures { result ≡ has_number number self.now }
+    {
+        self.number == number
+    }
+
+    pub fn runs(&self, program: u16) -> bool
+        ensures { result ≡ runs_program program self.now }
+    {
+        self.program == program
+    }
+
+    pub fn is_ready(&self, moment: u64) -> bool
+        ensures { result ≡ is_ready moment self.now }
+    {
+        match self.interval {
+            None => true,
+            Some(interval) => { self.since <= moment && u64::from(interval) <= moment - self.since }
+        }
+    }
+
+    /// Begins its interval anew.
+    pub fn restart(&mut self, moment: u64)
+        ensures { self.new ≡ record self.old { due = due_after moment self.old.interval } }
+    {
+        self.since = moment;
+    }
+
+    pub fn due(&self) -> Due
+        ensures { result ≡ due_of self.now }
+    {
+        Due {
+            source: self.number,
+            program: self.program,
+            arg: self.arg,
+        }
+    }
+}

@@ -1,0 +1,59 @@
+//! Sources in a list, in order of attachment.
+
+ghost use Rattle.std.specs.Prelude.{◌≡◌, option_map};
+ghost use Rattle.std.specs.List.{find, position};
+ghost use Rattle.ui_machine.specs.Sources.{has_number, runs_program, source_of, without_first, without_source, rescheduled};
+ghost use Rattle.main_context.specs.Dues.{due_of};
+
+use crate::source::{Due, Source};
+
+/// What is to run for the source of a number.
+pub(crate) fn find_due(sources: &[Source], number: u64) -> Option<Due>
+    ensures { result ≡ option_map due_of (source_of number sources.now) }
+{
+    let index = index_of(sources, number)?;
+    Some(sources[index].due())
+}
+
+/// Takes out the source of a number.
+pub(crate) fn take(sources: &mut Vec<Source>, number: u64) -> Option<Source>
+    ensures given { result ≡ source_of number sources.old.items }
+    ensures left { sources.new.items ≡ without_source number sources.old.items }
+{
+    let index = index_of(sources, number)?;
+    Some(sources.remove(index))
+}
+
+/// Takes out the first source of a program.
+pub(crate) fn take_first(sources: &mut Vec<Source>, program: u16) -> Option<Source>
+    ensures given { result ≡ find (runs_program program) sources.old.items }
+    ensures left { sources.new.items ≡ without_first (runs_program program) sources.old.items }
+{
+    let index = index_of_program(sources, program)?;
+    Some(sources.remove(index))
+}
+
+/// The source of a number begins its interval anew.
+pub(crate) fn reschedule(sources: &mut [Source], number: u64, moment: u64)
+    ensures { sources.new ≡ rescheduled moment number sources.old }
+{
+    for source in sources.iter_mut() {
+        if source.has_number(number) {
+            source.restart(moment);
+        }
+    }
+}
+
+// Where the source of the number stands.
+fn index_of(sources: &[Source], number: u64) -> Option<usize>
+    ensures { result ≡ position (has_number number) sources.now }
+{
+    sources.iter().position(|source| source.has_number(number))
+}
+
+// Where the first source of the program stands.
+fn index_of_program(sources: &[Source], program: u16) -> Option<usize>
+    ensures { result ≡ position (runs_program program) sources.now }
+{
+    sources.iter().position(|source| source.runs(program))
+}
