@@ -3,3 +3,4 @@ pub mod Lookups
 pub mod Lines
 pub mod Missing
 pub mod Texts
+pub mod Nicks

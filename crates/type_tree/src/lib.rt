@@ -8,6 +8,7 @@ mod entry;
 mod error;
 mod member;
 mod name;
+mod nick;
 mod tree;
 mod type_id;
 

@@ -61,7 +61,7 @@ impl TypeTree {
     }
 
     // What is kept of a type.
-    fn entry(&self, t: TypeId) -> Option<&TypeEntry>
+    pub(crate) fn entry(&self, t: TypeId) -> Option<&TypeEntry>
         ensures entry { IfSome result (λ e. read no_type self.now t ≡ type_of (read no_type self.now t).name e.now) }
         ensures within { IsSome result ↔ (t < length self.now) }
         ensures none { IfNone result (read no_type self.now t ≡ no_type) }

@@ -1,0 +1,7 @@
+use Rattle.std.proofs.Common.{◌≡◌, drop, map}
+use Rattle.ui_machine.specs.Text.{nick_of}
+use Rattle.type_tree.specs.Entry.{flags_member}
+use Rattle.type_tree.proofs.nick.flags_nick.Given as goal
+
+abbrev pub invariant-loop-member : goal.invariant-loop-member
+invariant-loop-member l = nick_of (map flags_member (drop l.member-index l.members)) l.number ≡ nick_of (map flags_member l.members) l.number
