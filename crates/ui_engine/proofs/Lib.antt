@@ -5,3 +5,4 @@ pub mod Lists
 pub mod Held
 pub mod Quiet
 pub mod Strings
+pub mod Values

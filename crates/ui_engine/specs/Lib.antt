@@ -1,2 +1,3 @@
+pub mod ObjectView
 pub mod HeapView
 pub mod Holding

@@ -13,6 +13,8 @@
 
 
 
+mod heap;
+mod object;
 mod texts;
 
 

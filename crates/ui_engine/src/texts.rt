@@ -1,15 +1,15 @@
 //! The lines of a transcript.
 
 ghost use Rattle.std.specs.Prelude.{◌≡◌, ◌∷◌, ◌++◌, codes, IfOk, string_bytes};
-ghost use Rattle.ui_machine.specs.Text.{numeral, signed_numeral, json_string, text_of_value, text_of_identity, nick_of, members_of};
+ghost use Rattle.ui_machine.specs.Text.{numeral, signed_numeral, json_string, text_of_value, text_of_identity};
 ghost use Rattle.ui_machine.specs.Lines as lines;
 ghost use Rattle.serde_json.specs.Data.{string};
 ghost use Rattle.serde_json.specs.Written.{compact_text};
-ghost use Rattle.g_values.specs.View.{value_of};
+ghost use Rattle.g_values.specs.View.{value_view};
 
 use g_values::Value;
 use std::alloc::{AllocError, Global};
-use type_tree::{TypeId, TypeTree};
+use type_tree::TypeTree;
 use ui_machine::ObjectId;
 
 /// `construct #1 CLASS`
@@ -71,7 +71,7 @@ pub fn get_line(alloc: Global, object: u64, property: &str, value: &str) -> Resu
 /// How a value is printed: `TRUE` or `FALSE`, decimal, a text as a compact JSON string, `null`, an enum's nick, flags as a number,
 /// `#` and the identity of an object.
 pub fn value_text(alloc: Global, types: &TypeTree, value: &Value) -> Result<String, AllocError>
-    ensures { IfOk result (λ text. string_bytes text ≡ text_of_value types.now (value_of value.now)) }
+    ensures { IfOk result (λ text. string_bytes text ≡ text_of_value types.now (value_view value.now)) }
 {
     match value {
         Value::Bool(true) => String::from_str(alloc, "TRUE"),
@@ -82,7 +82,7 @@ pub fn value_text(alloc: Global, types: &TypeTree, value: &Value) -> Result<Stri
         Value::UInt64(number) => unsigned_text(alloc, *number),
         Value::Text(None) => String::from_str(alloc, "null"),
         Value::Text(Some(text)) => quoted(alloc, text.as_str()),
-        Value::Enum(class, number) => String::from_str(alloc, nick_of(types, *class, *number)),
+        Value::Enum(class, number) => String::from_str(alloc, types.nick(*class, *number)),
         Value::Flags(_, bits) => unsigned_text(alloc, u64::from(*bits)),
         Value::Object(_, None) => String::from_str(alloc, "null"),
         Value::Object(_, Some(object)) => identity_text(alloc, *object),
@@ -96,7 +96,7 @@ fn unsigned_text(alloc: Global, number: u64) -> Result<String, AllocError>
     format!(in alloc; "{number}")
 }
 
-#[tactic(auto, using(ui_machine::proofs::Numerals::signed_numeral_decimal))]
+#[tactic(auto, using(crate::proofs::Strings::signed_text_is))]
 fn signed_text(alloc: Global, number: i64) -> Result<String, AllocError>
     ensures { IfOk result (λ text. string_bytes text ≡ signed_numeral number) }
 {
@@ -109,18 +109,6 @@ fn identity_text(alloc: Global, object: ObjectId) -> Result<String, AllocError>
 {
     let number = object.0;
     format!(in alloc; "#{number}")
-}
-
-// The nick of the first member with the number, and nothing where none has it.
-fn nick_of(types: &TypeTree, class: TypeId, number: i32) -> &str
-    ensures { result.now ≡ nick_of (members_of types.now class) number }
-{
-    for member in types.enum_members(class) {
-        if member.number == number {
-            return member.nick.as_str();
-        }
-    }
-    ""
 }
 
 /// A text as a compact JSON string.
