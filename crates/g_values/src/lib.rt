@@ -1,0 +1,19 @@
+//! Kinds and values: what a property, an argument or a result may hold, and how a value of one kind becomes one of another.
+//!
+//! A contract sees a kind and a value as the pure ones of the abstract machine.
+#![tactic(auto)]
+
+mod error;
+mod kind;
+mod members;
+mod transforming;
+mod value;
+mod whole;
+mod zero;
+
+pub use error::TransformError;
+pub use kind::Kind;
+pub use members::{has_number, known_bits};
+pub use transforming::{transform, transformable};
+pub use value::{Value, kind_of};
+pub use zero::zero_of;

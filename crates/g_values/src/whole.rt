@@ -1,0 +1,69 @@
+//! Whole numbers of the four kinds: the low bits of any number, and decimal texts.
+
+ghost use Rattle.std.specs.Prelude.{◌≡◌, pos, ◌^◌, ◌<ℤ◌, ◌≤ℤ◌, neg_ℤ, IfOk};
+ghost use Rattle.std.specs.Rc.{rc_str_bytes};
+ghost use Rattle.ui_machine.specs.Kinds.{int, uint, int64, uint64};
+ghost use Rattle.ui_machine.specs.Transform.{wrapped};
+ghost use Rattle.ui_machine.specs.Text.{numeral, signed_numeral};
+
+use std::alloc::{AllocError, Global};
+use std::rc::RcStr;
+
+/// The number of 32 bits with the same low bits.
+pub fn wrapped_uint(number: i128) -> u32
+    ensures { pos result ≡ wrapped uint number }
+{
+    number.rem_euclid(4294967296) as u32
+}
+
+/// The number of 32 bits with a sign that has the same low bits.
+pub fn wrapped_int(number: i128) -> i32
+    ensures { result ≡ wrapped int number }
+{
+    (number.rem_euclid(4294967296) as u32).cast_signed()
+}
+
+/// The number of 64 bits with the same low bits.
+pub fn wrapped_uint64(number: i128) -> u64
+    ensures { pos result ≡ wrapped uint64 number }
+{
+    number.rem_euclid(18446744073709551616) as u64
+}
+
+/// The number of 64 bits with a sign that has the same low bits.
+pub fn wrapped_int64(number: i128) -> i64
+    ensures { result ≡ wrapped int64 number }
+{
+    (number.rem_euclid(18446744073709551616) as u64).cast_signed()
+}
+
+/// A number of 64 bits in decimal.
+#[tactic(auto, using(crate::proofs::Numerals::numeral_decimal))]
+fn unsigned_text(alloc: Global, number: u64) -> Result<RcStr, AllocError>
+    ensures { IfOk result (λ s. rc_str_bytes s ≡ numeral number) }
+{
+    let text = format!(in alloc; "{number}")?;
+    RcStr::from_str(alloc, text.as_str())
+}
+
+/// A number of 64 bits with a sign in decimal.
+#[tactic(auto, using(crate::proofs::Numerals::signed_numeral_decimal))]
+fn signed_text(alloc: Global, number: i64) -> Result<RcStr, AllocError>
+    ensures { IfOk result (λ s. rc_str_bytes s ≡ signed_numeral number) }
+{
+    let text = format!(in alloc; "{number}")?;
+    RcStr::from_str(alloc, text.as_str())
+}
+
+/// A number of 64 bits, with or without a sign, in decimal.
+pub fn number_text(alloc: Global, number: i128) -> Result<RcStr, AllocError>
+    requires low { neg_ℤ (pos 9223372036854775808) ≤ℤ number }
+    requires high { number <ℤ pos 18446744073709551616 }
+    ensures { IfOk result (λ s. rc_str_bytes s ≡ signed_numeral number) }
+{
+    if number < 0 {
+        signed_text(alloc, number as i64)
+    } else {
+        unsigned_text(alloc, number as u64)
+    }
+}
