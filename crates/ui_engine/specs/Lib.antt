@@ -1,3 +1,4 @@
 pub mod ObjectView
 pub mod HeapView
 pub mod Holding
+pub mod View

@@ -16,6 +16,7 @@
 mod heap;
 mod object;
 mod texts;
+mod world;
 
 
 

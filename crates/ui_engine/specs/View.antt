@@ -1,0 +1,19 @@
+-- What the engine's types stand for in the machine.
+use Rattle.std.specs.Prelude.{ℕ, List, [], map, None, option_map, string_bytes}
+use Rattle.ui_machine.specs.Config as config
+use Rattle.g_values.specs.View.{value_view}
+use Rattle.ui_engine.specs.declared.world.World.{World}
+
+abbrev pub world_of : World → config.World
+world_of w = record {
+  objects = w.heap;
+  handlers = []; last_handler = 0;
+  bindings = [];
+  sources = []; last_source = 0;
+  floating = w.floating.items;
+  builder = map config.built w.builder.items;
+  peers = [];
+  moment = 0;
+  transcript = map string_bytes w.transcript.items;
+  result = option_map value_view w.result
+}
