@@ -36,3 +36,4 @@ pub mod Instructions
 pub mod Running
 pub mod Steps
 pub mod Runs
+pub mod Choices
