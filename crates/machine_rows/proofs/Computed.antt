@@ -1,0 +1,21 @@
+-- The worked runs compute.
+use Rattle.std.proofs.Common.{refl}
+use Rattle.machine_rows.specs.Rows.{RowsHold}
+use Rattle.ui_machine.specs.Builds.{making, constructed, thawing_made, held_data, building_child, building_forward, building_binding, building_handler}
+use Rattle.ui_machine.specs.Calls.{with_method, left_with, called, uncalled}
+use Rattle.ui_machine.specs.Emissions.{notifying, signal_at, beginning_emission}
+use Rattle.ui_machine.specs.Families.{adopted}
+use Rattle.ui_machine.specs.Instructions.{moving, reckoning, comparing, sameness, negating, conjunction, disjunction, joining, converting, slot_at, getting, set_from, assigning, then_goes_on, telling, naming, made_new, creating, sinking, orphaning, disposing, adopting, freezing, unfreezing, signal_in, emitting, connecting, on_handlers, attaching, removing, calling, jumping, branching, branching_null}
+use Rattle.ui_machine.specs.Objects.{asked, changed, with_value}
+use Rattle.ui_machine.specs.Programs.{beginning_program, program_before}
+use Rattle.ui_machine.specs.Registers.{values_in, truth_in, text_in, whole_in, operand_in, data_in, written_to}
+use Rattle.ui_machine.specs.Results.{down_to_emission, down_to_source, received_at, ending}
+use Rattle.ui_machine.specs.Running.{block_in, given_by, returned, returning, in_front, running}
+use Rattle.ui_machine.specs.Sets.{spec_at, raising, written, setting}
+use Rattle.ui_machine.specs.Steps.{building_object, carrying_set, carrying_get, given_values, carrying_emit, carrying_release, sourcing, left}
+use Rattle.ui_machine.specs.Transfers.{carried}
+use Rattle.ui_machine.specs.Turns.{collecting, resulting}
+
+pub rows_hold : RowsHold
+unfolding making constructed thawing_made held_data building_child building_forward building_binding building_handler with_method left_with called uncalled notifying signal_at beginning_emission adopted moving reckoning comparing sameness negating conjunction disjunction joining converting slot_at getting set_from assigning then_goes_on telling naming made_new creating sinking orphaning disposing adopting freezing unfreezing signal_in emitting connecting on_handlers attaching removing calling jumping branching branching_null asked changed with_value beginning_program program_before values_in truth_in text_in whole_in operand_in data_in written_to down_to_emission down_to_source received_at ending block_in given_by returned returning in_front running spec_at raising written setting building_object carrying_set carrying_get given_values carrying_emit carrying_release sourcing left carried collecting resulting
+rows_hold = refl
