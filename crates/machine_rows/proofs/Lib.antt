@@ -1,2 +1,3 @@
 pub mod WorkedRuns
 pub mod CornerRuns
+pub mod PlayLaw

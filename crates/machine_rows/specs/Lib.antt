@@ -1,4 +1,5 @@
 pub mod Play
+pub mod PlayLaw
 pub mod Words
 pub mod FirstRun
 pub mod NothingToDo

@@ -1,6 +1,7 @@
 //! Worked runs of the machine, computed from definitions as data to the lines that they show.
 #![tactic(auto)]
 
+ghost use Rattle.machine_rows.specs.PlayLaw.{PlayedIsRun};
 ghost use Rattle.machine_rows.specs.FirstRun as first_run_run;
 ghost use Rattle.machine_rows.specs.NothingToDo as nothing_to_do_run;
 ghost use Rattle.machine_rows.specs.Range as range_run;
@@ -120,4 +121,9 @@ pub fn corners()
     ensures still_to_build { still_to_build_run.Holds }
     ensures pair_and_binding { pair_and_binding_run.Holds }
     ensures frozen_ends { frozen_ends_run.Holds }
+{}
+
+/// What is played with replies is a run of the machine in which peers give them.
+pub fn played_is_run()
+    ensures { PlayedIsRun }
 {}
