@@ -1,0 +1,3 @@
+pub mod QueueProofs
+pub mod PlanProofs
+pub mod StepProofs

@@ -1,0 +1,3 @@
+pub mod QueueLaws
+pub mod PlanLaws
+pub mod StepLaws
