@@ -1,3 +1,4 @@
 pub mod QueueProofs
 pub mod PlanProofs
 pub mod StepProofs
+pub mod ClampProofs

@@ -1,3 +1,4 @@
 pub mod QueueLaws
 pub mod PlanLaws
 pub mod StepLaws
+pub mod ClampLaws

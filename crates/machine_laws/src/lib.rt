@@ -3,6 +3,7 @@
 
 ghost use Rattle.machine_laws.specs.QueueLaws.{ThawsInReverse, QueuesOnce};
 ghost use Rattle.machine_laws.specs.PlanLaws.{HandlersRunOnce, InOrder, StagesInOrder, NotifyStages};
+ghost use Rattle.machine_laws.specs.ClampLaws.{ClampsToValid, ClampsOnce};
 ghost use Rattle.machine_laws.specs.StepLaws.{HeldAtRest, EndsStay, FittingLives};
 
 /// A queue has each slot once, and a thaw notifies its slots in reverse.
@@ -25,4 +26,10 @@ pub fn steps()
     ensures rest { HeldAtRest }
     ensures ends { EndsStay }
     ensures lives { FittingLives }
+{}
+
+/// A validated value is valid, and validation leaves it as it is.
+pub fn validation()
+    ensures valid { ClampsToValid }
+    ensures once { ClampsOnce }
 {}
