@@ -1,6 +1,7 @@
 //! Small laws of the machine's definitions.
 #![tactic(auto)]
 
+ghost use Rattle.machine_laws.specs.TypeLaws.{IsAReflexive, IsATransitive};
 ghost use Rattle.machine_laws.specs.QueueLaws.{ThawsInReverse, QueuesOnce};
 ghost use Rattle.machine_laws.specs.PlanLaws.{HandlersRunOnce, InOrder, StagesInOrder, NotifyStages};
 ghost use Rattle.machine_laws.specs.ClampLaws.{ClampsToValid, ClampsOnce};
@@ -32,4 +33,10 @@ pub fn steps()
 pub fn validation()
     ensures valid { ClampsToValid }
     ensures once { ClampsOnce }
+{}
+
+/// What is what: each type is itself, and what an ancestor is, its descendants are.
+pub fn types()
+    ensures reflexive { IsAReflexive }
+    ensures transitive { IsATransitive }
 {}
