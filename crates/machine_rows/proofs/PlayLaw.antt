@@ -16,7 +16,7 @@ use Rattle.ui_machine.specs.Worlds.{said}
 use Rattle.ui_machine.specs.Calls.{peer_state, is_asked, called}
 use Rattle.ui_machine.specs.Steps.{step, left, turned}
 use Rattle.ui_machine.specs.Runs.{HasEnded, beginning, of_build, of_event}
-use Rattle.ui_machine.specs.Choices.{Answers, Asks, Acts, Goes_first, Step, Stepping, Dispatched, RunsSource, RunsSources, Unless, Dispatching, Turns, Serves, ServesAll, IsRun, names_released}
+use Rattle.ui_machine.specs.Choices.{Answers, Asks, Acts, GoesFirst, Step, Stepping, Dispatched, RunsSource, RunsSources, Unless, Dispatching, Turns, Serves, ServesAll, IsRun, names_released}
 use Rattle.machine_rows.specs.Play.{Reply, Played, with_replies, state_after, replied, asks, acts, goes_first, played_step, is_empty, has_ended, played_out, most_played, ended_world, dispatched, unplayed, source_played, sources_played, turn_played, dispatch_played, event_played, events_played, played}
 use Rattle.machine_rows.specs.PlayLaw.{Giving, Each, Among, PlayedIsRun}
 
@@ -119,7 +119,7 @@ module _ (P : Reply → Type 0) (d : Definition) where
   acted c replies p (Due source ∷ rest) h e = plain c replies p h e
 
   gone_first : (c : Config) (replies : List Reply) (p : Played Config) (unheld : Option ℕ) → Each P replies → goes_first d c replies unheld ≡ Ok p →
-      Goes_first (Giving P) d c p.at unheld × Each P p.replies
+      GoesFirst (Giving P) d c p.at unheld × Each P p.replies
   gone_first c replies p None h e = acted c replies p c.agenda h e
   gone_first c replies p (Some id) h e = plain c replies p h e
 

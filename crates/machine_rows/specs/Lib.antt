@@ -57,3 +57,16 @@ pub mod LateConnection
 pub mod StillToBuild
 pub mod PairAndBinding
 pub mod FrozenEnds
+pub mod UnsetRegister
+pub mod ValueOfAnotherKind
+pub mod LateConstructOnly
+pub mod UnreadableProperty
+pub mod NullOperand
+pub mod UnfitArgument
+pub mod UnfitParameters
+pub mod ThawWithoutFreeze
+pub mod CallWithoutPeer
+pub mod UnknownProperty
+pub mod UnfitResult
+pub mod AbstractObject
+pub mod LastStep

@@ -2,6 +2,7 @@
 #![tactic(auto)]
 
 ghost use Rattle.machine_rows.specs.PlayLaw.{PlayedIsRun};
+ghost use Rattle.machine_rows.specs.LastStep.{NoFurtherStep};
 ghost use Rattle.machine_rows.specs.FirstRun as first_run_run;
 ghost use Rattle.machine_rows.specs.NothingToDo as nothing_to_do_run;
 ghost use Rattle.machine_rows.specs.Range as range_run;
@@ -58,6 +59,18 @@ ghost use Rattle.machine_rows.specs.LateConnection as late_connection_run;
 ghost use Rattle.machine_rows.specs.StillToBuild as still_to_build_run;
 ghost use Rattle.machine_rows.specs.PairAndBinding as pair_and_binding_run;
 ghost use Rattle.machine_rows.specs.FrozenEnds as frozen_ends_run;
+ghost use Rattle.machine_rows.specs.UnsetRegister as unset_register_run;
+ghost use Rattle.machine_rows.specs.ValueOfAnotherKind as value_of_another_kind_run;
+ghost use Rattle.machine_rows.specs.LateConstructOnly as late_construct_only_run;
+ghost use Rattle.machine_rows.specs.UnreadableProperty as unreadable_property_run;
+ghost use Rattle.machine_rows.specs.NullOperand as null_operand_run;
+ghost use Rattle.machine_rows.specs.UnfitArgument as unfit_argument_run;
+ghost use Rattle.machine_rows.specs.UnfitParameters as unfit_parameters_run;
+ghost use Rattle.machine_rows.specs.ThawWithoutFreeze as thaw_without_freeze_run;
+ghost use Rattle.machine_rows.specs.CallWithoutPeer as call_without_peer_run;
+ghost use Rattle.machine_rows.specs.UnknownProperty as unknown_property_run;
+ghost use Rattle.machine_rows.specs.UnfitResult as unfit_result_run;
+ghost use Rattle.machine_rows.specs.AbstractObject as abstract_object_run;
 
 /// Each worked run shows its lines.
 pub fn rows()
@@ -121,6 +134,27 @@ pub fn corners()
     ensures still_to_build { still_to_build_run.Holds }
     ensures pair_and_binding { pair_and_binding_run.Holds }
     ensures frozen_ends { frozen_ends_run.Holds }
+{}
+
+/// Each arm by which the machine may be stuck is reached by a definition that a check would refuse.
+pub fn arms()
+    ensures unset_register { unset_register_run.Holds }
+    ensures value_of_another_kind { value_of_another_kind_run.Holds }
+    ensures late_construct_only { late_construct_only_run.Holds }
+    ensures unreadable_property { unreadable_property_run.Holds }
+    ensures null_operand { null_operand_run.Holds }
+    ensures unfit_argument { unfit_argument_run.Holds }
+    ensures unfit_parameters { unfit_parameters_run.Holds }
+    ensures thaw_without_freeze { thaw_without_freeze_run.Holds }
+    ensures call_without_peer { call_without_peer_run.Holds }
+    ensures unknown_property { unknown_property_run.Holds }
+    ensures unfit_result { unfit_result_run.Holds }
+    ensures abstract_object { abstract_object_run.Holds }
+{}
+
+/// No counted step is taken past the most of a dispatch.
+pub fn no_further_step()
+    ensures { NoFurtherStep }
 {}
 
 /// What is played with replies is a run of the machine in which peers give them.

@@ -191,10 +191,17 @@ held_data w (Some place) = do
   id ← held_object w place
   Ok (Some id)
 
--- the peer of a place's object
-abbrev pub peer_for : World → List (List ℕ) → Option ℕ
-peer_for w [] = None
-peer_for w (name ∷ names) = peer_number w.peers name
+abbrev pub first_peer : List Peer → List (List ℕ) → Option ℕ
+first_peer peers [] = None
+first_peer peers (name ∷ names) = peer_number peers name
+
+abbrev pub peers_of : Option Place → List (List ℕ)
+peers_of None = []
+peers_of (Some p) = p.peers
+
+-- the peer of a place's object, if it has one
+abbrev pub peer_for : Definition → World → ℕ → Option ℕ
+peer_for d w place = first_peer w.peers (peers_of (place_at d place))
 
 -- an object becomes its parent's child
 unfoldable pub building_child : Definition → World → ℕ → List Item → Answer Started

@@ -13,6 +13,7 @@ use Rattle.ui_machine.specs.Config.{Peer, PeerState, Task, World, Config}
 use Rattle.ui_machine.specs.Answers.{Answer, ◌>>=◌, known, only_if}
 use Rattle.ui_machine.specs.Objects.{class_in}
 use Rattle.ui_machine.specs.Programs.{all_fit}
+use Rattle.ui_machine.specs.Turns.{or_zero}
 use Rattle.ui_machine.specs.Results.{Left, received}
 use Rattle.ui_machine.specs.Disposal.{no_peer}
 use Rattle.ui_machine.specs.Worlds.{said}
@@ -55,11 +56,6 @@ abbrev pub call_line : Peer → Method → List Value → Option Value → Line
 call_line p m args None = lines.fault p.name m.name args
 call_line p m args (Some v) = lines.call p.name m.name args v
 
--- what the program is given: the answer, or after a fault the zero value
-abbrev pub answer_of : Definition → Kind → Option Value → Value
-answer_of d kind None = zero_value d.types kind
-answer_of d kind (Some v) = v
-
 -- a task that starts from a peer and one of its methods
 unfoldable pub with_method : {X : Type 0} → World → (peer method : ℕ) → (Peer → Method → Answer X) → Answer X
 with_method w peer method f = do
@@ -73,10 +69,10 @@ left_with w rest to v = do
   agenda ← received rest to (Some v)
   Ok (record { world = w; agenda = agenda })
 
--- a peer answered so, and is in that state
+-- a peer answered so, and is in that state; after a fault the program is given the zero value
 unfoldable pub called : Definition → World → (peer method : ℕ) → List Value → ℕ → List Task → Option Value → PeerState → Answer Left
 called d w peer method args to rest answer state =
-    with_method w peer method (λ p m. left_with (said d (with_peer_state w peer p state) (call_line p m args answer)) rest to (answer_of d m.result answer))
+    with_method w peer method (λ p m. left_with (said d (with_peer_state w peer p state) (call_line p m args answer)) rest to (or_zero d m.result answer))
 
 -- a peer that is closed is not called, and the program is given the zero value
 unfoldable pub uncalled : Definition → World → (peer method : ℕ) → List Value → ℕ → List Task → Answer Left

@@ -52,13 +52,13 @@ Acts m d c (Carrying event ∷ rest) e = step d c ≡ Ok e
 Acts m d c (Due source ∷ rest) e = step d c ≡ Ok e
 
 -- an object without a mention is finalised before anything else
-abbrev pub Goes_first : Moves → Definition → Config → Config → Option ℕ → Type 0
-Goes_first m d c e None = Acts m d c c.agenda e
-Goes_first m d c e (Some id) = step d c ≡ Ok e
+abbrev pub GoesFirst : Moves → Definition → Config → Config → Option ℕ → Type 0
+GoesFirst m d c e None = Acts m d c c.agenda e
+GoesFirst m d c e (Some id) = step d c ≡ Ok e
 
 -- one step, where a peer that is asked may choose
 abbrev pub Step : Moves → Definition → Config → Config → Type 0
-Step m d c e = Goes_first m d c e (next_unheld (mentions d c) c.world.objects)
+Step m d c e = GoesFirst m d c e (next_unheld (mentions d c) c.world.objects)
 
 -- n steps
 abbrev pub Stepping : Moves → Definition → ℕ → Config → Config → Type 0

@@ -22,6 +22,7 @@ use Rattle.ui_machine.specs.Bindings.{bindings_without}
 use Rattle.ui_machine.specs.Sets.{has_kind, spec_at, raising, is_disposed}
 use Rattle.ui_machine.specs.Registers.{Frame, rest_of, value_in, values_in, truth_in, text_in, whole_in, operand_in, data_in, with_register, goes_on, written_to, gives, tells}
 use Rattle.ui_machine.specs.Programs.{passes_of, all_fit}
+use Rattle.ui_machine.specs.Turns.{or_zero}
 use Rattle.ui_machine.specs.Families.{adopted, orphaned}
 use Rattle.ui_machine.specs.Connections.{signal_number, detail_for, connected, disconnected, blocked, unblocked, with_handlers_on}
 use Rattle.ui_machine.specs.Calls.{peer_at, first_left, method_of, method_number}
@@ -139,10 +140,6 @@ abbrev pub is_object_kind : Kind → Bool
 is_object_kind (kinds.object type) = true
 is_object_kind _ = false
 
-abbrev pub or_zero_value : Definition → Kind → Option Value → Value
-or_zero_value d kind None = zero_value d.types kind
-or_zero_value d kind (Some v) = v
-
 -- whether `convert` has something to do
 abbrev pub is_convertible : Definition → Kind → Kind → Bool
 is_convertible d from to = not (is_object_kind from) && (not (is_object_kind to) && is_transformable d.types from to)
@@ -151,7 +148,7 @@ is_convertible d from to = not (is_object_kind from) && (not (is_object_kind to)
 unfoldable pub converting : Definition → World → Frame → (to a : ℕ) → Kind → Answer Started
 converting d w f to a kind = do
   v ← value_in f a
-  only_if (is_convertible d (kind_of v) kind) arms.Register (gives w to (or_zero_value d kind (transformed d.types (kind_of v) kind v)) f)
+  only_if (is_convertible d (kind_of v) kind) arms.Register (gives w to (or_zero d kind (transformed d.types (kind_of v) kind v)) f)
 
 -- ** properties
 
@@ -303,13 +300,19 @@ abbrev pub new_emission : ℕ → ℕ → Option (List ℕ) → List Value → B
 new_emission id signal detail args by_event =
     record { object = id; signal = signal; detail = detail; args = args; by_event = by_event; value = None; cleanup = false }
 
--- `emit z o s D [a..]`: the program waits for the result, if it takes it; `notify` is not emitted so
+-- the signal that a program emits, which is not `notify`
+unfoldable pub signal_to_emit : Definition → World → ℕ → List ℕ → Answer ℕ
+signal_to_emit d w id name = do
+  signal ← signal_in d w id name
+  only_if (nat_lt 0 signal) arms.Code (Ok signal)
+
+-- `emit z o s D [a..]`: the program waits for the result, if it takes it
 unfoldable pub emitting : Definition → World → Frame → Option ℕ → ℕ → List ℕ → Option (List ℕ) → List ℕ → Answer Started
 emitting d w f into object name detail args = do
   id ← operand_in w f object
-  signal ← signal_in d w id name
+  signal ← signal_to_emit d w id name
   given ← values_in f args
-  only_if (nat_lt 0 signal) arms.Code (goes_on w (Beginning (new_emission id signal detail given false) ∷ []) (record f { into = into }))
+  goes_on w (Beginning (new_emission id signal detail given false) ∷ []) (record f { into = into })
 
 -- a handler that bytecode connects
 abbrev pub handler_by_code : World → (id signal : ℕ) → Option (List ℕ) → ℕ → (after swapped : Bool) → Option ℕ → Handler

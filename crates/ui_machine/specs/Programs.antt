@@ -1,5 +1,5 @@
 -- Programs: how they begin.
-use Rattle.std.specs.Prelude.{ℕ, zero, suc, ◌-◌, Bool, true, false, cond, ◌&&◌, nat_eq, List, [], ◌∷◌, ◌++◌, length, replicate, Option, None, Some, is_some, option_map}
+use Rattle.std.specs.Prelude.{ℕ, zero, suc, ◌-◌, Bool, true, false, cond, ◌&&◌, nat_eq, List, [], ◌∷◌, ◌++◌, length, replicate, Option, None, Some, is_some, option_map, slice_get}
 use Rattle.ui_machine.specs.declared.arm.Arm.TheVariants as arms
 use Rattle.ui_machine.specs.Kinds.{Kind, RegisterKind}
 use Rattle.ui_machine.specs.Kinds as kinds
@@ -60,17 +60,10 @@ abbrev pub passes_of : Option Block → ℕ
 passes_of None = 1
 passes_of (Some b) = b.passes
 
-abbrev pub first_block : Program → Option Block
-first_block p = block_of p.blocks
-  where
-    block_of : List Block → Option Block
-    block_of [] = None
-    block_of (b ∷ bs) = Some b
-
 -- a program at its first instruction
 abbrev pub first_frame : ℕ → Program → List Value → Frame
 first_frame number p args =
-    record { program = number; block = 0; at = 0; passes = passes_of (first_block p); into = None; registers = first_registers p args }
+    record { program = number; block = 0; at = 0; passes = passes_of (slice_get p.blocks 0); into = None; registers = first_registers p args }
 
 -- a program begins
 unfoldable pub beginning_program : Definition → World → ℕ → List Value → Answer Started

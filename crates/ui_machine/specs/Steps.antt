@@ -47,8 +47,7 @@ constructing d w id (thaws ∷ steps) held = thawing_made w id steps held
 -- an object of the build is made, with the peer that is its own
 unfoldable pub building_object : Definition → World → ℕ → List Item → Answer Started
 building_object d w place items = do
-  p ← known arms.Code (place_at d place)
-  made ← making d w place (peer_for w p.peers) true
+  made ← making d w place (peer_for d w place) true
   starts made.world (made.tasks ++ Building items ∷ [])
 
 -- the next item of the build

@@ -112,14 +112,15 @@ collecting d w e turns given = do
 
 -- ** results
 
-abbrev pub or_zero : Definition → Option Value → Kind → Value
-or_zero d None kind = zero_value d.types kind
-or_zero d (Some v) kind = v
+-- a value, or else the zero value of the kind
+abbrev pub or_zero : Definition → Kind → Option Value → Value
+or_zero d kind None = zero_value d.types kind
+or_zero d kind (Some v) = v
 
 -- what an emission results in: the value that it has accumulated, or the zero value
 abbrev pub result_of : Definition → Option Kind → Option Value → Option Value
 result_of d None v = None
-result_of d (Some kind) v = Some (or_zero d v kind)
+result_of d (Some kind) v = Some (or_zero d kind v)
 
 -- what an emission results in as it ends
 unfoldable pub resulting : Definition → World → Emission → Answer (Option Value)
