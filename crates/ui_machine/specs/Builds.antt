@@ -1,19 +1,24 @@
 -- Constructions and the build (GObject manual, object construction; GTK manual, GtkBuilder).
-use Rattle.std.specs.Prelude.{ℕ, pos, zero, suc, Bool, true, false, cond, nat_eq, nat_le, ◌||◌, not, List, [], ◌∷◌, ◌++◌, map, length, Option, Some, None}
+use Rattle.std.specs.Prelude.{ℕ, pos, zero, suc, Bool, true, false, cond, nat_eq, nat_le, ◌||◌, not, List, [], ◌∷◌, ◌++◌, map, length, Option, Some, None, Ok, slice_get}
 use Rattle.std.specs.List.{flat_map}
 use Rattle.ui_machine.specs.declared.arm.Arm.TheVariants as arms
-use Rattle.ui_machine.specs.Seq.{read}
+use Rattle.ui_machine.specs.Seq.{read, write, total}
 use Rattle.ui_machine.specs.Kinds as kinds
 use Rattle.ui_machine.specs.Values.{Value}
 use Rattle.ui_machine.specs.Values as values
 use Rattle.ui_machine.specs.Ancestry.{is_a}
-use Rattle.ui_machine.specs.Properties.{Spec, is_construct, is_construct_only}
-use Rattle.ui_machine.specs.Definition.{Definition, Given, value, named, GivenProperty, Place}
+use Rattle.ui_machine.specs.Properties.{Spec, has_flags, is_construct, is_construct_only}
+use Rattle.ui_machine.specs.Definition.{Definition, Given, value, named, GivenProperty, Attached, Place, Bind}
 use Rattle.ui_machine.specs.Lookups.{type_of, class_of, specs_of, place_at}
 use Rattle.ui_machine.specs.Lines as lines
-use Rattle.ui_machine.specs.Config.{Object, Held, unbuilt, built, released, Making, sets, runs, thaws, Item, makes, adopts, forwards, binds, connects, Thawing, Constructing, World}
+use Rattle.ui_machine.specs.Config.{Object, Handler, Binding, Peer, Held, unbuilt, built, released, Making, sets, runs, thaws, Item, makes, adopts, forwards, binds, connects, Setting, Transferring, Thawing, Constructing, Building, Task, World}
 use Rattle.ui_machine.specs.Answers.{Answer, ◌>>=◌, known, only_if}
-use Rattle.ui_machine.specs.Objects.{changed, frozen_less}
+use Rattle.ui_machine.specs.Objects.{find, changed, frozen_less}
+use Rattle.ui_machine.specs.Sets.{is_disposed}
+use Rattle.ui_machine.specs.Disposal.{no_peer}
+use Rattle.ui_machine.specs.Calls.{peer_number}
+use Rattle.ui_machine.specs.Families.{adopted}
+use Rattle.ui_machine.specs.Connections.{signal_number, detail_for, is_too_late, with_handler}
 use Rattle.ui_machine.specs.Worlds.{Started, starts, said, with_objects, held_at, holding, sunk}
 
 -- ** given values
@@ -100,10 +105,19 @@ initially_unowned = 1
 abbrev pub floats : Definition → ℕ → ℕ → List ℕ → List ℕ
 floats d class id floating = cond (is_a d.types class initially_unowned) (floating ++ id ∷ []) floating
 
+-- the peers, where one has become an object's
+abbrev pub lent : Option ℕ → ℕ → List Peer → List Peer
+lent None id peers = peers
+lent (Some number) id peers = write no_peer peers number (record (read no_peer peers number) { holder = Some id })
+
 -- the world with one more object, under the next identity
 abbrev pub with_object : Definition → World → Object → World
 with_object d w o =
-    record w { objects = w.objects ++ Some o ∷ []; floating = floats d o.class (suc (length w.objects)) w.floating }
+    record w {
+      objects = w.objects ++ Some o ∷ [];
+      floating = floats d o.class (suc (length w.objects)) w.floating;
+      peers = lent o.peer (suc (length w.objects)) w.peers
+    }
 
 -- a construction begins; `held` says that the builder holds the object at its end
 unfoldable pub making : Definition → World → ℕ → Option ℕ → Bool → Answer Started
@@ -114,7 +128,7 @@ making d w place peer held = do
           (Constructing (suc (length w.objects)) (construction d w place p) held ∷ []))
 
 -- the end of a construction: what the builder made is held by it, under the next place, and sunk
-abbrev pub constructed : World → ℕ → Bool → Answer Started
+unfoldable pub constructed : World → ℕ → Bool → Answer Started
 constructed w id false = starts w []
 constructed w id true = starts (sunk (holding w id) id) []
 
@@ -158,3 +172,117 @@ connected_items place (p ∷ ps) = numbered (connects place) 0 p.signals ++ conn
 -- what the builder does: objects in document order, then forward references, bindings and signals
 abbrev pub build_items : Definition → List Item
 build_items d = made_items 0 d.places ++ (forward_items 0 d.places ++ (numbered binds 0 d.bindings ++ connected_items 0 d.places))
+
+-- the object that the builder holds under a place
+abbrev pub identity_held : Held → Option ℕ
+identity_held unbuilt = None
+identity_held (built id) = Some id
+identity_held released = None
+
+abbrev pub held_object : World → ℕ → Answer ℕ
+held_object w place = known arms.Operand (identity_held (held_at w place))
+
+-- the same of a place that may be left out
+unfoldable pub held_data : World → Option ℕ → Answer (Option ℕ)
+held_data w None = Ok None
+held_data w (Some place) = do
+  id ← held_object w place
+  Ok (Some id)
+
+abbrev pub first_peer : List Peer → List (List ℕ) → Option ℕ
+first_peer peers [] = None
+first_peer peers (name ∷ names) = peer_number peers name
+
+abbrev pub peers_of : Option Place → List (List ℕ)
+peers_of None = []
+peers_of (Some p) = p.peers
+
+-- the peer of a place's object, if it has one
+abbrev pub peer_for : Definition → World → ℕ → Option ℕ
+peer_for d w place = first_peer w.peers (peers_of (place_at d place))
+
+-- an object becomes its parent's child
+unfoldable pub building_child : Definition → World → ℕ → List Item → Answer Started
+building_child d w place items = do
+  p ← known arms.Code (place_at d place)
+  above ← known arms.Code p.parent
+  parent ← held_object w above
+  child ← held_object w place
+  family ← adopted d w parent child
+  starts family.0 (Building items ∷ [])
+
+-- a forward reference is set
+unfoldable pub building_forward : World → ℕ → ℕ → ℕ → List Item → Answer Started
+building_forward w place slot to items = do
+  id ← held_object w place
+  target ← held_object w to
+  starts w (Setting id slot (values.object (Some target)) ∷ Building items ∷ [])
+
+-- a binding of the definition, between two objects
+abbrev pub new_binding : ℕ → Bind → ℕ → ℕ → Binding
+new_binding number b source target = record {
+  number = number; name = b.name; source = source; source_slot = b.source_slot; target = target; target_slot = b.target_slot; flags = b.flags; setting = false
+}
+
+-- with SYNC_CREATE the binding sets its target at once
+abbrev pub first_transfer : ℕ → Bind → List Task
+first_transfer number b = cond (has_flags 2 b.flags) (Transferring number false ∷ []) []
+
+abbrev pub with_binding : World → Binding → World
+with_binding w b = record w { bindings = w.bindings ++ b ∷ [] }
+
+-- a binding is made, unless one of its ends is disposed
+unfoldable pub building_binding : Definition → World → ℕ → List Item → Answer Started
+building_binding d w number items = do
+  b ← known arms.Code (slice_get d.bindings number)
+  source ← held_object w b.source
+  target ← held_object w b.target
+  cond (is_disposed (find w.objects source) || is_disposed (find w.objects target))
+      (starts w (Building items ∷ []))
+      (starts (with_binding w (new_binding number b source target)) (first_transfer number b ++ Building items ∷ []))
+
+-- a signal of the definition, as a handler on an object
+abbrev pub new_handler : World → ℕ → ℕ → Attached → Option ℕ → Handler
+new_handler w id signal a arg = record {
+  number = suc w.last_handler; object = id; signal = signal; detail = detail_for signal a.detail; program = a.program;
+  after = a.after; swapped = a.swapped; arg = arg; blocks = 0; by_code = false
+}
+
+-- a signal is connected, unless one of its objects is disposed
+unfoldable pub building_handler : Definition → World → ℕ → ℕ → List Item → Answer Started
+building_handler d w place number items = do
+  p ← known arms.Code (place_at d place)
+  a ← known arms.Code (slice_get p.signals number)
+  id ← held_object w place
+  arg ← held_data w a.with
+  signal ← known arms.Code (signal_number d p.class a.signal)
+  cond (is_too_late w.objects id arg) (starts w (Building items ∷ [])) (starts (with_handler w (new_handler w id signal a arg)) (Building items ∷ []))
+
+-- ** what the builder has still to do
+
+abbrev pub is_making : Item → ℕ
+is_making (makes place) = 1
+is_making (adopts place) = 0
+is_making (forwards place slot to) = 0
+is_making (binds number) = 0
+is_making (connects place number) = 0
+
+abbrev pub is_connecting : Item → ℕ
+is_connecting (makes place) = 0
+is_connecting (adopts place) = 0
+is_connecting (forwards place slot to) = 0
+is_connecting (binds number) = 0
+is_connecting (connects place number) = 1
+
+-- the sum over the items that the build has left
+abbrev pub of_items : (Item → ℕ) → Task → ℕ
+of_items f (Building items) = total f items
+of_items f _ = 0
+
+-- how many objects are still to be made
+abbrev pub to_make : List Task → ℕ
+to_make tasks = total (of_items is_making) tasks
+
+-- how many handlers are still to be connected
+abbrev pub to_connect : List Task → ℕ
+to_connect tasks = total (of_items is_connecting) tasks

@@ -8,12 +8,14 @@ use Rattle.ui_machine.specs.Definition.{Definition, Signal, ClassHandler}
 use Rattle.ui_machine.specs.Lookups.{type_of, class_of, spec_of}
 use Rattle.ui_machine.specs.Lines as lines
 use Rattle.ui_machine.specs.Config.{Handler, Turn, class_handler, handler, Emission, Emitting, World}
-use Rattle.ui_machine.specs.Answers.{Answer, ◌>>=◌, known}
-use Rattle.ui_machine.specs.Objects.{object_at}
+use Rattle.ui_machine.specs.Answers.{Answer, ◌>>=◌, known, only_if}
+use Rattle.ui_machine.specs.Objects.{object_at, class_in}
+use Rattle.ui_machine.specs.Transform.{kind_fits}
+use Rattle.ui_machine.specs.Programs.{all_fit}
 use Rattle.ui_machine.specs.Bindings.{transfers}
 use Rattle.ui_machine.specs.Worlds.{Started, starts, said}
 
--- the signal of a class by its number; number 0 is `notify`
+-- the entry of a class's list of signals; number 0 is `notify`
 abbrev pub signal_of : Definition → ℕ → ℕ → Option Signal
 signal_of d class number = slice_get (class_of d class).signals number
 
@@ -94,3 +96,18 @@ notifying d w id slot = do
   o ← object_at w.objects id
   s ← known arms.Code (spec_of d o.class slot)
   starts (said d w (lines.notify id s.name)) (Emitting (notification id s.name) (notify_plan d w o.class id slot s.name) ∷ [])
+
+-- ** other emissions
+
+-- the signal of a class by its number
+unfoldable pub signal_at : Definition → ℕ → ℕ → Answer Signal
+signal_at d class number = known arms.Code (signal_of d class number)
+
+-- an emission that is due begins: its arguments fit, its line is said, and its turns are taken
+unfoldable pub beginning_emission : Definition → World → Emission → Answer Started
+beginning_emission d w e = do
+  o ← object_at w.objects e.object
+  s ← signal_at d o.class e.signal
+  only_if (all_fit (kind_fits (class_in w.objects) d.types) e.args s.params) arms.Argument
+      (starts (said d w (lines.emit e.object s.name e.detail e.args))
+          (Emitting e (plan w (class_handler_of d o.class s.name) s.flags [] e.object e.signal e.detail) ∷ []))

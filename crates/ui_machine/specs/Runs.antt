@@ -5,6 +5,8 @@ use Rattle.ui_machine.specs.Definition.{Definition, Place}
 use Rattle.ui_machine.specs.Lines as lines
 use Rattle.ui_machine.specs.Config.{unbuilt, Task, Building, Carrying, Peer, World, Config, Event}
 use Rattle.ui_machine.specs.Answers.{Stops}
+use Rattle.ui_machine.specs.Objects.{next_unheld}
+use Rattle.ui_machine.specs.Mentions.{mentions}
 use Rattle.ui_machine.specs.Worlds.{said}
 use Rattle.ui_machine.specs.Builds.{build_items}
 use Rattle.ui_machine.specs.Steps.{step}
@@ -19,16 +21,17 @@ pub record Reaches (d : Definition) (c e : Config) : Type 0 where
   pub count : ℕ
   pub steps : Steps d count c e
 
--- nothing is left to do: the agenda is empty, and nothing floats
-pub record HasEnded (c : Config) : Type 0 where
+-- nothing is left to do: the agenda is empty, nothing floats, and each object that lives is held
+pub record HasEnded (d : Definition) (c : Config) : Type 0 where
   pub agenda : c.agenda ≡ []
   pub floating : c.world.floating ≡ []
+  pub held : next_unheld (mentions d c) c.world.objects ≡ None
 
 -- a dispatch from a configuration comes to its end after so many counted steps, and leaves that world
 pub record Dispatches (d : Definition) (c : Config) (count : ℕ) (new : World) : Type 0 where
   pub at : Config
   pub reached : Reaches d c at
-  pub ended : HasEnded at
+  pub ended : HasEnded d at
   pub counts : at.counted ≡ count
   pub leaves : said d at.world (lines.end at.counted) ≡ new
 

@@ -2,6 +2,9 @@
 use Rattle.std.specs.Prelude.{ℕ, suc, nat_lt, Bool, true, List, [], ◌∷◌, ◌++◌, Option, Some, None, Ok, Err}
 use Rattle.ui_machine.specs.declared.arm.Arm.TheVariants as arms
 use Rattle.ui_machine.specs.Values.{Value}
+use Rattle.ui_machine.specs.Values as values
+use Rattle.ui_machine.specs.Lookups.{place_at}
+use Rattle.ui_machine.specs.Sources.{source_of}
 use Rattle.ui_machine.specs.Properties.{is_readable}
 use Rattle.ui_machine.specs.Definition.{Definition, Given}
 use Rattle.ui_machine.specs.Lines as lines
@@ -10,10 +13,17 @@ use Rattle.ui_machine.specs.Config.{World, Config, Task, Setting, Notifying, Beg
 use Rattle.ui_machine.specs.Answers.{Answer, ◌>>=◌, known, only_if}
 use Rattle.ui_machine.specs.Objects.{asked, value_at, next_unheld}
 use Rattle.ui_machine.specs.Mentions.{mentions}
-use Rattle.ui_machine.specs.Worlds.{Started, starts, said, held_at}
+use Rattle.ui_machine.specs.Worlds.{Started, starts, said, held_at, with_held, sunk}
 use Rattle.ui_machine.specs.Sets.{setting, spec_at}
-use Rattle.ui_machine.specs.Emissions.{notifying}
-use Rattle.ui_machine.specs.Builds.{making, constructed, thawing_made, given_value}
+use Rattle.ui_machine.specs.Programs.{program_before}
+use Rattle.ui_machine.specs.Emissions.{notifying, beginning_emission}
+use Rattle.ui_machine.specs.Transfers.{transferring, unsetting}
+use Rattle.ui_machine.specs.Turns.{taking}
+use Rattle.ui_machine.specs.Results.{Left, ending}
+use Rattle.ui_machine.specs.Calls.{calling_on}
+use Rattle.ui_machine.specs.Builds.{making, constructed, thawing_made, given_value, held_object, peer_for, building_child, building_forward, building_binding, building_handler}
+use Rattle.ui_machine.specs.Instructions.{new_emission}
+use Rattle.ui_machine.specs.Running.{running}
 use Rattle.ui_machine.specs.Disposal.{finalised}
 
 -- the most counted steps of a dispatch
@@ -31,33 +41,25 @@ thawing w id (slot ∷ slots) = starts w (Notifying id slot ∷ Thawing id slots
 abbrev pub constructing : Definition → World → ℕ → List Making → Bool → Answer Started
 constructing d w id [] held = constructed w id held
 constructing d w id (sets slot v ∷ steps) held = starts w (Setting id slot v ∷ Constructing id steps held ∷ [])
-constructing d w id (runs program ∷ steps) held = Err arms.Code
+constructing d w id (runs program ∷ steps) held = program_before d w program (values.object (Some id) ∷ []) (Constructing id steps held ∷ [])
 constructing d w id (thaws ∷ steps) held = thawing_made w id steps held
 
--- the next item of the build
+-- an object of the build is made, with the peer that is its own
 unfoldable pub building_object : Definition → World → ℕ → List Item → Answer Started
 building_object d w place items = do
-  made ← making d w place None true
+  made ← making d w place (peer_for d w place) true
   starts made.world (made.tasks ++ Building items ∷ [])
 
+-- the next item of the build
 abbrev pub building : Definition → World → List Item → Answer Started
 building d w [] = starts w []
 building d w (makes place ∷ items) = building_object d w place items
-building d w (adopts place ∷ items) = Err arms.Code
-building d w (forwards place slot to ∷ items) = Err arms.Code
-building d w (binds number ∷ items) = Err arms.Code
-building d w (connects place number ∷ items) = Err arms.Code
+building d w (adopts place ∷ items) = building_child d w place items
+building d w (forwards place slot to ∷ items) = building_forward w place slot to items
+building d w (binds number ∷ items) = building_binding d w number items
+building d w (connects place number ∷ items) = building_handler d w place number items
 
 -- ** events
-
-abbrev pub identity_held : Held → Option ℕ
-identity_held unbuilt = None
-identity_held (built id) = Some id
-identity_held released = None
-
--- the object that the builder holds under a place
-abbrev pub held_object : World → ℕ → Answer ℕ
-held_object w place = known arms.Operand (identity_held (held_at w place))
 
 unfoldable pub carrying_set : World → ℕ → ℕ → Given → Answer Started
 carrying_set w place slot given = do
@@ -75,12 +77,47 @@ carrying_get d w place slot = do
   v ← asked w.objects id (value_at slot)
   only_if (is_readable s) arms.Flags (starts (answered (said d w (lines.get id s.name v)) v) [])
 
+-- the given values of an emission's arguments
+unfoldable pub given_values : World → List Given → Answer (List Value)
+given_values w [] = Ok []
+given_values w (g ∷ gs) = do
+  v ← known arms.Operand (given_value w g)
+  vs ← given_values w gs
+  Ok (v ∷ vs)
+
+unfoldable pub carrying_emit : World → (place signal : ℕ) → List Given → Option (List ℕ) → Answer Started
+carrying_emit w place signal args detail = do
+  id ← held_object w place
+  given ← given_values w args
+  starts w (Beginning (new_emission id signal detail given true) ∷ [])
+
+-- the builder lets an object go
+unfoldable pub carrying_release : Definition → World → ℕ → Answer Started
+carrying_release d w place = do
+  p ← known arms.Code (place_at d place)
+  _ ← held_object w place
+  starts (with_held (said d w (lines.release p.id)) place released) []
+
+-- the world as a turn begins (GLib manual, g_main_context_iteration)
+abbrev pub turned : Definition → World → ℕ → World
+turned d w moment = record (said d w (lines.turn moment)) { moment = moment }
+
 abbrev pub carrying : Definition → World → Event → Answer Started
 carrying d w (config.set place slot given) = carrying_set w place slot given
 carrying d w (config.get place slot) = carrying_get d w place slot
-carrying d w (config.emit place signal args detail) = Err arms.Code
-carrying d w (config.turn moment) = Err arms.Code
-carrying d w (config.release place) = Err arms.Code
+carrying d w (config.emit place signal args detail) = carrying_emit w place signal args detail
+carrying d w (config.turn moment) = starts (turned d w moment) []
+carrying d w (config.release place) = carrying_release d w place
+
+-- the program of a ready source begins, with its data
+abbrev pub source_data : Option ℕ → List Value
+source_data None = []
+source_data (Some id) = values.object (Some id) ∷ []
+
+unfoldable pub sourcing : Definition → World → ℕ → Answer Started
+sourcing d w source = do
+  s ← known arms.Code (source_of source w.sources)
+  program_before d w s.program (source_data s.arg) (Answering source ∷ [])
 
 -- ** steps
 
@@ -98,24 +135,40 @@ uncounted rest n answer = do
 abbrev pub counted : List Task → ℕ → Answer Started → Answer Config
 counted rest n answer = only_if (nat_lt n most_steps) arms.Steps (uncounted rest (suc n) answer)
 
+-- a step that leaves a whole agenda
+unfoldable pub left : ℕ → Answer Left → Answer Config
+left n answer = do
+  l ← answer
+  Ok (record { world = l.world; agenda = l.agenda; counted = n })
+
+-- the same of a counted step
+abbrev pub counted_left : ℕ → Answer Left → Answer Config
+counted_left n answer = only_if (nat_lt n most_steps) arms.Steps (left (suc n) answer)
+
+-- what still floats as nothing is left to do is let go, the lowest first; identities rise, so that it is the first
+abbrev pub settling : World → List ℕ → World
+settling w [] = w
+settling w (id ∷ ids) = sunk w id
+
 -- what the first task does
 abbrev pub act : Definition → World → List Task → ℕ → Answer Config
-act d w [] n = Ok (record { world = w; agenda = []; counted = n })
+act d w [] n = Ok (record { world = settling w w.floating; agenda = []; counted = n })
 act d w (Setting id slot v ∷ rest) n = uncounted rest n (setting d w id slot v)
 act d w (Notifying id slot ∷ rest) n = counted rest n (notifying d w id slot)
-act d w (Emitting emission [] ∷ rest) n = uncounted rest n (starts w [])
-act d w (Emitting emission (turn ∷ turns) ∷ rest) n = Err arms.Code
+act d w (Beginning emission ∷ rest) n = counted rest n (beginning_emission d w emission)
+act d w (Emitting emission [] ∷ rest) n = left n (ending d w emission rest)
+act d w (Emitting emission (turn ∷ turns) ∷ rest) n = uncounted rest n (taking d w emission turns turn)
+act d w (Transferring number back ∷ rest) n = counted rest n (transferring d w number back)
+act d w (Unsetting number ∷ rest) n = uncounted rest n (unsetting w number)
 act d w (Thawing id slots ∷ rest) n = uncounted rest n (thawing w id slots)
+act d w (Running program block at passes into registers ∷ rest) n =
+    counted_left n (running d w rest (record { program = program; block = block; at = at; passes = passes; into = into; registers = registers }))
+act d w (Answering source ∷ rest) n = uncounted rest n (starts w [])
+act d w (Calling object peer method args to ∷ rest) n = left n (calling_on d w peer method args to rest)
 act d w (Constructing id steps held ∷ rest) n = uncounted rest n (constructing d w id steps held)
 act d w (Building items ∷ rest) n = uncounted rest n (building d w items)
 act d w (Carrying event ∷ rest) n = uncounted rest n (carrying d w event)
-act d w (Beginning emission ∷ rest) n = Err arms.Code
-act d w (Transferring number back ∷ rest) n = Err arms.Code
-act d w (Unsetting number ∷ rest) n = Err arms.Code
-act d w (Running program block at passes into registers ∷ rest) n = Err arms.Code
-act d w (Answering source ∷ rest) n = Err arms.Code
-act d w (Calling object peer method args to ∷ rest) n = Err arms.Code
-act d w (Due source ∷ rest) n = Err arms.Code
+act d w (Due source ∷ rest) n = uncounted rest n (sourcing d w source)
 
 -- an object without a mention is finalised before anything else
 abbrev pub first_of : Definition → Config → Option ℕ → Answer Config

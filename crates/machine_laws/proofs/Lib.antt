@@ -1,0 +1,5 @@
+pub mod TypeProofs
+pub mod ClampProofs
+pub mod QueueProofs
+pub mod PlanProofs
+pub mod StepProofs

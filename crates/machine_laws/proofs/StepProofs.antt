@@ -1,0 +1,29 @@
+-- Configurations and steps.
+use Rattle.std.proofs.Common.{◌≡◌, refl, ap, sym, ◌∙◌, ℕ, ◌+◌, Bool, true, false, List, [], Option, None, Some, Ok, arith}
+use Rattle.std.specs.Option.{option_map}
+use Rattle.ui_machine.specs.Types.{GType}
+use Rattle.ui_machine.specs.Ancestry.{is_a}
+use Rattle.ui_machine.specs.Transform.{is_one}
+use Rattle.ui_machine.specs.Definition.{Definition}
+use Rattle.ui_machine.specs.Config.{Object, Objects, Task, World, Config}
+use Rattle.ui_machine.specs.Objects.{find}
+use Rattle.ui_machine.specs.Steps.{settling, act, first_of}
+use Rattle.ui_machine.specs.Runs.{HasEnded}
+use Rattle.machine_laws.specs.StepLaws.{HeldAtRest, EndsStay, FittingLives}
+
+pub held_at_rest : HeldAtRest
+held_at_rest d w counted o = omega arith
+
+pub ends_stay : EndsStay
+ends_stay d c h =
+    ap (first_of d c) h.held
+    ∙ (ap (λ (ts : List Task). act d c.world ts c.counted) h.agenda
+    ∙ (ap (λ (floating : List ℕ). Ok (record { world = settling c.world floating; agenda = []; counted = c.counted })) h.floating
+    ∙ ap (λ (ts : List Task). Ok (record { world = c.world; agenda = ts; counted = c.counted })) (sym h.agenda)))
+
+fitting : (types : List GType) (t : ℕ) (o : Option Object) → is_one types t (option_map (λ (x : Object). x.class) o) ≡ true → (x : Object) × (o ≡ Some x) × (is_a types x.class t ≡ true)
+fitting types t None e = absurd (cc)
+fitting types t (Some x) e = (x, refl, e)
+
+pub fitting_lives : FittingLives
+fitting_lives os types id t e = fitting types t (find os id) e

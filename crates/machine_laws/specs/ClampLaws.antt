@@ -1,0 +1,37 @@
+-- Laws of validation.
+use Rattle.std.specs.Prelude.{◌≡◌, ℕ, ◌^◌, ◌<◌, int_lt, true, false, List, Option, None}
+use Rattle.ui_machine.specs.Kinds.{Kind}
+use Rattle.ui_machine.specs.Kinds as kinds
+use Rattle.ui_machine.specs.Values.{Value}
+use Rattle.ui_machine.specs.Values as values
+use Rattle.ui_machine.specs.Types.{GType}
+use Rattle.ui_machine.specs.Properties.{Spec}
+use Rattle.ui_machine.specs.Transform.{least, greatest, kind_fits}
+use Rattle.ui_machine.specs.Clamp.{clamp, is_valid}
+use Rattle.ui_machine.specs.Sets.{has_kind}
+
+-- what a spec says fits its kind: a range of numbers that the kind has, and a default that is a member
+abbrev pub IsSound : List GType → Spec → Kind → Type 0
+IsSound types s kinds.bool = Unit {0}
+IsSound types s (kinds.whole k) = (int_lt s.high s.low ≡ false) × (int_lt s.low (least k) ≡ false) × (int_lt (greatest k) s.high ≡ false)
+IsSound types s kinds.text = Unit {0}
+IsSound types s (kinds.enum t) = kind_fits (λ id. None) types s.default (kinds.enum t) ≡ true
+IsSound types s (kinds.flags t) = Unit {0}
+IsSound types s (kinds.object t) = Unit {0}
+
+-- flags have 32 bits
+abbrev pub HasFewBits : Value → Type 0
+HasFewBits (values.flags t bits) = bits < 2 ^ 32
+HasFewBits _ = Unit {0}
+
+-- a validated value is valid
+abbrev pub ClampsToValid : Type 0
+ClampsToValid =
+    (class_of : ℕ → Option ℕ) (types : List GType) (s : Spec) (v : Value) → IsSound types s s.kind → has_kind v s.kind ≡ true → HasFewBits v →
+    is_valid class_of types s (clamp class_of types s v) ≡ true
+
+-- and validation leaves it as it is
+abbrev pub ClampsOnce : Type 0
+ClampsOnce =
+    (class_of : ℕ → Option ℕ) (types : List GType) (s : Spec) (v : Value) → IsSound types s s.kind → has_kind v s.kind ≡ true →
+    clamp class_of types s (clamp class_of types s v) ≡ clamp class_of types s v

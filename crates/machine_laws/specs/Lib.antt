@@ -1,0 +1,5 @@
+pub mod TypeLaws
+pub mod ClampLaws
+pub mod QueueLaws
+pub mod PlanLaws
+pub mod StepLaws

@@ -1,0 +1,69 @@
+-- Laws of the plan of an emission.
+use Rattle.std.specs.Prelude.{◌≡◌, ◌⊎◌, ℕ, ◌≤◌, cond, nat_eq, Bool, true, false, List, [], ◌∷◌, ◌++◌, map, Option, None, Some}
+use Rattle.ui_machine.specs.Seq.{total}
+use Rattle.ui_machine.specs.Mentions.{same}
+use Rattle.ui_machine.specs.Definition.{Definition}
+use Rattle.ui_machine.specs.Config.{Handler, Turn, class_handler, handler, World}
+use Rattle.ui_machine.specs.Config as config
+use Rattle.ui_machine.specs.Emissions.{handlers_for, plan, notify_plan}
+
+-- 1 where a turn is the handler's
+abbrev pub is_turn_of : ℕ → Turn → ℕ
+is_turn_of number (class_handler program cleanup) = 0
+is_turn_of number (handler n) = same number n
+is_turn_of number (config.transfer n back) = 0
+
+-- how often a handler has a turn
+abbrev pub turns_of : ℕ → List Turn → ℕ
+turns_of number turns = total (is_turn_of number) turns
+
+-- how often a handler stands
+abbrev pub stands : ℕ → List Handler → ℕ
+stands number hs = total (λ (h : Handler). same number h.number) hs
+
+-- a handler that stands once has one turn at most, and one that does not stand has none
+abbrev pub HandlersRunOnce : Type 0
+HandlersRunOnce =
+    ((w : World) (class : Option ℕ) (flags id signal : ℕ) (detail : Option (List ℕ)) (number : ℕ) →
+        turns_of number (plan w class flags [] id signal detail) ≤ stands number w.handlers)
+    × ((d : Definition) (w : World) (class id slot : ℕ) (name : List ℕ) (number : ℕ) →
+        turns_of number (notify_plan d w class id slot name) ≤ stands number w.handlers)
+
+-- a list that is another with some left out
+abbrev pub IsPart : List ℕ → List ℕ → Type 0
+IsPart xs [] = xs ≡ []
+IsPart [] (y ∷ ys) = Unit {0}
+IsPart (x ∷ xs) (y ∷ ys) = ((x ≡ y) × IsPart xs ys) ⊎ IsPart (x ∷ xs) ys
+
+-- the numbers of the handlers that have turns
+abbrev pub numbers : List Turn → List ℕ
+numbers [] = []
+numbers (class_handler program cleanup ∷ turns) = numbers turns
+numbers (handler n ∷ turns) = n ∷ numbers turns
+numbers (config.transfer n back ∷ turns) = numbers turns
+
+-- the handlers of a stage have their turns in the order of their connection
+abbrev pub InOrder : Type 0
+InOrder =
+    (hs : List Handler) (id signal : ℕ) (detail : Option (List ℕ)) (after : Bool) →
+    IsPart (numbers (handlers_for hs id signal detail after)) (map (λ (h : Handler). h.number) hs)
+
+-- with all stages: the class handler, the transfers, the handlers, the class handler, the handlers that were connected after, and the
+-- class handler in cleanup
+abbrev pub StagesInOrder : Type 0
+StagesInOrder =
+    (w : World) (program : ℕ) (moved : List Turn) (id signal : ℕ) (detail : Option (List ℕ)) →
+    plan w (Some program) 7 moved id signal detail
+    ≡ class_handler program false
+      ∷ (moved
+      ++ (handlers_for w.handlers id signal detail false
+      ++ (class_handler program false
+      ∷ (handlers_for w.handlers id signal detail true
+      ++ class_handler program true ∷ []))))
+
+-- `notify` has its class handler first
+abbrev pub NotifyStages : Type 0
+NotifyStages =
+    (w : World) (program : ℕ) (moved : List Turn) (id : ℕ) (detail : Option (List ℕ)) →
+    plan w (Some program) 17 moved id 0 detail
+    ≡ class_handler program false ∷ (moved ++ (handlers_for w.handlers id 0 detail false ++ (handlers_for w.handlers id 0 detail true ++ [])))

@@ -1,0 +1,42 @@
+//! Small laws of the machine's definitions.
+#![tactic(auto)]
+
+ghost use Rattle.machine_laws.specs.TypeLaws.{IsAReflexive, IsATransitive};
+ghost use Rattle.machine_laws.specs.QueueLaws.{ThawsInReverse, QueuesOnce};
+ghost use Rattle.machine_laws.specs.PlanLaws.{HandlersRunOnce, InOrder, StagesInOrder, NotifyStages};
+ghost use Rattle.machine_laws.specs.ClampLaws.{ClampsToValid, ClampsOnce};
+ghost use Rattle.machine_laws.specs.StepLaws.{HeldAtRest, EndsStay, FittingLives};
+
+/// A queue has each slot once, and a thaw notifies its slots in reverse.
+pub fn queues()
+    ensures reverses { ThawsInReverse }
+    ensures once { QueuesOnce }
+{}
+
+/// Each handler that stands runs once at most in an emission, and those of a stage in the order of their connection. The stages
+/// come in the order of the signal's flags.
+pub fn plans()
+    ensures once { HandlersRunOnce }
+    ensures ordered { InOrder }
+    ensures stages { StagesInOrder }
+    ensures notify { NotifyStages }
+{}
+
+/// What holds an object between dispatches, that a dispatch that has ended goes no further, and that what fits an object kind lives.
+pub fn steps()
+    ensures rest { HeldAtRest }
+    ensures ends { EndsStay }
+    ensures lives { FittingLives }
+{}
+
+/// A validated value is valid, and validation leaves it as it is.
+pub fn validation()
+    ensures valid { ClampsToValid }
+    ensures once { ClampsOnce }
+{}
+
+/// What is what: each type is itself, and what an ancestor is, its descendants are.
+pub fn types()
+    ensures reflexive { IsAReflexive }
+    ensures transitive { IsATransitive }
+{}

@@ -1,0 +1,4 @@
+pub mod WorkedRuns
+pub mod CornerRuns
+pub mod StuckRuns
+pub mod PlayLaw

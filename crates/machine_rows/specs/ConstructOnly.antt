@@ -1,0 +1,59 @@
+-- A construct-only property is set as its object is made.
+use Rattle.std.specs.Prelude.{◌≡◌, ℕ, pos, negsuc, false, List, [], ◌∷◌, codes, None, Ok}
+use Rattle.ui_machine.specs.Kinds as kinds
+use Rattle.ui_machine.specs.Values as values
+use Rattle.ui_machine.specs.Types.{plain_class}
+use Rattle.ui_machine.specs.Definition.{Definition, value}
+use Rattle.ui_machine.specs.Config.{Event, Peer}
+use Rattle.machine_rows.specs.Play.{Reply, shown}
+use Rattle.machine_rows.specs.Words.{class_type, property, notify, class_of, gives, object}
+
+abbrev pub definition : Definition
+definition = record {
+  types =
+    plain_class (codes "GObject") None []
+    ∷ class_type (codes "GInitiallyUnowned") 0 false false []
+    ∷ class_type (codes "Box") 0 false false []
+    ∷ [];
+  classes =
+    class_of [] (notify ∷ []) [] None None
+    ∷ class_of [] (notify ∷ []) [] None None
+    ∷ class_of (property (codes "n") (kinds.whole kinds.int) 11 (values.whole kinds.int (pos 0)) (negsuc 2147483647) (pos 2147483647) false ∷ []) (notify ∷ []) [] None None
+    ∷ [];
+  shapes =
+    [];
+  programs =
+    [];
+  places =
+    object (codes "b") 2 None (gives 0 (value (values.whole kinds.int (pos 7))) ∷ []) [] []
+    ∷ [];
+  bindings =
+    [];
+  most_objects = 64;
+  most_handlers = 0
+}
+
+abbrev pub peers : List Peer
+peers =
+    []
+
+abbrev pub events : List Event
+events =
+    []
+
+abbrev pub replies : List Reply
+replies =
+    []
+
+abbrev pub lines : List (List ℕ)
+lines =
+    (codes "build")
+    ∷ (codes "construct #1 Box")
+    ∷ (codes "set #1.n 7")
+    ∷ (codes "notify #1.n")
+    ∷ (codes "end 1")
+    ∷ []
+
+-- the machine shows these lines
+abbrev pub Holds : Type 0
+Holds = shown definition peers events replies ≡ Ok lines

@@ -1,0 +1,61 @@
+-- An emission with a detail.
+use Rattle.std.specs.Prelude.{◌≡◌, ℕ, pos, false, List, [], ◌∷◌, codes, None, Some, Ok}
+use Rattle.ui_machine.specs.Kinds as kinds
+use Rattle.ui_machine.specs.Values as values
+use Rattle.ui_machine.specs.Types.{plain_class}
+use Rattle.ui_machine.specs.Definition.{Definition, value}
+use Rattle.ui_machine.specs.Config.{Event, Peer}
+use Rattle.ui_machine.specs.Config as config
+use Rattle.machine_rows.specs.Play.{Reply, shown}
+use Rattle.machine_rows.specs.Words.{class_type, signal, notify, class_of, object}
+
+abbrev pub definition : Definition
+definition = record {
+  types =
+    plain_class (codes "GObject") None []
+    ∷ class_type (codes "GInitiallyUnowned") 0 false false []
+    ∷ class_type (codes "Box") 0 false false []
+    ∷ [];
+  classes =
+    class_of [] (notify ∷ []) [] None None
+    ∷ class_of [] (notify ∷ []) [] None None
+    ∷ class_of [] (notify ∷ signal (codes "d") ((kinds.whole kinds.int) ∷ []) None 18 None ∷ []) [] None None
+    ∷ [];
+  shapes =
+    [];
+  programs =
+    [];
+  places =
+    object (codes "b") 2 None [] [] []
+    ∷ [];
+  bindings =
+    [];
+  most_objects = 64;
+  most_handlers = 0
+}
+
+abbrev pub peers : List Peer
+peers =
+    []
+
+abbrev pub events : List Event
+events =
+    config.emit 0 1 ((value (values.whole kinds.int (pos 7))) ∷ []) (Some (codes "x"))
+    ∷ []
+
+abbrev pub replies : List Reply
+replies =
+    []
+
+abbrev pub lines : List (List ℕ)
+lines =
+    (codes "build")
+    ∷ (codes "construct #1 Box")
+    ∷ (codes "end 0")
+    ∷ (codes "emit #1.d::x(7)")
+    ∷ (codes "end 1")
+    ∷ []
+
+-- the machine shows these lines
+abbrev pub Holds : Type 0
+Holds = shown definition peers events replies ≡ Ok lines

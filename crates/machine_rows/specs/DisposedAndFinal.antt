@@ -1,0 +1,82 @@
+-- A disposed object takes values until it is finalised.
+use Rattle.std.specs.Prelude.{◌≡◌, ℕ, pos, false, List, [], ◌∷◌, codes, None, Ok}
+use Rattle.ui_machine.specs.Kinds as kinds
+use Rattle.ui_machine.specs.Values as values
+use Rattle.ui_machine.specs.Types.{plain_class}
+use Rattle.ui_machine.specs.Definition.{Definition, named}
+use Rattle.ui_machine.specs.Definition as words
+use Rattle.ui_machine.specs.Config.{Event, Peer}
+use Rattle.ui_machine.specs.Config as config
+use Rattle.machine_rows.specs.Play.{Reply, shown}
+use Rattle.machine_rows.specs.Words.{class_type, property, signal, notify, class_of, block, program, attached, object}
+
+abbrev pub definition : Definition
+definition = record {
+  types =
+    plain_class (codes "GObject") None []
+    ∷ class_type (codes "GInitiallyUnowned") 0 false false []
+    ∷ class_type (codes "Box") 0 false false []
+    ∷ [];
+  classes =
+    class_of [] (notify ∷ []) [] None None
+    ∷ class_of [] (notify ∷ []) [] None None
+    ∷ class_of (property (codes "to") (kinds.object 2) 3 (values.object None) (pos 0) (pos 0) false ∷ []) (notify ∷ signal (codes "go") [] None 2 None ∷ []) [] None None
+    ∷ [];
+  shapes =
+    [];
+  programs =
+    program (codes "f") ((kinds.some 2) ∷ []) 2 None
+        (block ((kinds.some 2) ∷ kinds.unset ∷ []) 1 (words.dispose 0 ∷ words.return None ∷ [])
+        ∷ [])
+    ∷ [];
+  places =
+    object (codes "a") 2 None [] [] (attached (codes "go") None 0 false false None ∷ [])
+    ∷ object (codes "b") 2 None [] [] []
+    ∷ [];
+  bindings =
+    [];
+  most_objects = 64;
+  most_handlers = 0
+}
+
+abbrev pub peers : List Peer
+peers =
+    []
+
+abbrev pub events : List Event
+events =
+    config.emit 0 1 [] None
+    ∷ config.set 0 0 (named 1)
+    ∷ config.release 1
+    ∷ config.release 0
+    ∷ []
+
+abbrev pub replies : List Reply
+replies =
+    []
+
+abbrev pub lines : List (List ℕ)
+lines =
+    (codes "build")
+    ∷ (codes "construct #1 Box")
+    ∷ (codes "construct #2 Box")
+    ∷ (codes "end 0")
+    ∷ (codes "emit #1.go()")
+    ∷ (codes "run f")
+    ∷ (codes "dispose #1")
+    ∷ (codes "end 3")
+    ∷ (codes "set #1.to #2")
+    ∷ (codes "notify #1.to")
+    ∷ (codes "end 1")
+    ∷ (codes "release b")
+    ∷ (codes "end 0")
+    ∷ (codes "release a")
+    ∷ (codes "final #1")
+    ∷ (codes "dispose #2")
+    ∷ (codes "final #2")
+    ∷ (codes "end 2")
+    ∷ []
+
+-- the machine shows these lines
+abbrev pub Holds : Type 0
+Holds = shown definition peers events replies ≡ Ok lines

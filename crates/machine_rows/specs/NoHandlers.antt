@@ -1,0 +1,69 @@
+-- An emission that nothing handles results in the zero value.
+use Rattle.std.specs.Prelude.{◌≡◌, ℕ, true, false, List, [], ◌∷◌, codes, None, Some, Ok}
+use Rattle.ui_machine.specs.Kinds as kinds
+use Rattle.ui_machine.specs.Values as values
+use Rattle.ui_machine.specs.Types.{plain_class}
+use Rattle.ui_machine.specs.Definition.{Definition}
+use Rattle.ui_machine.specs.Definition as words
+use Rattle.ui_machine.specs.Config.{Event, Peer}
+use Rattle.ui_machine.specs.Config as config
+use Rattle.machine_rows.specs.Play.{Reply, shown}
+use Rattle.machine_rows.specs.Words.{class_type, signal, notify, class_of, block, program, object}
+
+abbrev pub definition : Definition
+definition = record {
+  types =
+    plain_class (codes "GObject") None []
+    ∷ class_type (codes "GInitiallyUnowned") 0 false false []
+    ∷ class_type (codes "Box") 0 false false []
+    ∷ [];
+  classes =
+    class_of [] (notify ∷ []) [] None None
+    ∷ class_of [] (notify ∷ []) [] None None
+    ∷ class_of [] (notify ∷ signal (codes "q") [] (Some kinds.bool) 2 (Some words.true_handled) ∷ []) [] None None
+    ∷ [];
+  shapes =
+    [];
+  programs =
+    program (codes "f") ((kinds.some 2) ∷ []) 2 (Some kinds.bool)
+        (block ((kinds.some 2) ∷ kinds.unset ∷ []) 1 (words.const 1 kinds.bool (values.bool false) ∷ words.return (Some 1) ∷ [])
+        ∷ [])
+    ∷ program (codes "t") ((kinds.some 2) ∷ []) 2 (Some kinds.bool)
+        (block ((kinds.some 2) ∷ kinds.unset ∷ []) 1 (words.const 1 kinds.bool (values.bool true) ∷ words.return (Some 1) ∷ [])
+        ∷ [])
+    ∷ [];
+  places =
+    object (codes "b") 2 None [] [] []
+    ∷ [];
+  bindings =
+    [];
+  most_objects = 64;
+  most_handlers = 0
+}
+
+abbrev pub peers : List Peer
+peers =
+    []
+
+abbrev pub events : List Event
+events =
+    config.emit 0 1 [] None
+    ∷ []
+
+abbrev pub replies : List Reply
+replies =
+    []
+
+abbrev pub lines : List (List ℕ)
+lines =
+    (codes "build")
+    ∷ (codes "construct #1 Box")
+    ∷ (codes "end 0")
+    ∷ (codes "emit #1.q()")
+    ∷ (codes "result FALSE")
+    ∷ (codes "end 1")
+    ∷ []
+
+-- the machine shows these lines
+abbrev pub Holds : Type 0
+Holds = shown definition peers events replies ≡ Ok lines

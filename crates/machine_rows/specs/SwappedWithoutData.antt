@@ -1,0 +1,67 @@
+-- Swapped without data, the instance comes last.
+use Rattle.std.specs.Prelude.{◌≡◌, ℕ, pos, true, false, List, [], ◌∷◌, codes, None, Ok}
+use Rattle.ui_machine.specs.Kinds as kinds
+use Rattle.ui_machine.specs.Values as values
+use Rattle.ui_machine.specs.Types.{plain_class}
+use Rattle.ui_machine.specs.Definition.{Definition, value}
+use Rattle.ui_machine.specs.Definition as words
+use Rattle.ui_machine.specs.Config.{Event, Peer}
+use Rattle.ui_machine.specs.Config as config
+use Rattle.machine_rows.specs.Play.{Reply, shown}
+use Rattle.machine_rows.specs.Words.{class_type, signal, notify, class_of, block, program, attached, object}
+
+abbrev pub definition : Definition
+definition = record {
+  types =
+    plain_class (codes "GObject") None []
+    ∷ class_type (codes "GInitiallyUnowned") 0 false false []
+    ∷ class_type (codes "Box") 0 false false []
+    ∷ [];
+  classes =
+    class_of [] (notify ∷ []) [] None None
+    ∷ class_of [] (notify ∷ []) [] None None
+    ∷ class_of [] (notify ∷ signal (codes "s") ((kinds.whole kinds.int) ∷ []) None 2 None ∷ []) [] None None
+    ∷ [];
+  shapes =
+    [];
+  programs =
+    program (codes "f") ((kinds.plain (kinds.whole kinds.int)) ∷ (kinds.some 2) ∷ []) 2 None
+        (block ((kinds.plain (kinds.whole kinds.int)) ∷ (kinds.some 2) ∷ []) 1 (words.dispose 1 ∷ words.return None ∷ [])
+        ∷ [])
+    ∷ [];
+  places =
+    object (codes "b") 2 None [] [] (attached (codes "s") None 0 false true None ∷ [])
+    ∷ [];
+  bindings =
+    [];
+  most_objects = 64;
+  most_handlers = 0
+}
+
+abbrev pub peers : List Peer
+peers =
+    []
+
+abbrev pub events : List Event
+events =
+    config.emit 0 1 ((value (values.whole kinds.int (pos 4))) ∷ []) None
+    ∷ []
+
+abbrev pub replies : List Reply
+replies =
+    []
+
+abbrev pub lines : List (List ℕ)
+lines =
+    (codes "build")
+    ∷ (codes "construct #1 Box")
+    ∷ (codes "end 0")
+    ∷ (codes "emit #1.s(4)")
+    ∷ (codes "run f")
+    ∷ (codes "dispose #1")
+    ∷ (codes "end 3")
+    ∷ []
+
+-- the machine shows these lines
+abbrev pub Holds : Type 0
+Holds = shown definition peers events replies ≡ Ok lines

@@ -1,0 +1,93 @@
+-- Peers: which one an object gets, and what its calls lead to.
+use Rattle.std.specs.Prelude.{ℕ, Bool, true, false, cond, nat_lt, List, [], ◌∷◌, Option, None, Some, Ok, is_none, slice_get}
+use Rattle.ui_machine.specs.declared.arm.Arm.TheVariants as arms
+use Rattle.ui_machine.specs.Seq.{read, write}
+use Rattle.ui_machine.specs.Names.{place_named}
+use Rattle.ui_machine.specs.Kinds.{Kind}
+use Rattle.ui_machine.specs.Values.{Value}
+use Rattle.ui_machine.specs.Transform.{zero_value, kind_fits}
+use Rattle.ui_machine.specs.Definition.{Definition, Method}
+use Rattle.ui_machine.specs.Lines.{Line}
+use Rattle.ui_machine.specs.Lines as lines
+use Rattle.ui_machine.specs.Config.{Peer, PeerState, Task, World, Config}
+use Rattle.ui_machine.specs.Answers.{Answer, ◌>>=◌, known, only_if}
+use Rattle.ui_machine.specs.Objects.{class_in}
+use Rattle.ui_machine.specs.Programs.{all_fit}
+use Rattle.ui_machine.specs.Turns.{or_zero}
+use Rattle.ui_machine.specs.Results.{Left, received}
+use Rattle.ui_machine.specs.Disposal.{no_peer}
+use Rattle.ui_machine.specs.Worlds.{said}
+
+-- ** who has which
+
+abbrev pub peer_at : World → ℕ → Option Peer
+peer_at w number = slice_get w.peers number
+
+-- the number of a peer in the pool
+abbrev pub peer_number : List Peer → List ℕ → Option ℕ
+peer_number peers name = place_named (λ (p : Peer). p.name) peers name
+
+abbrev pub is_left : Option Peer → Bool
+is_left None = false
+is_left (Some p) = is_none p.holder
+
+abbrev pub if_left : List Peer → Option ℕ → Option ℕ → Option ℕ
+if_left peers None other = other
+if_left peers (Some number) other = cond (is_left (slice_get peers number)) (Some number) other
+
+-- the first of these peers that no object has got
+abbrev pub first_left : List Peer → List (List ℕ) → Option ℕ
+first_left peers [] = None
+first_left peers (name ∷ names) = if_left peers (peer_number peers name) (first_left peers names)
+
+-- ** calls
+
+abbrev pub method_of : Peer → ℕ → Option Method
+method_of p method = slice_get p.state.shape method
+
+abbrev pub method_number : Peer → List ℕ → Option ℕ
+method_number p name = place_named (λ (m : Method). m.name) p.state.shape name
+
+abbrev pub with_peer_state : World → ℕ → Peer → PeerState → World
+with_peer_state w number p state = record w { peers = write p w.peers number (record p { state = state }) }
+
+-- the line of a call, by what the peer answered: a value, or a fault
+abbrev pub call_line : Peer → Method → List Value → Option Value → Line
+call_line p m args None = lines.fault p.name m.name args
+call_line p m args (Some v) = lines.call p.name m.name args v
+
+-- a task that starts from a peer and one of its methods
+unfoldable pub with_method : {X : Type 0} → World → (peer method : ℕ) → (Peer → Method → Answer X) → Answer X
+with_method w peer method f = do
+  p ← known arms.Call (peer_at w peer)
+  m ← known arms.Call (method_of p method)
+  f p m
+
+-- the agenda after an answer has come to the program that waits for it
+unfoldable pub left_with : World → List Task → ℕ → Value → Answer Left
+left_with w rest to v = do
+  agenda ← received rest to (Some v)
+  Ok (record { world = w; agenda = agenda })
+
+-- a peer answered so, and is in that state; after a fault the program is given the zero value
+unfoldable pub called : Definition → World → (peer method : ℕ) → List Value → ℕ → List Task → Option Value → PeerState → Answer Left
+called d w peer method args to rest answer state =
+    with_method w peer method (λ p m. left_with (said d (with_peer_state w peer p state) (call_line p m args answer)) rest to (or_zero d m.result answer))
+
+-- a peer that is closed is not called, and the program is given the zero value
+unfoldable pub uncalled : Definition → World → (peer method : ℕ) → List Value → ℕ → List Task → Answer Left
+uncalled d w peer method args to rest =
+    with_method w peer method (λ p m. left_with (said d w (lines.closed p.name m.name args)) rest to (zero_value d.types m.result))
+
+-- a peer's state; one that is not there is closed
+abbrev pub peer_state : World → ℕ → PeerState
+peer_state w peer = (read no_peer w.peers peer).state
+
+-- whether a peer is asked, who may then answer as he likes
+abbrev pub is_asked : World → ℕ → Bool
+is_asked w peer = (peer_state w peer).is_open
+
+-- a call of which no answer is known: what is stuck does not depend on it, so a fault stands for each answer
+abbrev pub calling_on : Definition → World → (peer method : ℕ) → List Value → ℕ → List Task → Answer Left
+calling_on d w peer method args to rest =
+    cond (is_asked w peer) (called d w peer method args to rest None (peer_state w peer)) (uncalled d w peer method args to rest)

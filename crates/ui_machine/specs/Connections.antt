@@ -1,0 +1,71 @@
+-- Handlers: connected, disconnected, blocked (GObject manual, signals: g_signal_connect_data, g_signal_handler_block).
+use Rattle.std.specs.Prelude.{ℕ, suc, ◌-◌, ◌+◌, Bool, true, false, cond, not, ◌&&◌, ◌||◌, nat_eq, nat_lt, min, List, [], ◌∷◌, ◌++◌, length, map, codes, Option, None, Some, Ok, option_map}
+use Rattle.std.specs.List.{filter}
+use Rattle.ui_machine.specs.declared.arm.Arm.TheVariants as arms
+use Rattle.ui_machine.specs.Names.{canonical, place_named}
+use Rattle.ui_machine.specs.Definition.{Definition, Signal}
+use Rattle.ui_machine.specs.Lookups.{class_of}
+use Rattle.ui_machine.specs.Lines as lines
+use Rattle.ui_machine.specs.Config.{Objects, Handler, World}
+use Rattle.ui_machine.specs.Objects.{find}
+use Rattle.ui_machine.specs.Sets.{is_disposed}
+use Rattle.ui_machine.specs.Worlds.{said}
+
+-- the number of the signal that a name names, in either spelling
+abbrev pub signal_number : Definition → ℕ → List ℕ → Option ℕ
+signal_number d class name = place_named (λ (s : Signal). s.name) (class_of d class).signals (canonical name)
+
+-- a detail of `notify` is a property's name, and stands in its canonical spelling; another is kept as it is written
+abbrev pub detail_for : ℕ → Option (List ℕ) → Option (List ℕ)
+detail_for signal detail = cond (nat_eq signal 0) (option_map canonical detail) detail
+
+abbrev pub most_handlers : ℕ
+most_handlers = 18446744073709551615
+
+abbrev pub is_disposed_data : Objects → Option ℕ → Bool
+is_disposed_data os None = false
+is_disposed_data os (Some id) = is_disposed (find os id)
+
+-- whether a connection would be to, or with data of, a disposed object
+abbrev pub is_too_late : Objects → ℕ → Option ℕ → Bool
+is_too_late os id arg = is_disposed (find os id) || is_disposed_data os arg
+
+-- the world with one more handler, under the next number
+abbrev pub with_handler : World → Handler → World
+with_handler w h = record w { handlers = w.handlers ++ h ∷ []; last_handler = suc w.last_handler }
+
+-- the handlers that bytecode connected to a signal of an object
+abbrev pub by_code_to : ℕ → ℕ → Handler → Bool
+by_code_to id signal h = h.by_code && (nat_eq h.object id && nat_eq h.signal signal)
+
+-- whether one more may be connected, where so many are still to be connected by the builder
+abbrev pub has_room_for_handler : Definition → World → ℕ → ℕ → ℕ → Bool
+has_room_for_handler d w to_come id signal =
+    nat_lt (length (filter (by_code_to id signal) w.handlers)) d.most_handlers && nat_lt (w.last_handler + to_come) most_handlers
+
+-- a connection by bytecode: on a disposed object none, past the limit none with its line
+abbrev pub connected : Definition → World → ℕ → Handler → World × Bool
+connected d w to_come h =
+    cond (is_too_late w.objects h.object h.arg) (w, false)
+    (cond (has_room_for_handler d w to_come h.object h.signal) (with_handler w h, true) (said d w (lines.limit (codes "connect")), false))
+
+-- ** all handlers of a program on an object
+
+abbrev pub is_on : ℕ → ℕ → Handler → Bool
+is_on id program h = nat_eq h.object id && nat_eq h.program program
+
+abbrev pub disconnected : World → ℕ → ℕ → World
+disconnected w id program = record w { handlers = filter (λ h. not (is_on id program h)) w.handlers }
+
+abbrev pub most_blocks : ℕ
+most_blocks = 18446744073709551615
+
+abbrev pub blocked : Handler → Handler
+blocked h = record h { blocks = min (suc h.blocks) most_blocks }
+
+-- a handler that is not blocked stays as it is
+abbrev pub unblocked : Handler → Handler
+unblocked h = record h { blocks = h.blocks - 1 }
+
+abbrev pub with_handlers_on : (Handler → Handler) → World → ℕ → ℕ → World
+with_handlers_on change w id program = record w { handlers = map (λ h. cond (is_on id program h) (change h) h) w.handlers }

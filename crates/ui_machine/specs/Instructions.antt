@@ -1,0 +1,474 @@
+-- What each instruction does. The frame has already gone past it.
+use Rattle.std.specs.Prelude.{ℕ, zero, suc, ◌+◌, ℤ, ◌+ℤ◌, ◌-ℤ◌, ◌*ℤ◌, int_lt, int_le, Bool, true, false, cond, not, ◌&&◌, ◌||◌, nat_eq, nat_lt, List, [], ◌∷◌, ◌++◌, length, codes, Option, None, Some, Ok, Err, is_some, slice_get}
+use Rattle.std.specs.Ordering.{int_eq}
+use Rattle.ui_machine.specs.declared.arm.Arm.TheVariants as arms
+use Rattle.ui_machine.specs.Names.{canonical}
+use Rattle.ui_machine.specs.Kinds.{Whole, Kind}
+use Rattle.ui_machine.specs.Kinds as kinds
+use Rattle.ui_machine.specs.Values.{Value}
+use Rattle.ui_machine.specs.Values as values
+use Rattle.ui_machine.specs.Transform.{same_whole, same_value, wrapped, transformed, is_transformable, zero_value, kind_fits}
+use Rattle.ui_machine.specs.Properties.{Spec, is_readable, is_writable, is_construct_only}
+use Rattle.ui_machine.specs.Definition.{Definition, Program, Block, Place, Arithmetic, add, sub, mul, Comparison, eq, lt, le, Instruction}
+use Rattle.ui_machine.specs.Definition as words
+use Rattle.ui_machine.specs.Lookups.{spec_of, slot_of, class_of, type_of, program_at, program_of, place_at, place_of}
+use Rattle.ui_machine.specs.Lines as lines
+use Rattle.ui_machine.specs.Sources as sources
+use Rattle.ui_machine.specs.Config.{Object, Emission, Peer, Handler, Held, Setting, Beginning, Thawing, Calling, Task, World}
+use Rattle.ui_machine.specs.Answers.{Answer, ◌>>=◌, known, only_if}
+use Rattle.ui_machine.specs.Objects.{find, live, object_at, asked, changed, value_at, class_in, frozen_more, frozen_less, most_identities}
+use Rattle.ui_machine.specs.Emissions.{or_else, up, most_depth}
+use Rattle.ui_machine.specs.Bindings.{bindings_without}
+use Rattle.ui_machine.specs.Sets.{has_kind, spec_at, raising, is_disposed}
+use Rattle.ui_machine.specs.Registers.{Frame, rest_of, value_in, values_in, truth_in, text_in, whole_in, operand_in, data_in, with_register, goes_on, written_to, gives, tells}
+use Rattle.ui_machine.specs.Programs.{passes_of, all_fit}
+use Rattle.ui_machine.specs.Turns.{or_zero}
+use Rattle.ui_machine.specs.Families.{adopted, orphaned}
+use Rattle.ui_machine.specs.Connections.{signal_number, detail_for, connected, disconnected, blocked, unblocked, with_handlers_on}
+use Rattle.ui_machine.specs.Calls.{peer_at, first_left, method_of, method_number}
+use Rattle.ui_machine.specs.Builds.{object_held, making, to_make, to_connect}
+use Rattle.ui_machine.specs.Disposal.{disposed}
+use Rattle.ui_machine.specs.Worlds.{Started, starts, said, with_objects, held_at, sunk}
+
+-- ** registers
+
+-- `const d k v`
+abbrev pub constant : World → Frame → ℕ → Value → Answer Started
+constant w f to v = gives w to v f
+
+-- `move d s`
+unfoldable pub moving : World → Frame → (to from : ℕ) → Answer Started
+moving w f to from = do
+  v ← value_in f from
+  gives w to v f
+
+-- `clear d`
+abbrev pub clearing : World → Frame → ℕ → Answer Started
+clearing w f to = written_to w to None f
+
+-- ** arithmetic and logic
+
+abbrev pub reckoned : Arithmetic → ℤ → ℤ → ℤ
+reckoned add m n = m +ℤ n
+reckoned sub m n = m -ℤ n
+reckoned mul m n = m *ℤ n
+
+abbrev pub holds : Comparison → ℤ → ℤ → Bool
+holds eq m n = int_eq m n
+holds lt m n = int_lt m n
+holds le m n = int_le m n
+
+-- two numbers of one kind
+abbrev pub of_one_kind : {X : Type 0} → Whole × ℤ → Whole × ℤ → (Whole → ℤ → ℤ → Answer X) → Answer X
+of_one_kind m n f = only_if (same_whole m.0 n.0) arms.Register (f m.0 m.1 n.1)
+
+-- `add`, `sub`, `mul d a b`: wrapping
+unfoldable pub reckoning : World → Frame → Arithmetic → (to a b : ℕ) → Answer Started
+reckoning w f operation to a b = do
+  m ← whole_in f a
+  n ← whole_in f b
+  of_one_kind m n (λ kind x y. gives w to (values.whole kind (wrapped kind (reckoned operation x y))) f)
+
+-- `cmp d op a b`
+unfoldable pub comparing : World → Frame → Comparison → (to a b : ℕ) → Answer Started
+comparing w f comparison to a b = do
+  m ← whole_in f a
+  n ← whole_in f b
+  of_one_kind m n (λ kind x y. gives w to (values.bool (holds comparison x y)) f)
+
+-- the kind of a value; that of objects has no class here
+abbrev pub kind_of : Value → Kind
+kind_of (values.bool b) = kinds.bool
+kind_of (values.whole kind n) = kinds.whole kind
+kind_of (values.text s) = kinds.text
+kind_of (values.enum type n) = kinds.enum type
+kind_of (values.flags type bits) = kinds.flags type
+kind_of (values.object o) = kinds.object 0
+
+-- `same d a b`
+unfoldable pub sameness : World → Frame → (to a b : ℕ) → Answer Started
+sameness w f to a b = do
+  u ← value_in f a
+  v ← value_in f b
+  only_if (has_kind v (kind_of u)) arms.Register (gives w to (values.bool (same_value u v)) f)
+
+-- `not d a`
+unfoldable pub negating : World → Frame → (to a : ℕ) → Answer Started
+negating w f to a = do
+  p ← truth_in f a
+  gives w to (values.bool (not p)) f
+
+-- `and d a b`
+unfoldable pub conjunction : World → Frame → (to a b : ℕ) → Answer Started
+conjunction w f to a b = do
+  p ← truth_in f a
+  q ← truth_in f b
+  gives w to (values.bool (p && q)) f
+
+-- `or d a b`
+unfoldable pub disjunction : World → Frame → (to a b : ℕ) → Answer Started
+disjunction w f to a b = do
+  p ← truth_in f a
+  q ← truth_in f b
+  gives w to (values.bool (p || q)) f
+
+-- ** texts and conversions
+
+abbrev pub most_bytes : ℕ
+most_bytes = 4096
+
+abbrev pub bytes_of : Option (List ℕ) → List ℕ
+bytes_of None = []
+bytes_of (Some s) = s
+
+-- a text that is not too long
+abbrev pub within_bytes : Definition → World → List ℕ → World × Value
+within_bytes d w s =
+    cond (nat_lt most_bytes (length s)) (said d w (lines.limit (codes "join")), values.text None) (w, values.text (Some s))
+
+abbrev pub gives_from : World × Value → ℕ → Frame → Answer Started
+gives_from made to f = gives made.0 to made.1 f
+
+-- `join d a b`: null is empty
+unfoldable pub joining : Definition → World → Frame → (to a b : ℕ) → Answer Started
+joining d w f to a b = do
+  s ← text_in f a
+  t ← text_in f b
+  gives_from (within_bytes d w (bytes_of s ++ bytes_of t)) to f
+
+abbrev pub is_object_kind : Kind → Bool
+is_object_kind (kinds.object type) = true
+is_object_kind _ = false
+
+-- whether `convert` has something to do
+abbrev pub is_convertible : Definition → Kind → Kind → Bool
+is_convertible d from to = not (is_object_kind from) && (not (is_object_kind to) && is_transformable d.types from to)
+
+-- `convert d a k`: a failure gives the zero value
+unfoldable pub converting : Definition → World → Frame → (to a : ℕ) → Kind → Answer Started
+converting d w f to a kind = do
+  v ← value_in f a
+  only_if (is_convertible d (kind_of v) kind) arms.Register (gives w to (or_zero d kind (transformed d.types (kind_of v) kind v)) f)
+
+-- ** properties
+
+-- the slot of an object's property by name
+unfoldable pub slot_at : Definition → World → ℕ → List ℕ → Answer ℕ
+slot_at d w id name = do
+  o ← object_at w.objects id
+  known arms.Code (slot_of d o.class name)
+
+-- `get d o p`
+unfoldable pub getting : Definition → World → Frame → (to object : ℕ) → List ℕ → Answer Started
+getting d w f to object name = do
+  id ← operand_in w f object
+  slot ← slot_at d w id name
+  s ← spec_at d w.objects id slot
+  v ← asked w.objects id (value_at slot)
+  only_if (is_readable s) arms.Flags (gives w to v f)
+
+-- what a program may not set
+abbrev pub if_settable : {X : Type 0} → Spec → Answer X → Answer X
+if_settable s answer = only_if (is_writable s) arms.Flags (only_if (not (is_construct_only s)) arms.ConstructOnly answer)
+
+unfoldable pub set_from : World → Frame → (id slot from : ℕ) → Answer Started
+set_from w f id slot from = do
+  v ← value_in f from
+  goes_on w (Setting id slot v ∷ []) f
+
+-- `set o p s`
+unfoldable pub assigning : Definition → World → Frame → ℕ → List ℕ → ℕ → Answer Started
+assigning d w f object name from = do
+  id ← operand_in w f object
+  slot ← slot_at d w id name
+  s ← spec_at d w.objects id slot
+  if_settable s (set_from w f id slot from)
+
+-- what a step starts, and then the rest of the program
+unfoldable pub then_goes_on : Frame → Answer Started → Answer Started
+then_goes_on f answer = do
+  s ← answer
+  goes_on s.world s.tasks f
+
+-- `notify o p`: nothing where it is not readable
+unfoldable pub telling : Definition → World → Frame → ℕ → List ℕ → Answer Started
+telling d w f object name = do
+  id ← operand_in w f object
+  slot ← slot_at d w id name
+  s ← spec_at d w.objects id slot
+  cond (is_readable s) (then_goes_on f (raising w id slot)) (goes_on w [] f)
+
+-- ** objects
+
+abbrev pub or_null : Option Value → Value
+or_null None = values.object None
+or_null (Some v) = v
+
+-- `object d id`: what the builder holds under the id
+unfoldable pub naming : Definition → World → Frame → ℕ → List ℕ → Answer Started
+naming d w f to id = do
+  place ← known arms.Code (place_of d id)
+  gives w to (or_null (object_held (held_at w place))) f
+
+-- the shape of a class: the nearest one up the tree, at most so many classes up
+abbrev pub nearest_shape : ℕ → Definition → ℕ → Option ℕ
+nearest_shape zero d class = None
+nearest_shape (suc n) d class = or_else (class_of d class).shape (up (nearest_shape n d) (type_of d class).parent)
+
+abbrev pub has_shape : Definition → ℕ → Bool
+has_shape d class = is_some (nearest_shape most_depth d class)
+
+-- the peer that is left for a prototype
+abbrev pub peer_left : World → Place → Option ℕ
+peer_left w p = first_left w.peers p.peers
+
+-- Whether one more object may be made, where the builder has still so many to make: they count in number and in identities. A class with a
+-- shape also wants a peer.
+abbrev pub has_room_for_object : Definition → World → ℕ → Place → Bool
+has_room_for_object d w to_come p =
+    nat_lt (live w.objects + to_come) d.most_objects
+    && (nat_lt (length w.objects + to_come) most_identities
+    && (not (has_shape d p.class) || is_some (peer_left w p)))
+
+abbrev pub peer_to_take : Definition → World → Place → Option ℕ
+peer_to_take d w p = cond (has_shape d p.class) (peer_left w p) None
+
+-- the object is made, and in one step its register written; the rest of its construction comes first
+unfoldable pub made_new : Definition → World → Frame → ℕ → ℕ → Place → Answer Started
+made_new d w f to place p = do
+  made ← making d w place (peer_to_take d w p) false
+  registers ← with_register to (Some (values.object (Some (suc (length w.objects))))) f.registers
+  goes_on made.world made.tasks (record f { registers = registers })
+
+-- `new d c`
+unfoldable pub creating : Definition → World → List Task → Frame → ℕ → List ℕ → Answer Started
+creating d w rest f to id = do
+  place ← known arms.Code (place_of d id)
+  p ← known arms.Code (place_at d place)
+  cond (has_room_for_object d w (to_make rest) p) (made_new d w f to place p) (gives (said d w (lines.limit (codes "new"))) to (values.object None) f)
+
+-- `sink o`
+unfoldable pub sinking : World → Frame → ℕ → Answer Started
+sinking w f object = do
+  id ← operand_in w f object
+  goes_on (sunk w id) [] f
+
+-- `orphan o`
+unfoldable pub orphaning : Definition → World → Frame → ℕ → Answer Started
+orphaning d w f object = do
+  id ← operand_in w f object
+  o ← object_at w.objects id
+  goes_on (orphaned d w id o.parent) [] f
+
+-- `dispose o`: once
+unfoldable pub disposing : Definition → World → Frame → ℕ → Answer Started
+disposing d w f object = do
+  id ← operand_in w f object
+  goes_on (cond (is_disposed (find w.objects id)) w (disposed d w id)) [] f
+
+-- `adopt d o o`
+unfoldable pub adopting : Definition → World → Frame → (to parent child : ℕ) → Answer Started
+adopting d w f to parent child = do
+  p ← operand_in w f parent
+  c ← operand_in w f child
+  family ← adopted d w p c
+  tells family to f
+
+-- `freeze o`
+unfoldable pub freezing : World → Frame → ℕ → Answer Started
+freezing w f object = do
+  id ← operand_in w f object
+  frozen ← changed w.objects id frozen_more
+  goes_on (with_objects w frozen.0) [] f
+
+-- `thaw o`
+unfoldable pub unfreezing : World → Frame → ℕ → Answer Started
+unfreezing w f object = do
+  id ← operand_in w f object
+  thaw ← changed w.objects id frozen_less
+  goes_on (with_objects w thaw.0) (Thawing id thaw.1 ∷ []) f
+
+-- ** signals
+
+-- the number of an object's signal by name
+unfoldable pub signal_in : Definition → World → ℕ → List ℕ → Answer ℕ
+signal_in d w id name = do
+  o ← object_at w.objects id
+  known arms.Code (signal_number d o.class name)
+
+abbrev pub new_emission : ℕ → ℕ → Option (List ℕ) → List Value → Bool → Emission
+new_emission id signal detail args by_event =
+    record { object = id; signal = signal; detail = detail; args = args; by_event = by_event; value = None; cleanup = false }
+
+-- the signal that a program emits, which is not `notify`
+unfoldable pub signal_to_emit : Definition → World → ℕ → List ℕ → Answer ℕ
+signal_to_emit d w id name = do
+  signal ← signal_in d w id name
+  only_if (nat_lt 0 signal) arms.Code (Ok signal)
+
+-- `emit z o s D [a..]`: the program waits for the result, if it takes it
+unfoldable pub emitting : Definition → World → Frame → Option ℕ → ℕ → List ℕ → Option (List ℕ) → List ℕ → Answer Started
+emitting d w f into object name detail args = do
+  id ← operand_in w f object
+  signal ← signal_to_emit d w id name
+  given ← values_in f args
+  goes_on w (Beginning (new_emission id signal detail given false) ∷ []) (record f { into = into })
+
+-- a handler that bytecode connects
+abbrev pub handler_by_code : World → (id signal : ℕ) → Option (List ℕ) → ℕ → (after swapped : Bool) → Option ℕ → Handler
+handler_by_code w id signal detail program after swapped arg = record {
+  number = suc w.last_handler; object = id; signal = signal; detail = detail_for signal detail; program = program;
+  after = after; swapped = swapped; arg = arg; blocks = 0; by_code = true
+}
+
+-- `connect d o s D p [options] z`
+unfoldable pub connecting : Definition → World → List Task → Frame → (to object : ℕ) → List ℕ → Option (List ℕ) → List ℕ → (after swapped : Bool) → Option ℕ → Answer Started
+connecting d w rest f to object name detail program after swapped with = do
+  id ← operand_in w f object
+  signal ← signal_in d w id name
+  number ← known arms.Code (program_of d program)
+  arg ← data_in w f with
+  tells (connected d w (to_connect rest) (handler_by_code w id signal detail number after swapped arg)) to f
+
+-- a change of an object's handlers of a program
+unfoldable pub on_handlers : Definition → World → Frame → ℕ → List ℕ → (World → ℕ → ℕ → World) → Answer Started
+on_handlers d w f object program change = do
+  id ← operand_in w f object
+  number ← known arms.Code (program_of d program)
+  goes_on (change w id number) [] f
+
+-- `disconnect o p`
+abbrev pub disconnecting : Definition → World → Frame → ℕ → List ℕ → Answer Started
+disconnecting d w f object program = on_handlers d w f object program disconnected
+
+-- `block o p`
+abbrev pub blocking : Definition → World → Frame → ℕ → List ℕ → Answer Started
+blocking d w f object program = on_handlers d w f object program (with_handlers_on blocked)
+
+-- `unblock o p`
+abbrev pub unblocking : Definition → World → Frame → ℕ → List ℕ → Answer Started
+unblocking d w f object program = on_handlers d w f object program (with_handlers_on unblocked)
+
+-- `unbind name`
+abbrev pub unbinding : World → Frame → List ℕ → Answer Started
+unbinding w f name = goes_on (record w { bindings = bindings_without name w.bindings }) [] f
+
+-- ** sources
+
+abbrev pub with_source : World → ℕ → ℤ → Option ℕ → Option ℕ → World
+with_source w program priority interval arg = record w {
+  sources = sources.attached w.sources (sources.new_source w.last_source w.moment program priority interval arg);
+  last_source = suc w.last_source
+}
+
+-- a source is attached, or past the limit its line said
+abbrev pub attached_to : Definition → World → List ℕ → ℕ → ℤ → Option ℕ → Option ℕ → World × Bool
+attached_to d w word program priority interval arg =
+    cond (sources.has_room w.sources w.last_source) (with_source w program priority interval arg, true) (said d w (lines.limit word), false)
+
+unfoldable pub attaching : Definition → World → Frame → List ℕ → ℕ → List ℕ → ℤ → Option ℕ → Option ℕ → Answer Started
+attaching d w f word to program priority interval with = do
+  number ← known arms.Code (program_of d program)
+  arg ← data_in w f with
+  tells (attached_to d w word number priority interval arg) to f
+
+-- `idle d p n z`
+abbrev pub idling : Definition → World → Frame → ℕ → List ℕ → ℤ → Option ℕ → Answer Started
+idling d w f to program priority with = attaching d w f (codes "idle") to program priority None with
+
+-- `timeout d p n i z`
+abbrev pub timing : Definition → World → Frame → ℕ → List ℕ → ℤ → ℕ → Option ℕ → Answer Started
+timing d w f to program priority interval with = attaching d w f (codes "timeout") to program priority (Some interval) with
+
+-- `remove p`
+unfoldable pub removing : Definition → World → Frame → List ℕ → Answer Started
+removing d w f program = do
+  number ← known arms.Code (program_of d program)
+  goes_on (record w { sources = sources.without_program number w.sources }) [] f
+
+-- ** peers
+
+-- `call d o m [a..]`: the peer of the object is to answer
+unfoldable pub calling : Definition → World → Frame → (to object : ℕ) → List ℕ → List ℕ → Answer Started
+calling d w f to object name args = do
+  id ← operand_in w f object
+  o ← object_at w.objects id
+  peer ← known arms.Call o.peer
+  p ← known arms.Call (peer_at w peer)
+  number ← known arms.Call (method_number p name)
+  m ← known arms.Call (method_of p number)
+  given ← values_in f args
+  only_if (all_fit (kind_fits (class_in w.objects) d.types) given m.params) arms.Call
+      (only_if (nat_lt to (length f.registers)) arms.Code (goes_on w (Calling id peer number given to ∷ []) f))
+
+-- ** jumps
+
+-- the program goes on at the first instruction of a block
+unfoldable pub jumping : Definition → World → Frame → ℕ → Answer Started
+jumping d w f to = do
+  p ← known arms.Code (program_at d f.program)
+  b ← known arms.Code (slice_get p.blocks to)
+  goes_on w [] (record f { block = to; at = 0; passes = b.passes })
+
+-- `if a b b`
+unfoldable pub branching : Definition → World → Frame → (on then_to else_to : ℕ) → Answer Started
+branching d w f on then_to else_to = do
+  p ← truth_in f on
+  jumping d w f (cond p then_to else_to)
+
+-- whether a text or object is null
+abbrev pub null_of : Value → Answer Bool
+null_of (values.text None) = Ok true
+null_of (values.text (Some s)) = Ok false
+null_of (values.object None) = Ok true
+null_of (values.object (Some i)) = Ok false
+null_of _ = Err arms.Register
+
+-- `ifnull a b b`
+unfoldable pub branching_null : Definition → World → Frame → (on then_to else_to : ℕ) → Answer Started
+branching_null d w f on then_to else_to = do
+  v ← value_in f on
+  p ← null_of v
+  jumping d w f (cond p then_to else_to)
+
+-- ** all of them
+
+-- what an instruction does that neither stops nor returns; the rest of the agenda tells what the builder has still to do
+abbrev pub instruction : Definition → World → List Task → Frame → Instruction → Answer Started
+instruction d w rest f (words.const to kind v) = constant w f to v
+instruction d w rest f (words.move to from) = moving w f to from
+instruction d w rest f (words.clear to) = clearing w f to
+instruction d w rest f (words.arithmetic operation to a b) = reckoning w f operation to a b
+instruction d w rest f (words.compare comparison to a b) = comparing w f comparison to a b
+instruction d w rest f (words.same to a b) = sameness w f to a b
+instruction d w rest f (words.negate to a) = negating w f to a
+instruction d w rest f (words.both to a b) = conjunction w f to a b
+instruction d w rest f (words.either to a b) = disjunction w f to a b
+instruction d w rest f (words.join to a b) = joining d w f to a b
+instruction d w rest f (words.convert to a kind) = converting d w f to a kind
+instruction d w rest f (words.get to object name) = getting d w f to object name
+instruction d w rest f (words.set object name from) = assigning d w f object name from
+instruction d w rest f (words.object to id) = naming d w f to id
+instruction d w rest f (words.new to id) = creating d w rest f to id
+instruction d w rest f (words.sink object) = sinking w f object
+instruction d w rest f (words.orphan object) = orphaning d w f object
+instruction d w rest f (words.dispose object) = disposing d w f object
+instruction d w rest f (words.adopt to parent child) = adopting d w f to parent child
+instruction d w rest f (words.freeze object) = freezing w f object
+instruction d w rest f (words.thaw object) = unfreezing w f object
+instruction d w rest f (words.emit into object name detail args) = emitting d w f into object name detail args
+instruction d w rest f (words.notify object name) = telling d w f object name
+instruction d w rest f (words.connect to object name detail program after swapped with) = connecting d w rest f to object name detail program after swapped with
+instruction d w rest f (words.disconnect object program) = disconnecting d w f object program
+instruction d w rest f (words.block object program) = blocking d w f object program
+instruction d w rest f (words.unblock object program) = unblocking d w f object program
+instruction d w rest f words.stop = goes_on w [] f
+instruction d w rest f (words.unbind name) = unbinding w f name
+instruction d w rest f (words.idle to program priority with) = idling d w f to program priority with
+instruction d w rest f (words.timeout to program priority interval with) = timing d w f to program priority interval with
+instruction d w rest f (words.remove program) = removing d w f program
+instruction d w rest f (words.call to object name args) = calling d w f to object name args
+instruction d w rest f (words.jump to) = jumping d w f to
+instruction d w rest f (words.branch on then_to else_to) = branching d w f on then_to else_to
+instruction d w rest f (words.branch_null on then_to else_to) = branching_null d w f on then_to else_to
+instruction d w rest f (words.return from) = starts w []

@@ -1,0 +1,110 @@
+-- The registers of a program that runs, and what its instructions read in them.
+use Rattle.std.specs.Prelude.{ℕ, zero, suc, ℤ, Bool, List, [], ◌∷◌, ◌++◌, nat_lt, length, Option, None, Some, Ok, Err, is_some}
+use Rattle.ui_machine.specs.declared.arm.Arm.TheVariants as arms
+use Rattle.ui_machine.specs.Seq.{read, write}
+use Rattle.ui_machine.specs.Kinds.{Whole}
+use Rattle.ui_machine.specs.Values.{Value}
+use Rattle.ui_machine.specs.Values as values
+use Rattle.ui_machine.specs.Config.{Registers, Task, Running, World}
+use Rattle.ui_machine.specs.Answers.{Answer, ◌>>=◌, known, only_if}
+use Rattle.ui_machine.specs.Objects.{find}
+use Rattle.ui_machine.specs.Worlds.{Started, starts}
+
+-- a program that runs: the instruction that it has come to, the passes that are left of its block, the register that waits for an
+-- emission's result, and its registers
+pub record Frame : Type 0 where
+  pub program : ℕ
+  pub block : ℕ
+  pub at : ℕ
+  pub passes : ℕ
+  pub into : Option ℕ
+  pub registers : Registers
+
+-- the rest of a program as a task
+abbrev pub rest_of : Frame → Task
+rest_of f = Running f.program f.block f.at f.passes f.into f.registers
+
+-- ** reading
+
+-- the value of a register that is set
+abbrev pub value_in : Frame → ℕ → Answer Value
+value_in f from = known arms.Register (read None f.registers from)
+
+unfoldable pub values_in : Frame → List ℕ → Answer (List Value)
+values_in f [] = Ok []
+values_in f (from ∷ more) = do
+  v ← value_in f from
+  vs ← values_in f more
+  Ok (v ∷ vs)
+
+abbrev pub truth_of : Value → Answer Bool
+truth_of (values.bool b) = Ok b
+truth_of _ = Err arms.Register
+
+abbrev pub text_of : Value → Answer (Option (List ℕ))
+text_of (values.text s) = Ok s
+text_of _ = Err arms.Register
+
+abbrev pub whole_of : Value → Answer (Whole × ℤ)
+whole_of (values.whole kind n) = Ok (kind, n)
+whole_of _ = Err arms.Register
+
+-- the identity that a value names; null names none
+abbrev pub identity_of : Value → Answer ℕ
+identity_of (values.object (Some i)) = Ok i
+identity_of (values.object None) = Err arms.Operand
+identity_of _ = Err arms.Register
+
+unfoldable pub truth_in : Frame → ℕ → Answer Bool
+truth_in f from = do
+  v ← value_in f from
+  truth_of v
+
+unfoldable pub text_in : Frame → ℕ → Answer (Option (List ℕ))
+text_in f from = do
+  v ← value_in f from
+  text_of v
+
+unfoldable pub whole_in : Frame → ℕ → Answer (Whole × ℤ)
+whole_in f from = do
+  v ← value_in f from
+  whole_of v
+
+-- the living object that a register names
+unfoldable pub operand_in : World → Frame → ℕ → Answer ℕ
+operand_in w f from = do
+  v ← value_in f from
+  i ← identity_of v
+  only_if (is_some (find w.objects i)) arms.Operand (Ok i)
+
+-- the same of an operand that may be left out
+unfoldable pub data_in : World → Frame → Option ℕ → Answer (Option ℕ)
+data_in w f None = Ok None
+data_in w f (Some from) = do
+  i ← operand_in w f from
+  Ok (Some i)
+
+-- ** writing
+
+-- the registers with one written, or unset
+abbrev pub with_register : ℕ → Option Value → Registers → Answer Registers
+with_register to v registers = only_if (nat_lt to (length registers)) arms.Code (Ok (write None registers to v))
+
+-- ** what an instruction answers
+
+-- what it starts goes in front of the rest of the program
+abbrev pub goes_on : World → List Task → Frame → Answer Started
+goes_on w tasks f = starts w (tasks ++ rest_of f ∷ [])
+
+-- a register is written
+unfoldable pub written_to : World → ℕ → Option Value → Frame → Answer Started
+written_to w to v f = do
+  registers ← with_register to v f.registers
+  goes_on w [] (record f { registers = registers })
+
+abbrev pub gives : World → ℕ → Value → Frame → Answer Started
+gives w to v f = written_to w to (Some v) f
+
+-- one of two worlds, with what was done as TRUE or FALSE
+abbrev pub tells : World × Bool → ℕ → Frame → Answer Started
+tells done to f = gives done.0 to (values.bool done.1) f

@@ -1,0 +1,68 @@
+-- What a binding does as an end of it is notified (GObject manual, GBinding).
+use Rattle.std.specs.Prelude.{ℕ, Bool, true, false, cond, not, nat_eq, List, [], ◌∷◌, Option, None, Some, Ok}
+use Rattle.std.specs.List.{find}
+use Rattle.ui_machine.specs.declared.arm.Arm.TheVariants as arms
+use Rattle.ui_machine.specs.Values.{Value}
+use Rattle.ui_machine.specs.Values as values
+use Rattle.ui_machine.specs.Transform.{transformed}
+use Rattle.ui_machine.specs.Properties.{has_flags, is_readable, is_writable, is_construct_only}
+use Rattle.ui_machine.specs.Definition.{Definition}
+use Rattle.ui_machine.specs.Config.{Binding, Task, Setting, Transferring, Unsetting, World}
+use Rattle.ui_machine.specs.Answers.{Answer, ◌>>=◌, known, only_if}
+use Rattle.ui_machine.specs.Objects.{asked, value_at}
+use Rattle.ui_machine.specs.Bindings.{with_setting}
+use Rattle.ui_machine.specs.Sets.{spec_at}
+use Rattle.ui_machine.specs.Worlds.{Started, starts}
+
+abbrev pub binding_of : ℕ → List Binding → Option Binding
+binding_of number bindings = find (λ b. nat_eq b.number number) bindings
+
+-- a transfer that is due in an emission: none where the binding has ended, or sets
+abbrev pub transfer_for : Option Binding → ℕ → Bool → List Task
+transfer_for None number back = []
+transfer_for (Some b) number back = cond b.setting [] (Transferring number back ∷ [])
+
+-- ** what is set
+
+-- the opposite, of a truth value alone
+abbrev pub opposite : Value → Option Value
+opposite (values.bool b) = Some (values.bool (not b))
+opposite _ = None
+
+abbrev pub inverts : Binding → Bool
+inverts b = has_flags 4 b.flags
+
+abbrev pub inverted : Bool → Option Value → Option Value
+inverted false v = v
+inverted true None = None
+inverted true (Some v) = opposite v
+
+-- a value is set, and the binding sets until all that this raises has ended; without a value nothing is set
+abbrev pub set_by : World → ℕ → ℕ → ℕ → Option Value → Answer Started
+set_by w number target slot None = starts w []
+set_by w number target slot (Some v) =
+    starts (record w { bindings = with_setting number true w.bindings }) (Setting target slot v ∷ Unsetting number ∷ [])
+
+-- the value of one end is transformed, inverted and set at the other
+unfoldable pub carried : Definition → World → Binding → (source source_slot target target_slot : ℕ) → Answer Started
+carried d w b source source_slot target target_slot = do
+  from ← spec_at d w.objects source source_slot
+  to ← spec_at d w.objects target target_slot
+  v ← asked w.objects source (value_at source_slot)
+  only_if (is_readable from) arms.Flags
+      (only_if (is_writable to) arms.Flags
+      (only_if (not (is_construct_only to)) arms.ConstructOnly
+      (set_by w b.number target target_slot (inverted (inverts b) (transformed d.types from.kind to.kind v)))))
+
+abbrev pub carried_by : Definition → World → Bool → Option Binding → Answer Started
+carried_by d w back None = starts w []
+carried_by d w false (Some b) = carried d w b b.source b.source_slot b.target b.target_slot
+carried_by d w true (Some b) = carried d w b b.target b.target_slot b.source b.source_slot
+
+-- a due transfer
+abbrev pub transferring : Definition → World → ℕ → Bool → Answer Started
+transferring d w number back = carried_by d w back (binding_of number w.bindings)
+
+-- the binding no longer sets
+abbrev pub unsetting : World → ℕ → Answer Started
+unsetting w number = starts (record w { bindings = with_setting number false w.bindings }) []

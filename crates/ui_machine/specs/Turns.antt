@@ -1,0 +1,130 @@
+-- The turns of an emission, how it is stopped, and what it results in (GObject manual, signals: accumulators, g_signal_stop_emission).
+use Rattle.std.specs.Prelude.{ℕ, Bool, true, false, cond, ◌||◌, nat_eq, nat_lt, List, [], ◌∷◌, ◌++◌, Option, None, Some, Ok, Err}
+use Rattle.std.specs.List.{filter, find}
+use Rattle.ui_machine.specs.declared.arm.Arm.TheVariants as arms
+use Rattle.ui_machine.specs.Kinds.{Kind}
+use Rattle.ui_machine.specs.Values.{Value}
+use Rattle.ui_machine.specs.Values as values
+use Rattle.ui_machine.specs.Transform.{zero_value, kind_fits}
+use Rattle.ui_machine.specs.Definition.{Definition, Signal, Accumulator, true_handled, first_wins}
+use Rattle.ui_machine.specs.Lines as lines
+use Rattle.ui_machine.specs.Config as config
+use Rattle.ui_machine.specs.Config.{Handler, Turn, class_handler, handler, Emission, Emitting, Task, World}
+use Rattle.ui_machine.specs.Answers.{Answer, ◌>>=◌, known, only_if}
+use Rattle.ui_machine.specs.Objects.{object_at, class_in}
+use Rattle.ui_machine.specs.Programs.{program_before}
+use Rattle.ui_machine.specs.Transfers.{binding_of, transfer_for}
+use Rattle.ui_machine.specs.Emissions.{signal_at}
+use Rattle.ui_machine.specs.Worlds.{Started, starts, said}
+
+-- ** turns
+
+abbrev pub instance_of : Emission → Value
+instance_of e = values.object (Some e.object)
+
+abbrev pub data_of : Handler → List Value
+data_of h = given h.arg
+  where
+    given : Option ℕ → List Value
+    given None = []
+    given (Some i) = values.object (Some i) ∷ []
+
+-- a handler is given the instance, the arguments and its data; swapped, the data, the arguments and the instance
+abbrev pub given_to : Emission → Handler → List Value
+given_to e h = cond h.swapped (data_of h ++ (e.args ++ instance_of e ∷ [])) (instance_of e ∷ (e.args ++ data_of h))
+
+abbrev pub handler_of : ℕ → List Handler → Option Handler
+handler_of number hs = find (λ h. nat_eq h.number number) hs
+
+-- the emission in its cleanup stage, or where it was
+abbrev pub in_stage : Bool → Emission → Emission
+in_stage cleanup e = record e { cleanup = e.cleanup || cleanup }
+
+-- a handler's turn: passed over where it is gone or blocked
+abbrev pub turn_of : Definition → World → Emission → List Turn → Option Handler → Answer Started
+turn_of d w e turns None = starts w (Emitting e turns ∷ [])
+turn_of d w e turns (Some h) =
+    cond (nat_lt 0 h.blocks) (starts w (Emitting e turns ∷ [])) (program_before d w h.program (given_to e h) (Emitting e turns ∷ []))
+
+-- an emission takes its next turn
+abbrev pub taking : Definition → World → Emission → List Turn → Turn → Answer Started
+taking d w e turns (class_handler program cleanup) =
+    program_before d w program (instance_of e ∷ e.args) (Emitting (in_stage cleanup e) turns ∷ [])
+taking d w e turns (handler number) = turn_of d w e turns (handler_of number w.handlers)
+taking d w e turns (config.transfer number back) =
+    starts w (transfer_for (binding_of number w.bindings) number back ++ Emitting e turns ∷ [])
+
+-- ** stops
+
+abbrev pub is_of_cleanup : Turn → Bool
+is_of_cleanup (class_handler program cleanup) = cleanup
+is_of_cleanup (handler number) = false
+is_of_cleanup (config.transfer number back) = false
+
+-- the turns that are left after a stop: those of the cleanup stage; in it a stop does nothing
+abbrev pub left_by_stop : Emission → List Turn → List Turn
+left_by_stop e turns = cond e.cleanup turns (filter is_of_cleanup turns)
+
+-- a stop reaches the emission that runs the program
+abbrev pub stopped : List Task → List Task
+stopped [] = []
+stopped (Emitting e turns ∷ rest) = Emitting e (left_by_stop e turns) ∷ rest
+stopped (task ∷ rest) = task ∷ rest
+
+-- ** what an emission accumulates
+
+abbrev pub is_true : Value → Bool
+is_true (values.bool b) = b
+is_true _ = false
+
+-- whether a value ends the collection
+abbrev pub is_last : Option Accumulator → Value → Bool
+is_last None v = false
+is_last (Some true_handled) v = is_true v
+is_last (Some first_wins) v = true
+
+abbrev pub turns_after : Bool → Emission → List Turn → List Turn
+turns_after false e turns = turns
+turns_after true e turns = left_by_stop e turns
+
+-- the emission after one of its programs gave a value; in the cleanup stage it takes none
+abbrev pub accumulated : Signal → Emission → List Turn → Value → Task
+accumulated s e turns v =
+    cond e.cleanup (Emitting e turns) (Emitting (record e { value = Some v }) (turns_after (is_last s.accumulator v) e turns))
+
+-- whether what a program gave is what the signal wants
+abbrev pub suits : (Value → Kind → Bool) → Option Value → Option Kind → Bool
+suits fits None None = true
+suits fits None (Some kind) = false
+suits fits (Some v) None = false
+suits fits (Some v) (Some kind) = fits v kind
+
+abbrev pub collected : Signal → Emission → List Turn → Option Value → Task
+collected s e turns None = Emitting e turns
+collected s e turns (Some v) = accumulated s e turns v
+
+-- the emission takes what its program gave
+unfoldable pub collecting : Definition → World → Emission → List Turn → Option Value → Answer Task
+collecting d w e turns given = do
+  o ← object_at w.objects e.object
+  s ← signal_at d o.class e.signal
+  only_if (suits (kind_fits (class_in w.objects) d.types) given s.result) arms.Result (Ok (collected s e turns given))
+
+-- ** results
+
+-- a value, or else the zero value of the kind
+abbrev pub or_zero : Definition → Kind → Option Value → Value
+or_zero d kind None = zero_value d.types kind
+or_zero d kind (Some v) = v
+
+-- what an emission results in: the value that it has accumulated, or the zero value
+abbrev pub result_of : Definition → Option Kind → Option Value → Option Value
+result_of d None v = None
+result_of d (Some kind) v = Some (or_zero d kind v)
+
+-- what an emission results in as it ends
+unfoldable pub resulting : Definition → World → Emission → Answer (Option Value)
+resulting d w e = do
+  o ← object_at w.objects e.object
+  s ← signal_at d o.class e.signal
+  Ok (result_of d s.result e.value)
