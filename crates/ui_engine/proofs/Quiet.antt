@@ -18,7 +18,8 @@ use Rattle.ui_machine.specs.Worlds.{Started, starts, said}
 use Rattle.ui_machine.specs.Sets.{spec_at, raising, notifies, kept, written, settled, setting, lives, has_kind}
 use Rattle.ui_machine.specs.Emissions.{notifying}
 use Rattle.ui_machine.specs.Builds.{thawing_made, given_value}
-use Rattle.ui_machine.specs.Steps.{answered, thawing, carrying_set, carrying_get, held_object}
+use Rattle.ui_machine.specs.Steps.{answered, thawing, carrying_set, carrying_get}
+use Rattle.ui_machine.specs.Builds.{held_object}
 use Rattle.ui_engine.specs.Holding.{making_of}
 use Rattle.ui_engine.proofs.Held.{Quietly, quietly_on, if_ok_at, bind_ok, changed_lives}
 

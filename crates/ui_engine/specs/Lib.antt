@@ -2,3 +2,5 @@ pub mod ObjectView
 pub mod HeapView
 pub mod Holding
 pub mod View
+pub mod MakingView
+pub mod TaskView

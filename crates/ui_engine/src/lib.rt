@@ -15,6 +15,7 @@
 
 mod heap;
 mod object;
+mod task;
 mod texts;
 mod world;
 

@@ -1,0 +1,39 @@
+-- What a task of the engine stands for in the machine.
+use Rattle.std.specs.Prelude.{ℕ, true, List, [], map, reverse, drop, Option, Some, None}
+use Rattle.ui_machine.specs.Properties.{Spec}
+use Rattle.ui_machine.specs.Definition as machine
+use Rattle.ui_machine.specs.Lookups.{spec_of}
+use Rattle.ui_machine.specs.Config as config
+use Rattle.ui_machine.specs.Emissions.{notification}
+use Rattle.ui_machine.specs.Builds.{made_items}
+use Rattle.g_values.specs.View.{value_view}
+use Rattle.builder_defs.specs.Meaning.{event_of}
+use Rattle.ui_engine.specs.declared.task.Task.{Task}
+use Rattle.ui_engine.specs.declared.task.Task.TheVariants as tasks
+use Rattle.ui_engine.specs.declared.task.Stack.{Stack}
+pub use Rattle.ui_engine.specs.MakingView.{making_of_code}
+
+-- the name of a property, and nothing where there is none
+abbrev pub name_in : Option Spec → List ℕ
+name_in None = []
+name_in (Some s) = s.name
+
+abbrev pub name_of : machine.Definition → ℕ → ℕ → List ℕ
+name_of d class slot = name_in (spec_of d class slot)
+
+-- the build of the objects from a place on
+abbrev pub build_from : machine.Definition → ℕ → List config.Item
+build_from d place = made_items place (drop place d.places)
+
+abbrev pub task_of : machine.Definition → Task → config.Task
+task_of d (tasks.Setting id slot v) = config.Setting id slot (value_view v)
+task_of d (tasks.Notifying id slot) = config.Notifying id slot
+task_of d (tasks.Emitting id class slot) = config.Emitting (notification id (name_of d class slot)) []
+task_of d (tasks.Thawing id slots) = config.Thawing id slots
+task_of d (tasks.Constructing id steps) = config.Constructing id steps true
+task_of d (tasks.Building place) = config.Building (build_from d place)
+task_of d (tasks.Carrying event) = config.Carrying (event_of event)
+
+-- the machine's agenda, the first task first
+abbrev pub agenda_of : machine.Definition → Stack → List config.Task
+agenda_of d s = reverse (map (task_of d) s.tasks.items)

@@ -1,0 +1,166 @@
+//! Tasks, and the stack of those that are left.
+
+ghost use Rattle.std.specs.Prelude.{◌≡◌, [], ◌∷◌, reverse, map, MatchOption, OnOk};
+ghost use Rattle.ui_machine.specs.Definition as machine;
+ghost use Rattle.ui_machine.specs.Config as config;
+ghost use Rattle.ui_engine.specs.TaskView.{making_of_code, task_of, agenda_of};
+
+use builder_defs::Event;
+use g_values::Value;
+use std::alloc::{AllocError, Global};
+use std::marker::Model;
+use type_tree::TypeId;
+
+/// The notifications that are left of a thaw. They are kept the other way round: the last is made first.
+#[derive(Drop)]
+pub struct Slots {
+    queue: Vec<u16>,
+}
+
+impl Model for Slots {
+    ghost use Rattle.std.specs.Prelude.{ℕ, List, reverse};
+
+    ghost Value = { List ℕ };
+
+    ghost view = { λ s. reverse s.queue.items };
+}
+
+impl Slots {
+    /// The notifications of a queue, from its end.
+    pub fn new(queue: Vec<u16>) -> Self
+        ensures { result ≡ reverse queue.items }
+    {
+        Slots { queue }
+    }
+
+    /// Takes the next one.
+    pub fn take(&mut self) -> Option<u16>
+        ensures { MatchOption result ((self.old ≡ []) × (self.new ≡ [])) (λ slot. self.old ≡ slot ∷ self.new) }
+    {
+        self.queue.pop()
+    }
+}
+
+/// A step of a construction that is to come.
+#[derive(Drop)]
+pub enum Making {
+    Set {
+        slot: u16,
+        value: Value,
+    },
+    Thaw,
+}
+
+/// The steps of a construction that are to come, the last of the list first.
+#[derive(Drop)]
+pub struct Makings {
+    steps: Vec<Making>,
+}
+
+impl Model for Makings {
+    ghost use Rattle.std.specs.Prelude.{List, map, reverse};
+    ghost use Rattle.ui_machine.specs.Config as config;
+    ghost use Rattle.ui_engine.specs.MakingView.{making_of_code};
+
+    ghost Value = { List config.Making };
+
+    ghost view = { λ m. reverse (map making_of_code m.steps.items) };
+}
+
+impl Makings {
+    /// The steps of a list, from its end.
+    pub fn new(steps: Vec<Making>) -> Self
+        ensures { result ≡ reverse (map making_of_code steps.items) }
+    {
+        Makings { steps }
+    }
+
+    /// Takes the next one.
+    pub fn take(&mut self) -> Option<Making>
+        ensures { MatchOption result ((self.old ≡ []) × (self.new ≡ [])) (λ step. self.old ≡ making_of_code step ∷ self.new) }
+    {
+        self.steps.pop()
+    }
+}
+
+/// What there is to do.
+#[derive(Drop)]
+pub enum Task {
+    /// A set is due.
+    Setting {
+        object: u64,
+        slot: u16,
+        value: Value,
+    },
+    /// A notification is to begin.
+    Notifying {
+        object: u64,
+        slot: u16,
+    },
+    /// The rest of a notification, to which nobody listens.
+    Emitting {
+        object: u64,
+        class: TypeId,
+        slot: u16,
+    },
+    /// The notifications that are left of a thaw.
+    Thawing {
+        object: u64,
+        slots: Slots,
+    },
+    /// The rest of a construction, whose object the builder will hold.
+    Constructing {
+        object: u64,
+        steps: Makings,
+    },
+    /// The rest of the build: the objects from a place on.
+    Building {
+        place: usize,
+    },
+    /// An event is to be carried out.
+    Carrying(Event),
+}
+
+/// The tasks that are left, the first on top.
+#[derive(Drop)]
+pub struct Stack {
+    pub tasks: Vec<Task>,
+}
+
+impl Stack {
+    ghost use Rattle.ui_machine.specs.Definition as machine;
+    ghost use Rattle.ui_engine.specs.TaskView.{task_of, agenda_of};
+
+    /// Nothing to do.
+    pub fn new(alloc: Global) -> Self
+        ensures { (d : machine.Definition) → agenda_of d result ≡ [] }
+    {
+        Stack {
+            tasks: Vec::new(alloc),
+        }
+    }
+
+    /// Puts a task before the others.
+    pub fn push(&mut self, task: Task) -> Result<(), AllocError>
+        ensures { OnOk result ((d : machine.Definition) → agenda_of d self.new ≡ task_of d task ∷ agenda_of d self.old) }
+    {
+        self.tasks.push(task)?;
+        Ok(())
+    }
+
+    /// Takes the first task.
+    pub fn pop(&mut self) -> Option<Task>
+        ensures { (d : machine.Definition) → MatchOption result
+            ((agenda_of d self.old ≡ []) × (agenda_of d self.new ≡ []))
+            (λ task. agenda_of d self.old ≡ task_of d task ∷ agenda_of d self.new) }
+    {
+        self.tasks.pop()
+    }
+
+    /// Leaves nothing to do.
+    pub fn clear(&mut self)
+        ensures { (d : machine.Definition) → agenda_of d self.new ≡ [] }
+    {
+        self.tasks.clear();
+    }
+}
