@@ -44,10 +44,10 @@ module _ (types : List GType) (tree : IsTree types) where
   line_from-none (suc n) = refl
 
   -- the line of a child is that of its parent, with the child before it
-  line_from-parent : (t p : ℕ) → parent_of types t ≡ Some p → line_from (length types) types (parent_of types t) ≡ p ∷ line_from (length types) types (parent_of types p)
+  pub line_from-parent : (t p : ℕ) → parent_of types t ≡ Some p → line_from (length types) types (parent_of types t) ≡ p ∷ line_from (length types) types (parent_of types p)
   line_from-parent t p h = ap (line_from (length types) types) h ∙ line_from-some (length types) p (parent_within t p h)
 
-  line_from-root : (t : ℕ) → parent_of types t ≡ None → line_from (length types) types (parent_of types t) ≡ []
+  pub line_from-root : (t : ℕ) → parent_of types t ≡ None → line_from (length types) types (parent_of types t) ≡ []
   line_from-root t h = ap (line_from (length types) types) h ∙ line_from-none (length types)
 
   pub is_a-here : (t b : ℕ) → is_or_implements types b t ≡ true → is_a types t b ≡ true

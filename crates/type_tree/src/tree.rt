@@ -44,6 +44,8 @@ impl Model for TypeTree {
 }
 
 impl TypeTree {
+    ghost use Rattle.type_tree.specs.Tree.{IsTree};
+
     /// How many types there are.
     pub fn len(&self) -> usize
         ensures { result ≡ length self.now }
@@ -87,6 +89,8 @@ impl TypeTree {
     pub fn parent(&self, t: TypeId) -> Option<TypeId>
         ensures parent { result ≡ parent_of self.now t }
         ensures before { IfSome result (λ p. p < t) }
+        ensures few { IfSome result (λ p. p < 256) }
+        ensures tree { IsTree self.now }
     {
         let _ = &self.types;
         self.entry(t)?.parent()

@@ -1,0 +1,4 @@
+pub mod Flags
+pub mod PropertyName
+pub mod View
+pub mod Table

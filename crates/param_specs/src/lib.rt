@@ -1,0 +1,18 @@
+//! Property specs: what a property may hold and how it may be used, and which properties a type has.
+//!
+//! A contract sees a spec as the pure record of the abstract machine, and a table as the lists of the types' own specs.
+#![tactic(auto)]
+
+mod error;
+mod flags;
+mod name;
+mod spec;
+mod table;
+mod validating;
+
+pub use error::SpecError;
+pub use flags::PropertyFlags;
+pub use name::is_property_name;
+pub use spec::Spec;
+pub use table::{MOST_PROPERTIES, SpecTable};
+pub use validating::validate;

@@ -1,0 +1,80 @@
+//! Names of properties.
+
+ghost use Rattle.std.specs.Prelude.{◌≡◌, cond, nat_eq};
+ghost use Rattle.ui_machine.specs.Names.{same_name, canonical};
+ghost use Rattle.param_specs.specs.PropertyName.{is_property_name, segments_follow, is_letter, is_letter_or_digit, is_separator};
+
+/// Whether a text is a property's or signal's name: segments of ASCII letters and digits, none empty, between `-` or `_`, a letter first.
+pub fn is_property_name(name: &str) -> bool
+    ensures { result ≡ is_property_name name.now }
+{
+    match name.as_bytes() {
+        [first, rest @ ..] => is_letter(*first) && segments_follow(rest),
+        [] => false,
+    }
+}
+
+// Whether what follows a letter or digit is the rest of a name.
+fn segments_follow(bytes: &[u8]) -> bool
+    ensures { result ≡ segments_follow bytes.now }
+{
+    match bytes {
+        [] => true,
+        [first] => is_letter_or_digit(*first),
+        [first, second, rest @ ..] => {
+            if is_separator(*first) {
+                is_letter_or_digit(*second) && segments_follow(rest)
+            } else {
+                is_letter_or_digit(*first) && segments_follow(&bytes[1..])
+            }
+        }
+    }
+}
+
+// `-` or `_`.
+fn is_separator(byte: u8) -> bool
+    ensures { result ≡ is_separator byte }
+{
+    byte == b'-' || byte == b'_'
+}
+
+fn is_letter(byte: u8) -> bool
+    ensures { result ≡ is_letter byte }
+{
+    matches!(byte, b'a'..=b'z' | b'A'..=b'Z')
+}
+
+fn is_letter_or_digit(byte: u8) -> bool
+    ensures { result ≡ is_letter_or_digit byte }
+{
+    matches!(byte, b'0'..=b'9') || is_letter(byte)
+}
+
+/// Whether a canonical name is the one that a name spells, with `-` for `_`.
+pub fn is_spelling(stored: &str, name: &str) -> bool
+    ensures { result ≡ same_name stored.now (canonical name.now) }
+{
+    spells(stored.as_bytes(), name.as_bytes())
+}
+
+fn spells(stored: &[u8], name: &[u8]) -> bool
+    ensures { result ≡ same_name stored.now (canonical name.now) }
+{
+    match stored {
+        [] => match name {
+            [] => true,
+            [_, ..] => false,
+        },
+        [wanted, rest @ ..] => match name {
+            [] => false,
+            [byte, others @ ..] => *wanted == dashed(*byte) && spells(rest, others),
+        },
+    }
+}
+
+// `-` for `_`.
+fn dashed(byte: u8) -> u8
+    ensures { result ≡ cond (nat_eq byte 95) 45 byte }
+{
+    if byte == b'_' { b'-' } else { byte }
+}

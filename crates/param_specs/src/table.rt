@@ -1,0 +1,139 @@
+//! Which properties the types have.
+
+ghost use Rattle.std.specs.Prelude.{◌≡◌, ◌<◌, ◌≤◌, ◌+◌, ◌*◌, List, [], map, length, string_bytes, slice_get, position, Some, IfSome};
+ghost use Rattle.ui_machine.specs.Names.{same_name, canonical, place_named};
+ghost use Rattle.param_specs.specs.View.{spec_view};
+ghost use Rattle.param_specs.specs.Table.{own_of, specs_of, slot_named};
+
+use crate::name::is_spelling;
+use crate::spec::Spec;
+use std::alloc::Global;
+use std::marker::Model;
+use type_tree::{TypeId, TypeTree};
+
+/// The most properties of a type, with the inherited ones.
+pub const MOST_PROPERTIES: usize = 64;
+
+/// The properties of each type's own. Those of its ancestors stand before them: a type's slots are numbered from the root down.
+/// A contract sees the list of the types' own lists.
+#[derive(Drop)]
+pub struct SpecTable {
+    own: Vec<Vec<Spec>>,
+}
+
+impl Model for SpecTable {
+    ghost use Rattle.std.specs.Prelude.{List, map};
+    ghost use Rattle.ui_machine.specs.Properties as properties;
+    ghost use Rattle.param_specs.specs.View.{spec_view};
+    ghost use Rattle.param_specs.specs.Table.{IsTable};
+
+    ghost Value = { List (List properties.Spec) };
+
+    ghost view = { λ t. map (λ v. map spec_view v.items) t.own.items };
+
+    ghost invariant = { λ t. IsTable (map (λ v. map spec_view v.items) t.own.items) };
+}
+
+impl SpecTable {
+    /// A table without properties. It takes no memory.
+    pub fn new(alloc: Global) -> Self
+        ensures { result ≡ [] }
+    {
+        SpecTable {
+            own: Vec::new(alloc),
+        }
+    }
+
+    // The properties of a type's own.
+    fn own(&self, t: TypeId) -> &[Spec]
+        ensures own { map spec_view result.now ≡ own_of self.now t }
+        ensures few { length result.now ≤ 64 }
+    {
+        let at = t.index();
+        if at < self.own.len() { self.own[at].as_slice() } else { &[] }
+    }
+
+    /// How many properties a type has, with the inherited ones.
+    pub fn slots_of(&self, tree: &TypeTree, t: TypeId) -> usize
+        ensures count { result ≡ length (specs_of tree.now self.now t) }
+        ensures bound { result ≤ 64 * (t + 1) }
+    {
+        let own = self.own(t).len();
+        match tree.parent(t) {
+            Some(parent) => self.slots_of(tree, parent) + own,
+            None => own,
+        }
+    }
+
+    // The slot of a property of a type's own, counted from the first of them.
+    fn own_slot(&self, t: TypeId, name: &str) -> Option<usize>
+        ensures slot { result ≡ slot_named (own_of self.now t) name.now }
+        ensures within { IfSome result (λ i. i < 64) }
+    {
+        position_of(self.own(t), name)
+    }
+
+    // The property of a slot of a type's own.
+    fn own_spec(&self, t: TypeId, slot: usize) -> &Spec
+        requires { slot < length (own_of self.now t) }
+        ensures { slice_get (own_of self.now t) slot ≡ Some (spec_view result.now) }
+    {
+        let own = self.own(t);
+        &own[slot]
+    }
+
+    // The slot of a property of a type, its own or inherited.
+    fn slot(&self, tree: &TypeTree, t: TypeId, name: &str) -> Option<usize>
+        ensures slot { result ≡ slot_named (specs_of tree.now self.now t) name.now }
+        ensures bound { IfSome result (λ i. i < 16448) }
+    {
+        let own = self.own_slot(t, name);
+        let Some(parent) = tree.parent(t) else {
+            return own;
+        };
+        match self.slot(tree, parent, name) {
+            Some(slot) => Some(slot),
+            None => Some(self.slots_of(tree, parent) + own?),
+        }
+    }
+
+    // The property of a slot.
+    fn spec_at(&self, tree: &TypeTree, t: TypeId, slot: usize) -> &Spec
+        requires { slot < length (specs_of tree.now self.now t) }
+        ensures { slice_get (specs_of tree.now self.now t) slot ≡ Some (spec_view result.now) }
+    {
+        let Some(parent) = tree.parent(t) else {
+            return self.own_spec(t, slot);
+        };
+        let inherited = self.slots_of(tree, parent);
+        if slot < inherited {
+            self.spec_at(tree, parent, slot)
+        } else {
+            self.own_spec(t, slot - inherited)
+        }
+    }
+
+    /// The slot of a property of a type, its own or inherited, by any spelling of its name.
+    pub fn find(&self, tree: &TypeTree, t: TypeId, name: &str) -> Option<u16>
+        ensures { result ≡ slot_named (specs_of tree.now self.now t) name.now }
+    {
+        let slot = self.slot(tree, t, name)?;
+        Some(slot as u16)
+    }
+
+    /// The property of a slot of a type.
+    pub fn spec(&self, tree: &TypeTree, t: TypeId, slot: u16) -> &Spec
+        requires { slot < length (specs_of tree.now self.now t) }
+        ensures { slice_get (specs_of tree.now self.now t) slot ≡ Some (spec_view result.now) }
+    {
+        self.spec_at(tree, t, slot as usize)
+    }
+}
+
+// Where a property stands, by any spelling of its name.
+fn position_of(own: &[Spec], name: &str) -> Option<usize>
+    ensures place { result ≡ position (λ s. same_name (string_bytes s.name) (canonical name.now)) own.now }
+    ensures within { IfSome result (λ i. i < length own.now) }
+{
+    own.iter().position(|spec| is_spelling(spec.name.as_str(), name))
+}
