@@ -1,5 +1,5 @@
 -- What a list of bindings stands for.
-use Rattle.std.specs.Prelude.{ℕ, ◌+◌, Bool, false, cond, not, ◌&&◌, nat_le, List, [], ◌∷◌, ◌++◌, option_map, string_bytes}
+use Rattle.std.specs.Prelude.{ℕ, ◌+◌, ◌^◌, ◌<◌, All, Bool, false, cond, not, ◌&&◌, nat_le, List, [], ◌∷◌, ◌++◌, option_map, string_bytes}
 use Rattle.ui_machine.specs.Properties.{has_flags}
 use Rattle.ui_machine.specs.Bindings.{listens, goes_back}
 use Rattle.ui_machine.specs.Config as config
@@ -53,6 +53,10 @@ back b = record {
 -- from the property that was notified to the other end
 abbrev pub transfer_of : (object slot : ℕ) → config.Binding → Transfer
 transfer_of object slot b = cond (goes_back object slot b) (back b) (forth b)
+
+-- the numbers are below the next one, which a number of 64 bits holds
+abbrev pub AreNumbered : List config.Binding → ℕ → Type 0
+AreNumbered bindings next = All (λ b. b.number < next) bindings × (next < 2 ^ 64)
 
 -- whether the binding may be the next to act on a notification
 abbrev pub is_next : (object slot from : ℕ) → config.Binding → Bool

@@ -19,11 +19,13 @@ pub struct Bindings {
 }
 
 impl Model for Bindings {
-    ghost use Rattle.bindings.specs.Made.{Made};
+    ghost use Rattle.bindings.specs.Made.{Made, AreNumbered};
 
     ghost Value = { Made };
 
     ghost view = { λ b. record { bindings = b.bound.items; next = b.next } };
+
+    ghost invariant = { λ b. AreNumbered b.bound.items b.next };
 }
 
 impl Bindings {
@@ -96,7 +98,10 @@ impl Bindings {
     /// What is to be done next about a notification: the transfer of the first binding numbered `from` or above that listens
     /// at the property and is not setting. A bidirectional one listens at both ends.
     pub fn on_notify(&self, object: ObjectId, slot: u16, from: u64) -> Option<Transfer>
-        ensures { result ≡ option_map (transfer_of object.0 slot) (find (is_next object.0 slot from) self.now.bindings) }
+        ensures next { result ≡ option_map (transfer_of object.0 slot) (find (is_next object.0 slot from) self.now.bindings) }
+
+        // The look for the one after it begins at a number too.
+        ensures goes_on { IfSome result (λ transfer. transfer.number + 1 < 2 ^ 64) }
     {
         self.bound
             .iter()

@@ -2,7 +2,7 @@
 
 ghost use Rattle.std.specs.Prelude.{◌≡◌, ◌+◌, ◌<◌, ◌↔◌, ◌&&◌, not, false, [], None, Some, map, option_map, OnOk, OnErr, IfOk};
 ghost use Rattle.std.specs.List.{find, position};
-ghost use Rattle.ui_machine.specs.Sources.{ready, has_room, new_source, has_number, runs_program, without_first, rescheduled, answered};
+ghost use Rattle.ui_machine.specs.Sources.{ready, has_room, new_source, source_of, has_number, runs_program, without_first, rescheduled, answered};
 
 use crate::batch::Batch;
 use crate::fault::{AttachError, TurnError};
@@ -141,6 +141,13 @@ impl Context {
             }
         }
         None
+    }
+
+    /// What is to run for a source, if it is attached.
+    pub fn find(&self, source: u64) -> Option<Due>
+        ensures { result ≡ option_map due_of (source_of source self.now.sources) }
+    {
+        sources::find_due(&self.sources, source)
     }
 
     /// A source's program has answered. FALSE takes the source out; after TRUE a timeout is due one interval after the latest

@@ -16,10 +16,10 @@ kept_one number setting b e = rw e refl
 pub loop-one-preserved : goal.loop-one-preserved
 loop-one-preserved c =
     elim c.if-has_number.branch [
-      then-has_number w ↦
-        let e = marked_one c.args.number c.args.setting c.one-item.result (cc) in
-        rw w.bound-is (mapped_written (marked c.args.number c.args.setting) c.args.bound.now c.loop-one.bound c.loop-one.one-index c.one-item.result w.mark.new.self (omega arith) c.loop-one.invariant c.one-item.is (cc))
-    | else-has_number w ↦
-        let e = kept_one c.args.number c.args.setting c.one-item.result (cc) in
-        rw (w.bound-is, ← c.one-item.is) (mapped_written (marked c.args.number c.args.setting) c.args.bound.now c.loop-one.bound c.loop-one.one-index c.one-item.result c.one-item.result (omega arith) c.loop-one.invariant c.one-item.is e)
+      | then-has_number w ↦
+          let e = marked_one c.args.number c.args.setting c.one-item.result (cc) in
+          rw w.bound-is (mapped_written (marked c.args.number c.args.setting) c.args.bound.now c.loop-one.bound c.loop-one.one-index c.one-item.result w.mark.new.self (omega arith) c.loop-one.invariant c.one-item.is (cc))
+      | else-has_number w ↦
+          let e = kept_one c.args.number c.args.setting c.one-item.result (cc) in
+          rw (w.bound-is, ← c.one-item.is) (mapped_written (marked c.args.number c.args.setting) c.args.bound.now c.loop-one.bound c.loop-one.one-index c.one-item.result c.one-item.result (omega arith) c.loop-one.invariant c.one-item.is e)
     ]
