@@ -1,4 +1,4 @@
-use Rattle.std.proofs.Common.{◌∙◌, refl}
+use Rattle.std.proofs.Common.{refl}
 use Rattle.bindings.proofs.Names.{pointwise_same_name}
 use Rattle.bindings.proofs.bound.Bound.is_called.Goals as goal
 

@@ -1,6 +1,5 @@
-use Rattle.std.proofs.Common.{◌≡◌, ◌∙◌, ◌++◌, List, length, take, drop, arith}
+use Rattle.std.proofs.Common.{◌≡◌, ◌∙◌, ◌++◌, length, take, drop, arith}
 use Rattle.std.proofs.lemmas.Grind.{common_steps}
-use Rattle.ui_machine.specs.Config.{Binding}
 use Rattle.bindings.proofs.Numbers.{set_below}
 use Rattle.bindings.proofs.list.Bindings.setting.Goals as goal
 
