@@ -6,7 +6,7 @@ use ui_machine::ObjectId;
 /// A binding that is to be made, from a property to another one.
 #[derive(Debug, Drop)]
 pub struct Binding {
-    /// What `unbind` ends it by, if it has a name.
+    /// What `unbind` ends it by, if it has a name. Any text serves here.
     pub name: Option<String>,
     pub source: ObjectId,
     pub source_slot: u16,

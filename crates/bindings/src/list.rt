@@ -1,7 +1,7 @@
 //! The bindings that stand.
 
 ghost use Rattle.std.specs.Prelude.{◌≡◌, ◌+◌, ◌-◌, ◌^◌, ◌<◌, ◌↔◌, [], OnOk, OnErr, IfOk, IfSome, option_map, count_by};
-ghost use Rattle.std.specs.List.{find, list_any, filter};
+ghost use Rattle.std.specs.List.{find, list_any};
 ghost use Rattle.ui_machine.specs.Bindings.{is_called, is_end, bindings_without, bindings_without_end, with_setting};
 
 use crate::binding::{Binding, Transfer};
@@ -74,7 +74,8 @@ impl Bindings {
     /// Ends the bindings of a name, and says whether there was one.
     pub fn unbind(&mut self, name: &str) -> bool
         ensures found { result ≡ list_any (is_called name.now) self.old.bindings }
-        ensures left { self.new ≡ record self.old { bindings = bindings_without name.now self.old.bindings } }
+        ensures left { self.new
+            ≡ record self.old { bindings = bindings_without name.now self.old.bindings } }
     {
         let found = self.bound.iter().any(|bound| bound.is_called(name));
         end_called(&mut self.bound, name);
@@ -84,7 +85,8 @@ impl Bindings {
     /// Ends the bindings that have an object as an end, and counts them.
     pub fn end_of(&mut self, object: ObjectId) -> usize
         ensures count { result ≡ count_by (is_end object.0) self.old.bindings }
-        ensures left { self.new ≡ record self.old { bindings = bindings_without_end object.0 self.old.bindings } }
+        ensures left { self.new
+            ≡ record self.old { bindings = bindings_without_end object.0 self.old.bindings } }
     {
         let count = self
             .bound
@@ -98,7 +100,8 @@ impl Bindings {
     /// What is to be done next about a notification: the transfer of the first binding numbered `from` or above that listens
     /// at the property and is not setting. A bidirectional one listens at both ends.
     pub fn on_notify(&self, object: ObjectId, slot: u16, from: u64) -> Option<Transfer>
-        ensures next { result ≡ option_map (transfer_of object.0 slot) (find (is_next object.0 slot from) self.now.bindings) }
+        ensures next { result
+            ≡ option_map (transfer_of object.0 slot) (find (is_next object.0 slot from) self.now.bindings) }
 
         // The look for the one after it begins at a number too.
         ensures goes_on { IfSome result (λ transfer. transfer.number + 1 < 2 ^ 64) }
@@ -113,7 +116,8 @@ impl Bindings {
 
     /// Marks the binding of a number as setting or not. Where it has ended, nothing happens.
     pub fn setting(&mut self, number: u64, setting: bool)
-        ensures { self.new ≡ record self.old { bindings = with_setting number setting self.old.bindings } }
+        ensures { self.new
+            ≡ record self.old { bindings = with_setting number setting self.old.bindings } }
     {
         mark(&mut self.bound, number, setting);
     }
