@@ -1,10 +1,11 @@
 -- The first of a list that passes.
-use Rattle.std.proofs.Common.{◌≡◌, ℕ, zero, suc, ◌<◌, Bool, true, false, cond, List, [], ◌∷◌, length, get_or, None, Some, refl, ap, arith, position}
+use Rattle.std.proofs.Common.{◌≡◌, ℕ, zero, suc, ◌+◌, ◌<◌, Bool, true, false, cond, List, [], ◌∷◌, length, get_or, None, Some, refl, ap, arith, position}
 use Rattle.std.specs.List.{find, position_or_len, remove}
 use Rattle.std.proofs.lemmas.List.Folds.{find_at}
 use Rattle.std.proofs.lemmas.List.Quantifiers.{position-Some}
 use Rattle.std.proofs.lemmas.Option.{slice_get_past}
 use Rattle.std.proofs.lemmas.Grind.{common_steps}
+use Rattle.ui_machine.specs.Seq.{total}
 use Rattle.ui_machine.specs.Sources.{without_first}
 
 -- ** where none passes
@@ -46,3 +47,14 @@ pub first : {X : Type 0} (p : X → Bool) (xs : List X) (i : ℕ) (x : X) → po
 first p xs i x h at =
     let w = position-Some p xs i x h in
     rw at (first_at p xs i x w.0 w.1 w.2)
+
+-- ** what is summed over a list
+
+-- with the first that passes taken out, its part is missing
+pub total_without_first : {X : Type 0} (f : X → ℕ) (p : X → Bool) (xs : List X) (x : X) → find p xs ≡ Some x → total f (without_first p xs) + f x ≡ total f xs
+total_without_first f p [] x h = cc
+total_without_first f p (y ∷ ys) x h =
+    elim (p y) as (λ t. cond t (Some y) (find p ys) ≡ Some x → total f (cond t ys (y ∷ without_first p ys)) + f x ≡ f y + total f ys) [
+      | true ↦ λ e. let same : y ≡ x = cc in omega (arith, ap f same)
+      | false ↦ λ e. omega (arith, total_without_first f p ys x e)
+    ] h

@@ -1,8 +1,8 @@
 -- What a context stands for.
-use Rattle.std.specs.Prelude.{ℕ, Bool, List, [], ◌∷◌, Option, None, cond, is_some}
+use Rattle.std.specs.Prelude.{ℕ, ◌+◌, ℤ, Bool, List, [], ◌∷◌, Option, None, cond, is_some}
 use Rattle.std.specs.Option.{option_or}
 use Rattle.ui_machine.specs.Config.{Source}
-use Rattle.ui_machine.specs.Sources.{attached, source_of}
+use Rattle.ui_machine.specs.Sources.{attached, new_source, source_of}
 
 -- the sources in order of attachment, the number of the last one attached and the latest moment; each 0 before any
 pub record Attached : Type 0 where
@@ -10,9 +10,12 @@ pub record Attached : Type 0 where
   pub last : ℕ
   pub moment : ℕ
 
--- the context with one source more
-abbrev pub with_source : Attached → Source → Attached
-with_source context s = record context { sources = attached context.sources s; last = s.number }
+-- the context with one source more, of the next number and from the latest moment on
+abbrev pub with_source : Attached → (program : ℕ) → ℤ → Option ℕ → Option ℕ → Attached
+with_source context program priority interval arg = record context {
+  sources = attached context.sources (new_source (context.last + 1) context.moment program priority interval arg);
+  last = context.last + 1;
+}
 
 abbrev pub is_attached : List Source → ℕ → Bool
 is_attached sources number = is_some (source_of number sources)

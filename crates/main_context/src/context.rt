@@ -1,8 +1,8 @@
 //! The context.
 
-ghost use Rattle.std.specs.Prelude.{◌≡◌, ◌+◌, ◌<◌, ◌↔◌, ◌&&◌, not, false, [], None, Some, map, option_map, OnOk, OnErr, IfOk};
-ghost use Rattle.std.specs.List.{find, position};
-ghost use Rattle.ui_machine.specs.Sources.{ready, has_room, new_source, has_number, runs_program, without_first, rescheduled, answered};
+ghost use Rattle.std.specs.Prelude.{◌≡◌, ◌<◌, ◌↔◌, ◌&&◌, not, false, [], None, Some, map, option_map, OnOk, OnErr, IfOk};
+ghost use Rattle.std.specs.List.{find};
+ghost use Rattle.ui_machine.specs.Sources.{ready, has_room, source_of, runs_program, without_first, answered};
 
 use crate::batch::Batch;
 use crate::fault::{AttachError, TurnError};
@@ -56,7 +56,7 @@ impl Context {
         priority: i32,
         arg: Option<ObjectId>,
     ) -> Result<(), AttachError>
-        ensures ok { OnOk result (self.new ≡ with_source self.old (new_source (self.old.last + 1) self.old.moment program priority None (identity_of arg))) }
+        ensures ok { OnOk result (self.new ≡ with_source self.old program priority None (identity_of arg)) }
         ensures limit { (result ≡ Err AttachError.SourceLimit) ↔ (has_room self.old.sources self.old.last ≡ false) }
         ensures err { OnErr result (self.new ≡ self.old) }
     {
@@ -73,7 +73,7 @@ impl Context {
         interval: u32,
         arg: Option<ObjectId>,
     ) -> Result<(), AttachError>
-        ensures ok { OnOk result (self.new ≡ with_source self.old (new_source (self.old.last + 1) self.old.moment program priority (Some interval) (identity_of arg))) }
+        ensures ok { OnOk result (self.new ≡ with_source self.old program priority (Some interval) (identity_of arg)) }
         ensures limit { (result ≡ Err AttachError.SourceLimit) ↔ (has_room self.old.sources self.old.last ≡ false) }
         ensures err { OnErr result (self.new ≡ self.old) }
     {
@@ -87,7 +87,7 @@ impl Context {
         interval: Option<u32>,
         arg: Option<ObjectId>,
     ) -> Result<(), AttachError>
-        ensures ok { OnOk result (self.new ≡ with_source self.old (new_source (self.old.last + 1) self.old.moment program priority interval (identity_of arg))) }
+        ensures ok { OnOk result (self.new ≡ with_source self.old program priority interval (identity_of arg)) }
         ensures limit { (result ≡ Err AttachError.SourceLimit) ↔ (has_room self.old.sources self.old.last ≡ false) }
         ensures err { OnErr result (self.new ≡ self.old) }
     {
@@ -106,7 +106,8 @@ impl Context {
     /// Takes out the first source of a program, and gives it.
     pub fn remove(&mut self, program: u16) -> Option<Due>
         ensures given { result ≡ option_map due_of (find (runs_program program) self.old.sources) }
-        ensures taken { self.new ≡ record self.old { sources = without_first (runs_program program) self.old.sources } }
+        ensures left { self.new
+            ≡ record self.old { sources = without_first (runs_program program) self.old.sources } }
     {
         let source = sources::take_first(&mut self.sources, program)?;
         Some(source.due())
@@ -117,7 +118,8 @@ impl Context {
     ///
     /// `ClockBack` where the moment is before the latest one, then `OutOfMemory`. An error changes nothing.
     pub fn iteration(&mut self, moment: u64) -> Result<Batch, TurnError>
-        ensures taken { IfOk result (λ batch. batch ≡ map (λ s. s.number) (ready moment self.old.sources)) }
+        ensures ready { IfOk result
+            (λ batch. batch ≡ map (λ s. s.number) (ready moment self.old.sources)) }
         ensures begun { OnOk result (self.new ≡ record self.old { moment = moment }) }
         ensures clock_back { (result ≡ Err TurnError.ClockBack) ↔ (moment < self.old.moment) }
         ensures err { OnErr result (self.new ≡ self.old) }
@@ -143,11 +145,19 @@ impl Context {
         None
     }
 
+    /// What is to run for a source, if it is attached.
+    pub fn find(&self, source: u64) -> Option<Due>
+        ensures { result ≡ option_map due_of (source_of source self.now.sources) }
+    {
+        sources::find_due(&self.sources, source)
+    }
+
     /// A source's program has answered. FALSE takes the source out; after TRUE a timeout is due one interval after the latest
     /// moment. Where the source was removed while it ran, nothing happens. It says whether the source was taken out.
     pub fn answered(&mut self, source: u64, keep: bool) -> bool
         ensures removed { result ≡ (not keep && is_attached self.old.sources source) }
-        ensures sources { self.new ≡ record self.old { sources = answered self.old.moment source keep self.old.sources } }
+        ensures left { self.new
+            ≡ record self.old { sources = answered self.old.moment source keep self.old.sources } }
     {
         if keep {
             sources::reschedule(&mut self.sources, source, self.moment);

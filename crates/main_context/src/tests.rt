@@ -62,6 +62,8 @@ fn passes_over_what_was_removed(rt: HostRuntime) -> Result<(), Fail> {
     assert_eq!(rt; context.remove(4), Some(second));
     assert_eq!(rt; context.remove(4), None);
     assert!(rt; !context.answered(1, false), "removed while it ran");
+    assert_eq!(rt; context.find(1), None);
+    assert_eq!(rt; context.find(3), Some(third));
     assert_eq!(rt; context.next_of(&mut batch), Some(third));
     context.idle(7, -7, None)?;
     assert_eq!(rt; context.next_of(&mut batch).map(|due| due.source), Some(4));

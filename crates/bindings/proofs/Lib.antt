@@ -1,0 +1,4 @@
+pub mod Mapped
+pub mod Names
+pub mod Numbers
+mod Computed

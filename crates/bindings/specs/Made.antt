@@ -1,0 +1,67 @@
+-- What a list of bindings stands for.
+use Rattle.std.specs.Prelude.{ℕ, ◌+◌, ◌^◌, ◌<◌, All, Bool, false, cond, not, ◌&&◌, nat_le, List, [], ◌∷◌, ◌++◌, option_map, string_bytes}
+use Rattle.ui_machine.specs.Properties.{has_flags}
+use Rattle.ui_machine.specs.Bindings.{listens, goes_back}
+use Rattle.ui_machine.specs.Config as config
+use Rattle.ui_machine.specs.declared.ids.ObjectId.{ObjectId}
+use Rattle.bindings.specs.declared.binding.Binding.{Binding}
+use Rattle.bindings.specs.declared.binding.Transfer.{Transfer}
+
+-- the bindings that stand, in order of their numbers, and the number of the next one
+pub record Made : Type 0 where
+  pub bindings : List config.Binding
+  pub next : ℕ
+
+-- the binding under its number, setting or not
+abbrev pub binding_of : ℕ → Bool → Binding → config.Binding
+binding_of number setting b = record {
+  number = number;
+  name = option_map (λ name. string_bytes name) b.name;
+  source = b.source.0;
+  source_slot = b.source_slot;
+  target = b.target.0;
+  target_slot = b.target_slot;
+  flags = b.flags.0;
+  setting = setting;
+}
+
+abbrev pub identity : ℕ → ObjectId
+identity number = record { 0 = number }
+
+-- from the source to the target
+abbrev pub forth : config.Binding → Transfer
+forth b = record {
+  number = b.number;
+  source = identity b.source;
+  source_slot = b.source_slot;
+  target = identity b.target;
+  target_slot = b.target_slot;
+  invert = has_flags 4 b.flags;
+}
+
+-- from the target to the source
+abbrev pub back : config.Binding → Transfer
+back b = record {
+  number = b.number;
+  source = identity b.target;
+  source_slot = b.target_slot;
+  target = identity b.source;
+  target_slot = b.source_slot;
+  invert = has_flags 4 b.flags;
+}
+
+-- from the property that was notified to the other end
+abbrev pub transfer_of : (object slot : ℕ) → config.Binding → Transfer
+transfer_of object slot b = cond (goes_back object slot b) (back b) (forth b)
+
+-- the numbers are below the next one, which a number of 64 bits holds
+abbrev pub AreNumbered : List config.Binding → ℕ → Type 0
+AreNumbered bindings next = All (λ b. b.number < next) bindings × (next < 2 ^ 64)
+
+-- whether the binding may be the next to act on a notification
+abbrev pub is_next : (object slot from : ℕ) → config.Binding → Bool
+is_next object slot from b = nat_le from b.number && listens object slot b && not b.setting
+
+-- the list with one binding more, that does not set
+abbrev pub with_binding : Made → Binding → Made
+with_binding made b = record { bindings = made.bindings ++ binding_of made.next false b ∷ []; next = made.next + 1 }

@@ -1,0 +1,123 @@
+//! A binding that stands.
+
+ghost use Rattle.std.specs.Prelude.{◌≡◌, false, nat_eq};
+ghost use Rattle.ui_machine.specs.Bindings.{listens, is_source, is_called, is_end};
+
+use crate::binding::{Binding, Transfer};
+use crate::flags::BindingFlags;
+use bitflags::Flags;
+use std::marker::Model;
+use ui_machine::ObjectId;
+
+/// A binding that was made.
+#[derive(Debug, Drop)]
+pub(crate) struct Bound {
+    number: u64,
+    binding: Binding,
+    setting: bool,
+}
+
+impl Model for Bound {
+    ghost use Rattle.ui_machine.specs.Config as config;
+
+    ghost Value = { config.Binding };
+
+    ghost use Rattle.bindings.specs.Made.{binding_of};
+
+    ghost view = { λ b. binding_of b.number b.setting b.binding };
+}
+
+impl Bound {
+    ghost use Rattle.bindings.specs.Made.{binding_of, transfer_of};
+
+    /// A binding that does not set.
+    pub(crate) fn new(number: u64, binding: Binding) -> Self
+        ensures { result ≡ binding_of number false binding }
+    {
+        Bound {
+            number,
+            binding,
+            setting: false,
+        }
+    }
+
+    pub(crate) fn number(&self) -> u64
+        ensures { result ≡ self.now.number }
+    {
+        self.number
+    }
+
+    pub(crate) fn has_number(&self, number: u64) -> bool
+        ensures { result ≡ nat_eq self.now.number number }
+    {
+        self.number == number
+    }
+
+    pub(crate) fn is_setting(&self) -> bool
+        ensures { result ≡ self.now.setting }
+    {
+        self.setting
+    }
+
+    pub(crate) fn mark(&mut self, setting: bool)
+        ensures { self.new ≡ record self.old { setting = setting } }
+    {
+        self.setting = setting;
+    }
+
+    fn is_source(&self, object: ObjectId, slot: u16) -> bool
+        ensures { result ≡ is_source object.0 slot self.now }
+    {
+        self.binding.source == object && self.binding.source_slot == slot
+    }
+
+    /// Whether a notification of the property is the binding's.
+    pub(crate) fn listens(&self, object: ObjectId, slot: u16) -> bool
+        ensures { result ≡ listens object.0 slot self.now }
+    {
+        let is_target = self.binding.target == object && self.binding.target_slot == slot;
+        self.is_source(object, slot)
+            || self.binding.flags.contains(BindingFlags::BIDIRECTIONAL) && is_target
+    }
+
+    pub(crate) fn is_called(&self, name: &str) -> bool
+        ensures { result ≡ is_called name.now self.now }
+    {
+        match &self.binding.name {
+            None => false,
+            Some(own) => own.as_str() == name,
+        }
+    }
+
+    pub(crate) fn is_end(&self, object: ObjectId) -> bool
+        ensures { result ≡ is_end object.0 self.now }
+    {
+        self.binding.source == object || self.binding.target == object
+    }
+
+    /// What it does when the property, one of its ends, was notified.
+    pub(crate) fn transfer(&self, object: ObjectId, slot: u16) -> Transfer
+        ensures { result ≡ transfer_of object.0 slot self.now }
+    {
+        let binding = &self.binding;
+        let invert = binding.flags.contains(BindingFlags::INVERT_BOOLEAN);
+        if self.is_source(object, slot) {
+            return Transfer {
+                number: self.number,
+                source: binding.source,
+                source_slot: binding.source_slot,
+                target: binding.target,
+                target_slot: binding.target_slot,
+                invert,
+            };
+        }
+        Transfer {
+            number: self.number,
+            source: binding.target,
+            source_slot: binding.target_slot,
+            target: binding.source,
+            target_slot: binding.source_slot,
+            invert,
+        }
+    }
+}

@@ -1,0 +1,24 @@
+//! Why a binding is not made.
+
+ghost use Rattle.std.specs.Prelude.{◌≡◌};
+ghost use Rattle.bindings.specs.declared.fault.BindError.TheVariants.{OutOfMemory};
+
+use std::alloc::AllocFailed;
+use thiserror::Error;
+
+/// Why a binding is not made.
+#[derive(Clone, Copy, Debug, PartialEq, Eq, Error)]
+pub enum BindError {
+    #[error("the numbers of bindings are used up")]
+    BindingLimit,
+    #[error("out of memory")]
+    OutOfMemory,
+}
+
+impl<T: Drop> From<AllocFailed<T>> for BindError {
+    ghost from_gives = { λ _ e. e ≡ OutOfMemory };
+
+    fn from(_error: AllocFailed<T>) -> BindError {
+        BindError::OutOfMemory
+    }
+}

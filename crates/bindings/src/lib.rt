@@ -1,0 +1,20 @@
+//! The bindings between properties that stand, in document order.
+//!
+//! A binding copies its source property into its target property when the source is notified, and where it is bidirectional
+//! also the other way (GObject manual, GBinding). While it sets, it ignores notifications. It ends by its name or with one of
+//! its objects. Objects go by identity, properties by slot, bindings by number. A contract sees a list of bindings and the
+//! number that the next one gets.
+#![tactic(auto)]
+
+mod binding;
+mod bound;
+mod fault;
+mod flags;
+mod list;
+#[cfg(test)]
+mod tests;
+
+pub use binding::{Binding, Transfer};
+pub use fault::BindError;
+pub use flags::BindingFlags;
+pub use list::Bindings;

@@ -1,0 +1,149 @@
+//! The bindings that stand.
+
+ghost use Rattle.std.specs.Prelude.{◌≡◌, ◌+◌, ◌-◌, ◌^◌, ◌<◌, ◌↔◌, [], OnOk, OnErr, IfOk, IfSome, option_map, count_by};
+ghost use Rattle.std.specs.List.{find, list_any};
+ghost use Rattle.ui_machine.specs.Bindings.{is_called, is_end, bindings_without, bindings_without_end, with_setting};
+
+use crate::binding::{Binding, Transfer};
+use crate::bound::Bound;
+use crate::fault::BindError;
+use std::alloc::Global;
+use std::marker::Model;
+use ui_machine::ObjectId;
+
+/// Bindings in document order, by numbers from 0 that are never used again.
+#[derive(Debug, Drop)]
+pub struct Bindings {
+    bound: Vec<Bound>,
+    next: u64,
+}
+
+impl Model for Bindings {
+    ghost use Rattle.bindings.specs.Made.{Made, AreNumbered};
+
+    ghost Value = { Made };
+
+    ghost view = { λ b. record { bindings = b.bound.items; next = b.next } };
+
+    ghost invariant = { λ b. AreNumbered b.bound.items b.next };
+}
+
+impl Bindings {
+    ghost use Rattle.bindings.specs.Made.{transfer_of, is_next, with_binding};
+
+    /// No bindings. It takes no memory.
+    pub fn new(alloc: Global) -> Self
+        ensures { result ≡ record { bindings = []; next = 0 } }
+    {
+        Bindings {
+            bound: Vec::new(alloc),
+            next: 0,
+        }
+    }
+
+    /// Makes a binding, and gives its number.
+    ///
+    /// `BindingLimit` where 2^64 - 1 numbers are used up, then `OutOfMemory`. An error changes nothing.
+    pub fn bind(&mut self, binding: Binding) -> Result<u64, BindError>
+        ensures ok { OnOk result (self.new ≡ with_binding self.old binding) }
+        ensures number { IfOk result (λ number. number ≡ self.old.next) }
+        ensures limit { (result ≡ Err BindError.BindingLimit) ↔ (self.old.next ≡ 2 ^ 64 - 1) }
+        ensures err { OnErr result (self.new ≡ self.old) }
+    {
+        let number = self.next;
+        let Some(next) = number.checked_add(1) else {
+            return Err(BindError::BindingLimit);
+        };
+        self.bound.push(Bound::new(number, binding))?;
+        self.next = next;
+        Ok(number)
+    }
+
+    /// Uses up the number of a binding that is not made, so that numbers stay places in the document.
+    ///
+    /// `BindingLimit` where 2^64 - 1 numbers are used up, and then nothing changes.
+    pub fn skip(&mut self) -> Result<(), BindError>
+        ensures ok { OnOk result (self.new ≡ record self.old { next = self.old.next + 1 }) }
+        ensures limit { OnErr result ((self.old.next ≡ 2 ^ 64 - 1) × (self.new ≡ self.old)) }
+        ensures named { OnErr result (result ≡ Err BindError.BindingLimit) }
+    {
+        self.next = self.next.checked_add(1).ok_or(BindError::BindingLimit)?;
+        Ok(())
+    }
+
+    /// Ends the bindings of a name, and says whether there was one.
+    pub fn unbind(&mut self, name: &str) -> bool
+        ensures found { result ≡ list_any (is_called name.now) self.old.bindings }
+        ensures left { self.new
+            ≡ record self.old { bindings = bindings_without name.now self.old.bindings } }
+    {
+        let found = self.bound.iter().any(|bound| bound.is_called(name));
+        end_called(&mut self.bound, name);
+        found
+    }
+
+    /// Ends the bindings that have an object as an end, and counts them.
+    pub fn end_of(&mut self, object: ObjectId) -> usize
+        ensures count { result ≡ count_by (is_end object.0) self.old.bindings }
+        ensures left { self.new
+            ≡ record self.old { bindings = bindings_without_end object.0 self.old.bindings } }
+    {
+        let count = self
+            .bound
+            .iter()
+            .filter(|bound| bound.is_end(object))
+            .count();
+        end_at(&mut self.bound, object);
+        count
+    }
+
+    /// What is to be done next about a notification: the transfer of the first binding numbered `from` or above that listens
+    /// at the property and is not setting. A bidirectional one listens at both ends.
+    pub fn on_notify(&self, object: ObjectId, slot: u16, from: u64) -> Option<Transfer>
+        ensures next { result
+            ≡ option_map (transfer_of object.0 slot) (find (is_next object.0 slot from) self.now.bindings) }
+
+        // The look for the one after it begins at a number too.
+        ensures goes_on { IfSome result (λ transfer. transfer.number + 1 < 2 ^ 64) }
+    {
+        self.bound
+            .iter()
+            .find(|bound| {
+                bound.number() >= from && bound.listens(object, slot) && !bound.is_setting()
+            })
+            .map(|bound| bound.transfer(object, slot))
+    }
+
+    /// Marks the binding of a number as setting or not. Where it has ended, nothing happens.
+    pub fn setting(&mut self, number: u64, setting: bool)
+        ensures { self.new
+            ≡ record self.old { bindings = with_setting number setting self.old.bindings } }
+    {
+        mark(&mut self.bound, number, setting);
+    }
+}
+
+// The bindings of the name go.
+fn end_called(bound: &mut Vec<Bound>, name: &str)
+    ensures { bound.new.items ≡ bindings_without name.now bound.old.items }
+{
+    bound.retain(|bound| !bound.is_called(name));
+}
+
+// The bindings that have the object as an end go.
+fn end_at(bound: &mut Vec<Bound>, object: ObjectId)
+    ensures { bound.new.items ≡ bindings_without_end object.0 bound.old.items }
+{
+    bound.retain(|bound| !bound.is_end(object));
+}
+
+// The binding of the number is setting or not.
+fn mark(bound: &mut [Bound], number: u64, setting: bool)
+    ensures { bound.new ≡ with_setting number setting bound.old }
+{
+    for one in bound.iter_mut() {
+        if one.has_number(number) {
+            one.mark(setting);
+        }
+    }
+}
