@@ -1,11 +1,11 @@
 -- Which definition and event of the machine the code's stand for.
-use Rattle.std.specs.Prelude.{ℕ, false, List, [], ◌∷◌, map, None, string_bytes, codes}
+use Rattle.std.specs.Prelude.{ℕ, false, List, [], ◌∷◌, map, length, None, string_bytes, codes}
+use Rattle.ui_machine.specs.Seq.{listed}
 use Rattle.ui_machine.specs.Properties as properties
 use Rattle.ui_machine.specs.Definition as machine
 use Rattle.ui_machine.specs.Config as config
 use Rattle.g_values.specs.View.{value_view}
-use Rattle.param_specs.specs.declared.spec.Spec.{Spec}
-use Rattle.param_specs.specs.View.{spec_view}
+use Rattle.param_specs.specs.Table.{specs_of}
 use Rattle.builder_defs.specs.declared.definition.ObjectEntry.{ObjectEntry}
 use Rattle.builder_defs.specs.declared.definition.Definition.{Definition}
 use Rattle.builder_defs.specs.declared.definition.Event.{Event}
@@ -30,7 +30,7 @@ default_objects = 64
 abbrev pub definition_of : Definition → machine.Definition
 definition_of d = record {
   types = d.types;
-  classes = map (λ specs. class_with (map spec_view specs.items)) d.specs.items;
+  classes = listed (λ t. class_with (specs_of d.types d.specs t)) (length d.types);
   shapes = []; programs = [];
   places = map plain_object d.objects.items;
   bindings = []; most_objects = default_objects; most_handlers = 0

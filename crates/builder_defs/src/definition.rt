@@ -1,11 +1,11 @@
 //! What a definition and an event say.
 
-ghost use Rattle.std.specs.Prelude.{◌≡◌, ℕ, List, option_map, option_copied, length, slice_get};
+ghost use Rattle.std.specs.Prelude.{◌≡◌, ◌<◌, length, option_map};
 ghost use Rattle.ui_machine.specs.Lookups.{spec_of, specs_of, type_of};
 ghost use Rattle.param_specs.specs.View.{spec_view};
 
 use g_values::Value;
-use param_specs::Spec;
+use param_specs::{Spec, SpecTable};
 use type_tree::{TypeId, TypeTree};
 use ui_machine::Place;
 
@@ -20,45 +20,43 @@ pub struct ObjectEntry {
 #[derive(Drop)]
 pub struct Definition {
     pub types: TypeTree,
-    pub specs: Vec<Vec<Spec>>,
+    pub specs: SpecTable,
     pub objects: Vec<ObjectEntry>,
 }
 
 impl Definition {
     ghost use Rattle.builder_defs.specs.Meaning.{definition_of};
 
-    // The specs of a class, if it has some.
-    fn table(&self, class: TypeId) -> Option<&Vec<Spec>>
-        ensures { option_copied result ≡ slice_get self.now.specs.items class }
-    {
-        self.specs.get(class.index())
-    }
-
     /// The spec of a property of a class by its slot, if there is one.
     pub fn spec(&self, class: TypeId, slot: u16) -> Option<&Spec>
         ensures { option_map (λ s. spec_view s.now) result ≡ spec_of (definition_of self.now) class slot }
     {
-        match self.table(class) {
-            Some(specs) => spec_at(specs, slot),
-            None => None,
+        if usize::from(slot) >= self.slots(class) {
+            return None;
         }
+        Some(self.specs.spec(&self.types, class, slot))
     }
 
     /// How many properties a class has, inherited ones among them.
     pub fn slots(&self, class: TypeId) -> usize
-        ensures { result ≡ length (specs_of (definition_of self.now) class) }
+        ensures slots { result ≡ length (specs_of (definition_of self.now) class) }
+        ensures known { 0 < result → class < length self.now.types }
     {
-        match self.table(class) {
-            Some(specs) => specs.len(),
-            None => 0,
+        if class.index() >= self.types.len() {
+            return 0;
         }
+        self.specs.slots_of(&self.types, class)
     }
-}
 
-fn spec_at(specs: &[Spec], slot: u16) -> Option<&Spec>
-    ensures { option_copied result ≡ slice_get specs.now slot }
-{
-    specs.get(usize::from(slot))
+    /// The name of a class, and nothing where there is none.
+    pub fn class_name(&self, class: TypeId) -> &str
+        ensures { result.now ≡ (type_of (definition_of self.now) class).name }
+    {
+        if class.index() >= self.types.len() {
+            return "";
+        }
+        self.types.name(class)
+    }
 }
 
 /// What a line of the event file asks for.

@@ -1,10 +1,14 @@
-use Rattle.std.proofs.Common.{◌≡◌, sym, ap, ◌∙◌}
-use Rattle.std.specs.Option.{option_copied}
-use Rattle.builder_defs.proofs.Tables.{spec_present, spec_absent}
+use Rattle.std.proofs.Common.{◌≡◌, ◌<◌, List, length, slice_get, sym, ap, ◌∙◌, arith}
+use Rattle.ui_machine.specs.Properties.{Spec}
+use Rattle.builder_defs.proofs.Tables.{known_specs}
 use Rattle.builder_defs.proofs.definition.Definition.spec.Goals as goal
 
-pub returns-in-Some : goal.returns-in-Some
-returns-in-Some c = spec_present c.args.self.now c.args.class c.args.slot c.in-Some.specs.now c.spec_at.result (sym c.table.ensures ∙ ap option_copied c.in-Some.is) (rw c.deref.ensures.value at c.spec_at.ensures)
+pub spec-requires : goal.spec-requires
+spec-requires c =
+    let known : c.args.class < length c.args.self.now.types = c.slots.ensures.known (omega arith) in
+    omega (arith, c.slots.ensures.slots, ap length (known_specs c.args.self.now c.args.class known))
 
-pub returns-in-None : goal.returns-in-None
-returns-in-None c = spec_absent c.args.self.now c.args.class c.args.slot (sym c.table.ensures ∙ ap option_copied c.in-None.is)
+pub returns : goal.returns
+returns c =
+    let known : c.args.class < length c.args.self.now.types = c.slots.ensures.known (omega arith) in
+    sym c.spec.ensures ∙ ap (λ (specs : List Spec). slice_get specs c.args.slot) (sym (known_specs c.args.self.now c.args.class known))
