@@ -6,3 +6,4 @@ pub mod Held
 pub mod Quiet
 pub mod Strings
 pub mod Values
+pub mod Falls

@@ -4,3 +4,4 @@ pub mod Holding
 pub mod View
 pub mod MakingView
 pub mod TaskView
+pub mod Measure

@@ -1,0 +1,163 @@
+-- Uncounted steps make the work less.
+use Rattle.std.proofs.Common.{◌≡◌, ℕ, zero, suc, ◌+◌, ◌-◌, ◌*◌, ◌<◌, ◌≤◌, Bool, true, false, cond, nat_eq, nat_lt, ◌&&◌, ◌||◌, List, [], ◌∷◌, ◌++◌, length, Option, Some, None, Result, Ok, Err, slice_get, refl, sym, ap, subst, ◌∙◌, arith, length-append}
+use Rattle.std.specs.Prelude.{IfOk}
+use Rattle.std.specs.List.{list_any}
+use Rattle.std.proofs.lemmas.List.{length-reverse}
+use Rattle.ui_machine.specs.declared.arm.Arm.{Arm}
+use Rattle.ui_machine.specs.declared.arm.Arm.TheVariants as arms
+use Rattle.ui_machine.specs.Seq.{read, write, total}
+use Rattle.ui_machine.specs.Values.{Value}
+use Rattle.ui_machine.specs.Lines as lines
+use Rattle.ui_machine.specs.Transform.{same_value}
+use Rattle.ui_machine.specs.Clamp.{clamp}
+use Rattle.ui_machine.specs.Properties.{Spec, is_lax, is_readable}
+use Rattle.ui_machine.specs.Definition.{Definition, Given}
+use Rattle.ui_machine.specs.Lookups.{spec_of}
+use Rattle.ui_machine.specs.Queue.{queued, thawed}
+use Rattle.ui_machine.specs.Config.{Object, Objects, Making, Task, Setting, Notifying, Thawing, Constructing, World}
+use Rattle.ui_machine.specs.Answers.{Answer, ◌>>=◌, known, only_if}
+use Rattle.ui_machine.specs.Objects.{find, put, class_in, object_at, asked, value_at, changed, with_value, raised, frozen_less, less_frozen}
+use Rattle.ui_machine.specs.Worlds.{Started, starts, said}
+use Rattle.ui_machine.specs.Sets.{spec_at, raising, notifies, kept, written, settled, setting, lives, has_kind}
+use Rattle.ui_machine.specs.Builds.{thawing_made, given_value, held_object}
+use Rattle.ui_machine.specs.Steps.{answered, thawing, carrying_set, carrying_get}
+use Rattle.ui_engine.specs.Measure.{weight, waiting_in, waiting}
+use Rattle.ui_engine.proofs.Held.{if_ok_at, bind_ok}
+
+-- ** what waits, after one object changed
+
+waiting-write : (os : Objects) (i : ℕ) (o x : Object) → read None os i ≡ Some o → waiting (write None os i (Some x)) + waiting_in (Some o) ≡ waiting os + waiting_in (Some x)
+waiting-write [] i o x h = cc
+waiting-write (y ∷ os) zero o x h = let e : waiting_in y ≡ waiting_in (Some o) = ap waiting_in h in omega (arith, e)
+waiting-write (y ∷ os) (suc i) o x h = omega (arith, waiting-write os i o x h)
+
+waiting-put : (os : Objects) (id : ℕ) (o x : Object) → find os id ≡ Some o → waiting (put os id (Some x)) + waiting_in (Some o) ≡ waiting os + waiting_in (Some x)
+waiting-put os zero o x h = cc
+waiting-put os (suc i) o x h = waiting-write os i o x h
+
+-- a change of one object that puts no more than so much into its queue, and gives back so much
+abbrev Adds : {X : Type 0} → (X → ℕ) → ℕ → (Object → Answer (Object × X)) → Type 0
+Adds {X} gives most change = (o : Object) → IfOk (change o) (λ r. waiting_in (Some r.0) + gives r.1 ≤ waiting_in (Some o) + most)
+
+changed_waiting : {X : Type 0} (gives : X → ℕ) (most : ℕ) (os : Objects) (id : ℕ) (change : Object → Answer (Object × X)) → Adds gives most change
+    → IfOk (changed os id change) (λ r. waiting r.0 + gives r.1 ≤ waiting os + most)
+unfolding changed
+changed_waiting {X} gives most os id change adds = by (find os id) refl
+  where
+    P : Objects × X → Type 0
+    P = λ r. waiting r.0 + gives r.1 ≤ waiting os + most
+
+    by : (o : Option Object) → find os id ≡ o → IfOk (known arms.Operand o >>= λ x. change x >>= λ new. Ok (put os id (Some new.0), new.1)) P
+    by None e = tt
+    by (Some x) e = bind_ok (change x) (λ new. Ok (put os id (Some new.0), new.1)) P (λ new is.
+        let a = if_ok_at (λ (r : Object × X). waiting_in (Some r.0) + gives r.1 ≤ waiting_in (Some x) + most) (change x) new (adds x) is in
+        let p = waiting-put os id x new.0 e in
+        omega (arith, a, p))
+
+nothing : {X : Type 0} → X → ℕ
+nothing x = 0
+
+written_adds : (slot : ℕ) (v : Value) → Adds (nothing {X = Value}) 0 (with_value slot v)
+unfolding with_value nothing
+written_adds slot v o = bind_ok (value_at slot o) _ (λ r. waiting_in (Some r.0) + 0 ≤ waiting_in (Some o) + 0) (λ old _. omega arith)
+
+length-queued : (q : List ℕ) (slot : ℕ) (b : Bool) → 2 * length (cond b q (q ++ slot ∷ [])) ≤ 2 * length q + 2
+length-queued q slot true = omega arith
+length-queued q slot false = omega (arith, length-append q (slot ∷ []))
+
+told_weight : Bool → ℕ
+told_weight true = 1
+told_weight false = 0
+
+raised_adds : (slot : ℕ) → Adds told_weight 2 (raised slot)
+unfolding told_weight
+raised_adds slot o = by (nat_eq o.freezes 0)
+  where
+    raise : Bool → Answer (Object × Bool)
+    raise b = Ok (cond b (o, true) (record o { queue = queued o.queue slot }, false))
+
+    by : (b : Bool) → IfOk (raise b) (λ r. waiting_in (Some r.0) + told_weight r.1 ≤ waiting_in (Some o) + 2)
+    by true = omega arith
+    by false = omega (arith, length-queued o.queue slot (list_any (λ s. nat_eq s slot) o.queue))
+
+length-thawed : (q : List ℕ) → length (thawed q) ≡ length q
+length-thawed q = length-reverse q
+
+twice_length : List ℕ → ℕ
+twice_length q = 2 * length q
+
+thawed_adds : Adds twice_length 0 frozen_less
+unfolding twice_length
+thawed_adds o = by (nat_lt 0 o.freezes) (o.freezes - 1)
+  where
+    by : (b : Bool) (n : ℕ) → IfOk (only_if b arms.Freeze (Ok (less_frozen n o))) (λ r. waiting_in (Some r.0) + 2 * length r.1 ≤ waiting_in (Some o) + 0)
+    by false n = tt
+    by true zero = omega (arith, length-thawed o.queue)
+    by true (suc n) = omega arith
+
+-- ** tasks
+
+-- a step whose task had this weight
+pub record Falls (d : Definition) (w : World) (before : ℕ) (s : Started) : Type 0 where
+  pub less : total (weight d) s.tasks + waiting s.world.objects < before + waiting w.objects
+
+told_less : (b : Bool) (d : Definition) (id slot : ℕ) → total (weight d) (cond b (Notifying id slot ∷ []) []) ≡ told_weight b
+unfolding told_weight
+told_less true d id slot = refl
+told_less false d id slot = refl
+
+pub raising_falls : (d : Definition) (w : World) (id slot : ℕ) → IfOk (raising w id slot) (Falls d w 3)
+unfolding raising
+raising_falls d w id slot = bind_ok (changed w.objects id (raised slot)) _ (Falls d w 3) (λ r e.
+    let a = if_ok_at (λ (r : Objects × Bool). waiting r.0 + told_weight r.1 ≤ waiting w.objects + 2) (changed w.objects id (raised slot)) r (changed_waiting told_weight 2 w.objects id (raised slot) (raised_adds slot)) e in
+    record { less = omega (arith, a, told_less r.1 d id slot) })
+
+falls_on : (d : Definition) (w v : World) (a : Answer Started) (before : ℕ) → waiting v.objects ≤ waiting w.objects → IfOk a (Falls d v before) → IfOk a (Falls d w before)
+falls_on d w v (Ok s) before h f = let l = f.less in record { less = omega (arith, l, h) }
+falls_on d w v (Err arm) before h f = tt
+
+written_falls : (d : Definition) (w : World) (id slot : ℕ) (s : Spec) (v : Value) → IfOk (written d w id slot s v) (Falls d w 3)
+unfolding written nothing
+written_falls d w id slot s v = bind_ok (changed w.objects id (with_value slot v)) _ (Falls d w 3) (λ r e.
+    let a = if_ok_at (λ (r : Objects × Value). waiting r.0 + 0 ≤ waiting w.objects + 0) (changed w.objects id (with_value slot v)) r (changed_waiting nothing 0 w.objects id (with_value slot v) (written_adds slot v)) e in
+    by (notifies s r.1 v) r (omega (arith, a)))
+  where
+    by : (b : Bool) (r : Objects × Value) → waiting r.0 ≤ waiting w.objects
+        → IfOk (cond b (raising (said d (record w { objects = r.0 }) (lines.set id s.name v)) id slot) (starts (said d (record w { objects = r.0 }) (lines.set id s.name v)) [])) (Falls d w 3)
+    by true r h = falls_on d w (said d (record w { objects = r.0 }) (lines.set id s.name v)) (raising (said d (record w { objects = r.0 }) (lines.set id s.name v)) id slot) 3 h (raising_falls d (said d (record w { objects = r.0 }) (lines.set id s.name v)) id slot)
+    by false r h = record { less = omega (arith, h) }
+
+settled_falls : (d : Definition) (w : World) (id slot : ℕ) (s : Spec) (v valid : Value) → IfOk (settled d w id slot s v valid) (Falls d w 3)
+settled_falls d w id slot s v valid = by (same_value valid v || is_lax s)
+  where
+    by : (b : Bool) → IfOk (cond b (written d w id slot s (kept w.objects s valid)) (starts (said d w (lines.refused id s.name v)) [])) (Falls d w 3)
+    by true = written_falls d w id slot s (kept w.objects s valid)
+    by false = record { less = omega arith }
+
+only_falls : (d : Definition) (w : World) (before : ℕ) (b : Bool) (arm : Arm) (a : Answer Started) → IfOk a (Falls d w before) → IfOk (only_if b arm a) (Falls d w before)
+only_falls d w before true arm a h = h
+only_falls d w before false arm a h = tt
+
+pub setting_falls : (d : Definition) (w : World) (id slot : ℕ) (v : Value) → IfOk (setting d w id slot v) (Falls d w 3)
+unfolding setting
+setting_falls d w id slot v = bind_ok (spec_at d w.objects id slot) _ (Falls d w 3) (λ s _.
+    only_falls d w 3 (has_kind v s.kind && lives w.objects v) arms.Value (settled d w id slot s v (clamp (class_in w.objects) d.types s v)) (settled_falls d w id slot s v (clamp (class_in w.objects) d.types s v)))
+
+pub thawing_falls : (d : Definition) (w : World) (id : ℕ) (slots : List ℕ) → IfOk (thawing w id slots) (Falls d w (2 * length slots + 1))
+thawing_falls d w id [] = record { less = omega arith }
+thawing_falls d w id (slot ∷ slots) = record { less = omega arith }
+
+pub thawing_made_falls : (d : Definition) (w : World) (id : ℕ) (steps : List Making) (held : Bool) → IfOk (thawing_made w id steps held) (Falls d w (4 * suc (length steps) + 1))
+unfolding thawing_made twice_length
+thawing_made_falls d w id steps held = bind_ok (changed w.objects id frozen_less) _ (Falls d w (4 * suc (length steps) + 1)) (λ r e.
+    let a = if_ok_at (λ (r : Objects × List ℕ). waiting r.0 + 2 * length r.1 ≤ waiting w.objects + 0) (changed w.objects id frozen_less) r (changed_waiting twice_length 0 w.objects id frozen_less thawed_adds) e in
+    record { less = omega (arith, a) })
+
+pub carrying_set_falls : (d : Definition) (w : World) (place slot : ℕ) (given : Given) → IfOk (carrying_set w place slot given) (Falls d w 4)
+unfolding carrying_set
+carrying_set_falls d w place slot given = bind_ok (held_object w place) _ (Falls d w 4) (λ id _. bind_ok (known arms.Operand (given_value w given)) _ (Falls d w 4) (λ v _. record { less = omega arith }))
+
+pub carrying_get_falls : (d : Definition) (w : World) (place slot : ℕ) → IfOk (carrying_get d w place slot) (Falls d w 4)
+unfolding carrying_get
+carrying_get_falls d w place slot = bind_ok (held_object w place) _ (Falls d w 4) (λ id _. bind_ok (spec_at d w.objects id slot) _ (Falls d w 4) (λ s _. bind_ok (asked w.objects id (value_at slot)) _ (Falls d w 4) (λ v _.
+    only_falls d w 4 (is_readable s) arms.Flags (starts (answered (said d w (lines.get id s.name v)) v) []) (record { less = omega arith }))))

@@ -1,0 +1,45 @@
+-- How much may be done before a counted step is due: it falls with each uncounted step.
+use Rattle.std.specs.Prelude.{ℕ, suc, ◌+◌, ◌*◌, List, [], ◌∷◌, length, Option, Some, None}
+use Rattle.ui_machine.specs.Seq.{total}
+use Rattle.ui_machine.specs.Definition.{Definition, Place}
+use Rattle.ui_machine.specs.Lookups.{place_at, specs_of}
+use Rattle.ui_machine.specs.Config.{Object, Objects, Item, makes, adopts, forwards, binds, connects, Task, Setting, Notifying, Beginning, Emitting, Transferring, Unsetting, Thawing, Running, Answering, Calling, Constructing, Building, Carrying, Due, Config}
+
+-- the properties of an object of the build
+abbrev pub slots_of_place : Definition → Option Place → ℕ
+slots_of_place d None = 0
+slots_of_place d (Some p) = length (specs_of d p.class)
+
+abbrev pub item_weight : Definition → Item → ℕ
+item_weight d (makes place) = 4 * suc (slots_of_place d (place_at d place)) + 3
+item_weight d (adopts place) = 1
+item_weight d (forwards place slot to) = 1
+item_weight d (binds number) = 1
+item_weight d (connects place number) = 1
+
+abbrev pub weight : Definition → Task → ℕ
+weight d (Setting id slot v) = 3
+weight d (Notifying id slot) = 1
+weight d (Beginning emission) = 1
+weight d (Emitting emission turns) = 1
+weight d (Transferring number back) = 1
+weight d (Unsetting number) = 1
+weight d (Thawing id slots) = 2 * length slots + 1
+weight d (Running program block at passes into registers) = 1
+weight d (Answering source) = 1
+weight d (Calling object peer method args to) = 1
+weight d (Constructing id steps held) = 4 * length steps + 1
+weight d (Building items) = total (item_weight d) items + 1
+weight d (Carrying event) = 4
+weight d (Due source) = 1
+
+-- a notification that waits
+abbrev pub waiting_in : Option Object → ℕ
+waiting_in None = 0
+waiting_in (Some o) = 2 * length o.queue
+
+abbrev pub waiting : Objects → ℕ
+waiting os = total waiting_in os
+
+abbrev pub work : Definition → Config → ℕ
+work d c = total (weight d) c.agenda + waiting c.world.objects
