@@ -1,1 +1,3 @@
 pub mod Specs
+pub mod Dashes
+pub mod Same

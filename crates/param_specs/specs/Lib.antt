@@ -2,3 +2,4 @@ pub mod Flags
 pub mod PropertyName
 pub mod View
 pub mod Table
+pub mod Validation

@@ -1,8 +1,10 @@
 //! Names of properties.
 
-ghost use Rattle.std.specs.Prelude.{◌≡◌, cond, nat_eq};
+ghost use Rattle.std.specs.Prelude.{◌≡◌, cond, nat_eq, map, true, IfOk, string_bytes};
 ghost use Rattle.ui_machine.specs.Names.{same_name, canonical};
 ghost use Rattle.param_specs.specs.PropertyName.{is_property_name, segments_follow, is_letter, is_letter_or_digit, is_separator};
+
+use std::alloc::{AllocError, Global};
 
 /// Whether a text is a property's or signal's name: segments of ASCII letters and digits, none empty, between `-` or `_`, a letter first.
 pub fn is_property_name(name: &str) -> bool
@@ -70,6 +72,32 @@ fn spells(stored: &[u8], name: &[u8]) -> bool
             [byte, others @ ..] => *wanted == dashed(*byte) && spells(rest, others),
         },
     }
+}
+
+/// The canonical spelling of a name, with `-` for `_`.
+pub fn canonical_name(alloc: Global, name: &str) -> Result<String, AllocError>
+    requires { is_property_name name.now ≡ true }
+    ensures { IfOk result (λ s. string_bytes s ≡ canonical name.now) }
+{
+    let bytes = dashed_bytes(alloc, name.as_bytes())?;
+    match String::from_utf8(bytes) {
+        Ok(text) => Ok(text),
+        Err(_) => unreachable!(),
+    }
+}
+
+#[tactic(auto, using(crate::proofs::Dashes::canonical_is_map))]
+fn dashed_bytes(alloc: Global, bytes: &[u8]) -> Result<Vec<u8>, AllocError>
+    ensures { IfOk result (λ v. v.items ≡ canonical bytes.now) }
+{
+    let dashed = each_dashed(alloc, bytes)?;
+    Ok(dashed)
+}
+
+fn each_dashed(alloc: Global, bytes: &[u8]) -> Result<Vec<u8>, AllocError>
+    ensures { IfOk result (λ v. v.items ≡ map (λ b. cond (nat_eq b 95) 45 b) bytes.now) }
+{
+    bytes.iter().map(|byte| dashed(*byte)).collect(alloc)
 }
 
 // `-` for `_`.

@@ -1,2 +1,160 @@
-//! Validation: how a value is brought into its property's spec.
-pub fn validate() {}
+//! Validation: how a value is brought into its property's spec (GObject manual, g_param_value_validate).
+
+ghost use Rattle.std.specs.Prelude.{◌≡◌, ◌≤ℤ◌, ℤ, ℕ, pos, cond, not, nat_eq, bit_and, Option, None, Some};
+ghost use Rattle.std.specs.Ordering.{int_eq};
+ghost use Rattle.ui_machine.specs.Values as values;
+ghost use Rattle.ui_machine.specs.Kinds as kinds;
+ghost use Rattle.ui_machine.specs.Kinds.{int, uint, int64, uint64};
+ghost use Rattle.ui_machine.specs.Types.{enum, flags};
+ghost use Rattle.ui_machine.specs.Text.{members_of};
+ghost use Rattle.ui_machine.specs.Transform.{same_value, least, greatest, has_number, known_bits};
+ghost use Rattle.ui_machine.specs.Clamp.{clamp, limited};
+ghost use Rattle.type_tree.specs.Adding.{sort_of};
+ghost use Rattle.g_values.specs.View.{kind_view, value_view, value_kind};
+ghost use Rattle.param_specs.specs.View.{spec_view};
+ghost use Rattle.param_specs.specs.Validation.{Takes, KnowsClass, IsWithin, Corrects};
+
+use crate::spec::Spec;
+use g_values::{Kind, Value, has_number, known_bits};
+use type_tree::{TypeId, TypeTree};
+use ui_machine::ObjectId;
+
+/// A value as the property takes it, and whether it was changed: a number goes to the nearer end of the range, one that is no member becomes the
+/// default, unknown bits are cleared, and an object of another type becomes null. An object's value has to name the object's own class.
+#[tactic(auto, using(crate::proofs::Same::same_value_refl))]
+pub fn validate(tree: &TypeTree, spec: &Spec, value: Value) -> (Value, bool)
+    requires { Takes tree.now spec.now value }
+    ensures value { (class_of : ℕ → Option ℕ) → KnowsClass class_of value
+        → value_view result.0 ≡ clamp class_of tree.now (spec_view spec.now) (value_view value) }
+    ensures changed { (class_of : ℕ → Option ℕ) → KnowsClass class_of value
+        → result.1 ≡ not (same_value (clamp class_of tree.now (spec_view spec.now) (value_view value)) (value_view value)) }
+{
+    match corrected(tree, spec, &value) {
+        Some(corrected) => (corrected, true),
+        None => (value, false),
+    }
+}
+
+// What takes the value's place, if it is not valid.
+fn corrected(tree: &TypeTree, spec: &Spec, value: &Value) -> Option<Value>
+    requires { Takes tree.now spec.now value.now }
+    ensures { (class_of : ℕ → Option ℕ) → KnowsClass class_of value.now
+        → Corrects result (clamp class_of tree.now (spec_view spec.now) (value_view value.now)) (value_view value.now) }
+{
+    match value {
+        Value::Bool(_) => None,
+        Value::Int(n) => corrected_int(spec, *n),
+        Value::UInt(n) => corrected_uint(spec, *n),
+        Value::Int64(n) => corrected_int64(spec, *n),
+        Value::UInt64(n) => corrected_uint64(spec, *n),
+        Value::Text(_) => None,
+        Value::Enum(t, n) => corrected_enum(tree, spec, *t, *n),
+        Value::Flags(t, bits) => corrected_flags(tree, *t, *bits),
+        Value::Object(_, None) => None,
+        Value::Object(t, Some(id)) => corrected_object(tree, spec, *t, *id),
+    }
+}
+
+// The number of the range that is nearest.
+fn nearest(spec: &Spec, number: i128) -> i128
+    ensures nearest { result ≡ limited spec.now.min spec.now.max number }
+    ensures low { (n : ℤ) → n ≤ℤ spec.now.min → n ≤ℤ spec.now.max → n ≤ℤ number → n ≤ℤ result }
+    ensures high { (n : ℤ) → spec.now.min ≤ℤ n → spec.now.max ≤ℤ n → number ≤ℤ n → result ≤ℤ n }
+{
+    if number < spec.min {
+        return spec.min;
+    }
+    if number > spec.max {
+        return spec.max;
+    }
+    number
+}
+
+fn corrected_int(spec: &Spec, number: i32) -> Option<Value>
+    requires { IsWithin int spec.now }
+    ensures { Corrects result (values.whole int (limited spec.now.min spec.now.max number)) (values.whole int number) }
+{
+    let nearest = nearest(spec, i128::from(number));
+    if nearest == i128::from(number) {
+        return None;
+    }
+    Some(Value::Int(nearest as i32))
+}
+
+fn corrected_uint(spec: &Spec, number: u32) -> Option<Value>
+    requires { IsWithin uint spec.now }
+    ensures { Corrects result (values.whole uint (limited spec.now.min spec.now.max (pos number))) (values.whole uint (pos number)) }
+{
+    let nearest = nearest(spec, i128::from(number));
+    if nearest == i128::from(number) {
+        return None;
+    }
+    Some(Value::UInt(nearest as u32))
+}
+
+fn corrected_int64(spec: &Spec, number: i64) -> Option<Value>
+    requires { IsWithin int64 spec.now }
+    ensures { Corrects result (values.whole int64 (limited spec.now.min spec.now.max number)) (values.whole int64 number) }
+{
+    let nearest = nearest(spec, i128::from(number));
+    if nearest == i128::from(number) {
+        return None;
+    }
+    Some(Value::Int64(nearest as i64))
+}
+
+fn corrected_uint64(spec: &Spec, number: u64) -> Option<Value>
+    requires { IsWithin uint64 spec.now }
+    ensures { Corrects result (values.whole uint64 (limited spec.now.min spec.now.max (pos number))) (values.whole uint64 (pos number)) }
+{
+    let nearest = nearest(spec, i128::from(number));
+    if nearest == i128::from(number) {
+        return None;
+    }
+    Some(Value::UInt64(nearest as u64))
+}
+
+fn corrected_enum(tree: &TypeTree, spec: &Spec, t: TypeId, number: i32) -> Option<Value>
+    requires sort { sort_of tree.now t ≡ enum }
+    requires default { value_kind spec.now.default ≡ kinds.enum t }
+    ensures { Corrects result (cond (has_number (members_of tree.now t) number) (values.enum t number) (value_view spec.now.default)) (values.enum t number) }
+{
+    if has_number(tree.enum_members(t), i128::from(number)) {
+        return None;
+    }
+    match spec.default {
+        Value::Enum(u, default) => {
+            if default == number {
+                return None;
+            }
+            Some(Value::Enum(u, default))
+        }
+        _ => unreachable!(),
+    }
+}
+
+fn corrected_flags(tree: &TypeTree, t: TypeId, bits: u32) -> Option<Value>
+    requires { sort_of tree.now t ≡ flags }
+    ensures { Corrects result (values.flags t (bit_and bits (known_bits (members_of tree.now t)))) (values.flags t bits) }
+{
+    let known = bits & known_bits(tree.flags_members(t));
+    if known == bits {
+        return None;
+    }
+    Some(Value::Flags(t, known))
+}
+
+fn corrected_object(tree: &TypeTree, spec: &Spec, t: TypeId, id: ObjectId) -> Option<Value>
+    ensures { (class_of : ℕ → Option ℕ) → class_of id.0 ≡ Some t
+        → Corrects result (clamp class_of tree.now (spec_view spec.now) (values.object (Some id.0))) (values.object (Some id.0)) }
+{
+    match spec.kind {
+        Kind::Object(u) => {
+            if tree.is_a(t, u) {
+                return None;
+            }
+            Some(Value::Object(t, None))
+        }
+        _ => Some(Value::Object(t, None)),
+    }
+}
