@@ -1,5 +1,5 @@
 -- What a spec stands for.
-use Rattle.std.specs.Prelude.{ℕ, List, string_bytes}
+use Rattle.std.specs.Prelude.{ℕ, List, map, string_bytes}
 use Rattle.ui_machine.specs.Properties as properties
 use Rattle.g_values.specs.View.{kind_view, value_view}
 use Rattle.param_specs.specs.declared.spec.Spec.{Spec}
@@ -15,3 +15,7 @@ spec_view s = record {
   high = s.max;
   weak = s.weak
 }
+
+-- lists of specs
+abbrev pub lists_of : {A : Type 0} → (A → List Spec) → List A → List (List properties.Spec)
+lists_of items vs = map (λ v. map spec_view (items v)) vs

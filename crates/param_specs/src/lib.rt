@@ -5,6 +5,7 @@
 
 mod error;
 mod flags;
+mod growing;
 mod name;
 mod spec;
 mod table;

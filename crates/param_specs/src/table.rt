@@ -1,13 +1,14 @@
 //! Which properties the types have.
 
-ghost use Rattle.std.specs.Prelude.{◌≡◌, ◌<◌, ◌≤◌, ◌+◌, ◌*◌, List, [], map, length, string_bytes, slice_get, position, Some, IfSome};
+ghost use Rattle.std.specs.Prelude.{◌≡◌, ◌<◌, ◌≤◌, ◌+◌, ◌*◌, List, [], map, length, string_bytes, slice_get, position, Some, IfSome, OnOk, OnErr};
 ghost use Rattle.ui_machine.specs.Names.{same_name, canonical, place_named};
 ghost use Rattle.param_specs.specs.View.{spec_view};
-ghost use Rattle.param_specs.specs.Table.{own_of, specs_of, slot_named};
+ghost use Rattle.param_specs.specs.Table.{own_of, specs_of, slot_named, AddsSpec, SameSpecs};
 
+use crate::growing::{add, grow};
 use crate::name::is_spelling;
 use crate::spec::Spec;
-use std::alloc::Global;
+use std::alloc::{AllocError, Global};
 use std::marker::Model;
 use type_tree::{TypeId, TypeTree};
 
@@ -111,6 +112,19 @@ impl SpecTable {
         } else {
             self.own_spec(t, slot - inherited)
         }
+    }
+
+    // Adds a property of a type's own.
+    fn add_own(&mut self, t: TypeId, spec: Spec) -> Result<(), AllocError>
+        requires { length (own_of self.old t) < 64 }
+        ensures ok { OnOk result (AddsSpec self.old self.new t (spec_view spec)) }
+        ensures err { OnErr result (SameSpecs self.old self.new) }
+    {
+        let at = t.index();
+        let alloc = *self.own.allocator();
+        grow(alloc, &mut self.own, at + 1)?;
+        add(&mut self.own, at, spec)?;
+        Ok(())
     }
 
     /// The slot of a property of a type, its own or inherited, by any spelling of its name.
