@@ -1,40 +1,75 @@
 -- Which definition and event of the machine the code's stand for.
-use Rattle.std.specs.Prelude.{ℕ, false, List, [], ◌∷◌, map, length, None, string_bytes, codes}
+use Rattle.std.specs.Prelude.{◌≡◌, ℕ, false, List, [], ◌∷◌, map, length, Option, None, Some, string_bytes, codes, slice_get}
 use Rattle.ui_machine.specs.Seq.{listed}
-use Rattle.ui_machine.specs.Properties as properties
+use Rattle.ui_machine.specs.Kinds as kinds
+use Rattle.ui_machine.specs.Types.{GType}
+use Rattle.ui_machine.specs.Transform.{least, greatest}
+use Rattle.ui_machine.specs.Properties.{Spec}
 use Rattle.ui_machine.specs.Definition as machine
+use Rattle.ui_machine.specs.Lookups as lookups
 use Rattle.ui_machine.specs.Config as config
 use Rattle.g_values.specs.View.{value_view}
 use Rattle.param_specs.specs.Table.{specs_of}
-use Rattle.builder_defs.specs.declared.definition.ObjectEntry.{ObjectEntry}
-use Rattle.builder_defs.specs.declared.definition.Definition.{Definition}
-use Rattle.builder_defs.specs.declared.definition.Event.{Event}
-use Rattle.builder_defs.specs.declared.definition.Event.TheVariants as events
+use Rattle.builder_defs.specs.declared.object_entry.ObjectEntry.{ObjectEntry}
+use Rattle.builder_defs.specs.declared.event.Event.{Event}
+use Rattle.builder_defs.specs.declared.event.Event.TheVariants as events
 
 -- the signal that every object has
 abbrev pub notify_signal : machine.Signal
 notify_signal = record { name = codes "notify"; params = []; result = None; flags = 17; accumulator = None }
 
 -- a type with these properties, and nothing else
-abbrev pub class_with : List properties.Spec → machine.Class
+abbrev pub class_with : List Spec → machine.Class
 class_with specs = record { specs = specs; signals = notify_signal ∷ []; handlers = []; constructed = None; shape = None }
 
 -- an object without parent, given values, peer and signals
 abbrev pub plain_object : ObjectEntry → machine.Place
 plain_object o = record { id = string_bytes o.id; class = o.class; is_prototype = false; parent = None; given = []; peers = []; signals = [] }
 
--- the limits where a definition declares none
+-- how many objects may live where a definition sets no limit
 abbrev pub default_objects : ℕ
 default_objects = 64
 
-abbrev pub definition_of : Definition → machine.Definition
-definition_of d = record {
-  types = d.types;
-  classes = listed (λ t. class_with (specs_of d.types d.specs t)) (length d.types);
+-- the definition of these types, specs and objects
+abbrev pub meaning : List GType → List (List Spec) → List ObjectEntry → machine.Definition
+meaning types specs objects = record {
+  types = types;
+  classes = listed (λ t. class_with (specs_of types specs t)) (length types);
   shapes = []; programs = [];
-  places = map plain_object d.objects.items;
+  places = map plain_object objects;
   bindings = []; most_objects = default_objects; most_handlers = 0
 }
+
+-- a property of a kind that there is so far: a truth value, a number of the whole range, or a text
+abbrev pub IsPlainKind : kinds.Kind → Spec → Type 0
+IsPlainKind kinds.bool s = Unit {0}
+IsPlainKind (kinds.whole kinds.int) s = (s.low ≡ least kinds.int) × (s.high ≡ greatest kinds.int)
+IsPlainKind (kinds.whole kinds.uint) s = ⊥
+IsPlainKind (kinds.whole kinds.int64) s = ⊥
+IsPlainKind (kinds.whole kinds.uint64) s = ⊥
+IsPlainKind kinds.text s = Unit {0}
+IsPlainKind (kinds.enum t) s = ⊥
+IsPlainKind (kinds.flags t) s = ⊥
+IsPlainKind (kinds.object t) s = ⊥
+
+abbrev pub IsPlain : Spec → Type 0
+IsPlain s = IsPlainKind s.kind s
+
+-- all properties of all types are plain
+pub record ArePlain (types : List GType) (specs : List (List Spec)) : Type 0 where
+  pub at : (t slot : ℕ) (s : Spec) → slice_get (specs_of types specs t) slot ≡ Some s → IsPlain s
+
+-- what a definition does not have so far: handlers, programs, bindings, and objects but plain ones
+pub record IsBasic (d : machine.Definition) : Type 0 where
+  pub handlers : (t : ℕ) → (lookups.class_of d t).handlers ≡ []
+  pub constructed : (t : ℕ) → (lookups.class_of d t).constructed ≡ None
+  pub plain : (t slot : ℕ) (s : Spec) → lookups.spec_of d t slot ≡ Some s → IsPlain s
+  pub parents : (p : ℕ) (place : machine.Place) → slice_get d.places p ≡ Some place → place.parent ≡ None
+  pub given : (p : ℕ) (place : machine.Place) → slice_get d.places p ≡ Some place → place.given ≡ []
+  pub prototypes : (p : ℕ) (place : machine.Place) → slice_get d.places p ≡ Some place → place.is_prototype ≡ false
+  pub peers : (p : ℕ) (place : machine.Place) → slice_get d.places p ≡ Some place → place.peers ≡ []
+  pub signals : (p : ℕ) (place : machine.Place) → slice_get d.places p ≡ Some place → place.signals ≡ []
+  pub bindings : d.bindings ≡ []
 
 abbrev pub event_of : Event → config.Event
 event_of (events.Set place slot v) = config.set place.0 slot (machine.value (value_view v))

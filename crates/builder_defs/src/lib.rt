@@ -4,5 +4,9 @@
 #![tactic(auto)]
 
 mod definition;
+mod event;
+mod object_entry;
 
-pub use definition::{Definition, Event, ObjectEntry};
+pub use definition::Definition;
+pub use event::Event;
+pub use object_entry::ObjectEntry;
