@@ -52,8 +52,11 @@ IsPlainKind (kinds.enum t) s = ⊥
 IsPlainKind (kinds.flags t) s = ⊥
 IsPlainKind (kinds.object t) s = ⊥
 
-abbrev pub IsPlain : Spec → Type 0
-IsPlain s = IsPlainKind s.kind s
+-- and with the default flags, readable and writable
+pub record IsPlain (s : Spec) : Type 0 where
+  pub kind : IsPlainKind s.kind s
+  pub flags : s.flags ≡ 3
+  pub strong : s.weak ≡ false
 
 -- all properties of all types are plain
 pub record ArePlain (types : List GType) (specs : List (List Spec)) : Type 0 where
