@@ -7,3 +7,4 @@ pub mod Quiet
 pub mod Strings
 pub mod Values
 pub mod Falls
+pub mod SpecAt

@@ -5,3 +5,5 @@ pub mod View
 pub mod MakingView
 pub mod TaskView
 pub mod Measure
+pub mod EngineView
+pub mod PlainSets

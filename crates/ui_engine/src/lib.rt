@@ -13,8 +13,10 @@
 
 
 
+mod engine;
 mod heap;
 mod object;
+mod sets;
 mod task;
 mod texts;
 mod world;

@@ -1,0 +1,88 @@
+//! Sets of properties, and the notifications that they raise.
+
+ghost use Rattle.std.specs.Prelude.{◌≡◌, OnErr, IfOk, ⊤, MatchResult};
+ghost use Rattle.ui_machine.specs.Answers.{Goes};
+ghost use Rattle.ui_machine.specs.Sets.{setting, spec_at, has_kind, raising, written};
+ghost use Rattle.ui_machine.specs.Steps.{uncounted};
+ghost use Rattle.g_values.specs.View.{kind_view, value_view};
+ghost use Rattle.param_specs.specs.View.{spec_view};
+ghost use Rattle.builder_defs.specs.Meaning.{IsPlain};
+ghost use Rattle.ui_engine.specs.View.{world_of};
+ghost use Rattle.ui_engine.specs.ObjectView.{Shows};
+ghost use Rattle.ui_engine.specs.TaskView.{agenda_of};
+ghost use Rattle.ui_engine.specs.EngineView.{config_of};
+ghost use Rattle.ui_engine.specs.PlainSets.{told_write};
+
+use crate::engine::Engine;
+use crate::task::Task;
+use crate::texts::{refused_line, set_line, value_text};
+use builder_defs::Definition;
+use g_values::{Kind, Value};
+use param_specs::{Spec, validate};
+use ui_machine::{Arm, Halt};
+
+// Whether a value is one of the kind, its members, range and class left aside.
+fn has_kind(value: &Value, kind: Kind) -> bool
+    ensures { result ≡ has_kind (value_view value.now) (kind_view kind) }
+{
+    match (value, kind) {
+        (Value::Bool(_), Kind::Bool) => true,
+        (Value::Int(_), Kind::Int) => true,
+        (Value::UInt(_), Kind::UInt) => true,
+        (Value::Int64(_), Kind::Int64) => true,
+        (Value::UInt64(_), Kind::UInt64) => true,
+        (Value::Text(_), Kind::Text) => true,
+        (Value::Enum(t, _), Kind::Enum(u)) => *t == u,
+        (Value::Flags(t, _), Kind::Flags(u)) => *t == u,
+        (Value::Object(_, _), Kind::Object(_)) => true,
+        _ => false,
+    }
+}
+
+impl Engine {
+    // The spec of a living object's property.
+    #[tactic(auto, unfolding(ui_machine::specs::Sets::spec_at))]
+    fn spec_of<'a>(
+        &self,
+        definition: &'a Definition,
+        object: u64,
+        slot: u16,
+    ) -> Result<&'a Spec, Arm>
+        ensures spec { Shows (λ s. spec_view s.now) result (spec_at definition.now (world_of self.now.world).objects object slot) }
+        ensures plain { IfOk result (λ s. IsPlain (spec_view s.now)) }
+    {
+        let _types = definition.types();
+        let class = self.world.heap.class_of(object)?;
+        let Some(spec) = definition.spec(class, slot) else {
+            return Err(Arm::Code);
+        };
+        Ok(spec)
+    }
+
+    // Writes a value and tells of it, and raises the notification.
+    #[tactic(auto, unfolding(crate::specs::PlainSets::told_write, ui_machine::specs::Sets::raising))]
+    fn put(
+        &mut self,
+        definition: &Definition,
+        object: u64,
+        slot: u16,
+        name: &str,
+        value: Value,
+    ) -> Result<(), Halt>
+        ensures step { Goes result
+            (uncounted (agenda_of definition.now self.old.stack) self.old.counted (told_write definition.now (world_of self.old.world) object slot name.now (value_view value)))
+            (config_of definition.now self.new) }
+        ensures quiet { OnErr result ((world_of self.new.world).transcript ≡ (world_of self.old.world).transcript) }
+    {
+        let text = value_text(self.alloc, definition.types(), &value)?;
+        let line = set_line(self.alloc, object, name, text.as_str())?;
+        self.world.heap.write(object, slot, value)?;
+        if self.world.heap.raise(object, slot)? {
+            self.stack.push(Task::Notifying { object, slot })?;
+            self.world.say(line)?;
+            return Ok(());
+        }
+        self.world.say(line)?;
+        Ok(())
+    }
+}
