@@ -1,14 +1,12 @@
 -- Configurations and steps.
-use Rattle.std.proofs.Common.{◌≡◌, refl, ap, sym, ◌∙◌, ℕ, ◌+◌, Bool, true, false, List, [], Option, None, Some, Ok, arith}
+use Rattle.std.proofs.Common.{◌≡◌, refl, ap, sym, ◌∙◌, ℕ, true, List, [], Option, None, Some, Ok, arith}
 use Rattle.std.specs.Option.{option_map}
 use Rattle.ui_machine.specs.Types.{GType}
 use Rattle.ui_machine.specs.Ancestry.{is_a}
 use Rattle.ui_machine.specs.Transform.{is_one}
-use Rattle.ui_machine.specs.Definition.{Definition}
-use Rattle.ui_machine.specs.Config.{Object, Objects, Task, World, Config}
+use Rattle.ui_machine.specs.Config.{Object, Task}
 use Rattle.ui_machine.specs.Objects.{find}
 use Rattle.ui_machine.specs.Steps.{settling, act, first_of}
-use Rattle.ui_machine.specs.Runs.{HasEnded}
 use Rattle.machine_laws.specs.StepLaws.{HeldAtRest, EndsStay, FittingLives}
 
 pub held_at_rest : HeldAtRest

@@ -1,5 +1,5 @@
 -- Laws of configurations and steps.
-use Rattle.std.specs.Prelude.{◌≡◌, ℕ, ◌+◌, true, List, [], Option, Some, Ok}
+use Rattle.std.specs.Prelude.{◌≡◌, ℕ, ◌+◌, true, List, [], Some, Ok}
 use Rattle.ui_machine.specs.Seq.{total}
 use Rattle.ui_machine.specs.Kinds as kinds
 use Rattle.ui_machine.specs.Values as values

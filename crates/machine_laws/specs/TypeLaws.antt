@@ -1,5 +1,5 @@
 -- Laws of what is what.
-use Rattle.std.specs.Prelude.{◌≡◌, ℕ, ◌<◌, nat_eq, true, List, [], length, Option, None, Some}
+use Rattle.std.specs.Prelude.{◌≡◌, ℕ, ◌<◌, nat_eq, true, List, [], length, None, Some}
 use Rattle.std.specs.List.{list_any}
 use Rattle.ui_machine.specs.Types.{GType}
 use Rattle.ui_machine.specs.Ancestry.{parent_of, implemented_by, is_a}

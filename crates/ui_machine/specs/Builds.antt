@@ -116,7 +116,7 @@ with_object d w o =
     record w {
       objects = w.objects ++ Some o ∷ [];
       floating = floats d o.class (suc (length w.objects)) w.floating;
-      peers = lent o.peer (suc (length w.objects)) w.peers
+      peers = lent o.peer (suc (length w.objects)) w.peers;
     }
 
 -- a construction begins; `held` says that the builder holds the object at its end
@@ -125,7 +125,7 @@ making d w place peer held = do
   p ← known arms.Code (place_at d place)
   only_if (not (type_of d p.class).is_abstract) arms.Abstract
       (starts (said d (with_object d w (new_object d place p peer)) (lines.construct (suc (length w.objects)) (type_of d p.class).name))
-          (Constructing (suc (length w.objects)) (construction d w place p) held ∷ []))
+      (Constructing (suc (length w.objects)) (construction d w place p) held ∷ []))
 
 -- the end of a construction: what the builder made is held by it, under its place, and sunk
 unfoldable pub constructed : World → ℕ → Bool → Answer Started
@@ -223,7 +223,14 @@ building_forward w place slot to items = do
 -- a binding of the definition, between two objects
 abbrev pub new_binding : ℕ → Bind → ℕ → ℕ → Binding
 new_binding number b source target = record {
-  number = number; name = b.name; source = source; source_slot = b.source_slot; target = target; target_slot = b.target_slot; flags = b.flags; setting = false
+  number = number;
+  name = b.name;
+  source = source;
+  source_slot = b.source_slot;
+  target = target;
+  target_slot = b.target_slot;
+  flags = b.flags;
+  setting = false;
 }
 
 -- with SYNC_CREATE the binding sets its target at once
@@ -246,8 +253,16 @@ building_binding d w number items = do
 -- a signal of the definition, as a handler on an object
 abbrev pub new_handler : World → ℕ → ℕ → Attached → Option ℕ → Handler
 new_handler w id signal a arg = record {
-  number = suc w.last_handler; object = id; signal = signal; detail = detail_for signal a.detail; program = a.program;
-  after = a.after; swapped = a.swapped; arg = arg; blocks = 0; by_code = false
+  number = suc w.last_handler;
+  object = id;
+  signal = signal;
+  detail = detail_for signal a.detail;
+  program = a.program;
+  after = a.after;
+  swapped = a.swapped;
+  arg = arg;
+  blocks = 0;
+  by_code = false;
 }
 
 -- a signal is connected, unless one of its objects is disposed

@@ -1,18 +1,15 @@
 -- Peers: which one an object gets, and what its calls lead to.
-use Rattle.std.specs.Prelude.{ℕ, Bool, true, false, cond, nat_lt, List, [], ◌∷◌, Option, None, Some, Ok, is_none, slice_get}
+use Rattle.std.specs.Prelude.{ℕ, Bool, false, cond, List, [], ◌∷◌, Option, None, Some, Ok, is_none, slice_get}
 use Rattle.ui_machine.specs.declared.arm.Arm.TheVariants as arms
 use Rattle.ui_machine.specs.Seq.{read, write}
 use Rattle.ui_machine.specs.Names.{place_named}
-use Rattle.ui_machine.specs.Kinds.{Kind}
 use Rattle.ui_machine.specs.Values.{Value}
-use Rattle.ui_machine.specs.Transform.{zero_value, kind_fits}
+use Rattle.ui_machine.specs.Transform.{zero_value}
 use Rattle.ui_machine.specs.Definition.{Definition, Method}
 use Rattle.ui_machine.specs.Lines.{Line}
 use Rattle.ui_machine.specs.Lines as lines
-use Rattle.ui_machine.specs.Config.{Peer, PeerState, Task, World, Config}
-use Rattle.ui_machine.specs.Answers.{Answer, ◌>>=◌, known, only_if}
-use Rattle.ui_machine.specs.Objects.{class_in}
-use Rattle.ui_machine.specs.Programs.{all_fit}
+use Rattle.ui_machine.specs.Config.{Peer, PeerState, Task, World}
+use Rattle.ui_machine.specs.Answers.{Answer, ◌>>=◌, known}
 use Rattle.ui_machine.specs.Turns.{or_zero}
 use Rattle.ui_machine.specs.Results.{Left, received}
 use Rattle.ui_machine.specs.Disposal.{no_peer}

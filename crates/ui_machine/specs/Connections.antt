@@ -1,7 +1,6 @@
 -- Handlers: connected, disconnected, blocked (GObject manual, signals: g_signal_connect_data, g_signal_handler_block).
-use Rattle.std.specs.Prelude.{ℕ, suc, ◌-◌, ◌+◌, Bool, true, false, cond, not, ◌&&◌, ◌||◌, nat_eq, nat_lt, min, List, [], ◌∷◌, ◌++◌, length, map, codes, Option, None, Some, Ok, option_map}
+use Rattle.std.specs.Prelude.{ℕ, suc, ◌-◌, ◌+◌, Bool, true, false, cond, not, ◌&&◌, ◌||◌, nat_eq, nat_lt, min, List, [], ◌∷◌, ◌++◌, length, map, codes, Option, None, Some, option_map}
 use Rattle.std.specs.List.{filter}
-use Rattle.ui_machine.specs.declared.arm.Arm.TheVariants as arms
 use Rattle.ui_machine.specs.Names.{canonical, place_named}
 use Rattle.ui_machine.specs.Definition.{Definition, Signal}
 use Rattle.ui_machine.specs.Lookups.{class_of}

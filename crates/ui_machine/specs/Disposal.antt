@@ -109,7 +109,7 @@ disposed d w id =
     (record w {
       objects = objects_disposed d id w.objects;
       handlers = filter (λ h. not (is_of_object id h)) w.handlers;
-      bindings = bindings_without_end id w.bindings
+      bindings = bindings_without_end id w.bindings;
     })
     (lines.dispose id))
 

@@ -110,4 +110,4 @@ beginning_emission d w e = do
   s ← signal_at d o.class e.signal
   only_if (all_fit (kind_fits (class_in w.objects) d.types) e.args s.params) arms.Argument
       (starts (said d w (lines.emit e.object s.name e.detail e.args))
-          (Emitting e (plan w (class_handler_of d o.class s.name) s.flags [] e.object e.signal e.detail) ∷ []))
+      (Emitting e (plan w (class_handler_of d o.class s.name) s.flags [] e.object e.signal e.detail) ∷ []))

@@ -1,27 +1,26 @@
 -- What each instruction does. The frame has already gone past it.
-use Rattle.std.specs.Prelude.{ℕ, zero, suc, ◌+◌, ℤ, ◌+ℤ◌, ◌-ℤ◌, ◌*ℤ◌, int_lt, int_le, Bool, true, false, cond, not, ◌&&◌, ◌||◌, nat_eq, nat_lt, List, [], ◌∷◌, ◌++◌, length, codes, Option, None, Some, Ok, Err, is_some, slice_get}
+use Rattle.std.specs.Prelude.{ℕ, zero, suc, ◌+◌, ℤ, ◌+ℤ◌, ◌-ℤ◌, ◌*ℤ◌, int_lt, int_le, Bool, true, false, cond, not, ◌&&◌, ◌||◌, nat_lt, List, [], ◌∷◌, ◌++◌, length, codes, Option, None, Some, Ok, Err, is_some, slice_get}
 use Rattle.std.specs.Ordering.{int_eq}
 use Rattle.ui_machine.specs.declared.arm.Arm.TheVariants as arms
-use Rattle.ui_machine.specs.Names.{canonical}
 use Rattle.ui_machine.specs.Kinds.{Whole, Kind}
 use Rattle.ui_machine.specs.Kinds as kinds
 use Rattle.ui_machine.specs.Values.{Value}
 use Rattle.ui_machine.specs.Values as values
-use Rattle.ui_machine.specs.Transform.{same_whole, same_value, wrapped, transformed, is_transformable, zero_value, kind_fits}
+use Rattle.ui_machine.specs.Transform.{same_whole, same_value, wrapped, transformed, is_transformable, kind_fits}
 use Rattle.ui_machine.specs.Properties.{Spec, is_readable, is_writable, is_construct_only}
 use Rattle.ui_machine.specs.Definition.{Definition, Program, Block, Place, Arithmetic, add, sub, mul, Comparison, eq, lt, le, Instruction}
 use Rattle.ui_machine.specs.Definition as words
-use Rattle.ui_machine.specs.Lookups.{spec_of, slot_of, class_of, type_of, program_at, program_of, place_at, place_of}
+use Rattle.ui_machine.specs.Lookups.{slot_of, class_of, type_of, program_at, program_of, place_at, place_of}
 use Rattle.ui_machine.specs.Lines as lines
 use Rattle.ui_machine.specs.Sources as sources
-use Rattle.ui_machine.specs.Config.{Object, Emission, Peer, Handler, Held, Setting, Beginning, Thawing, Calling, Task, World}
+use Rattle.ui_machine.specs.Config.{Emission, Handler, Setting, Beginning, Thawing, Calling, Task, World}
 use Rattle.ui_machine.specs.Answers.{Answer, ◌>>=◌, known, only_if}
 use Rattle.ui_machine.specs.Objects.{find, live, object_at, asked, changed, value_at, class_in, frozen_more, frozen_less, most_identities}
 use Rattle.ui_machine.specs.Emissions.{or_else, up, most_depth}
 use Rattle.ui_machine.specs.Bindings.{bindings_without}
 use Rattle.ui_machine.specs.Sets.{has_kind, spec_at, raising, is_disposed}
-use Rattle.ui_machine.specs.Registers.{Frame, rest_of, value_in, values_in, truth_in, text_in, whole_in, operand_in, data_in, with_register, goes_on, written_to, gives, tells}
-use Rattle.ui_machine.specs.Programs.{passes_of, all_fit}
+use Rattle.ui_machine.specs.Registers.{Frame, value_in, values_in, truth_in, text_in, whole_in, operand_in, data_in, with_register, goes_on, written_to, gives, tells}
+use Rattle.ui_machine.specs.Programs.{all_fit}
 use Rattle.ui_machine.specs.Turns.{or_zero}
 use Rattle.ui_machine.specs.Families.{adopted, orphaned}
 use Rattle.ui_machine.specs.Connections.{signal_number, detail_for, connected, disconnected, blocked, unblocked, with_handlers_on}
@@ -317,8 +316,16 @@ emitting d w f into object name detail args = do
 -- a handler that bytecode connects
 abbrev pub handler_by_code : World → (id signal : ℕ) → Option (List ℕ) → ℕ → (after swapped : Bool) → Option ℕ → Handler
 handler_by_code w id signal detail program after swapped arg = record {
-  number = suc w.last_handler; object = id; signal = signal; detail = detail_for signal detail; program = program;
-  after = after; swapped = swapped; arg = arg; blocks = 0; by_code = true
+  number = suc w.last_handler;
+  object = id;
+  signal = signal;
+  detail = detail_for signal detail;
+  program = program;
+  after = after;
+  swapped = swapped;
+  arg = arg;
+  blocks = 0;
+  by_code = true;
 }
 
 -- `connect d o s D p [options] z`
@@ -358,7 +365,7 @@ unbinding w f name = goes_on (record w { bindings = bindings_without name w.bind
 abbrev pub with_source : World → ℕ → ℤ → Option ℕ → Option ℕ → World
 with_source w program priority interval arg = record w {
   sources = sources.attached w.sources (sources.new_source w.last_source w.moment program priority interval arg);
-  last_source = suc w.last_source
+  last_source = suc w.last_source;
 }
 
 -- a source is attached, or past the limit its line said

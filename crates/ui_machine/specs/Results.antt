@@ -1,6 +1,6 @@
 -- What comes down from a task to the one below it: a program's result to its emission or source, an emission's or a peer's to the program
 -- that waits for it.
-use Rattle.std.specs.Prelude.{ℕ, Bool, true, false, cond, List, [], ◌∷◌, Option, None, Some, Ok, Err}
+use Rattle.std.specs.Prelude.{ℕ, Bool, true, false, List, [], ◌∷◌, Option, None, Some, Ok, Err}
 use Rattle.ui_machine.specs.declared.arm.Arm.TheVariants as arms
 use Rattle.ui_machine.specs.Values.{Value}
 use Rattle.ui_machine.specs.Values as values
@@ -8,7 +8,7 @@ use Rattle.ui_machine.specs.Definition.{Definition}
 use Rattle.ui_machine.specs.Lines as lines
 use Rattle.ui_machine.specs.Sources as sources
 use Rattle.ui_machine.specs.Config.{Registers, Turn, Emission, Emitting, Running, Answering, Task, World}
-use Rattle.ui_machine.specs.Answers.{Answer, ◌>>=◌, known, only_if}
+use Rattle.ui_machine.specs.Answers.{Answer, ◌>>=◌}
 use Rattle.ui_machine.specs.Registers.{with_register}
 use Rattle.ui_machine.specs.Turns.{collecting, resulting}
 use Rattle.ui_machine.specs.Worlds.{said}

@@ -1,5 +1,5 @@
 -- How a program goes on: its next instruction, stops and returns.
-use Rattle.std.specs.Prelude.{ℕ, suc, ◌-◌, Bool, cond, ◌&&◌, nat_eq, nat_lt, List, [], ◌∷◌, ◌++◌, length, Option, None, Some, Ok, slice_get}
+use Rattle.std.specs.Prelude.{ℕ, suc, ◌-◌, Bool, cond, ◌&&◌, nat_eq, nat_lt, List, ◌∷◌, ◌++◌, length, Option, None, Some, Ok, slice_get}
 use Rattle.ui_machine.specs.declared.arm.Arm.TheVariants as arms
 use Rattle.ui_machine.specs.Values.{Value}
 use Rattle.ui_machine.specs.Transform.{kind_fits}
@@ -13,7 +13,7 @@ use Rattle.ui_machine.specs.Registers.{Frame, rest_of, value_in}
 use Rattle.ui_machine.specs.Turns.{stopped, suits}
 use Rattle.ui_machine.specs.Results.{Left, leaves, given_down}
 use Rattle.ui_machine.specs.Instructions.{instruction}
-use Rattle.ui_machine.specs.Worlds.{Started, starts}
+use Rattle.ui_machine.specs.Worlds.{Started}
 
 -- ** the next instruction
 

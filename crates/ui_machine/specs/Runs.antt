@@ -54,8 +54,18 @@ of_event w event = beginning w (Carrying event)
 -- the world before anything is built
 abbrev pub first_world : Definition → List Peer → World
 first_world d peers = record {
-  objects = []; handlers = []; last_handler = 0; bindings = []; sources = []; last_source = 0; floating = [];
-  builder = map (λ (p : Place). unbuilt) d.places; peers = peers; moment = 0; transcript = []; result = None
+  objects = [];
+  handlers = [];
+  last_handler = 0;
+  bindings = [];
+  sources = [];
+  last_source = 0;
+  floating = [];
+  builder = map (λ (p : Place). unbuilt) d.places;
+  peers = peers;
+  moment = 0;
+  transcript = [];
+  result = None;
 }
 
 -- the build begins with its line

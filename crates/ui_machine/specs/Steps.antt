@@ -1,5 +1,5 @@
 -- The machine: one step from a configuration.
-use Rattle.std.specs.Prelude.{ℕ, suc, nat_lt, Bool, true, List, [], ◌∷◌, ◌++◌, Option, Some, None, Ok, Err}
+use Rattle.std.specs.Prelude.{ℕ, suc, nat_lt, Bool, true, List, [], ◌∷◌, ◌++◌, Option, Some, None, Ok}
 use Rattle.ui_machine.specs.declared.arm.Arm.TheVariants as arms
 use Rattle.ui_machine.specs.Values.{Value}
 use Rattle.ui_machine.specs.Values as values
@@ -13,7 +13,7 @@ use Rattle.ui_machine.specs.Config.{World, Config, Task, Setting, Notifying, Beg
 use Rattle.ui_machine.specs.Answers.{Answer, ◌>>=◌, known, only_if}
 use Rattle.ui_machine.specs.Objects.{asked, value_at, next_unheld}
 use Rattle.ui_machine.specs.Mentions.{mentions}
-use Rattle.ui_machine.specs.Worlds.{Started, starts, said, held_at, with_held, sunk}
+use Rattle.ui_machine.specs.Worlds.{Started, starts, said, with_held, sunk}
 use Rattle.ui_machine.specs.Sets.{setting, spec_at}
 use Rattle.ui_machine.specs.Programs.{program_before}
 use Rattle.ui_machine.specs.Emissions.{notifying, beginning_emission}

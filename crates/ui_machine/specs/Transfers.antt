@@ -1,5 +1,5 @@
 -- What a binding does as an end of it is notified (GObject manual, GBinding).
-use Rattle.std.specs.Prelude.{ℕ, Bool, true, false, cond, not, nat_eq, List, [], ◌∷◌, Option, None, Some, Ok}
+use Rattle.std.specs.Prelude.{ℕ, Bool, true, false, cond, not, nat_eq, List, [], ◌∷◌, Option, None, Some}
 use Rattle.std.specs.List.{find}
 use Rattle.ui_machine.specs.declared.arm.Arm.TheVariants as arms
 use Rattle.ui_machine.specs.Values.{Value}
@@ -8,7 +8,7 @@ use Rattle.ui_machine.specs.Transform.{transformed}
 use Rattle.ui_machine.specs.Properties.{has_flags, is_readable, is_writable, is_construct_only}
 use Rattle.ui_machine.specs.Definition.{Definition}
 use Rattle.ui_machine.specs.Config.{Binding, Task, Setting, Transferring, Unsetting, World}
-use Rattle.ui_machine.specs.Answers.{Answer, ◌>>=◌, known, only_if}
+use Rattle.ui_machine.specs.Answers.{Answer, ◌>>=◌, only_if}
 use Rattle.ui_machine.specs.Objects.{asked, value_at}
 use Rattle.ui_machine.specs.Bindings.{with_setting}
 use Rattle.ui_machine.specs.Sets.{spec_at}

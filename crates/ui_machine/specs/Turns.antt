@@ -1,5 +1,5 @@
 -- The turns of an emission, how it is stopped, and what it results in (GObject manual, signals: accumulators, g_signal_stop_emission).
-use Rattle.std.specs.Prelude.{ℕ, Bool, true, false, cond, ◌||◌, nat_eq, nat_lt, List, [], ◌∷◌, ◌++◌, Option, None, Some, Ok, Err}
+use Rattle.std.specs.Prelude.{ℕ, Bool, true, false, cond, ◌||◌, nat_eq, nat_lt, List, [], ◌∷◌, ◌++◌, Option, None, Some, Ok}
 use Rattle.std.specs.List.{filter, find}
 use Rattle.ui_machine.specs.declared.arm.Arm.TheVariants as arms
 use Rattle.ui_machine.specs.Kinds.{Kind}
@@ -7,15 +7,14 @@ use Rattle.ui_machine.specs.Values.{Value}
 use Rattle.ui_machine.specs.Values as values
 use Rattle.ui_machine.specs.Transform.{zero_value, kind_fits}
 use Rattle.ui_machine.specs.Definition.{Definition, Signal, Accumulator, true_handled, first_wins}
-use Rattle.ui_machine.specs.Lines as lines
 use Rattle.ui_machine.specs.Config as config
 use Rattle.ui_machine.specs.Config.{Handler, Turn, class_handler, handler, Emission, Emitting, Task, World}
-use Rattle.ui_machine.specs.Answers.{Answer, ◌>>=◌, known, only_if}
+use Rattle.ui_machine.specs.Answers.{Answer, ◌>>=◌, only_if}
 use Rattle.ui_machine.specs.Objects.{object_at, class_in}
 use Rattle.ui_machine.specs.Programs.{program_before}
 use Rattle.ui_machine.specs.Transfers.{binding_of, transfer_for}
 use Rattle.ui_machine.specs.Emissions.{signal_at}
-use Rattle.ui_machine.specs.Worlds.{Started, starts, said}
+use Rattle.ui_machine.specs.Worlds.{Started, starts}
 
 -- ** turns
 
