@@ -17,6 +17,7 @@ use Rattle.ui_machine.specs.Worlds.{said}
 
 -- ** who has which
 
+-- a peer of the pool
 abbrev pub peer_at : World → ℕ → Option Peer
 peer_at w number = slice_get w.peers number
 
@@ -24,10 +25,12 @@ peer_at w number = slice_get w.peers number
 abbrev pub peer_number : List Peer → List ℕ → Option ℕ
 peer_number peers name = place_named (λ (p : Peer). p.name) peers name
 
+-- whether a peer is there that no object has got
 abbrev pub is_left : Option Peer → Bool
 is_left None = false
 is_left (Some p) = is_none p.holder
 
+-- this peer if it is left, or else the other
 abbrev pub if_left : List Peer → Option ℕ → Option ℕ → Option ℕ
 if_left peers None other = other
 if_left peers (Some number) other = cond (is_left (slice_get peers number)) (Some number) other
@@ -39,12 +42,15 @@ first_left peers (name ∷ names) = if_left peers (peer_number peers name) (firs
 
 -- ** calls
 
+-- a method of a peer by its number
 abbrev pub method_of : Peer → ℕ → Option Method
 method_of p method = slice_get p.state.shape method
 
+-- the number of the method of this name
 abbrev pub method_number : Peer → List ℕ → Option ℕ
 method_number p name = place_named (λ (m : Method). m.name) p.state.shape name
 
+-- the world with a peer in another state
 abbrev pub with_peer_state : World → ℕ → Peer → PeerState → World
 with_peer_state w number p state = record w { peers = write p w.peers number (record p { state = state }) }
 

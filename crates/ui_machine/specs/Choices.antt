@@ -78,11 +78,13 @@ pub record Dispatched (m : Moves) (d : Definition) (c : Config) (count : ℕ) (n
 
 -- ** events
 
+-- whether the builder has let an object go
 abbrev pub is_released : Held → Bool
 is_released unbuilt = false
 is_released (built id) = false
 is_released released = true
 
+-- whether a given value names such an object
 abbrev pub gives_released : World → Given → Bool
 gives_released w (value v) = false
 gives_released w (named place) = is_released (held_at w place)

@@ -47,11 +47,13 @@ clearing w f to = written_to w to None f
 
 -- ** arithmetic and logic
 
+-- the number before it is wrapped
 abbrev pub reckoned : Arithmetic → ℤ → ℤ → ℤ
 reckoned add m n = m +ℤ n
 reckoned sub m n = m -ℤ n
 reckoned mul m n = m *ℤ n
 
+-- whether the comparison holds
 abbrev pub holds : Comparison → ℤ → ℤ → Bool
 holds eq m n = int_eq m n
 holds lt m n = int_lt m n
@@ -113,9 +115,11 @@ disjunction w f to a b = do
 
 -- ** texts and conversions
 
+-- the most bytes of a text
 abbrev pub most_bytes : ℕ
 most_bytes = 4096
 
+-- the bytes of a text; null has none
 abbrev pub bytes_of : Option (List ℕ) → List ℕ
 bytes_of None = []
 bytes_of (Some s) = s
@@ -125,6 +129,7 @@ abbrev pub within_bytes : Definition → World → List ℕ → World × Value
 within_bytes d w s =
     cond (nat_lt most_bytes (length s)) (said d w (lines.limit (codes "join")), values.text None) (w, values.text (Some s))
 
+-- a register is written after a line was perhaps said
 abbrev pub gives_from : World × Value → ℕ → Frame → Answer Started
 gives_from made to f = gives made.0 to made.1 f
 
@@ -135,6 +140,7 @@ joining d w f to a b = do
   t ← text_in f b
   gives_from (within_bytes d w (bytes_of s ++ bytes_of t)) to f
 
+-- whether a kind is of objects
 abbrev pub is_object_kind : Kind → Bool
 is_object_kind (kinds.object type) = true
 is_object_kind _ = false
@@ -170,6 +176,7 @@ getting d w f to object name = do
 abbrev pub if_settable : {X : Type 0} → Spec → Answer X → Answer X
 if_settable s answer = only_if (is_writable s) arms.Flags (only_if (not (is_construct_only s)) arms.ConstructOnly answer)
 
+-- the set of a register's value
 unfoldable pub set_from : World → Frame → (id slot from : ℕ) → Answer Started
 set_from w f id slot from = do
   v ← value_in f from
@@ -199,6 +206,7 @@ telling d w f object name = do
 
 -- ** objects
 
+-- an object, or null
 abbrev pub or_null : Option Value → Value
 or_null None = values.object None
 or_null (Some v) = v
@@ -214,6 +222,7 @@ abbrev pub nearest_shape : ℕ → Definition → ℕ → Option ℕ
 nearest_shape zero d class = None
 nearest_shape (suc n) d class = or_else (class_of d class).shape (up (nearest_shape n d) (type_of d class).parent)
 
+-- whether an object of the class has a peer
 abbrev pub has_shape : Definition → ℕ → Bool
 has_shape d class = is_some (nearest_shape most_depth d class)
 
@@ -229,6 +238,7 @@ has_room_for_object d w to_come p =
     && (nat_lt (length w.objects + to_come) most_identities
     && (not (has_shape d p.class) || is_some (peer_left w p)))
 
+-- the peer that a new object takes
 abbrev pub peer_to_take : Definition → World → Place → Option ℕ
 peer_to_take d w p = cond (has_shape d p.class) (peer_left w p) None
 
@@ -295,6 +305,7 @@ signal_in d w id name = do
   o ← object_at w.objects id
   known arms.Code (signal_number d o.class name)
 
+-- an emission before it begins
 abbrev pub new_emission : ℕ → ℕ → Option (List ℕ) → List Value → Bool → Emission
 new_emission id signal detail args by_event =
     record { object = id; signal = signal; detail = detail; args = args; by_event = by_event; value = None; cleanup = false }
@@ -362,6 +373,7 @@ unbinding w f name = goes_on (record w { bindings = bindings_without name w.bind
 
 -- ** sources
 
+-- the world with one more source
 abbrev pub with_source : World → ℕ → ℤ → Option ℕ → Option ℕ → World
 with_source w program priority interval arg = record w {
   sources = sources.attached w.sources (sources.new_source w.last_source w.moment program priority interval arg);
@@ -373,6 +385,7 @@ abbrev pub attached_to : Definition → World → List ℕ → ℕ → ℤ → O
 attached_to d w word program priority interval arg =
     cond (sources.has_room w.sources w.last_source) (with_source w program priority interval arg, true) (said d w (lines.limit word), false)
 
+-- a source of either sort is attached
 unfoldable pub attaching : Definition → World → Frame → List ℕ → ℕ → List ℕ → ℤ → Option ℕ → Option ℕ → Answer Started
 attaching d w f word to program priority interval with = do
   number ← known arms.Code (program_of d program)

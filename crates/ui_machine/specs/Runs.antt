@@ -48,6 +48,7 @@ pub record Halts (d : Definition) (c : Config) (halt : Halt) (shown : List (List
 abbrev pub beginning : World → Task → Config
 beginning w task = record { world = record w { result = None }; agenda = task ∷ []; counted = 0 }
 
+-- where an event's dispatch begins
 abbrev pub of_event : World → Event → Config
 of_event w event = beginning w (Carrying event)
 

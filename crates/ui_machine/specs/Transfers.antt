@@ -14,6 +14,7 @@ use Rattle.ui_machine.specs.Bindings.{with_setting}
 use Rattle.ui_machine.specs.Sets.{spec_at}
 use Rattle.ui_machine.specs.Worlds.{Started, starts}
 
+-- the binding of a number, while it stands
 abbrev pub binding_of : ℕ → List Binding → Option Binding
 binding_of number bindings = find (λ b. nat_eq b.number number) bindings
 
@@ -29,9 +30,11 @@ abbrev pub opposite : Value → Option Value
 opposite (values.bool b) = Some (values.bool (not b))
 opposite _ = None
 
+-- whether a binding inverts
 abbrev pub inverts : Binding → Bool
 inverts b = has_flags 4 b.flags
 
+-- the opposite, if it is asked for
 abbrev pub inverted : Bool → Option Value → Option Value
 inverted false v = v
 inverted true None = None
@@ -54,6 +57,7 @@ carried d w b source source_slot target target_slot = do
       (only_if (not (is_construct_only to)) arms.ConstructOnly
       (set_by w b.number target target_slot (inverted (inverts b) (transformed d.types from.kind to.kind v)))))
 
+-- in one of the two directions
 abbrev pub carried_by : Definition → World → Bool → Option Binding → Answer Started
 carried_by d w back None = starts w []
 carried_by d w false (Some b) = carried d w b b.source b.source_slot b.target b.target_slot

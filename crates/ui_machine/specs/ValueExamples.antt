@@ -34,16 +34,22 @@ examples =
 
 is_a-self : is_a examples 6 6 ≡ true
 is_a-self = refl
+
 is_a-ancestor : is_a examples 6 0 ≡ true
 is_a-ancestor = refl
+
 is_a-child : is_a examples 0 6 ≡ false
 is_a-child = refl
+
 is_a-inherited_interface : is_a examples 6 4 ≡ true
 is_a-inherited_interface = refl
+
 is_a-required : is_a examples 4 0 ≡ false
 is_a-required = refl
+
 depth-root : depth examples 0 ≡ 1
 depth-root = refl
+
 depth-fancy : depth examples 6 ≡ 4
 depth-fancy = refl
 
@@ -51,32 +57,46 @@ depth-fancy = refl
 
 wrapped-minus_one : wrapped uint64 (negsuc 0) ≡ pos 18446744073709551615
 wrapped-minus_one = refl
+
 wrapped-half : wrapped int (pos 2147483648) ≡ negsuc 2147483647
 wrapped-half = refl
+
 wrapped-whole : wrapped int (pos 4294967296) ≡ pos 0
 wrapped-whole = refl
+
 wrapped-half64 : wrapped int64 (pos (2 ^ 63)) ≡ negsuc 9223372036854775807
 wrapped-half64 = refl
+
 wrapped-low_bits : wrapped uint (negsuc 4294967296) ≡ pos 4294967295
 wrapped-low_bits = refl
+
 int_to_uint64 : transformed examples (kinds.whole int) (kinds.whole uint64) (values.whole int (negsuc 0)) ≡ Some (values.whole uint64 (pos 18446744073709551615))
 int_to_uint64 = refl
+
 int64_to_int : transformed examples (kinds.whole int64) (kinds.whole int) (values.whole int64 (pos 4294967296)) ≡ Some (values.whole int (pos 0))
 int64_to_int = refl
+
 int64_to_bool : transformed examples (kinds.whole int64) kinds.bool (values.whole int64 (pos 4294967296)) ≡ Some (values.bool true)
 int64_to_bool = refl
+
 int_to_text : transformed examples (kinds.whole int) kinds.text (values.whole int (negsuc 41)) ≡ Some (values.text (Some (codes "-42")))
 int_to_text = refl
+
 text_to_int : is_transformable examples kinds.text (kinds.whole int) ≡ false
 text_to_int = refl
+
 no_member : transformed examples (kinds.whole int) (kinds.enum 2) (values.whole int (pos 5)) ≡ None
 no_member = refl
+
 a_member : transformed examples (kinds.whole int) (kinds.enum 2) (values.whole int (pos 1)) ≡ Some (values.enum 2 (pos 1))
 a_member = refl
+
 unknown_bits : transformed examples (kinds.whole uint) (kinds.flags 3) (values.whole uint (pos 4)) ≡ None
 unknown_bits = refl
+
 all_bits : transformed examples (kinds.whole uint) (kinds.flags 3) (values.whole uint (pos 3)) ≡ Some (values.flags 3 3)
 all_bits = refl
+
 zero_enum : zero_value examples (kinds.enum 2) ≡ values.enum 2 (pos 0)
 zero_enum = refl
 
@@ -96,13 +116,18 @@ player = record { name = codes "player"; kind = kinds.object 4; flags = 3; defau
 
 clears_bits : clamp one_player examples marks (values.flags 3 5) ≡ values.flags 3 1
 clears_bits = refl
+
 goes_to_the_end : clamp one_player examples count (values.whole int (negsuc 3)) ≡ values.whole int (negsuc 2)
 goes_to_the_end = refl
+
 keeps_the_end : is_valid one_player examples count (values.whole int (pos 9)) ≡ true
 keeps_the_end = refl
+
 keeps_the_player : is_valid one_player examples player (values.object (Some 1)) ≡ true
 keeps_the_player = refl
+
 drops_the_dead : clamp (λ n. None) examples player (values.object (Some 1)) ≡ values.object None
 drops_the_dead = refl
+
 fits_unknown_bits : kind_fits one_player examples (values.flags 3 4) (kinds.flags 3) ≡ true
 fits_unknown_bits = refl
