@@ -26,9 +26,8 @@ module _ (types : List GType) where
   no_line zero = refl
   no_line (suc n) = refl
 
-  reflexive_at : (n a : ℕ) → a < n → list_any (is_or_implements types a) (line_from n types (Some a)) ≡ true
-  reflexive_at zero a h = absurd (omega (arith, h))
-  reflexive_at (suc n) a h =
+  reflexive_at : (n a : ℕ) → list_any (is_or_implements types a) (line_from (suc n) types (Some a)) ≡ true
+  reflexive_at n a =
       left_true (is_or_implements types a a) (list_any (is_or_implements types a) (line_from n types (parent_of types a)))
       (left_true (nat_eq a a) (list_any (nat_eq a) (implemented_by types a)) (eq-eqb a a refl))
 
@@ -88,18 +87,18 @@ module _ (types : List GType) where
         itself : nat_eq u b ≡ true → list_any (is_or_implements types c) (line_from (suc u) types (Some u)) ≡ true
         itself j =
             subst (λ (x : ℕ). list_any (is_or_implements types c) (line_from (suc x) types (Some x)) ≡ true) (sym (eqb-true u b j))
-            (enough (is_or_implements types c) (length types) (suc b) b (omega arith) e)
+            (enough (is_or_implements types c) (suc (length types)) (suc b) b (omega arith) e)
 
         implemented : list_any (nat_eq b) (implemented_by types u) ≡ true → list_any (is_or_implements types c) (line_from (suc u) types (Some u)) ≡ true
         implemented j =
             let alone = tree.alone u b j in
-            let same = only_itself (length types) b c alone.0 alone.1 e in
+            let same = only_itself (suc (length types)) b c alone.0 alone.1 e in
             left_true (is_or_implements types c u) (list_any (is_or_implements types c) (line_from u types (parent_of types u)))
             (right_true (nat_eq u c) (list_any (nat_eq c) (implemented_by types u)) (subst (λ (x : ℕ). list_any (nat_eq x) (implemented_by types u) ≡ true) same j))
 
 pub is_a_reflexive : IsAReflexive
-is_a_reflexive types a h = reflexive_at types (length types) a h
+is_a_reflexive types a = reflexive_at types (length types) a
 
 pub is_a_transitive : IsATransitive
 is_a_transitive types a b c tree h e f =
-    further types tree (is_or_implements types b) (is_or_implements types c) (λ u k. passes types tree b c u f k) (length types) a h e
+    further types tree (is_or_implements types b) (is_or_implements types c) (λ u k. passes types tree b c u f k) (suc (length types)) a (omega (arith, h)) e

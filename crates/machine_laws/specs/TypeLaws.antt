@@ -10,7 +10,7 @@ pub record IsTree (types : List GType) : Type 0 where
   pub alone : (t interface : ℕ) → list_any (nat_eq interface) (implemented_by types t) ≡ true → (parent_of types interface ≡ None) × (implemented_by types interface ≡ [])
 
 abbrev pub IsAReflexive : Type 0
-IsAReflexive = (types : List GType) (a : ℕ) → a < length types → is_a types a a ≡ true
+IsAReflexive = (types : List GType) (a : ℕ) → is_a types a a ≡ true
 
 abbrev pub IsATransitive : Type 0
 IsATransitive =

@@ -8,12 +8,15 @@ use Rattle.ui_machine.specs.Config as config
 
 -- ** who listens
 
+-- whether the binding goes both ways
 abbrev pub is_bidirectional : Binding → Bool
 is_bidirectional b = has_flags 1 b.flags
 
+-- whether the property is the binding's source
 abbrev pub is_source : (object slot : ℕ) → Binding → Bool
 is_source object slot b = nat_eq b.source object && nat_eq b.source_slot slot
 
+-- whether the property is the binding's target
 abbrev pub is_target : (object slot : ℕ) → Binding → Bool
 is_target object slot b = nat_eq b.target object && nat_eq b.target_slot slot
 

@@ -13,13 +13,13 @@ use Rattle.ui_machine.specs.Lookups.{type_of, class_of, specs_of, place_at}
 use Rattle.ui_machine.specs.Lines as lines
 use Rattle.ui_machine.specs.Config.{Object, Handler, Binding, Peer, Held, unbuilt, built, released, Making, sets, runs, thaws, Item, makes, adopts, forwards, binds, connects, Setting, Transferring, Thawing, Constructing, Building, Task, World}
 use Rattle.ui_machine.specs.Answers.{Answer, ◌>>=◌, known, only_if}
-use Rattle.ui_machine.specs.Objects.{find, object_at, changed, frozen_less}
+use Rattle.ui_machine.specs.Objects.{find, changed, frozen_less}
 use Rattle.ui_machine.specs.Sets.{is_disposed}
 use Rattle.ui_machine.specs.Disposal.{no_peer}
 use Rattle.ui_machine.specs.Calls.{peer_number}
 use Rattle.ui_machine.specs.Families.{adopted}
 use Rattle.ui_machine.specs.Connections.{signal_number, detail_for, is_too_late, with_handler}
-use Rattle.ui_machine.specs.Worlds.{Started, starts, said, with_objects, held_at, with_held, sunk}
+use Rattle.ui_machine.specs.Worlds.{Started, starts, said, with_objects, held_at, holding, sunk}
 
 -- ** given values
 
@@ -134,12 +134,10 @@ making d w place peer held = do
       (starts (said d (with_object d w (new_object d place p peer)) (lines.construct (suc (length w.objects)) (type_of d p.class).name))
       (Constructing (suc (length w.objects)) (construction d w place p) held ∷ []))
 
--- the end of a construction: what the builder made is held by it, under its place, and sunk
+-- the end of a construction: what the builder made is held by it, under the next place, and sunk
 unfoldable pub constructed : World → ℕ → Bool → Answer Started
 constructed w id false = starts w []
-constructed w id true = do
-  o ← object_at w.objects id
-  starts (sunk (with_held w o.place (built id)) id) []
+constructed w id true = starts (sunk (holding w id) id) []
 
 -- the thaw that ends a construction
 unfoldable pub thawing_made : World → ℕ → List Making → Bool → Answer Started

@@ -149,7 +149,7 @@ pub record World : Type 0 where
   pub sources : List Source  -- in order of attachment
   pub last_source : ℕ
   pub floating : List ℕ
-  pub builder : List Held  -- by place
+  pub builder : List Held  -- by place, as far as it has built
   pub peers : List Peer
   pub moment : ℕ  -- of the latest turn
   pub transcript : List (List ℕ)  -- whole lines, without their LF

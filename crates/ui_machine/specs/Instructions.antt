@@ -376,7 +376,7 @@ unbinding w f name = goes_on (record w { bindings = bindings_without name w.bind
 -- the world with one more source
 abbrev pub with_source : World → ℕ → ℤ → Option ℕ → Option ℕ → World
 with_source w program priority interval arg = record w {
-  sources = sources.attached w.sources (sources.new_source w.last_source w.moment program priority interval arg);
+  sources = sources.attached w.sources (sources.new_source (suc w.last_source) w.moment program priority interval arg);
   last_source = suc w.last_source;
 }
 

@@ -1,5 +1,5 @@
 -- Notifications that wait while an object is frozen (GObject manual, g_object_freeze_notify), by slot.
-use Rattle.std.specs.Prelude.{ℕ, cond, nat_eq, List, [], ◌∷◌, ◌++◌}
+use Rattle.std.specs.Prelude.{ℕ, cond, nat_eq, List, [], ◌∷◌, ◌++◌, reverse}
 use Rattle.std.specs.List.{list_any}
 
 -- the queue with one more slot: each stands once, in order of first queueing
@@ -8,5 +8,4 @@ queued queue slot = cond (list_any (λ s. nat_eq s slot) queue) queue (queue ++ 
 
 -- the slots in the order in which a thaw notifies: the last queued first
 abbrev pub thawed : List ℕ → List ℕ
-thawed [] = []
-thawed (slot ∷ queue) = thawed queue ++ slot ∷ []
+thawed queue = reverse queue

@@ -1,9 +1,9 @@
 -- Runs of the machine.
-use Rattle.std.specs.Prelude.{◌≡◌, ℕ, zero, suc, List, [], ◌∷◌, map, None, Ok}
+use Rattle.std.specs.Prelude.{◌≡◌, ℕ, zero, suc, List, [], ◌∷◌, None, Ok}
 use Rattle.ui_machine.specs.declared.arm.Halt.{Halt}
-use Rattle.ui_machine.specs.Definition.{Definition, Place}
+use Rattle.ui_machine.specs.Definition.{Definition}
 use Rattle.ui_machine.specs.Lines as lines
-use Rattle.ui_machine.specs.Config.{unbuilt, Task, Building, Carrying, Peer, World, Config, Event}
+use Rattle.ui_machine.specs.Config.{Task, Building, Carrying, Peer, World, Config, Event}
 use Rattle.ui_machine.specs.Answers.{Stops}
 use Rattle.ui_machine.specs.Objects.{next_unheld}
 use Rattle.ui_machine.specs.Mentions.{mentions}
@@ -62,7 +62,7 @@ first_world d peers = record {
   sources = [];
   last_source = 0;
   floating = [];
-  builder = map (λ (p : Place). unbuilt) d.places;
+  builder = [];
   peers = peers;
   moment = 0;
   transcript = [];

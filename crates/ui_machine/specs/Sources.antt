@@ -1,5 +1,5 @@
 -- The sources of the main context (GLib manual, The Main Event Loop).
-use Rattle.std.specs.Prelude.{ℕ, suc, ◌+◌, ◌-◌, ◌^◌, ℤ, Bool, true, false, cond, not, ◌&&◌, ◌||◌, nat_eq, nat_lt, nat_le, int_le, List, [], ◌∷◌, ◌++◌, length, map, Option, None, Some}
+use Rattle.std.specs.Prelude.{ℕ, ◌+◌, ◌-◌, ◌^◌, ℤ, Bool, true, false, cond, not, ◌&&◌, ◌||◌, nat_eq, nat_lt, nat_le, int_le, List, [], ◌∷◌, ◌++◌, length, map, Option, None, Some}
 use Rattle.std.specs.List.{filter, list_all, find}
 use Rattle.ui_machine.specs.Config.{Source}
 
@@ -36,15 +36,15 @@ abbrev pub due_after : ℕ → Option ℕ → ℕ
 due_after moment None = 0
 due_after moment (Some interval) = moment + interval
 
--- a source that is attached at a moment, after the last number given
-abbrev pub new_source : (last moment program : ℕ) → ℤ → Option ℕ → Option ℕ → Source
-new_source last moment program priority interval arg = record {
-  number = suc last;
+-- a source of the number that is attached at the moment
+abbrev pub new_source : (number moment program : ℕ) → ℤ → Option ℕ → Option ℕ → Source
+new_source number moment program priority interval arg = record {
+  number = number;
   program = program;
   priority = priority;
   interval = interval;
   due = due_after moment interval;
-  arg = arg
+  arg = arg;
 }
 
 -- the sources with one more
@@ -58,9 +58,11 @@ abbrev pub without_first : {A : Type 0} → (A → Bool) → List A → List A
 without_first p [] = []
 without_first p (x ∷ xs) = cond (p x) xs (x ∷ without_first p xs)
 
+-- whether this is the source of the number
 abbrev pub has_number : ℕ → Source → Bool
 has_number number s = nat_eq s.number number
 
+-- whether the source runs the program
 abbrev pub runs_program : ℕ → Source → Bool
 runs_program program s = nat_eq s.program program
 
