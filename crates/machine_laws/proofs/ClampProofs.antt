@@ -1,6 +1,6 @@
 -- Validation: a validated value is valid, and stays.
-use Rattle.std.proofs.Common.{◌≡◌, refl, ap, sym, subst, ◌∙◌, ℕ, zero, suc, ◌+◌, ◌<◌, ◌^◌, Bool, true, false, cond, List, [], ◌∷◌, Option, None, Some, arith, lt-ltb}
-use Rattle.std.specs.Prelude.{ℤ, pos, negsuc, int_lt, bit_and, not, ◌&&◌, nat_eq, nat_lt}
+use Rattle.std.proofs.Common.{◌≡◌, refl, ap, sym, subst, ◌∙◌, ℕ, ◌<◌, ◌^◌, Bool, true, false, cond, List, [], ◌∷◌, Option, None, Some, arith, lt-ltb}
+use Rattle.std.specs.Prelude.{ℤ, int_lt, bit_and, not, ◌&&◌, nat_eq, nat_lt}
 use Rattle.std.specs.Ordering.{int_eq}
 use Rattle.std.specs.Cmp.{signed_Decides}
 use Rattle.std.specs.Int.Bits.{and_self}
@@ -16,7 +16,7 @@ use Rattle.ui_machine.specs.Names.{same_name}
 use Rattle.ui_machine.specs.Text.{members_of}
 use Rattle.ui_machine.specs.Properties.{Spec}
 use Rattle.ui_machine.specs.Transform.{least, greatest, is_between, has_number, known_bits, same_whole, kind_fits, same_bool, same_text, same_object, same_value}
-use Rattle.ui_machine.specs.Clamp.{limited, clamp, is_valid}
+use Rattle.ui_machine.specs.Clamp.{limited, clamp}
 use Rattle.ui_machine.specs.Sets.{has_kind}
 use Rattle.machine_laws.specs.ClampLaws.{IsSound, HasFewBits, ClampsToValid, ClampsOnce}
 
@@ -45,11 +45,14 @@ limited_once low high n p = by_low (int_lt n low) refl
   where
     at_low : limited low high low ≡ low
     at_low = ap (λ b. cond (int_lt low low) low (cond b high low)) p ∙ either_way (int_lt low low) low
+
     at_high : limited low high high ≡ high
     at_high = ap (λ b. cond b low (cond (int_lt high high) high high)) p ∙ either_way (int_lt high high) high
+
     by_high : (over : Bool) → int_lt high n ≡ over → int_lt n low ≡ false → limited low high (cond over high n) ≡ cond over high n
     by_high true e f = at_high
     by_high false e f = ap (λ b. cond b low (cond (int_lt high n) high n)) f ∙ ap (λ b. cond b high n) e
+
     by_low : (under : Bool) → int_lt n low ≡ under → limited low high (cond under low (cond (int_lt high n) high n)) ≡ cond under low (cond (int_lt high n) high n)
     by_low true e = at_low
     by_low false e = by_high (int_lt high n) refl e
@@ -64,6 +67,7 @@ limited_between bottom low high top n p q r = by_low (int_lt n low) refl
     by_high : (over : Bool) → int_lt high n ≡ over → int_lt n low ≡ false → is_between bottom top (cond over high n) ≡ true
     by_high true e f = is_between_if bottom top high (not_less bottom low high q p) r
     by_high false e f = is_between_if bottom top n (not_less bottom low n q f) (not_less n high top e r)
+
     by_low : (under : Bool) → int_lt n low ≡ under → is_between bottom top (cond under low (cond (int_lt high n) high n)) ≡ true
     by_low true e = is_between_if bottom top low q (not_less low high top p r)
     by_low false e = by_high (int_lt high n) refl e
@@ -213,10 +217,10 @@ module _ (class_of : ℕ → Option ℕ) (types : List GType) (s : Spec) where
   fits_at (kinds.object t) (values.flags u bits) k h f l = absurd (cc)
   fits_at (kinds.object t) (values.object o) k h f l =
       subst (λ (x : Kind). kind_fits class_of types (cond (kind_fits class_of types (values.object o) x) (values.object o) (values.object None)) (kinds.object t) ≡ true) (sym k)
-          (object_fits t o (kind_fits class_of types (values.object o) (kinds.object t)) refl)
+      (object_fits t o (kind_fits class_of types (values.object o) (kinds.object t)) refl)
 
 pub clamps_to_valid : ClampsToValid
 clamps_to_valid class_of types s v h f l =
     both_true (kind_fits class_of types (clamp class_of types s v) s.kind) (same_value (clamp class_of types s (clamp class_of types s v)) (clamp class_of types s v))
-        (fits_at class_of types s s.kind v refl h f l)
-        (ap (λ w. same_value w (clamp class_of types s v)) (clamps_once class_of types s v h f) ∙ same_value_itself (clamp class_of types s v))
+    (fits_at class_of types s s.kind v refl h f l)
+    (ap (λ w. same_value w (clamp class_of types s v)) (clamps_once class_of types s v h f) ∙ same_value_itself (clamp class_of types s v))

@@ -1,15 +1,13 @@
 -- The plan of an emission.
-use Rattle.std.proofs.Common.{◌≡◌, ◌⊎◌, inl, inr, refl, subst, ap, sym, ◌∙◌, ℕ, zero, suc, ◌+◌, ◌≤◌, Bool, true, false, cond, List, [], ◌∷◌, ◌++◌, Option, None, Some, arith}
+use Rattle.std.proofs.Common.{◌≡◌, inl, inr, refl, ℕ, ◌+◌, ◌≤◌, Bool, true, false, cond, List, [], ◌∷◌, ◌++◌, Option, None, Some, arith}
 use Rattle.std.specs.Prelude.{map, not, ◌&&◌, codes}
 use Rattle.std.specs.List.{filter}
-use Rattle.ui_machine.specs.Seq.{total}
 use Rattle.ui_machine.specs.Mentions.{same}
 use Rattle.ui_machine.specs.Properties.{has_flags}
-use Rattle.ui_machine.specs.Definition.{Definition}
 use Rattle.ui_machine.specs.Config.{Handler, Binding, Turn, class_handler, handler, World}
 use Rattle.ui_machine.specs.Config as config
 use Rattle.ui_machine.specs.Bindings.{transfers, listens, goes_back}
-use Rattle.ui_machine.specs.Emissions.{at_stage, runs_for, handlers_for, plan, notify_plan, notify_flags, class_handler_of}
+use Rattle.ui_machine.specs.Emissions.{at_stage, runs_for, handlers_for, plan, notify_flags, class_handler_of}
 use Rattle.machine_laws.specs.PlanLaws.{is_turn_of, turns_of, stands, HandlersRunOnce, IsPart, numbers, InOrder, StagesInOrder, NotifyStages}
 use Rattle.machine_laws.proofs.QueueProofs.{total_append}
 
@@ -40,7 +38,7 @@ both_stages : (number : ℕ) (test : Handler → Bool) (hs : List Handler) → t
 both_stages number test [] = omega arith
 both_stages number test (h ∷ hs) =
     one_turn number h (test h) h.after (filter (λ (h : Handler). test h && not h.after) hs) (filter (λ (h : Handler). test h && h.after) hs)
-        (turns_of number (turns_by test false hs)) (turns_of number (turns_by test true hs)) (stands number hs) refl refl (both_stages number test hs)
+    (turns_of number (turns_by test false hs)) (turns_of number (turns_by test true hs)) (stands number hs) refl refl (both_stages number test hs)
 
 planned_once : (w : World) (class : Option ℕ) (flags id signal : ℕ) (moved : List Turn) (detail : Option (List ℕ)) (number : ℕ) → turns_of number moved ≡ 0 →
     turns_of number (plan w class flags moved id signal detail) ≤ stands number w.handlers
@@ -62,10 +60,11 @@ planned_once w class flags id signal moved detail number none =
     omega (arith, a, b, c, d, e, f, g, h, i, none)
 
 pub handlers_run_once : HandlersRunOnce
-handlers_run_once =
-    (λ w class flags id signal detail number. planned_once w class flags id signal [] detail number refl,
-     λ d w class id slot name number. planned_once w (class_handler_of d class (codes "notify")) notify_flags id 0 (transfers id slot w.bindings) (Some name) number
-         (no_transfer_turn number id slot (filter (listens id slot) w.bindings)))
+handlers_run_once = (
+  λ w class flags id signal detail number. planned_once w class flags id signal [] detail number refl,
+  λ d w class id slot name number. planned_once w (class_handler_of d class (codes "notify")) notify_flags id 0 (transfers id slot w.bindings) (Some name) number
+      (no_transfer_turn number id slot (filter (listens id slot) w.bindings)),
+)
 
 -- one more that is left out
 part_of_more : (xs : List ℕ) (y : ℕ) (ys : List ℕ) → IsPart xs ys → IsPart xs (y ∷ ys)

@@ -1,18 +1,16 @@
 -- Queued notifications: each once, and reversed.
-use Rattle.std.proofs.Common.{◌≡◌, refl, subst, ap, sym, ◌∙◌, ℕ, zero, suc, ◌+◌, ◌≤◌, Bool, true, false, cond, List, [], ◌∷◌, ◌++◌, reverse, arith}
+use Rattle.std.proofs.Common.{◌≡◌, refl, subst, ap, ℕ, ◌+◌, ◌≤◌, Bool, true, false, cond, List, [], ◌∷◌, ◌++◌, reverse, arith}
 use Rattle.std.specs.Prelude.{nat_eq, ◌||◌}
 use Rattle.std.specs.List.{list_any}
-use Rattle.std.proofs.lemmas.List.{reverse-append}
 use Rattle.std.proofs.lemmas.Grind.{reverse_onto}
-use Rattle.std.proofs.lemmas.Bool.{eqb-true, eq-eqb}
+use Rattle.std.proofs.lemmas.Bool.{eqb-true}
 use Rattle.ui_machine.specs.Seq.{total}
 use Rattle.ui_machine.specs.Mentions.{same}
-use Rattle.ui_machine.specs.Queue.{queued, thawed}
+use Rattle.ui_machine.specs.Queue.{thawed}
 use Rattle.machine_laws.specs.QueueLaws.{times, EachOnce, ThawsInReverse, QueuesOnce}
 
 pub thaws_in_reverse : ThawsInReverse
-thaws_in_reverse [] = refl
-thaws_in_reverse (slot ∷ queue) = ap (λ (slots : List ℕ). slots ++ slot ∷ []) (thaws_in_reverse queue) ∙ sym (reverse_onto queue slot [])
+thaws_in_reverse queue = refl
 
 -- sums over two lists
 pub total_append : {A : Type 0} (f : A → ℕ) (xs ys : List A) → total f (xs ++ ys) ≡ total f xs + total f ys
@@ -25,8 +23,9 @@ times_thawed : (queue : List ℕ) (slot : ℕ) → times slot (thawed queue) ≡
 times_thawed [] slot = refl
 times_thawed (s ∷ queue) slot =
     let ih = times_thawed queue slot in
-    let split = total_append (same slot) (thawed queue) (s ∷ []) in
-    omega (arith, ih, split)
+    let onto = ap (times slot) (reverse_onto queue s []) in
+    let split = total_append (same slot) (reverse queue) (s ∷ []) in
+    omega (arith, ih, onto, split)
 
 -- a slot that is not found stands nowhere
 nowhere : (here later : Bool) (n : ℕ) → (here || later) ≡ false → (later ≡ false → n ≡ 0) → cond here 1 0 + n ≡ 0

@@ -1,15 +1,14 @@
 -- Configurations and steps.
-use Rattle.std.proofs.Common.{◌≡◌, refl, ap, sym, ◌∙◌, ℕ, ◌+◌, Bool, true, false, List, [], Option, None, Some, Ok, arith}
+use Rattle.std.proofs.Common.{◌≡◌, refl, ap, sym, ◌∙◌, ℕ, zero, suc, true, List, [], ◌∷◌, Option, None, Some, Ok, arith}
 use Rattle.std.specs.Option.{option_map}
 use Rattle.ui_machine.specs.Types.{GType}
 use Rattle.ui_machine.specs.Ancestry.{is_a}
 use Rattle.ui_machine.specs.Transform.{is_one}
-use Rattle.ui_machine.specs.Definition.{Definition}
-use Rattle.ui_machine.specs.Config.{Object, Objects, Task, World, Config}
-use Rattle.ui_machine.specs.Objects.{find}
+use Rattle.ui_machine.specs.Seq.{read, write}
+use Rattle.ui_machine.specs.Config.{Object, Objects, Task}
+use Rattle.ui_machine.specs.Objects.{find, put}
 use Rattle.ui_machine.specs.Steps.{settling, act, first_of}
-use Rattle.ui_machine.specs.Runs.{HasEnded}
-use Rattle.machine_laws.specs.StepLaws.{HeldAtRest, EndsStay, FittingLives}
+use Rattle.machine_laws.specs.StepLaws.{HeldAtRest, EndsStay, FittingLives, FinalisedFitsNothing}
 
 pub held_at_rest : HeldAtRest
 held_at_rest d w counted o = omega arith
@@ -27,3 +26,17 @@ fitting types t (Some x) e = (x, refl, e)
 
 pub fitting_lives : FittingLives
 fitting_lives os types id t e = fitting types t (find os id) e
+
+-- what was taken out is not there
+taken_out : (os : Objects) (i : ℕ) → read None (write None os i None) i ≡ None
+taken_out [] zero = refl
+taken_out [] (suc i) = taken_out [] i
+taken_out (o ∷ os) zero = refl
+taken_out (o ∷ os) (suc i) = taken_out os i
+
+finalised : (os : Objects) (id : ℕ) → find (put os id None) id ≡ None
+finalised os zero = refl
+finalised os (suc i) = taken_out os i
+
+pub finalised_fits_nothing : FinalisedFitsNothing
+finalised_fits_nothing os types id t = ap (λ (o : Option Object). is_one types t (option_map (λ (x : Object). x.class) o)) (finalised os id)

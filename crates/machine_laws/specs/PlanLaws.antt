@@ -1,5 +1,5 @@
 -- Laws of the plan of an emission.
-use Rattle.std.specs.Prelude.{◌≡◌, ◌⊎◌, ℕ, ◌≤◌, cond, nat_eq, Bool, true, false, List, [], ◌∷◌, ◌++◌, map, Option, None, Some}
+use Rattle.std.specs.Prelude.{◌≡◌, ◌⊎◌, ℕ, ◌≤◌, Bool, true, false, List, [], ◌∷◌, ◌++◌, map, Option, Some}
 use Rattle.ui_machine.specs.Seq.{total}
 use Rattle.ui_machine.specs.Mentions.{same}
 use Rattle.ui_machine.specs.Definition.{Definition}
@@ -25,9 +25,9 @@ stands number hs = total (λ (h : Handler). same number h.number) hs
 abbrev pub HandlersRunOnce : Type 0
 HandlersRunOnce =
     ((w : World) (class : Option ℕ) (flags id signal : ℕ) (detail : Option (List ℕ)) (number : ℕ) →
-        turns_of number (plan w class flags [] id signal detail) ≤ stands number w.handlers)
+    turns_of number (plan w class flags [] id signal detail) ≤ stands number w.handlers)
     × ((d : Definition) (w : World) (class id slot : ℕ) (name : List ℕ) (number : ℕ) →
-        turns_of number (notify_plan d w class id slot name) ≤ stands number w.handlers)
+    turns_of number (notify_plan d w class id slot name) ≤ stands number w.handlers)
 
 -- a list that is another with some left out
 abbrev pub IsPart : List ℕ → List ℕ → Type 0
@@ -55,11 +55,11 @@ StagesInOrder =
     (w : World) (program : ℕ) (moved : List Turn) (id signal : ℕ) (detail : Option (List ℕ)) →
     plan w (Some program) 7 moved id signal detail
     ≡ class_handler program false
-      ∷ (moved
-      ++ (handlers_for w.handlers id signal detail false
-      ++ (class_handler program false
-      ∷ (handlers_for w.handlers id signal detail true
-      ++ class_handler program true ∷ []))))
+    ∷ (moved
+    ++ (handlers_for w.handlers id signal detail false
+    ++ (class_handler program false
+    ∷ (handlers_for w.handlers id signal detail true
+    ++ class_handler program true ∷ []))))
 
 -- `notify` has its class handler first
 abbrev pub NotifyStages : Type 0

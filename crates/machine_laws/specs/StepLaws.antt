@@ -1,5 +1,5 @@
 -- Laws of configurations and steps.
-use Rattle.std.specs.Prelude.{◌≡◌, ℕ, ◌+◌, true, List, [], Option, Some, Ok}
+use Rattle.std.specs.Prelude.{◌≡◌, ℕ, ◌+◌, true, false, List, [], None, Some, Ok}
 use Rattle.ui_machine.specs.Seq.{total}
 use Rattle.ui_machine.specs.Kinds as kinds
 use Rattle.ui_machine.specs.Values as values
@@ -8,7 +8,7 @@ use Rattle.ui_machine.specs.Ancestry.{is_a}
 use Rattle.ui_machine.specs.Transform.{kind_fits}
 use Rattle.ui_machine.specs.Definition.{Definition}
 use Rattle.ui_machine.specs.Config.{Object, Objects, World, Config}
-use Rattle.ui_machine.specs.Objects.{find, class_in}
+use Rattle.ui_machine.specs.Objects.{find, put, class_in}
 use Rattle.ui_machine.specs.Mentions.{same, in_object, in_held, in_source, mentions}
 use Rattle.ui_machine.specs.Steps.{step}
 use Rattle.ui_machine.specs.Runs.{HasEnded}
@@ -29,3 +29,8 @@ abbrev pub FittingLives : Type 0
 FittingLives =
     (os : Objects) (types : List GType) (id t : ℕ) → kind_fits (class_in os) types (values.object (Some id)) (kinds.object t) ≡ true →
     (o : Object) × (find os id ≡ Some o) × (is_a types o.class t ≡ true)
+
+-- what was finalised fits no type
+abbrev pub FinalisedFitsNothing : Type 0
+FinalisedFitsNothing =
+    (os : Objects) (types : List GType) (id t : ℕ) → kind_fits (class_in (put os id None)) types (values.object (Some id)) (kinds.object t) ≡ false

@@ -1,5 +1,5 @@
 -- Laws of what is what.
-use Rattle.std.specs.Prelude.{◌≡◌, ℕ, ◌<◌, nat_eq, true, List, [], length, Option, None, Some}
+use Rattle.std.specs.Prelude.{◌≡◌, ℕ, ◌<◌, nat_eq, true, List, [], length, None, Some}
 use Rattle.std.specs.List.{list_any}
 use Rattle.ui_machine.specs.Types.{GType}
 use Rattle.ui_machine.specs.Ancestry.{parent_of, implemented_by, is_a}
@@ -10,7 +10,7 @@ pub record IsTree (types : List GType) : Type 0 where
   pub alone : (t interface : ℕ) → list_any (nat_eq interface) (implemented_by types t) ≡ true → (parent_of types interface ≡ None) × (implemented_by types interface ≡ [])
 
 abbrev pub IsAReflexive : Type 0
-IsAReflexive = (types : List GType) (a : ℕ) → a < length types → is_a types a a ≡ true
+IsAReflexive = (types : List GType) (a : ℕ) → is_a types a a ≡ true
 
 abbrev pub IsATransitive : Type 0
 IsATransitive =

@@ -5,7 +5,7 @@ ghost use Rattle.machine_laws.specs.TypeLaws.{IsAReflexive, IsATransitive};
 ghost use Rattle.machine_laws.specs.QueueLaws.{ThawsInReverse, QueuesOnce};
 ghost use Rattle.machine_laws.specs.PlanLaws.{HandlersRunOnce, InOrder, StagesInOrder, NotifyStages};
 ghost use Rattle.machine_laws.specs.ClampLaws.{ClampsToValid, ClampsOnce};
-ghost use Rattle.machine_laws.specs.StepLaws.{HeldAtRest, EndsStay, FittingLives};
+ghost use Rattle.machine_laws.specs.StepLaws.{HeldAtRest, EndsStay, FittingLives, FinalisedFitsNothing};
 
 /// A queue has each slot once, and a thaw notifies its slots in reverse.
 pub fn queues()
@@ -27,6 +27,7 @@ pub fn steps()
     ensures rest { HeldAtRest }
     ensures ends { EndsStay }
     ensures lives { FittingLives }
+    ensures finalised { FinalisedFitsNothing }
 {}
 
 /// A validated value is valid, and validation leaves it as it is.

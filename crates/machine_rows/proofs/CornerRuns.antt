@@ -14,6 +14,8 @@ use Rattle.ui_machine.specs.Sets.{spec_at, raising, written, setting}
 use Rattle.ui_machine.specs.Steps.{building_object, carrying_set, carrying_get, given_values, carrying_emit, carrying_release, sourcing, left}
 use Rattle.ui_machine.specs.Transfers.{carried}
 use Rattle.ui_machine.specs.Turns.{collecting, resulting}
+use Rattle.machine_rows.specs.SourceLimit as sourcelimit_run
+use Rattle.machine_rows.specs.Blocks as blocks_run
 use Rattle.machine_rows.specs.NewIsOneStep as newisonestep_run
 use Rattle.machine_rows.specs.EmitAtItsEnd as emitatitsend_run
 use Rattle.machine_rows.specs.StopInNotify as stopinnotify_run
@@ -41,6 +43,14 @@ use Rattle.machine_rows.specs.LateConnection as lateconnection_run
 use Rattle.machine_rows.specs.StillToBuild as stilltobuild_run
 use Rattle.machine_rows.specs.PairAndBinding as pairandbinding_run
 use Rattle.machine_rows.specs.FrozenEnds as frozenends_run
+
+pub sourcelimit_holds : sourcelimit_run.Holds
+unfolding making constructed thawing_made held_data building_child building_forward building_binding building_handler with_method left_with called uncalled notifying signal_at beginning_emission adopted moving reckoning comparing sameness negating conjunction disjunction joining converting slot_at getting set_from assigning then_goes_on telling naming made_new creating sinking orphaning disposing adopting freezing unfreezing signal_in signal_to_emit emitting connecting on_handlers attaching removing calling jumping branching branching_null asked changed with_value beginning_program program_before values_in truth_in text_in whole_in operand_in data_in written_to down_to_emission down_to_source received_at ending block_in given_by returned returning in_front running spec_at raising written setting building_object carrying_set carrying_get given_values carrying_emit carrying_release sourcing left carried collecting resulting
+sourcelimit_holds = refl
+
+pub blocks_holds : blocks_run.Holds
+unfolding making constructed thawing_made held_data building_child building_forward building_binding building_handler with_method left_with called uncalled notifying signal_at beginning_emission adopted moving reckoning comparing sameness negating conjunction disjunction joining converting slot_at getting set_from assigning then_goes_on telling naming made_new creating sinking orphaning disposing adopting freezing unfreezing signal_in signal_to_emit emitting connecting on_handlers attaching removing calling jumping branching branching_null asked changed with_value beginning_program program_before values_in truth_in text_in whole_in operand_in data_in written_to down_to_emission down_to_source received_at ending block_in given_by returned returning in_front running spec_at raising written setting building_object carrying_set carrying_get given_values carrying_emit carrying_release sourcing left carried collecting resulting
+blocks_holds = refl
 
 pub newisonestep_holds : newisonestep_run.Holds
 unfolding making constructed thawing_made held_data building_child building_forward building_binding building_handler with_method left_with called uncalled notifying signal_at beginning_emission adopted moving reckoning comparing sameness negating conjunction disjunction joining converting slot_at getting set_from assigning then_goes_on telling naming made_new creating sinking orphaning disposing adopting freezing unfreezing signal_in signal_to_emit emitting connecting on_handlers attaching removing calling jumping branching branching_null asked changed with_value beginning_program program_before values_in truth_in text_in whole_in operand_in data_in written_to down_to_emission down_to_source received_at ending block_in given_by returned returning in_front running spec_at raising written setting building_object carrying_set carrying_get given_values carrying_emit carrying_release sourcing left carried collecting resulting

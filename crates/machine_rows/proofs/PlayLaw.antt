@@ -1,18 +1,16 @@
 -- What is played is a run: each part of a run by itself.
-use Rattle.std.proofs.Common.{◌≡◌, ◌⊎◌, inl, inr, refl, subst, ap, sym, ◌∙◌, ℕ, zero, suc, Bool, true, false, List, [], ◌∷◌, Option, None, Some, Ok, Err}
+use Rattle.std.proofs.Common.{◌≡◌, inl, inr, refl, subst, ap, sym, ℕ, zero, suc, Bool, true, false, List, [], ◌∷◌, Option, None, Some, Ok, Err}
 use Rattle.std.specs.Prelude.{map, nat_lt, ◌&&◌, is_none}
 use Rattle.ui_machine.specs.declared.arm.Arm.{Arm}
 use Rattle.ui_machine.specs.declared.arm.Arm.TheVariants as arms
 use Rattle.ui_machine.specs.Values.{Value}
 use Rattle.ui_machine.specs.Definition.{Definition}
-use Rattle.ui_machine.specs.Lines as lines
 use Rattle.ui_machine.specs.Config as config
 use Rattle.ui_machine.specs.Config.{PeerState, Peer, Source, Task, Setting, Notifying, Beginning, Emitting, Transferring, Unsetting, Thawing, Running, Answering, Calling, Constructing, Building, Carrying, Due, Event, World, Config}
 use Rattle.ui_machine.specs.Answers.{Answer, ◌>>=◌}
 use Rattle.ui_machine.specs.Objects.{next_unheld}
 use Rattle.ui_machine.specs.Mentions.{mentions}
 use Rattle.ui_machine.specs.Sources.{ready, source_of}
-use Rattle.ui_machine.specs.Worlds.{said}
 use Rattle.ui_machine.specs.Calls.{peer_state, is_asked, called}
 use Rattle.ui_machine.specs.Steps.{step, left, turned}
 use Rattle.ui_machine.specs.Runs.{HasEnded, beginning, of_build, of_event}
@@ -134,7 +132,7 @@ module _ (P : Reply → Type 0) (d : Definition) where
       record {
         agenda = empty_is_nil c.agenda (first_true (is_empty c.agenda) (is_empty c.world.floating && is_none (next_unheld (mentions d c) c.world.objects)) e);
         floating = empty_is_nil c.world.floating (first_true (is_empty c.world.floating) (is_none (next_unheld (mentions d c) c.world.objects)) more);
-        held = none_is_none (next_unheld (mentions d c) c.world.objects) (second_true (is_empty c.world.floating) (is_none (next_unheld (mentions d c) c.world.objects)) more)
+        held = none_is_none (next_unheld (mentions d c) c.world.objects) (second_true (is_empty c.world.floating) (is_none (next_unheld (mentions d c) c.world.objects)) more);
       }
 
   pub record Out (c : Config) (p : Played Config) : Type 0 where
@@ -153,6 +151,7 @@ module _ (P : Reply → Type 0) (d : Definition) where
           let made = step_made c replies b.mid h b.first in
           let more = go b made.1 in
           record { steps = suc more.steps; reached = (b.mid.at, made.0, more.reached); over = more.over; left_over = more.left_over }
+
       by_end : ((b : Both (played_step d c replies) (λ q. played_out n d q.at q.replies) p) → Each P b.mid.replies → Out b.mid.at p) →
           (over : Bool) → has_ended d c ≡ over →
           elim over as (λ _. Answer (Played Config)) [ true ↦ Ok (record { at = c; replies = replies }) | false ↦ played_step d c replies >>= (λ q. played_out n d q.at q.replies) ] ≡ Ok p → Out c p

@@ -12,34 +12,34 @@ use Rattle.machine_rows.specs.Words.{class_type, notify, class_of, block, progra
 abbrev pub definition : Definition
 definition = record {
   types =
-    plain_class (codes "GObject") None []
-    ∷ class_type (codes "GInitiallyUnowned") 0 false false []
-    ∷ class_type (codes "Box") 0 false false []
-    ∷ class_type (codes "Kid") 1 false false []
-    ∷ [];
+      plain_class (codes "GObject") None []
+      ∷ class_type (codes "GInitiallyUnowned") 0 false false []
+      ∷ class_type (codes "Box") 0 false false []
+      ∷ class_type (codes "Kid") 1 false false []
+      ∷ [];
   classes =
-    class_of [] (notify ∷ []) [] None None
-    ∷ class_of [] (notify ∷ []) [] None None
-    ∷ class_of [] (notify ∷ []) [] None None
-    ∷ class_of [] (notify ∷ []) [] (Some 0) None
-    ∷ [];
+      class_of [] (notify ∷ []) [] None None
+      ∷ class_of [] (notify ∷ []) [] None None
+      ∷ class_of [] (notify ∷ []) [] None None
+      ∷ class_of [] (notify ∷ []) [] (Some 0) None
+      ∷ [];
   shapes =
-    [];
+      [];
   programs =
-    program (codes "join") ((kinds.some 3) ∷ []) 3 None
-        (block ((kinds.some 3) ∷ kinds.unset ∷ kinds.unset ∷ []) 1 (words.object 1 (codes "b") ∷ words.branch_null 1 1 2 ∷ [])
-        ∷ block ((kinds.some 3) ∷ kinds.unset ∷ kinds.unset ∷ []) 1 (words.return None ∷ [])
-        ∷ block ((kinds.some 3) ∷ (kinds.at 0) ∷ kinds.unset ∷ []) 1 (words.adopt 2 1 0 ∷ words.return None ∷ [])
-        ∷ [])
-    ∷ [];
+      program (codes "join") ((kinds.some 3) ∷ []) 3 None
+      (block ((kinds.some 3) ∷ kinds.unset ∷ kinds.unset ∷ []) 1 (words.object 1 (codes "b") ∷ words.branch_null 1 1 2 ∷ [])
+      ∷ block ((kinds.some 3) ∷ kinds.unset ∷ kinds.unset ∷ []) 1 (words.return None ∷ [])
+      ∷ block ((kinds.some 3) ∷ (kinds.at 0) ∷ kinds.unset ∷ []) 1 (words.adopt 2 1 0 ∷ words.return None ∷ [])
+      ∷ [])
+      ∷ [];
   places =
-    object (codes "b") 2 None [] [] []
-    ∷ object (codes "k") 3 (Some 0) [] [] []
-    ∷ [];
+      object (codes "b") 2 None [] [] []
+      ∷ object (codes "k") 3 (Some 0) [] [] []
+      ∷ [];
   bindings =
-    [];
+      [];
   most_objects = 64;
-  most_handlers = 0
+  most_handlers = 0;
 }
 
 abbrev pub peers : List Peer

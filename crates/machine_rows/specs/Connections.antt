@@ -12,38 +12,38 @@ use Rattle.machine_rows.specs.Words.{class_type, signal, notify, class_of, block
 abbrev pub definition : Definition
 definition = record {
   types =
-    plain_class (codes "GObject") None []
-    ∷ class_type (codes "GInitiallyUnowned") 0 false false []
-    ∷ class_type (codes "Box") 0 false false []
-    ∷ [];
+      plain_class (codes "GObject") None []
+      ∷ class_type (codes "GInitiallyUnowned") 0 false false []
+      ∷ class_type (codes "Box") 0 false false []
+      ∷ [];
   classes =
-    class_of [] (notify ∷ []) [] None None
-    ∷ class_of [] (notify ∷ []) [] None None
-    ∷ class_of [] (notify ∷ signal (codes "s") [] None 2 None ∷ []) [] None None
-    ∷ [];
+      class_of [] (notify ∷ []) [] None None
+      ∷ class_of [] (notify ∷ []) [] None None
+      ∷ class_of [] (notify ∷ signal (codes "s") [] None 2 None ∷ []) [] None None
+      ∷ [];
   shapes =
-    [];
+      [];
   programs =
-    program (codes "h1") ((kinds.some 2) ∷ []) 2 None
-        (block ((kinds.some 2) ∷ kinds.unset ∷ []) 1 (words.disconnect 0 (codes "h2") ∷ words.block 0 (codes "h3") ∷ words.connect 1 0 (codes "s") None (codes "n") false false None ∷ words.return None ∷ [])
-        ∷ [])
-    ∷ program (codes "h2") ((kinds.some 2) ∷ []) 1 None
-        (block ((kinds.some 2) ∷ []) 1 (words.return None ∷ [])
-        ∷ [])
-    ∷ program (codes "h3") ((kinds.some 2) ∷ []) 1 None
-        (block ((kinds.some 2) ∷ []) 1 (words.return None ∷ [])
-        ∷ [])
-    ∷ program (codes "n") ((kinds.some 2) ∷ []) 1 None
-        (block ((kinds.some 2) ∷ []) 1 (words.return None ∷ [])
-        ∷ [])
-    ∷ [];
+      program (codes "h1") ((kinds.some 2) ∷ []) 2 None
+      (block ((kinds.some 2) ∷ kinds.unset ∷ []) 1 (words.disconnect 0 (codes "h2") ∷ words.block 0 (codes "h3") ∷ words.connect 1 0 (codes "s") None (codes "n") false false None ∷ words.return None ∷ [])
+      ∷ [])
+      ∷ program (codes "h2") ((kinds.some 2) ∷ []) 1 None
+      (block ((kinds.some 2) ∷ []) 1 (words.return None ∷ [])
+      ∷ [])
+      ∷ program (codes "h3") ((kinds.some 2) ∷ []) 1 None
+      (block ((kinds.some 2) ∷ []) 1 (words.return None ∷ [])
+      ∷ [])
+      ∷ program (codes "n") ((kinds.some 2) ∷ []) 1 None
+      (block ((kinds.some 2) ∷ []) 1 (words.return None ∷ [])
+      ∷ [])
+      ∷ [];
   places =
-    object (codes "b") 2 None [] [] (attached (codes "s") None 0 false false None ∷ attached (codes "s") None 1 false false None ∷ attached (codes "s") None 2 false false None ∷ [])
-    ∷ [];
+      object (codes "b") 2 None [] [] (attached (codes "s") None 0 false false None ∷ attached (codes "s") None 1 false false None ∷ attached (codes "s") None 2 false false None ∷ [])
+      ∷ [];
   bindings =
-    [];
+      [];
   most_objects = 64;
-  most_handlers = 1
+  most_handlers = 1;
 }
 
 abbrev pub peers : List Peer

@@ -11,28 +11,28 @@ use Rattle.machine_rows.specs.Words.{class_type, property, notify, class_of, giv
 abbrev pub definition : Definition
 definition = record {
   types =
-    plain_class (codes "GObject") None []
-    ∷ class_type (codes "GInitiallyUnowned") 0 false false []
-    ∷ class_type (codes "Base") 0 false false []
-    ∷ class_type (codes "Derived") 2 false false []
-    ∷ [];
+      plain_class (codes "GObject") None []
+      ∷ class_type (codes "GInitiallyUnowned") 0 false false []
+      ∷ class_type (codes "Base") 0 false false []
+      ∷ class_type (codes "Derived") 2 false false []
+      ∷ [];
   classes =
-    class_of [] (notify ∷ []) [] None None
-    ∷ class_of [] (notify ∷ []) [] None None
-    ∷ class_of (property (codes "x") (kinds.whole kinds.int) 7 (values.whole kinds.int (pos 3)) (negsuc 2147483647) (pos 2147483647) false ∷ []) (notify ∷ []) [] None None
-    ∷ class_of (property (codes "x") (kinds.whole kinds.int) 7 (values.whole kinds.int (pos 3)) (negsuc 2147483647) (pos 2147483647) false ∷ property (codes "y") (kinds.whole kinds.int) 7 (values.whole kinds.int (pos 4)) (negsuc 2147483647) (pos 2147483647) false ∷ property (codes "z") (kinds.whole kinds.int) 3 (values.whole kinds.int (pos 0)) (negsuc 2147483647) (pos 2147483647) false ∷ []) (notify ∷ []) [] None None
-    ∷ [];
+      class_of [] (notify ∷ []) [] None None
+      ∷ class_of [] (notify ∷ []) [] None None
+      ∷ class_of (property (codes "x") (kinds.whole kinds.int) 7 (values.whole kinds.int (pos 3)) (negsuc 2147483647) (pos 2147483647) false ∷ []) (notify ∷ []) [] None None
+      ∷ class_of (property (codes "x") (kinds.whole kinds.int) 7 (values.whole kinds.int (pos 3)) (negsuc 2147483647) (pos 2147483647) false ∷ property (codes "y") (kinds.whole kinds.int) 7 (values.whole kinds.int (pos 4)) (negsuc 2147483647) (pos 2147483647) false ∷ property (codes "z") (kinds.whole kinds.int) 3 (values.whole kinds.int (pos 0)) (negsuc 2147483647) (pos 2147483647) false ∷ []) (notify ∷ []) [] None None
+      ∷ [];
   shapes =
-    [];
+      [];
   programs =
-    [];
+      [];
   places =
-    object (codes "o") 3 None (gives 2 (value (values.whole kinds.int (pos 1))) ∷ gives 1 (value (values.whole kinds.int (pos 9))) ∷ []) [] []
-    ∷ [];
+      object (codes "o") 3 None (gives 2 (value (values.whole kinds.int (pos 1))) ∷ gives 1 (value (values.whole kinds.int (pos 9))) ∷ []) [] []
+      ∷ [];
   bindings =
-    [];
+      [];
   most_objects = 64;
-  most_handlers = 0
+  most_handlers = 0;
 }
 
 abbrev pub peers : List Peer

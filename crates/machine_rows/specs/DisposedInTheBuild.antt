@@ -13,34 +13,34 @@ use Rattle.machine_rows.specs.Words.{class_type, property, signal, notify, class
 abbrev pub definition : Definition
 definition = record {
   types =
-    plain_class (codes "GObject") None []
-    ∷ class_type (codes "GInitiallyUnowned") 0 false false []
-    ∷ class_type (codes "Box") 0 false false []
-    ∷ [];
+      plain_class (codes "GObject") None []
+      ∷ class_type (codes "GInitiallyUnowned") 0 false false []
+      ∷ class_type (codes "Box") 0 false false []
+      ∷ [];
   classes =
-    class_of [] (notify ∷ []) [] None None
-    ∷ class_of [] (notify ∷ []) [] None None
-    ∷ class_of (property (codes "to") (kinds.object 2) 3 (values.object None) (pos 0) (pos 0) false ∷ property (codes "w") (kinds.object 2) 3 (values.object None) (pos 0) (pos 0) true ∷ property (codes "n") (kinds.whole kinds.int) 3 (values.whole kinds.int (pos 0)) (negsuc 2147483647) (pos 2147483647) false ∷ []) (notify ∷ signal (codes "go") [] None 2 None ∷ []) [] (Some 0) None
-    ∷ [];
+      class_of [] (notify ∷ []) [] None None
+      ∷ class_of [] (notify ∷ []) [] None None
+      ∷ class_of (property (codes "to") (kinds.object 2) 3 (values.object None) (pos 0) (pos 0) false ∷ property (codes "w") (kinds.object 2) 3 (values.object None) (pos 0) (pos 0) true ∷ property (codes "n") (kinds.whole kinds.int) 3 (values.whole kinds.int (pos 0)) (negsuc 2147483647) (pos 2147483647) false ∷ []) (notify ∷ signal (codes "go") [] None 2 None ∷ []) [] (Some 0) None
+      ∷ [];
   shapes =
-    [];
+      [];
   programs =
-    program (codes "die") ((kinds.some 2) ∷ []) 1 None
-        (block ((kinds.some 2) ∷ []) 1 (words.dispose 0 ∷ words.return None ∷ [])
-        ∷ [])
-    ∷ program (codes "h") ((kinds.some 2) ∷ []) 1 None
-        (block ((kinds.some 2) ∷ []) 1 (words.return None ∷ [])
-        ∷ [])
-    ∷ [];
+      program (codes "die") ((kinds.some 2) ∷ []) 1 None
+      (block ((kinds.some 2) ∷ []) 1 (words.dispose 0 ∷ words.return None ∷ [])
+      ∷ [])
+      ∷ program (codes "h") ((kinds.some 2) ∷ []) 1 None
+      (block ((kinds.some 2) ∷ []) 1 (words.return None ∷ [])
+      ∷ [])
+      ∷ [];
   places =
-    object (codes "a") 2 None (gives 0 (named 1) ∷ gives 1 (named 1) ∷ []) [] (attached (codes "go") None 1 false false None ∷ [])
-    ∷ object (codes "b") 2 None [] [] []
-    ∷ [];
+      object (codes "a") 2 None (gives 0 (named 1) ∷ gives 1 (named 1) ∷ []) [] (attached (codes "go") None 1 false false None ∷ [])
+      ∷ object (codes "b") 2 None [] [] []
+      ∷ [];
   bindings =
-    bind None 0 2 1 2 2
-    ∷ [];
+      bind None 0 2 1 2 2
+      ∷ [];
   most_objects = 64;
-  most_handlers = 0
+  most_handlers = 0;
 }
 
 abbrev pub peers : List Peer

@@ -12,30 +12,30 @@ use Rattle.machine_rows.specs.Words.{member, enum_type, class_type, property, no
 abbrev pub definition : Definition
 definition = record {
   types =
-    plain_class (codes "GObject") None []
-    ∷ class_type (codes "GInitiallyUnowned") 0 false false []
-    ∷ enum_type (codes "Mode") (member (codes "OFF") (codes "off") (pos 0) ∷ member (codes "ON") (codes "on") (pos 1) ∷ [])
-    ∷ class_type (codes "Box") 0 false false []
-    ∷ [];
+      plain_class (codes "GObject") None []
+      ∷ class_type (codes "GInitiallyUnowned") 0 false false []
+      ∷ enum_type (codes "Mode") (member (codes "OFF") (codes "off") (pos 0) ∷ member (codes "ON") (codes "on") (pos 1) ∷ [])
+      ∷ class_type (codes "Box") 0 false false []
+      ∷ [];
   classes =
-    class_of [] (notify ∷ []) [] None None
-    ∷ class_of [] (notify ∷ []) [] None None
-    ∷ bare
-    ∷ class_of (property (codes "n") (kinds.whole kinds.int) 3 (values.whole kinds.int (pos 0)) (negsuc 2147483647) (pos 2147483647) false ∷ property (codes "e") (kinds.enum 2) 3 (values.enum 2 (pos 0)) (pos 0) (pos 0) false ∷ []) (notify ∷ []) [] None None
-    ∷ [];
+      class_of [] (notify ∷ []) [] None None
+      ∷ class_of [] (notify ∷ []) [] None None
+      ∷ bare
+      ∷ class_of (property (codes "n") (kinds.whole kinds.int) 3 (values.whole kinds.int (pos 0)) (negsuc 2147483647) (pos 2147483647) false ∷ property (codes "e") (kinds.enum 2) 3 (values.enum 2 (pos 0)) (pos 0) (pos 0) false ∷ []) (notify ∷ []) [] None None
+      ∷ [];
   shapes =
-    [];
+      [];
   programs =
-    [];
+      [];
   places =
-    object (codes "a") 3 None [] [] []
-    ∷ object (codes "b") 3 None [] [] []
-    ∷ [];
+      object (codes "a") 3 None [] [] []
+      ∷ object (codes "b") 3 None [] [] []
+      ∷ [];
   bindings =
-    bind None 0 0 1 1 0
-    ∷ [];
+      bind None 0 0 1 1 0
+      ∷ [];
   most_objects = 64;
-  most_handlers = 0
+  most_handlers = 0;
 }
 
 abbrev pub peers : List Peer

@@ -12,26 +12,26 @@ use Rattle.machine_rows.specs.Words.{class_type, property, notify, class_of, obj
 abbrev pub definition : Definition
 definition = record {
   types =
-    plain_class (codes "GObject") None []
-    ∷ class_type (codes "GInitiallyUnowned") 0 false false []
-    ∷ class_type (codes "Box") 0 false false []
-    ∷ [];
+      plain_class (codes "GObject") None []
+      ∷ class_type (codes "GInitiallyUnowned") 0 false false []
+      ∷ class_type (codes "Box") 0 false false []
+      ∷ [];
   classes =
-    class_of [] (notify ∷ []) [] None None
-    ∷ class_of [] (notify ∷ []) [] None None
-    ∷ class_of (property (codes "n") (kinds.whole kinds.int) 1073741827 (values.whole kinds.int (pos 0)) (negsuc 2147483647) (pos 2147483647) false ∷ []) (notify ∷ []) [] None None
-    ∷ [];
+      class_of [] (notify ∷ []) [] None None
+      ∷ class_of [] (notify ∷ []) [] None None
+      ∷ class_of (property (codes "n") (kinds.whole kinds.int) 1073741827 (values.whole kinds.int (pos 0)) (negsuc 2147483647) (pos 2147483647) false ∷ []) (notify ∷ []) [] None None
+      ∷ [];
   shapes =
-    [];
+      [];
   programs =
-    [];
+      [];
   places =
-    object (codes "b") 2 None [] [] []
-    ∷ [];
+      object (codes "b") 2 None [] [] []
+      ∷ [];
   bindings =
-    [];
+      [];
   most_objects = 64;
-  most_handlers = 0
+  most_handlers = 0;
 }
 
 abbrev pub peers : List Peer

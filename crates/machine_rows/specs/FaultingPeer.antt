@@ -13,30 +13,30 @@ use Rattle.machine_rows.specs.Words.{class_type, signal, notify, class_of, metho
 abbrev pub definition : Definition
 definition = record {
   types =
-    plain_class (codes "GObject") None []
-    ∷ class_type (codes "GInitiallyUnowned") 0 false false []
-    ∷ class_type (codes "Item") 0 false false []
-    ∷ [];
+      plain_class (codes "GObject") None []
+      ∷ class_type (codes "GInitiallyUnowned") 0 false false []
+      ∷ class_type (codes "Item") 0 false false []
+      ∷ [];
   classes =
-    class_of [] (notify ∷ []) [] None None
-    ∷ class_of [] (notify ∷ []) [] None None
-    ∷ class_of [] (notify ∷ signal (codes "s") [] None 2 None ∷ []) [] None (Some 0)
-    ∷ [];
+      class_of [] (notify ∷ []) [] None None
+      ∷ class_of [] (notify ∷ []) [] None None
+      ∷ class_of [] (notify ∷ signal (codes "s") [] None 2 None ∷ []) [] None (Some 0)
+      ∷ [];
   shapes =
-    shape (codes "Tally") (method (codes "add") ((kinds.whole kinds.int64) ∷ []) (kinds.whole kinds.int64) ∷ method (codes "read") [] (kinds.whole kinds.int64) ∷ [])
-    ∷ [];
+      shape (codes "Tally") (method (codes "add") ((kinds.whole kinds.int64) ∷ []) (kinds.whole kinds.int64) ∷ method (codes "read") [] (kinds.whole kinds.int64) ∷ [])
+      ∷ [];
   programs =
-    program (codes "later") ((kinds.some 2) ∷ []) 3 None
-        (block ((kinds.some 2) ∷ kinds.unset ∷ kinds.unset ∷ []) 1 (words.const 1 (kinds.whole kinds.int64) (values.whole kinds.int64 (pos 2)) ∷ words.call 2 0 (codes "add") (1 ∷ []) ∷ words.return None ∷ [])
-        ∷ [])
-    ∷ [];
+      program (codes "later") ((kinds.some 2) ∷ []) 3 None
+      (block ((kinds.some 2) ∷ kinds.unset ∷ kinds.unset ∷ []) 1 (words.const 1 (kinds.whole kinds.int64) (values.whole kinds.int64 (pos 2)) ∷ words.call 2 0 (codes "add") (1 ∷ []) ∷ words.return None ∷ [])
+      ∷ [])
+      ∷ [];
   places =
-    object (codes "i") 2 None [] ((codes "t") ∷ []) (attached (codes "s") None 0 false false None ∷ [])
-    ∷ [];
+      object (codes "i") 2 None [] ((codes "t") ∷ []) (attached (codes "s") None 0 false false None ∷ [])
+      ∷ [];
   bindings =
-    [];
+      [];
   most_objects = 64;
-  most_handlers = 0
+  most_handlers = 0;
 }
 
 abbrev pub peers : List Peer

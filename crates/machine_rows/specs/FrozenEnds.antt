@@ -13,33 +13,33 @@ use Rattle.machine_rows.specs.Words.{class_type, property, signal, notify, class
 abbrev pub definition : Definition
 definition = record {
   types =
-    plain_class (codes "GObject") None []
-    ∷ class_type (codes "GInitiallyUnowned") 0 false false []
-    ∷ class_type (codes "Switch") 0 false false []
-    ∷ [];
+      plain_class (codes "GObject") None []
+      ∷ class_type (codes "GInitiallyUnowned") 0 false false []
+      ∷ class_type (codes "Switch") 0 false false []
+      ∷ [];
   classes =
-    class_of [] (notify ∷ []) [] None None
-    ∷ class_of [] (notify ∷ []) [] None None
-    ∷ class_of (property (codes "on") kinds.bool 3 (values.bool false) (pos 0) (pos 0) false ∷ []) (notify ∷ signal (codes "go") ((kinds.object 2) ∷ []) None 2 None ∷ []) [] None None
-    ∷ [];
+      class_of [] (notify ∷ []) [] None None
+      ∷ class_of [] (notify ∷ []) [] None None
+      ∷ class_of (property (codes "on") kinds.bool 3 (values.bool false) (pos 0) (pos 0) false ∷ []) (notify ∷ signal (codes "go") ((kinds.object 2) ∷ []) None 2 None ∷ []) [] None None
+      ∷ [];
   shapes =
-    [];
+      [];
   programs =
-    program (codes "f") ((kinds.some 2) ∷ (kinds.plain (kinds.object 2)) ∷ []) 3 None
-        (block ((kinds.some 2) ∷ (kinds.plain (kinds.object 2)) ∷ kinds.unset ∷ []) 1 (words.branch_null 1 1 2 ∷ [])
-        ∷ block (kinds.unset ∷ kinds.unset ∷ kinds.unset ∷ []) 1 (words.return None ∷ [])
-        ∷ block ((kinds.some 2) ∷ (kinds.some 2) ∷ kinds.unset ∷ []) 1 (words.const 2 kinds.bool (values.bool true) ∷ words.freeze 0 ∷ words.freeze 1 ∷ words.set 0 (codes "on") 2 ∷ words.thaw 0 ∷ words.thaw 1 ∷ words.return None ∷ [])
-        ∷ [])
-    ∷ [];
+      program (codes "f") ((kinds.some 2) ∷ (kinds.plain (kinds.object 2)) ∷ []) 3 None
+      (block ((kinds.some 2) ∷ (kinds.plain (kinds.object 2)) ∷ kinds.unset ∷ []) 1 (words.branch_null 1 1 2 ∷ [])
+      ∷ block (kinds.unset ∷ kinds.unset ∷ kinds.unset ∷ []) 1 (words.return None ∷ [])
+      ∷ block ((kinds.some 2) ∷ (kinds.some 2) ∷ kinds.unset ∷ []) 1 (words.const 2 kinds.bool (values.bool true) ∷ words.freeze 0 ∷ words.freeze 1 ∷ words.set 0 (codes "on") 2 ∷ words.thaw 0 ∷ words.thaw 1 ∷ words.return None ∷ [])
+      ∷ [])
+      ∷ [];
   places =
-    object (codes "a") 2 None [] [] (attached (codes "go") None 0 false false None ∷ [])
-    ∷ object (codes "b") 2 None [] [] []
-    ∷ [];
+      object (codes "a") 2 None [] [] (attached (codes "go") None 0 false false None ∷ [])
+      ∷ object (codes "b") 2 None [] [] []
+      ∷ [];
   bindings =
-    bind None 0 0 1 0 7
-    ∷ [];
+      bind None 0 0 1 0 7
+      ∷ [];
   most_objects = 64;
-  most_handlers = 0
+  most_handlers = 0;
 }
 
 abbrev pub peers : List Peer

@@ -13,32 +13,32 @@ use Rattle.machine_rows.specs.Words.{class_type, property, notify, class_of, blo
 abbrev pub definition : Definition
 definition = record {
   types =
-    plain_class (codes "GObject") None []
-    ∷ class_type (codes "GInitiallyUnowned") 0 false false []
-    ∷ class_type (codes "Label") 0 false false []
-    ∷ [];
+      plain_class (codes "GObject") None []
+      ∷ class_type (codes "GInitiallyUnowned") 0 false false []
+      ∷ class_type (codes "Label") 0 false false []
+      ∷ [];
   classes =
-    class_of [] (notify ∷ []) [] None None
-    ∷ class_of [] (notify ∷ []) [] None None
-    ∷ class_of (property (codes "text") kinds.text 3 (values.text None) (pos 0) (pos 0) false ∷ []) (notify ∷ []) [] None None
-    ∷ [];
+      class_of [] (notify ∷ []) [] None None
+      ∷ class_of [] (notify ∷ []) [] None None
+      ∷ class_of (property (codes "text") kinds.text 3 (values.text None) (pos 0) (pos 0) false ∷ []) (notify ∷ []) [] None None
+      ∷ [];
   shapes =
-    [];
+      [];
   programs =
-    program (codes "up") ((kinds.at 0) ∷ []) 3 None
-        (block ((kinds.at 0) ∷ kinds.unset ∷ kinds.unset ∷ []) 1 (words.object 1 (codes "l2") ∷ words.branch_null 1 1 2 ∷ [])
-        ∷ block (kinds.unset ∷ kinds.unset ∷ kinds.unset ∷ []) 1 (words.return None ∷ [])
-        ∷ block ((kinds.at 0) ∷ (kinds.at 1) ∷ kinds.unset ∷ []) 1 (words.get 2 0 (codes "text") ∷ words.set 1 (codes "text") 2 ∷ words.return None ∷ [])
-        ∷ [])
-    ∷ [];
+      program (codes "up") ((kinds.at 0) ∷ []) 3 None
+      (block ((kinds.at 0) ∷ kinds.unset ∷ kinds.unset ∷ []) 1 (words.object 1 (codes "l2") ∷ words.branch_null 1 1 2 ∷ [])
+      ∷ block (kinds.unset ∷ kinds.unset ∷ kinds.unset ∷ []) 1 (words.return None ∷ [])
+      ∷ block ((kinds.at 0) ∷ (kinds.at 1) ∷ kinds.unset ∷ []) 1 (words.get 2 0 (codes "text") ∷ words.set 1 (codes "text") 2 ∷ words.return None ∷ [])
+      ∷ [])
+      ∷ [];
   places =
-    object (codes "l1") 2 None [] [] (attached (codes "notify") (Some (codes "text")) 0 false false None ∷ [])
-    ∷ object (codes "l2") 2 None [] [] []
-    ∷ [];
+      object (codes "l1") 2 None [] [] (attached (codes "notify") (Some (codes "text")) 0 false false None ∷ [])
+      ∷ object (codes "l2") 2 None [] [] []
+      ∷ [];
   bindings =
-    [];
+      [];
   most_objects = 2;
-  most_handlers = 0
+  most_handlers = 0;
 }
 
 abbrev pub peers : List Peer

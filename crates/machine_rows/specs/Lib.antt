@@ -30,6 +30,8 @@ pub mod DueNotification
 pub mod ScreenPeer
 pub mod RepeatedBlock
 pub mod FrozenPair
+pub mod SourceLimit
+pub mod Blocks
 pub mod NewIsOneStep
 pub mod EmitAtItsEnd
 pub mod StopInNotify

@@ -13,32 +13,32 @@ use Rattle.machine_rows.specs.Words.{class_type, property, signal, notify, class
 abbrev pub definition : Definition
 definition = record {
   types =
-    plain_class (codes "GObject") None []
-    ∷ class_type (codes "GInitiallyUnowned") 0 false false []
-    ∷ class_type (codes "Box") 0 false false []
-    ∷ [];
+      plain_class (codes "GObject") None []
+      ∷ class_type (codes "GInitiallyUnowned") 0 false false []
+      ∷ class_type (codes "Box") 0 false false []
+      ∷ [];
   classes =
-    class_of [] (notify ∷ []) [] None None
-    ∷ class_of [] (notify ∷ []) [] None None
-    ∷ class_of (property (codes "x") (kinds.whole kinds.int) 3 (values.whole kinds.int (pos 0)) (negsuc 2147483647) (pos 2147483647) false ∷ property (codes "y") (kinds.whole kinds.int) 3 (values.whole kinds.int (pos 0)) (negsuc 2147483647) (pos 2147483647) false ∷ []) (notify ∷ signal (codes "go") [] None 2 None ∷ []) [] None None
-    ∷ [];
+      class_of [] (notify ∷ []) [] None None
+      ∷ class_of [] (notify ∷ []) [] None None
+      ∷ class_of (property (codes "x") (kinds.whole kinds.int) 3 (values.whole kinds.int (pos 0)) (negsuc 2147483647) (pos 2147483647) false ∷ property (codes "y") (kinds.whole kinds.int) 3 (values.whole kinds.int (pos 0)) (negsuc 2147483647) (pos 2147483647) false ∷ []) (notify ∷ signal (codes "go") [] None 2 None ∷ []) [] None None
+      ∷ [];
   shapes =
-    [];
+      [];
   programs =
-    program (codes "n") ((kinds.some 2) ∷ []) 1 None
-        (block ((kinds.some 2) ∷ []) 1 (words.return None ∷ [])
-        ∷ [])
-    ∷ program (codes "f") ((kinds.some 2) ∷ []) 2 None
-        (block ((kinds.some 2) ∷ kinds.unset ∷ []) 1 (words.connect 1 0 (codes "notify") (Some (codes "x")) (codes "n") false false None ∷ words.connect 1 0 (codes "notify") (Some (codes "y")) (codes "n") false false None ∷ words.disconnect 0 (codes "n") ∷ words.connect 1 0 (codes "notify") (Some (codes "y")) (codes "n") false false None ∷ words.return None ∷ [])
-        ∷ [])
-    ∷ [];
+      program (codes "n") ((kinds.some 2) ∷ []) 1 None
+      (block ((kinds.some 2) ∷ []) 1 (words.return None ∷ [])
+      ∷ [])
+      ∷ program (codes "f") ((kinds.some 2) ∷ []) 2 None
+      (block ((kinds.some 2) ∷ kinds.unset ∷ []) 1 (words.connect 1 0 (codes "notify") (Some (codes "x")) (codes "n") false false None ∷ words.connect 1 0 (codes "notify") (Some (codes "y")) (codes "n") false false None ∷ words.disconnect 0 (codes "n") ∷ words.connect 1 0 (codes "notify") (Some (codes "y")) (codes "n") false false None ∷ words.return None ∷ [])
+      ∷ [])
+      ∷ [];
   places =
-    object (codes "b") 2 None [] [] (attached (codes "go") None 1 false false None ∷ [])
-    ∷ [];
+      object (codes "b") 2 None [] [] (attached (codes "go") None 1 false false None ∷ [])
+      ∷ [];
   bindings =
-    [];
+      [];
   most_objects = 64;
-  most_handlers = 1
+  most_handlers = 1;
 }
 
 abbrev pub peers : List Peer

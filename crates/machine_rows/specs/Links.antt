@@ -12,27 +12,27 @@ use Rattle.machine_rows.specs.Words.{class_type, property, notify, class_of, giv
 abbrev pub definition : Definition
 definition = record {
   types =
-    plain_class (codes "GObject") None []
-    ∷ class_type (codes "GInitiallyUnowned") 0 false false []
-    ∷ class_type (codes "Link") 0 false false []
-    ∷ [];
+      plain_class (codes "GObject") None []
+      ∷ class_type (codes "GInitiallyUnowned") 0 false false []
+      ∷ class_type (codes "Link") 0 false false []
+      ∷ [];
   classes =
-    class_of [] (notify ∷ []) [] None None
-    ∷ class_of [] (notify ∷ []) [] None None
-    ∷ class_of (property (codes "to") (kinds.object 2) 3 (values.object None) (pos 0) (pos 0) false ∷ property (codes "w") (kinds.object 2) 3 (values.object None) (pos 0) (pos 0) true ∷ []) (notify ∷ []) [] None None
-    ∷ [];
+      class_of [] (notify ∷ []) [] None None
+      ∷ class_of [] (notify ∷ []) [] None None
+      ∷ class_of (property (codes "to") (kinds.object 2) 3 (values.object None) (pos 0) (pos 0) false ∷ property (codes "w") (kinds.object 2) 3 (values.object None) (pos 0) (pos 0) true ∷ []) (notify ∷ []) [] None None
+      ∷ [];
   shapes =
-    [];
+      [];
   programs =
-    [];
+      [];
   places =
-    object (codes "a") 2 None (gives 0 (named 1) ∷ gives 1 (named 1) ∷ []) [] []
-    ∷ object (codes "z") 2 None [] [] []
-    ∷ [];
+      object (codes "a") 2 None (gives 0 (named 1) ∷ gives 1 (named 1) ∷ []) [] []
+      ∷ object (codes "z") 2 None [] [] []
+      ∷ [];
   bindings =
-    [];
+      [];
   most_objects = 64;
-  most_handlers = 0
+  most_handlers = 0;
 }
 
 abbrev pub peers : List Peer

@@ -13,34 +13,34 @@ use Rattle.machine_rows.specs.Words.{interface_type, class_type, property, signa
 abbrev pub definition : Definition
 definition = record {
   types =
-    plain_class (codes "GObject") None []
-    ∷ class_type (codes "GInitiallyUnowned") 0 false false []
-    ∷ interface_type (codes "Face") []
-    ∷ class_type (codes "Box") 0 false false (2 ∷ [])
-    ∷ [];
+      plain_class (codes "GObject") None []
+      ∷ class_type (codes "GInitiallyUnowned") 0 false false []
+      ∷ interface_type (codes "Face") []
+      ∷ class_type (codes "Box") 0 false false (2 ∷ [])
+      ∷ [];
   classes =
-    class_of [] (notify ∷ []) [] None None
-    ∷ class_of [] (notify ∷ []) [] None None
-    ∷ class_of (property (codes "n") (kinds.whole kinds.int) 3 (values.whole kinds.int (pos 0)) (negsuc 2147483647) (pos 2147483647) false ∷ []) (notify ∷ []) [] None None
-    ∷ class_of (property (codes "n") (kinds.whole kinds.int) 3 (values.whole kinds.int (pos 0)) (negsuc 2147483647) (pos 2147483647) false ∷ []) (notify ∷ signal (codes "go") [] None 2 None ∷ []) [] None None
-    ∷ [];
+      class_of [] (notify ∷ []) [] None None
+      ∷ class_of [] (notify ∷ []) [] None None
+      ∷ class_of (property (codes "n") (kinds.whole kinds.int) 3 (values.whole kinds.int (pos 0)) (negsuc 2147483647) (pos 2147483647) false ∷ []) (notify ∷ []) [] None None
+      ∷ class_of (property (codes "n") (kinds.whole kinds.int) 3 (values.whole kinds.int (pos 0)) (negsuc 2147483647) (pos 2147483647) false ∷ []) (notify ∷ signal (codes "go") [] None 2 None ∷ []) [] None None
+      ∷ [];
   shapes =
-    [];
+      [];
   programs =
-    program (codes "say") ((kinds.some 2) ∷ []) 1 None
-        (block ((kinds.some 2) ∷ []) 1 (words.return None ∷ [])
-        ∷ [])
-    ∷ program (codes "f") ((kinds.some 2) ∷ []) 2 None
-        (block ((kinds.some 2) ∷ kinds.unset ∷ []) 1 (words.connect 1 0 (codes "notify") (Some (codes "n")) (codes "say") false false None ∷ words.return None ∷ [])
-        ∷ [])
-    ∷ [];
+      program (codes "say") ((kinds.some 2) ∷ []) 1 None
+      (block ((kinds.some 2) ∷ []) 1 (words.return None ∷ [])
+      ∷ [])
+      ∷ program (codes "f") ((kinds.some 2) ∷ []) 2 None
+      (block ((kinds.some 2) ∷ kinds.unset ∷ []) 1 (words.connect 1 0 (codes "notify") (Some (codes "n")) (codes "say") false false None ∷ words.return None ∷ [])
+      ∷ [])
+      ∷ [];
   places =
-    object (codes "b") 3 None [] [] (attached (codes "go") None 1 false false None ∷ [])
-    ∷ [];
+      object (codes "b") 3 None [] [] (attached (codes "go") None 1 false false None ∷ [])
+      ∷ [];
   bindings =
-    [];
+      [];
   most_objects = 64;
-  most_handlers = 1
+  most_handlers = 1;
 }
 
 abbrev pub peers : List Peer

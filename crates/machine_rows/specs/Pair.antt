@@ -12,28 +12,28 @@ use Rattle.machine_rows.specs.Words.{class_type, property, notify, class_of, obj
 abbrev pub definition : Definition
 definition = record {
   types =
-    plain_class (codes "GObject") None []
-    ∷ class_type (codes "GInitiallyUnowned") 0 false false []
-    ∷ class_type (codes "Switch") 0 false false []
-    ∷ [];
+      plain_class (codes "GObject") None []
+      ∷ class_type (codes "GInitiallyUnowned") 0 false false []
+      ∷ class_type (codes "Switch") 0 false false []
+      ∷ [];
   classes =
-    class_of [] (notify ∷ []) [] None None
-    ∷ class_of [] (notify ∷ []) [] None None
-    ∷ class_of (property (codes "on") kinds.bool 3 (values.bool false) (pos 0) (pos 0) false ∷ []) (notify ∷ []) [] None None
-    ∷ [];
+      class_of [] (notify ∷ []) [] None None
+      ∷ class_of [] (notify ∷ []) [] None None
+      ∷ class_of (property (codes "on") kinds.bool 3 (values.bool false) (pos 0) (pos 0) false ∷ []) (notify ∷ []) [] None None
+      ∷ [];
   shapes =
-    [];
+      [];
   programs =
-    [];
+      [];
   places =
-    object (codes "a") 2 None [] [] []
-    ∷ object (codes "b") 2 None [] [] []
-    ∷ [];
+      object (codes "a") 2 None [] [] []
+      ∷ object (codes "b") 2 None [] [] []
+      ∷ [];
   bindings =
-    bind None 0 0 1 0 7
-    ∷ [];
+      bind None 0 0 1 0 7
+      ∷ [];
   most_objects = 64;
-  most_handlers = 0
+  most_handlers = 0;
 }
 
 abbrev pub peers : List Peer

@@ -1,5 +1,5 @@
 -- A whole run, computed: the build and a list of events, where the answers of the peers are given as a list.
-use Rattle.std.specs.Prelude.{ℕ, zero, suc, Bool, true, false, cond, ◌&&◌, List, [], ◌∷◌, map, nat_lt, Option, None, Some, Ok, Err, Result, is_none}
+use Rattle.std.specs.Prelude.{ℕ, zero, suc, Bool, true, false, ◌&&◌, List, [], ◌∷◌, map, nat_lt, Option, None, Some, Ok, Err, is_none}
 use Rattle.ui_machine.specs.declared.arm.Arm.TheVariants as arms
 use Rattle.ui_machine.specs.Values.{Value}
 use Rattle.ui_machine.specs.Definition.{Definition}

@@ -1,8 +1,7 @@
 -- What is played is a run of the machine.
-use Rattle.std.specs.Prelude.{◌≡◌, ◌⊎◌, ℕ, List, [], ◌∷◌, Option, Ok}
-use Rattle.ui_machine.specs.Values.{Value}
+use Rattle.std.specs.Prelude.{◌≡◌, ◌⊎◌, List, [], ◌∷◌, Ok}
 use Rattle.ui_machine.specs.Definition.{Definition}
-use Rattle.ui_machine.specs.Config.{PeerState, Peer, Event, World}
+use Rattle.ui_machine.specs.Config.{Peer, Event, World}
 use Rattle.ui_machine.specs.Choices.{Moves, IsRun}
 use Rattle.machine_rows.specs.Play.{Reply, Played, state_after, played}
 

@@ -12,26 +12,26 @@ use Rattle.machine_rows.specs.Words.{class_type, property, notify, class_of, giv
 abbrev pub definition : Definition
 definition = record {
   types =
-    plain_class (codes "GObject") None []
-    ∷ class_type (codes "GInitiallyUnowned") 0 false false []
-    ∷ class_type (codes "Box") 0 false false []
-    ∷ [];
+      plain_class (codes "GObject") None []
+      ∷ class_type (codes "GInitiallyUnowned") 0 false false []
+      ∷ class_type (codes "Box") 0 false false []
+      ∷ [];
   classes =
-    class_of [] (notify ∷ []) [] None None
-    ∷ class_of [] (notify ∷ []) [] None None
-    ∷ class_of (property (codes "n") (kinds.whole kinds.int) 7 (values.whole kinds.int (pos 3)) (pos 1) (pos 2147483647) false ∷ []) (notify ∷ []) [] None None
-    ∷ [];
+      class_of [] (notify ∷ []) [] None None
+      ∷ class_of [] (notify ∷ []) [] None None
+      ∷ class_of (property (codes "n") (kinds.whole kinds.int) 7 (values.whole kinds.int (pos 3)) (pos 1) (pos 2147483647) false ∷ []) (notify ∷ []) [] None None
+      ∷ [];
   shapes =
-    [];
+      [];
   programs =
-    [];
+      [];
   places =
-    object (codes "a") 2 None (gives 0 (value (values.whole kinds.int (negsuc 6))) ∷ []) [] []
-    ∷ [];
+      object (codes "a") 2 None (gives 0 (value (values.whole kinds.int (negsuc 6))) ∷ []) [] []
+      ∷ [];
   bindings =
-    [];
+      [];
   most_objects = 64;
-  most_handlers = 0
+  most_handlers = 0;
 }
 
 abbrev pub peers : List Peer

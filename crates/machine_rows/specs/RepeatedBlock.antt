@@ -13,31 +13,31 @@ use Rattle.machine_rows.specs.Words.{class_type, property, signal, notify, class
 abbrev pub definition : Definition
 definition = record {
   types =
-    plain_class (codes "GObject") None []
-    ∷ class_type (codes "GInitiallyUnowned") 0 false false []
-    ∷ class_type (codes "Box") 0 false false []
-    ∷ [];
+      plain_class (codes "GObject") None []
+      ∷ class_type (codes "GInitiallyUnowned") 0 false false []
+      ∷ class_type (codes "Box") 0 false false []
+      ∷ [];
   classes =
-    class_of [] (notify ∷ []) [] None None
-    ∷ class_of [] (notify ∷ []) [] None None
-    ∷ class_of (property (codes "n") (kinds.whole kinds.int) 3 (values.whole kinds.int (pos 0)) (negsuc 2147483647) (pos 2147483647) false ∷ []) (notify ∷ signal (codes "go") [] None 2 None ∷ []) [] None None
-    ∷ [];
+      class_of [] (notify ∷ []) [] None None
+      ∷ class_of [] (notify ∷ []) [] None None
+      ∷ class_of (property (codes "n") (kinds.whole kinds.int) 3 (values.whole kinds.int (pos 0)) (negsuc 2147483647) (pos 2147483647) false ∷ []) (notify ∷ signal (codes "go") [] None 2 None ∷ []) [] None None
+      ∷ [];
   shapes =
-    [];
+      [];
   programs =
-    program (codes "f") ((kinds.some 2) ∷ []) 3 None
-        (block ((kinds.some 2) ∷ kinds.unset ∷ kinds.unset ∷ []) 1 (words.const 1 (kinds.whole kinds.int) (values.whole kinds.int (pos 1)) ∷ words.const 2 (kinds.whole kinds.int) (values.whole kinds.int (pos 0)) ∷ words.jump 1 ∷ [])
-        ∷ block ((kinds.some 2) ∷ (kinds.plain (kinds.whole kinds.int)) ∷ (kinds.plain (kinds.whole kinds.int)) ∷ []) 3 (words.arithmetic words.add 2 2 1 ∷ words.set 0 (codes "n") 2 ∷ words.jump 2 ∷ [])
-        ∷ block ((kinds.some 2) ∷ kinds.unset ∷ kinds.unset ∷ []) 1 (words.return None ∷ [])
-        ∷ [])
-    ∷ [];
+      program (codes "f") ((kinds.some 2) ∷ []) 3 None
+      (block ((kinds.some 2) ∷ kinds.unset ∷ kinds.unset ∷ []) 1 (words.const 1 (kinds.whole kinds.int) (values.whole kinds.int (pos 1)) ∷ words.const 2 (kinds.whole kinds.int) (values.whole kinds.int (pos 0)) ∷ words.jump 1 ∷ [])
+      ∷ block ((kinds.some 2) ∷ (kinds.plain (kinds.whole kinds.int)) ∷ (kinds.plain (kinds.whole kinds.int)) ∷ []) 3 (words.arithmetic words.add 2 2 1 ∷ words.set 0 (codes "n") 2 ∷ words.jump 2 ∷ [])
+      ∷ block ((kinds.some 2) ∷ kinds.unset ∷ kinds.unset ∷ []) 1 (words.return None ∷ [])
+      ∷ [])
+      ∷ [];
   places =
-    object (codes "b") 2 None [] [] (attached (codes "go") None 0 false false None ∷ [])
-    ∷ [];
+      object (codes "b") 2 None [] [] (attached (codes "go") None 0 false false None ∷ [])
+      ∷ [];
   bindings =
-    [];
+      [];
   most_objects = 64;
-  most_handlers = 0
+  most_handlers = 0;
 }
 
 abbrev pub peers : List Peer

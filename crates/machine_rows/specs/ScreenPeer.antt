@@ -13,33 +13,33 @@ use Rattle.machine_rows.specs.Words.{class_type, signal, notify, class_of, metho
 abbrev pub definition : Definition
 definition = record {
   types =
-    plain_class (codes "GObject") None []
-    ∷ class_type (codes "GInitiallyUnowned") 0 false false []
-    ∷ class_type (codes "Panel") 0 false false []
-    ∷ [];
+      plain_class (codes "GObject") None []
+      ∷ class_type (codes "GInitiallyUnowned") 0 false false []
+      ∷ class_type (codes "Panel") 0 false false []
+      ∷ [];
   classes =
-    class_of [] (notify ∷ []) [] None None
-    ∷ class_of [] (notify ∷ []) [] None None
-    ∷ class_of [] (notify ∷ signal (codes "go") [] None 2 None ∷ signal (codes "bye") [] None 2 None ∷ []) [] None (Some 0)
-    ∷ [];
+      class_of [] (notify ∷ []) [] None None
+      ∷ class_of [] (notify ∷ []) [] None None
+      ∷ class_of [] (notify ∷ signal (codes "go") [] None 2 None ∷ signal (codes "bye") [] None 2 None ∷ []) [] None (Some 0)
+      ∷ [];
   shapes =
-    shape (codes "Screen") (method (codes "show") (kinds.text ∷ []) (kinds.whole kinds.uint) ∷ method (codes "line") ((kinds.whole kinds.uint) ∷ []) kinds.text ∷ [])
-    ∷ [];
+      shape (codes "Screen") (method (codes "show") (kinds.text ∷ []) (kinds.whole kinds.uint) ∷ method (codes "line") ((kinds.whole kinds.uint) ∷ []) kinds.text ∷ [])
+      ∷ [];
   programs =
-    program (codes "p") ((kinds.some 2) ∷ []) 4 None
-        (block ((kinds.some 2) ∷ kinds.unset ∷ kinds.unset ∷ kinds.unset ∷ []) 1 (words.const 1 kinds.text (values.text (Some (codes "hi"))) ∷ words.call 2 0 (codes "show") (1 ∷ []) ∷ words.const 3 (kinds.whole kinds.uint) (values.whole kinds.uint (pos 0)) ∷ words.call 1 0 (codes "line") (3 ∷ []) ∷ words.return None ∷ [])
-        ∷ [])
-    ∷ program (codes "q") ((kinds.some 2) ∷ []) 3 None
-        (block ((kinds.some 2) ∷ kinds.unset ∷ kinds.unset ∷ []) 1 (words.const 1 kinds.text (values.text (Some (codes "hi"))) ∷ words.dispose 0 ∷ words.call 2 0 (codes "show") (1 ∷ []) ∷ words.return None ∷ [])
-        ∷ [])
-    ∷ [];
+      program (codes "p") ((kinds.some 2) ∷ []) 4 None
+      (block ((kinds.some 2) ∷ kinds.unset ∷ kinds.unset ∷ kinds.unset ∷ []) 1 (words.const 1 kinds.text (values.text (Some (codes "hi"))) ∷ words.call 2 0 (codes "show") (1 ∷ []) ∷ words.const 3 (kinds.whole kinds.uint) (values.whole kinds.uint (pos 0)) ∷ words.call 1 0 (codes "line") (3 ∷ []) ∷ words.return None ∷ [])
+      ∷ [])
+      ∷ program (codes "q") ((kinds.some 2) ∷ []) 3 None
+      (block ((kinds.some 2) ∷ kinds.unset ∷ kinds.unset ∷ []) 1 (words.const 1 kinds.text (values.text (Some (codes "hi"))) ∷ words.dispose 0 ∷ words.call 2 0 (codes "show") (1 ∷ []) ∷ words.return None ∷ [])
+      ∷ [])
+      ∷ [];
   places =
-    object (codes "o") 2 None [] ((codes "scr") ∷ []) (attached (codes "go") None 0 false false None ∷ attached (codes "bye") None 1 false false None ∷ [])
-    ∷ [];
+      object (codes "o") 2 None [] ((codes "scr") ∷ []) (attached (codes "go") None 0 false false None ∷ attached (codes "bye") None 1 false false None ∷ [])
+      ∷ [];
   bindings =
-    [];
+      [];
   most_objects = 64;
-  most_handlers = 0
+  most_handlers = 0;
 }
 
 abbrev pub peers : List Peer

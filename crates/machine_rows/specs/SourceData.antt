@@ -13,35 +13,35 @@ use Rattle.machine_rows.specs.Words.{class_type, signal, notify, class_of, block
 abbrev pub definition : Definition
 definition = record {
   types =
-    plain_class (codes "GObject") None []
-    ∷ class_type (codes "GInitiallyUnowned") 0 false false []
-    ∷ class_type (codes "Box") 0 false false []
-    ∷ [];
+      plain_class (codes "GObject") None []
+      ∷ class_type (codes "GInitiallyUnowned") 0 false false []
+      ∷ class_type (codes "Box") 0 false false []
+      ∷ [];
   classes =
-    class_of [] (notify ∷ []) [] None None
-    ∷ class_of [] (notify ∷ []) [] None None
-    ∷ class_of [] (notify ∷ signal (codes "go") [] None 2 None ∷ []) [] None None
-    ∷ [];
+      class_of [] (notify ∷ []) [] None None
+      ∷ class_of [] (notify ∷ []) [] None None
+      ∷ class_of [] (notify ∷ signal (codes "go") [] None 2 None ∷ []) [] None None
+      ∷ [];
   shapes =
-    [];
+      [];
   programs =
-    program (codes "f") ((kinds.some 2) ∷ []) 3 None
-        (block ((kinds.some 2) ∷ kinds.unset ∷ kinds.unset ∷ []) 1 (words.new 1 (codes "it") ∷ words.branch_null 1 1 2 ∷ [])
-        ∷ block (kinds.unset ∷ kinds.unset ∷ kinds.unset ∷ []) 1 (words.return None ∷ [])
-        ∷ block ((kinds.some 2) ∷ (kinds.at 1) ∷ kinds.unset ∷ []) 1 (words.idle 2 (codes "rest") (pos 0) (Some 1) ∷ words.return None ∷ [])
-        ∷ [])
-    ∷ program (codes "rest") ((kinds.some 0) ∷ []) 2 (Some kinds.bool)
-        (block ((kinds.some 0) ∷ kinds.unset ∷ []) 1 (words.const 1 kinds.bool (values.bool false) ∷ words.return (Some 1) ∷ [])
-        ∷ [])
-    ∷ [];
+      program (codes "f") ((kinds.some 2) ∷ []) 3 None
+      (block ((kinds.some 2) ∷ kinds.unset ∷ kinds.unset ∷ []) 1 (words.new 1 (codes "it") ∷ words.branch_null 1 1 2 ∷ [])
+      ∷ block (kinds.unset ∷ kinds.unset ∷ kinds.unset ∷ []) 1 (words.return None ∷ [])
+      ∷ block ((kinds.some 2) ∷ (kinds.at 1) ∷ kinds.unset ∷ []) 1 (words.idle 2 (codes "rest") (pos 0) (Some 1) ∷ words.return None ∷ [])
+      ∷ [])
+      ∷ program (codes "rest") ((kinds.some 0) ∷ []) 2 (Some kinds.bool)
+      (block ((kinds.some 0) ∷ kinds.unset ∷ []) 1 (words.const 1 kinds.bool (values.bool false) ∷ words.return (Some 1) ∷ [])
+      ∷ [])
+      ∷ [];
   places =
-    object (codes "b") 2 None [] [] (attached (codes "go") None 0 false false None ∷ [])
-    ∷ prototype (codes "it") 0 [] []
-    ∷ [];
+      object (codes "b") 2 None [] [] (attached (codes "go") None 0 false false None ∷ [])
+      ∷ prototype (codes "it") 0 [] []
+      ∷ [];
   bindings =
-    [];
+      [];
   most_objects = 64;
-  most_handlers = 0
+  most_handlers = 0;
 }
 
 abbrev pub peers : List Peer

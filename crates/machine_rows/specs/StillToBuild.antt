@@ -11,31 +11,31 @@ use Rattle.machine_rows.specs.Words.{class_type, notify, class_of, block, progra
 abbrev pub definition : Definition
 definition = record {
   types =
-    plain_class (codes "GObject") None []
-    ∷ class_type (codes "GInitiallyUnowned") 0 false false []
-    ∷ class_type (codes "Box") 0 false false []
-    ∷ [];
+      plain_class (codes "GObject") None []
+      ∷ class_type (codes "GInitiallyUnowned") 0 false false []
+      ∷ class_type (codes "Box") 0 false false []
+      ∷ [];
   classes =
-    class_of [] (notify ∷ []) [] None None
-    ∷ class_of [] (notify ∷ []) [] None None
-    ∷ class_of [] (notify ∷ []) [] (Some 0) None
-    ∷ [];
+      class_of [] (notify ∷ []) [] None None
+      ∷ class_of [] (notify ∷ []) [] None None
+      ∷ class_of [] (notify ∷ []) [] (Some 0) None
+      ∷ [];
   shapes =
-    [];
+      [];
   programs =
-    program (codes "f") ((kinds.some 2) ∷ []) 3 None
-        (block ((kinds.some 2) ∷ kinds.unset ∷ kinds.unset ∷ []) 1 (words.new 1 (codes "it") ∷ words.new 2 (codes "it") ∷ words.return None ∷ [])
-        ∷ [])
-    ∷ [];
+      program (codes "f") ((kinds.some 2) ∷ []) 3 None
+      (block ((kinds.some 2) ∷ kinds.unset ∷ kinds.unset ∷ []) 1 (words.new 1 (codes "it") ∷ words.new 2 (codes "it") ∷ words.return None ∷ [])
+      ∷ [])
+      ∷ [];
   places =
-    object (codes "a") 2 None [] [] []
-    ∷ object (codes "b") 2 None [] [] []
-    ∷ prototype (codes "it") 0 [] []
-    ∷ [];
+      object (codes "a") 2 None [] [] []
+      ∷ object (codes "b") 2 None [] [] []
+      ∷ prototype (codes "it") 0 [] []
+      ∷ [];
   bindings =
-    [];
+      [];
   most_objects = 3;
-  most_handlers = 0
+  most_handlers = 0;
 }
 
 abbrev pub peers : List Peer

@@ -12,38 +12,38 @@ use Rattle.machine_rows.specs.Words.{class_type, signal, notify, class_of, block
 abbrev pub definition : Definition
 definition = record {
   types =
-    plain_class (codes "GObject") None []
-    ∷ class_type (codes "GInitiallyUnowned") 0 false false []
-    ∷ class_type (codes "Box") 0 false false []
-    ∷ class_type (codes "Item") 0 false false []
-    ∷ [];
+      plain_class (codes "GObject") None []
+      ∷ class_type (codes "GInitiallyUnowned") 0 false false []
+      ∷ class_type (codes "Box") 0 false false []
+      ∷ class_type (codes "Item") 0 false false []
+      ∷ [];
   classes =
-    class_of [] (notify ∷ []) [] None None
-    ∷ class_of [] (notify ∷ []) [] None None
-    ∷ class_of [] (notify ∷ signal (codes "go") [] None 2 None ∷ []) [] None None
-    ∷ class_of [] (notify ∷ []) [] (Some 0) None
-    ∷ [];
+      class_of [] (notify ∷ []) [] None None
+      ∷ class_of [] (notify ∷ []) [] None None
+      ∷ class_of [] (notify ∷ signal (codes "go") [] None 2 None ∷ []) [] None None
+      ∷ class_of [] (notify ∷ []) [] (Some 0) None
+      ∷ [];
   shapes =
-    [];
+      [];
   programs =
-    program (codes "c") ((kinds.some 3) ∷ []) 1 None
-        (block ((kinds.some 3) ∷ []) 1 (words.stop ∷ words.return None ∷ [])
-        ∷ [])
-    ∷ program (codes "f") ((kinds.some 2) ∷ []) 2 None
-        (block ((kinds.some 2) ∷ kinds.unset ∷ []) 1 (words.new 1 (codes "it") ∷ words.return None ∷ [])
-        ∷ [])
-    ∷ program (codes "g") ((kinds.some 2) ∷ []) 1 None
-        (block ((kinds.some 2) ∷ []) 1 (words.return None ∷ [])
-        ∷ [])
-    ∷ [];
+      program (codes "c") ((kinds.some 3) ∷ []) 1 None
+      (block ((kinds.some 3) ∷ []) 1 (words.stop ∷ words.return None ∷ [])
+      ∷ [])
+      ∷ program (codes "f") ((kinds.some 2) ∷ []) 2 None
+      (block ((kinds.some 2) ∷ kinds.unset ∷ []) 1 (words.new 1 (codes "it") ∷ words.return None ∷ [])
+      ∷ [])
+      ∷ program (codes "g") ((kinds.some 2) ∷ []) 1 None
+      (block ((kinds.some 2) ∷ []) 1 (words.return None ∷ [])
+      ∷ [])
+      ∷ [];
   places =
-    object (codes "b") 2 None [] [] (attached (codes "go") None 1 false false None ∷ attached (codes "go") None 2 false false None ∷ [])
-    ∷ prototype (codes "it") 3 [] []
-    ∷ [];
+      object (codes "b") 2 None [] [] (attached (codes "go") None 1 false false None ∷ attached (codes "go") None 2 false false None ∷ [])
+      ∷ prototype (codes "it") 3 [] []
+      ∷ [];
   bindings =
-    [];
+      [];
   most_objects = 64;
-  most_handlers = 0
+  most_handlers = 0;
 }
 
 abbrev pub peers : List Peer

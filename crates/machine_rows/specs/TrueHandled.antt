@@ -13,32 +13,32 @@ use Rattle.machine_rows.specs.Words.{class_type, signal, notify, class_of, block
 abbrev pub definition : Definition
 definition = record {
   types =
-    plain_class (codes "GObject") None []
-    ∷ class_type (codes "GInitiallyUnowned") 0 false false []
-    ∷ class_type (codes "Box") 0 false false []
-    ∷ [];
+      plain_class (codes "GObject") None []
+      ∷ class_type (codes "GInitiallyUnowned") 0 false false []
+      ∷ class_type (codes "Box") 0 false false []
+      ∷ [];
   classes =
-    class_of [] (notify ∷ []) [] None None
-    ∷ class_of [] (notify ∷ []) [] None None
-    ∷ class_of [] (notify ∷ signal (codes "q") [] (Some kinds.bool) 2 (Some words.true_handled) ∷ []) [] None None
-    ∷ [];
+      class_of [] (notify ∷ []) [] None None
+      ∷ class_of [] (notify ∷ []) [] None None
+      ∷ class_of [] (notify ∷ signal (codes "q") [] (Some kinds.bool) 2 (Some words.true_handled) ∷ []) [] None None
+      ∷ [];
   shapes =
-    [];
+      [];
   programs =
-    program (codes "f") ((kinds.some 2) ∷ []) 2 (Some kinds.bool)
-        (block ((kinds.some 2) ∷ kinds.unset ∷ []) 1 (words.const 1 kinds.bool (values.bool false) ∷ words.return (Some 1) ∷ [])
-        ∷ [])
-    ∷ program (codes "t") ((kinds.some 2) ∷ []) 2 (Some kinds.bool)
-        (block ((kinds.some 2) ∷ kinds.unset ∷ []) 1 (words.const 1 kinds.bool (values.bool true) ∷ words.return (Some 1) ∷ [])
-        ∷ [])
-    ∷ [];
+      program (codes "f") ((kinds.some 2) ∷ []) 2 (Some kinds.bool)
+      (block ((kinds.some 2) ∷ kinds.unset ∷ []) 1 (words.const 1 kinds.bool (values.bool false) ∷ words.return (Some 1) ∷ [])
+      ∷ [])
+      ∷ program (codes "t") ((kinds.some 2) ∷ []) 2 (Some kinds.bool)
+      (block ((kinds.some 2) ∷ kinds.unset ∷ []) 1 (words.const 1 kinds.bool (values.bool true) ∷ words.return (Some 1) ∷ [])
+      ∷ [])
+      ∷ [];
   places =
-    object (codes "b") 2 None [] [] (attached (codes "q") None 0 false false None ∷ attached (codes "q") None 1 false false None ∷ attached (codes "q") None 1 false false None ∷ [])
-    ∷ [];
+      object (codes "b") 2 None [] [] (attached (codes "q") None 0 false false None ∷ attached (codes "q") None 1 false false None ∷ attached (codes "q") None 1 false false None ∷ [])
+      ∷ [];
   bindings =
-    [];
+      [];
   most_objects = 64;
-  most_handlers = 0
+  most_handlers = 0;
 }
 
 abbrev pub peers : List Peer

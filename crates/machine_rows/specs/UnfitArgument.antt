@@ -14,29 +14,29 @@ use Rattle.machine_rows.specs.Words.{class_type, signal, notify, class_of, block
 abbrev pub definition : Definition
 definition = record {
   types =
-    plain_class (codes "GObject") None []
-    ∷ class_type (codes "GInitiallyUnowned") 0 false false []
-    ∷ class_type (codes "Box") 0 false false []
-    ∷ [];
+      plain_class (codes "GObject") None []
+      ∷ class_type (codes "GInitiallyUnowned") 0 false false []
+      ∷ class_type (codes "Box") 0 false false []
+      ∷ [];
   classes =
-    class_of [] (notify ∷ []) [] None None
-    ∷ class_of [] (notify ∷ []) [] None None
-    ∷ class_of [] (notify ∷ signal (codes "go") [] None 2 None ∷ signal (codes "s") ((kinds.whole kinds.int) ∷ []) None 2 None ∷ []) [] None None
-    ∷ [];
+      class_of [] (notify ∷ []) [] None None
+      ∷ class_of [] (notify ∷ []) [] None None
+      ∷ class_of [] (notify ∷ signal (codes "go") [] None 2 None ∷ signal (codes "s") ((kinds.whole kinds.int) ∷ []) None 2 None ∷ []) [] None None
+      ∷ [];
   shapes =
-    [];
+      [];
   programs =
-    program (codes "f") ((kinds.some 2) ∷ []) 2 None
-        (block ((kinds.some 2) ∷ kinds.unset ∷ []) 1 (words.const 1 kinds.bool (values.bool true) ∷ words.emit None 0 (codes "s") None (1 ∷ []) ∷ words.return None ∷ [])
-        ∷ [])
-    ∷ [];
+      program (codes "f") ((kinds.some 2) ∷ []) 2 None
+      (block ((kinds.some 2) ∷ kinds.unset ∷ []) 1 (words.const 1 kinds.bool (values.bool true) ∷ words.emit None 0 (codes "s") None (1 ∷ []) ∷ words.return None ∷ [])
+      ∷ [])
+      ∷ [];
   places =
-    object (codes "b") 2 None [] [] (attached (codes "go") None 0 false false None ∷ [])
-    ∷ [];
+      object (codes "b") 2 None [] [] (attached (codes "go") None 0 false false None ∷ [])
+      ∷ [];
   bindings =
-    [];
+      [];
   most_objects = 64;
-  most_handlers = 0
+  most_handlers = 0;
 }
 
 abbrev pub peers : List Peer

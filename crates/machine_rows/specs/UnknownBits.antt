@@ -12,28 +12,28 @@ use Rattle.machine_rows.specs.Words.{member, flags_type, class_type, property, s
 abbrev pub definition : Definition
 definition = record {
   types =
-    plain_class (codes "GObject") None []
-    ∷ class_type (codes "GInitiallyUnowned") 0 false false []
-    ∷ flags_type (codes "Bits") (member (codes "A") (codes "a") (pos 1) ∷ member (codes "B") (codes "b") (pos 2) ∷ [])
-    ∷ class_type (codes "Box") 0 false false []
-    ∷ [];
+      plain_class (codes "GObject") None []
+      ∷ class_type (codes "GInitiallyUnowned") 0 false false []
+      ∷ flags_type (codes "Bits") (member (codes "A") (codes "a") (pos 1) ∷ member (codes "B") (codes "b") (pos 2) ∷ [])
+      ∷ class_type (codes "Box") 0 false false []
+      ∷ [];
   classes =
-    class_of [] (notify ∷ []) [] None None
-    ∷ class_of [] (notify ∷ []) [] None None
-    ∷ bare
-    ∷ class_of (property (codes "f") (kinds.flags 2) 3 (values.flags 2 0) (pos 0) (pos 0) false ∷ property (codes "g") (kinds.flags 2) 19 (values.flags 2 0) (pos 0) (pos 0) false ∷ []) (notify ∷ signal (codes "s") ((kinds.flags 2) ∷ []) None 2 None ∷ []) [] None None
-    ∷ [];
+      class_of [] (notify ∷ []) [] None None
+      ∷ class_of [] (notify ∷ []) [] None None
+      ∷ bare
+      ∷ class_of (property (codes "f") (kinds.flags 2) 3 (values.flags 2 0) (pos 0) (pos 0) false ∷ property (codes "g") (kinds.flags 2) 19 (values.flags 2 0) (pos 0) (pos 0) false ∷ []) (notify ∷ signal (codes "s") ((kinds.flags 2) ∷ []) None 2 None ∷ []) [] None None
+      ∷ [];
   shapes =
-    [];
+      [];
   programs =
-    [];
+      [];
   places =
-    object (codes "b") 3 None [] [] []
-    ∷ [];
+      object (codes "b") 3 None [] [] []
+      ∷ [];
   bindings =
-    [];
+      [];
   most_objects = 64;
-  most_handlers = 0
+  most_handlers = 0;
 }
 
 abbrev pub peers : List Peer

@@ -13,30 +13,30 @@ use Rattle.machine_rows.specs.Words.{class_type, property, signal, notify, class
 abbrev pub definition : Definition
 definition = record {
   types =
-    plain_class (codes "GObject") None []
-    ∷ class_type (codes "GInitiallyUnowned") 0 false false []
-    ∷ class_type (codes "Box") 0 false false []
-    ∷ [];
+      plain_class (codes "GObject") None []
+      ∷ class_type (codes "GInitiallyUnowned") 0 false false []
+      ∷ class_type (codes "Box") 0 false false []
+      ∷ [];
   classes =
-    class_of [] (notify ∷ []) [] None None
-    ∷ class_of [] (notify ∷ []) [] None None
-    ∷ class_of (property (codes "w") (kinds.object 2) 1073741827 (values.object None) (pos 0) (pos 0) true ∷ property (codes "to") (kinds.object 2) 3 (values.object None) (pos 0) (pos 0) false ∷ []) (notify ∷ signal (codes "go") [] None 2 None ∷ []) [] None None
-    ∷ [];
+      class_of [] (notify ∷ []) [] None None
+      ∷ class_of [] (notify ∷ []) [] None None
+      ∷ class_of (property (codes "w") (kinds.object 2) 1073741827 (values.object None) (pos 0) (pos 0) true ∷ property (codes "to") (kinds.object 2) 3 (values.object None) (pos 0) (pos 0) false ∷ []) (notify ∷ signal (codes "go") [] None 2 None ∷ []) [] None None
+      ∷ [];
   shapes =
-    [];
+      [];
   programs =
-    program (codes "f") ((kinds.some 2) ∷ []) 2 None
-        (block ((kinds.some 2) ∷ kinds.unset ∷ []) 1 (words.dispose 0 ∷ words.return None ∷ [])
-        ∷ [])
-    ∷ [];
+      program (codes "f") ((kinds.some 2) ∷ []) 2 None
+      (block ((kinds.some 2) ∷ kinds.unset ∷ []) 1 (words.dispose 0 ∷ words.return None ∷ [])
+      ∷ [])
+      ∷ [];
   places =
-    object (codes "a") 2 None [] [] []
-    ∷ object (codes "b") 2 None [] [] (attached (codes "go") None 0 false false None ∷ [])
-    ∷ [];
+      object (codes "a") 2 None [] [] []
+      ∷ object (codes "b") 2 None [] [] (attached (codes "go") None 0 false false None ∷ [])
+      ∷ [];
   bindings =
-    [];
+      [];
   most_objects = 64;
-  most_handlers = 0
+  most_handlers = 0;
 }
 
 abbrev pub peers : List Peer

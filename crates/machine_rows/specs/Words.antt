@@ -1,13 +1,12 @@
 -- Short forms in which definitions are written as data.
-use Rattle.std.specs.Prelude.{ℕ, ℤ, pos, negsuc, Bool, true, false, List, [], ◌∷◌, codes, Option, None, Some}
+use Rattle.std.specs.Prelude.{ℕ, ℤ, Bool, true, false, List, [], ◌∷◌, codes, Option, None, Some}
 use Rattle.ui_machine.specs.Kinds.{Kind, RegisterKind}
 use Rattle.ui_machine.specs.Values.{Value}
-use Rattle.ui_machine.specs.Values as values
 use Rattle.ui_machine.specs.Types.{GType, Member, plain_class}
 use Rattle.ui_machine.specs.Types as types
 use Rattle.ui_machine.specs.Properties.{Spec}
 use Rattle.ui_machine.specs.Definition.{Accumulator, Signal, Method, Shape, ClassHandler, Class, Instruction, Block, Program, Given, GivenProperty, Attached, Place, Bind}
-use Rattle.ui_machine.specs.Config.{Peer, PeerState}
+use Rattle.ui_machine.specs.Config.{Peer}
 use Rattle.machine_rows.specs.Play.{Reply}
 
 -- ** types

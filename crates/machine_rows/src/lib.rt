@@ -32,6 +32,8 @@ ghost use Rattle.machine_rows.specs.DueNotification as due_notification_run;
 ghost use Rattle.machine_rows.specs.ScreenPeer as screen_peer_run;
 ghost use Rattle.machine_rows.specs.RepeatedBlock as repeated_block_run;
 ghost use Rattle.machine_rows.specs.FrozenPair as frozen_pair_run;
+ghost use Rattle.machine_rows.specs.SourceLimit as source_limit_run;
+ghost use Rattle.machine_rows.specs.Blocks as blocks_run;
 ghost use Rattle.machine_rows.specs.NewIsOneStep as new_is_one_step_run;
 ghost use Rattle.machine_rows.specs.EmitAtItsEnd as emit_at_its_end_run;
 ghost use Rattle.machine_rows.specs.StopInNotify as stop_in_notify_run;
@@ -107,6 +109,8 @@ pub fn rows()
 
 /// Runs that meet what the rules leave to a choice.
 pub fn corners()
+    ensures source_limit { source_limit_run.Holds }
+    ensures blocks { blocks_run.Holds }
     ensures new_is_one_step { new_is_one_step_run.Holds }
     ensures emit_at_its_end { emit_at_its_end_run.Holds }
     ensures stop_in_notify { stop_in_notify_run.Holds }

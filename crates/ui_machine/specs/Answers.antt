@@ -4,6 +4,7 @@ use Rattle.ui_machine.specs.declared.arm.Arm.{Arm}
 use Rattle.ui_machine.specs.declared.arm.Halt.{Halt}
 use Rattle.ui_machine.specs.declared.arm.Halt.TheVariants as halts
 
+-- what a part of a step leads to, or the arm
 abbrev pub Answer : Type 0 → Type 0
 Answer A = Result A Arm
 

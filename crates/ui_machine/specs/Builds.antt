@@ -46,9 +46,11 @@ given_at w place (g ∷ gs) slot = cond (nat_eq g.slot slot) (cond (is_forward p
 
 -- ** constructions
 
+-- whether a property is set as its object is made
 abbrev pub is_at_construction : Spec → Bool
 is_at_construction s = is_construct s || is_construct_only s
 
+-- the given value, or else the default
 abbrev pub or_default : Option Value → Value → Value
 or_default None v = v
 or_default (Some given) v = given
@@ -59,10 +61,12 @@ construct_sets w place given slot [] = []
 construct_sets w place given slot (s ∷ specs) =
     cond (is_at_construction s) (sets slot (or_default (given_at w place given slot) s.default) ∷ []) [] ++ construct_sets w place given (suc slot) specs
 
+-- a set of a value, if there is one
 abbrev pub set_of : Option Value → ℕ → List Making
 set_of None slot = []
 set_of (Some v) slot = sets slot v ∷ []
 
+-- what stands for a property that is not there
 abbrev pub no_spec : Spec
 no_spec = record { name = []; kind = kinds.bool; flags = 0; default = values.bool false; low = pos 0; high = pos 0; weak = false }
 
@@ -72,10 +76,12 @@ given_sets w place specs [] = []
 given_sets w place specs (g ∷ gs) =
     cond (is_at_construction (read no_spec specs g.slot) || is_forward place g.given) [] (set_of (given_value w g.given) g.slot) ++ given_sets w place specs gs
 
+-- a run of a program, if there is one
 abbrev pub run_of : Option ℕ → List Making
 run_of None = []
 run_of (Some program) = runs program ∷ []
 
+-- the runs of the class above, if there is one
 abbrev pub runs_above : (ℕ → List Making) → Option ℕ → List Making
 runs_above f None = []
 runs_above f (Some class) = f class
@@ -98,6 +104,7 @@ abbrev pub new_object : Definition → ℕ → Place → Option ℕ → Object
 new_object d place p peer =
     record { class = p.class; place = place; values = map (λ (s : Spec). s.default) (specs_of d p.class); freezes = 1; queue = []; children = []; parent = None; disposed = false; peer = peer }
 
+-- the number of GInitiallyUnowned
 abbrev pub initially_unowned : ℕ
 initially_unowned = 1
 
@@ -116,7 +123,7 @@ with_object d w o =
     record w {
       objects = w.objects ++ Some o ∷ [];
       floating = floats d o.class (suc (length w.objects)) w.floating;
-      peers = lent o.peer (suc (length w.objects)) w.peers
+      peers = lent o.peer (suc (length w.objects)) w.peers;
     }
 
 -- a construction begins; `held` says that the builder holds the object at its end
@@ -125,7 +132,7 @@ making d w place peer held = do
   p ← known arms.Code (place_at d place)
   only_if (not (type_of d p.class).is_abstract) arms.Abstract
       (starts (said d (with_object d w (new_object d place p peer)) (lines.construct (suc (length w.objects)) (type_of d p.class).name))
-          (Constructing (suc (length w.objects)) (construction d w place p) held ∷ []))
+      (Constructing (suc (length w.objects)) (construction d w place p) held ∷ []))
 
 -- the end of a construction: what the builder made is held by it, under the next place, and sunk
 unfoldable pub constructed : World → ℕ → Bool → Answer Started
@@ -145,17 +152,21 @@ abbrev pub adopts_if : ℕ → Option ℕ → List Item
 adopts_if place None = []
 adopts_if place (Some parent) = adopts place ∷ []
 
+-- the items that make the objects from a place on
 abbrev pub made_items : ℕ → List Place → List Item
 made_items place [] = []
 made_items place (p ∷ ps) = cond p.is_prototype [] (makes place ∷ adopts_if place p.parent) ++ made_items (suc place) ps
 
+-- a forward reference, if the value is one
 abbrev pub forward_given : ℕ → ℕ → Given → List Item
 forward_given place slot (value v) = []
 forward_given place slot (named to) = cond (nat_le place to) (forwards place slot to ∷ []) []
 
+-- the same of a given property
 abbrev pub forward_of : ℕ → GivenProperty → List Item
 forward_of place g = forward_given place g.slot g.given
 
+-- the forward references of the objects from a place on
 abbrev pub forward_items : ℕ → List Place → List Item
 forward_items place [] = []
 forward_items place (p ∷ ps) = cond p.is_prototype [] (flat_map (forward_of place) p.given) ++ forward_items (suc place) ps
@@ -165,6 +176,7 @@ abbrev pub numbered : {A : Type 0} → (ℕ → Item) → ℕ → List A → Lis
 numbered item n [] = []
 numbered item n (x ∷ xs) = item n ∷ numbered item (suc n) xs
 
+-- the signals of the objects from a place on
 abbrev pub connected_items : ℕ → List Place → List Item
 connected_items place [] = []
 connected_items place (p ∷ ps) = numbered (connects place) 0 p.signals ++ connected_items (suc place) ps
@@ -179,6 +191,7 @@ identity_held unbuilt = None
 identity_held (built id) = Some id
 identity_held released = None
 
+-- that object, as an operand
 abbrev pub held_object : World → ℕ → Answer ℕ
 held_object w place = known arms.Operand (identity_held (held_at w place))
 
@@ -189,10 +202,12 @@ held_data w (Some place) = do
   id ← held_object w place
   Ok (Some id)
 
+-- the number of the first of these names in the pool
 abbrev pub first_peer : List Peer → List (List ℕ) → Option ℕ
 first_peer peers [] = None
 first_peer peers (name ∷ names) = peer_number peers name
 
+-- the peers that a place names
 abbrev pub peers_of : Option Place → List (List ℕ)
 peers_of None = []
 peers_of (Some p) = p.peers
@@ -221,13 +236,21 @@ building_forward w place slot to items = do
 -- a binding of the definition, between two objects
 abbrev pub new_binding : ℕ → Bind → ℕ → ℕ → Binding
 new_binding number b source target = record {
-  number = number; name = b.name; source = source; source_slot = b.source_slot; target = target; target_slot = b.target_slot; flags = b.flags; setting = false
+  number = number;
+  name = b.name;
+  source = source;
+  source_slot = b.source_slot;
+  target = target;
+  target_slot = b.target_slot;
+  flags = b.flags;
+  setting = false;
 }
 
 -- with SYNC_CREATE the binding sets its target at once
 abbrev pub first_transfer : ℕ → Bind → List Task
 first_transfer number b = cond (has_flags 2 b.flags) (Transferring number false ∷ []) []
 
+-- the world with one more binding
 abbrev pub with_binding : World → Binding → World
 with_binding w b = record w { bindings = w.bindings ++ b ∷ [] }
 
@@ -244,8 +267,16 @@ building_binding d w number items = do
 -- a signal of the definition, as a handler on an object
 abbrev pub new_handler : World → ℕ → ℕ → Attached → Option ℕ → Handler
 new_handler w id signal a arg = record {
-  number = suc w.last_handler; object = id; signal = signal; detail = detail_for signal a.detail; program = a.program;
-  after = a.after; swapped = a.swapped; arg = arg; blocks = 0; by_code = false
+  number = suc w.last_handler;
+  object = id;
+  signal = signal;
+  detail = detail_for signal a.detail;
+  program = a.program;
+  after = a.after;
+  swapped = a.swapped;
+  arg = arg;
+  blocks = 0;
+  by_code = false;
 }
 
 -- a signal is connected, unless one of its objects is disposed
@@ -260,6 +291,7 @@ building_handler d w place number items = do
 
 -- ** what the builder has still to do
 
+-- 1 where an item makes an object
 abbrev pub is_making : Item → ℕ
 is_making (makes place) = 1
 is_making (adopts place) = 0
@@ -267,6 +299,7 @@ is_making (forwards place slot to) = 0
 is_making (binds number) = 0
 is_making (connects place number) = 0
 
+-- 1 where an item connects a signal
 abbrev pub is_connecting : Item → ℕ
 is_connecting (makes place) = 0
 is_connecting (adopts place) = 0

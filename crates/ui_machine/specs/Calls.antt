@@ -1,18 +1,15 @@
 -- Peers: which one an object gets, and what its calls lead to.
-use Rattle.std.specs.Prelude.{ℕ, Bool, true, false, cond, nat_lt, List, [], ◌∷◌, Option, None, Some, Ok, is_none, slice_get}
+use Rattle.std.specs.Prelude.{ℕ, Bool, false, cond, List, [], ◌∷◌, Option, None, Some, Ok, is_none, slice_get}
 use Rattle.ui_machine.specs.declared.arm.Arm.TheVariants as arms
 use Rattle.ui_machine.specs.Seq.{read, write}
 use Rattle.ui_machine.specs.Names.{place_named}
-use Rattle.ui_machine.specs.Kinds.{Kind}
 use Rattle.ui_machine.specs.Values.{Value}
-use Rattle.ui_machine.specs.Transform.{zero_value, kind_fits}
+use Rattle.ui_machine.specs.Transform.{zero_value}
 use Rattle.ui_machine.specs.Definition.{Definition, Method}
 use Rattle.ui_machine.specs.Lines.{Line}
 use Rattle.ui_machine.specs.Lines as lines
-use Rattle.ui_machine.specs.Config.{Peer, PeerState, Task, World, Config}
-use Rattle.ui_machine.specs.Answers.{Answer, ◌>>=◌, known, only_if}
-use Rattle.ui_machine.specs.Objects.{class_in}
-use Rattle.ui_machine.specs.Programs.{all_fit}
+use Rattle.ui_machine.specs.Config.{Peer, PeerState, Task, World}
+use Rattle.ui_machine.specs.Answers.{Answer, ◌>>=◌, known}
 use Rattle.ui_machine.specs.Turns.{or_zero}
 use Rattle.ui_machine.specs.Results.{Left, received}
 use Rattle.ui_machine.specs.Disposal.{no_peer}
@@ -20,6 +17,7 @@ use Rattle.ui_machine.specs.Worlds.{said}
 
 -- ** who has which
 
+-- a peer of the pool
 abbrev pub peer_at : World → ℕ → Option Peer
 peer_at w number = slice_get w.peers number
 
@@ -27,10 +25,12 @@ peer_at w number = slice_get w.peers number
 abbrev pub peer_number : List Peer → List ℕ → Option ℕ
 peer_number peers name = place_named (λ (p : Peer). p.name) peers name
 
+-- whether a peer is there that no object has got
 abbrev pub is_left : Option Peer → Bool
 is_left None = false
 is_left (Some p) = is_none p.holder
 
+-- this peer if it is left, or else the other
 abbrev pub if_left : List Peer → Option ℕ → Option ℕ → Option ℕ
 if_left peers None other = other
 if_left peers (Some number) other = cond (is_left (slice_get peers number)) (Some number) other
@@ -42,12 +42,15 @@ first_left peers (name ∷ names) = if_left peers (peer_number peers name) (firs
 
 -- ** calls
 
+-- a method of a peer by its number
 abbrev pub method_of : Peer → ℕ → Option Method
 method_of p method = slice_get p.state.shape method
 
+-- the number of the method of this name
 abbrev pub method_number : Peer → List ℕ → Option ℕ
 method_number p name = place_named (λ (m : Method). m.name) p.state.shape name
 
+-- the world with a peer in another state
 abbrev pub with_peer_state : World → ℕ → Peer → PeerState → World
 with_peer_state w number p state = record w { peers = write p w.peers number (record p { state = state }) }
 

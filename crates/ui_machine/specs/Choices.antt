@@ -1,5 +1,5 @@
 -- Steps and runs where peers answer as they may: the machine's one free choice.
-use Rattle.std.specs.Prelude.{◌≡◌, ℕ, zero, suc, Bool, true, false, cond, ◌||◌, List, [], ◌∷◌, map, length, Option, None, Some, Ok, nat_lt}
+use Rattle.std.specs.Prelude.{◌≡◌, ℕ, zero, suc, Bool, true, false, ◌||◌, List, [], ◌∷◌, map, Option, None, Some, Ok, nat_lt}
 use Rattle.std.specs.List.{list_any}
 use Rattle.ui_machine.specs.Values.{Value}
 use Rattle.ui_machine.specs.Definition.{Definition, Given, value, named}
@@ -12,7 +12,7 @@ use Rattle.ui_machine.specs.Sources.{ready, source_of}
 use Rattle.ui_machine.specs.Worlds.{said, held_at}
 use Rattle.ui_machine.specs.Calls.{peer_state, is_asked, called}
 use Rattle.ui_machine.specs.Steps.{step, left, turned}
-use Rattle.ui_machine.specs.Runs.{HasEnded, beginning, of_build, of_event, first_world}
+use Rattle.ui_machine.specs.Runs.{HasEnded, beginning, of_build, of_event}
 
 -- what each peer may do: by its number in the pool, from a state, asked a method with arguments, it may answer a value or a fault and go
 -- to another state
@@ -78,11 +78,13 @@ pub record Dispatched (m : Moves) (d : Definition) (c : Config) (count : ℕ) (n
 
 -- ** events
 
+-- whether the builder has let an object go
 abbrev pub is_released : Held → Bool
 is_released unbuilt = false
 is_released (built id) = false
 is_released released = true
 
+-- whether a given value names such an object
 abbrev pub gives_released : World → Given → Bool
 gives_released w (value v) = false
 gives_released w (named place) = is_released (held_at w place)

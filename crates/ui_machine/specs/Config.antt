@@ -5,6 +5,7 @@ use Rattle.ui_machine.specs.Definition.{Method, Given}
 
 -- ** objects (GObject manual, GObject)
 
+-- what the machine has of an object
 pub record Object : Type 0 where
   pub class : ℕ
   pub place : ℕ
@@ -35,6 +36,7 @@ pub record Handler : Type 0 where
   pub blocks : ℕ
   pub by_code : Bool  -- whether bytecode connected it
 
+-- a binding that was made
 pub record Binding : Type 0 where
   pub number : ℕ
   pub name : Option (List ℕ)
@@ -62,6 +64,7 @@ pub record PeerState : Type 0 where
   pub faults : ℕ
   pub values : List Value
 
+-- a peer of the pool
 pub record Peer : Type 0 where
   pub name : List ℕ
   pub state : PeerState
@@ -81,6 +84,7 @@ pub data Turn : Type 0 where
   handler : (number : ℕ) → Turn
   transfer : (number : ℕ) (back : Bool) → Turn
 
+-- an emission, from before its beginning to its end
 pub record Emission : Type 0 where
   pub object : ℕ
   pub signal : ℕ
@@ -104,6 +108,7 @@ pub data Item : Type 0 where
   binds : (number : ℕ) → Item
   connects : (place number : ℕ) → Item
 
+-- what comes from outside, by place
 pub data Event : Type 0 where
   set : (place slot : ℕ) (given : Given) → Event
   get : (place slot : ℕ) → Event
@@ -111,6 +116,7 @@ pub data Event : Type 0 where
   turn : (moment : ℕ) → Event
   release : (place : ℕ) → Event
 
+-- the registers of a program; one may be unset
 abbrev pub Registers : Type 0
 Registers = List (Option Value)
 
@@ -149,6 +155,7 @@ pub record World : Type 0 where
   pub transcript : List (List ℕ)  -- whole lines, without their LF
   pub result : Option Value  -- of the event
 
+-- a world, what there is to do, and what was counted
 pub record Config : Type 0 where
   pub world : World
   pub agenda : List Task

@@ -1,7 +1,6 @@
 -- Handlers: connected, disconnected, blocked (GObject manual, signals: g_signal_connect_data, g_signal_handler_block).
-use Rattle.std.specs.Prelude.{ℕ, suc, ◌-◌, ◌+◌, Bool, true, false, cond, not, ◌&&◌, ◌||◌, nat_eq, nat_lt, min, List, [], ◌∷◌, ◌++◌, length, map, codes, Option, None, Some, Ok, option_map}
+use Rattle.std.specs.Prelude.{ℕ, suc, ◌-◌, ◌+◌, Bool, true, false, cond, not, ◌&&◌, ◌||◌, nat_eq, nat_lt, min, List, [], ◌∷◌, ◌++◌, length, map, codes, Option, None, Some, option_map}
 use Rattle.std.specs.List.{filter}
-use Rattle.ui_machine.specs.declared.arm.Arm.TheVariants as arms
 use Rattle.ui_machine.specs.Names.{canonical, place_named}
 use Rattle.ui_machine.specs.Definition.{Definition, Signal}
 use Rattle.ui_machine.specs.Lookups.{class_of}
@@ -19,9 +18,11 @@ signal_number d class name = place_named (λ (s : Signal). s.name) (class_of d c
 abbrev pub detail_for : ℕ → Option (List ℕ) → Option (List ℕ)
 detail_for signal detail = cond (nat_eq signal 0) (option_map canonical detail) detail
 
+-- the greatest number of a handler
 abbrev pub most_handlers : ℕ
 most_handlers = 18446744073709551615
 
+-- whether the data object is disposed
 abbrev pub is_disposed_data : Objects → Option ℕ → Bool
 is_disposed_data os None = false
 is_disposed_data os (Some id) = is_disposed (find os id)
@@ -51,15 +52,19 @@ connected d w to_come h =
 
 -- ** all handlers of a program on an object
 
+-- whether a handler is on the object and runs the program
 abbrev pub is_on : ℕ → ℕ → Handler → Bool
 is_on id program h = nat_eq h.object id && nat_eq h.program program
 
+-- they are disconnected
 abbrev pub disconnected : World → ℕ → ℕ → World
 disconnected w id program = record w { handlers = filter (λ h. not (is_on id program h)) w.handlers }
 
+-- the greatest count of blocks
 abbrev pub most_blocks : ℕ
 most_blocks = 18446744073709551615
 
+-- one more block
 abbrev pub blocked : Handler → Handler
 blocked h = record h { blocks = min (suc h.blocks) most_blocks }
 
@@ -67,5 +72,6 @@ blocked h = record h { blocks = min (suc h.blocks) most_blocks }
 abbrev pub unblocked : Handler → Handler
 unblocked h = record h { blocks = h.blocks - 1 }
 
+-- each of them is changed
 abbrev pub with_handlers_on : (Handler → Handler) → World → ℕ → ℕ → World
 with_handlers_on change w id program = record w { handlers = map (λ h. cond (is_on id program h) (change h) h) w.handlers }

@@ -16,6 +16,7 @@ use Rattle.ui_machine.specs.Worlds.{said, with_objects}
 
 -- ** what is forgotten
 
+-- whether a value names the object
 abbrev pub names_object : ℕ → Value → Bool
 names_object id (values.bool b) = false
 names_object id (values.whole kind n) = false
@@ -25,6 +26,7 @@ names_object id (values.flags type bits) = false
 names_object id (values.object None) = false
 names_object id (values.object (Some i)) = nat_eq i id
 
+-- whether a value is of an object kind
 abbrev pub is_object : Value → Bool
 is_object (values.bool b) = false
 is_object (values.whole kind n) = false
@@ -48,9 +50,11 @@ abbrev pub lets_go : Definition → Object → Object
 lets_go d o =
     record o { values = nulled (λ s v. cond s.weak false (is_object v)) (specs_of d o.class) o.values; children = []; disposed = true }
 
+-- an object that is no one's child
 abbrev pub without_parent : Object → Object
 without_parent o = record o { parent = None }
 
+-- these objects have no parent
 abbrev pub orphans : List ℕ → Objects → Objects
 orphans [] os = os
 orphans (id ∷ ids) os = orphans ids (put os id (option_map without_parent (find os id)))
@@ -60,18 +64,22 @@ abbrev pub is_identity : ℕ → Option ℕ → Bool
 is_identity id None = false
 is_identity id (Some i) = nat_eq i id
 
+-- whether a handler is on the object, or has it as data
 abbrev pub is_of_object : ℕ → Handler → Bool
 is_of_object id h = nat_eq h.object id || is_identity id h.arg
 
+-- the children of an object, if it lives
 abbrev pub children_of : Option Object → List ℕ
 children_of None = []
 children_of (Some o) = o.children
 
 -- ** peers
 
+-- what stands for a peer that is not there
 abbrev pub no_peer : Peer
 no_peer = record { name = []; state = record { shape = []; is_open = false; calls = 0; faults = 0; values = [] }; holder = None }
 
+-- a peer that is closed
 abbrev pub closed_peer : Peer → Peer
 closed_peer p = record p { state = record p.state { is_open = false } }
 
@@ -84,14 +92,17 @@ closing d (Some k) w =
 
 -- ** dispose
 
+-- the world with the line said, if the test holds
 abbrev pub said_if : Definition → Bool → World → Line → World
 said_if d false w line = w
 said_if d true w line = said d w line
 
+-- whether an object is not disposed yet
 abbrev pub is_first : Option Object → Bool
 is_first None = false
 is_first (Some o) = not o.disposed
 
+-- the peer of an object, if it has one
 abbrev pub peer_of : Option Object → Option ℕ
 peer_of None = None
 peer_of (Some o) = o.peer
@@ -109,7 +120,7 @@ disposed d w id =
     (record w {
       objects = objects_disposed d id w.objects;
       handlers = filter (λ h. not (is_of_object id h)) w.handlers;
-      bindings = bindings_without_end id w.bindings
+      bindings = bindings_without_end id w.bindings;
     })
     (lines.dispose id))
 

@@ -21,14 +21,17 @@ signal_of d class number = slice_get (class_of d class).signals number
 
 -- ** class handlers
 
+-- the program that a class names for a signal
 abbrev pub handler_in : List ClassHandler → List ℕ → Option ℕ
 handler_in [] name = None
 handler_in (h ∷ hs) name = cond (same_name h.signal name) (Some h.program) (handler_in hs name)
 
+-- the first of two that is there
 abbrev pub or_else : Option ℕ → Option ℕ → Option ℕ
 or_else None other = other
 or_else (Some p) other = Some p
 
+-- what the class above gives, if there is one
 abbrev pub up : (ℕ → Option ℕ) → Option ℕ → Option ℕ
 up f None = None
 up f (Some class) = f class
@@ -42,11 +45,13 @@ nearest_handler (suc n) d name class = or_else (handler_in (class_of d class).ha
 abbrev pub most_depth : ℕ
 most_depth = 16
 
+-- the program of the nearest class
 abbrev pub class_handler_of : Definition → ℕ → List ℕ → Option ℕ
 class_handler_of d class name = nearest_handler most_depth d name class
 
 -- ** the plan
 
+-- whether a handler's detail allows that of an emission
 abbrev pub fits_detail : Option (List ℕ) → Option (List ℕ) → Bool
 fits_detail None detail = true
 fits_detail (Some mine) None = false
@@ -56,10 +61,12 @@ fits_detail (Some mine) (Some detail) = same_name mine detail
 abbrev pub runs_for : ℕ → ℕ → Option (List ℕ) → Handler → Bool
 runs_for id signal detail h = (nat_eq h.object id && nat_eq h.signal signal) && fits_detail h.detail detail
 
+-- the class handler's turn, if it runs at this stage
 abbrev pub at_stage : Bool → Bool → Option ℕ → List Turn
 at_stage runs cleanup None = []
 at_stage runs cleanup (Some program) = cond runs (class_handler program cleanup ∷ []) []
 
+-- the turns of the handlers, before or after the class handler
 abbrev pub handlers_for : List Handler → ℕ → ℕ → Option (List ℕ) → Bool → List Turn
 handlers_for hs id signal detail after =
     map (λ (h : Handler). handler h.number) (filter (λ (h : Handler). runs_for id signal detail h && cond after h.after (not h.after)) hs)
@@ -110,4 +117,4 @@ beginning_emission d w e = do
   s ← signal_at d o.class e.signal
   only_if (all_fit (kind_fits (class_in w.objects) d.types) e.args s.params) arms.Argument
       (starts (said d w (lines.emit e.object s.name e.detail e.args))
-          (Emitting e (plan w (class_handler_of d o.class s.name) s.flags [] e.object e.signal e.detail) ∷ []))
+      (Emitting e (plan w (class_handler_of d o.class s.name) s.flags [] e.object e.signal e.detail) ∷ []))

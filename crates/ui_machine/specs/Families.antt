@@ -1,11 +1,10 @@
 -- Parents and children (GTK manual, GtkBuilder: child objects).
 use Rattle.std.specs.Prelude.{ℕ, Bool, true, false, cond, ◌||◌, nat_eq, nat_le, [], ◌∷◌, ◌++◌, length, Option, None, Some, Ok, is_some, option_map}
-use Rattle.ui_machine.specs.declared.arm.Arm.TheVariants as arms
 use Rattle.ui_machine.specs.Definition.{Definition}
 use Rattle.std.specs.Prelude.{codes}
 use Rattle.ui_machine.specs.Lines as lines
 use Rattle.ui_machine.specs.Config.{Object, Objects, World}
-use Rattle.ui_machine.specs.Answers.{Answer, ◌>>=◌, known, only_if}
+use Rattle.ui_machine.specs.Answers.{Answer, ◌>>=◌}
 use Rattle.ui_machine.specs.Objects.{find, put, object_at}
 use Rattle.ui_machine.specs.Worlds.{said, with_objects, sunk, without}
 
@@ -17,12 +16,15 @@ most_children = 1024
 abbrev pub is_unadoptable : ℕ → Object → ℕ → Object → Bool
 is_unadoptable parent p child c = is_some c.parent || (nat_eq parent child || nat_le most_children (length p.children))
 
+-- with one more child
 abbrev pub with_child : ℕ → Object → Object
 with_child child o = record o { children = o.children ++ child ∷ [] }
 
+-- with this parent, or none
 abbrev pub with_parent : Option ℕ → Object → Object
 with_parent parent o = record o { parent = parent }
 
+-- without a child
 abbrev pub without_child : ℕ → Object → Object
 without_child child o = record o { children = without child o.children }
 
@@ -34,7 +36,7 @@ updated change id os = put os id (option_map change (find os id))
 abbrev pub with_family : Definition → World → ℕ → ℕ → World
 with_family d w parent child =
     said d (sunk (with_objects w (updated (with_parent (Some parent)) child (updated (with_child child) parent w.objects))) child)
-        (lines.adopt parent child)
+    (lines.adopt parent child)
 
 -- an object becomes another's child, or does not, by a limit's line
 unfoldable pub adopted : Definition → World → ℕ → ℕ → Answer (World × Bool)

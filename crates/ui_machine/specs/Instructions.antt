@@ -1,27 +1,26 @@
 -- What each instruction does. The frame has already gone past it.
-use Rattle.std.specs.Prelude.{ℕ, zero, suc, ◌+◌, ℤ, ◌+ℤ◌, ◌-ℤ◌, ◌*ℤ◌, int_lt, int_le, Bool, true, false, cond, not, ◌&&◌, ◌||◌, nat_eq, nat_lt, List, [], ◌∷◌, ◌++◌, length, codes, Option, None, Some, Ok, Err, is_some, slice_get}
+use Rattle.std.specs.Prelude.{ℕ, zero, suc, ◌+◌, ℤ, ◌+ℤ◌, ◌-ℤ◌, ◌*ℤ◌, int_lt, int_le, Bool, true, false, cond, not, ◌&&◌, ◌||◌, nat_lt, List, [], ◌∷◌, ◌++◌, length, codes, Option, None, Some, Ok, Err, is_some, slice_get}
 use Rattle.std.specs.Ordering.{int_eq}
 use Rattle.ui_machine.specs.declared.arm.Arm.TheVariants as arms
-use Rattle.ui_machine.specs.Names.{canonical}
 use Rattle.ui_machine.specs.Kinds.{Whole, Kind}
 use Rattle.ui_machine.specs.Kinds as kinds
 use Rattle.ui_machine.specs.Values.{Value}
 use Rattle.ui_machine.specs.Values as values
-use Rattle.ui_machine.specs.Transform.{same_whole, same_value, wrapped, transformed, is_transformable, zero_value, kind_fits}
+use Rattle.ui_machine.specs.Transform.{same_whole, same_value, wrapped, transformed, is_transformable, kind_fits}
 use Rattle.ui_machine.specs.Properties.{Spec, is_readable, is_writable, is_construct_only}
 use Rattle.ui_machine.specs.Definition.{Definition, Program, Block, Place, Arithmetic, add, sub, mul, Comparison, eq, lt, le, Instruction}
 use Rattle.ui_machine.specs.Definition as words
-use Rattle.ui_machine.specs.Lookups.{spec_of, slot_of, class_of, type_of, program_at, program_of, place_at, place_of}
+use Rattle.ui_machine.specs.Lookups.{slot_of, class_of, type_of, program_at, program_of, place_at, place_of}
 use Rattle.ui_machine.specs.Lines as lines
 use Rattle.ui_machine.specs.Sources as sources
-use Rattle.ui_machine.specs.Config.{Object, Emission, Peer, Handler, Held, Setting, Beginning, Thawing, Calling, Task, World}
+use Rattle.ui_machine.specs.Config.{Emission, Handler, Setting, Beginning, Thawing, Calling, Task, World}
 use Rattle.ui_machine.specs.Answers.{Answer, ◌>>=◌, known, only_if}
 use Rattle.ui_machine.specs.Objects.{find, live, object_at, asked, changed, value_at, class_in, frozen_more, frozen_less, most_identities}
 use Rattle.ui_machine.specs.Emissions.{or_else, up, most_depth}
 use Rattle.ui_machine.specs.Bindings.{bindings_without}
 use Rattle.ui_machine.specs.Sets.{has_kind, spec_at, raising, is_disposed}
-use Rattle.ui_machine.specs.Registers.{Frame, rest_of, value_in, values_in, truth_in, text_in, whole_in, operand_in, data_in, with_register, goes_on, written_to, gives, tells}
-use Rattle.ui_machine.specs.Programs.{passes_of, all_fit}
+use Rattle.ui_machine.specs.Registers.{Frame, value_in, values_in, truth_in, text_in, whole_in, operand_in, data_in, with_register, goes_on, written_to, gives, tells}
+use Rattle.ui_machine.specs.Programs.{all_fit}
 use Rattle.ui_machine.specs.Turns.{or_zero}
 use Rattle.ui_machine.specs.Families.{adopted, orphaned}
 use Rattle.ui_machine.specs.Connections.{signal_number, detail_for, connected, disconnected, blocked, unblocked, with_handlers_on}
@@ -48,11 +47,13 @@ clearing w f to = written_to w to None f
 
 -- ** arithmetic and logic
 
+-- the number before it is wrapped
 abbrev pub reckoned : Arithmetic → ℤ → ℤ → ℤ
 reckoned add m n = m +ℤ n
 reckoned sub m n = m -ℤ n
 reckoned mul m n = m *ℤ n
 
+-- whether the comparison holds
 abbrev pub holds : Comparison → ℤ → ℤ → Bool
 holds eq m n = int_eq m n
 holds lt m n = int_lt m n
@@ -114,9 +115,11 @@ disjunction w f to a b = do
 
 -- ** texts and conversions
 
+-- the most bytes of a text
 abbrev pub most_bytes : ℕ
 most_bytes = 4096
 
+-- the bytes of a text; null has none
 abbrev pub bytes_of : Option (List ℕ) → List ℕ
 bytes_of None = []
 bytes_of (Some s) = s
@@ -126,6 +129,7 @@ abbrev pub within_bytes : Definition → World → List ℕ → World × Value
 within_bytes d w s =
     cond (nat_lt most_bytes (length s)) (said d w (lines.limit (codes "join")), values.text None) (w, values.text (Some s))
 
+-- a register is written after a line was perhaps said
 abbrev pub gives_from : World × Value → ℕ → Frame → Answer Started
 gives_from made to f = gives made.0 to made.1 f
 
@@ -136,6 +140,7 @@ joining d w f to a b = do
   t ← text_in f b
   gives_from (within_bytes d w (bytes_of s ++ bytes_of t)) to f
 
+-- whether a kind is of objects
 abbrev pub is_object_kind : Kind → Bool
 is_object_kind (kinds.object type) = true
 is_object_kind _ = false
@@ -171,6 +176,7 @@ getting d w f to object name = do
 abbrev pub if_settable : {X : Type 0} → Spec → Answer X → Answer X
 if_settable s answer = only_if (is_writable s) arms.Flags (only_if (not (is_construct_only s)) arms.ConstructOnly answer)
 
+-- the set of a register's value
 unfoldable pub set_from : World → Frame → (id slot from : ℕ) → Answer Started
 set_from w f id slot from = do
   v ← value_in f from
@@ -200,6 +206,7 @@ telling d w f object name = do
 
 -- ** objects
 
+-- an object, or null
 abbrev pub or_null : Option Value → Value
 or_null None = values.object None
 or_null (Some v) = v
@@ -215,6 +222,7 @@ abbrev pub nearest_shape : ℕ → Definition → ℕ → Option ℕ
 nearest_shape zero d class = None
 nearest_shape (suc n) d class = or_else (class_of d class).shape (up (nearest_shape n d) (type_of d class).parent)
 
+-- whether an object of the class has a peer
 abbrev pub has_shape : Definition → ℕ → Bool
 has_shape d class = is_some (nearest_shape most_depth d class)
 
@@ -230,6 +238,7 @@ has_room_for_object d w to_come p =
     && (nat_lt (length w.objects + to_come) most_identities
     && (not (has_shape d p.class) || is_some (peer_left w p)))
 
+-- the peer that a new object takes
 abbrev pub peer_to_take : Definition → World → Place → Option ℕ
 peer_to_take d w p = cond (has_shape d p.class) (peer_left w p) None
 
@@ -296,6 +305,7 @@ signal_in d w id name = do
   o ← object_at w.objects id
   known arms.Code (signal_number d o.class name)
 
+-- an emission before it begins
 abbrev pub new_emission : ℕ → ℕ → Option (List ℕ) → List Value → Bool → Emission
 new_emission id signal detail args by_event =
     record { object = id; signal = signal; detail = detail; args = args; by_event = by_event; value = None; cleanup = false }
@@ -317,8 +327,16 @@ emitting d w f into object name detail args = do
 -- a handler that bytecode connects
 abbrev pub handler_by_code : World → (id signal : ℕ) → Option (List ℕ) → ℕ → (after swapped : Bool) → Option ℕ → Handler
 handler_by_code w id signal detail program after swapped arg = record {
-  number = suc w.last_handler; object = id; signal = signal; detail = detail_for signal detail; program = program;
-  after = after; swapped = swapped; arg = arg; blocks = 0; by_code = true
+  number = suc w.last_handler;
+  object = id;
+  signal = signal;
+  detail = detail_for signal detail;
+  program = program;
+  after = after;
+  swapped = swapped;
+  arg = arg;
+  blocks = 0;
+  by_code = true;
 }
 
 -- `connect d o s D p [options] z`
@@ -355,10 +373,11 @@ unbinding w f name = goes_on (record w { bindings = bindings_without name w.bind
 
 -- ** sources
 
+-- the world with one more source
 abbrev pub with_source : World → ℕ → ℤ → Option ℕ → Option ℕ → World
 with_source w program priority interval arg = record w {
-  sources = sources.attached w.sources (sources.new_source w.last_source w.moment program priority interval arg);
-  last_source = suc w.last_source
+  sources = sources.attached w.sources (sources.new_source (suc w.last_source) w.moment program priority interval arg);
+  last_source = suc w.last_source;
 }
 
 -- a source is attached, or past the limit its line said
@@ -366,6 +385,7 @@ abbrev pub attached_to : Definition → World → List ℕ → ℕ → ℤ → O
 attached_to d w word program priority interval arg =
     cond (sources.has_room w.sources w.last_source) (with_source w program priority interval arg, true) (said d w (lines.limit word), false)
 
+-- a source of either sort is attached
 unfoldable pub attaching : Definition → World → Frame → List ℕ → ℕ → List ℕ → ℤ → Option ℕ → Option ℕ → Answer Started
 attaching d w f word to program priority interval with = do
   number ← known arms.Code (program_of d program)

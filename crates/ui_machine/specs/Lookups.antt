@@ -11,9 +11,11 @@ use Rattle.ui_machine.specs.Definition.{Definition, Class, Program, Place}
 abbrev pub no_class : Class
 no_class = record { specs = []; signals = []; handlers = []; constructed = None; shape = None }
 
+-- an entry of the tree
 abbrev pub type_of : Definition → ℕ → GType
 type_of d t = read no_type d.types t
 
+-- what the definition has of a type
 abbrev pub class_of : Definition → ℕ → Class
 class_of d t = read no_class d.classes t
 
@@ -21,6 +23,7 @@ class_of d t = read no_class d.classes t
 abbrev pub specs_of : Definition → ℕ → List Spec
 specs_of d class = (class_of d class).specs
 
+-- a property of a class by its slot
 abbrev pub spec_of : Definition → ℕ → ℕ → Option Spec
 spec_of d class slot = slice_get (specs_of d class) slot
 
@@ -28,14 +31,18 @@ spec_of d class slot = slice_get (specs_of d class) slot
 abbrev pub slot_of : Definition → ℕ → List ℕ → Option ℕ
 slot_of d class name = place_named (λ (s : Spec). s.name) (specs_of d class) (canonical name)
 
+-- a program by its number
 abbrev pub program_at : Definition → ℕ → Option Program
 program_at d number = slice_get d.programs number
 
+-- the number of the program of this name
 abbrev pub program_of : Definition → List ℕ → Option ℕ
 program_of d name = place_named (λ (p : Program). p.name) d.programs name
 
+-- a place by its number
 abbrev pub place_at : Definition → ℕ → Option Place
 place_at d number = slice_get d.places number
 
+-- the number of the place of this id
 abbrev pub place_of : Definition → List ℕ → Option ℕ
 place_of d id = place_named (λ (p : Place). p.id) d.places id

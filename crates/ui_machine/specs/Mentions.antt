@@ -12,10 +12,12 @@ use Rattle.ui_machine.specs.Config.{Object, Source, Held, unbuilt, built, releas
 abbrev pub same : ℕ → ℕ → ℕ
 same o i = cond (nat_eq i o) 1 0
 
+-- 1 where it is there and is o
 abbrev pub in_option : ℕ → Option ℕ → ℕ
 in_option o None = 0
 in_option o (Some i) = same o i
 
+-- 1 where a value names o
 abbrev pub in_value : ℕ → Value → ℕ
 in_value o (values.bool b) = 0
 in_value o (values.whole kind n) = 0
@@ -24,6 +26,7 @@ in_value o (values.enum type n) = 0
 in_value o (values.flags type bits) = 0
 in_value o (values.object i) = in_option o i
 
+-- the same of a register
 abbrev pub in_register : ℕ → Option Value → ℕ
 in_register o None = 0
 in_register o (Some v) = in_value o v
@@ -39,9 +42,11 @@ abbrev pub in_object : Definition → ℕ → Option Object → ℕ
 in_object d o None = 0
 in_object d o (Some x) = in_values o (specs_of d x.class) x.values + total (same o) x.children
 
+-- an emission holds its object, its arguments and its value
 abbrev pub in_emission : ℕ → Emission → ℕ
 in_emission o e = same o e.object + (total (in_value o) e.args + in_register o e.value)
 
+-- what a task holds
 abbrev pub in_task : ℕ → Task → ℕ
 in_task o (Setting object slot v) = same o object
 in_task o (Notifying object slot) = same o object
@@ -58,9 +63,11 @@ in_task o (Building items) = 0
 in_task o (Carrying event) = 0
 in_task o (Due source) = 0
 
+-- a source holds its data
 abbrev pub in_source : ℕ → Source → ℕ
 in_source o s = in_option o s.arg
 
+-- what the builder has built
 abbrev pub in_held : ℕ → Held → ℕ
 in_held o unbuilt = 0
 in_held o (built i) = same o i

@@ -17,6 +17,7 @@ abbrev pub put : Objects → ℕ → Option Object → Objects
 put os zero o = os
 put os (suc i) o = write None os i o
 
+-- 1 where something is there
 abbrev pub one_if : {A : Type 0} → Option A → ℕ
 one_if None = 0
 one_if (Some x) = 1
@@ -29,6 +30,7 @@ live os = total one_if os
 abbrev pub class_in : Objects → ℕ → Option ℕ
 class_in os id = option_map (λ (o : Object). o.class) (find os id)
 
+-- that object, as an operand
 abbrev pub object_at : Objects → ℕ → Answer Object
 object_at os id = known arms.Operand (find os id)
 
@@ -47,6 +49,7 @@ changed os id change = do
 
 -- ** values
 
+-- the value of a property
 abbrev pub value_at : ℕ → Object → Answer Value
 value_at slot o = known arms.Code (slice_get o.values slot)
 
@@ -58,9 +61,11 @@ with_value slot v o = do
 
 -- ** freezes (GObject manual, g_object_freeze_notify)
 
+-- the greatest count of freezes
 abbrev pub most_freezes : ℕ
 most_freezes = 18446744073709551615
 
+-- with one more freeze
 abbrev pub frozen_more : Object → Answer (Object × Unit {0})
 frozen_more o = only_if (nat_lt o.freezes most_freezes) arms.Freeze (Ok (record o { freezes = suc o.freezes }, tt))
 
@@ -79,6 +84,7 @@ raised slot o = Ok (cond (nat_eq o.freezes 0) (o, true) (record o { queue = queu
 
 -- ** identities
 
+-- the greatest identity
 abbrev pub most_identities : ℕ
 most_identities = 18446744073709551615
 

@@ -1,5 +1,5 @@
 -- Programs: how they begin.
-use Rattle.std.specs.Prelude.{ℕ, zero, suc, ◌-◌, Bool, true, false, cond, ◌&&◌, nat_eq, List, [], ◌∷◌, ◌++◌, length, replicate, Option, None, Some, is_some, option_map, slice_get}
+use Rattle.std.specs.Prelude.{ℕ, ◌-◌, Bool, true, false, ◌&&◌, nat_eq, List, [], ◌∷◌, ◌++◌, length, replicate, Option, None, Some, option_map, slice_get}
 use Rattle.ui_machine.specs.declared.arm.Arm.TheVariants as arms
 use Rattle.ui_machine.specs.Kinds.{Kind, RegisterKind}
 use Rattle.ui_machine.specs.Kinds as kinds
@@ -21,6 +21,7 @@ use Rattle.ui_machine.specs.Worlds.{Started, starts, said}
 abbrev pub place_in : Objects → ℕ → Option ℕ
 place_in os id = option_map (λ (o : Object). o.place) (find os id)
 
+-- whether it is there and is n
 abbrev pub is_number : ℕ → Option ℕ → Bool
 is_number n None = false
 is_number n (Some m) = nat_eq m n
@@ -31,6 +32,7 @@ names_one null test (values.object None) = null
 names_one null test (values.object (Some id)) = test id
 names_one null test _ = false
 
+-- whether a value fits a register of the kind
 abbrev pub fits_register : Definition → Objects → Value → RegisterKind → Bool
 fits_register d os v kinds.unset = false
 fits_register d os v (kinds.plain kind) = kind_fits (class_in os) d.types v kind

@@ -1,5 +1,5 @@
 -- The registers of a program that runs, and what its instructions read in them.
-use Rattle.std.specs.Prelude.{ℕ, zero, suc, ℤ, Bool, List, [], ◌∷◌, ◌++◌, nat_lt, length, Option, None, Some, Ok, Err, is_some}
+use Rattle.std.specs.Prelude.{ℕ, ℤ, Bool, List, [], ◌∷◌, ◌++◌, nat_lt, length, Option, None, Some, Ok, Err, is_some}
 use Rattle.ui_machine.specs.declared.arm.Arm.TheVariants as arms
 use Rattle.ui_machine.specs.Seq.{read, write}
 use Rattle.ui_machine.specs.Kinds.{Whole}
@@ -30,6 +30,7 @@ rest_of f = Running f.program f.block f.at f.passes f.into f.registers
 abbrev pub value_in : Frame → ℕ → Answer Value
 value_in f from = known arms.Register (read None f.registers from)
 
+-- the values of some registers, all set
 unfoldable pub values_in : Frame → List ℕ → Answer (List Value)
 values_in f [] = Ok []
 values_in f (from ∷ more) = do
@@ -37,14 +38,17 @@ values_in f (from ∷ more) = do
   vs ← values_in f more
   Ok (v ∷ vs)
 
+-- the truth of a value of that kind
 abbrev pub truth_of : Value → Answer Bool
 truth_of (values.bool b) = Ok b
 truth_of _ = Err arms.Register
 
+-- the text of a value of that kind
 abbrev pub text_of : Value → Answer (Option (List ℕ))
 text_of (values.text s) = Ok s
 text_of _ = Err arms.Register
 
+-- the kind and number of a whole number
 abbrev pub whole_of : Value → Answer (Whole × ℤ)
 whole_of (values.whole kind n) = Ok (kind, n)
 whole_of _ = Err arms.Register
@@ -55,16 +59,19 @@ identity_of (values.object (Some i)) = Ok i
 identity_of (values.object None) = Err arms.Operand
 identity_of _ = Err arms.Register
 
+-- the truth in a register
 unfoldable pub truth_in : Frame → ℕ → Answer Bool
 truth_in f from = do
   v ← value_in f from
   truth_of v
 
+-- the text in a register
 unfoldable pub text_in : Frame → ℕ → Answer (Option (List ℕ))
 text_in f from = do
   v ← value_in f from
   text_of v
 
+-- the whole number in a register
 unfoldable pub whole_in : Frame → ℕ → Answer (Whole × ℤ)
 whole_in f from = do
   v ← value_in f from
@@ -102,6 +109,7 @@ written_to w to v f = do
   registers ← with_register to v f.registers
   goes_on w [] (record f { registers = registers })
 
+-- the same, with a value
 abbrev pub gives : World → ℕ → Value → Frame → Answer Started
 gives w to v f = written_to w to (Some v) f
 

@@ -1,6 +1,6 @@
 -- What comes down from a task to the one below it: a program's result to its emission or source, an emission's or a peer's to the program
 -- that waits for it.
-use Rattle.std.specs.Prelude.{ℕ, Bool, true, false, cond, List, [], ◌∷◌, Option, None, Some, Ok, Err}
+use Rattle.std.specs.Prelude.{ℕ, Bool, true, false, List, [], ◌∷◌, Option, None, Some, Ok, Err}
 use Rattle.ui_machine.specs.declared.arm.Arm.TheVariants as arms
 use Rattle.ui_machine.specs.Values.{Value}
 use Rattle.ui_machine.specs.Values as values
@@ -8,7 +8,7 @@ use Rattle.ui_machine.specs.Definition.{Definition}
 use Rattle.ui_machine.specs.Lines as lines
 use Rattle.ui_machine.specs.Sources as sources
 use Rattle.ui_machine.specs.Config.{Registers, Turn, Emission, Emitting, Running, Answering, Task, World}
-use Rattle.ui_machine.specs.Answers.{Answer, ◌>>=◌, known, only_if}
+use Rattle.ui_machine.specs.Answers.{Answer, ◌>>=◌}
 use Rattle.ui_machine.specs.Registers.{with_register}
 use Rattle.ui_machine.specs.Turns.{collecting, resulting}
 use Rattle.ui_machine.specs.Worlds.{said}
@@ -18,6 +18,7 @@ pub record Left : Type 0 where
   pub world : World
   pub agenda : List Task
 
+-- a step that leaves them
 abbrev pub leaves : World → List Task → Answer Left
 leaves w agenda = Ok (record { world = w; agenda = agenda })
 
@@ -33,11 +34,13 @@ abbrev pub untaken : World → List Task → Option Value → Answer Left
 untaken w rest None = leaves w rest
 untaken w rest (Some v) = Err arms.Result
 
+-- to an emission
 unfoldable pub down_to_emission : Definition → World → Emission → List Turn → List Task → Option Value → Answer Left
 down_to_emission d w e turns rest given = do
   task ← collecting d w e turns given
   leaves w (task ∷ rest)
 
+-- to a source
 unfoldable pub down_to_source : World → ℕ → List Task → Option Value → Answer Left
 down_to_source w source rest given = do
   kept ← kept_source w source given
@@ -58,6 +61,7 @@ received_at program block at passes registers rest to v = do
   new ← with_register to v registers
   Ok (Running program block at passes None new ∷ rest)
 
+-- the first task, a program, goes on so
 abbrev pub received : List Task → ℕ → Option Value → Answer (List Task)
 received (Running program block at passes into registers ∷ rest) to v = received_at program block at passes registers rest to v
 received _ to v = Err arms.Code

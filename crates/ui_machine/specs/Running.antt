@@ -1,5 +1,5 @@
 -- How a program goes on: its next instruction, stops and returns.
-use Rattle.std.specs.Prelude.{ℕ, suc, ◌-◌, Bool, cond, ◌&&◌, nat_eq, nat_lt, List, [], ◌∷◌, ◌++◌, length, Option, None, Some, Ok, slice_get}
+use Rattle.std.specs.Prelude.{ℕ, suc, ◌-◌, Bool, cond, ◌&&◌, nat_eq, nat_lt, List, ◌∷◌, ◌++◌, length, Option, None, Some, Ok, slice_get}
 use Rattle.ui_machine.specs.declared.arm.Arm.TheVariants as arms
 use Rattle.ui_machine.specs.Values.{Value}
 use Rattle.ui_machine.specs.Transform.{kind_fits}
@@ -13,7 +13,7 @@ use Rattle.ui_machine.specs.Registers.{Frame, rest_of, value_in}
 use Rattle.ui_machine.specs.Turns.{stopped, suits}
 use Rattle.ui_machine.specs.Results.{Left, leaves, given_down}
 use Rattle.ui_machine.specs.Instructions.{instruction}
-use Rattle.ui_machine.specs.Worlds.{Started, starts}
+use Rattle.ui_machine.specs.Worlds.{Started}
 
 -- ** the next instruction
 
@@ -27,9 +27,11 @@ block_in d f = do
 abbrev pub is_again : Block → Frame → Bool
 is_again b f = nat_lt 0 f.at && (nat_lt 1 f.passes && nat_eq (suc f.at) (length b.code))
 
+-- the frame in its next pass
 abbrev pub in_pass : Block → Frame → Frame
 in_pass b f = cond (is_again b f) (record f { at = 0; passes = f.passes - 1 }) f
 
+-- the frame past an instruction
 abbrev pub past : Frame → Frame
 past f = record f { at = suc f.at }
 
@@ -63,6 +65,7 @@ in_front rest answer = do
   s ← answer
   leaves s.world (s.tasks ++ rest)
 
+-- what an instruction leads to, with the rest of the agenda
 abbrev pub instructed : Definition → World → List Task → Frame → Instruction → Answer Left
 instructed d w rest f words.stop = leaves w (rest_of f ∷ stopped rest)
 instructed d w rest f (words.return from) = returning d w f rest from

@@ -1,9 +1,9 @@
 -- Runs of the machine.
-use Rattle.std.specs.Prelude.{◌≡◌, ℕ, zero, suc, List, [], ◌∷◌, map, None, Ok}
+use Rattle.std.specs.Prelude.{◌≡◌, ℕ, zero, suc, List, [], ◌∷◌, None, Ok}
 use Rattle.ui_machine.specs.declared.arm.Halt.{Halt}
-use Rattle.ui_machine.specs.Definition.{Definition, Place}
+use Rattle.ui_machine.specs.Definition.{Definition}
 use Rattle.ui_machine.specs.Lines as lines
-use Rattle.ui_machine.specs.Config.{unbuilt, Task, Building, Carrying, Peer, World, Config, Event}
+use Rattle.ui_machine.specs.Config.{Task, Building, Carrying, Peer, World, Config, Event}
 use Rattle.ui_machine.specs.Answers.{Stops}
 use Rattle.ui_machine.specs.Objects.{next_unheld}
 use Rattle.ui_machine.specs.Mentions.{mentions}
@@ -48,14 +48,25 @@ pub record Halts (d : Definition) (c : Config) (halt : Halt) (shown : List (List
 abbrev pub beginning : World → Task → Config
 beginning w task = record { world = record w { result = None }; agenda = task ∷ []; counted = 0 }
 
+-- where an event's dispatch begins
 abbrev pub of_event : World → Event → Config
 of_event w event = beginning w (Carrying event)
 
 -- the world before anything is built
 abbrev pub first_world : Definition → List Peer → World
 first_world d peers = record {
-  objects = []; handlers = []; last_handler = 0; bindings = []; sources = []; last_source = 0; floating = [];
-  builder = []; peers = peers; moment = 0; transcript = []; result = None
+  objects = [];
+  handlers = [];
+  last_handler = 0;
+  bindings = [];
+  sources = [];
+  last_source = 0;
+  floating = [];
+  builder = [];
+  peers = peers;
+  moment = 0;
+  transcript = [];
+  result = None;
 }
 
 -- the build begins with its line

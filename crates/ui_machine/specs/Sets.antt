@@ -56,10 +56,12 @@ notifies s old new = is_readable s && (not (is_explicit_notify s) || not (same_v
 
 -- ** sets
 
+-- whether an object lives and is disposed
 abbrev pub is_disposed : Option Object → Bool
 is_disposed None = false
 is_disposed (Some o) = o.disposed
 
+-- a value, null if it names a disposed object
 abbrev pub unless_disposed : Objects → Value → Value
 unless_disposed os (values.bool b) = values.bool b
 unless_disposed os (values.whole kind n) = values.whole kind n

@@ -1,5 +1,5 @@
 -- The machine: one step from a configuration.
-use Rattle.std.specs.Prelude.{ℕ, suc, nat_lt, Bool, true, List, [], ◌∷◌, ◌++◌, Option, Some, None, Ok, Err}
+use Rattle.std.specs.Prelude.{ℕ, suc, nat_lt, Bool, true, List, [], ◌∷◌, ◌++◌, Option, Some, None, Ok}
 use Rattle.ui_machine.specs.declared.arm.Arm.TheVariants as arms
 use Rattle.ui_machine.specs.Values.{Value}
 use Rattle.ui_machine.specs.Values as values
@@ -13,7 +13,7 @@ use Rattle.ui_machine.specs.Config.{World, Config, Task, Setting, Notifying, Beg
 use Rattle.ui_machine.specs.Answers.{Answer, ◌>>=◌, known, only_if}
 use Rattle.ui_machine.specs.Objects.{asked, value_at, next_unheld}
 use Rattle.ui_machine.specs.Mentions.{mentions}
-use Rattle.ui_machine.specs.Worlds.{Started, starts, said, held_at, with_held, sunk}
+use Rattle.ui_machine.specs.Worlds.{Started, starts, said, with_held, sunk}
 use Rattle.ui_machine.specs.Sets.{setting, spec_at}
 use Rattle.ui_machine.specs.Programs.{program_before}
 use Rattle.ui_machine.specs.Emissions.{notifying, beginning_emission}
@@ -61,15 +61,18 @@ building d w (connects place number ∷ items) = building_handler d w place numb
 
 -- ** events
 
+-- a set by an event
 unfoldable pub carrying_set : World → ℕ → ℕ → Given → Answer Started
 carrying_set w place slot given = do
   id ← held_object w place
   v ← known arms.Operand (given_value w given)
   starts w (Setting id slot v ∷ [])
 
+-- the world with a value for the event
 abbrev pub answered : World → Value → World
 answered w v = record w { result = Some v }
 
+-- a get by an event
 unfoldable pub carrying_get : Definition → World → ℕ → ℕ → Answer Started
 carrying_get d w place slot = do
   id ← held_object w place
@@ -85,6 +88,7 @@ given_values w (g ∷ gs) = do
   vs ← given_values w gs
   Ok (v ∷ vs)
 
+-- an emission by an event
 unfoldable pub carrying_emit : World → (place signal : ℕ) → List Given → Option (List ℕ) → Answer Started
 carrying_emit w place signal args detail = do
   id ← held_object w place
@@ -102,6 +106,7 @@ carrying_release d w place = do
 abbrev pub turned : Definition → World → ℕ → World
 turned d w moment = record (said d w (lines.turn moment)) { moment = moment }
 
+-- what an event does
 abbrev pub carrying : Definition → World → Event → Answer Started
 carrying d w (config.set place slot given) = carrying_set w place slot given
 carrying d w (config.get place slot) = carrying_get d w place slot
@@ -114,6 +119,7 @@ abbrev pub source_data : Option ℕ → List Value
 source_data None = []
 source_data (Some id) = values.object (Some id) ∷ []
 
+-- a due source runs
 unfoldable pub sourcing : Definition → World → ℕ → Answer Started
 sourcing d w source = do
   s ← known arms.Code (source_of source w.sources)

@@ -27,6 +27,7 @@ signed_numeral (negsuc n) = 45 ∷ numeral (suc n)
 
 -- ** texts as compact JSON
 
+-- the digit of a number below 16
 abbrev pub hex_digit : ℕ → ℕ
 hex_digit d = cond (nat_lt d 10) (48 + d) (87 + d)
 
@@ -40,6 +41,7 @@ escaped_byte x =
     cond (nat_lt 0 (short_escape x)) (92 ∷ short_escape x ∷ [])
     (cond (nat_lt x 32) (92 ∷ 117 ∷ 48 ∷ 48 ∷ hex_digit (x / 16) ∷ hex_digit (x % 16) ∷ []) (x ∷ []))
 
+-- a text with its escapes
 abbrev pub escaped : List ℕ → List ℕ
 escaped [] = []
 escaped (x ∷ xs) = escaped_byte x ++ escaped xs
@@ -67,6 +69,7 @@ members_of types t = (read no_type types t).members
 abbrev pub text_of_identity : ℕ → List ℕ
 text_of_identity id = codes "#" ++ numeral id
 
+-- a value as it is printed
 abbrev pub text_of_value : List GType → Value → List ℕ
 text_of_value types (values.bool true) = codes "TRUE"
 text_of_value types (values.bool false) = codes "FALSE"
@@ -90,6 +93,7 @@ text_of_values types (v ∷ w ∷ vs) = text_of_value types v ++ (codes "," ++ t
 abbrev pub member_text : ℕ → List ℕ → List ℕ
 member_text id name = codes "#" ++ (numeral id ++ (codes "." ++ name))
 
+-- a detail, if there is one
 abbrev pub detail_text : Option (List ℕ) → List ℕ
 detail_text None = []
 detail_text (Some detail) = codes "::" ++ detail

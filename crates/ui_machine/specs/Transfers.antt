@@ -1,5 +1,5 @@
 -- What a binding does as an end of it is notified (GObject manual, GBinding).
-use Rattle.std.specs.Prelude.{ℕ, Bool, true, false, cond, not, nat_eq, List, [], ◌∷◌, Option, None, Some, Ok}
+use Rattle.std.specs.Prelude.{ℕ, Bool, true, false, cond, not, nat_eq, List, [], ◌∷◌, Option, None, Some}
 use Rattle.std.specs.List.{find}
 use Rattle.ui_machine.specs.declared.arm.Arm.TheVariants as arms
 use Rattle.ui_machine.specs.Values.{Value}
@@ -8,12 +8,13 @@ use Rattle.ui_machine.specs.Transform.{transformed}
 use Rattle.ui_machine.specs.Properties.{has_flags, is_readable, is_writable, is_construct_only}
 use Rattle.ui_machine.specs.Definition.{Definition}
 use Rattle.ui_machine.specs.Config.{Binding, Task, Setting, Transferring, Unsetting, World}
-use Rattle.ui_machine.specs.Answers.{Answer, ◌>>=◌, known, only_if}
+use Rattle.ui_machine.specs.Answers.{Answer, ◌>>=◌, only_if}
 use Rattle.ui_machine.specs.Objects.{asked, value_at}
 use Rattle.ui_machine.specs.Bindings.{with_setting}
 use Rattle.ui_machine.specs.Sets.{spec_at}
 use Rattle.ui_machine.specs.Worlds.{Started, starts}
 
+-- the binding of a number, while it stands
 abbrev pub binding_of : ℕ → List Binding → Option Binding
 binding_of number bindings = find (λ b. nat_eq b.number number) bindings
 
@@ -29,9 +30,11 @@ abbrev pub opposite : Value → Option Value
 opposite (values.bool b) = Some (values.bool (not b))
 opposite _ = None
 
+-- whether a binding inverts
 abbrev pub inverts : Binding → Bool
 inverts b = has_flags 4 b.flags
 
+-- the opposite, if it is asked for
 abbrev pub inverted : Bool → Option Value → Option Value
 inverted false v = v
 inverted true None = None
@@ -54,6 +57,7 @@ carried d w b source source_slot target target_slot = do
       (only_if (not (is_construct_only to)) arms.ConstructOnly
       (set_by w b.number target target_slot (inverted (inverts b) (transformed d.types from.kind to.kind v)))))
 
+-- in one of the two directions
 abbrev pub carried_by : Definition → World → Bool → Option Binding → Answer Started
 carried_by d w back None = starts w []
 carried_by d w false (Some b) = carried d w b b.source b.source_slot b.target b.target_slot

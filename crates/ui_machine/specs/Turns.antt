@@ -1,5 +1,5 @@
 -- The turns of an emission, how it is stopped, and what it results in (GObject manual, signals: accumulators, g_signal_stop_emission).
-use Rattle.std.specs.Prelude.{ℕ, Bool, true, false, cond, ◌||◌, nat_eq, nat_lt, List, [], ◌∷◌, ◌++◌, Option, None, Some, Ok, Err}
+use Rattle.std.specs.Prelude.{ℕ, Bool, true, false, cond, ◌||◌, nat_eq, nat_lt, List, [], ◌∷◌, ◌++◌, Option, None, Some, Ok}
 use Rattle.std.specs.List.{filter, find}
 use Rattle.ui_machine.specs.declared.arm.Arm.TheVariants as arms
 use Rattle.ui_machine.specs.Kinds.{Kind}
@@ -7,21 +7,22 @@ use Rattle.ui_machine.specs.Values.{Value}
 use Rattle.ui_machine.specs.Values as values
 use Rattle.ui_machine.specs.Transform.{zero_value, kind_fits}
 use Rattle.ui_machine.specs.Definition.{Definition, Signal, Accumulator, true_handled, first_wins}
-use Rattle.ui_machine.specs.Lines as lines
 use Rattle.ui_machine.specs.Config as config
 use Rattle.ui_machine.specs.Config.{Handler, Turn, class_handler, handler, Emission, Emitting, Task, World}
-use Rattle.ui_machine.specs.Answers.{Answer, ◌>>=◌, known, only_if}
+use Rattle.ui_machine.specs.Answers.{Answer, ◌>>=◌, only_if}
 use Rattle.ui_machine.specs.Objects.{object_at, class_in}
 use Rattle.ui_machine.specs.Programs.{program_before}
 use Rattle.ui_machine.specs.Transfers.{binding_of, transfer_for}
 use Rattle.ui_machine.specs.Emissions.{signal_at}
-use Rattle.ui_machine.specs.Worlds.{Started, starts, said}
+use Rattle.ui_machine.specs.Worlds.{Started, starts}
 
 -- ** turns
 
+-- the object that emits
 abbrev pub instance_of : Emission → Value
 instance_of e = values.object (Some e.object)
 
+-- the data of a handler, if it has some
 abbrev pub data_of : Handler → List Value
 data_of h = given h.arg
   where
@@ -33,6 +34,7 @@ data_of h = given h.arg
 abbrev pub given_to : Emission → Handler → List Value
 given_to e h = cond h.swapped (data_of h ++ (e.args ++ instance_of e ∷ [])) (instance_of e ∷ (e.args ++ data_of h))
 
+-- the handler of a number, while it stands
 abbrev pub handler_of : ℕ → List Handler → Option Handler
 handler_of number hs = find (λ h. nat_eq h.number number) hs
 
@@ -56,6 +58,7 @@ taking d w e turns (config.transfer number back) =
 
 -- ** stops
 
+-- whether a turn is of the cleanup stage
 abbrev pub is_of_cleanup : Turn → Bool
 is_of_cleanup (class_handler program cleanup) = cleanup
 is_of_cleanup (handler number) = false
@@ -73,6 +76,7 @@ stopped (task ∷ rest) = task ∷ rest
 
 -- ** what an emission accumulates
 
+-- whether a value is TRUE
 abbrev pub is_true : Value → Bool
 is_true (values.bool b) = b
 is_true _ = false
@@ -83,6 +87,7 @@ is_last None v = false
 is_last (Some true_handled) v = is_true v
 is_last (Some first_wins) v = true
 
+-- the turns that are left, perhaps after a stop
 abbrev pub turns_after : Bool → Emission → List Turn → List Turn
 turns_after false e turns = turns
 turns_after true e turns = left_by_stop e turns
@@ -99,6 +104,7 @@ suits fits None (Some kind) = false
 suits fits (Some v) None = false
 suits fits (Some v) (Some kind) = fits v kind
 
+-- the same, where a program may give none
 abbrev pub collected : Signal → Emission → List Turn → Option Value → Task
 collected s e turns None = Emitting e turns
 collected s e turns (Some v) = accumulated s e turns v

@@ -11,6 +11,7 @@ use Rattle.ui_machine.specs.Answers.{Answer}
 abbrev pub said : Definition → World → Line → World
 said d w line = record w { transcript = w.transcript ++ text_of_line d.types line ∷ [] }
 
+-- the world with other objects
 abbrev pub with_objects : World → Objects → World
 with_objects w os = record w { objects = os }
 
@@ -40,5 +41,6 @@ pub record Started : Type 0 where
   pub world : World
   pub tasks : List Task
 
+-- a part of a step that starts them
 abbrev pub starts : World → List Task → Answer Started
 starts w tasks = Ok (record { world = w; tasks = tasks })
