@@ -8,3 +8,4 @@ pub mod Strings
 pub mod Values
 pub mod Falls
 pub mod SpecAt
+pub mod PlainSets

@@ -4,22 +4,12 @@
 //! run of it.
 #![tactic(auto)]
 
-
-
-
-
-
-
-
-
-
+mod counting;
 mod engine;
 mod heap;
+mod notifications;
 mod object;
 mod sets;
 mod task;
 mod texts;
 mod world;
-
-
-

@@ -1,8 +1,10 @@
 //! Sets of properties, and the notifications that they raise.
 
-ghost use Rattle.std.specs.Prelude.{◌≡◌, OnErr, IfOk, ⊤, MatchResult};
+ghost use Rattle.std.specs.Prelude.{◌≡◌, OnOk, OnErr, IfOk};
 ghost use Rattle.ui_machine.specs.Answers.{Goes};
-ghost use Rattle.ui_machine.specs.Sets.{setting, spec_at, has_kind, raising, written};
+ghost use Rattle.ui_machine.specs.Sets.{setting, spec_at, has_kind};
+ghost use Rattle.ui_machine.specs.Worlds.{said};
+ghost use Rattle.ui_machine.specs.Lines as lines;
 ghost use Rattle.ui_machine.specs.Steps.{uncounted};
 ghost use Rattle.g_values.specs.View.{kind_view, value_view};
 ghost use Rattle.param_specs.specs.View.{spec_view};
@@ -83,6 +85,51 @@ impl Engine {
             return Ok(());
         }
         self.world.say(line)?;
+        Ok(())
+    }
+
+    // Tells of a value that the property does not take.
+    pub(crate) fn refuse(
+        &mut self,
+        definition: &Definition,
+        object: u64,
+        name: &str,
+        value: &Value,
+    ) -> Result<(), Halt>
+        ensures ok { OnOk result (world_of self.new.world ≡ said definition.now (world_of self.old.world) (lines.refused object name.now (value_view value.now))) }
+        ensures err { OnErr result (world_of self.new.world ≡ world_of self.old.world) }
+        ensures same { (self.new.stack ≡ self.old.stack) × (self.new.counted ≡ self.old.counted) }
+    {
+        let text = value_text(self.alloc, definition.types(), value)?;
+        let line = refused_line(self.alloc, object, name, text.as_str())?;
+        self.world.say(line)?;
+        Ok(())
+    }
+
+    // A set: the property's spec brings the value into its range, or the set is told of as refused.
+    pub(crate) fn setting(
+        &mut self,
+        definition: &Definition,
+        object: u64,
+        slot: u16,
+        value: Value,
+    ) -> Result<(), Halt>
+        ensures step { Goes result
+            (uncounted (agenda_of definition.now self.old.stack) self.old.counted (setting definition.now (world_of self.old.world) object slot (value_view value)))
+            (config_of definition.now self.new) }
+        ensures quiet { OnErr result ((world_of self.new.world).transcript ≡ (world_of self.old.world).transcript) }
+    {
+        let spec = self.spec_of(definition, object, slot)?;
+        if !has_kind(&value, spec.kind) {
+            return Err(Halt::Stuck(Arm::Value));
+        }
+        let original = value.copied()?;
+        let (valid, is_changed) = validate(definition.types(), spec, value);
+        if is_changed {
+            self.refuse(definition, object, spec.name.as_str(), &original)?;
+            return Ok(());
+        }
+        self.put(definition, object, slot, spec.name.as_str(), valid)?;
         Ok(())
     }
 }

@@ -1,0 +1,195 @@
+-- A set of a plain property, by what validation says of the value.
+use Rattle.std.proofs.Common.{◌≡◌, ℕ, Bool, true, false, cond, ◌&&◌, ◌||◌, not, List, [], Option, Some, None, Ok, Err, refl, sym, ap, subst, ◌∙◌, arith, ℤ, ◌≤ℤ◌}
+use Rattle.std.proofs.lemmas.Int.{ints}
+use Rattle.ui_machine.specs.declared.arm.Arm.{Arm}
+use Rattle.ui_machine.specs.declared.arm.Arm.TheVariants as arms
+use Rattle.ui_machine.specs.Kinds as kinds
+use Rattle.ui_machine.specs.Values.{Value}
+use Rattle.ui_machine.specs.Values as values
+use Rattle.ui_machine.specs.Types.{GType}
+use Rattle.ui_machine.specs.Transform.{least, greatest, same_value}
+use Rattle.ui_machine.specs.Clamp.{clamp}
+use Rattle.ui_machine.specs.Properties.{Spec, is_readable, is_explicit_notify, is_lax, has_flags}
+use Rattle.ui_machine.specs.Definition.{Definition}
+use Rattle.ui_machine.specs.Lines as lines
+use Rattle.ui_machine.specs.Config.{Objects, World}
+use Rattle.ui_machine.specs.Answers.{Answer, ◌>>=◌, only_if}
+use Rattle.ui_machine.specs.Objects.{class_in, changed, with_value}
+use Rattle.ui_machine.specs.Worlds.{Started, starts, said, with_objects}
+use Rattle.ui_machine.specs.Sets.{spec_at, has_kind, lives, raising, notifies, kept, unless_disposed, written, settled, setting}
+use Rattle.g_values.specs.declared.kind.Kind.{Kind}
+use Rattle.g_values.specs.declared.kind.Kind.TheVariants as of_kind
+use Rattle.g_values.specs.declared.value.Value as coded
+use Rattle.g_values.specs.declared.value.Value.TheVariants as of_value
+use Rattle.g_values.specs.View.{kind_view, value_view}
+use Rattle.param_specs.specs.declared.spec.Spec as specs
+use Rattle.param_specs.specs.View.{spec_view}
+use Rattle.param_specs.specs.Validation.{IsWithin, Takes, KnowsClass}
+use Rattle.builder_defs.specs.Meaning.{IsPlainKind, IsPlain}
+use Rattle.ui_engine.specs.PlainSets.{told_write}
+
+-- ** a value of a plain kind
+
+lives_plain : (os : Objects) (v : Value) (k : kinds.Kind) (s : Spec) → IsPlainKind k s → has_kind v k ≡ true → lives os v ≡ true
+lives_plain os (values.bool b) k s p h = refl
+lives_plain os (values.whole w n) k s p h = refl
+lives_plain os (values.text t) k s p h = refl
+lives_plain os (values.enum t n) k s p h = refl
+lives_plain os (values.flags t n) k s p h = refl
+lives_plain os (values.object o) kinds.bool s p h = cc
+lives_plain os (values.object o) (kinds.whole w) s p h = cc
+lives_plain os (values.object o) kinds.text s p h = cc
+lives_plain os (values.object o) (kinds.enum t) s p h = cc
+lives_plain os (values.object o) (kinds.flags t) s p h = cc
+lives_plain os (values.object o) (kinds.object t) s p h = absurd p
+
+pub knows_class : (class_of : ℕ → Option ℕ) (v : coded.Value) (k : kinds.Kind) (s : Spec) → IsPlainKind k s → has_kind (value_view v) k ≡ true → KnowsClass class_of v
+knows_class f (of_value.Bool b) k s p h = tt
+knows_class f (of_value.Int n) k s p h = tt
+knows_class f (of_value.UInt n) k s p h = tt
+knows_class f (of_value.Int64 n) k s p h = tt
+knows_class f (of_value.UInt64 n) k s p h = tt
+knows_class f (of_value.Text t) k s p h = tt
+knows_class f (of_value.Enum t n) k s p h = tt
+knows_class f (of_value.Flags t n) k s p h = tt
+knows_class f (of_value.Object t o) kinds.bool s p h = cc
+knows_class f (of_value.Object t o) (kinds.whole w) s p h = cc
+knows_class f (of_value.Object t o) kinds.text s p h = cc
+knows_class f (of_value.Object t o) (kinds.enum u) s p h = cc
+knows_class f (of_value.Object t o) (kinds.flags u) s p h = cc
+knows_class f (of_value.Object t o) (kinds.object u) s p h = absurd p
+
+within : (s : specs.Spec) → s.min ≡ least kinds.int → s.max ≡ greatest kinds.int → IsWithin kinds.int s
+within s low high = record {
+  min_low = omega (arith, ints, low);
+  min_high = omega (arith, ints, low);
+  max_low = omega (arith, ints, high);
+  max_high = omega (arith, ints, high);
+}
+
+takes_int : (types : List GType) (k : kinds.Kind) (s : specs.Spec) (n : ℤ) → IsPlainKind k (spec_view s) → has_kind (values.whole kinds.int n) k ≡ true → IsWithin kinds.int s
+takes_int types kinds.bool s n p h = cc
+takes_int types (kinds.whole kinds.int) s n p h = within s p.0 p.1
+takes_int types (kinds.whole kinds.uint) s n p h = absurd p
+takes_int types (kinds.whole kinds.int64) s n p h = absurd p
+takes_int types (kinds.whole kinds.uint64) s n p h = absurd p
+takes_int types kinds.text s n p h = cc
+takes_int types (kinds.enum u) s n p h = absurd p
+takes_int types (kinds.flags u) s n p h = absurd p
+takes_int types (kinds.object u) s n p h = absurd p
+
+-- no other value is of a plain kind
+abbrev IsOther : coded.Value → Type 0
+IsOther (of_value.Bool b) = ⊥
+IsOther (of_value.Int n) = ⊥
+IsOther (of_value.UInt n) = Unit {0}
+IsOther (of_value.Int64 n) = Unit {0}
+IsOther (of_value.UInt64 n) = Unit {0}
+IsOther (of_value.Text t) = ⊥
+IsOther (of_value.Enum t n) = Unit {0}
+IsOther (of_value.Flags t n) = Unit {0}
+IsOther (of_value.Object t o) = Unit {0}
+
+not_other : (v : coded.Value) (k : kinds.Kind) (s : Spec) → IsPlainKind k s → has_kind (value_view v) k ≡ true → IsOther v → ⊥
+not_other (of_value.Bool b) k s p h o = o
+not_other (of_value.Int n) k s p h o = o
+not_other (of_value.Text t) k s p h o = o
+not_other (of_value.UInt n) kinds.bool s p h o = cc
+not_other (of_value.UInt n) (kinds.whole kinds.int) s p h o = cc
+not_other (of_value.UInt n) (kinds.whole kinds.uint) s p h o = p
+not_other (of_value.UInt n) (kinds.whole kinds.int64) s p h o = p
+not_other (of_value.UInt n) (kinds.whole kinds.uint64) s p h o = p
+not_other (of_value.UInt n) kinds.text s p h o = cc
+not_other (of_value.UInt n) (kinds.enum u) s p h o = p
+not_other (of_value.UInt n) (kinds.flags u) s p h o = p
+not_other (of_value.UInt n) (kinds.object u) s p h o = p
+not_other (of_value.Int64 n) kinds.bool s p h o = cc
+not_other (of_value.Int64 n) (kinds.whole kinds.int) s p h o = cc
+not_other (of_value.Int64 n) (kinds.whole kinds.uint) s p h o = p
+not_other (of_value.Int64 n) (kinds.whole kinds.int64) s p h o = p
+not_other (of_value.Int64 n) (kinds.whole kinds.uint64) s p h o = p
+not_other (of_value.Int64 n) kinds.text s p h o = cc
+not_other (of_value.Int64 n) (kinds.enum u) s p h o = p
+not_other (of_value.Int64 n) (kinds.flags u) s p h o = p
+not_other (of_value.Int64 n) (kinds.object u) s p h o = p
+not_other (of_value.UInt64 n) kinds.bool s p h o = cc
+not_other (of_value.UInt64 n) (kinds.whole kinds.int) s p h o = cc
+not_other (of_value.UInt64 n) (kinds.whole kinds.uint) s p h o = p
+not_other (of_value.UInt64 n) (kinds.whole kinds.int64) s p h o = p
+not_other (of_value.UInt64 n) (kinds.whole kinds.uint64) s p h o = p
+not_other (of_value.UInt64 n) kinds.text s p h o = cc
+not_other (of_value.UInt64 n) (kinds.enum u) s p h o = p
+not_other (of_value.UInt64 n) (kinds.flags u) s p h o = p
+not_other (of_value.UInt64 n) (kinds.object u) s p h o = p
+not_other (of_value.Enum t n) kinds.bool s p h o = cc
+not_other (of_value.Enum t n) (kinds.whole w) s p h o = cc
+not_other (of_value.Enum t n) kinds.text s p h o = cc
+not_other (of_value.Enum t n) (kinds.enum u) s p h o = p
+not_other (of_value.Enum t n) (kinds.flags u) s p h o = p
+not_other (of_value.Enum t n) (kinds.object u) s p h o = p
+not_other (of_value.Flags t n) kinds.bool s p h o = cc
+not_other (of_value.Flags t n) (kinds.whole w) s p h o = cc
+not_other (of_value.Flags t n) kinds.text s p h o = cc
+not_other (of_value.Flags t n) (kinds.enum u) s p h o = p
+not_other (of_value.Flags t n) (kinds.flags u) s p h o = p
+not_other (of_value.Flags t n) (kinds.object u) s p h o = p
+not_other (of_value.Object t x) kinds.bool s p h o = cc
+not_other (of_value.Object t x) (kinds.whole w) s p h o = cc
+not_other (of_value.Object t x) kinds.text s p h o = cc
+not_other (of_value.Object t x) (kinds.enum u) s p h o = p
+not_other (of_value.Object t x) (kinds.flags u) s p h o = p
+not_other (of_value.Object t x) (kinds.object u) s p h o = p
+
+-- what validation asks for holds
+pub takes : (types : List GType) (k : kinds.Kind) (s : specs.Spec) (v : coded.Value) → IsPlainKind k (spec_view s) → has_kind (value_view v) k ≡ true → Takes types s v
+takes types k s (of_value.Bool b) p h = tt
+takes types k s (of_value.Int n) p h = takes_int types k s n p h
+takes types k s (of_value.Text t) p h = tt
+takes types k s (of_value.UInt n) p h = absurd (not_other (of_value.UInt n) k (spec_view s) p h tt)
+takes types k s (of_value.Int64 n) p h = absurd (not_other (of_value.Int64 n) k (spec_view s) p h tt)
+takes types k s (of_value.UInt64 n) p h = absurd (not_other (of_value.UInt64 n) k (spec_view s) p h tt)
+takes types k s (of_value.Enum t n) p h = absurd (not_other (of_value.Enum t n) k (spec_view s) p h tt)
+takes types k s (of_value.Flags t n) p h = absurd (not_other (of_value.Flags t n) k (spec_view s) p h tt)
+takes types k s (of_value.Object t o) p h = tt
+
+-- ** the set
+
+module _ (d : Definition) (w : World) (id slot : ℕ) (v : Value) where
+  pub no_spec_set : (arm : Arm) → spec_at d w.objects id slot ≡ Err arm → setting d w id slot v ≡ Err arm
+  unfolding setting
+  no_spec_set arm h = ap (λ (a : Answer Spec). a >>= λ s. only_if (has_kind v s.kind && lives w.objects v) arms.Value (settled d w id slot s v (clamp (class_in w.objects) d.types s v))) h
+
+  module _ (s : Spec) (is : spec_at d w.objects id slot ≡ Ok s) where
+    by_spec : setting d w id slot v ≡ only_if (has_kind v s.kind && lives w.objects v) arms.Value (settled d w id slot s v (clamp (class_in w.objects) d.types s v))
+    unfolding setting
+    by_spec = ap (λ (a : Answer Spec). a >>= λ s. only_if (has_kind v s.kind && lives w.objects v) arms.Value (settled d w id slot s v (clamp (class_in w.objects) d.types s v))) is
+
+    pub other_kind_set : has_kind v s.kind ≡ false → setting d w id slot v ≡ Err arms.Value
+    other_kind_set h = by_spec ∙ ap (λ b. only_if (b && lives w.objects v) arms.Value (settled d w id slot s v (clamp (class_in w.objects) d.types s v))) h
+
+    module _ (plain : IsPlain s) (kind : has_kind v s.kind ≡ true) where
+      by_value : setting d w id slot v ≡ settled d w id slot s v (clamp (class_in w.objects) d.types s v)
+      by_value =
+          by_spec ∙ ap (λ b. only_if (b && lives w.objects v) arms.Value (settled d w id slot s v (clamp (class_in w.objects) d.types s v))) kind
+          ∙ ap (λ b. only_if b arms.Value (settled d w id slot s v (clamp (class_in w.objects) d.types s v))) (lives_plain w.objects v s.kind s plain.kind kind)
+
+      flag : (f : ℕ) → has_flags f s.flags ≡ has_flags f 3
+      flag f = ap (has_flags f) plain.flags
+
+      pub refused_set : same_value (clamp (class_in w.objects) d.types s v) v ≡ false → setting d w id slot v ≡ starts (said d w (lines.refused id s.name v)) []
+      refused_set other =
+          by_value ∙ ap (λ b. cond (b || is_lax s) (written d w id slot s (kept w.objects s (clamp (class_in w.objects) d.types s v))) (starts (said d w (lines.refused id s.name v)) [])) other
+          ∙ ap (λ b. cond b (written d w id slot s (kept w.objects s (clamp (class_in w.objects) d.types s v))) (starts (said d w (lines.refused id s.name v)) [])) (flag 16)
+
+      written_plain : (x : Value) → written d w id slot s x ≡ told_write d w id slot s.name x
+      unfolding written told_write
+      written_plain x = ap (λ b. changed w.objects id (with_value slot x) >>= λ new.
+          cond (b && (not (is_explicit_notify s) || not (same_value new.1 x))) (raising (said d (with_objects w new.0) (lines.set id s.name x)) id slot) (starts (said d (with_objects w new.0) (lines.set id s.name x)) [])) (flag 1)
+          ∙ ap (λ b. changed w.objects id (with_value slot x) >>= λ new.
+          cond (not b || not (same_value new.1 x)) (raising (said d (with_objects w new.0) (lines.set id s.name x)) id slot) (starts (said d (with_objects w new.0) (lines.set id s.name x)) [])) (flag 1073741824)
+
+      pub written_set : (x : Value) → x ≡ clamp (class_in w.objects) d.types s v → same_value (clamp (class_in w.objects) d.types s v) v ≡ true → setting d w id slot v ≡ told_write d w id slot s.name x
+      written_set x valid same =
+          by_value ∙ ap (λ b. cond (b || is_lax s) (written d w id slot s (kept w.objects s (clamp (class_in w.objects) d.types s v))) (starts (said d w (lines.refused id s.name v)) [])) same
+          ∙ ap (λ b. written d w id slot s (cond b (unless_disposed w.objects (clamp (class_in w.objects) d.types s v)) (clamp (class_in w.objects) d.types s v))) plain.strong
+          ∙ ap (written d w id slot s) (sym valid) ∙ written_plain x

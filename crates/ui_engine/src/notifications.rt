@@ -1,0 +1,92 @@
+//! Notifications: how one begins and ends, and those of a thaw.
+
+ghost use Rattle.std.specs.Prelude.{◌≡◌, ◌<◌, suc, OnOk, OnErr};
+ghost use Rattle.ui_machine.specs.Answers.{Goes};
+ghost use Rattle.ui_machine.specs.Emissions.{notifying, notification};
+ghost use Rattle.ui_machine.specs.Results.{ending};
+ghost use Rattle.ui_machine.specs.Steps.{counted, uncounted, left, thawing, most_steps};
+ghost use Rattle.ui_engine.specs.View.{world_of};
+ghost use Rattle.ui_engine.specs.TaskView.{agenda_of, name_of};
+ghost use Rattle.ui_engine.specs.EngineView.{config_of};
+
+use crate::engine::Engine;
+use crate::task::{Slots, Task};
+use crate::texts::notify_line;
+use builder_defs::Definition;
+use type_tree::TypeId;
+use ui_machine::{Arm, Halt};
+
+impl Engine {
+    // A due notification begins. It is counted and told of; nobody listens.
+    #[tactic(auto, unfolding(ui_machine::specs::Emissions::notifying))]
+    pub(crate) fn notifying(
+        &mut self,
+        definition: &Definition,
+        object: u64,
+        slot: u16,
+    ) -> Result<(), Halt>
+        ensures step { Goes result
+            (counted (agenda_of definition.now self.old.stack) self.old.counted (notifying definition.now (world_of self.old.world) object slot))
+            (config_of definition.now self.new) }
+        ensures quiet { OnErr result ((world_of self.new.world).transcript ≡ (world_of self.old.world).transcript) }
+        ensures counts { OnOk result ((self.old.counted < most_steps) × (self.new.counted ≡ suc self.old.counted)) }
+    {
+        self.count()?;
+        let _types = definition.types();
+        let class = self.world.heap.class_of(object)?;
+        let Some(spec) = definition.spec(class, slot) else {
+            return Err(Halt::Stuck(Arm::Code));
+        };
+        let line = notify_line(self.alloc, object, spec.name.as_str())?;
+        self.stack.push(Task::Emitting {
+            object,
+            class,
+            slot,
+        })?;
+        self.world.say(line)?;
+        Ok(())
+    }
+
+    // A notification ends.
+    #[tactic(auto, unfolding(ui_machine::specs::Results::ending, ui_machine::specs::Turns::resulting, ui_machine::specs::Emissions::signal_at, ui_machine::specs::Steps::left))]
+    pub(crate) fn ending(
+        &mut self,
+        definition: &Definition,
+        object: u64,
+        class: TypeId,
+        slot: u16,
+    ) -> Result<(), Halt>
+        ensures step { Goes result
+            (left self.old.counted (ending definition.now (world_of self.old.world) (notification object (name_of definition.now class slot)) (agenda_of definition.now self.old.stack)))
+            (config_of definition.now self.new) }
+        ensures same { self.new ≡ self.old }
+    {
+        let types = definition.types();
+        let class = self.world.heap.class_of(object)?;
+        if class.index() >= types.len() {
+            return Err(Halt::Stuck(Arm::Code));
+        }
+        Ok(())
+    }
+
+    // The next of the notifications that are left of a thaw.
+    pub(crate) fn thawing(
+        &mut self,
+        definition: &Definition,
+        object: u64,
+        mut slots: Slots,
+    ) -> Result<(), Halt>
+        ensures step { Goes result
+            (uncounted (agenda_of definition.now self.old.stack) self.old.counted (thawing (world_of self.old.world) object slots))
+            (config_of definition.now self.new) }
+        ensures quiet { OnErr result ((world_of self.new.world).transcript ≡ (world_of self.old.world).transcript) }
+    {
+        let _ = definition;
+        let Some(slot) = slots.take() else {
+            return Ok(());
+        };
+        self.stack.push(Task::Thawing { object, slots })?;
+        self.stack.push(Task::Notifying { object, slot })?;
+        Ok(())
+    }
+}
