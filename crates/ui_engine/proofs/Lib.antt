@@ -9,3 +9,4 @@ pub mod Values
 pub mod Falls
 pub mod SpecAt
 pub mod PlainSets
+pub mod Left

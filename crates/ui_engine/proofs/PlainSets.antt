@@ -193,3 +193,21 @@ module _ (d : Definition) (w : World) (id slot : ℕ) (v : Value) where
           by_value ∙ ap (λ b. cond (b || is_lax s) (written d w id slot s (kept w.objects s (clamp (class_in w.objects) d.types s v))) (starts (said d w (lines.refused id s.name v)) [])) same
           ∙ ap (λ b. written d w id slot s (cond b (unless_disposed w.objects (clamp (class_in w.objects) d.types s v)) (clamp (class_in w.objects) d.types s v))) plain.strong
           ∙ ap (written d w id slot s) (sym valid) ∙ written_plain x
+
+      -- as code finds it, with a flag for what was changed
+      pub refused_by_flag : (is_changed : Bool) (same_v : Value) → is_changed ≡ true → is_changed ≡ not (same_value (clamp (class_in w.objects) d.types s v) v) → same_v ≡ v
+          → setting d w id slot v ≡ starts (said d w (lines.refused id s.name same_v)) []
+      refused_by_flag is_changed same_v is e same =
+          refused_set (flag_off (same_value (clamp (class_in w.objects) d.types s v) v) (sym e ∙ is)) ∙ ap (λ x. starts (said d w (lines.refused id s.name x)) []) (sym same)
+        where
+          flag_off : (b : Bool) → not b ≡ true → b ≡ false
+          flag_off false h = refl
+          flag_off true h = cc
+
+      pub written_by_flag : (is_changed : Bool) (x : Value) → is_changed ≡ false → is_changed ≡ not (same_value (clamp (class_in w.objects) d.types s v) v)
+          → x ≡ clamp (class_in w.objects) d.types s v → setting d w id slot v ≡ told_write d w id slot s.name x
+      written_by_flag is_changed x is e valid = written_set x valid (flag_on (same_value (clamp (class_in w.objects) d.types s v) v) (sym e ∙ is))
+        where
+          flag_on : (b : Bool) → not b ≡ false → b ≡ true
+          flag_on true h = refl
+          flag_on false h = cc

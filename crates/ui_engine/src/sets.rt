@@ -21,6 +21,7 @@ use crate::texts::{refused_line, set_line, value_text};
 use builder_defs::Definition;
 use g_values::{Kind, Value};
 use param_specs::{Spec, validate};
+use std::alloc::AllocError;
 use ui_machine::{Arm, Halt};
 
 // Whether a value is one of the kind, its members, range and class left aside.
@@ -95,7 +96,7 @@ impl Engine {
         object: u64,
         name: &str,
         value: &Value,
-    ) -> Result<(), Halt>
+    ) -> Result<(), AllocError>
         ensures ok { OnOk result (world_of self.new.world ≡ said definition.now (world_of self.old.world) (lines.refused object name.now (value_view value.now))) }
         ensures err { OnErr result (world_of self.new.world ≡ world_of self.old.world) }
         ensures same { (self.new.stack ≡ self.old.stack) × (self.new.counted ≡ self.old.counted) }

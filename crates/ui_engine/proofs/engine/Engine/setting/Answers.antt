@@ -1,39 +1,70 @@
-use Rattle.std.proofs.Common.{rules, ◌≡◌, OnOk, OnErr, IfOk, ℕ, ◌+◌, ◌-◌, ◌*◌, ◌<◌, ◌≤◌, length, ◌/◌, ◌%◌, Bool, true, false, nat_eq, nat_lt, List, [], ◌∷◌, ◌++◌, slice_index_or, slice_set, bit_and, bit_or, Fits, w8, w32, w64, Bor, MutBor}
+use Rattle.std.proofs.Common.{◌≡◌, true, false, not, refl, sym, ap, ◌∙◌}
+use Rattle.std.proofs.lemmas.Result.{err_from_is_err_and}
+use Rattle.ui_machine.specs.Config as config
+use Rattle.ui_machine.specs.Transform.{same_value}
+use Rattle.ui_machine.specs.Clamp.{clamp}
+use Rattle.ui_machine.specs.Objects.{class_in}
+use Rattle.ui_machine.specs.Sets.{has_kind}
 use Rattle.ui_machine.specs.Answers.{Goes}
-use Rattle.ui_machine.specs.Sets.{setting, spec_at, has_kind}
-use Rattle.ui_machine.specs.Worlds.{said}
-use Rattle.ui_machine.specs.Lines as lines
 use Rattle.ui_machine.specs.Steps.{uncounted}
 use Rattle.g_values.specs.View.{kind_view, value_view}
 use Rattle.param_specs.specs.View.{spec_view}
-use Rattle.builder_defs.specs.Meaning.{IsPlain}
 use Rattle.ui_engine.specs.View.{world_of}
-use Rattle.ui_engine.specs.ObjectView.{Shows}
 use Rattle.ui_engine.specs.TaskView.{agenda_of}
 use Rattle.ui_engine.specs.EngineView.{config_of}
-use Rattle.ui_engine.specs.PlainSets.{told_write}
+use Rattle.ui_engine.proofs.PlainSets.{knows_class, no_spec_set, other_kind_set, refused_by_flag, written_by_flag}
+use Rattle.ui_engine.proofs.Left.{left_alone}
 use Rattle.ui_engine.proofs.engine.Engine.setting.Goals as goal
 
--- src/sets.rt:122:20
 pub returns-in_err-spec-clause-step : goal.returns-in_err-spec-clause-step
-returns-in_err-spec-clause-step c = ?
+returns-in_err-spec-clause-step c =
+    let p = err_from_is_err_and c.from_residual.result c.from_residual.ensures.1 in
+    rw (p.1, p.2) (ap (uncounted (agenda_of c.args.definition.now c.args.self.now.stack) c.args.self.now.counted)
+        (no_spec_set c.args.definition.now (world_of c.args.self.now.world) c.args.object c.args.slot (value_view c.args.value) _ c.in_err-spec.ensures.spec))
 
--- src/sets.rt:124:13
 pub returns-then-not-has_kind-clause-step : goal.returns-then-not-has_kind-clause-step
-returns-then-not-has_kind-clause-step c = ?
+returns-then-not-has_kind-clause-step c =
+    ap (uncounted (agenda_of c.args.definition.now c.args.self.now.stack) c.args.self.now.counted)
+        (other_kind_set c.args.definition.now (world_of c.args.self.now.world) c.args.object c.args.slot (value_view c.args.value) (spec_view c.in_ok-spec.spec.now) c.in_ok-spec.ensures.spec (sym c.if-not-has_kind.ensures))
 
--- src/sets.rt:129:13
 pub returns-in_err-refuse-clause-step : goal.returns-in_err-refuse-clause-step
-returns-in_err-refuse-clause-step c = ?
+returns-in_err-refuse-clause-step c =
+    let p = err_from_is_err_and c.from_residual-in_err-refuse.result c.from_residual-in_err-refuse.ensures.1 in
+    rw (p.1, p.2) tt
 
--- src/sets.rt:130:13
 pub returns-then-is_changed-clause-step : goal.returns-then-is_changed-clause-step
-returns-then-is_changed-clause-step c = ?
+returns-then-is_changed-clause-step c =
+    let d = c.args.definition.now in
+    let w = world_of c.args.self.now.world in
+    let s = spec_view c.in_ok-spec.spec.now in
+    let v = value_view c.args.value in
+    let plain = c.in_ok-spec.ensures.plain in
+    let kind : has_kind v s.kind ≡ true = sym c.if-not-has_kind.ensures in
+    let knows = knows_class (class_in w.objects) c.args.value s.kind s plain.kind kind in
+    let told = refused_by_flag d w c.args.object c.args.slot v s c.in_ok-spec.ensures.spec plain kind _ (value_view c.in_ok-original.original) c.if-is_changed.true (rw c.types.ensures.types at (c.validate-valid.ensures.changed (class_in w.objects) knows)) c.in_ok-original.ensures.value in
+    left_alone d c.args.self.now c.refuse.new.self _ _ told (rw c.as_str.ensures.value at c.in_ok-refuse.ensures.ok) c.in_ok-refuse.ensures.same.0 c.in_ok-refuse.ensures.same.1
 
--- src/sets.rt:132:9
 pub returns-in_err-put-clause-step : goal.returns-in_err-put-clause-step
-returns-in_err-put-clause-step c = ?
+returns-in_err-put-clause-step c =
+    let d = c.args.definition.now in
+    let w = world_of c.args.self.now.world in
+    let s = spec_view c.in_ok-spec.spec.now in
+    let v = value_view c.args.value in
+    let plain = c.in_ok-spec.ensures.plain in
+    let kind : has_kind v s.kind ≡ true = sym c.if-not-has_kind.ensures in
+    let knows = knows_class (class_in w.objects) c.args.value s.kind s plain.kind kind in
+    let told = written_by_flag d w c.args.object c.args.slot v s c.in_ok-spec.ensures.spec plain kind _ (value_view c.validate-valid.result.0) c.if-is_changed.false (rw c.types.ensures.types at (c.validate-valid.ensures.changed (class_in w.objects) knows)) (rw c.types.ensures.types at (c.validate-valid.ensures.value (class_in w.objects) knows)) in
+    let p = err_from_is_err_and c.from_residual-in_err-put.result c.from_residual-in_err-put.ensures.1 in
+    rw (p.1, p.2, told) (rw c.as_str-2.ensures.value at c.in_err-put.ensures.step)
 
--- src/sets.rt:110:5
 pub returns-clause-step : goal.returns-clause-step
-returns-clause-step c = ?
+returns-clause-step c =
+    let d = c.args.definition.now in
+    let w = world_of c.args.self.now.world in
+    let s = spec_view c.in_ok-spec.spec.now in
+    let v = value_view c.args.value in
+    let plain = c.in_ok-spec.ensures.plain in
+    let kind : has_kind v s.kind ≡ true = sym c.if-not-has_kind.ensures in
+    let knows = knows_class (class_in w.objects) c.args.value s.kind s plain.kind kind in
+    let told = written_by_flag d w c.args.object c.args.slot v s c.in_ok-spec.ensures.spec plain kind _ (value_view c.validate-valid.result.0) c.if-is_changed.false (rw c.types.ensures.types at (c.validate-valid.ensures.changed (class_in w.objects) knows)) (rw c.types.ensures.types at (c.validate-valid.ensures.value (class_in w.objects) knows)) in
+    ap (uncounted (agenda_of d c.args.self.now.stack) c.args.self.now.counted) told ∙ (rw c.as_str-2.ensures.value at c.in_ok-put.ensures.step)
