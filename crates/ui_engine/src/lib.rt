@@ -4,11 +4,14 @@
 //! run of it.
 #![tactic(auto)]
 
+mod builds;
+mod carrying;
 mod counting;
 mod engine;
 mod heap;
 mod notifications;
 mod object;
+mod running;
 mod sets;
 mod task;
 mod texts;

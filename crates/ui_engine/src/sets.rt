@@ -45,7 +45,7 @@ fn has_kind(value: &Value, kind: Kind) -> bool
 impl Engine {
     // The spec of a living object's property.
     #[tactic(auto, unfolding(ui_machine::specs::Sets::spec_at))]
-    fn spec_of<'a>(
+    pub(crate) fn spec_of<'a>(
         &self,
         definition: &'a Definition,
         object: u64,

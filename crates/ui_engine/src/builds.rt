@@ -1,0 +1,159 @@
+//! The build: how objects are made, and how their construction goes on and ends.
+
+ghost use Rattle.std.specs.Prelude.{◌≡◌, true, None, map, OnErr, IfOk};
+ghost use Rattle.ui_machine.specs.Answers.{Goes};
+ghost use Rattle.ui_machine.specs.Properties.{Spec};
+ghost use Rattle.ui_machine.specs.Lookups.{specs_of};
+ghost use Rattle.ui_machine.specs.Builds.{constructed, thawing_made, making};
+ghost use Rattle.ui_machine.specs.Steps.{uncounted, constructing, building};
+ghost use Rattle.g_values.specs.View.{value_view};
+ghost use Rattle.ui_engine.specs.View.{world_of};
+ghost use Rattle.ui_engine.specs.TaskView.{agenda_of, build_from};
+ghost use Rattle.ui_engine.specs.EngineView.{config_of};
+
+use crate::engine::Engine;
+use crate::object::Object;
+use crate::task::{Making, Makings, Slots, Task};
+use crate::texts::construct_line;
+use builder_defs::Definition;
+use g_values::Value;
+use std::alloc::{AllocError, Global};
+use type_tree::{TypeFlags, TypeId};
+use ui_machine::{Arm, Halt};
+
+// The type under which objects begin floating.
+const INITIALLY_UNOWNED: u16 = 1;
+
+impl Engine {
+    // A construction ends: the builder holds the object, which no longer floats.
+    #[tactic(auto, unfolding(ui_machine::specs::Builds::constructed))]
+    fn constructed(&mut self, definition: &Definition, object: u64) -> Result<(), Halt>
+        ensures step { Goes result
+            (uncounted (agenda_of definition.now self.old.stack) self.old.counted (constructed (world_of self.old.world) object true))
+            (config_of definition.now self.new) }
+        ensures quiet { OnErr result ((world_of self.new.world).transcript ≡ (world_of self.old.world).transcript) }
+    {
+        let _ = definition;
+        self.world.builder.push(object)?;
+        self.world.floating.retain(|id| *id != object);
+        Ok(())
+    }
+
+    // The thaw that ends a construction.
+    #[tactic(auto, unfolding(ui_machine::specs::Builds::thawing_made))]
+    fn thawing_made(
+        &mut self,
+        definition: &Definition,
+        object: u64,
+        steps: Makings,
+    ) -> Result<(), Halt>
+        ensures step { Goes result
+            (uncounted (agenda_of definition.now self.old.stack) self.old.counted (thawing_made (world_of self.old.world) object steps true))
+            (config_of definition.now self.new) }
+        ensures quiet { OnErr result ((world_of self.new.world).transcript ≡ (world_of self.old.world).transcript) }
+    {
+        let _ = definition;
+        let slots = self.world.heap.thaw(object)?;
+        self.stack.push(Task::Constructing { object, steps })?;
+        self.stack.push(Task::Thawing {
+            object,
+            slots: Slots::new(slots),
+        })?;
+        Ok(())
+    }
+
+    // The next step of a construction.
+    pub(crate) fn constructing(
+        &mut self,
+        definition: &Definition,
+        object: u64,
+        mut steps: Makings,
+    ) -> Result<(), Halt>
+        ensures step { Goes result
+            (uncounted (agenda_of definition.now self.old.stack) self.old.counted (constructing definition.now (world_of self.old.world) object steps true))
+            (config_of definition.now self.new) }
+        ensures quiet { OnErr result ((world_of self.new.world).transcript ≡ (world_of self.old.world).transcript) }
+    {
+        let Some(step) = steps.take() else {
+            return self.constructed(definition, object);
+        };
+        match step {
+            Making::Set { slot, value } => {
+                self.stack.push(Task::Constructing { object, steps })?;
+                self.stack.push(Task::Setting {
+                    object,
+                    slot,
+                    value,
+                })?;
+                return Ok(());
+            }
+            Making::Thaw => {
+                self.thawing_made(definition, object, steps)?;
+                return Ok(());
+            }
+        }
+    }
+
+    // An object of the build is made. What its construction has to do goes on the stack.
+    #[tactic(auto, unfolding(ui_machine::specs::Builds::making))]
+    fn making(&mut self, definition: &Definition, place: usize) -> Result<(), Halt>
+        ensures step { Goes result
+            (uncounted (agenda_of definition.now self.old.stack) self.old.counted (making definition.now (world_of self.old.world) place None true))
+            (config_of definition.now self.new) }
+        ensures quiet { OnErr result ((world_of self.new.world).transcript ≡ (world_of self.old.world).transcript) }
+    {
+        let types = definition.types();
+        let Some(entry) = definition.objects().get(place) else {
+            return Err(Halt::Stuck(Arm::Code));
+        };
+        let class = entry.class;
+        if types.flags(class).is_abstract {
+            return Err(Halt::Stuck(Arm::Abstract));
+        }
+        let values = defaults(self.alloc, definition, class)?;
+        let mut steps = Vec::new(self.alloc);
+        steps.push(Making::Thaw)?;
+        let object = Object::new(self.alloc, class, place as u16, values);
+        let id = self.world.heap.create(object)?;
+        if types.is_a(class, TypeId::new(INITIALLY_UNOWNED)) {
+            self.world.floating.push(id)?;
+        }
+        let line = construct_line(self.alloc, id, definition.class_name(class))?;
+        self.stack.push(Task::Constructing {
+            object: id,
+            steps: Makings::new(steps),
+        })?;
+        self.world.say(line)?;
+        Ok(())
+    }
+
+    // The next object of the build.
+    #[tactic(auto, unfolding(ui_machine::specs::Steps::building_object))]
+    pub(crate) fn building(&mut self, definition: &Definition, place: usize) -> Result<(), Halt>
+        ensures step { Goes result
+            (uncounted (agenda_of definition.now self.old.stack) self.old.counted (building definition.now (world_of self.old.world) (build_from definition.now place)))
+            (config_of definition.now self.new) }
+        ensures quiet { OnErr result ((world_of self.new.world).transcript ≡ (world_of self.old.world).transcript) }
+    {
+        if place >= definition.objects().len() {
+            return Ok(());
+        }
+        self.stack.push(Task::Building { place: place + 1 })?;
+        self.making(definition, place)
+    }
+}
+
+// The defaults of a class's properties, by slot.
+fn defaults(alloc: Global, definition: &Definition, class: TypeId) -> Result<Vec<Value>, AllocError>
+    ensures { IfOk result (λ values. map value_view values.items ≡ map (λ (s : Spec). s.default) (specs_of definition.now class)) }
+{
+    let mut values = Vec::new(alloc);
+    let mut slot: u16 = 0;
+    loop {
+        let Some(spec) = definition.spec(class, slot) else {
+            return Ok(values);
+        };
+        values.push(spec.default.copied()?)?;
+        slot += 1;
+    }
+}

@@ -1,0 +1,88 @@
+//! What events do.
+
+ghost use Rattle.std.specs.Prelude.{◌≡◌, OnErr};
+ghost use Rattle.ui_machine.specs.Answers.{Goes};
+ghost use Rattle.ui_machine.specs.Steps.{uncounted, carrying, carrying_set, carrying_get};
+ghost use Rattle.ui_machine.specs.Definition as machine;
+ghost use Rattle.g_values.specs.View.{value_view};
+ghost use Rattle.builder_defs.specs.Meaning.{event_of};
+ghost use Rattle.ui_machine.specs.Builds.{held_object};
+ghost use Rattle.ui_engine.specs.ObjectView.{Shows};
+ghost use Rattle.ui_engine.specs.View.{world_of};
+ghost use Rattle.ui_engine.specs.TaskView.{agenda_of};
+ghost use Rattle.ui_engine.specs.EngineView.{config_of};
+
+use crate::engine::Engine;
+use crate::task::Task;
+use crate::texts::{get_line, value_text};
+use builder_defs::{Definition, Event};
+use g_values::Value;
+use ui_machine::{Arm, Halt, Place};
+
+impl Engine {
+    // The object that the builder made of a place.
+    fn built(&self, place: Place) -> Result<u64, Arm>
+        ensures { Shows (λ id. id) result (held_object (world_of self.now.world) place.0) }
+    {
+        self.world
+            .builder
+            .get(usize::from(place.0))
+            .copied()
+            .ok_or(Arm::Operand)
+    }
+
+    // A set by an event.
+    #[tactic(auto, unfolding(ui_machine::specs::Steps::carrying_set))]
+    fn carrying_set(
+        &mut self,
+        definition: &Definition,
+        place: Place,
+        slot: u16,
+        value: Value,
+    ) -> Result<(), Halt>
+        ensures step { Goes result
+            (uncounted (agenda_of definition.now self.old.stack) self.old.counted (carrying_set (world_of self.old.world) place.0 slot (machine.value (value_view value))))
+            (config_of definition.now self.new) }
+        ensures quiet { OnErr result ((world_of self.new.world).transcript ≡ (world_of self.old.world).transcript) }
+    {
+        let _ = definition;
+        let object = self.built(place)?;
+        self.stack.push(Task::Setting {
+            object,
+            slot,
+            value,
+        })?;
+        Ok(())
+    }
+
+    // A get by an event. Each property so far is readable.
+    #[tactic(auto, unfolding(ui_machine::specs::Steps::carrying_get))]
+    fn carrying_get(&mut self, definition: &Definition, place: Place, slot: u16) -> Result<(), Halt>
+        ensures step { Goes result
+            (uncounted (agenda_of definition.now self.old.stack) self.old.counted (carrying_get definition.now (world_of self.old.world) place.0 slot))
+            (config_of definition.now self.new) }
+        ensures quiet { OnErr result ((world_of self.new.world).transcript ≡ (world_of self.old.world).transcript) }
+    {
+        let object = self.built(place)?;
+        let spec = self.spec_of(definition, object, slot)?;
+        let value = self.world.heap.value(object, slot)?.copied()?;
+        let text = value_text(self.alloc, definition.types(), &value)?;
+        let line = get_line(self.alloc, object, spec.name.as_str(), text.as_str())?;
+        self.world.say(line)?;
+        self.world.result = Some(value);
+        Ok(())
+    }
+
+    // What an event does.
+    pub(crate) fn carrying(&mut self, definition: &Definition, event: Event) -> Result<(), Halt>
+        ensures step { Goes result
+            (uncounted (agenda_of definition.now self.old.stack) self.old.counted (carrying definition.now (world_of self.old.world) (event_of event)))
+            (config_of definition.now self.new) }
+        ensures quiet { OnErr result ((world_of self.new.world).transcript ≡ (world_of self.old.world).transcript) }
+    {
+        match event {
+            Event::Set { place, slot, value } => self.carrying_set(definition, place, slot, value),
+            Event::Get { place, slot } => self.carrying_get(definition, place, slot),
+        }
+    }
+}
