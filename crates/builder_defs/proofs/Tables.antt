@@ -65,4 +65,6 @@ basic types specs objects plain = record {
   peers = each_object (λ (p : Place). p.peers ≡ []) (λ o. refl) objects;
   signals = each_object (λ (p : Place). p.signals ≡ []) (λ o. refl) objects;
   bindings = refl;
+  known_signals = λ t known. ap (λ (c : Class). c.signals) (read-listed lookups.no_class (λ t. class_with (specs_of types specs t)) (length types) t (λ past. absurd (omega arith)));
+  unknown_signals = λ t past. ap (λ (c : Class). c.signals) (read-past lookups.no_class (λ t. class_with (specs_of types specs t)) (length types) t past);
 }

@@ -1,5 +1,5 @@
 -- Which definition and event of the machine the code's stand for.
-use Rattle.std.specs.Prelude.{◌≡◌, ℕ, false, List, [], ◌∷◌, map, length, Option, None, Some, string_bytes, codes, slice_get}
+use Rattle.std.specs.Prelude.{◌≡◌, ℕ, ◌<◌, ◌≤◌, false, List, [], ◌∷◌, map, length, Option, None, Some, string_bytes, codes, slice_get}
 use Rattle.ui_machine.specs.Seq.{listed}
 use Rattle.ui_machine.specs.Kinds as kinds
 use Rattle.ui_machine.specs.Types.{GType}
@@ -73,6 +73,8 @@ pub record IsBasic (d : machine.Definition) : Type 0 where
   pub peers : (p : ℕ) (place : machine.Place) → slice_get d.places p ≡ Some place → place.peers ≡ []
   pub signals : (p : ℕ) (place : machine.Place) → slice_get d.places p ≡ Some place → place.signals ≡ []
   pub bindings : d.bindings ≡ []
+  pub known_signals : (t : ℕ) → t < length d.types → (lookups.class_of d t).signals ≡ notify_signal ∷ []
+  pub unknown_signals : (t : ℕ) → length d.types ≤ t → (lookups.class_of d t).signals ≡ []
 
 abbrev pub event_of : Event → config.Event
 event_of (events.Set place slot v) = config.set place.0 slot (machine.value (value_view v))

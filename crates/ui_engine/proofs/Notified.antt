@@ -1,0 +1,127 @@
+-- Notifications to which nobody listens.
+use Rattle.std.proofs.Common.{◌≡◌, ℕ, zero, suc, ◌<◌, ◌≤◌, true, false, List, [], ◌∷◌, ◌++◌, length, map, codes, reverse, Option, Some, None, Ok, Err, slice_get, refl, sym, ap, ◌∙◌, nat_lt, arith}
+use Rattle.std.proofs.lemmas.Bool.Decides.{nat_tests}
+use Rattle.std.proofs.lemmas.List.{reverse-append, map-append}
+use Rattle.ui_machine.specs.declared.arm.Arm.{Arm}
+use Rattle.ui_machine.specs.declared.arm.Arm.TheVariants as arms
+use Rattle.ui_machine.specs.Properties.{Spec}
+use Rattle.ui_machine.specs.Definition.{Definition, ClassHandler, Signal}
+use Rattle.ui_machine.specs.Lookups.{type_of, class_of, spec_of}
+use Rattle.ui_machine.specs.Lines as lines
+use Rattle.ui_machine.specs.Config as config
+use Rattle.ui_machine.specs.Config.{Object, Objects, Task, Emission, Emitting, World}
+use Rattle.ui_machine.specs.Answers.{Answer, ◌>>=◌, known}
+use Rattle.ui_machine.specs.Objects.{find, asked, object_at}
+use Rattle.ui_machine.specs.Worlds.{Started, starts, said}
+use Rattle.ui_machine.specs.Steps.{counted, uncounted, most_steps}
+use Rattle.ui_machine.specs.Emissions.{notifying, notification, notify_plan, nearest_handler, or_else, up, handler_in, class_handler_of, most_depth, at_stage, signal_at, notify_flags}
+use Rattle.ui_machine.specs.Values.{Value}
+use Rattle.ui_machine.specs.Turns.{resulting, result_of}
+use Rattle.ui_machine.specs.Results.{Left, ending, leaves, passed_down, told}
+use Rattle.builder_defs.specs.Meaning.{IsBasic, notify_signal}
+use Rattle.ui_engine.specs.TaskView.{name_of, name_in, task_of, agenda_of}
+use Rattle.ui_engine.specs.declared.task.Stack.{Stack}
+use Rattle.ui_engine.specs.declared.task.Task as code
+use Rattle.ui_engine.specs.declared.task.Task.TheVariants as tasks
+
+-- ** counted steps
+
+pub counted_on : (rest : List Task) (n : ℕ) (a : Answer Started) → n < most_steps → counted rest n a ≡ uncounted rest (suc n) a
+counted_on rest n a h = let t : nat_lt n most_steps ≡ true = grind (arith, nat_tests) in rw t refl
+
+-- ** what a notification runs
+
+none_up : (f : ℕ → Option ℕ) → ((c : ℕ) → f c ≡ None) → (p : Option ℕ) → up f p ≡ None
+none_up f none None = refl
+none_up f none (Some c) = none c
+
+none_nearest : (d : Definition) → IsBasic d → (name : List ℕ) (n class : ℕ) → nearest_handler n d name class ≡ None
+none_nearest d basic name zero class = refl
+none_nearest d basic name (suc n) class = ap (λ (hs : List ClassHandler). or_else (handler_in hs name) (up (nearest_handler n d name) (type_of d class).parent)) (basic.handlers class) ∙ none_up (nearest_handler n d name) (none_nearest d basic name n) (type_of d class).parent
+
+pub none_planned : (d : Definition) → IsBasic d → (w : World) → w.handlers ≡ [] → w.bindings ≡ [] → (class id slot : ℕ) (name : List ℕ) → notify_plan d w class id slot name ≡ []
+none_planned d basic w handlers bindings class id slot name =
+    let e : class_handler_of d class (codes "notify") ≡ None = none_nearest d basic (codes "notify") most_depth class in
+    rw (e, handlers, bindings) refl
+
+-- ** by the class of the object
+
+module _ (d : Definition) (w : World) (id slot : ℕ) where
+  by_class : (r : Answer ℕ) → asked w.objects id (λ o. Ok o.class) ≡ r
+      → notifying d w id slot ≡ (r >>= λ class. known arms.Code (spec_of d class slot) >>= λ s. starts (said d w (lines.notify id s.name)) (Emitting (notification id s.name) (notify_plan d w class id slot s.name) ∷ []))
+  unfolding asked notifying
+  by_class r h = by (find w.objects id) ∙ ap (λ (a : Answer ℕ). a >>= on) h
+    where
+      on : ℕ → Answer Started
+      on class = known arms.Code (spec_of d class slot) >>= λ s. starts (said d w (lines.notify id s.name)) (Emitting (notification id s.name) (notify_plan d w class id slot s.name) ∷ [])
+
+      by : (o : Option Object) → (known arms.Operand o >>= λ x. on x.class) ≡ ((known arms.Operand o >>= λ x. Ok x.class) >>= on)
+      by None = refl
+      by (Some x) = refl
+
+  pub unheard : (arm : Arm) → asked w.objects id (λ o. Ok o.class) ≡ Err arm → notifying d w id slot ≡ Err arm
+  unheard arm h = by_class (Err arm) h
+
+  module _ (class : ℕ) (of : asked w.objects id (λ o. Ok o.class) ≡ Ok class) where
+    pub unnamed : spec_of d class slot ≡ None → notifying d w id slot ≡ Err arms.Code
+    unnamed none = by_class (Ok class) of ∙ ap (λ (s : Option Spec). known arms.Code s >>= λ s. starts (said d w (lines.notify id s.name)) (Emitting (notification id s.name) (notify_plan d w class id slot s.name) ∷ [])) none
+
+    pub begun : IsBasic d → w.handlers ≡ [] → w.bindings ≡ [] → (s : Spec) → spec_of d class slot ≡ Some s
+        → notifying d w id slot ≡ starts (said d w (lines.notify id s.name)) (Emitting (notification id (name_of d class slot)) [] ∷ [])
+    begun basic handlers bindings s some =
+        by_class (Ok class) of
+        ∙ ap (λ (s : Option Spec). known arms.Code s >>= λ s. starts (said d w (lines.notify id s.name)) (Emitting (notification id s.name) (notify_plan d w class id slot s.name) ∷ [])) some
+        ∙ ap (λ plan. starts (said d w (lines.notify id s.name)) (Emitting (notification id s.name) plan ∷ [])) (none_planned d basic w handlers bindings class id slot s.name)
+        ∙ ap (λ (found : Option Spec). starts (said d w (lines.notify id s.name)) (Emitting (notification id (name_in found)) [] ∷ [])) (sym some)
+
+-- ** the end of a notification
+
+waits_for_none : (d : Definition) (ts : List code.Task) → passed_down (map (task_of d) ts) None ≡ Ok (map (task_of d) ts)
+waits_for_none d [] = refl
+waits_for_none d (tasks.Setting id slot v ∷ ts) = refl
+waits_for_none d (tasks.Notifying id slot ∷ ts) = refl
+waits_for_none d (tasks.Emitting id class slot ∷ ts) = refl
+waits_for_none d (tasks.Thawing id slots ∷ ts) = refl
+waits_for_none d (tasks.Constructing id steps ∷ ts) = refl
+waits_for_none d (tasks.Building place ∷ ts) = refl
+waits_for_none d (tasks.Carrying event ∷ ts) = refl
+
+module _ (d : Definition) (w : World) (id : ℕ) (name : List ℕ) (rest : List Task) where
+  gives : ℕ → Answer (Option Value)
+  gives class = signal_at d class 0 >>= λ s. Ok (result_of d s.result None)
+
+  result_by_class : (r : Answer ℕ) → asked w.objects id (λ o. Ok o.class) ≡ r → resulting d w (notification id name) ≡ (r >>= gives)
+  unfolding asked resulting gives
+  result_by_class r h = by (find w.objects id) ∙ ap (λ (a : Answer ℕ). a >>= gives) h
+    where
+      by : (o : Option Object) → (known arms.Operand o >>= λ x. gives x.class) ≡ ((known arms.Operand o >>= λ x. Ok x.class) >>= gives)
+      by None = refl
+      by (Some x) = refl
+
+  ends_by : (a : Answer (Option Value)) → resulting d w (notification id name) ≡ a → ending d w (notification id name) rest ≡ (a >>= λ v. passed_down rest v >>= λ agenda. leaves (told d w false v) agenda)
+  unfolding ending
+  ends_by a h = ap (λ (a : Answer (Option Value)). a >>= λ v. passed_down rest v >>= λ agenda. leaves (told d w false v) agenda) h
+
+  pub end_unheard : (arm : Arm) → asked w.objects id (λ o. Ok o.class) ≡ Err arm → ending d w (notification id name) rest ≡ Err arm
+  end_unheard arm h = ends_by (Err arm) (result_by_class (Err arm) h)
+
+  module _ (class : ℕ) (of : asked w.objects id (λ o. Ok o.class) ≡ Ok class) (basic : IsBasic d) where
+    pub end_unknown : length d.types ≤ class → ending d w (notification id name) rest ≡ Err arms.Code
+    unfolding signal_at gives
+    end_unknown past = ends_by (Err arms.Code) (result_by_class (Ok class) of ∙ ap (λ (ss : List Signal). known arms.Code (slice_get ss 0) >>= λ s. Ok (result_of d s.result None)) (basic.unknown_signals class past))
+
+    pub end_known : class < length d.types → passed_down rest None ≡ Ok rest → ending d w (notification id name) rest ≡ leaves w rest
+    unfolding signal_at gives
+    end_known known_class passes =
+        ends_by (Ok None) (result_by_class (Ok class) of ∙ ap (λ (ss : List Signal). known arms.Code (slice_get ss 0) >>= λ s. Ok (result_of d s.result None)) (basic.known_signals class known_class))
+        ∙ ap (λ (a : Answer (List Task)). a >>= λ agenda. leaves w agenda) passes
+
+reverse-map : {A B : Type 0} (f : A → B) (xs : List A) → reverse (map f xs) ≡ map f (reverse xs)
+reverse-map f [] = refl
+reverse-map f (x ∷ xs) =
+    reverse-append (f x ∷ []) (map f xs) ∙ ap (λ ys. ys ++ f x ∷ []) (reverse-map f xs) ∙ sym (map-append f (reverse xs) (x ∷ []))
+    ∙ ap (map f) (sym (reverse-append (x ∷ []) xs))
+
+-- nothing of the engine's waits for a result
+pub none_waits : (d : Definition) (s : Stack) → passed_down (agenda_of d s) None ≡ Ok (agenda_of d s)
+none_waits d s = let e : agenda_of d s ≡ map (task_of d) (reverse s.tasks.items) = reverse-map (task_of d) s.tasks.items in rw e (waits_for_none d (reverse s.tasks.items))
