@@ -1,5 +1,5 @@
 -- Which pure kind and value a kind and a value stand for.
-use Rattle.std.specs.Prelude.{◌≡◌, ℕ, pos, Bool, true, false, List, Option, None, Some, option_map, ℤ, Result, Ok, Err}
+use Rattle.std.specs.Prelude.{◌≡◌, pos, Bool, true, false, List, Option, None, Some, option_map, ℤ, Result, Ok, Err}
 use Rattle.std.specs.Rc.{rc_str_bytes}
 use Rattle.ui_machine.specs.Kinds.{int, uint, int64, uint64}
 use Rattle.ui_machine.specs.Kinds as kinds

@@ -20,7 +20,9 @@ pub fn has_number(members: &[EnumMember], number: i128) -> bool
 fn any_has(members: &[EnumMember], number: i128) -> bool
     ensures { result ≡ list_any (λ m. int_eq m.number number) members.now }
 {
-    members.iter().any(|member| i128::from(member.number) == number)
+    members
+        .iter()
+        .any(|member| i128::from(member.number) == number)
 }
 
 /// A number as that of a member of an enum, if one has it.
@@ -30,7 +32,11 @@ pub fn member_number(members: &[EnumMember], number: i128) -> Option<i32>
 {
     match members {
         [first, others @ ..] => {
-            if i128::from(first.number) == number { Some(first.number) } else { member_number(others, number) }
+            if i128::from(first.number) == number {
+                Some(first.number)
+            } else {
+                member_number(others, number)
+            }
         }
         [] => None,
     }
@@ -64,5 +70,9 @@ pub fn known_flags(members: &[FlagsMember], number: i128) -> Option<u32>
         return None;
     }
     let bits = number as u32;
-    if bits & known_bits(members) == bits { Some(bits) } else { None }
+    if bits & known_bits(members) == bits {
+        Some(bits)
+    } else {
+        None
+    }
 }

@@ -49,7 +49,12 @@ fn transforms_numbers(rt: HostRuntime) -> Result<(), Fail> {
     assert!(rt; matches!(low, Value::Int(0)));
     let truth = transform(alloc, &types.tree, &Value::Int64(4294967296), Kind::Bool)?;
     assert!(rt; matches!(truth, Value::Bool(true)));
-    let edge = transform(alloc, &types.tree, &Value::UInt64(9223372036854775808), Kind::Int64)?;
+    let edge = transform(
+        alloc,
+        &types.tree,
+        &Value::UInt64(9223372036854775808),
+        Kind::Int64,
+    )?;
     assert!(rt; matches!(edge, Value::Int64(-9223372036854775808)));
     let half = transform(alloc, &types.tree, &Value::UInt(2147483648), Kind::Int)?;
     assert!(rt; matches!(half, Value::Int(-2147483648)));
@@ -66,9 +71,19 @@ fn transforms_members(rt: HostRuntime) -> Result<(), Fail> {
     assert!(rt; matches!(on, Value::Enum(_, 1)));
     let none = transform(alloc, &types.tree, &Value::Int(5), Kind::Enum(types.mode));
     assert!(rt; matches!(none, Err(TransformError::NotAMember)));
-    let unknown = transform(alloc, &types.tree, &Value::UInt(4), Kind::Flags(types.marks));
+    let unknown = transform(
+        alloc,
+        &types.tree,
+        &Value::UInt(4),
+        Kind::Flags(types.marks),
+    );
     assert!(rt; matches!(unknown, Err(TransformError::NotAMember)));
-    let known = transform(alloc, &types.tree, &Value::UInt(3), Kind::Flags(types.marks))?;
+    let known = transform(
+        alloc,
+        &types.tree,
+        &Value::UInt(3),
+        Kind::Flags(types.marks),
+    )?;
     assert!(rt; matches!(known, Value::Flags(_, 3)));
     let no_text = transform(alloc, &types.tree, &Value::Text(None), Kind::Int);
     assert!(rt; matches!(no_text, Err(TransformError::NoTransform)));

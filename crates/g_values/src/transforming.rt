@@ -63,7 +63,12 @@ fn whole_value(number: i128, kind: Kind) -> Option<Value>
 }
 
 // What a truth value becomes.
-fn from_bool(alloc: Global, tree: &TypeTree, value: bool, kind: Kind) -> Result<Option<Value>, AllocError>
+fn from_bool(
+    alloc: Global,
+    tree: &TypeTree,
+    value: bool,
+    kind: Kind,
+) -> Result<Option<Value>, AllocError>
     ensures { IfOk result (λ o. Becomes o (kind_view kind) (converted tree.now (kind_view kind) (values.bool value))) }
 {
     match kind {
@@ -77,7 +82,12 @@ fn from_bool(alloc: Global, tree: &TypeTree, value: bool, kind: Kind) -> Result<
 }
 
 // What a number becomes.
-fn from_number(alloc: Global, tree: &TypeTree, number: i128, kind: Kind) -> Result<Option<Value>, AllocError>
+fn from_number(
+    alloc: Global,
+    tree: &TypeTree,
+    number: i128,
+    kind: Kind,
+) -> Result<Option<Value>, AllocError>
     requires known { IsKnown tree.now kind }
     requires low { neg_ℤ (pos 9223372036854775808) ≤ℤ number }
     requires high { number <ℤ pos 18446744073709551616 }
@@ -138,7 +148,10 @@ fn from_enum(tree: &TypeTree, t: TypeId, number: i32, kind: Kind) -> Option<Valu
 {
     match kind {
         Kind::Enum(_) => Some(Value::Enum(t, number)),
-        Kind::Int | Kind::UInt | Kind::Int64 | Kind::UInt64 => whole_value(i128::from(number), kind),
+        Kind::Int | Kind::UInt | Kind::Int64 | Kind::UInt64 => whole_value(
+            i128::from(number),
+            kind,
+        ),
         Kind::Bool | Kind::Text | Kind::Flags(_) | Kind::Object(_) => None,
     }
 }
@@ -167,7 +180,12 @@ fn from_object(id: Option<ObjectId>, kind: Kind) -> Option<Value>
 }
 
 // What a value becomes, in a kind to which its own is transformable.
-fn convert(alloc: Global, tree: &TypeTree, value: &Value, kind: Kind) -> Result<Option<Value>, AllocError>
+fn convert(
+    alloc: Global,
+    tree: &TypeTree,
+    value: &Value,
+    kind: Kind,
+) -> Result<Option<Value>, AllocError>
     requires known { IsKnown tree.now kind }
     requires transformable { is_transformable tree.now (value_kind value.now) (kind_view kind) ≡ true }
     ensures { IfOk result (λ o. Becomes o (kind_view kind) (converted tree.now (kind_view kind) (value_view value.now))) }
@@ -191,7 +209,12 @@ fn convert(alloc: Global, tree: &TypeTree, value: &Value, kind: Kind) -> Result<
 ///
 /// `NoTransform` where no value of the one kind becomes one of the other; else `NotAMember` where the number is of no member of the enum, or
 /// not made of known bits of the flags type.
-pub fn transform(alloc: Global, tree: &TypeTree, value: &Value, kind: Kind) -> Result<Value, TransformError>
+pub fn transform(
+    alloc: Global,
+    tree: &TypeTree,
+    value: &Value,
+    kind: Kind,
+) -> Result<Value, TransformError>
     requires { IsKnown tree.now kind }
     ensures { Transforms result tree.now (value_kind value.now) (kind_view kind) (value_view value.now) }
 {
@@ -204,7 +227,12 @@ pub fn transform(alloc: Global, tree: &TypeTree, value: &Value, kind: Kind) -> R
 }
 
 // A value as one of a kind to which its own is transformable.
-fn transform_one(alloc: Global, tree: &TypeTree, value: &Value, kind: Kind) -> Result<Value, TransformError>
+fn transform_one(
+    alloc: Global,
+    tree: &TypeTree,
+    value: &Value,
+    kind: Kind,
+) -> Result<Value, TransformError>
     requires known { IsKnown tree.now kind }
     requires transformable { is_transformable tree.now (value_kind value.now) (kind_view kind) ≡ true }
     ensures { Transforms result tree.now (value_kind value.now) (kind_view kind) (value_view value.now) }

@@ -57,4 +57,4 @@ pub canonical_utf8 : (name : List ℕ) → is_property_name name ≡ true → Is
 canonical_utf8 [] h = absurd (false≢true h)
 canonical_utf8 (x ∷ xs) h =
     IsUtf8-from_ascii (canonical (x ∷ xs)) (IsAscii-cons (cond (nat_eq x 95) 45 x) (canonical xs)
-      (dash_small x (first_small x (left (is_letter x) (segments_follow xs) h))) (segments_ascii xs (right (is_letter x) (segments_follow xs) h)))
+    (dash_small x (first_small x (left (is_letter x) (segments_follow xs) h))) (segments_ascii xs (right (is_letter x) (segments_follow xs) h)))

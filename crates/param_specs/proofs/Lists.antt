@@ -62,6 +62,7 @@ IsTable-more old new t s room adds table u = subst (λ l. length l ≤ 64) (sym 
   where
     at : u ≡ t → length (own_of old u ++ s ∷ []) ≤ 64
     at e = rw (length-append (own_of old u) (s ∷ [])) (subst (λ v. length (own_of old v) + 1 ≤ 64) (sym e) (omega arith))
+
     by : (b : Bool) → nat_eq u t ≡ b → length (if b then own_of old u ++ s ∷ [] else own_of old u) ≤ 64
     by true e = at (grind (arith, nat_tests))
     by false e = table u

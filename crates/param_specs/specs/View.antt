@@ -13,7 +13,7 @@ spec_view s = record {
   default = value_view s.default;
   low = s.min;
   high = s.max;
-  weak = s.weak
+  weak = s.weak;
 }
 
 -- lists of specs

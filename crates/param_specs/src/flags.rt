@@ -51,6 +51,9 @@ impl PropertyFlags {
         let construct_only = self.contains(PropertyFlags::CONSTRUCT_ONLY);
         let writable = self.contains(PropertyFlags::WRITABLE);
         let readable = self.contains(PropertyFlags::READABLE);
-        construct && construct_only || construct && !writable || construct_only && !writable || !readable && !writable
+        construct && construct_only
+            || construct && !writable
+            || construct_only && !writable
+            || !readable && !writable
     }
 }

@@ -55,7 +55,11 @@ impl SpecTable {
         ensures few { length result.now ≤ 64 }
     {
         let at = t.index();
-        if at < self.own.len() { self.own[at].as_slice() } else { &[] }
+        if at < self.own.len() {
+            self.own[at].as_slice()
+        } else {
+            &[]
+        }
     }
 
     /// How many properties a type has, with the inherited ones.
@@ -205,7 +209,8 @@ fn position_of(own: &[Spec], name: &str) -> Option<usize>
     ensures place { result ≡ position (λ s. same_name (string_bytes s.name) (canonical name.now)) own.now }
     ensures within { IfSome result (λ i. i < length own.now) }
 {
-    own.iter().position(|spec| is_spelling(spec.name.as_str(), name))
+    own.iter()
+        .position(|spec| is_spelling(spec.name.as_str(), name))
 }
 
 // The same property under another name.

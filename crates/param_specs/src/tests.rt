@@ -29,8 +29,14 @@ fn installs_inherited_first(rt: HostRuntime) -> Result<(), Fail> {
     let base = tree.add_class("Base", "GObject", TypeFlags::NONE, &[])?;
     let derived = tree.add_class("Derived", "Base", TypeFlags::NONE, &[])?;
     let mut table = SpecTable::new(alloc);
-    assert_eq!(rt; table.install(&tree, base, make_spec(alloc, "first_one", 0, 9)?)?, 0);
-    assert_eq!(rt; table.install(&tree, derived, make_spec(alloc, "second", -3, 9)?)?, 1);
+    assert_eq!(rt;
+        table.install(&tree, base, make_spec(alloc, "first_one", 0, 9)?)?,
+        0
+    );
+    assert_eq!(rt;
+        table.install(&tree, derived, make_spec(alloc, "second", -3, 9)?)?,
+        1
+    );
     assert_eq!(rt; table.find(&tree, derived, "first-one"), Some(0));
     assert_eq!(rt; table.find(&tree, derived, "second"), Some(1));
     assert_eq!(rt; table.find(&tree, base, "second"), None);

@@ -88,7 +88,7 @@ name_of_entry (x ∷ es) (suc t) k e h = name_of_entry es t k e h
 pub IsTree-append : (types : List GType) (g : GType) → IsTree types → length types < 256 → ForSome g.parent (λ p. p < length types) → IsTree (types ++ g ∷ [])
 IsTree-append types g tree room parent = record {
   parents_first = λ t p h. elim (cases_lt t (length types)) [
-      inl l ↦ tree.parents_first t p (sym (ap (λ r. r.parent) (read-front no_type g types t l)) ∙ h)
+    | inl l ↦ tree.parents_first t p (sym (ap (λ r. r.parent) (read-front no_type g types t l)) ∙ h)
     | inr l ↦ at_end t p l h
   ];
   few = rw (length-append types (g ∷ [])) (omega arith);
@@ -96,8 +96,9 @@ IsTree-append types g tree room parent = record {
   where
     last : (t p : ℕ) → t ≡ length types → parent_of (types ++ g ∷ []) t ≡ Some p → p < t
     last t p e h = rw e (parent p (sym (ap (λ r. r.parent) (read-last no_type g types)) ∙ sym (ap (λ j. parent_of (types ++ g ∷ []) j) e) ∙ h))
+
     at_end : (t p : ℕ) → length types ≤ t → parent_of (types ++ g ∷ []) t ≡ Some p → p < t
     at_end t p l h = elim (cases_lt (length types) t) [
-        inl m ↦ absurd (none-some p (sym (ap (λ r. r.parent) (read-past no_type (types ++ g ∷ []) t (rw (length-append types (g ∷ [])) (omega arith)))) ∙ h))
+      | inl m ↦ absurd (none-some p (sym (ap (λ r. r.parent) (read-past no_type (types ++ g ∷ []) t (rw (length-append types (g ∷ [])) (omega arith)))) ∙ h))
       | inr m ↦ last t p (omega arith) h
     ]

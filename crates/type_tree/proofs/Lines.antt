@@ -1,9 +1,8 @@
 -- The line from a type up to the root.
-use Rattle.std.proofs.Common.{◌≡◌, ℕ, zero, suc, ◌+◌, ◌<◌, ◌≤◌, Bool, true, false, ◌||◌, List, [], ◌∷◌, length, Option, None, Some, IfSome, refl, sym, ap, ◌∙◌, arith, add-one, inl, inr}
+use Rattle.std.proofs.Common.{◌≡◌, ℕ, zero, suc, ◌+◌, ◌<◌, ◌≤◌, true, false, ◌||◌, List, [], ◌∷◌, length, Option, None, Some, IfSome, refl, sym, ap, ◌∙◌, arith, add-one, inl, inr}
 use Rattle.std.specs.List.{list_any}
 use Rattle.std.proofs.lemmas.Bool.{cases_lt}
 use Rattle.std.proofs.lemmas.Option.{none-some}
-use Rattle.ui_machine.specs.Seq.{read}
 use Rattle.ui_machine.specs.Types.{GType}
 use Rattle.ui_machine.specs.Text.{no_type}
 use Rattle.ui_machine.specs.Ancestry.{parent_of, line_from, is_a, is_or_implements, depth}

@@ -1,5 +1,5 @@
 -- A type's place, by its name.
-use Rattle.std.proofs.Common.{◌≡◌, ℕ, zero, suc, ◌+◌, Bool, true, false, cond, nat_eq, ◌&&◌, List, [], ◌∷◌, ◌++◌, map, string_eq, string_bytes, String, Option, None, Some, refl, sym, ap, ◌∙◌, position, if◌then◌else◌, add-one, arith}
+use Rattle.std.proofs.Common.{◌≡◌, ℕ, suc, Bool, true, false, cond, nat_eq, ◌&&◌, List, [], ◌∷◌, ◌++◌, map, string_eq, string_bytes, String, Option, None, Some, refl, sym, ap, ◌∙◌, position, if◌then◌else◌, add-one, arith}
 use Rattle.std.specs.List.{position_from}
 use Rattle.std.specs.Map.{keys_of}
 use Rattle.std.proofs.lemmas.Bool.Decides.{nat_tests}
@@ -10,7 +10,7 @@ use Rattle.type_tree.specs.Entry.{type_of}
 use Rattle.std.specs.Str.{bytes_eq}
 use Rattle.indexmap.specs.IndexMap.{insert_entry}
 use Rattle.std.proofs.lemmas.Iterator.Adapters.{position_from-zero}
-use Rattle.ui_machine.specs.Names.{same_name, place_from, place_named}
+use Rattle.ui_machine.specs.Names.{same_name, place_from}
 use Rattle.type_tree.specs.declared.entry.TypeEntry.{TypeEntry}
 use Rattle.type_tree.specs.Adding.{find_type}
 use Rattle.type_tree.proofs.Entries.{typed, name-type_of}
@@ -21,7 +21,6 @@ nat_eq-comm x y = grind (arith, nat_tests)
 cond-and : (b c : Bool) → cond b c false ≡ (b && c)
 cond-and true c = refl
 cond-and false c = refl
-
 
 -- two names are one where their bytes are
 pub same_name-bytes_eq : (xs ys : List ℕ) → same_name ys xs ≡ bytes_eq xs ys
@@ -56,8 +55,10 @@ insert_entry-fresh name entry i (e ∷ es) h =
   where
     same : same_name (typed e).name (string_bytes name) ≡ bytes_eq (string_bytes name) (string_bytes e.0)
     same = ap (λ n. same_name n (string_bytes name)) (name-type_of (string_bytes e.0) e.1) ∙ same_name-bytes_eq (string_bytes name) (string_bytes e.0)
+
     rest : Option ℕ
     rest = place_from (λ g. g.name) (suc i) (map typed es) (string_bytes name)
+
     by : (b : Bool) → bytes_eq (string_bytes name) (string_bytes e.0) ≡ b → (rest ≡ None → insert_entry string_eq es name entry ≡ es ++ (name, entry) ∷ [])
         → insert_entry string_eq (e ∷ es) name entry ≡ (e ∷ es) ++ (name, entry) ∷ []
     by true q after = absurd (none-some i (sym h ∙ ap (λ b. cond b (Some i) rest) (same ∙ q)))
@@ -71,6 +72,6 @@ pub types-insert_entry : {A : Type 0} (es new : List (String A × TypeEntry)) (n
     → map typed new ≡ types ++ type_of bytes entry ∷ []
 types-insert_entry es new name entry types bytes v n fresh e =
     let none : find_type (map typed es) (string_bytes name) ≡ None =
-        ap (λ l. find_type l (string_bytes name)) v ∙ ap (find_type types) n ∙ fresh in
+    ap (λ l. find_type l (string_bytes name)) v ∙ ap (find_type types) n ∙ fresh in
     ap (map typed) (e ∙ insert_entry-fresh name entry 0 es none) ∙ map-append typed es ((name, entry) ∷ [])
     ∙ ap (λ l. l ++ type_of (string_bytes name) entry ∷ []) v ∙ ap (λ b. types ++ type_of b entry ∷ []) n

@@ -1,5 +1,5 @@
 -- The first required type that a class would not be, interface by interface.
-use Rattle.std.proofs.Common.{◌≡◌, ℕ, suc, ◌+◌, ◌<◌, Bool, true, false, cond, List, [], ◌∷◌, ◌++◌, length, get_or, drop, Option, None, Some, refl, sym, ap, ◌∙◌, add-one, drop-cons}
+use Rattle.std.proofs.Common.{◌≡◌, ℕ, ◌+◌, ◌<◌, Bool, true, false, cond, List, [], ◌∷◌, ◌++◌, length, get_or, drop, Option, None, Some, refl, sym, ap, ◌∙◌, add-one, drop-cons}
 use Rattle.std.specs.List.{find, flat_map, filter_map, cons_option}
 use Rattle.std.proofs.lemmas.Option.{none-some}
 use Rattle.type_tree.specs.Adding.{first_required}

@@ -1,5 +1,5 @@
 -- Lists of names, behind references or not.
-use Rattle.std.proofs.Common.{◌≡◌, ◌∙◌, ℕ, Bool, ◌&&◌, List, [], ◌∷◌, map, Option, None, Result, Bor, is_some, refl, sym, ap, subst}
+use Rattle.std.proofs.Common.{◌≡◌, ◌∙◌, ℕ, ◌&&◌, List, [], ◌∷◌, map, Option, None, Result, Bor, is_some, refl, sym, ap, subst}
 use Rattle.ui_machine.specs.Types.{GType}
 use Rattle.ui_machine.specs.Types as sorts
 use Rattle.type_tree.specs.declared.error.TypeError.{TypeError}
@@ -23,7 +23,7 @@ pub new_class_is : (types : List GType) (name parent : List ℕ) (flags : TypeFl
     ≡ record { name = name; sort = sorts.class; parent = p; is_abstract = flags.is_abstract; is_final = flags.is_final; interfaces = items; members = [] }
 new_class_is types name parent flags names p items e f =
     ap (λ l. record { name = name; sort = sorts.class; parent = class_named types parent; is_abstract = flags.is_abstract; is_final = flags.is_final; interfaces = l; members = [] })
-        (filter_map_texts (interface_named types) names ∙ sym f)
+    (filter_map_texts (interface_named types) names ∙ sym f)
     ∙ ap (λ q. record { name = name; sort = sorts.class; parent = q; is_abstract = flags.is_abstract; is_final = flags.is_final; interfaces = items; members = [] }) (sym e)
 
 pub new_interface_is : (types : List GType) (name : List ℕ) (names : List (Bor (List ℕ))) (items : List ℕ)

@@ -1,6 +1,6 @@
 -- Which types are added to a tree, and why not: each fault is that of the first test that fails (GObject manual, GType: g_type_register_static
 -- and g_type_add_interface_static).
-use Rattle.std.specs.Prelude.{◌≡◌, ℕ, ◌<◌, Bool, true, false, cond, not, ◌||◌, nat_eq, nat_le, List, [], ◌∷◌, ◌++◌, length, Option, None, Some, is_some, Result, Ok, Err}
+use Rattle.std.specs.Prelude.{◌≡◌, ℕ, Bool, true, false, cond, not, ◌||◌, nat_eq, nat_le, List, [], ◌∷◌, ◌++◌, length, Option, None, Some, is_some, Result, Ok, Err}
 use Rattle.std.specs.List.{filter_map, find, flat_map, list_all, list_any}
 use Rattle.ui_machine.specs.Seq.{read}
 use Rattle.ui_machine.specs.Names.{place_named}
@@ -136,7 +136,7 @@ new_class types name parent flags interfaces = record {
   is_abstract = flags.is_abstract;
   is_final = flags.is_final;
   interfaces = filter_map (interface_named types) interfaces;
-  members = []
+  members = [];
 }
 
 abbrev pub new_interface : List GType → List ℕ → List (List ℕ) → GType

@@ -1,5 +1,5 @@
 -- What the entries of a tree stand for.
-use Rattle.std.specs.Prelude.{ℕ, pos, false, List, [], ◌∷◌, map, Option, None, string_bytes, String}
+use Rattle.std.specs.Prelude.{ℕ, pos, false, List, [], map, None, string_bytes}
 use Rattle.ui_machine.specs.Types.{GType, Member}
 use Rattle.ui_machine.specs.Types as sorts
 use Rattle.type_tree.specs.declared.member.EnumMember.{EnumMember}

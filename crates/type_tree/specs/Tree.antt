@@ -1,5 +1,5 @@
 -- What is so of every tree.
-use Rattle.std.specs.Prelude.{◌≡◌, ℕ, ◌<◌, ◌≤◌, List, length, Option, Some}
+use Rattle.std.specs.Prelude.{◌≡◌, ℕ, ◌<◌, ◌≤◌, List, length, Some}
 use Rattle.ui_machine.specs.Types.{GType}
 use Rattle.ui_machine.specs.Ancestry.{parent_of}
 

@@ -21,7 +21,11 @@ impl TypeTree {
         ensures within { IfSome result (λ t. t < length self.now) }
     {
         let t = self.find(name)?;
-        if self.sort(t) == TypeSort::Class { Some(t) } else { None }
+        if self.sort(t) == TypeSort::Class {
+            Some(t)
+        } else {
+            None
+        }
     }
 
     // The interface of a name.
@@ -29,7 +33,11 @@ impl TypeTree {
         ensures { result ≡ interface_named self.now name.now }
     {
         let t = self.find(name)?;
-        if self.sort(t) == TypeSort::Interface { Some(t) } else { None }
+        if self.sort(t) == TypeSort::Interface {
+            Some(t)
+        } else {
+            None
+        }
     }
 
     // The class or interface of a name.
@@ -84,21 +92,30 @@ impl TypeTree {
     fn find_interfaces(&self, alloc: Global, names: &[&str]) -> Result<Vec<TypeId>, AllocError>
         ensures { IfOk result (λ v. v.items ≡ filter_map (λ name. interface_named self.now name.now) names.now) }
     {
-        names.iter().filter_map(|name| self.find_interface(name)).collect(alloc)
+        names
+            .iter()
+            .filter_map(|name| self.find_interface(name))
+            .collect(alloc)
     }
 
     // The classes and interfaces of these names.
     fn find_all_required(&self, alloc: Global, names: &[&str]) -> Result<Vec<TypeId>, AllocError>
         ensures { IfOk result (λ v. v.items ≡ filter_map (λ name. required_named self.now name.now) names.now) }
     {
-        names.iter().filter_map(|name| self.find_required(name)).collect(alloc)
+        names
+            .iter()
+            .filter_map(|name| self.find_required(name))
+            .collect(alloc)
     }
 
     // Whether a type is among the interfaces of these names.
     fn is_named(&self, names: &[&str], t: TypeId) -> bool
         ensures { result ≡ list_any (nat_eq t) (filter_map (λ name. interface_named self.now name.now) names.now) }
     {
-        names.iter().filter_map(|name| self.find_interface(name)).any(|u| t == u)
+        names
+            .iter()
+            .filter_map(|name| self.find_interface(name))
+            .any(|u| t == u)
     }
 
     // Whether a class of this parent and these interfaces is the type.
@@ -113,14 +130,17 @@ impl TypeTree {
         ensures { result ≡ find (λ t. not (would_be self.now parent (filter_map (λ name. interface_named self.now name.now) interfaces.now) t))
             (required_by self.now interface) }
     {
-        self.interfaces(interface).iter().copied().find(|t| !self.would_be(parent, interfaces, *t))
+        self.interfaces(interface)
+            .iter()
+            .copied()
+            .find(|t| !self.would_be(parent, interfaces, *t))
     }
 
     // The same of the interface of a name.
     fn missing_of(&self, parent: TypeId, interfaces: &[&str], name: &str) -> Option<TypeId>
         ensures { result
             ≡ first_required (λ t. not (would_be self.now parent (filter_map (λ name. interface_named self.now name.now) interfaces.now) t))
-                (required_by self.now) (interface_named self.now name.now) }
+            (required_by self.now) (interface_named self.now name.now) }
     {
         match self.find_interface(name) {
             Some(interface) => self.missing_in(parent, interfaces, interface),
@@ -145,7 +165,7 @@ impl TypeTree {
     fn child_fault(&self, parent: TypeId, interfaces: &[&str]) -> Option<TypeError>
         ensures { result
             ≡ child_fault self.now parent (are_named (λ name. interface_named self.now name.now) interfaces.now)
-                (filter_map (λ name. interface_named self.now name.now) interfaces.now) }
+            (filter_map (λ name. interface_named self.now name.now) interfaces.now) }
     {
         if !self.are_interfaces(interfaces) {
             return Some(TypeError::UnknownParent);
@@ -212,7 +232,13 @@ impl TypeTree {
 
     /// Adds a class under a parent, with the interfaces that it implements. The name is tested first, then whether it is there already,
     /// parent and interfaces, whether the parent is final, what the interfaces require, and room and depth.
-    pub fn add_class(&mut self, name: &str, parent: &str, flags: TypeFlags, interfaces: &[&str]) -> Result<TypeId, TypeError>
+    pub fn add_class(
+        &mut self,
+        name: &str,
+        parent: &str,
+        flags: TypeFlags,
+        interfaces: &[&str],
+    ) -> Result<TypeId, TypeError>
         ensures { let names = map (λ n. n.now) interfaces.now in
             Adds result (class_fault self.old name.now parent.now names) (new_class self.old name.now parent.now flags names) self.old self.new }
     {
@@ -221,7 +247,14 @@ impl TypeTree {
         }
         let parent = self.find_class(parent);
         let interfaces = self.find_interfaces(self.allocator(), interfaces)?;
-        self.append(name, TypeEntry::Class(ClassEntry { parent, flags, interfaces }))
+        self.append(
+            name,
+            TypeEntry::Class(ClassEntry {
+                parent,
+                flags,
+                interfaces,
+            }),
+        )
     }
 
     /// Adds an interface, with the classes and interfaces that it requires. The name is tested first, then whether it is there already,

@@ -19,14 +19,29 @@ fn refuses_by_the_first_failing_test(rt: HostRuntime) -> Result<(), Fail> {
         is_abstract: false,
         is_final: true,
     };
-    assert_eq!(rt; tree.add_class("ab", "GObject", TypeFlags::NONE, &[]), Err(TypeError::BadName));
+    assert_eq!(rt;
+        tree.add_class("ab", "GObject", TypeFlags::NONE, &[]),
+        Err(TypeError::BadName)
+    );
     let base = tree.add_class("Base", "GObject", TypeFlags::NONE, &[])?;
-    assert_eq!(rt; tree.add_class("Base", "GObject", TypeFlags::NONE, &[]), Err(TypeError::Duplicate));
-    assert_eq!(rt; tree.add_class("Child", "Nope", TypeFlags::NONE, &[]), Err(TypeError::UnknownParent));
+    assert_eq!(rt;
+        tree.add_class("Base", "GObject", TypeFlags::NONE, &[]),
+        Err(TypeError::Duplicate)
+    );
+    assert_eq!(rt;
+        tree.add_class("Child", "Nope", TypeFlags::NONE, &[]),
+        Err(TypeError::UnknownParent)
+    );
     let _ = tree.add_class("Sealed", "Base", sealed, &[])?;
-    assert_eq!(rt; tree.add_class("Child", "Sealed", TypeFlags::NONE, &[]), Err(TypeError::FinalParent));
+    assert_eq!(rt;
+        tree.add_class("Child", "Sealed", TypeFlags::NONE, &[]),
+        Err(TypeError::FinalParent)
+    );
     let playable = tree.add_interface("Playable", &["Base"])?;
-    assert_eq!(rt; tree.add_class("Child", "GObject", TypeFlags::NONE, &["Playable"]), Err(TypeError::Prerequisite(base)));
+    assert_eq!(rt;
+        tree.add_class("Child", "GObject", TypeFlags::NONE, &["Playable"]),
+        Err(TypeError::Prerequisite(base))
+    );
     let player = tree.add_class("Player", "Base", TypeFlags::NONE, &["Playable"])?;
     let child = tree.add_class("Child", "Player", TypeFlags::NONE, &[])?;
     assert!(rt; tree.is_a(child, playable));

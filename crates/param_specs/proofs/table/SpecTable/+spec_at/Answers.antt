@@ -13,7 +13,7 @@ returns-in_default t c = spec-root c.args.tree.now c.in_default.ensures.tree c.a
 pub own_spec-requires-else-slot-inherited : goal.own_spec-requires-else-slot-inherited
 own_spec-requires-else-slot-inherited t c =
     let whole = ap length (specs_of-child c.args.tree.now c.in-Some.ensures.tree c.args.self.now c.args.t c.in-Some.parent (sym c.in-Some.ensures.parent))
-      ∙ length-append (specs_of c.args.tree.now c.args.self.now c.in-Some.parent) (own_of c.args.self.now c.args.t) in
+    ∙ length-append (specs_of c.args.tree.now c.args.self.now c.in-Some.parent) (own_of c.args.self.now c.args.t) in
     let within = subst (λ n. c.args.slot < n) whole c.requires in
     omega (arith, within, c.slots_of-inherited.ensures.count, c.if-slot-inherited.false)
 

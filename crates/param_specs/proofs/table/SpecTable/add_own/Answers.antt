@@ -12,4 +12,4 @@ pub returns-in_err-add-clause-err : goal.returns-in_err-add-clause-err
 returns-in_err-add-clause-err c =
     on_err_if c.from_residual-in_err-add.result
     (subst (λ old. SameSpecs old (lists_of (λ v. v.items) c.add.new.lists.items)) c.self.view_is
-      (SameSpecs-after (lists_of (λ v. v.items) c.self.inside.own.items) (lists_of (λ v. v.items) c.grow.new.lists.items) (lists_of (λ v. v.items) c.add.new.lists.items) c.in_ok-grow.ensures.same c.in_err-add.ensures.err))
+    (SameSpecs-after (lists_of (λ v. v.items) c.self.inside.own.items) (lists_of (λ v. v.items) c.grow.new.lists.items) (lists_of (λ v. v.items) c.add.new.lists.items) c.in_ok-grow.ensures.same c.in_err-add.ensures.err))

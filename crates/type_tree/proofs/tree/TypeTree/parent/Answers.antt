@@ -4,4 +4,3 @@ use Rattle.type_tree.proofs.tree.TypeTree.parent.Goals as goal
 
 pub returns-clause-tree : goal.returns-clause-tree
 returns-clause-tree c = subst IsTree c.self.view_is c.self.invariant
-
