@@ -11,3 +11,4 @@ pub mod SpecAt
 pub mod PlainSets
 pub mod Left
 pub mod Notified
+pub mod Built

@@ -24,11 +24,7 @@ impl Engine {
     fn built(&self, place: Place) -> Result<u64, Arm>
         ensures { Shows (λ id. id) result (held_object (world_of self.now.world) place.0) }
     {
-        self.world
-            .builder
-            .get(usize::from(place.0))
-            .copied()
-            .ok_or(Arm::Operand)
+        self.world.built(usize::from(place.0)).ok_or(Arm::Operand)
     }
 
     // A set by an event.

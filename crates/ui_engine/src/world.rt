@@ -1,6 +1,6 @@
 //! All but the tasks.
 
-ghost use Rattle.std.specs.Prelude.{◌≡◌, ◌∷◌, [], ◌++◌, OnOk, OnErr, map, string_bytes};
+ghost use Rattle.std.specs.Prelude.{◌≡◌, ◌∷◌, [], ◌++◌, OnOk, OnErr, map, slice_get, string_bytes};
 ghost use Rattle.ui_engine.specs.View.{world_of};
 
 use crate::heap::Heap;
@@ -26,5 +26,12 @@ impl World {
     {
         self.transcript.push(line)?;
         Ok(())
+    }
+
+    /// The identity of what was built at a place.
+    pub fn built(&self, place: usize) -> Option<u64>
+        ensures { result ≡ slice_get self.now.builder.items place }
+    {
+        self.builder.get(place).copied()
     }
 }

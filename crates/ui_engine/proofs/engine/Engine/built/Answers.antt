@@ -1,16 +1,16 @@
-use Rattle.std.proofs.Common.{rules, ◌≡◌, OnErr, ℕ, ◌+◌, ◌-◌, ◌*◌, ◌<◌, ◌≤◌, length, ◌/◌, ◌%◌, Bool, true, false, nat_eq, nat_lt, List, [], ◌∷◌, ◌++◌, slice_index_or, slice_set, bit_and, bit_or, Fits, w8, w32, w64, Bor, MutBor}
-use Rattle.ui_machine.specs.Answers.{Goes}
-use Rattle.ui_machine.specs.Steps.{uncounted, carrying, carrying_set, carrying_get}
-use Rattle.ui_machine.specs.Definition as machine
-use Rattle.g_values.specs.View.{value_view}
-use Rattle.builder_defs.specs.Meaning.{event_of}
-use Rattle.ui_machine.specs.Builds.{held_object}
+use Rattle.std.proofs.Common.{◌≡◌, ℕ, Option, Some, None, slice_get, refl}
+use Rattle.std.specs.Option.{ok_or}
+use Rattle.ui_machine.specs.declared.arm.Arm.TheVariants as arms
+use Rattle.ui_machine.specs.Answers.{known}
 use Rattle.ui_engine.specs.ObjectView.{Shows}
-use Rattle.ui_engine.specs.View.{world_of}
-use Rattle.ui_engine.specs.TaskView.{agenda_of}
-use Rattle.ui_engine.specs.EngineView.{config_of}
+use Rattle.ui_engine.proofs.Built.{held_is}
 use Rattle.ui_engine.proofs.engine.Engine.built.Goals as goal
 
--- src/carrying.rt:24:5
+shows_known : (found : Option ℕ) → Shows (λ (id : ℕ). id) (ok_or found arms.Operand) (known arms.Operand found)
+shows_known None = refl
+shows_known (Some id) = refl
+
 pub returns : goal.returns
-returns c = ?
+returns c =
+    let e = held_is c.args.self.now.world.builder.items c.args.place.0 in
+    rw (c.ok_or.ensures.value, c.built.ensures, c.from.ensures, e) (shows_known (slice_get c.args.self.now.world.builder.items c.args.place.0))
