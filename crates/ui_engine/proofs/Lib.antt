@@ -10,3 +10,4 @@ pub mod Falls
 pub mod SpecAt
 pub mod PlainSets
 pub mod Left
+pub mod Building

@@ -18,7 +18,7 @@ use crate::texts::construct_line;
 use builder_defs::Definition;
 use g_values::Value;
 use std::alloc::{AllocError, Global};
-use type_tree::{TypeFlags, TypeId};
+use type_tree::TypeId;
 use ui_machine::{Arm, Halt};
 
 // The type under which objects begin floating.
@@ -113,7 +113,7 @@ impl Engine {
         let values = defaults(self.alloc, definition, class)?;
         let mut steps = Vec::new(self.alloc);
         steps.push(Making::Thaw)?;
-        let object = Object::new(self.alloc, class, place as u16, values);
+        let object = Object::new(self.alloc, class, place, values);
         let id = self.world.heap.create(object)?;
         if types.is_a(class, TypeId::new(INITIALLY_UNOWNED)) {
             self.world.floating.push(id)?;
@@ -154,6 +154,9 @@ fn defaults(alloc: Global, definition: &Definition, class: TypeId) -> Result<Vec
             return Ok(values);
         };
         values.push(spec.default.copied()?)?;
-        slot += 1;
+        let Some(next) = slot.checked_add(1) else {
+            return Err(AllocError);
+        };
+        slot = next;
     }
 }
