@@ -1,6 +1,6 @@
 //! The build: how objects are made, and how their construction goes on and ends.
 
-ghost use Rattle.std.specs.Prelude.{◌≡◌, true, None, map, OnErr, IfOk};
+ghost use Rattle.std.specs.Prelude.{◌≡◌, true, None, cond, [], ◌∷◌, ◌++◌, map, OnOk, OnErr, IfOk};
 ghost use Rattle.ui_machine.specs.Answers.{Goes};
 ghost use Rattle.ui_machine.specs.Properties.{Spec};
 ghost use Rattle.ui_machine.specs.Lookups.{specs_of};
@@ -115,9 +115,8 @@ impl Engine {
         steps.push(Making::Thaw)?;
         let object = Object::new(self.alloc, class, place, values);
         let id = self.world.heap.create(object)?;
-        if types.is_a(class, TypeId::new(INITIALLY_UNOWNED)) {
-            self.world.floating.push(id)?;
-        }
+        let floats = types.is_a(class, TypeId::new(INITIALLY_UNOWNED));
+        float(&mut self.world.floating, id, floats)?;
         let line = construct_line(self.alloc, id, definition.class_name(class))?;
         self.stack.push(Task::Constructing {
             object: id,
@@ -135,12 +134,23 @@ impl Engine {
             (config_of definition.now self.new) }
         ensures quiet { OnErr result ((world_of self.new.world).transcript ≡ (world_of self.old.world).transcript) }
     {
+        let _types = definition.types();
         if place >= definition.objects().len() {
             return Ok(());
         }
         self.stack.push(Task::Building { place: place + 1 })?;
         self.making(definition, place)
     }
+}
+
+// A new object floats or not.
+fn float(floating: &mut Vec<u64>, id: u64, floats: bool) -> Result<(), AllocError>
+    ensures { OnOk result (floating.new.items ≡ cond floats (floating.old.items ++ id ∷ []) floating.old.items) }
+{
+    if floats {
+        floating.push(id)?;
+    }
+    Ok(())
 }
 
 // The defaults of a class's properties, by slot.
