@@ -12,3 +12,4 @@ pub mod PlainSets
 pub mod Left
 pub mod Notified
 pub mod Built
+pub mod Building

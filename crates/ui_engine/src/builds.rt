@@ -1,6 +1,6 @@
 //! The build: how objects are made, and how their construction goes on and ends.
 
-ghost use Rattle.std.specs.Prelude.{◌≡◌, true, None, map, OnErr, IfOk};
+ghost use Rattle.std.specs.Prelude.{◌≡◌, true, None, cond, [], ◌∷◌, ◌++◌, map, OnOk, OnErr, IfOk};
 ghost use Rattle.ui_machine.specs.Answers.{Goes};
 ghost use Rattle.ui_machine.specs.Properties.{Spec};
 ghost use Rattle.ui_machine.specs.Lookups.{specs_of};
@@ -18,7 +18,7 @@ use crate::texts::construct_line;
 use builder_defs::Definition;
 use g_values::Value;
 use std::alloc::{AllocError, Global};
-use type_tree::{TypeFlags, TypeId};
+use type_tree::TypeId;
 use ui_machine::{Arm, Halt};
 
 // The type under which objects begin floating.
@@ -113,11 +113,10 @@ impl Engine {
         let values = defaults(self.alloc, definition, class)?;
         let mut steps = Vec::new(self.alloc);
         steps.push(Making::Thaw)?;
-        let object = Object::new(self.alloc, class, place as u16, values);
+        let object = Object::new(self.alloc, class, place, values);
         let id = self.world.heap.create(object)?;
-        if types.is_a(class, TypeId::new(INITIALLY_UNOWNED)) {
-            self.world.floating.push(id)?;
-        }
+        let floats = types.is_a(class, TypeId::new(INITIALLY_UNOWNED));
+        float(&mut self.world.floating, id, floats)?;
         let line = construct_line(self.alloc, id, definition.class_name(class))?;
         self.stack.push(Task::Constructing {
             object: id,
@@ -135,12 +134,23 @@ impl Engine {
             (config_of definition.now self.new) }
         ensures quiet { OnErr result ((world_of self.new.world).transcript ≡ (world_of self.old.world).transcript) }
     {
+        let _types = definition.types();
         if place >= definition.objects().len() {
             return Ok(());
         }
         self.stack.push(Task::Building { place: place + 1 })?;
         self.making(definition, place)
     }
+}
+
+// A new object floats or not.
+fn float(floating: &mut Vec<u64>, id: u64, floats: bool) -> Result<(), AllocError>
+    ensures { OnOk result (floating.new.items ≡ cond floats (floating.old.items ++ id ∷ []) floating.old.items) }
+{
+    if floats {
+        floating.push(id)?;
+    }
+    Ok(())
 }
 
 // The defaults of a class's properties, by slot.
@@ -154,6 +164,9 @@ fn defaults(alloc: Global, definition: &Definition, class: TypeId) -> Result<Vec
             return Ok(values);
         };
         values.push(spec.default.copied()?)?;
-        slot += 1;
+        let Some(next) = slot.checked_add(1) else {
+            return Err(AllocError);
+        };
+        slot = next;
     }
 }

@@ -19,7 +19,7 @@ use ui_machine::{Arm, Halt};
 #[derive(Drop)]
 pub struct Object {
     class: TypeId,
-    place: u16,
+    place: usize,
     values: Vec<Value>,
     queue: NotifyQueue,
 }
@@ -46,7 +46,7 @@ impl Model for Object {
 
 impl Object {
     /// An object with these values, whose notifications are frozen once.
-    pub fn new(alloc: Global, class: TypeId, place: u16, values: Vec<Value>) -> Self
+    pub fn new(alloc: Global, class: TypeId, place: usize, values: Vec<Value>) -> Self
         ensures { result ≡ made_object class place (map value_view values.items) }
     {
         let mut queue = NotifyQueue::new(alloc);

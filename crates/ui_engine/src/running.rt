@@ -15,6 +15,10 @@ use ui_machine::Halt;
 impl Engine {
     // Makes the first task's step.
     pub(crate) fn step(&mut self, definition: &Definition) -> Result<Made, Halt>
+        ensures step { agenda_of definition.now self.old.stack ≢ [] → Goes result
+            (act definition.now (world_of self.old.world) (agenda_of definition.now self.old.stack) self.old.counted)
+            (config_of definition.now self.new) }
+        ensures nothing { IfOk result (λ made. (made ≡ mades.Nothing) ↔ (agenda_of definition.now self.old.stack ≡ [])) }
         ensures quiet { OnErr result ((world_of self.new.world).transcript ≡ (world_of self.old.world).transcript) }
     {
         let Some(task) = self.stack.pop() else {

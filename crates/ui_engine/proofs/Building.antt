@@ -1,0 +1,139 @@
+-- The build of a basic definition: what each step of it starts.
+use Rattle.std.proofs.Common.{◌≡◌, ℕ, zero, suc, ◌≤◌, Bool, true, false, cond, ◌||◌, not, nat_eq, List, [], ◌∷◌, ◌++◌, length, map, take, drop, Option, Some, None, Ok, Err, slice_get, refl, sym, ap, ◌∙◌, arith}
+use Rattle.std.specs.List.{filter}
+use Rattle.std.proofs.lemmas.Option.{slice_get_within, get_or_from_slice_get}
+use Rattle.std.proofs.Math.Seq.{drop-cons}
+use Rattle.ui_machine.specs.declared.arm.Arm.TheVariants as arms
+use Rattle.ui_machine.specs.Properties.{Spec, has_flags}
+use Rattle.ui_machine.specs.Definition.{Definition, Place, GivenProperty}
+use Rattle.ui_machine.specs.Lookups.{type_of, class_of, specs_of, place_at}
+use Rattle.ui_machine.specs.Lines as lines
+use Rattle.ui_machine.specs.Config.{Making, thaws, Item, makes, Task, Constructing, Building, World}
+use Rattle.ui_machine.specs.Answers.{Answer, ◌>>=◌, known, only_if}
+use Rattle.ui_machine.specs.Worlds.{Started, starts, said, without}
+use Rattle.ui_machine.specs.Builds.{is_at_construction, construct_sets, constructed_runs, runs_above, run_of, given_sets, construction, new_object, with_object, making, made_items, adopts_if, first_peer, peers_of, peer_for}
+use Rattle.ui_machine.specs.Steps.{uncounted, building, building_object}
+use Rattle.g_values.specs.declared.value.Value.{Value}
+use Rattle.g_values.specs.View.{value_view}
+use Rattle.builder_defs.specs.Meaning.{IsPlain, IsBasic}
+use Rattle.ui_engine.specs.TaskView.{build_from}
+
+-- ** lists
+
+pub kept_without : (id : ℕ) (ids : List ℕ) → filter (λ i. not (nat_eq i id)) ids ≡ without id ids
+kept_without id [] = refl
+kept_without id (i ∷ is) = rw (kept_without id is) (by (nat_eq i id))
+  where
+    by : (b : Bool) → cond (not b) (i ∷ without id is) (without id is) ≡ cond b (without id is) (i ∷ without id is)
+    by true = refl
+    by false = refl
+
+one_more : {A : Type 0} (xs : List A) (x : A) (ys : List A) → xs ++ x ∷ ys ≡ (xs ++ x ∷ []) ++ ys
+one_more [] x ys = refl
+one_more (z ∷ xs) x ys = ap (λ zs. z ∷ zs) (one_more xs x ys)
+
+drop_at : {A : Type 0} (xs : List A) (i : ℕ) (x : A) → slice_get xs i ≡ Some x → drop i xs ≡ x ∷ drop (suc i) xs
+drop_at xs i x at = drop-cons xs i x (slice_get_within xs i x at) ∙ ap (λ y. y ∷ drop (suc i) xs) (get_or_from_slice_get xs i x x at)
+
+drop_past : {A : Type 0} (xs : List A) (i : ℕ) → length xs ≤ i → drop i xs ≡ []
+drop_past [] zero past = refl
+drop_past [] (suc i) past = refl
+drop_past (x ∷ xs) zero past = absurd (omega arith)
+drop_past (x ∷ xs) (suc i) past = drop_past xs i (omega arith)
+
+-- ** constructions
+
+not_at_construction : (s : Spec) → IsPlain s → is_at_construction s ≡ false
+not_at_construction s plain = ap (λ f. has_flags 4 f || has_flags 8 f) plain.flags
+
+no_construct_sets : (w : World) (place : ℕ) (given : List GivenProperty) (slot : ℕ) (specs : List Spec) → ((i : ℕ) (s : Spec) → slice_get specs i ≡ Some s → IsPlain s)
+    → construct_sets w place given slot specs ≡ []
+no_construct_sets w place given slot [] plain = refl
+no_construct_sets w place given slot (s ∷ specs) plain =
+    rw (not_at_construction s (plain 0 s refl)) (no_construct_sets w place given (suc slot) specs (λ i t at. plain (suc i) t at))
+
+module _ (d : Definition) (basic : IsBasic d) where
+  no_runs_above : (n : ℕ) → ((class : ℕ) → constructed_runs n d class ≡ []) → (above : Option ℕ) → runs_above (constructed_runs n d) above ≡ []
+  no_runs_above n none None = refl
+  no_runs_above n none (Some class) = none class
+
+  no_runs : (n class : ℕ) → constructed_runs n d class ≡ []
+  no_runs zero class = refl
+  no_runs (suc n) class =
+      ap (λ program. runs_above (constructed_runs n d) (type_of d class).parent ++ run_of program) (basic.constructed class)
+      ∙ ap (λ above. above ++ []) (no_runs_above n (no_runs n) (type_of d class).parent)
+
+  module _ (w : World) (place : ℕ) (p : Place) (at : slice_get d.places place ≡ Some p) where
+    only_thaws : construction d w place p ≡ thaws ∷ []
+    only_thaws =
+        ap (λ steps. steps ++ (constructed_runs 16 d p.class ++ (given_sets w place (specs_of d p.class) p.given ++ thaws ∷ [])))
+            (no_construct_sets w place p.given 0 (specs_of d p.class) (λ i s has. basic.plain p.class i s has))
+        ∙ ap (λ steps. steps ++ (given_sets w place (specs_of d p.class) p.given ++ thaws ∷ [])) (no_runs 16 p.class)
+        ∙ ap (λ given. given_sets w place (specs_of d p.class) given ++ thaws ∷ []) (basic.given place p at)
+
+    pub made_there : (type_of d p.class).is_abstract ≡ false
+        → making d w place None true ≡ starts (said d (with_object d w (new_object d place p None)) (lines.construct (suc (length w.objects)) (type_of d p.class).name)) (Constructing (suc (length w.objects)) (thaws ∷ []) true ∷ [])
+    unfolding making
+    made_there concrete =
+        rw (at, concrete)
+        (ap (λ steps. starts (said d (with_object d w (new_object d place p None)) (lines.construct (suc (length w.objects)) (type_of d p.class).name)) (Constructing (suc (length w.objects)) steps true ∷ [])) only_thaws)
+
+    pub abstract_there : (type_of d p.class).is_abstract ≡ true → making d w place None true ≡ Err arms.Abstract
+    unfolding making
+    abstract_there abstract = rw (at, abstract) refl
+
+    next_made : build_from d place ≡ makes place ∷ build_from d (suc place)
+    next_made =
+        ap (made_items place) (drop_at d.places place p at)
+        ∙ ap (λ b. cond b [] (makes place ∷ adopts_if place p.parent) ++ build_from d (suc place)) (basic.prototypes place p at)
+        ∙ ap (λ above. (makes place ∷ adopts_if place above) ++ build_from d (suc place)) (basic.parents place p at)
+
+    without_peer : peer_for d w place ≡ None
+    without_peer = ap (λ found. first_peer w.peers (peers_of found)) at ∙ ap (first_peer w.peers) (basic.peers place p at)
+
+    -- an item that waits below what making starts
+    below : (rest : List Task) (n : ℕ) (items : List Item) (a : Answer Started)
+        → uncounted (Building items ∷ rest) n a ≡ uncounted rest n (a >>= λ m. starts m.world (m.tasks ++ Building items ∷ []))
+    below rest n items (Ok s) = ap (λ tasks. Ok (record { world = s.world; agenda = tasks; counted = n })) (one_more s.tasks (Building items) rest)
+    below rest n items (Err arm) = refl
+
+    pub builds_next : (rest : List Task) (n : ℕ)
+        → uncounted rest n (building d w (build_from d place)) ≡ uncounted (Building (build_from d (suc place)) ∷ rest) n (making d w place None true)
+    unfolding building_object
+    builds_next rest n =
+        ap (λ items. uncounted rest n (building d w items)) next_made
+        ∙ ap (λ peer. uncounted rest n (making d w place peer true >>= λ m. starts m.world (m.tasks ++ Building (build_from d (suc place)) ∷ []))) without_peer
+        ∙ sym (below rest n (build_from d (suc place)) (making d w place None true))
+
+pub no_place : (d : Definition) (w : World) (place : ℕ) → slice_get d.places place ≡ None → making d w place None true ≡ Err arms.Code
+unfolding making
+no_place d w place none = rw none refl
+
+pub builds_nothing : (d : Definition) (w : World) (place : ℕ) → length d.places ≤ place → building d w (build_from d place) ≡ starts w []
+builds_nothing d w place past = ap (λ ps. building d w (made_items place ps)) (drop_past d.places place past)
+
+-- ** the defaults of a class
+
+pub all_taken : (specs : List Spec) (slot : ℕ) → slice_get specs slot ≡ None → take slot specs ≡ specs
+all_taken [] zero none = refl
+all_taken [] (suc slot) none = refl
+all_taken (s ∷ specs) zero none = cc
+all_taken (s ∷ specs) (suc slot) none = ap (λ ss. s ∷ ss) (all_taken specs slot none)
+
+one_taken : (specs : List Spec) (slot : ℕ) (s : Spec) → slice_get specs slot ≡ Some s → take (suc slot) specs ≡ take slot specs ++ s ∷ []
+one_taken [] slot s at = cc
+one_taken (t ∷ specs) zero s at = cc
+one_taken (t ∷ specs) (suc slot) s at = ap (λ ss. t ∷ ss) (one_taken specs slot s at)
+
+pub mapped_more : {A B : Type 0} (f : A → B) (xs : List A) (x : A) → map f (xs ++ x ∷ []) ≡ map f xs ++ f x ∷ []
+mapped_more f [] x = refl
+mapped_more f (y ∷ xs) x = ap (λ ys. f y ∷ ys) (mapped_more f xs x)
+
+pub one_default_more : (specs : List Spec) (slot : ℕ) (s : Spec) (values : List Value) (v : Value) → slice_get specs slot ≡ Some s → value_view v ≡ s.default
+    → map value_view values ≡ map (λ (t : Spec). t.default) (take slot specs) → map value_view (values ++ v ∷ []) ≡ map (λ (t : Spec). t.default) (take (suc slot) specs)
+one_default_more specs slot s values v at default before =
+    mapped_more value_view values v
+    ∙ ap (λ vs. vs ++ value_view v ∷ []) before
+    ∙ ap (λ x. map (λ (t : Spec). t.default) (take slot specs) ++ x ∷ []) default
+    ∙ sym (mapped_more (λ (t : Spec). t.default) (take slot specs) s)
+    ∙ ap (map (λ (t : Spec). t.default)) (sym (one_taken specs slot s at))
