@@ -13,3 +13,4 @@ pub mod Left
 pub mod Notified
 pub mod Built
 pub mod Building
+pub mod Acts

@@ -17,8 +17,6 @@ pub struct Engine {
 /// What a step was.
 #[derive(Clone, Copy, Debug, PartialEq, Eq)]
 pub enum Made {
-    /// Nothing was left to do.
-    Nothing,
     Uncounted,
     Counted,
 }

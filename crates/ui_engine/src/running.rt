@@ -1,10 +1,10 @@
-//! Steps, and runs of them.
+//! What each task does, as the machine's.
 
-ghost use Rattle.std.specs.Prelude.{◌≡◌, OnOk, OnErr, IfOk, IfErr};
+ghost use Rattle.std.specs.Prelude.{◌≡◌, ◌∷◌, OnErr, IfOk};
 ghost use Rattle.ui_machine.specs.Answers.{Goes};
 ghost use Rattle.ui_machine.specs.Steps.{act};
 ghost use Rattle.ui_engine.specs.View.{world_of};
-ghost use Rattle.ui_engine.specs.TaskView.{agenda_of};
+ghost use Rattle.ui_engine.specs.TaskView.{task_of, agenda_of};
 ghost use Rattle.ui_engine.specs.EngineView.{config_of, IsMade};
 
 use crate::engine::{Engine, Made};
@@ -13,17 +13,14 @@ use builder_defs::Definition;
 use ui_machine::Halt;
 
 impl Engine {
-    // Makes the first task's step.
-    pub(crate) fn step(&mut self, definition: &Definition) -> Result<Made, Halt>
-        ensures step { agenda_of definition.now self.old.stack ≢ [] → Goes result
-            (act definition.now (world_of self.old.world) (agenda_of definition.now self.old.stack) self.old.counted)
+    // Does what a task says, and answers whether that was counted.
+    pub(crate) fn act(&mut self, definition: &Definition, task: Task) -> Result<Made, Halt>
+        ensures step { Goes result
+            (act definition.now (world_of self.old.world) (task_of definition.now task ∷ agenda_of definition.now self.old.stack) self.old.counted)
             (config_of definition.now self.new) }
-        ensures nothing { IfOk result (λ made. (made ≡ mades.Nothing) ↔ (agenda_of definition.now self.old.stack ≡ [])) }
         ensures quiet { OnErr result ((world_of self.new.world).transcript ≡ (world_of self.old.world).transcript) }
+        ensures made { IfOk result (λ made. IsMade made definition.now task) }
     {
-        let Some(task) = self.stack.pop() else {
-            return Ok(Made::Nothing);
-        };
         match task {
             Task::Setting {
                 object,
