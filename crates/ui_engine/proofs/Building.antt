@@ -1,7 +1,8 @@
 -- The build of a basic definition: what each step of it starts.
-use Rattle.std.proofs.Common.{◌≡◌, ℕ, zero, suc, ◌≤◌, Bool, true, false, cond, ◌||◌, not, nat_eq, List, [], ◌∷◌, ◌++◌, length, map, take, drop, Option, Some, None, Ok, Err, slice_get, refl, sym, ap, ◌∙◌, arith}
+use Rattle.std.proofs.Common.{◌≡◌, ℕ, zero, suc, ◌<◌, ◌≤◌, Bool, true, false, cond, ◌||◌, not, nat_eq, List, [], ◌∷◌, ◌++◌, length, map, take, drop, Option, Some, None, option_map, Ok, Err, slice_get, refl, sym, ap, ◌∙◌, arith}
 use Rattle.std.specs.List.{filter}
-use Rattle.std.proofs.lemmas.Option.{slice_get_within, get_or_from_slice_get}
+use Rattle.std.proofs.lemmas.Option.{slice_get_within, get_or_from_slice_get, slice_get-map}
+use Rattle.std.proofs.lemmas.List.{length-map}
 use Rattle.std.proofs.Math.Seq.{drop-cons}
 use Rattle.ui_machine.specs.declared.arm.Arm.TheVariants as arms
 use Rattle.ui_machine.specs.Properties.{Spec, has_flags}
@@ -15,7 +16,8 @@ use Rattle.ui_machine.specs.Builds.{is_at_construction, construct_sets, construc
 use Rattle.ui_machine.specs.Steps.{uncounted, building, building_object}
 use Rattle.g_values.specs.declared.value.Value.{Value}
 use Rattle.g_values.specs.View.{value_view}
-use Rattle.builder_defs.specs.Meaning.{IsPlain, IsBasic}
+use Rattle.builder_defs.specs.declared.object_entry.ObjectEntry.{ObjectEntry}
+use Rattle.builder_defs.specs.Meaning.{IsPlain, IsBasic, plain_object}
 use Rattle.ui_engine.specs.TaskView.{build_from}
 
 -- ** lists
@@ -137,3 +139,22 @@ one_default_more specs slot s values v at default before =
     ∙ ap (λ x. map (λ (t : Spec). t.default) (take slot specs) ++ x ∷ []) default
     ∙ sym (mapped_more (λ (t : Spec). t.default) (take slot specs) s)
     ∙ ap (map (λ (t : Spec). t.default)) (sym (one_taken specs slot s at))
+
+-- ** the objects of a definition, by place
+
+pub place_there : (es : List ObjectEntry) (places : List Place) (i : ℕ) (e : ObjectEntry) → map plain_object es ≡ places → slice_get es i ≡ Some e → slice_get places i ≡ Some (plain_object e)
+place_there es places i e same at = ap (λ ps. slice_get ps i) (sym same) ∙ slice_get-map plain_object es i ∙ ap (option_map plain_object) at
+
+pub place_missing : (es : List ObjectEntry) (places : List Place) (i : ℕ) → map plain_object es ≡ places → slice_get es i ≡ None → slice_get places i ≡ None
+place_missing es places i same none = ap (λ ps. slice_get ps i) (sym same) ∙ slice_get-map plain_object es i ∙ ap (option_map plain_object) none
+
+-- an entry within the objects
+pub place_within : (es : List ObjectEntry) (places : List Place) (i : ℕ) → map plain_object es ≡ places → i < length es → (p : Place) × (slice_get places i ≡ Some p)
+place_within [] places i same small = absurd (omega arith)
+place_within (e ∷ es) places zero same small = (plain_object e, ap (λ ps. slice_get ps 0) (sym same))
+place_within (e ∷ es) places (suc i) same small =
+    let found = place_within es (map plain_object es) i refl (omega arith) in
+    (found.0, ap (λ ps. slice_get ps (suc i)) (sym same) ∙ found.1)
+
+pub past_places : (es : List ObjectEntry) (places : List Place) (i : ℕ) → map plain_object es ≡ places → length es ≤ i → length places ≤ i
+past_places es places i same past = let long = ap length (sym same) ∙ length-map es plain_object in omega (arith, long, past)
