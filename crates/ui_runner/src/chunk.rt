@@ -42,7 +42,7 @@ impl Chunk {
     pub fn next<R: Feed>(&mut self, reader: &mut R) -> Result<Option<u8>, DeviceFault>
         ensures byte { IfOk result (λ next. MatchOption next
             (Keeps (prepend_known self.old (R.left reader.old)) (prepend_known self.new (R.left reader.new))
-                × IsAtEnd (prepend_known self.new (R.left reader.new)))
+            × IsAtEnd (prepend_known self.new (R.left reader.new)))
             (λ b. Consumes (prepend_known self.old (R.left reader.old)) (prepend_known self.new (R.left reader.new)) (b ∷ []))) }
         ensures marks { MatchResult result (λ _. R.failed reader.new ≡ R.failed reader.old) (λ _. R.failed reader.new ≡ true) }
         ensures small { length self.new ≤ CHUNK_SIZE }

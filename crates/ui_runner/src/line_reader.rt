@@ -32,7 +32,7 @@ impl LineReader {
     pub fn next_line<R: Feed>(&mut self, reader: &mut R) -> Result<Option<Found>, DeviceFault>
         ensures reads { IfOk result (λ found.
             WhereKnown (prepend_known self.old.chunk (R.left reader.old)) (prepend_known self.new.chunk (R.left reader.new))
-                (λ xs ys. Reads found self.new.line.items xs ys)) }
+            (λ xs ys. Reads found self.new.line.items xs ys)) }
         ensures small { OnOk result (length self.new.chunk ≤ CHUNK_SIZE) }
         ensures marks { MatchResult result (λ _. R.failed reader.new ≡ R.failed reader.old) (λ _. R.failed reader.new ≡ true) }
     {
