@@ -1,5 +1,5 @@
 -- Which definition and event of the machine the code's stand for.
-use Rattle.std.specs.Prelude.{◌≡◌, ℕ, false, List, [], ◌∷◌, map, length, Option, None, Some, string_bytes, codes, slice_get}
+use Rattle.std.specs.Prelude.{◌≡◌, ℕ, ◌≤◌, false, List, [], ◌∷◌, map, length, Option, None, Some, string_bytes, codes, slice_get}
 use Rattle.ui_machine.specs.Seq.{listed}
 use Rattle.ui_machine.specs.Kinds as kinds
 use Rattle.ui_machine.specs.Types.{GType}
@@ -58,6 +58,19 @@ IsPlain s = IsPlainKind s.kind s
 -- all properties of all types are plain
 pub record ArePlain (types : List GType) (specs : List (List Spec)) : Type 0 where
   pub at : (t slot : ℕ) (s : Spec) → slice_get (specs_of types specs t) slot ≡ Some s → IsPlain s
+
+-- what is so of every definition
+pub record IsSound (types : List GType) (specs : List (List Spec)) (objects : List ObjectEntry) : Type 0 where
+  pub plain : ArePlain types specs
+  pub few : length objects ≤ 64
+
+abbrev pub class_of_place : Option machine.Place → ℕ
+class_of_place None = 0
+class_of_place (Some place) = place.class
+
+-- the class of the object at a place, and the first class where there is none
+abbrev pub class_at : machine.Definition → ℕ → ℕ
+class_at d place = class_of_place (lookups.place_at d place)
 
 -- what a definition does not have so far: handlers, programs, bindings, and objects but plain ones
 pub record IsBasic (d : machine.Definition) : Type 0 where

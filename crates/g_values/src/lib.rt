@@ -17,3 +17,6 @@ pub use members::{has_number, known_bits};
 pub use transforming::{transform, transformable};
 pub use value::{Value, kind_of};
 pub use zero::zero_of;
+
+#[cfg(test)]
+mod tests;

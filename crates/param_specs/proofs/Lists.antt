@@ -1,12 +1,14 @@
 -- Lists of specs, one of which is written.
-use Rattle.std.proofs.Common.{◌≡◌, ℕ, zero, suc, ◌+◌, ◌<◌, Bool, true, false, nat_eq, if◌then◌else◌, List, [], ◌∷◌, ◌++◌, length, map, get_or, slice_set, Result, Ok, Err, OnErr, ◌≤◌, subst, length-append, refl, sym, ap, ◌∙◌, arith}
+use Rattle.std.proofs.Common.{◌≡◌, ℕ, zero, suc, ◌+◌, ◌<◌, Bool, true, false, nat_eq, if◌then◌else◌, List, [], ◌∷◌, ◌++◌, length, map, get_or, slice_set, Option, Some, Result, Ok, Err, OnErr, ◌≤◌, subst, length-append, refl, sym, ap, ◌∙◌, arith}
 use Rattle.std.proofs.lemmas.Bool.Decides.{nat_tests}
 use Rattle.std.proofs.lemmas.List.{map-append}
 use Rattle.ui_machine.specs.Seq.{read}
 use Rattle.ui_machine.specs.Properties as properties
 use Rattle.param_specs.specs.declared.spec.Spec.{Spec}
 use Rattle.param_specs.specs.View.{spec_view, lists_of}
-use Rattle.param_specs.specs.Table.{AddsSpec, SameSpecs, IsTable, own_of}
+use Rattle.param_specs.specs.Table.{AddsSpec, SameSpecs, IsTable, Installs, own_of}
+use Rattle.param_specs.specs.declared.error.SpecError.{SpecError}
+use Rattle.param_specs.specs.declared.error.SpecError.TheVariants.{BadName, Duplicate, FlagsClash, RangeEmpty, DefaultInvalid, Limit, OverrideMissing, OverrideDiffers, OutOfMemory}
 
 zero_suc : (i : ℕ) → nat_eq 0 (suc i) ≡ false
 zero_suc i = grind (arith, nat_tests)
@@ -69,3 +71,16 @@ AddsSpec-after old mid new t s same adds u = adds u ∙ ap (λ l. if nat_eq u t 
 
 pub SameSpecs-after : (old mid new : List (List properties.Spec)) → SameSpecs old mid → SameSpecs mid new → SameSpecs old new
 SameSpecs-after old mid new a b u = b u ∙ a u
+
+-- a fault refuses
+pub Installs-refused : (e : SpecError) (fault : Option SpecError) (specs : List properties.Spec) (t : ℕ) (s : properties.Spec) (table : List (List properties.Spec))
+    → fault ≡ Some e → (e ≡ OutOfMemory → ⊥) → Installs (Err e) fault specs t s table table
+Installs-refused BadName fault specs t s table h n = (h, λ u. refl)
+Installs-refused Duplicate fault specs t s table h n = (h, λ u. refl)
+Installs-refused FlagsClash fault specs t s table h n = (h, λ u. refl)
+Installs-refused RangeEmpty fault specs t s table h n = (h, λ u. refl)
+Installs-refused DefaultInvalid fault specs t s table h n = (h, λ u. refl)
+Installs-refused Limit fault specs t s table h n = (h, λ u. refl)
+Installs-refused (OverrideMissing slot) fault specs t s table h n = (h, λ u. refl)
+Installs-refused (OverrideDiffers slot) fault specs t s table h n = (h, λ u. refl)
+Installs-refused OutOfMemory fault specs t s table h n = absurd (n refl)

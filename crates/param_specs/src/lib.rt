@@ -17,3 +17,6 @@ pub use name::is_property_name;
 pub use spec::Spec;
 pub use table::{MOST_PROPERTIES, SpecTable};
 pub use validating::validate;
+
+#[cfg(test)]
+mod tests;

@@ -1,13 +1,17 @@
 //! Which properties the types have.
 
-ghost use Rattle.std.specs.Prelude.{◌≡◌, ◌<◌, ◌≤◌, ◌+◌, ◌*◌, List, [], map, length, string_bytes, slice_get, position, Some, IfSome, OnOk, OnErr};
+ghost use Rattle.std.specs.Prelude.{◌≡◌, ◌≢◌, ◌<◌, ◌≤◌, ◌+◌, ◌*◌, List, [], map, length, string_bytes, slice_get, position, Some, IfSome, IfNone, true, OnOk, OnErr};
 ghost use Rattle.ui_machine.specs.Names.{same_name, canonical, place_named};
 ghost use Rattle.param_specs.specs.View.{spec_view};
-ghost use Rattle.param_specs.specs.Table.{own_of, specs_of, slot_named, AddsSpec, SameSpecs};
+ghost use Rattle.g_values.specs.View.{IsKnown};
+ghost use Rattle.param_specs.specs.PropertyName.{is_property_name};
+ghost use Rattle.param_specs.specs.Table.{own_of, specs_of, slot_named, AddsSpec, SameSpecs, Installs, install_fault};
 
+use crate::error::SpecError;
 use crate::growing::{add, grow};
-use crate::name::is_spelling;
+use crate::name::{canonical_name, is_property_name, is_spelling};
 use crate::spec::Spec;
+use crate::validating::is_valid_default;
 use std::alloc::{AllocError, Global};
 use std::marker::Model;
 use type_tree::{TypeId, TypeTree};
@@ -58,6 +62,7 @@ impl SpecTable {
     pub fn slots_of(&self, tree: &TypeTree, t: TypeId) -> usize
         ensures count { result ≡ length (specs_of tree.now self.now t) }
         ensures bound { result ≤ 64 * (t + 1) }
+        ensures own { length (own_of self.now t) ≤ result }
     {
         let own = self.own(t).len();
         match tree.parent(t) {
@@ -127,6 +132,57 @@ impl SpecTable {
         Ok(())
     }
 
+    // Why a property is not installed.
+    fn install_fault(&self, tree: &TypeTree, t: TypeId, spec: &Spec) -> Option<SpecError>
+        requires { IsKnown tree.now spec.now.kind }
+        ensures fault { result ≡ install_fault tree.now (specs_of tree.now self.now t) (spec_view spec.now) }
+        ensures named { IfNone result (is_property_name (string_bytes spec.now.name) ≡ true) }
+        ensures room { IfNone result (length (specs_of tree.now self.now t) < 64) }
+        ensures memory { IfSome result (λ fault. fault ≢ SpecError.OutOfMemory) }
+    {
+        if !is_property_name(spec.name.as_str()) {
+            return Some(SpecError::BadName);
+        }
+        if self.slot(tree, t, spec.name.as_str()).is_some() {
+            return Some(SpecError::Duplicate);
+        }
+        if spec.flags.is_clash() {
+            return Some(SpecError::FlagsClash);
+        }
+        if spec.max < spec.min {
+            return Some(SpecError::RangeEmpty);
+        }
+        if !is_valid_default(tree, spec) {
+            return Some(SpecError::DefaultInvalid);
+        }
+        if self.slots_of(tree, t) >= MOST_PROPERTIES {
+            return Some(SpecError::Limit);
+        }
+        None
+    }
+
+    // The allocator that the table was made with.
+    fn allocator(&self) -> Global {
+        *self.own.allocator()
+    }
+
+    /// Adds a property to a type, under its canonical name, and answers its slot. The name is tested first, then whether the type has it already, its
+    /// own or inherited, the flags, the range, the default, and room.
+    pub fn install(&mut self, tree: &TypeTree, t: TypeId, spec: Spec) -> Result<u16, SpecError>
+        requires { IsKnown tree.now spec.kind }
+        ensures { let specs = specs_of tree.now self.old t in
+            Installs result (install_fault tree.now specs (spec_view spec)) specs t (spec_view spec) self.old self.new }
+    {
+        if let Some(fault) = self.install_fault(tree, t, &spec) {
+            return Err(fault);
+        }
+        let slot = self.slots_of(tree, t);
+        let name = canonical_name(self.allocator(), spec.name.as_str())?;
+        let spec = renamed(spec, name);
+        self.add_own(t, spec)?;
+        Ok(slot as u16)
+    }
+
     /// The slot of a property of a type, its own or inherited, by any spelling of its name.
     pub fn find(&self, tree: &TypeTree, t: TypeId, name: &str) -> Option<u16>
         ensures { result ≡ slot_named (specs_of tree.now self.now t) name.now }
@@ -150,4 +206,13 @@ fn position_of(own: &[Spec], name: &str) -> Option<usize>
     ensures within { IfSome result (λ i. i < length own.now) }
 {
     own.iter().position(|spec| is_spelling(spec.name.as_str(), name))
+}
+
+// The same property under another name.
+fn renamed(spec: Spec, name: String) -> Spec
+    ensures { spec_view result ≡ record (spec_view spec) { name = string_bytes name } }
+{
+    let mut spec = spec;
+    spec.name = name;
+    spec
 }

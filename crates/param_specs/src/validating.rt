@@ -1,16 +1,16 @@
 //! Validation: how a value is brought into its property's spec (GObject manual, g_param_value_validate).
 
-ghost use Rattle.std.specs.Prelude.{◌≡◌, ◌≤ℤ◌, ℤ, ℕ, pos, cond, not, nat_eq, bit_and, Option, None, Some};
+ghost use Rattle.std.specs.Prelude.{◌≡◌, ◌≤ℤ◌, ℤ, ℕ, pos, cond, not, nat_eq, bit_and, List, Option, None, Some};
 ghost use Rattle.std.specs.Ordering.{int_eq};
 ghost use Rattle.ui_machine.specs.Values as values;
 ghost use Rattle.ui_machine.specs.Kinds as kinds;
 ghost use Rattle.ui_machine.specs.Kinds.{int, uint, int64, uint64};
-ghost use Rattle.ui_machine.specs.Types.{enum, flags};
+ghost use Rattle.ui_machine.specs.Types.{GType, enum, flags};
 ghost use Rattle.ui_machine.specs.Text.{members_of};
 ghost use Rattle.ui_machine.specs.Transform.{same_value, least, greatest, has_number, known_bits};
-ghost use Rattle.ui_machine.specs.Clamp.{clamp, limited};
+ghost use Rattle.ui_machine.specs.Clamp.{clamp, limited, is_valid};
 ghost use Rattle.type_tree.specs.Adding.{sort_of};
-ghost use Rattle.g_values.specs.View.{kind_view, value_view, value_kind};
+ghost use Rattle.g_values.specs.View.{kind_view, value_view, value_kind, IsKnown};
 ghost use Rattle.param_specs.specs.View.{spec_view};
 ghost use Rattle.param_specs.specs.Validation.{Takes, KnowsClass, IsWithin, Corrects};
 
@@ -156,5 +156,103 @@ fn corrected_object(tree: &TypeTree, spec: &Spec, t: TypeId, id: ObjectId) -> Op
             Some(Value::Object(t, None))
         }
         _ => Some(Value::Object(t, None)),
+    }
+}
+
+/// Whether the default of a spec may stand in the property; an object's default is null.
+pub(crate) fn is_valid_default(tree: &TypeTree, spec: &Spec) -> bool
+    requires { IsKnown tree.now spec.now.kind }
+    ensures { result ≡ is_valid (λ id. None) tree.now (spec_view spec.now) (value_view spec.now.default) }
+{
+    match spec.kind {
+        Kind::Bool => matches!(spec.default, Value::Bool(_)),
+        Kind::Int => is_valid_int(spec),
+        Kind::UInt => is_valid_uint(spec),
+        Kind::Int64 => is_valid_int64(spec),
+        Kind::UInt64 => is_valid_uint64(spec),
+        Kind::Text => is_valid_text(spec),
+        Kind::Enum(t) => is_valid_enum(tree, spec, t),
+        Kind::Flags(t) => is_valid_flags(tree, spec, t),
+        Kind::Object(_) => matches!(spec.default, Value::Object(_, None)),
+    }
+}
+
+#[tactic(auto, using(crate::proofs::Same::same_value_refl))]
+fn is_valid_text(spec: &Spec) -> bool
+    requires { kind_view spec.now.kind ≡ kinds.text }
+    ensures { (types : List GType) → result ≡ is_valid (λ id. None) types (spec_view spec.now) (value_view spec.now.default) }
+{
+    match &spec.default {
+        Value::Text(_) => true,
+        _ => false,
+    }
+}
+
+// Whether a number lies in the range of a spec.
+fn is_in_range(spec: &Spec, number: i128) -> bool
+    ensures { result ≡ int_eq (limited spec.now.min spec.now.max number) number }
+{
+    number >= spec.min && number <= spec.max
+}
+
+fn is_valid_int(spec: &Spec) -> bool
+    requires { kind_view spec.now.kind ≡ kinds.whole int }
+    ensures { (types : List GType) → result ≡ is_valid (λ id. None) types (spec_view spec.now) (value_view spec.now.default) }
+{
+    match spec.default {
+        Value::Int(n) => is_in_range(spec, i128::from(n)),
+        _ => false,
+    }
+}
+
+fn is_valid_uint(spec: &Spec) -> bool
+    requires { kind_view spec.now.kind ≡ kinds.whole uint }
+    ensures { (types : List GType) → result ≡ is_valid (λ id. None) types (spec_view spec.now) (value_view spec.now.default) }
+{
+    match spec.default {
+        Value::UInt(n) => is_in_range(spec, i128::from(n)),
+        _ => false,
+    }
+}
+
+fn is_valid_int64(spec: &Spec) -> bool
+    requires { kind_view spec.now.kind ≡ kinds.whole int64 }
+    ensures { (types : List GType) → result ≡ is_valid (λ id. None) types (spec_view spec.now) (value_view spec.now.default) }
+{
+    match spec.default {
+        Value::Int64(n) => is_in_range(spec, i128::from(n)),
+        _ => false,
+    }
+}
+
+fn is_valid_uint64(spec: &Spec) -> bool
+    requires { kind_view spec.now.kind ≡ kinds.whole uint64 }
+    ensures { (types : List GType) → result ≡ is_valid (λ id. None) types (spec_view spec.now) (value_view spec.now.default) }
+{
+    match spec.default {
+        Value::UInt64(n) => is_in_range(spec, i128::from(n)),
+        _ => false,
+    }
+}
+
+fn is_valid_enum(tree: &TypeTree, spec: &Spec, t: TypeId) -> bool
+    requires kind { kind_view spec.now.kind ≡ kinds.enum t }
+    requires sort { sort_of tree.now t ≡ enum }
+    ensures { result ≡ is_valid (λ id. None) tree.now (spec_view spec.now) (value_view spec.now.default) }
+{
+    match spec.default {
+        Value::Enum(u, n) => u == t && has_number(tree.enum_members(t), i128::from(n)),
+        _ => false,
+    }
+}
+
+fn is_valid_flags(tree: &TypeTree, spec: &Spec, t: TypeId) -> bool
+    requires kind { kind_view spec.now.kind ≡ kinds.flags t }
+    requires sort { sort_of tree.now t ≡ flags }
+    ensures { result ≡ is_valid (λ id. None) tree.now (spec_view spec.now) (value_view spec.now.default) }
+{
+    match spec.default {
+        Value::Flags(u, bits) => u == t && bits & known_bits(tree.flags_members(t)) == bits,
+        _ => false,
     }
 }

@@ -1,6 +1,6 @@
 //! What a tree keeps of a type beside its name.
 
-ghost use Rattle.std.specs.Prelude.{◌≡◌, ℕ, List, map};
+ghost use Rattle.std.specs.Prelude.{◌≡◌, ◌↔◌, ℕ, List, map, IsTrue};
 ghost use Rattle.ui_machine.specs.Types.{enum, flags};
 ghost use Rattle.ui_machine.specs.Ancestry.{implemented};
 ghost use Rattle.type_tree.specs.Entry.{type_of, enum_member, flags_member};
@@ -122,6 +122,30 @@ impl TypeEntry {
             TypeEntry::Class(_) => &[],
             TypeEntry::Interface(_) => &[],
             TypeEntry::Enum(_) => &[],
+        }
+    }
+
+    /// Whether it is an enum.
+    pub fn is_enum(&self) -> bool
+        ensures { (name : List ℕ) → IsTrue result ↔ ((type_of name self.now).sort ≡ enum) }
+    {
+        match self {
+            TypeEntry::Enum(_) => true,
+            TypeEntry::Class(_) => false,
+            TypeEntry::Interface(_) => false,
+            TypeEntry::Flags(_) => false,
+        }
+    }
+
+    /// Whether it is a flags type.
+    pub fn is_flags(&self) -> bool
+        ensures { (name : List ℕ) → IsTrue result ↔ ((type_of name self.now).sort ≡ flags) }
+    {
+        match self {
+            TypeEntry::Flags(_) => true,
+            TypeEntry::Class(_) => false,
+            TypeEntry::Interface(_) => false,
+            TypeEntry::Enum(_) => false,
         }
     }
 }

@@ -1,6 +1,6 @@
 //! The tree, and what it tells of its types.
 
-ghost use Rattle.std.specs.Prelude.{◌≡◌, ℕ, ◌+◌, ◌<◌, ◌≤◌, List, [], ◌∷◌, ◌++◌, length, map, string_bytes, Option, None, Some, option_map, IsSome, IfSome, IfNone, ◌↔◌, nat_eq};
+ghost use Rattle.std.specs.Prelude.{◌≡◌, ℕ, ◌+◌, ◌<◌, ◌≤◌, List, [], ◌∷◌, ◌++◌, length, map, string_bytes, Option, None, Some, option_map, IsSome, IfSome, IfNone, ◌↔◌, nat_eq, IsTrue};
 ghost use Rattle.std.specs.List.{list_any};
 ghost use Rattle.std.specs.Option.{ForSome};
 ghost use Rattle.ui_machine.specs.Seq.{read};
@@ -82,6 +82,26 @@ impl TypeTree {
             Some(TypeEntry::Enum(_)) => TypeSort::Enum,
             Some(TypeEntry::Flags(_)) => TypeSort::Flags,
             Some(TypeEntry::Class(_)) | None => TypeSort::Class,
+        }
+    }
+
+    /// Whether it is an enum.
+    pub fn is_enum(&self, t: TypeId) -> bool
+        ensures { IsTrue result ↔ (sort_of self.now t ≡ enum) }
+    {
+        match self.entry(t) {
+            Some(entry) => entry.is_enum(),
+            None => false,
+        }
+    }
+
+    /// Whether it is a flags type.
+    pub fn is_flags(&self, t: TypeId) -> bool
+        ensures { IsTrue result ↔ (sort_of self.now t ≡ flags) }
+    {
+        match self.entry(t) {
+            Some(entry) => entry.is_flags(),
+            None => false,
         }
     }
 
