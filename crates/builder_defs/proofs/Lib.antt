@@ -1,2 +1,13 @@
 pub mod Listed
 pub mod Tables
+pub mod Whole
+pub mod Soundness
+pub mod Pushed
+pub mod Chains
+pub mod Each
+pub mod Installing
+pub mod Escapes
+pub mod Words
+pub mod Members
+pub mod Ids
+pub mod Values

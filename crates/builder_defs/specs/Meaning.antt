@@ -62,6 +62,19 @@ pub record IsPlain (s : Spec) : Type 0 where
 pub record ArePlain (types : List GType) (specs : List (List Spec)) : Type 0 where
   pub at : (t slot : ℕ) (s : Spec) → slice_get (specs_of types specs t) slot ≡ Some s → IsPlain s
 
+-- what is so of every definition
+pub record IsSound (types : List GType) (specs : List (List Spec)) (objects : List ObjectEntry) : Type 0 where
+  pub plain : ArePlain types specs
+  pub few : length objects ≤ 64
+
+abbrev pub class_of_place : Option machine.Place → ℕ
+class_of_place None = 0
+class_of_place (Some place) = place.class
+
+-- the class of the object at a place, and the first class where there is none
+abbrev pub class_at : machine.Definition → ℕ → ℕ
+class_at d place = class_of_place (lookups.place_at d place)
+
 -- what a definition does not have so far: handlers, programs, bindings, and objects but plain ones
 pub record IsBasic (d : machine.Definition) : Type 0 where
   pub handlers : (t : ℕ) → (lookups.class_of d t).handlers ≡ []

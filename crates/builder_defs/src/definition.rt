@@ -1,14 +1,19 @@
 //! What a definition says.
 
-ghost use Rattle.std.specs.Prelude.{◌≡◌, ◌<◌, length, option_map, slice_get, IfSome, map};
-ghost use Rattle.ui_machine.specs.Lookups.{spec_of, specs_of, slot_of, type_of};
+ghost use Rattle.std.specs.Prelude.{◌≡◌, ◌<◌, length, option_map, slice_get, IfSome, map, position, string_bytes};
+ghost use Rattle.std.specs.Str.{bytes_eq};
+ghost use Rattle.ui_machine.specs.Lookups.{place_of, spec_of, specs_of, slot_of, type_of};
 ghost use Rattle.param_specs.specs.View.{spec_view};
-ghost use Rattle.builder_defs.specs.Meaning.{IsBasic, plain_object};
+ghost use Rattle.builder_defs.specs.Meaning.{IsBasic, class_at, plain_object};
 
 use crate::object_entry::ObjectEntry;
 use param_specs::{Spec, SpecTable};
 use std::marker::Model;
 use type_tree::{TypeId, TypeTree};
+use ui_machine::Place;
+
+/// The most objects of a definition.
+pub const MOST_OBJECTS: usize = 64;
 
 /// A definition: its types with their properties, and its objects in document order. It is seen as the machine's.
 #[derive(Drop)]
@@ -23,11 +28,11 @@ impl Model for Definition {
 
     ghost Value = { machine.Definition };
 
-    ghost use Rattle.builder_defs.specs.Meaning.{meaning, ArePlain};
+    ghost use Rattle.builder_defs.specs.Meaning.{meaning, IsSound};
 
     ghost view = { λ d. meaning d.types d.specs d.objects.items };
 
-    ghost invariant = { λ d. ArePlain d.types d.specs };
+    ghost invariant = { λ d. IsSound d.types d.specs d.objects.items };
 }
 
 impl Definition {
@@ -44,6 +49,24 @@ impl Definition {
         ensures objects { map plain_object result.now ≡ self.now.places }
     {
         self.objects.as_slice()
+    }
+
+    /// The place of the object of an id.
+    pub fn place(&self, id: &str) -> Option<Place>
+        ensures { option_map (λ p. p.0) result ≡ place_of self.now id.now }
+    {
+        let place = position_of(self.objects.as_slice(), id)?;
+        Some(Place(place as u16))
+    }
+
+    /// The class of the object at a place, and the first class where there is none.
+    pub fn class_at(&self, place: Place) -> TypeId
+        ensures { result ≡ class_at self.now place.0 }
+    {
+        match self.objects.get(usize::from(place.0)) {
+            Some(object) => object.class,
+            None => TypeId::new(0),
+        }
     }
 
     /// The spec of a property of a class by its slot, if there is one.
@@ -86,4 +109,12 @@ impl Definition {
         }
         self.types.name(class)
     }
+}
+
+// Where the object of an id stands.
+pub(crate) fn position_of(objects: &[ObjectEntry], id: &str) -> Option<usize>
+    ensures place { result ≡ position (λ o. bytes_eq (string_bytes o.id) id.now) objects.now }
+    ensures within { IfSome result (λ i. i < length objects.now) }
+{
+    objects.iter().position(|object| object.id.as_str() == id)
 }

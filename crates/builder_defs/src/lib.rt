@@ -3,10 +3,23 @@
 //! A definition is what the JSON text of an interface's description says; an event is a line that is told to a running one.
 #![tactic(auto)]
 
+mod classes;
 mod definition;
+mod document;
 mod event;
+mod event_fault;
+mod event_reading;
+mod fault;
 mod object_entry;
+mod objects;
+mod properties;
+mod reading;
 
 pub use definition::Definition;
+pub use document::MAX_BYTES;
 pub use event::Event;
+pub use event_fault::{EventError, EventFault};
+pub use event_reading::{MAX_LINE_BYTES, MAX_TEXT_BYTES, read_event};
+pub use fault::{DefinitionFault, DefinitionLimit, ReadError};
 pub use object_entry::ObjectEntry;
+pub use reading::read_definition;

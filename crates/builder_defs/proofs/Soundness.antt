@@ -1,0 +1,148 @@
+-- All properties of a definition that was read are plain.
+use Rattle.std.proofs.Common.{◌≡◌, ◌≤◌, ℕ, codes, zero, suc, ◌+◌, Bool, true, false, nat_eq, if◌then◌else◌, List, [], ◌∷◌, ◌++◌, length, reverse, slice_get, Option, Some, None, Result, Ok, Err, refl, sym, ap, subst, ◌∙◌}
+use Rattle.std.specs.List.{flat_map}
+use Rattle.serde_json.specs.Data.{Data, Items, no_items, item}
+use Rattle.ui_machine.specs.Types.{GType}
+use Rattle.ui_machine.specs.Kinds.{Kind}
+use Rattle.ui_machine.specs.Properties.{Spec}
+use Rattle.std.specs.Str.{bytes_eq}
+use Rattle.ui_machine.specs.Kinds as kinds
+use Rattle.ui_machine.specs.Ancestry.{lineage}
+use Rattle.param_specs.specs.declared.error.SpecError.{SpecError}
+use Rattle.param_specs.specs.Table.{own_of, specs_of, install_fault, canonical_spec}
+use Rattle.builder_defs.specs.declared.object_entry.ObjectEntry.{ObjectEntry}
+use Rattle.builder_defs.specs.Meaning.{IsPlain, IsPlainKind, IsSound}
+use Rattle.builder_defs.specs.Refusals.{Refusal, shape, or_refused}
+use Rattle.builder_defs.specs.Binding.{◌>>=◌}
+use Rattle.builder_defs.specs.Document.{each, under, nth, members_at, text_at, entries_at, nothing_at, only_at}
+use Rattle.builder_defs.specs.Denoted.{Draft, draft_of, first_draft, specs_by, kind_named, kind_at, property_spec, room_for_property, new_property, unset_of_property, keys_of_property, spec_at, add_own, installed_or, installed, property_at, property_of, unset_before_properties, unset_after_properties, keys_of_class, declared_at, properties_at, class_at, class_of, unset_before_classes, classes_in}
+use Rattle.builder_defs.proofs.Installing.{specs_of-is}
+
+-- what is so of what was read, if it was
+abbrev pub OnRead : {A : Type 0} → (A → Type 0) → Result A Refusal → Type 0
+OnRead P (Ok x) = P x
+OnRead P (Err e) = Unit {0}
+
+pub on_bind : {A B : Type 0} (Q : A → Type 0) (P : B → Type 0) (r : Result A Refusal) (f : A → Result B Refusal) → OnRead Q r → ((x : A) → Q x → OnRead P (f x)) → OnRead P (r >>= f)
+on_bind Q P (Ok x) f q h = h x q
+on_bind Q P (Err e) f q h = tt
+
+pub on_all : {A : Type 0} (r : Result A Refusal) → OnRead (λ x. Unit {0}) r
+on_all (Ok x) = tt
+on_all (Err e) = tt
+
+pub on_each : {S : Type 0} (P : S → Type 0) (step : ℕ → S → Data → Result S Refusal) → ((i : ℕ) (s : S) (d : Data) → P s → OnRead P (step i s d))
+    → (i : ℕ) (s : S) (ds : Items) → P s → OnRead P (each step i s ds)
+unfolding each
+on_each P step keeps i s no_items p = p
+on_each P step keeps i s (item d ds) p = on_bind P P (step i s d) (λ t. each step (i + 1) t ds) (keeps i s d p) (λ t q. on_each P step keeps (i + 1) t ds q)
+
+abbrev pub AllPlain : List Spec → Type 0
+AllPlain [] = Unit {0}
+AllPlain (s ∷ ss) = IsPlain s × AllPlain ss
+
+pub plain_append : (xs ys : List Spec) → AllPlain xs → AllPlain ys → AllPlain (xs ++ ys)
+plain_append [] ys p q = q
+plain_append (x ∷ xs) ys p q = (p.0, plain_append xs ys p.1 q)
+
+pub plain_flat : (own : ℕ → List Spec) → ((t : ℕ) → AllPlain (own t)) → (ts : List ℕ) → AllPlain (flat_map own ts)
+plain_flat own p [] = tt
+plain_flat own p (t ∷ ts) = plain_append (own t) (flat_map own ts) (p t) (plain_flat own p ts)
+
+pub plain_get : (ss : List Spec) (i : ℕ) (s : Spec) → AllPlain ss → slice_get ss i ≡ Some s → IsPlain s
+plain_get [] i s p h = absurd (cc)
+plain_get (x ∷ ss) zero s p h = let e : x ≡ s = cc in subst IsPlain e p.0
+plain_get (x ∷ ss) (suc i) s p h = plain_get ss i s p.1 h
+
+-- ** what is read
+
+abbrev pub PlainKind : List GType → Kind → Type 0
+PlainKind types k = (name : List ℕ) → IsPlain (property_spec types name k)
+
+named_plain : (r : Refusal) (types : List GType) (x y z : Bool)
+    → OnRead (PlainKind types) (or_refused r (if x then Some kinds.bool else (if y then Some (kinds.whole kinds.int) else (if z then Some kinds.text else None))))
+named_plain r types true y z = λ name. tt
+named_plain r types false true z = λ name. (refl, refl)
+named_plain r types false false true = λ name. tt
+named_plain r types false false false = tt
+
+kind_plain : (path : List ℕ) (d : Data) (types : List GType) → OnRead (PlainKind types) (kind_at path d)
+kind_plain path d types =
+    on_bind (λ x. Unit {0}) (PlainKind types) (text_at path d (codes "kind")) (λ word. or_refused (shape (under path (codes "kind"))) (kind_named word)) (on_all _)
+      (λ word u. named_plain _ types (bytes_eq word (codes "bool")) (bytes_eq word (codes "int")) (bytes_eq word (codes "text")))
+
+spec_plain : (path : List ℕ) (types : List GType) (specs : List Spec) (d : Data) → OnRead IsPlain (spec_at path types specs d)
+unfolding spec_at
+spec_plain path types specs d =
+    on_bind (λ x. Unit {0}) IsPlain (members_at path d) _ (on_all _) λ ms u.
+    on_bind (λ x. Unit {0}) IsPlain (room_for_property specs) _ (on_all _) λ room u.
+    on_bind (λ x. Unit {0}) IsPlain (text_at path d (codes "name")) _ (on_all _) λ name u.
+    on_bind (λ x. Unit {0}) IsPlain (new_property (under path (codes "name")) specs name) _ (on_all _) λ new u.
+    on_bind (PlainKind types) IsPlain (kind_at path d) _ (kind_plain path d types) λ kind plain.
+    on_bind (λ x. Unit {0}) IsPlain (nothing_at path d unset_of_property) _ (on_all _) λ unset u.
+    on_bind (λ x. Unit {0}) IsPlain (only_at path ms keys_of_property) _ (on_all _) λ only u. plain name
+
+abbrev pub AllOwn : (ℕ → List Spec) → Type 0
+AllOwn own = (t : ℕ) → AllPlain (own t)
+
+added_plain : (own : ℕ → List Spec) (t : ℕ) (s : Spec) → AllOwn own → IsPlain s → AllOwn (add_own own t s)
+added_plain own t s all plain u = by (nat_eq u t)
+  where
+    by : (b : Bool) → AllPlain (if b then own u ++ s ∷ [] else own u)
+    by true = plain_append (own u) (s ∷ []) (all u) (plain, tt)
+    by false = all u
+
+installed_plain : (path : List ℕ) (fault : Option SpecError) (own : ℕ → List Spec) → AllOwn own → OnRead AllOwn (installed_or path fault own)
+installed_plain path None own all = all
+installed_plain path (Some cause) own all = tt
+
+canonical_kind : (k : Kind) (s : Spec) → IsPlainKind k s → IsPlainKind k (canonical_spec s)
+canonical_kind kinds.bool s p = p
+canonical_kind (kinds.whole kinds.int) s p = p
+canonical_kind (kinds.whole kinds.uint) s p = p
+canonical_kind (kinds.whole kinds.int64) s p = p
+canonical_kind (kinds.whole kinds.uint64) s p = p
+canonical_kind kinds.text s p = p
+canonical_kind (kinds.enum t) s p = p
+canonical_kind (kinds.flags t) s p = p
+canonical_kind (kinds.object t) s p = p
+
+property_plain : (path : List ℕ) (types : List GType) (t : ℕ) (own : ℕ → List Spec) (d : Data) → AllOwn own → OnRead AllOwn (property_at path types t own d)
+unfolding property_at
+property_plain path types t own d all =
+    on_bind IsPlain AllOwn (spec_at path types (specs_by types own t) d) (λ spec. installed path types t own spec) (spec_plain path types (specs_by types own t) d)
+      λ spec plain. installed_plain path (install_fault types (specs_by types own t) spec) (add_own own t (canonical_spec spec)) (added_plain own t (canonical_spec spec) all (canonical_kind spec.kind spec plain))
+
+properties_plain : (path : List ℕ) (types : List GType) (t : ℕ) (own : ℕ → List Spec) (d : Data) → AllOwn own → OnRead AllOwn (properties_at path types t own d)
+unfolding properties_at
+properties_plain path types t own d all =
+    on_bind (λ x. Unit {0}) AllOwn (nothing_at path d unset_before_properties) _ (on_all _) λ unset u.
+    on_bind (λ x. Unit {0}) AllOwn (entries_at path d (codes "properties")) _ (on_all _) λ list u.
+    on_each AllOwn (property_of (under path (codes "properties")) types t) (λ i own d all. property_plain (nth (under path (codes "properties")) i) types t own d all) 0 own list all
+
+abbrev pub PlainDraft : Draft → Type 0
+PlainDraft draft = AllOwn draft.own
+
+class_plain : (path : List ℕ) (draft : Draft) (d : Data) → PlainDraft draft → OnRead PlainDraft (class_at path draft d)
+unfolding class_at
+class_plain path draft d all =
+    on_bind (λ x. Unit {0}) PlainDraft (members_at path d) _ (on_all _) λ ms u.
+    on_bind (λ x. Unit {0}) PlainDraft (declared_at path draft.types d) _ (on_all _) λ types u.
+    on_bind AllOwn PlainDraft (properties_at path types (length draft.types) draft.own d) _ (properties_plain path types (length draft.types) draft.own d all) λ own plain.
+    on_bind (λ x. Unit {0}) PlainDraft (nothing_at path d unset_after_properties) _ (on_all _) λ unset u.
+    on_bind (λ x. Unit {0}) PlainDraft (only_at path ms keys_of_class) _ (on_all _) λ only u. plain
+
+classes_plain : (d : Data) → OnRead PlainDraft (classes_in d)
+unfolding classes_in
+classes_plain d =
+    on_bind (λ x. Unit {0}) PlainDraft (nothing_at [] d unset_before_classes) _ (on_all _) λ unset u.
+    on_bind (λ x. Unit {0}) PlainDraft (entries_at [] d (codes "classes")) _ (on_all _) λ list u.
+    on_each PlainDraft (class_of (under [] (codes "classes"))) (λ i draft d all. class_plain (nth (under [] (codes "classes")) i) draft d all) 0 first_draft list (λ t. tt)
+
+pub sound : (types : List GType) (table : List (List Spec)) (os : List ObjectEntry) (d : Data) → classes_in d ≡ Ok (draft_of types table) → length os ≤ 64 → IsSound types table os
+sound types table os d read few =
+    let all : AllOwn (own_of table) = subst (OnRead PlainDraft) read (classes_plain d) in
+    record {
+      plain = record { at = λ t slot s h. plain_get (specs_of types table t) slot s (subst AllPlain (sym (specs_of-is types table t)) (plain_flat (own_of table) all (reverse (lineage types t)))) h };
+      few = few
+    }

@@ -1,0 +1,18 @@
+-- The words of a line, by how many there are.
+use Rattle.std.proofs.Common.{◌≡◌, ◌≢◌, ℕ, zero, suc, List, [], ◌∷◌, length, None, refl, arith}
+use Rattle.serde_json.specs.declared.value.Value.{Value}
+use Rattle.serde_json.specs.View.{items_view}
+use Rattle.builder_defs.specs.EventMeaning.{words_of_set, words_of_get}
+
+pub not_two : (vs : List Value) → length vs ≢ 2 → None ≡ words_of_get (items_view vs)
+not_two [] other = refl
+not_two (v ∷ []) other = refl
+not_two (v ∷ w ∷ []) other = absurd (other refl)
+not_two (v ∷ w ∷ x ∷ vs) other = refl
+
+pub not_three : (vs : List Value) → length vs ≢ 3 → None ≡ words_of_set (items_view vs)
+not_three [] other = refl
+not_three (v ∷ []) other = refl
+not_three (v ∷ w ∷ []) other = refl
+not_three (v ∷ w ∷ x ∷ []) other = absurd (other refl)
+not_three (v ∷ w ∷ x ∷ y ∷ vs) other = refl

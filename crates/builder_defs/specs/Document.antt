@@ -1,0 +1,84 @@
+-- The parts of a JSON document, by their paths: JSON pointers (RFC 6901).
+use Rattle.std.specs.Prelude.{◌≡◌, ℕ, ◌+◌, List, [], ◌∷◌, ◌++◌, codes, decimal, Bool, true, false, cond, not, ◌||◌, nat_eq, nat_lt, length, if◌then◌else◌, Option, None, Some, option_and_then, Result, Ok, Err}
+use Rattle.std.specs.List.{find, flat_map, list_any}
+use Rattle.std.specs.Str.{bytes_eq, is_utf8}
+use Rattle.serde_json.specs.Data.{Data, null, boolean, number, string, array, object, Items, no_items, item, Members, no_members, member}
+use Rattle.serde_json.specs.Find.{get, as_str, as_array, as_object, as_number, as_u64}
+use Rattle.serde_json.specs.Read.{read}
+use Rattle.builder_defs.specs.Binding.{◌>>=◌}
+use Rattle.builder_defs.specs.Refusals.{Refusal, shape, too_long, not_utf8, not_json, or_refused, refused_if}
+use Rattle.builder_defs.specs.declared.document.TheConstants.{MAX_BYTES}
+
+-- the path of a member
+abbrev pub under : List ℕ → List ℕ → List ℕ
+under path key = path ++ (codes "/" ++ key)
+
+-- the path of an entry of a list
+abbrev pub nth : List ℕ → ℕ → List ℕ
+nth path i = path ++ (codes "/" ++ decimal i)
+
+-- the members of an object
+abbrev pub members_at : List ℕ → Data → Result Members Refusal
+members_at path d = or_refused (shape path) (as_object d)
+
+-- a member that must be a text
+abbrev pub text_at : List ℕ → Data → List ℕ → Result (List ℕ) Refusal
+text_at path d key = or_refused (shape (under path key)) (option_and_then as_str (get key d))
+
+-- the entries of a list, which may be absent
+abbrev pub entries : List ℕ → Option Data → Result Items Refusal
+entries path None = Ok no_items
+entries path (Some d) = or_refused (shape path) (as_array d)
+
+abbrev pub entries_at : List ℕ → Data → List ℕ → Result Items Refusal
+entries_at path d key = entries (under path key) (get key d)
+
+abbrev pub is_empty_list : Option Items → Bool
+is_empty_list None = false
+is_empty_list (Some no_items) = true
+is_empty_list (Some (item d ds)) = false
+
+-- whether a member is absent or an empty list
+abbrev pub is_absent_or_empty : Option Data → Bool
+is_absent_or_empty None = true
+is_absent_or_empty (Some d) = is_empty_list (as_array d)
+
+-- these members, of which there is nothing so far, are absent or empty lists
+abbrev pub nothing_at : List ℕ → Data → List (List ℕ) → Result (Unit {0}) Refusal
+nothing_at path d keys = refused_if (λ key. shape (under path key)) (find (λ key. not (is_absent_or_empty (get key d))) keys)
+
+-- ** unknown members
+
+-- a byte of a key as a path writes it
+abbrev pub escaped_byte : ℕ → List ℕ
+escaped_byte x = cond (nat_eq x 126) (codes "~0") (cond (nat_eq x 47) (codes "~1") (x ∷ []))
+
+abbrev pub escaped : List ℕ → List ℕ
+escaped key = flat_map escaped_byte key
+
+abbrev pub is_among : List (List ℕ) → List ℕ → Bool
+is_among keys key = list_any (λ k. bytes_eq k key) keys
+
+-- the least key that is none of these
+abbrev pub first_other : List (List ℕ) → Members → Option (List ℕ)
+first_other keys no_members = None
+first_other keys (member key d ms) = if is_among keys key then first_other keys ms else Some key
+
+-- all members have these keys
+abbrev pub only_at : List ℕ → Members → List (List ℕ) → Result (Unit {0}) Refusal
+only_at path ms keys = refused_if (λ key. shape (under path (escaped key))) (first_other keys ms)
+
+-- ** lists
+
+-- what comes of a state by the entries of a list, one after the other, from the one numbered i on
+unfoldable pub each : {S : Type 0} → (ℕ → S → Data → Result S Refusal) → ℕ → S → Items → Result S Refusal
+each step i s no_items = Ok s
+each step i s (item d ds) = do
+  t ← step i s d
+  each step (i + 1) t ds
+
+-- ** from bytes
+
+-- the JSON value that bytes hold
+unfoldable pub document : List ℕ → Result Data Refusal
+document bytes = if nat_lt MAX_BYTES (length bytes) then Err too_long else (if is_utf8 bytes then or_refused not_json (read bytes) else Err not_utf8)

@@ -1,0 +1,183 @@
+-- Which event of a definition a line denotes, or why it denotes none: the first fault in the order of the tests.
+use Rattle.std.specs.Prelude.{◌≡◌, ℕ, ℤ, int_lt, List, [], ◌∷◌, length, codes, Bool, true, false, cond, ◌||◌, nat_lt, nat_le, if◌then◌else◌, Option, None, Some, option_map, option_and_then, Result, Ok, Err, string_bytes}
+use Rattle.std.specs.Str.{is_utf8}
+use Rattle.serde_json.specs.Data.{Data, null, boolean, number, string, array, object, Items, no_items, item, Members, no_members, member}
+use Rattle.serde_json.specs.Find.{get, as_bool, as_str, as_array, as_object, as_number, as_i64}
+use Rattle.serde_json.specs.Read.{read}
+use Rattle.ui_machine.specs.Kinds as kinds
+use Rattle.ui_machine.specs.Values.{Value}
+use Rattle.ui_machine.specs.Values as values
+use Rattle.ui_machine.specs.Transform.{least, greatest}
+use Rattle.ui_machine.specs.Properties.{Spec, is_readable, is_writable, is_construct_only}
+use Rattle.ui_machine.specs.Definition as machine
+use Rattle.ui_machine.specs.Lookups.{place_of, place_at, slot_of, spec_of}
+use Rattle.ui_machine.specs.Config as config
+use Rattle.builder_defs.specs.Meaning.{class_at}
+use Rattle.builder_defs.specs.Binding.{◌>>=◌}
+use Rattle.builder_defs.specs.declared.event_reading.TheConstants.{MAX_LINE_BYTES, MAX_TEXT_BYTES}
+use Rattle.builder_defs.specs.declared.event_fault.EventFault.{EventFault}
+use Rattle.builder_defs.specs.declared.event_fault.EventFault.TheVariants as faults
+use Rattle.builder_defs.specs.declared.event_fault.EventError.{EventError}
+use Rattle.builder_defs.specs.declared.event_fault.EventError.TheVariants as errors
+
+-- why a line denotes no event
+pub data EventRefusal : Type 0 where
+  too_long : EventRefusal
+  not_json : EventRefusal
+  shape : EventRefusal
+  unknown : (name : List ℕ) → EventRefusal
+  not_readable : EventRefusal
+  not_writable : EventRefusal
+  construct_only : EventRefusal
+  value_fault : EventRefusal
+
+-- a fault without where its text lies in memory
+abbrev pub event_refusal : EventFault → EventRefusal
+event_refusal faults.TooLong = too_long
+event_refusal faults.NotJson = not_json
+event_refusal faults.Shape = shape
+event_refusal (faults.Unknown name) = unknown (string_bytes name)
+event_refusal faults.NotReadable = not_readable
+event_refusal faults.NotWritable = not_writable
+event_refusal faults.ConstructOnly = construct_only
+event_refusal faults.ValueFault = value_fault
+
+-- What a function returned, seen by view, is what reading gives, unless memory ran out.
+abbrev pub Fails : {Y : Type 0} → EventError → Result Y EventRefusal → Type 0
+Fails errors.OutOfMemory meant = Unit {0}
+Fails (errors.Refused fault) meant = meant ≡ Err (event_refusal fault)
+
+abbrev pub Gives : {X Y : Type 0} → (X → Y) → Result X EventError → Result Y EventRefusal → Type 0
+Gives view (Ok x) meant = meant ≡ Ok (view x)
+Gives view (Err e) meant = Fails e meant
+
+-- what is there, or the refusal
+abbrev pub or_refused : {A : Type 0} → EventRefusal → Option A → Result A EventRefusal
+or_refused refusal None = Err refusal
+or_refused refusal (Some x) = Ok x
+
+-- ** the words of a line
+
+-- the JSON value that a line holds
+unfoldable pub line_value : List ℕ → Result Data EventRefusal
+line_value bytes = if nat_lt MAX_LINE_BYTES (length bytes) then Err too_long else (if is_utf8 bytes then or_refused not_json (read bytes) else Err not_json)
+
+abbrev pub is_one_member : Members → Bool
+is_one_member no_members = false
+is_one_member (member key d no_members) = true
+is_one_member (member key d (member other e ms)) = false
+
+-- whether a value is an object of exactly one member
+abbrev pub has_one_member : Data → Bool
+has_one_member null = false
+has_one_member (boolean b) = false
+has_one_member (number n) = false
+has_one_member (string s) = false
+has_one_member (array ds) = false
+has_one_member (object ms) = is_one_member ms
+
+-- two texts, and a third thing
+abbrev pub with_texts : {A : Type 0} → Option (List ℕ) → Option (List ℕ) → A → Option (List ℕ × List ℕ × A)
+with_texts None second x = None
+with_texts (Some first) None x = None
+with_texts (Some first) (Some second) x = Some (first, second, x)
+
+-- an id, a name and a value
+abbrev pub words_of_set : Items → Option (List ℕ × List ℕ × Data)
+words_of_set no_items = None
+words_of_set (item id no_items) = None
+words_of_set (item id (item name no_items)) = None
+words_of_set (item id (item name (item value no_items))) = with_texts (as_str id) (as_str name) value
+words_of_set (item id (item name (item value (item more ds)))) = None
+
+abbrev pub both_texts : Option (List ℕ) → Option (List ℕ) → Option (List ℕ × List ℕ)
+both_texts None second = None
+both_texts (Some first) None = None
+both_texts (Some first) (Some second) = Some (first, second)
+
+-- an id and a name
+abbrev pub words_of_get : Items → Option (List ℕ × List ℕ)
+words_of_get no_items = None
+words_of_get (item id no_items) = None
+words_of_get (item id (item name no_items)) = both_texts (as_str id) (as_str name)
+words_of_get (item id (item name (item more ds))) = None
+
+-- ** what they name
+
+-- a property of an object
+pub record Target : Type 0 where
+  pub place : ℕ
+  pub slot : ℕ
+  pub spec : Spec
+
+-- the property of an object that an id and a name name
+unfoldable pub target : machine.Definition → List ℕ → List ℕ → Result Target EventRefusal
+target d id name = do
+  place ← or_refused (unknown id) (place_of d id)
+  slot ← or_refused (unknown name) (slot_of d (class_at d place) name)
+  spec ← or_refused (unknown name) (spec_of d (class_at d place) slot)
+  Ok (record { place = place; slot = slot; spec = spec })
+
+-- ** the value of a set
+
+abbrev pub number_given : ℤ → Option Value
+number_given n = if int_lt n (least kinds.int) || int_lt (greatest kinds.int) n then None else Some (values.whole kinds.int n)
+
+abbrev pub text_given : Data → Option Value
+text_given null = Some (values.text None)
+text_given (boolean b) = None
+text_given (number n) = None
+text_given (string s) = if nat_lt MAX_TEXT_BYTES (length s) then None else Some (values.text (Some s))
+text_given (array ds) = None
+text_given (object ms) = None
+
+-- a value of a kind that there is so far: a truth value, a number of 32 bits, a text or null
+abbrev pub given_value : kinds.Kind → Data → Option Value
+given_value kinds.bool d = option_map values.bool (as_bool d)
+given_value (kinds.whole kinds.int) d = option_and_then number_given (option_and_then as_i64 (as_number d))
+given_value (kinds.whole kinds.uint) d = None
+given_value (kinds.whole kinds.int64) d = None
+given_value (kinds.whole kinds.uint64) d = None
+given_value kinds.text d = text_given d
+given_value (kinds.enum t) d = None
+given_value (kinds.flags t) d = None
+given_value (kinds.object t) d = None
+
+-- ** the event
+
+abbrev pub writable : Spec → Result (Unit {0}) EventRefusal
+writable s = if is_writable s then (if is_construct_only s then Err construct_only else Ok tt) else Err not_writable
+
+abbrev pub readable : Spec → Result (Unit {0}) EventRefusal
+readable s = if is_readable s then Ok tt else Err not_readable
+
+unfoldable pub set_event : machine.Definition → Data → Result config.Event EventRefusal
+set_event d words = do
+  said ← or_refused shape (option_and_then words_of_set (as_array words))
+  found ← target d said.0 said.1
+  may ← writable found.spec
+  value ← or_refused value_fault (given_value found.spec.kind said.2)
+  Ok (config.set found.place found.slot (machine.value value))
+
+unfoldable pub get_event : machine.Definition → Data → Result config.Event EventRefusal
+get_event d words = do
+  said ← or_refused shape (option_and_then words_of_get (as_array words))
+  found ← target d said.0 said.1
+  may ← readable found.spec
+  Ok (config.get found.place found.slot)
+
+-- the event that the member `set` asks for, and where there is none the one that `get` asks for
+abbrev pub event_by : machine.Definition → Option Data → Option Data → Result config.Event EventRefusal
+event_by d None None = Err shape
+event_by d None (Some words) = get_event d words
+event_by d (Some words) other = set_event d words
+
+-- the event that a value asks for
+unfoldable pub event_meant : machine.Definition → Data → Result config.Event EventRefusal
+event_meant d value = if has_one_member value then event_by d (get (codes "set") value) (get (codes "get") value) else Err shape
+
+-- the event that a line denotes
+unfoldable pub event_denoted : machine.Definition → List ℕ → Result config.Event EventRefusal
+event_denoted d line = do
+  value ← line_value line
+  event_meant d value

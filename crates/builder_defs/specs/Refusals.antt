@@ -1,0 +1,61 @@
+-- Why bytes denote no definition.
+use Rattle.std.specs.Prelude.{◌≡◌, ℕ, List, Option, None, Some, Result, Ok, Err, string_bytes}
+use Rattle.type_tree.specs.declared.error.TypeError.{TypeError}
+use Rattle.param_specs.specs.declared.error.SpecError.{SpecError}
+use Rattle.builder_defs.specs.declared.fault.DefinitionLimit.{DefinitionLimit}
+use Rattle.builder_defs.specs.declared.fault.DefinitionFault.{DefinitionFault}
+use Rattle.builder_defs.specs.declared.fault.DefinitionFault.TheVariants as faults
+use Rattle.builder_defs.specs.declared.fault.ReadError.{ReadError}
+use Rattle.builder_defs.specs.declared.fault.ReadError.TheVariants as errors
+
+pub data Refusal : Type 0 where
+  too_long : Refusal
+  not_utf8 : Refusal
+  not_json : Refusal
+  shape : (path : List ℕ) → Refusal
+  unknown : (path name : List ℕ) → Refusal
+  duplicate : (path : List ℕ) → Refusal
+  bad_type : (path : List ℕ) (cause : TypeError) → Refusal
+  bad_spec : (path : List ℕ) (cause : SpecError) → Refusal
+  limit : DefinitionLimit → Refusal
+
+-- a fault without where its text lies in memory
+abbrev pub refusal : DefinitionFault → Refusal
+refusal faults.TooLong = too_long
+refusal faults.NotUtf8 = not_utf8
+refusal faults.NotJson = not_json
+refusal (faults.Shape path) = shape (string_bytes path)
+refusal (faults.Unknown path name) = unknown (string_bytes path) (string_bytes name)
+refusal (faults.Duplicate path) = duplicate (string_bytes path)
+refusal (faults.BadType path cause) = bad_type (string_bytes path) cause
+refusal (faults.BadSpec path cause) = bad_spec (string_bytes path) cause
+refusal (faults.Limit l) = limit l
+
+-- What a function returned, seen by view, is what reading gives, unless memory ran out.
+abbrev pub Fails : {Y : Type 0} → ReadError → Result Y Refusal → Type 0
+Fails errors.OutOfMemory read = Unit {0}
+Fails (errors.Refused fault) read = read ≡ Err (refusal fault)
+
+abbrev pub Gives : {X Y : Type 0} → (X → Y) → Result X ReadError → Result Y Refusal → Type 0
+Gives view (Ok x) read = read ≡ Ok (view x)
+Gives view (Err e) read = Fails e read
+
+-- the same of a function that changes something in its place
+abbrev pub Leads : {X Y : Type 0} → Result X ReadError → Result Y Refusal → Y → Type 0
+Leads (Ok x) read new = read ≡ Ok new
+Leads (Err e) read new = Fails e read
+
+-- an error that is this refusal, or no memory
+abbrev pub IsRefusal : Refusal → Result ReadError ReadError → Type 0
+IsRefusal r (Ok e) = Fails {Y = Unit {0}} e (Err r)
+IsRefusal r (Err e) = e ≡ errors.OutOfMemory
+
+-- what is there, or the refusal
+abbrev pub or_refused : {A : Type 0} → Refusal → Option A → Result A Refusal
+or_refused refusal None = Err refusal
+or_refused refusal (Some x) = Ok x
+
+-- nothing, or the refusal of what was found
+abbrev pub refused_if : {A : Type 0} → (A → Refusal) → Option A → Result (Unit {0}) Refusal
+refused_if refusal None = Ok tt
+refused_if refusal (Some x) = Err (refusal x)

@@ -1,0 +1,122 @@
+//! The classes of a definition.
+
+ghost use Rattle.std.specs.Prelude.{◌≡◌, codes, length, IfOk};
+ghost use Rattle.serde_json.specs.View.{view, items_view};
+ghost use Rattle.param_specs.specs.Table.{own_of};
+ghost use Rattle.builder_defs.specs.Refusals.{Gives, Leads};
+ghost use Rattle.builder_defs.specs.Document.{under, each};
+ghost use Rattle.builder_defs.specs.Denoted.{draft_of, is_further, room_for_type, type_cause_of, with_class, declared_at, properties_at, class_at, class_of};
+
+use crate::document::{Entries, Part, path_of_entry, path_under};
+use crate::fault::{DefinitionFault, DefinitionLimit, ReadError};
+use crate::properties::read_properties;
+use param_specs::SpecTable;
+use type_tree::{MOST_TYPES, TypeError, TypeFlags, TypeId, TypeTree};
+
+const PREDECLARED_TYPES: usize = 2;
+const UNSET_BEFORE_PROPERTIES: [&str; 4] = ["parent", "abstract", "final", "implements"];
+const UNSET_AFTER_PROPERTIES: [&str; 4] = ["signals", "class-handlers", "constructed", "shape"];
+const MEMBERS: [&str; 10] = ["name", "parent", "abstract", "final", "implements", "properties", "signals", "class-handlers", "constructed", "shape"];
+
+// Tests that the tree has room for a further type.
+fn check_room(types: &TypeTree) -> Result<(), ReadError>
+    ensures { Gives (λ _. tt) result (room_for_type types.now) }
+{
+    if types.len() >= MOST_TYPES {
+        return Err(ReadError::Refused(DefinitionFault::Limit(DefinitionLimit::Types)));
+    }
+    Ok(())
+}
+
+// Whether a type is a class of the definition.
+fn is_further(class: Option<TypeId>) -> bool
+    ensures { result ≡ is_further class }
+{
+    match class {
+        Some(class) => class.index() >= PREDECLARED_TYPES,
+        None => false,
+    }
+}
+
+// The cause of a type's refusal, and nothing for want of memory.
+fn type_cause_of(error: TypeError) -> Option<TypeError>
+    ensures { result ≡ type_cause_of error }
+{
+    match error {
+        TypeError::OutOfMemory => None,
+        TypeError::BadName => Some(TypeError::BadName),
+        TypeError::Duplicate => Some(TypeError::Duplicate),
+        TypeError::UnknownParent => Some(TypeError::UnknownParent),
+        TypeError::FinalParent => Some(TypeError::FinalParent),
+        TypeError::Prerequisite(class) => Some(TypeError::Prerequisite(class)),
+        TypeError::Limit(limit) => Some(TypeError::Limit(limit)),
+    }
+}
+
+// Adds a class of a name, a child of `GObject`.
+fn add_class(part: Part<'_>, types: &mut TypeTree, name: &str) -> Result<TypeId, ReadError>
+    ensures types { Leads result (with_class (under part.entry.path.now (codes "name")) types.old name.now) types.new }
+    ensures class { IfOk result (λ t. t ≡ length types.old) }
+{
+    if is_further(types.find(name)) {
+        return Err(ReadError::Refused(DefinitionFault::Duplicate(path_under(part.alloc, part.path, "name")?)));
+    }
+    let error = match types.add_class(name, "GObject", TypeFlags::NONE, &[]) {
+        Ok(class) => return Ok(class),
+        Err(error) => error,
+    };
+    match type_cause_of(error) {
+        Some(cause) => Err(ReadError::Refused(DefinitionFault::BadType(path_under(part.alloc, part.path, "name")?, cause))),
+        None => Err(ReadError::OutOfMemory),
+    }
+}
+
+// Adds the class that an entry declares.
+#[tactic(auto, unfolding(crate::specs::Denoted::declared_at))]
+fn declare(part: Part<'_>, types: &mut TypeTree) -> Result<TypeId, ReadError>
+    ensures types { Leads result (declared_at part.entry.path.now types.old (view part.entry.value.now)) types.new }
+    ensures class { IfOk result (λ t. t ≡ length types.old) }
+{
+    check_room(types)?;
+    let name = part.text("name")?;
+    let class = add_class(part, types, name)?;
+    Ok(class)
+}
+
+// Gives a class the properties of its entry.
+#[tactic(auto, unfolding(crate::specs::Denoted::properties_at))]
+fn give_properties(part: Part<'_>, types: &TypeTree, specs: &mut SpecTable, class: TypeId) -> Result<(), ReadError>
+    ensures { Leads result (properties_at part.entry.path.now types.now class (own_of specs.old) (view part.entry.value.now)) (own_of specs.new) }
+{
+    part.check_nothing(&UNSET_BEFORE_PROPERTIES)?;
+    let items = part.entries("properties")?;
+    let path = path_under(part.alloc, part.path, "properties")?;
+    let list = Entries { alloc: part.alloc, path: path.as_str(), items };
+    read_properties(list, types, specs, class)?;
+    Ok(())
+}
+
+// Adds the class of an entry, with its properties.
+#[tactic(auto, unfolding(crate::specs::Denoted::class_at))]
+fn read_class(part: Part<'_>, types: &mut TypeTree, specs: &mut SpecTable) -> Result<(), ReadError>
+    ensures { Leads result (class_at part.entry.path.now (draft_of types.old specs.old) (view part.entry.value.now)) (draft_of types.new specs.new) }
+{
+    let members = part.members()?;
+    let class = declare(part, types)?;
+    give_properties(part, types, specs, class)?;
+    part.check_nothing(&UNSET_AFTER_PROPERTIES)?;
+    part.check_only(members, &MEMBERS)?;
+    Ok(())
+}
+
+// Adds the classes of a list.
+pub(crate) fn read_classes(list: Entries<'_>, types: &mut TypeTree, specs: &mut SpecTable) -> Result<(), ReadError>
+    ensures { Leads result (each (class_of list.entry.path.now) 0 (draft_of types.old specs.old) (items_view list.entry.items.now)) (draft_of types.new specs.new) }
+{
+    'items: for (index, item) in list.items.iter().enumerate() {
+        let path = path_of_entry(list.alloc, list.path, index)?;
+        let part = Part { alloc: list.alloc, path: path.as_str(), value: item };
+        read_class(part, types, specs)?;
+    }
+    Ok(())
+}

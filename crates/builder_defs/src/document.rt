@@ -1,0 +1,192 @@
+//! The parts of a JSON document, with their paths.
+
+ghost use Rattle.std.specs.Prelude.{◌≡◌, ◌∷◌, [], map, not, string_bytes, option_copied, option_map, IfOk, ◌++◌, OnOk};
+ghost use Rattle.std.specs.Char.{encode_utf8};
+ghost use Rattle.std.specs.List.{find, list_any};
+ghost use Rattle.std.specs.Str.{bytes_eq};
+ghost use Rattle.std.specs.BTreeMap.{keys};
+ghost use Rattle.serde_json.specs.View.{view, items_view, members_view};
+ghost use Rattle.serde_json.specs.Find.{get};
+ghost use Rattle.builder_defs.specs.Refusals.{Gives, IsRefusal, shape};
+ghost use Rattle.builder_defs.specs.Document.{under, nth, members_at, text_at, entries_at, is_absent_or_empty, nothing_at, escaped, only_at, document};
+
+use crate::fault::{DefinitionFault, ReadError};
+use serde_json::{Map, Value};
+use std::alloc::{AllocError, Global};
+
+/// The most bytes of a definition.
+pub const MAX_BYTES: usize = 4_194_304;
+
+// The JSON value that the bytes hold.
+#[tactic(auto, unfolding(crate::specs::Document::document))]
+pub(crate) fn parsed(alloc: Global, bytes: &[u8]) -> Result<Value, ReadError>
+    ensures { Gives view result (document bytes.now) }
+{
+    if bytes.len() > MAX_BYTES {
+        return Err(ReadError::Refused(DefinitionFault::TooLong));
+    }
+    let Ok(text) = str::from_utf8(bytes) else {
+        return Err(ReadError::Refused(DefinitionFault::NotUtf8));
+    };
+    match Value::from_str(alloc, text) {
+        Ok(value) => Ok(value),
+        Err(error) if error.is_memory() => Err(ReadError::OutOfMemory),
+        Err(_) => Err(ReadError::Refused(DefinitionFault::NotJson)),
+    }
+}
+
+// A value of a document, and its path.
+#[derive(Clone, Copy)]
+pub(crate) struct Part<'a> {
+    pub(crate) alloc: Global,
+    pub(crate) path: &'a str,
+    pub(crate) value: &'a Value,
+}
+
+// The entries of a list of a document, and the path of the list.
+#[derive(Clone, Copy)]
+pub(crate) struct Entries<'a> {
+    pub(crate) alloc: Global,
+    pub(crate) path: &'a str,
+    pub(crate) items: &'a [Value],
+}
+
+// The path of a member.
+pub(crate) fn path_under(alloc: Global, path: &str, key: &str) -> Result<String, AllocError>
+    ensures { IfOk result (λ s. string_bytes s ≡ under path.now key.now) }
+{
+    Ok(format!(in alloc; "{path}/{key}")?)
+}
+
+// The path of an entry of a list.
+pub(crate) fn path_of_entry(alloc: Global, path: &str, index: usize) -> Result<String, AllocError>
+    ensures { IfOk result (λ s. string_bytes s ≡ nth path.now index) }
+{
+    Ok(format!(in alloc; "{path}/{index}")?)
+}
+
+// A fault of shape at a member.
+pub(crate) fn bad_shape(alloc: Global, path: &str, key: &str) -> Result<ReadError, ReadError>
+    ensures { IsRefusal (shape (under path.now key.now)) result }
+{
+    Ok(ReadError::Refused(DefinitionFault::Shape(path_under(alloc, path, key)?)))
+}
+
+// Whether a member is absent or an empty list.
+#[tactic(auto, using(crate::proofs::Members::no_items_is))]
+fn is_absent_or_empty(member: Option<&Value>) -> bool
+    ensures { result ≡ is_absent_or_empty (option_map (λ m. view m.now) member.entry) }
+{
+    match member {
+        None => true,
+        Some(value) => match value.as_array() {
+            Some(items) => items.is_empty(),
+            None => false,
+        },
+    }
+}
+
+impl<'a> Part<'a> {
+    // The members of the value, which must be an object.
+    pub(crate) fn members(self) -> Result<&'a Map<String, Value>, ReadError>
+        ensures { Gives (λ m. members_view m.now.entries) result (members_at self.entry.path.now (view self.entry.value.now)) }
+    {
+        match self.value.as_object() {
+            Some(members) => Ok(members),
+            None => Err(ReadError::Refused(DefinitionFault::Shape(String::from_str(self.alloc, self.path)?))),
+        }
+    }
+
+    // A member that must be a text.
+    pub(crate) fn text(self, key: &str) -> Result<&'a str, ReadError>
+        ensures { Gives (λ s. s.now) result (text_at self.entry.path.now (view self.entry.value.now) key.now) }
+    {
+        match self.value.get(key).and_then(Value::as_str) {
+            Some(text) => Ok(text),
+            None => Err(bad_shape(self.alloc, self.path, key)?),
+        }
+    }
+
+    // The entries of a list, which may be absent.
+    pub(crate) fn entries(self, key: &str) -> Result<&'a [Value], ReadError>
+        ensures { Gives (λ s. items_view s.now) result (entries_at self.entry.path.now (view self.entry.value.now) key.now) }
+    {
+        let Some(list) = self.value.get(key) else {
+            return Ok(&[]);
+        };
+        match list.as_array() {
+            Some(items) => Ok(items.as_slice()),
+            None => Err(bad_shape(self.alloc, self.path, key)?),
+        }
+    }
+
+    // Tests that members, of which there is nothing so far, are absent or empty lists.
+    #[tactic(auto, using(crate::proofs::Members::find_map))]
+    pub(crate) fn check_nothing(self, keys: &[&str]) -> Result<(), ReadError>
+        ensures { Gives (λ _. tt) result (nothing_at self.entry.path.now (view self.entry.value.now) (map (λ k. k.now) keys.now)) }
+    {
+        match first_given(self.value, keys) {
+            None => Ok(()),
+            Some(key) => Err(bad_shape(self.alloc, self.path, key)?),
+        }
+    }
+
+    // Tests that the members have no other keys.
+    #[tactic(auto, using(crate::proofs::Members::first_other_is))]
+    pub(crate) fn check_only(self, members: &Map<String, Value>, keys: &[&str]) -> Result<(), ReadError>
+        ensures { Gives (λ _. tt) result (only_at self.entry.path.now (members_view members.now.entries) (map (λ k. k.now) keys.now)) }
+    {
+        match first_other(members, keys) {
+            None => Ok(()),
+            Some(key) => {
+                let key = escaped(self.alloc, key.as_str())?;
+                Err(bad_shape(self.alloc, self.path, key.as_str())?)
+            }
+        }
+    }
+}
+
+// The first member of these that is neither absent nor an empty list.
+fn first_given<'a>(value: &Value, keys: &[&'a str]) -> Option<&'a str>
+    ensures { result ≡ find (λ k. not (is_absent_or_empty (get k.now (view value.now)))) keys.now }
+{
+    keys.iter().copied().find(|key| !is_absent_or_empty(value.get(*key)))
+}
+
+// Whether a key is one of these.
+fn is_among(keys: &[&str], key: &str) -> bool
+    ensures { result ≡ list_any (λ k. bytes_eq k.now key.now) keys.now }
+{
+    keys.iter().any(|known| *known == key)
+}
+
+// The first key that is none of these.
+fn first_other<'a>(members: &'a Map<String, Value>, known: &[&str]) -> Option<&'a String>
+    ensures { option_copied result ≡ find (λ key. not (list_any (λ k. bytes_eq k.now (string_bytes key)) known.now)) (keys members.now) }
+{
+    members.keys().find(|key| !is_among(known, key.as_str()))
+}
+
+// Adds a character as a path writes it.
+#[tactic(auto, using(crate::proofs::Escapes::escaped_plain))]
+fn push_escaped(out: &mut String, c: char) -> Result<(), AllocError>
+    ensures { OnOk result (string_bytes out.new ≡ string_bytes out.old ++ escaped (encode_utf8 c)) }
+{
+    match c {
+        '~' => out.push_str("~0")?,
+        '/' => out.push_str("~1")?,
+        _ => out.push(c)?,
+    }
+    Ok(())
+}
+
+// A key as a path writes it: `~0` for `~`, and `~1` for `/`.
+fn escaped(alloc: Global, key: &str) -> Result<String, AllocError>
+    ensures { IfOk result (λ s. string_bytes s ≡ escaped key.now) }
+{
+    let mut out = String::new(alloc);
+    for c in key.chars() {
+        push_escaped(&mut out, c)?;
+    }
+    Ok(out)
+}

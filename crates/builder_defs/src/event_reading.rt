@@ -1,0 +1,241 @@
+//! Events, read from the lines of an event file.
+
+ghost use Rattle.std.specs.Prelude.{◌≡◌, option_map, IfOk};
+ghost use Rattle.serde_json.specs.View.{view, items_view};
+ghost use Rattle.g_values.specs.View.{kind_view, value_view};
+ghost use Rattle.builder_defs.specs.Meaning.{event_of};
+ghost use Rattle.param_specs.specs.View.{spec_view};
+ghost use Rattle.builder_defs.specs.EventMeaning.{Gives, event_denoted, event_meant, line_value, has_one_member, words_of_set, words_of_get, set_event, get_event, target, given_value, number_given, text_given, readable, writable, or_refused, value_fault};
+
+use crate::definition::Definition;
+use crate::event::Event;
+use crate::event_fault::{EventError, EventFault};
+use bitflags::Flags;
+use g_values::Kind;
+use param_specs::{PropertyFlags, Spec};
+use serde_json::Value;
+use std::alloc::{AllocError, Global};
+use std::rc::RcStr;
+use ui_machine::Place;
+
+/// The most bytes of a line.
+pub const MAX_LINE_BYTES: usize = 65_536;
+
+/// The most bytes of a text that is set.
+pub const MAX_TEXT_BYTES: usize = 4_096;
+
+/// Reads an event of a definition. A fault is the first one in the order of `EventFault`.
+#[tactic(auto, unfolding(crate::specs::EventMeaning::event_denoted))]
+pub fn read_event(alloc: Global, definition: &Definition, bytes: &[u8]) -> Result<Event, EventError>
+    ensures exact { Gives event_of result (event_denoted definition.now bytes.now) }
+{
+    let value = parsed_line(alloc, bytes)?;
+    let event = event_in(alloc, definition, &value)?;
+    Ok(event)
+}
+
+// The JSON value that a line holds.
+#[tactic(auto, unfolding(crate::specs::EventMeaning::line_value))]
+fn parsed_line(alloc: Global, bytes: &[u8]) -> Result<Value, EventError>
+    ensures { Gives view result (line_value bytes.now) }
+{
+    if bytes.len() > MAX_LINE_BYTES {
+        return Err(EventError::Refused(EventFault::TooLong));
+    }
+    let Ok(text) = str::from_utf8(bytes) else {
+        return Err(EventError::Refused(EventFault::NotJson));
+    };
+    match Value::from_str(alloc, text) {
+        Ok(value) => Ok(value),
+        Err(error) if error.is_memory() => Err(EventError::OutOfMemory),
+        Err(_) => Err(EventError::Refused(EventFault::NotJson)),
+    }
+}
+
+// Whether a value is an object of exactly one member.
+#[tactic(auto, using(crate::proofs::Values::one_member_is))]
+fn has_one_member(value: &Value) -> bool
+    ensures { result ≡ has_one_member (view value.now) }
+{
+    match value.as_object() {
+        Some(members) => members.len() == 1,
+        None => false,
+    }
+}
+
+// The event that a value asks for.
+#[tactic(auto, unfolding(crate::specs::EventMeaning::event_meant))]
+fn event_in(alloc: Global, definition: &Definition, value: &Value) -> Result<Event, EventError>
+    ensures { Gives event_of result (event_meant definition.now (view value.now)) }
+{
+    if !has_one_member(value) {
+        return Err(EventError::Refused(EventFault::Shape));
+    }
+    if let Some(words) = value.get("set") {
+        let event = set_in(alloc, definition, words)?;
+        return Ok(event);
+    }
+    let Some(words) = value.get("get") else {
+        return Err(EventError::Refused(EventFault::Shape));
+    };
+    let event = get_in(alloc, definition, words)?;
+    Ok(event)
+}
+
+// The id, the name and the value of a set.
+fn words_of_set(items: &[Value]) -> Option<(&str, &str, &Value)>
+    ensures { option_map (λ w. (w.0.now, w.1.now, view w.2.now)) result ≡ words_of_set (items_view items.now) }
+{
+    match items {
+        [id, name, value] => Some((id.as_str()?, name.as_str()?, value)),
+        [] => None,
+        [_] => None,
+        [_, _] => None,
+        [_, _, _, _, ..] => None,
+    }
+}
+
+// The id and the name of a get.
+fn words_of_get(items: &[Value]) -> Option<(&str, &str)>
+    ensures { option_map (λ w. (w.0.now, w.1.now)) result ≡ words_of_get (items_view items.now) }
+{
+    match items {
+        [id, name] => Some((id.as_str()?, name.as_str()?)),
+        [] => None,
+        [_] => None,
+        [_, _, _, ..] => None,
+    }
+}
+
+// The set that a list of words asks for.
+#[tactic(auto, unfolding(crate::specs::EventMeaning::set_event))]
+fn set_in(alloc: Global, definition: &Definition, words: &Value) -> Result<Event, EventError>
+    ensures { Gives event_of result (set_event definition.now (view words.now)) }
+{
+    let Some(items) = words.as_array() else {
+        return Err(EventError::Refused(EventFault::Shape));
+    };
+    let Some((id, name, value)) = words_of_set(items.as_slice()) else {
+        return Err(EventError::Refused(EventFault::Shape));
+    };
+    let target = target_of(alloc, definition, id, name)?;
+    check_writable(target.spec)?;
+    let value = value_for(alloc, target.spec.kind, value)?;
+    Ok(Event::Set { place: target.place, slot: target.slot, value })
+}
+
+// The get that a list of words asks for.
+#[tactic(auto, unfolding(crate::specs::EventMeaning::get_event))]
+fn get_in(alloc: Global, definition: &Definition, words: &Value) -> Result<Event, EventError>
+    ensures { Gives event_of result (get_event definition.now (view words.now)) }
+{
+    let Some(items) = words.as_array() else {
+        return Err(EventError::Refused(EventFault::Shape));
+    };
+    let Some((id, name)) = words_of_get(items.as_slice()) else {
+        return Err(EventError::Refused(EventFault::Shape));
+    };
+    let target = target_of(alloc, definition, id, name)?;
+    check_readable(target.spec)?;
+    Ok(Event::Get { place: target.place, slot: target.slot })
+}
+
+// A property of an object.
+#[derive(Clone, Copy)]
+struct Target<'a> {
+    place: Place,
+    slot: u16,
+    spec: &'a Spec,
+}
+
+// The property of an object that an id and a name name.
+#[tactic(auto, unfolding(crate::specs::EventMeaning::target))]
+fn target_of<'a>(alloc: Global, definition: &'a Definition, id: &str, name: &str) -> Result<Target<'a>, EventError>
+    ensures { Gives (λ t. record { place = t.place.0; slot = t.slot; spec = spec_view t.spec.now }) result (target definition.now id.now name.now) }
+{
+    let Some(place) = definition.place(id) else {
+        return Err(EventError::Refused(EventFault::Unknown(String::from_str(alloc, id)?)));
+    };
+    let class = definition.class_at(place);
+    let Some(slot) = definition.slot(class, name) else {
+        return Err(EventError::Refused(EventFault::Unknown(String::from_str(alloc, name)?)));
+    };
+    match definition.spec(class, slot) {
+        Some(spec) => Ok(Target { place, slot, spec }),
+        None => Err(EventError::Refused(EventFault::Unknown(String::from_str(alloc, name)?))),
+    }
+}
+
+// Tests that a property may be set while its object lives.
+fn check_writable(spec: &Spec) -> Result<(), EventError>
+    ensures { Gives (λ _. tt) result (writable (spec_view spec.now)) }
+{
+    if !spec.flags.contains(PropertyFlags::WRITABLE) {
+        return Err(EventError::Refused(EventFault::NotWritable));
+    }
+    if spec.flags.contains(PropertyFlags::CONSTRUCT_ONLY) {
+        return Err(EventError::Refused(EventFault::ConstructOnly));
+    }
+    Ok(())
+}
+
+// Tests that a property may be read.
+fn check_readable(spec: &Spec) -> Result<(), EventError>
+    ensures { Gives (λ _. tt) result (readable (spec_view spec.now)) }
+{
+    if !spec.flags.contains(PropertyFlags::READABLE) {
+        return Err(EventError::Refused(EventFault::NotReadable));
+    }
+    Ok(())
+}
+
+// A number of 32 bits.
+fn number_given(number: i64) -> Option<g_values::Value>
+    ensures { option_map value_view result ≡ number_given number }
+{
+    if number < i64::from(i32::MIN) || number > i64::from(i32::MAX) {
+        return None;
+    }
+    Some(g_values::Value::Int(number as i32))
+}
+
+// The text that a value holds, or null.
+fn text_given(alloc: Global, value: &Value) -> Result<Option<g_values::Value>, AllocError>
+    ensures { IfOk result (λ o. option_map value_view o ≡ text_given (view value.now)) }
+{
+    if value.is_null() {
+        return Ok(Some(g_values::Value::Text(None)));
+    }
+    match value.as_str() {
+        Some(text) if text.len() <= MAX_TEXT_BYTES => Ok(Some(g_values::Value::Text(Some(RcStr::from_str(alloc, text)?)))),
+        _ => Ok(None),
+    }
+}
+
+// The value of a kind that a JSON value stands for.
+fn value_given(alloc: Global, kind: Kind, value: &Value) -> Result<Option<g_values::Value>, AllocError>
+    ensures { IfOk result (λ o. option_map value_view o ≡ given_value (kind_view kind) (view value.now)) }
+{
+    match kind {
+        Kind::Bool => match value.as_bool() {
+            Some(truth) => Ok(Some(g_values::Value::Bool(truth))),
+            None => Ok(None),
+        },
+        Kind::Int => match value.as_i64() {
+            Some(number) => Ok(number_given(number)),
+            None => Ok(None),
+        },
+        Kind::Text => Ok(text_given(alloc, value)?),
+        Kind::UInt | Kind::Int64 | Kind::UInt64 | Kind::Enum(_) | Kind::Flags(_) | Kind::Object(_) => Ok(None),
+    }
+}
+
+// The same, or the fault.
+fn value_for(alloc: Global, kind: Kind, value: &Value) -> Result<g_values::Value, EventError>
+    ensures { Gives value_view result (or_refused value_fault (given_value (kind_view kind) (view value.now))) }
+{
+    match value_given(alloc, kind, value)? {
+        Some(value) => Ok(value),
+        None => Err(EventError::Refused(EventFault::ValueFault)),
+    }
+}

@@ -1,0 +1,96 @@
+//! Definitions, read from their bytes.
+
+ghost use Rattle.std.specs.Prelude.{◌≡◌, ◌≤◌, [], map, length, codes, option_and_then, IfOk};
+ghost use Rattle.serde_json.specs.Find.{get, as_number, as_u64};
+ghost use Rattle.serde_json.specs.View.{view};
+ghost use Rattle.builder_defs.specs.Meaning.{plain_object};
+ghost use Rattle.builder_defs.specs.Refusals.{Gives, Leads};
+ghost use Rattle.builder_defs.specs.Denoted.{draft_of, first_draft, format_of, classes_in, objects_in, definition_in, denoted};
+
+use crate::classes::read_classes;
+use crate::definition::Definition;
+use crate::document::{Entries, Part, parsed, path_under};
+use crate::fault::{DefinitionFault, ReadError};
+use crate::object_entry::ObjectEntry;
+use crate::objects::read_objects;
+use param_specs::SpecTable;
+use serde_json::Value;
+use std::alloc::Global;
+use type_tree::TypeTree;
+
+const UNSET_BEFORE_CLASSES: [&str; 5] = ["limits", "enums", "flags", "interfaces", "shapes"];
+const UNSET_BEFORE_OBJECTS: [&str; 2] = ["programs", "prototypes"];
+const MEMBERS: [&str; 10] = ["format", "limits", "enums", "flags", "interfaces", "shapes", "classes", "programs", "prototypes", "objects"];
+
+// Tests the member `format`, which is 1.
+fn check_format(alloc: Global, format: Option<u64>) -> Result<(), ReadError>
+    ensures { Gives (λ _. tt) result (format_of format) }
+{
+    match format {
+        Some(1) => Ok(()),
+        _ => Err(ReadError::Refused(DefinitionFault::Shape(String::from_str(alloc, "/format")?))),
+    }
+}
+
+// The number that the member `format` is.
+fn format_in(value: &Value) -> Option<u64>
+    ensures { result ≡ option_and_then as_u64 (option_and_then as_number (get (codes "format") (view value.now))) }
+{
+    value.get("format").and_then(Value::as_u64)
+}
+
+// Adds the classes of a definition to the types that are there from the beginning.
+#[tactic(auto, unfolding(crate::specs::Denoted::classes_in))]
+fn read_types(part: Part<'_>, types: &mut TypeTree, specs: &mut SpecTable) -> Result<(), ReadError>
+    requires root { part.path.now ≡ [] }
+    requires first { draft_of types.old specs.old ≡ first_draft }
+    ensures { Leads result (classes_in (view part.entry.value.now)) (draft_of types.new specs.new) }
+{
+    part.check_nothing(&UNSET_BEFORE_CLASSES)?;
+    let items = part.entries("classes")?;
+    let path = path_under(part.alloc, part.path, "classes")?;
+    let list = Entries { alloc: part.alloc, path: path.as_str(), items };
+    read_classes(list, types, specs)?;
+    Ok(())
+}
+
+// The objects of a definition.
+#[tactic(auto, unfolding(crate::specs::Denoted::objects_in))]
+fn objects_of(part: Part<'_>, types: &TypeTree) -> Result<Vec<ObjectEntry>, ReadError>
+    requires { part.path.now ≡ [] }
+    ensures objects { Gives (λ v. map plain_object v.items) result (objects_in types.now (view part.entry.value.now)) }
+    ensures few { IfOk result (λ v. length v.items ≤ 64) }
+{
+    part.check_nothing(&UNSET_BEFORE_OBJECTS)?;
+    let items = part.entries("objects")?;
+    let path = path_under(part.alloc, part.path, "objects")?;
+    let list = Entries { alloc: part.alloc, path: path.as_str(), items };
+    let objects = read_objects(list, types)?;
+    Ok(objects)
+}
+
+// The definition of a JSON value.
+#[tactic(auto, unfolding(crate::specs::Denoted::definition_in))]
+fn definition_of(alloc: Global, value: &Value) -> Result<Definition, ReadError>
+    ensures { Gives (λ d. d) result (definition_in (view value.now)) }
+{
+    let part = Part { alloc, path: "", value };
+    let members = part.members()?;
+    check_format(alloc, format_in(value))?;
+    let mut types = TypeTree::new(alloc)?;
+    let mut specs = SpecTable::new(alloc);
+    read_types(part, &mut types, &mut specs)?;
+    let objects = objects_of(part, &types)?;
+    part.check_only(members, &MEMBERS)?;
+    Ok(Definition { types, specs, objects })
+}
+
+/// Reads a definition. A fault is the first one in document order.
+#[tactic(auto, unfolding(crate::specs::Denoted::denoted))]
+pub fn read_definition(alloc: Global, bytes: &[u8]) -> Result<Definition, ReadError>
+    ensures exact { Gives (λ d. d) result (denoted bytes.now) }
+{
+    let value = parsed(alloc, bytes)?;
+    let definition = definition_of(alloc, &value)?;
+    Ok(definition)
+}
