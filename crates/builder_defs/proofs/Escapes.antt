@@ -14,7 +14,6 @@ use Rattle.builder_defs.specs.Document.{escaped_byte, escaped}
 plain_byte : (x : ℕ) (rest : List ℕ) → nat_eq x 126 ≡ false → nat_eq x 47 ≡ false → escaped_byte x ++ rest ≡ x ∷ rest
 plain_byte x rest p q = rw (p, q) refl
 
-
 -- the characters as a path writes them
 abbrev pub spelled : List ℕ → List ℕ
 spelled cs = escaped (encodes cs)

@@ -61,15 +61,15 @@ PlainKind types k = (name : List ℕ) → IsPlain (property_spec types name k)
 
 named_plain : (r : Refusal) (types : List GType) (x y z : Bool)
     → OnRead (PlainKind types) (or_refused r (if x then Some kinds.bool else (if y then Some (kinds.whole kinds.int) else (if z then Some kinds.text else None))))
-named_plain r types true y z = λ name. tt
-named_plain r types false true z = λ name. (refl, refl)
-named_plain r types false false true = λ name. tt
+named_plain r types true y z = λ name. record { kind = tt; flags = refl; strong = refl }
+named_plain r types false true z = λ name. record { kind = (refl, refl); flags = refl; strong = refl }
+named_plain r types false false true = λ name. record { kind = tt; flags = refl; strong = refl }
 named_plain r types false false false = tt
 
 kind_plain : (path : List ℕ) (d : Data) (types : List GType) → OnRead (PlainKind types) (kind_at path d)
 kind_plain path d types =
     on_bind (λ x. Unit {0}) (PlainKind types) (text_at path d (codes "kind")) (λ word. or_refused (shape (under path (codes "kind"))) (kind_named word)) (on_all _)
-      (λ word u. named_plain _ types (bytes_eq word (codes "bool")) (bytes_eq word (codes "int")) (bytes_eq word (codes "text")))
+    (λ word u. named_plain _ types (bytes_eq word (codes "bool")) (bytes_eq word (codes "int")) (bytes_eq word (codes "text")))
 
 spec_plain : (path : List ℕ) (types : List GType) (specs : List Spec) (d : Data) → OnRead IsPlain (spec_at path types specs d)
 unfolding spec_at
@@ -111,7 +111,7 @@ property_plain : (path : List ℕ) (types : List GType) (t : ℕ) (own : ℕ →
 unfolding property_at
 property_plain path types t own d all =
     on_bind IsPlain AllOwn (spec_at path types (specs_by types own t) d) (λ spec. installed path types t own spec) (spec_plain path types (specs_by types own t) d)
-      λ spec plain. installed_plain path (install_fault types (specs_by types own t) spec) (add_own own t (canonical_spec spec)) (added_plain own t (canonical_spec spec) all (canonical_kind spec.kind spec plain))
+    λ spec plain. installed_plain path (install_fault types (specs_by types own t) spec) (add_own own t (canonical_spec spec)) (added_plain own t (canonical_spec spec) all (record { kind = canonical_kind spec.kind spec plain.kind; flags = plain.flags; strong = plain.strong }))
 
 properties_plain : (path : List ℕ) (types : List GType) (t : ℕ) (own : ℕ → List Spec) (d : Data) → AllOwn own → OnRead AllOwn (properties_at path types t own d)
 unfolding properties_at
@@ -144,5 +144,5 @@ sound types table os d read few =
     let all : AllOwn (own_of table) = subst (OnRead PlainDraft) read (classes_plain d) in
     record {
       plain = record { at = λ t slot s h. plain_get (specs_of types table t) slot s (subst AllPlain (sym (specs_of-is types table t)) (plain_flat (own_of table) all (reverse (lineage types t)))) h };
-      few = few
+      few = few;
     }

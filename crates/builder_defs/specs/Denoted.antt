@@ -164,7 +164,7 @@ abbrev pub with_class : List ℕ → List GType → List ℕ → Result (List GT
 with_class path types name =
     if is_further (find_type types name) then Err (duplicate path) else
     added_or path (class_fault types name (codes "GObject") [])
-      (types ++ new_class types name (codes "GObject") (record { is_abstract = false; is_final = false }) [] ∷ [])
+    (types ++ new_class types name (codes "GObject") (record { is_abstract = false; is_final = false }) [] ∷ [])
 
 abbrev pub unset_before_properties : List (List ℕ)
 unset_before_properties = codes "parent" ∷ codes "abstract" ∷ codes "final" ∷ codes "implements" ∷ []
@@ -272,9 +272,12 @@ abbrev pub definition_with : Draft → List machine.Place → machine.Definition
 definition_with draft places = record {
   types = draft.types;
   classes = listed (λ t. class_with (specs_by draft.types draft.own t)) (length draft.types);
-  shapes = []; programs = [];
+  shapes = [];
+  programs = [];
   places = places;
-  bindings = []; most_objects = default_objects; most_handlers = 0
+  bindings = [];
+  most_objects = default_objects;
+  most_handlers = 0;
 }
 
 unfoldable pub classes_in : Data → Result Draft Refusal

@@ -35,9 +35,12 @@ abbrev pub meaning : List GType → List (List Spec) → List ObjectEntry → ma
 meaning types specs objects = record {
   types = types;
   classes = listed (λ t. class_with (specs_of types specs t)) (length types);
-  shapes = []; programs = [];
+  shapes = [];
+  programs = [];
   places = map plain_object objects;
-  bindings = []; most_objects = default_objects; most_handlers = 0
+  bindings = [];
+  most_objects = default_objects;
+  most_handlers = 0;
 }
 
 -- a property of a kind that there is so far: a truth value, a number of the whole range, or a text

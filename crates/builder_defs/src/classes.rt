@@ -14,9 +14,23 @@ use param_specs::SpecTable;
 use type_tree::{MOST_TYPES, TypeError, TypeFlags, TypeId, TypeTree};
 
 const PREDECLARED_TYPES: usize = 2;
+
 const UNSET_BEFORE_PROPERTIES: [&str; 4] = ["parent", "abstract", "final", "implements"];
+
 const UNSET_AFTER_PROPERTIES: [&str; 4] = ["signals", "class-handlers", "constructed", "shape"];
-const MEMBERS: [&str; 10] = ["name", "parent", "abstract", "final", "implements", "properties", "signals", "class-handlers", "constructed", "shape"];
+
+const MEMBERS: [&str; 10] = [
+    "name",
+    "parent",
+    "abstract",
+    "final",
+    "implements",
+    "properties",
+    "signals",
+    "class-handlers",
+    "constructed",
+    "shape",
+];
 
 // Tests that the tree has room for a further type.
 fn check_room(types: &TypeTree) -> Result<(), ReadError>
@@ -59,14 +73,19 @@ fn add_class(part: Part<'_>, types: &mut TypeTree, name: &str) -> Result<TypeId,
     ensures class { IfOk result (λ t. t ≡ length types.old) }
 {
     if is_further(types.find(name)) {
-        return Err(ReadError::Refused(DefinitionFault::Duplicate(path_under(part.alloc, part.path, "name")?)));
+        return Err(ReadError::Refused(DefinitionFault::Duplicate(path_under(
+            part.alloc, part.path, "name",
+        )?)));
     }
     let error = match types.add_class(name, "GObject", TypeFlags::NONE, &[]) {
         Ok(class) => return Ok(class),
         Err(error) => error,
     };
     match type_cause_of(error) {
-        Some(cause) => Err(ReadError::Refused(DefinitionFault::BadType(path_under(part.alloc, part.path, "name")?, cause))),
+        Some(cause) => Err(ReadError::Refused(DefinitionFault::BadType(
+            path_under(part.alloc, part.path, "name")?,
+            cause,
+        ))),
         None => Err(ReadError::OutOfMemory),
     }
 }
@@ -85,13 +104,22 @@ fn declare(part: Part<'_>, types: &mut TypeTree) -> Result<TypeId, ReadError>
 
 // Gives a class the properties of its entry.
 #[tactic(auto, unfolding(crate::specs::Denoted::properties_at))]
-fn give_properties(part: Part<'_>, types: &TypeTree, specs: &mut SpecTable, class: TypeId) -> Result<(), ReadError>
+fn give_properties(
+    part: Part<'_>,
+    types: &TypeTree,
+    specs: &mut SpecTable,
+    class: TypeId,
+) -> Result<(), ReadError>
     ensures { Leads result (properties_at part.entry.path.now types.now class (own_of specs.old) (view part.entry.value.now)) (own_of specs.new) }
 {
     part.check_nothing(&UNSET_BEFORE_PROPERTIES)?;
     let items = part.entries("properties")?;
     let path = path_under(part.alloc, part.path, "properties")?;
-    let list = Entries { alloc: part.alloc, path: path.as_str(), items };
+    let list = Entries {
+        alloc: part.alloc,
+        path: path.as_str(),
+        items,
+    };
     read_properties(list, types, specs, class)?;
     Ok(())
 }
@@ -110,12 +138,20 @@ fn read_class(part: Part<'_>, types: &mut TypeTree, specs: &mut SpecTable) -> Re
 }
 
 // Adds the classes of a list.
-pub(crate) fn read_classes(list: Entries<'_>, types: &mut TypeTree, specs: &mut SpecTable) -> Result<(), ReadError>
+pub(crate) fn read_classes(
+    list: Entries<'_>,
+    types: &mut TypeTree,
+    specs: &mut SpecTable,
+) -> Result<(), ReadError>
     ensures { Leads result (each (class_of list.entry.path.now) 0 (draft_of types.old specs.old) (items_view list.entry.items.now)) (draft_of types.new specs.new) }
 {
     'items: for (index, item) in list.items.iter().enumerate() {
         let path = path_of_entry(list.alloc, list.path, index)?;
-        let part = Part { alloc: list.alloc, path: path.as_str(), value: item };
+        let part = Part {
+            alloc: list.alloc,
+            path: path.as_str(),
+            value: item,
+        };
         read_class(part, types, specs)?;
     }
     Ok(())

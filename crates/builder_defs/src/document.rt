@@ -93,7 +93,9 @@ impl<'a> Part<'a> {
     {
         match self.value.as_object() {
             Some(members) => Ok(members),
-            None => Err(ReadError::Refused(DefinitionFault::Shape(String::from_str(self.alloc, self.path)?))),
+            None => Err(ReadError::Refused(DefinitionFault::Shape(String::from_str(
+                self.alloc, self.path,
+            )?))),
         }
     }
 
@@ -133,7 +135,11 @@ impl<'a> Part<'a> {
 
     // Tests that the members have no other keys.
     #[tactic(auto, using(crate::proofs::Members::first_other_is))]
-    pub(crate) fn check_only(self, members: &Map<String, Value>, keys: &[&str]) -> Result<(), ReadError>
+    pub(crate) fn check_only(
+        self,
+        members: &Map<String, Value>,
+        keys: &[&str],
+    ) -> Result<(), ReadError>
         ensures { Gives (λ _. tt) result (only_at self.entry.path.now (members_view members.now.entries) (map (λ k. k.now) keys.now)) }
     {
         match first_other(members, keys) {
@@ -150,7 +156,9 @@ impl<'a> Part<'a> {
 fn first_given<'a>(value: &Value, keys: &[&'a str]) -> Option<&'a str>
     ensures { result ≡ find (λ k. not (is_absent_or_empty (get k.now (view value.now)))) keys.now }
 {
-    keys.iter().copied().find(|key| !is_absent_or_empty(value.get(*key)))
+    keys.iter()
+        .copied()
+        .find(|key| !is_absent_or_empty(value.get(*key)))
 }
 
 // Whether a key is one of these.

@@ -121,7 +121,11 @@ fn set_in(alloc: Global, definition: &Definition, words: &Value) -> Result<Event
     let target = target_of(alloc, definition, id, name)?;
     check_writable(target.spec)?;
     let value = value_for(alloc, target.spec.kind, value)?;
-    Ok(Event::Set { place: target.place, slot: target.slot, value })
+    Ok(Event::Set {
+        place: target.place,
+        slot: target.slot,
+        value,
+    })
 }
 
 // The get that a list of words asks for.
@@ -137,7 +141,10 @@ fn get_in(alloc: Global, definition: &Definition, words: &Value) -> Result<Event
     };
     let target = target_of(alloc, definition, id, name)?;
     check_readable(target.spec)?;
-    Ok(Event::Get { place: target.place, slot: target.slot })
+    Ok(Event::Get {
+        place: target.place,
+        slot: target.slot,
+    })
 }
 
 // A property of an object.
@@ -150,7 +157,12 @@ struct Target<'a> {
 
 // The property of an object that an id and a name name.
 #[tactic(auto, unfolding(crate::specs::EventMeaning::target))]
-fn target_of<'a>(alloc: Global, definition: &'a Definition, id: &str, name: &str) -> Result<Target<'a>, EventError>
+fn target_of<'a>(
+    alloc: Global,
+    definition: &'a Definition,
+    id: &str,
+    name: &str,
+) -> Result<Target<'a>, EventError>
     ensures { Gives (λ t. record { place = t.place.0; slot = t.slot; spec = spec_view t.spec.now }) result (target definition.now id.now name.now) }
 {
     let Some(place) = definition.place(id) else {
@@ -207,13 +219,19 @@ fn text_given(alloc: Global, value: &Value) -> Result<Option<g_values::Value>, A
         return Ok(Some(g_values::Value::Text(None)));
     }
     match value.as_str() {
-        Some(text) if text.len() <= MAX_TEXT_BYTES => Ok(Some(g_values::Value::Text(Some(RcStr::from_str(alloc, text)?)))),
+        Some(text) if text.len() <= MAX_TEXT_BYTES => Ok(Some(g_values::Value::Text(Some(
+            RcStr::from_str(alloc, text)?,
+        )))),
         _ => Ok(None),
     }
 }
 
 // The value of a kind that a JSON value stands for.
-fn value_given(alloc: Global, kind: Kind, value: &Value) -> Result<Option<g_values::Value>, AllocError>
+fn value_given(
+    alloc: Global,
+    kind: Kind,
+    value: &Value,
+) -> Result<Option<g_values::Value>, AllocError>
     ensures { IfOk result (λ o. option_map value_view o ≡ given_value (kind_view kind) (view value.now)) }
 {
     match kind {
@@ -226,7 +244,12 @@ fn value_given(alloc: Global, kind: Kind, value: &Value) -> Result<Option<g_valu
             None => Ok(None),
         },
         Kind::Text => Ok(text_given(alloc, value)?),
-        Kind::UInt | Kind::Int64 | Kind::UInt64 | Kind::Enum(_) | Kind::Flags(_) | Kind::Object(_) => Ok(None),
+        Kind::UInt
+        | Kind::Int64
+        | Kind::UInt64
+        | Kind::Enum(_)
+        | Kind::Flags(_)
+        | Kind::Object(_) => Ok(None),
     }
 }
 

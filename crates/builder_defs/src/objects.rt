@@ -17,6 +17,7 @@ use crate::object_entry::ObjectEntry;
 use type_tree::{TypeId, TypeTree};
 
 const UNSET_MEMBERS: [&str; 4] = ["peer", "properties", "signals", "children"];
+
 const MEMBERS: [&str; 6] = ["id", "class", "peer", "properties", "signals", "children"];
 
 // An ASCII letter, a digit, `-` or `_`.
@@ -73,7 +74,9 @@ fn check_id(part: Part<'_>, objects: &[ObjectEntry], id: &str) -> Result<(), Rea
         return Err(bad_shape(part.alloc, part.path, "id")?);
     }
     if has_object(objects, id) {
-        return Err(ReadError::Refused(DefinitionFault::Duplicate(path_under(part.alloc, part.path, "id")?)));
+        return Err(ReadError::Refused(DefinitionFault::Duplicate(path_under(
+            part.alloc, part.path, "id",
+        )?)));
     }
     Ok(())
 }
@@ -87,14 +90,21 @@ fn class_of(part: Part<'_>, types: &TypeTree) -> Result<TypeId, ReadError>
         Some(class) => Ok(class),
         None => {
             let path = path_under(part.alloc, part.path, "class")?;
-            Err(ReadError::Refused(DefinitionFault::Unknown(path, String::from_str(part.alloc, name)?)))
+            Err(ReadError::Refused(DefinitionFault::Unknown(
+                path,
+                String::from_str(part.alloc, name)?,
+            )))
         }
     }
 }
 
 // The object of an entry.
 #[tactic(auto, unfolding(crate::specs::Denoted::place_at))]
-fn read_object(part: Part<'_>, types: &TypeTree, objects: &[ObjectEntry]) -> Result<ObjectEntry, ReadError>
+fn read_object(
+    part: Part<'_>,
+    types: &TypeTree,
+    objects: &[ObjectEntry],
+) -> Result<ObjectEntry, ReadError>
     ensures object { Gives plain_object result (place_at part.entry.path.now types.now (map plain_object objects.now) (view part.entry.value.now)) }
     ensures few { IfOk result (λ _. length objects.now < 64) }
 {
@@ -110,14 +120,21 @@ fn read_object(part: Part<'_>, types: &TypeTree, objects: &[ObjectEntry]) -> Res
 }
 
 // The objects of a list.
-pub(crate) fn read_objects(list: Entries<'_>, types: &TypeTree) -> Result<Vec<ObjectEntry>, ReadError>
+pub(crate) fn read_objects(
+    list: Entries<'_>,
+    types: &TypeTree,
+) -> Result<Vec<ObjectEntry>, ReadError>
     ensures objects { Gives (λ v. map plain_object v.items) result (each (object_of list.entry.path.now types.now) 0 [] (items_view list.entry.items.now)) }
     ensures few { IfOk result (λ v. length v.items ≤ 64) }
 {
     let mut objects = Vec::new(list.alloc);
     'items: for (index, item) in list.items.iter().enumerate() {
         let path = path_of_entry(list.alloc, list.path, index)?;
-        let part = Part { alloc: list.alloc, path: path.as_str(), value: item };
+        let part = Part {
+            alloc: list.alloc,
+            path: path.as_str(),
+            value: item,
+        };
         let object = read_object(part, types, objects.as_slice())?;
         objects.push(object)?;
     }

@@ -22,6 +22,7 @@ use std::alloc::Global;
 use type_tree::{TypeId, TypeTree};
 
 const UNSET_MEMBERS: [&str; 5] = ["flags", "default", "min", "max", "weak"];
+
 const MEMBERS: [&str; 7] = ["name", "kind", "flags", "default", "min", "max", "weak"];
 
 // The kind of a word, of the kinds that there are so far.
@@ -118,7 +119,13 @@ fn check_room(types: &TypeTree, specs: &SpecTable, class: TypeId) -> Result<(), 
 }
 
 // A fault of a property at its name.
-fn check_name(part: Part<'_>, types: &TypeTree, specs: &SpecTable, class: TypeId, name: &str) -> Result<(), ReadError>
+fn check_name(
+    part: Part<'_>,
+    types: &TypeTree,
+    specs: &SpecTable,
+    class: TypeId,
+    name: &str,
+) -> Result<(), ReadError>
     ensures { Gives (λ _. tt) result (new_property (under part.entry.path.now (codes "name")) (specs_of types.now specs.now class) name.now) }
 {
     if !is_property_name(name) {
@@ -134,7 +141,12 @@ fn check_name(part: Part<'_>, types: &TypeTree, specs: &SpecTable, class: TypeId
 
 // The spec of a property that a class has not yet.
 #[tactic(auto, unfolding(crate::specs::Denoted::spec_at))]
-fn spec_in(part: Part<'_>, types: &TypeTree, specs: &SpecTable, class: TypeId) -> Result<Spec, ReadError>
+fn spec_in(
+    part: Part<'_>,
+    types: &TypeTree,
+    specs: &SpecTable,
+    class: TypeId,
+) -> Result<Spec, ReadError>
     ensures spec { Gives spec_view result (spec_at part.entry.path.now types.now (specs_of types.now specs.now class) (view part.entry.value.now)) }
     ensures known { IfOk result (λ s. IsKnown types.now s.kind) }
 {
@@ -168,7 +180,13 @@ fn cause_of(error: SpecError) -> Option<SpecError>
 }
 
 // Gives a class a property.
-fn install(part: Part<'_>, types: &TypeTree, specs: &mut SpecTable, class: TypeId, spec: Spec) -> Result<(), ReadError>
+fn install(
+    part: Part<'_>,
+    types: &TypeTree,
+    specs: &mut SpecTable,
+    class: TypeId,
+    spec: Spec,
+) -> Result<(), ReadError>
     requires { IsKnown types.now spec.kind }
     ensures { Leads result (installed part.entry.path.now types.now class (own_of specs.old) (spec_view spec)) (own_of specs.new) }
 {
@@ -176,14 +194,22 @@ fn install(part: Part<'_>, types: &TypeTree, specs: &mut SpecTable, class: TypeI
         return Ok(());
     };
     match cause_of(error) {
-        Some(cause) => Err(ReadError::Refused(DefinitionFault::BadSpec(String::from_str(part.alloc, part.path)?, cause))),
+        Some(cause) => Err(ReadError::Refused(DefinitionFault::BadSpec(
+            String::from_str(part.alloc, part.path)?,
+            cause,
+        ))),
         None => Err(ReadError::OutOfMemory),
     }
 }
 
 // Gives a class the property of an entry.
 #[tactic(auto, using(crate::proofs::Installing::property_at_is))]
-fn read_property(part: Part<'_>, types: &TypeTree, specs: &mut SpecTable, class: TypeId) -> Result<(), ReadError>
+fn read_property(
+    part: Part<'_>,
+    types: &TypeTree,
+    specs: &mut SpecTable,
+    class: TypeId,
+) -> Result<(), ReadError>
     ensures { Leads result (property_at part.entry.path.now types.now class (own_of specs.old) (view part.entry.value.now)) (own_of specs.new) }
 {
     let spec = spec_in(part, types, specs, class)?;
@@ -192,12 +218,21 @@ fn read_property(part: Part<'_>, types: &TypeTree, specs: &mut SpecTable, class:
 }
 
 // Gives a class the properties of a list.
-pub(crate) fn read_properties(list: Entries<'_>, types: &TypeTree, specs: &mut SpecTable, class: TypeId) -> Result<(), ReadError>
+pub(crate) fn read_properties(
+    list: Entries<'_>,
+    types: &TypeTree,
+    specs: &mut SpecTable,
+    class: TypeId,
+) -> Result<(), ReadError>
     ensures { Leads result (each (property_of list.entry.path.now types.now class) 0 (own_of specs.old) (items_view list.entry.items.now)) (own_of specs.new) }
 {
     'items: for (index, item) in list.items.iter().enumerate() {
         let path = path_of_entry(list.alloc, list.path, index)?;
-        let part = Part { alloc: list.alloc, path: path.as_str(), value: item };
+        let part = Part {
+            alloc: list.alloc,
+            path: path.as_str(),
+            value: item,
+        };
         read_property(part, types, specs, class)?;
     }
     Ok(())

@@ -19,8 +19,21 @@ use std::alloc::Global;
 use type_tree::TypeTree;
 
 const UNSET_BEFORE_CLASSES: [&str; 5] = ["limits", "enums", "flags", "interfaces", "shapes"];
+
 const UNSET_BEFORE_OBJECTS: [&str; 2] = ["programs", "prototypes"];
-const MEMBERS: [&str; 10] = ["format", "limits", "enums", "flags", "interfaces", "shapes", "classes", "programs", "prototypes", "objects"];
+
+const MEMBERS: [&str; 10] = [
+    "format",
+    "limits",
+    "enums",
+    "flags",
+    "interfaces",
+    "shapes",
+    "classes",
+    "programs",
+    "prototypes",
+    "objects",
+];
 
 // Tests the member `format`, which is 1.
 fn check_format(alloc: Global, format: Option<u64>) -> Result<(), ReadError>
@@ -49,7 +62,11 @@ fn read_types(part: Part<'_>, types: &mut TypeTree, specs: &mut SpecTable) -> Re
     part.check_nothing(&UNSET_BEFORE_CLASSES)?;
     let items = part.entries("classes")?;
     let path = path_under(part.alloc, part.path, "classes")?;
-    let list = Entries { alloc: part.alloc, path: path.as_str(), items };
+    let list = Entries {
+        alloc: part.alloc,
+        path: path.as_str(),
+        items,
+    };
     read_classes(list, types, specs)?;
     Ok(())
 }
@@ -64,7 +81,11 @@ fn objects_of(part: Part<'_>, types: &TypeTree) -> Result<Vec<ObjectEntry>, Read
     part.check_nothing(&UNSET_BEFORE_OBJECTS)?;
     let items = part.entries("objects")?;
     let path = path_under(part.alloc, part.path, "objects")?;
-    let list = Entries { alloc: part.alloc, path: path.as_str(), items };
+    let list = Entries {
+        alloc: part.alloc,
+        path: path.as_str(),
+        items,
+    };
     let objects = read_objects(list, types)?;
     Ok(objects)
 }
@@ -74,7 +95,11 @@ fn objects_of(part: Part<'_>, types: &TypeTree) -> Result<Vec<ObjectEntry>, Read
 fn definition_of(alloc: Global, value: &Value) -> Result<Definition, ReadError>
     ensures { Gives (λ d. d) result (definition_in (view value.now)) }
 {
-    let part = Part { alloc, path: "", value };
+    let part = Part {
+        alloc,
+        path: "",
+        value,
+    };
     let members = part.members()?;
     check_format(alloc, format_in(value))?;
     let mut types = TypeTree::new(alloc)?;
@@ -82,7 +107,11 @@ fn definition_of(alloc: Global, value: &Value) -> Result<Definition, ReadError>
     read_types(part, &mut types, &mut specs)?;
     let objects = objects_of(part, &types)?;
     part.check_only(members, &MEMBERS)?;
-    Ok(Definition { types, specs, objects })
+    Ok(Definition {
+        types,
+        specs,
+        objects,
+    })
 }
 
 /// Reads a definition. A fault is the first one in document order.

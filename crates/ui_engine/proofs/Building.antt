@@ -69,7 +69,7 @@ module _ (d : Definition) (basic : IsBasic d) where
     only_thaws : construction d w place p ≡ thaws ∷ []
     only_thaws =
         ap (λ steps. steps ++ (constructed_runs 16 d p.class ++ (given_sets w place (specs_of d p.class) p.given ++ thaws ∷ [])))
-            (no_construct_sets w place p.given 0 (specs_of d p.class) (λ i s has. basic.plain p.class i s has))
+        (no_construct_sets w place p.given 0 (specs_of d p.class) (λ i s has. basic.plain p.class i s has))
         ∙ ap (λ steps. steps ++ (given_sets w place (specs_of d p.class) p.given ++ thaws ∷ [])) (no_runs 16 p.class)
         ∙ ap (λ given. given_sets w place (specs_of d p.class) given ++ thaws ∷ []) (basic.given place p at)
 

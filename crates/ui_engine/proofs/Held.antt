@@ -122,21 +122,21 @@ made_held w new t rest o b steps items held none os builder floating = record {
   lives = λ id some. elim (cases_eq id (suc (length w.objects))) as (λ _. 0 < total (in_held id) new.builder + (same id (suc (length w.objects)) + (making_of id items + total (making_of id) rest))) [
     | inl is ↦ let e : same id (suc (length w.objects)) ≡ 1 = ap (same id) (sym is) ∙ same_self id in omega arith
     | inr ne ↦
-      let some' : is_some (find w.objects id) ≡ true = find-more w.objects (Some o) id (ap (λ (xs : Objects). is_some (find xs id)) (sym os) ∙ some) ne in
-      let h = held.lives id some' in
-      let z = none id in
-      let e : total (in_held id) new.builder ≡ total (in_held id) w.builder = ap (total (in_held id)) builder in
-      omega arith
+        let some' : is_some (find w.objects id) ≡ true = find-more w.objects (Some o) id (ap (λ (xs : Objects). is_some (find xs id)) (sym os) ∙ some) ne in
+        let h = held.lives id some' in
+        let z = none id in
+        let e : total (in_held id) new.builder ≡ total (in_held id) w.builder = ap (total (in_held id)) builder in
+        omega arith
   ];
   floats = λ id some.
       let f : 0 < total (same id) w.floating + same id (suc (length w.objects)) = floats_more b id (suc (length w.objects)) w.floating (subst (λ (fl : List ℕ). 0 < total (same id) fl) floating some) in
       elim (cases_eq id (suc (length w.objects))) as (λ _. 0 < same id (suc (length w.objects)) + (making_of id items + total (making_of id) rest)) [
         | inl is ↦ let e : same id (suc (length w.objects)) ≡ 1 = ap (same id) (sym is) ∙ same_self id in omega arith
         | inr ne ↦
-          let z : same id (suc (length w.objects)) ≡ 0 = same_other id (suc (length w.objects)) (λ e. ne (sym e)) in
-          let h = held.floats id (omega (arith, f, z)) in
-          let y = none id in
-          omega arith
+            let z : same id (suc (length w.objects)) ≡ 0 = same_other id (suc (length w.objects)) (λ e. ne (sym e)) in
+            let h = held.floats id (omega (arith, f, z)) in
+            let y = none id in
+            omega arith
       ];
 }
 
@@ -164,10 +164,10 @@ ended_held w id rest held = record {
   floats = λ q some. elim (cases_eq q id) as (λ _. 0 < total (making_of q) rest) [
     | inl is ↦ let z : total (same q) (without id w.floating) ≡ 0 = subst (λ j. total (same j) (without id w.floating) ≡ 0) (sym is) (without_none id w.floating) in absurd (omega arith)
     | inr ne ↦
-      let z : same q id ≡ 0 = same_other q id (λ e. ne (sym e)) in
-      let l = without_less id q w.floating in
-      let h = held.floats q (omega arith) in
-      omega (arith, h, z)
+        let z : same q id ≡ 0 = same_other q id (λ e. ne (sym e)) in
+        let l = without_less id q w.floating in
+        let h = held.floats q (omega arith) in
+        omega (arith, h, z)
   ];
 }
 

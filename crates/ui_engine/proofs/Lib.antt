@@ -13,4 +13,3 @@ pub mod Left
 pub mod Notified
 pub mod Built
 pub mod Building
-pub mod Acts

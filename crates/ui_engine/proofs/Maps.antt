@@ -37,9 +37,9 @@ module _ (m n : BTreeMap ℕ Object) (id : ℕ) (old : Objects) (was y : Object)
   in_range_still q some = elim (cases_eq q id) [
     | inl e ↦ let r = range id (ap is_some here) in (omega (arith, r.0, e), omega (arith, r.1, e, h.2))
     | inr ne ↦
-      let same = (written m n id was y here h).others q ne in
-      let r = range q (ap is_some (sym same) ∙ some) in
-      (r.0, omega (arith, r.1, h.2))
+        let same = (written m n id was y here h).others q ne in
+        let r = range q (ap is_some (sym same) ∙ some) in
+        (r.0, omega (arith, r.1, h.2))
   ]
 
 -- ** one object more
@@ -65,7 +65,7 @@ module _ (m n : BTreeMap ℕ Object) (id : ℕ) (old : Objects) (y : Object) (ra
   still_in_range e q some = elim (cases_eq q id) [
     | inl is ↦ (omega (arith, is, next), omega (arith, is, next, e))
     | inr ne ↦
-      let same = (updated m n id (Some y) h).others q ne in
-      let r = range q (ap is_some (sym same) ∙ some) in
-      (r.0, omega (arith, r.1, e))
+        let same = (updated m n id (Some y) h).others q ne in
+        let r = range q (ap is_some (sym same) ∙ some) in
+        (r.0, omega (arith, r.1, e))
   ]

@@ -7,13 +7,15 @@ use Rattle.ui_engine.specs.declared.world.World.{World}
 abbrev pub world_of : World → config.World
 world_of w = record {
   objects = w.heap;
-  handlers = []; last_handler = 0;
+  handlers = [];
+  last_handler = 0;
   bindings = [];
-  sources = []; last_source = 0;
+  sources = [];
+  last_source = 0;
   floating = w.floating.items;
   builder = map config.built w.builder.items;
   peers = [];
   moment = 0;
   transcript = map string_bytes w.transcript.items;
-  result = option_map value_view w.result
+  result = option_map value_view w.result;
 }

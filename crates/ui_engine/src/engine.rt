@@ -13,10 +13,3 @@ pub struct Engine {
     pub counted: u64,
     pub alloc: Global,
 }
-
-/// What a step was.
-#[derive(Clone, Copy, Debug, PartialEq, Eq)]
-pub enum Made {
-    Uncounted,
-    Counted,
-}

@@ -11,7 +11,6 @@ mod engine;
 mod heap;
 mod notifications;
 mod object;
-mod running;
 mod sets;
 mod task;
 mod texts;

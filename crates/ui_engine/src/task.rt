@@ -44,10 +44,7 @@ impl Slots {
 /// A step of a construction that is to come.
 #[derive(Drop)]
 pub enum Making {
-    Set {
-        slot: u16,
-        value: Value,
-    },
+    Set { slot: u16, value: Value },
     Thaw,
 }
 

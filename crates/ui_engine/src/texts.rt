@@ -38,7 +38,12 @@ pub fn end_line(alloc: Global, steps: u64) -> Result<String, AllocError>
 
 /// `set #1.p V`
 #[tactic(auto, using(ui_machine::proofs::Numerals::numeral_decimal))]
-pub fn set_line(alloc: Global, object: u64, property: &str, value: &str) -> Result<String, AllocError>
+pub fn set_line(
+    alloc: Global,
+    object: u64,
+    property: &str,
+    value: &str,
+) -> Result<String, AllocError>
     ensures { IfOk result (λ line. string_bytes line
         ≡ codes "set #" ++ (numeral object ++ (codes "." ++ (property.now ++ (codes " " ++ value.now))))) }
 {
@@ -61,7 +66,12 @@ pub fn refused_line(
 
 /// `get #1.p V`
 #[tactic(auto, using(ui_machine::proofs::Numerals::numeral_decimal))]
-pub fn get_line(alloc: Global, object: u64, property: &str, value: &str) -> Result<String, AllocError>
+pub fn get_line(
+    alloc: Global,
+    object: u64,
+    property: &str,
+    value: &str,
+) -> Result<String, AllocError>
     ensures { IfOk result (λ line. string_bytes line
         ≡ codes "get #" ++ (numeral object ++ (codes "." ++ (property.now ++ (codes " " ++ value.now))))) }
 {

@@ -8,7 +8,7 @@ use Rattle.builder_defs.proofs.classes.read_class.Goals as goal
 pub returns-in_err-give_properties : goal.returns-in_err-give_properties
 returns-in_err-give_properties c =
     let p = err_from_is_err_and c.from_residual-in_err-give_properties.result c.from_residual-in_err-give_properties.ensures.1 in
-    rw (p.1, p.2) (properties_fail c.args.part.path.now c.args.types.now c.args.specs.now (view c.args.part.value.now) (members_view c.in_ok-members.members.now.entries) c.declare.new.types c.in_ok-class.class c.in_ok-members.ensures c.in_ok-class.ensures.types c.in_ok-class.ensures.class  c.in_err-give_properties.field-0.0 c.in_err-give_properties.ensures)
+    rw (p.1, p.2) (properties_fail c.args.part.path.now c.args.types.now c.args.specs.now (view c.args.part.value.now) (members_view c.in_ok-members.members.now.entries) c.declare.new.types c.in_ok-class.class c.in_ok-members.ensures c.in_ok-class.ensures.types c.in_ok-class.ensures.class c.in_err-give_properties.field-0.0 c.in_err-give_properties.ensures)
 
 pub returns-in_err-check_nothing : goal.returns-in_err-check_nothing
 returns-in_err-check_nothing c =

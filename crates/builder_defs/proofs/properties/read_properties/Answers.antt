@@ -12,21 +12,21 @@ pub returns-in_err-read_property : goal.returns-in_err-read_property
 returns-in_err-read_property c =
     let p = err_from_is_err_and c.from_residual-in_err-read_property.result c.from_residual-in_err-read_property.ensures.1 in
     rw (p.1, p.2) (ends (property_of c.args.list.path.now c.args.types.now c.args.class) c.args.list.items.now c.items.index (own_of c.items.specs)
-      (each (property_of c.args.list.path.now c.args.types.now c.args.class) 0 (own_of c.args.specs.now) (items_view c.args.list.items.now))
-      c.in_err-read_property.field-0.0 c.item-item.result c.items-test.true c.item-item.is
-      (subst (λ path. Fails c.in_err-read_property.field-0.0 (property_at path c.args.types.now c.args.class (own_of c.items.specs) (view c.item-item.result))) (c.as_str.ensures.value ∙ c.in_ok-path.ensures) c.in_err-read_property.ensures)
-      c.items.invariant)
+    (each (property_of c.args.list.path.now c.args.types.now c.args.class) 0 (own_of c.args.specs.now) (items_view c.args.list.items.now))
+    c.in_err-read_property.field-0.0 c.item-item.result c.items-test.true c.item-item.is
+    (subst (λ path. Fails c.in_err-read_property.field-0.0 (property_at path c.args.types.now c.args.class (own_of c.items.specs) (view c.item-item.result))) (c.as_str.ensures.value ∙ c.in_ok-path.ensures) c.in_err-read_property.ensures)
+    c.items.invariant)
 
 pub items-preserved : goal.items-preserved
 items-preserved c =
     goes_on (property_of c.args.list.path.now c.args.types.now c.args.class) c.args.list.items.now c.items.index (own_of c.items.specs)
-      (each (property_of c.args.list.path.now c.args.types.now c.args.class) 0 (own_of c.args.specs.now) (items_view c.args.list.items.now))
-      c.item-item.result (own_of c.read_property.new.specs) c.items-test.true c.item-item.is
-      (ap (λ path. property_at path c.args.types.now c.args.class (own_of c.items.specs) (view c.item-item.result)) (sym (c.as_str.ensures.value ∙ c.in_ok-path.ensures)) ∙ c.in_ok-read_property.ensures)
-      c.items.invariant
+    (each (property_of c.args.list.path.now c.args.types.now c.args.class) 0 (own_of c.args.specs.now) (items_view c.args.list.items.now))
+    c.item-item.result (own_of c.read_property.new.specs) c.items-test.true c.item-item.is
+    (ap (λ path. property_at path c.args.types.now c.args.class (own_of c.items.specs) (view c.item-item.result)) (sym (c.as_str.ensures.value ∙ c.in_ok-path.ensures)) ∙ c.in_ok-read_property.ensures)
+    c.items.invariant
 
 pub returns : goal.returns
 returns c =
     is_done (property_of c.args.list.path.now c.args.types.now c.args.class) c.args.list.items.now c.items.index (own_of c.items.specs)
-      (each (property_of c.args.list.path.now c.args.types.now c.args.class) 0 (own_of c.args.specs.now) (items_view c.args.list.items.now))
-      c.items-test.false c.items.invariant
+    (each (property_of c.args.list.path.now c.args.types.now c.args.class) 0 (own_of c.args.specs.now) (items_view c.args.list.items.now))
+    c.items-test.false c.items.invariant

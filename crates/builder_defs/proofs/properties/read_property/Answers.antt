@@ -15,7 +15,7 @@ pub returns-in_err-install : goal.returns-in_err-install
 returns-in_err-install c =
     let p = err_from_is_err_and c.from_residual-in_err-install.result c.from_residual-in_err-install.ensures.1 in
     rw (p.1, p.2) (fails_as c.in_err-install.field-0.0 _ _
-      (property_with c.args.part.path.now c.args.types.now c.args.class c.args.specs.now (view c.args.part.value.now) (spec_view c.in_ok-spec.spec) c.in_ok-spec.ensures.spec) c.in_err-install.ensures)
+    (property_with c.args.part.path.now c.args.types.now c.args.class c.args.specs.now (view c.args.part.value.now) (spec_view c.in_ok-spec.spec) c.in_ok-spec.ensures.spec) c.in_err-install.ensures)
 
 pub returns : goal.returns
 returns c =

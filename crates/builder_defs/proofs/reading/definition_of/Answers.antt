@@ -10,4 +10,4 @@ invariant_of-result c = sound c.read_types.new.types c.read_types.new.specs c.in
 pub returns : goal.returns
 returns c =
     definition_done (view c.args.value.now) (members_view c.in_ok-members.members.now.entries) c.format_in.result c.read_types.new.types c.read_types.new.specs c.in_ok-objects.objects.items
-      c.in_ok-members.ensures c.format_in.ensures c.in_ok-check_format.ensures c.in_ok-read_types.ensures c.in_ok-objects.ensures.objects c.in_ok-check_only.ensures
+    c.in_ok-members.ensures c.format_in.ensures c.in_ok-check_format.ensures c.in_ok-read_types.ensures c.in_ok-objects.ensures.objects c.in_ok-check_only.ensures

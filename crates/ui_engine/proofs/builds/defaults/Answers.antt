@@ -10,7 +10,7 @@ pub loop-spec-preserved : goal.loop-spec-preserved
 loop-spec-preserved c =
     let specs = specs_of c.args.definition.now c.args.class in
     let found : slice_get specs c.loop-spec.slot ≡ Some (spec_view c.in-Some.spec.now) =
-        sym c.spec.ensures ∙ ap (option_map (λ (s : Bor Spec). spec_view s.now)) c.in-Some.is in
+    sym c.spec.ensures ∙ ap (option_map (λ (s : Bor Spec). spec_view s.now)) c.in-Some.is in
     let more = one_default_more specs c.loop-spec.slot (spec_view c.in-Some.spec.now) c.loop-spec.values.items c.in_ok-copied.field-0 found c.in_ok-copied.ensures.value c.loop-spec.invariant in
     let next : c.in-Some-checked_add.next ≡ suc c.loop-spec.slot = grind (arith, common_steps) in
     rw (next, c.in_ok-push.ensures.items) more

@@ -11,7 +11,7 @@ pub returns-clause-step : goal.returns-clause-step
 unfolding constructed
 returns-clause-step c =
     let sunk : c.retain.new.self.items ≡ without c.args.object c.args.self.now.world.floating.items =
-        filter_same _ (λ i. not (nat_eq i c.args.object)) _ (λ x b f' k. grind (arith, common_steps)) _ _ c.retain.ensures.filtered
-        ∙ kept_without c.args.object c.args.self.now.world.floating.items in
+    filter_same _ (λ i. not (nat_eq i c.args.object)) _ (λ x b f' k. grind (arith, common_steps)) _ _ c.retain.ensures.filtered
+    ∙ kept_without c.args.object c.args.self.now.world.floating.items in
     let held = c.in_ok-push.ensures.items in
     rw (sunk, held, mapped_more built c.args.self.now.world.builder.items c.args.object) refl

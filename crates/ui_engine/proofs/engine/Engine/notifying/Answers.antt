@@ -14,7 +14,7 @@ returns-in_err-class-clause-step c =
     let rest = agenda_of c.args.definition.now c.args.self.now.stack in
     let n = c.args.self.now.counted in
     rw (p.1, p.2) (counted_on rest n _ c.in_ok-count.ensures.ok.0
-        ∙ ap (uncounted rest (suc n)) (unheard c.args.definition.now (world_of c.args.self.now.world) c.args.object c.args.slot _ (rw c.in_ok-count.ensures.ok.1 at c.in_err-class.ensures)))
+    ∙ ap (uncounted rest (suc n)) (unheard c.args.definition.now (world_of c.args.self.now.world) c.args.object c.args.slot _ (rw c.in_ok-count.ensures.ok.1 at c.in_err-class.ensures)))
 
 pub returns-in_default-clause-step : goal.returns-in_default-clause-step
 returns-in_default-clause-step c =
@@ -22,7 +22,7 @@ returns-in_default-clause-step c =
     let n = c.args.self.now.counted in
     counted_on rest n _ c.in_ok-count.ensures.ok.0
     ∙ ap (uncounted rest (suc n)) (unnamed c.args.definition.now (world_of c.args.self.now.world) c.args.object c.args.slot _ (rw c.in_ok-count.ensures.ok.1 at c.in_ok-class.ensures)
-        (sym c.spec.ensures ∙ ap (option_map (λ (s : Bor Spec). spec_view s.now)) c.in_default.is))
+    (sym c.spec.ensures ∙ ap (option_map (λ (s : Bor Spec). spec_view s.now)) c.in_default.is))
 
 pub returns-clause-step : goal.returns-clause-step
 returns-clause-step c =

@@ -20,12 +20,12 @@ pub returns-in_err-spec-clause-step : goal.returns-in_err-spec-clause-step
 returns-in_err-spec-clause-step c =
     let p = err_from_is_err_and c.from_residual.result c.from_residual.ensures.1 in
     rw (p.1, p.2) (ap (uncounted (agenda_of c.args.definition.now c.args.self.now.stack) c.args.self.now.counted)
-        (no_spec_set c.args.definition.now (world_of c.args.self.now.world) c.args.object c.args.slot (value_view c.args.value) _ c.in_err-spec.ensures.spec))
+    (no_spec_set c.args.definition.now (world_of c.args.self.now.world) c.args.object c.args.slot (value_view c.args.value) _ c.in_err-spec.ensures.spec))
 
 pub returns-then-not-has_kind-clause-step : goal.returns-then-not-has_kind-clause-step
 returns-then-not-has_kind-clause-step c =
     ap (uncounted (agenda_of c.args.definition.now c.args.self.now.stack) c.args.self.now.counted)
-        (other_kind_set c.args.definition.now (world_of c.args.self.now.world) c.args.object c.args.slot (value_view c.args.value) (spec_view c.in_ok-spec.spec.now) c.in_ok-spec.ensures.spec (sym c.if-not-has_kind.ensures))
+    (other_kind_set c.args.definition.now (world_of c.args.self.now.world) c.args.object c.args.slot (value_view c.args.value) (spec_view c.in_ok-spec.spec.now) c.in_ok-spec.ensures.spec (sym c.if-not-has_kind.ensures))
 
 pub returns-in_err-refuse-clause-step : goal.returns-in_err-refuse-clause-step
 returns-in_err-refuse-clause-step c =
