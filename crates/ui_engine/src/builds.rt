@@ -1,25 +1,26 @@
 //! The build: how objects are made, and how their construction goes on and ends.
 
-ghost use Rattle.std.specs.Prelude.{◌≡◌, true, suc, length, cond, [], ◌∷◌, ◌++◌, map, OnOk, OnErr, IfOk};
+ghost use Rattle.std.specs.Prelude.{◌≡◌, true, suc, length, None, cond, [], ◌∷◌, ◌++◌, map, OnOk, OnErr, IfOk};
 ghost use Rattle.ui_machine.specs.Answers.{Goes};
 ghost use Rattle.ui_machine.specs.Properties.{Spec};
 ghost use Rattle.ui_machine.specs.Lookups.{specs_of};
 ghost use Rattle.ui_engine.specs.ObjectView.{made_object};
-ghost use Rattle.ui_machine.specs.Builds.{with_object, constructed, thawing_made};
-ghost use Rattle.ui_machine.specs.Steps.{uncounted, constructing};
+ghost use Rattle.ui_machine.specs.Builds.{with_object, constructed, thawing_made, making};
+ghost use Rattle.ui_machine.specs.Steps.{uncounted, constructing, building};
 ghost use Rattle.g_values.specs.View.{value_view};
 ghost use Rattle.ui_engine.specs.View.{world_of};
-ghost use Rattle.ui_engine.specs.TaskView.{agenda_of};
+ghost use Rattle.ui_engine.specs.TaskView.{agenda_of, build_from};
 ghost use Rattle.ui_engine.specs.EngineView.{config_of};
 
 use crate::engine::Engine;
 use crate::object::Object;
 use crate::task::{Making, Makings, Slots, Task};
+use crate::texts::construct_line;
 use builder_defs::Definition;
 use g_values::Value;
 use std::alloc::{AllocError, Global};
 use type_tree::TypeId;
-use ui_machine::Halt;
+use ui_machine::{Arm, Halt};
 
 // The type under which objects begin floating.
 const INITIALLY_UNOWNED: u16 = 1;
@@ -114,6 +115,51 @@ impl Engine {
         let id = self.world.heap.create(object)?;
         float(&mut self.world.floating, id, floats)?;
         Ok(id)
+    }
+
+    // An object of the build is made. What its construction has to do goes on the stack.
+    #[tactic(auto, unfolding(ui_machine::specs::Builds::making))]
+    fn making(&mut self, definition: &Definition, place: usize) -> Result<(), Halt>
+        ensures step { Goes result
+            (uncounted (agenda_of definition.now self.old.stack) self.old.counted (making definition.now (world_of self.old.world) place None true))
+            (config_of definition.now self.new) }
+        ensures quiet { OnErr result ((world_of self.new.world).transcript ≡ (world_of self.old.world).transcript) }
+    {
+        let types = definition.types();
+        let Some(entry) = definition.objects().get(place) else {
+            return Err(Halt::Stuck(Arm::Code));
+        };
+        let class = entry.class;
+        if types.flags(class).is_abstract {
+            return Err(Halt::Stuck(Arm::Abstract));
+        }
+        let values = defaults(self.alloc, definition, class)?;
+        let mut steps = Vec::new(self.alloc);
+        steps.push(Making::Thaw)?;
+        let object = self.add(definition, class, place, values)?;
+        let line = construct_line(self.alloc, object, definition.class_name(class))?;
+        self.stack.push(Task::Constructing {
+            object,
+            steps: Makings::new(steps),
+        })?;
+        self.world.say(line)?;
+        Ok(())
+    }
+
+    // The next object of the build.
+    #[tactic(auto, unfolding(ui_machine::specs::Steps::building_object))]
+    pub(crate) fn building(&mut self, definition: &Definition, place: usize) -> Result<(), Halt>
+        ensures step { Goes result
+            (uncounted (agenda_of definition.now self.old.stack) self.old.counted (building definition.now (world_of self.old.world) (build_from definition.now place)))
+            (config_of definition.now self.new) }
+        ensures quiet { OnErr result ((world_of self.new.world).transcript ≡ (world_of self.old.world).transcript) }
+    {
+        let _types = definition.types();
+        if place >= definition.objects().len() {
+            return Ok(());
+        }
+        self.stack.push(Task::Building { place: place + 1 })?;
+        self.making(definition, place)
     }
 }
 

@@ -1,0 +1,23 @@
+use Rattle.std.proofs.Common.{◌≡◌, suc, true, None, ◌+◌, List, ◌∷◌, sym, ap, subst, ◌∙◌, arith}
+use Rattle.ui_machine.specs.Config.{Task, Building, Config}
+use Rattle.ui_machine.specs.Answers.{Answer, Goes}
+use Rattle.ui_machine.specs.Builds.{making}
+use Rattle.ui_machine.specs.Steps.{uncounted}
+use Rattle.ui_engine.specs.View.{world_of}
+use Rattle.ui_engine.specs.TaskView.{agenda_of, build_from}
+use Rattle.ui_engine.specs.EngineView.{config_of}
+use Rattle.ui_engine.proofs.Building.{place_within, builds_next}
+use Rattle.ui_engine.proofs.engine.Engine.building.Goals as goal
+
+pub returns-clause-step : goal.returns-clause-step
+returns-clause-step c =
+    let d = c.args.definition.now in
+    let w = world_of c.args.self.now.world in
+    let rest = agenda_of d c.args.self.now.stack in
+    let n = c.args.self.now.counted in
+    let there = place_within c.objects.result.now d.places c.args.place c.objects.ensures.objects c.if-place-objects.false in
+    let next = builds_next d c.types-types.ensures.basic w c.args.place there.0 there.1 rest n in
+    let one : c.args.place + 1 ≡ suc c.args.place = omega arith in
+    let pushed = c.in_ok-push.ensures d ∙ ap (λ place. Building (build_from d place) ∷ rest) one in
+    let made = subst (λ (a : List Task). Goes c.making.result (uncounted a n (making d w c.args.place None true)) (config_of d c.making.new.self)) pushed c.making.ensures.step in
+    subst (λ (a : Answer Config). Goes c.making.result a (config_of d c.making.new.self)) (sym next) made
