@@ -13,3 +13,10 @@ pub struct Engine {
     pub counted: u64,
     pub alloc: Global,
 }
+
+/// What a step was.
+#[derive(Clone, Copy, Debug, PartialEq, Eq)]
+pub enum Made {
+    Uncounted,
+    Counted,
+}

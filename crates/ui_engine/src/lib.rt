@@ -11,6 +11,7 @@ mod engine;
 mod heap;
 mod notifications;
 mod object;
+mod running;
 mod sets;
 mod task;
 mod texts;

@@ -1,0 +1,63 @@
+//! What each task does, as the machine's.
+
+ghost use Rattle.std.specs.Prelude.{◌≡◌, ◌∷◌, OnErr, IfOk};
+ghost use Rattle.ui_machine.specs.Answers.{Goes};
+ghost use Rattle.ui_machine.specs.Steps.{act};
+ghost use Rattle.ui_engine.specs.View.{world_of};
+ghost use Rattle.ui_engine.specs.TaskView.{task_of, agenda_of};
+ghost use Rattle.ui_engine.specs.EngineView.{config_of, IsMade};
+
+use crate::engine::{Engine, Made};
+use crate::task::Task;
+use builder_defs::Definition;
+use ui_machine::Halt;
+
+impl Engine {
+    // Does what a task says, and answers whether that was counted.
+    pub(crate) fn act(&mut self, definition: &Definition, task: Task) -> Result<Made, Halt>
+        ensures step { Goes result
+            (act definition.now (world_of self.old.world) (task_of definition.now task ∷ agenda_of definition.now self.old.stack) self.old.counted)
+            (config_of definition.now self.new) }
+        ensures quiet { OnErr result ((world_of self.new.world).transcript ≡ (world_of self.old.world).transcript) }
+        ensures made { IfOk result (λ made. IsMade made definition.now task) }
+    {
+        match task {
+            Task::Setting {
+                object,
+                slot,
+                value,
+            } => {
+                self.setting(definition, object, slot, value)?;
+                return Ok(Made::Uncounted);
+            }
+            Task::Notifying { object, slot } => {
+                self.notifying(definition, object, slot)?;
+                return Ok(Made::Counted);
+            }
+            Task::Emitting {
+                object,
+                class,
+                slot,
+            } => {
+                self.ending(definition, object, class, slot)?;
+                return Ok(Made::Uncounted);
+            }
+            Task::Thawing { object, slots } => {
+                self.thawing(definition, object, slots)?;
+                return Ok(Made::Uncounted);
+            }
+            Task::Constructing { object, steps } => {
+                self.constructing(definition, object, steps)?;
+                return Ok(Made::Uncounted);
+            }
+            Task::Building { place } => {
+                self.building(definition, place)?;
+                return Ok(Made::Uncounted);
+            }
+            Task::Carrying(event) => {
+                self.carrying(definition, event)?;
+                return Ok(Made::Uncounted);
+            }
+        }
+    }
+}
