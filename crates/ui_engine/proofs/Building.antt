@@ -84,7 +84,7 @@ module _ (d : Definition) (basic : IsBasic d) where
     unfolding making
     abstract_there abstract = rw (at, abstract) refl
 
-    next_made : build_from d place ≡ makes place ∷ build_from d (suc place)
+    pub next_made : build_from d place ≡ makes place ∷ build_from d (suc place)
     next_made =
         ap (made_items place) (drop_at d.places place p at)
         ∙ ap (λ b. cond b [] (makes place ∷ adopts_if place p.parent) ++ build_from d (suc place)) (basic.prototypes place p at)

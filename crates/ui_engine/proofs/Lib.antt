@@ -12,4 +12,5 @@ pub mod PlainSets
 pub mod Left
 pub mod Notified
 pub mod Built
+pub mod Acts
 pub mod Building

@@ -1,0 +1,285 @@
+-- What the step of each task leaves of what holds the objects, of the work and of the count.
+use Rattle.std.proofs.Common.{◌≡◌, ℕ, zero, suc, ◌+◌, ◌*◌, ◌<◌, ◌≤◌, Bool, true, false, cond, nat_lt, nat_eq, List, [], ◌∷◌, ◌++◌, length, map, Option, Some, None, is_some, Result, Ok, Err, slice_get, refl, sym, ap, subst, ◌∙◌, arith}
+use Rattle.std.specs.Prelude.{IfOk}
+use Rattle.std.proofs.lemmas.Bool.Decides.{nat_tests}
+use Rattle.ui_machine.specs.declared.arm.Arm.{Arm}
+use Rattle.ui_machine.specs.declared.arm.Arm.TheVariants as arms
+use Rattle.ui_machine.specs.Seq.{total}
+use Rattle.ui_machine.specs.Values.{Value}
+use Rattle.ui_machine.specs.Definition.{Definition, Place, value}
+use Rattle.ui_machine.specs.Ancestry.{is_a}
+use Rattle.ui_machine.specs.Lines as lines
+use Rattle.ui_machine.specs.Lookups.{type_of, place_at, program_at}
+use Rattle.ui_machine.specs.Config as config
+use Rattle.ui_machine.specs.Config.{Object, Objects, Making, Item, makes, Emission, Task, Setting, Notifying, Beginning, Emitting, Transferring, Unsetting, Thawing, Running, Answering, Calling, Constructing, Building, Carrying, Due, World, Config}
+use Rattle.ui_machine.specs.Answers.{Answer, ◌>>=◌, known, only_if}
+use Rattle.ui_machine.specs.Objects.{find, changed, frozen_less}
+use Rattle.ui_machine.specs.Worlds.{Started, starts, said, holding, sunk, without}
+use Rattle.ui_machine.specs.Registers.{rest_of}
+use Rattle.ui_machine.specs.Programs.{first_frame, all_fit, fits_register, beginning_program, program_before}
+use Rattle.ui_machine.specs.Emissions.{notifying, notification}
+use Rattle.ui_machine.specs.Turns.{resulting}
+use Rattle.ui_machine.specs.Results.{Left, leaves, passed_down, told, ending}
+use Rattle.ui_machine.specs.Builds.{initially_unowned, making, with_object, new_object, thawing_made, constructed, floats}
+use Rattle.ui_machine.specs.Sets.{setting}
+use Rattle.ui_machine.specs.Steps.{most_steps, before, uncounted, counted, left, act, thawing, constructing, building, building_object, carrying, carrying_set, carrying_get}
+use Rattle.g_values.specs.View.{value_view}
+use Rattle.builder_defs.specs.declared.event.Event.{Event}
+use Rattle.builder_defs.specs.declared.event.Event.TheVariants as events
+use Rattle.builder_defs.specs.Meaning.{IsBasic, event_of}
+use Rattle.ui_engine.specs.declared.task.Task.TheVariants as tasks
+use Rattle.ui_engine.specs.declared.task.Task as code
+use Rattle.ui_engine.specs.TaskView.{task_of, name_of, build_from}
+use Rattle.ui_engine.specs.EngineView.{is_counted}
+use Rattle.ui_engine.specs.Holding.{making_of, IsHeld}
+use Rattle.ui_engine.specs.Measure.{weight, waiting_in, waiting, work}
+use Rattle.ui_engine.proofs.Lists.{total-append}
+use Rattle.ui_engine.proofs.Held.{Quietly, keeps_quietly, if_ok_at, bind_ok, changed_lives, made_held, ended_held}
+use Rattle.ui_engine.proofs.Quiet.{Calm, notifying_calm, setting_calm, carrying_set_calm, carrying_get_calm, thawing_calm}
+use Rattle.ui_engine.proofs.Falls.{Falls, setting_falls, thawing_falls, thawing_made_falls, carrying_set_falls, carrying_get_falls}
+use Rattle.ui_engine.proofs.Building.{builds_nothing, builds_next, next_made, made_there, abstract_there}
+
+-- what the step of a task leads to
+pub record Passes (d : Definition) (w : World) (t : Task) (rest : List Task) (n : ℕ) (e : Config) : Type 0 where
+  pub held : IsHeld e.world e.agenda
+  pub falls : is_counted t ≡ false → total (weight d) e.agenda + waiting e.world.objects < total (weight d) (t ∷ rest) + waiting w.objects
+  pub stays : is_counted t ≡ false → e.counted ≡ n
+  pub counts : is_counted t ≡ true → (n < most_steps) × (e.counted ≡ suc n)
+
+within_none : {A : Type 0} (xs : List A) (i : ℕ) → slice_get xs i ≡ None → length xs ≤ i
+within_none [] i none = omega arith
+within_none (x ∷ xs) zero none = cc none
+within_none (x ∷ xs) (suc i) none = omega (arith, within_none xs i none)
+
+both : {A : Type 0} (P Q R : A → Type 0) (a : Answer A) → IfOk a P → IfOk a Q → ((x : A) → P x → Q x → R x) → IfOk a R
+both P Q R (Ok x) p q h = h x p q
+both P Q R (Err arm) p q h = tt
+
+module _ (d : Definition) (w : World) (rest : List Task) (n : ℕ) where
+  uncounted_if : (t : Task) (a : Answer Started) → IfOk a (λ s. Passes d w t rest n (before rest n s)) → IfOk (uncounted rest n a) (Passes d w t rest n)
+  uncounted_if t (Ok s) h = h
+  uncounted_if t (Err arm) h = tt
+
+  -- a step that starts no construction
+  steady : (t : Task) → IsHeld w (t ∷ rest) → ((o : ℕ) → making_of o t ≡ 0) → is_counted t ≡ false → (s : Started) → Calm w s → Falls d w (weight d t) s → Passes d w t rest n (before rest n s)
+  steady t held none plain s calm falls = record {
+    held = keeps_quietly w t rest s held calm.quiet (λ o. calm.none o ∙ sym (none o));
+    falls = λ _. let l = falls.less in omega (arith, l, total-append (weight d) s.tasks rest);
+    stays = λ _. refl;
+    counts = λ yes. cc (yes, plain);
+  }
+
+  steadily : (t : Task) → IsHeld w (t ∷ rest) → ((o : ℕ) → making_of o t ≡ 0) → is_counted t ≡ false → (a : Answer Started) → IfOk a (Calm w) → IfOk a (Falls d w (weight d t)) → IfOk (uncounted rest n a) (Passes d w t rest n)
+  steadily t held none plain a calm falls = uncounted_if t a (both (Calm w) (Falls d w (weight d t)) (λ s. Passes d w t rest n (before rest n s)) a calm falls (steady t held none plain))
+
+  -- ** notifications
+
+  notified : (id slot : ℕ) → IsHeld w (Notifying id slot ∷ rest) → n < most_steps → (a : Answer Started) → IfOk a (Calm w) → IfOk (uncounted rest (suc n) a) (Passes d w (Notifying id slot) rest n)
+  notified id slot held small (Ok s) calm = record {
+    held = keeps_quietly w (Notifying id slot) rest s held calm.quiet (λ o. calm.none o);
+    falls = λ no. cc no;
+    stays = λ no. cc no;
+    counts = λ _. (small, refl);
+  }
+  notified id slot held small (Err arm) calm = tt
+
+  notifying_passes : (id slot : ℕ) → IsHeld w (Notifying id slot ∷ rest) → IfOk (act d w (Notifying id slot ∷ rest) n) (Passes d w (Notifying id slot) rest n)
+  notifying_passes id slot held = by (nat_lt n most_steps) refl
+    where
+      by : (b : Bool) → nat_lt n most_steps ≡ b → IfOk (only_if b arms.Steps (uncounted rest (suc n) (notifying d w id slot))) (Passes d w (Notifying id slot) rest n)
+      by true small = notified id slot held (let few : n < most_steps = grind (arith, nat_tests) in few) (notifying d w id slot) (notifying_calm d w id slot)
+      by false large = tt
+
+  -- ** ends of notifications
+
+  -- nothing of the engine's waits for a result
+  kept_down : (ts : List code.Task) (v : Option Value) → passed_down (map (task_of d) ts) v ≡ Ok (map (task_of d) ts)
+  kept_down [] v = refl
+  kept_down (tasks.Setting id slot x ∷ ts) v = refl
+  kept_down (tasks.Notifying id slot ∷ ts) v = refl
+  kept_down (tasks.Emitting id class slot ∷ ts) v = refl
+  kept_down (tasks.Thawing id slots ∷ ts) v = refl
+  kept_down (tasks.Constructing id steps ∷ ts) v = refl
+  kept_down (tasks.Building place ∷ ts) v = refl
+  kept_down (tasks.Carrying event ∷ ts) v = refl
+
+  ending_at : (e : Emission) (turns : List config.Turn) → IsHeld w (Emitting e turns ∷ rest) → (v : World) → v.objects ≡ w.objects → v.builder ≡ w.builder → v.floating ≡ w.floating
+      → Passes d w (Emitting e turns) rest n (record { world = v; agenda = rest; counted = n })
+  ending_at e turns held v objects builder floating = record {
+    held = keeps_quietly w (Emitting e turns) rest (record { world = v; tasks = [] }) held (record { lives = λ q h. subst (λ (os : Objects). is_some (find os q) ≡ true) objects h; builder = builder; floating = floating }) (λ o. refl);
+    falls = λ _. let same = ap waiting objects in omega (arith, same);
+    stays = λ _. refl;
+    counts = λ yes. cc yes;
+  }
+
+  ended : (e : Emission) (turns : List config.Turn) → IsHeld w (Emitting e turns ∷ rest) → (v : Option Value) (b : Bool)
+      → Passes d w (Emitting e turns) rest n (record { world = told d w b v; agenda = rest; counted = n })
+  ended e turns held None b = ending_at e turns held w refl refl refl
+  ended e turns held (Some v) false = ending_at e turns held w refl refl refl
+  ended e turns held (Some v) true = ending_at e turns held (told d w true (Some v)) refl refl refl
+
+  left_if : (t : Task) (a : Answer Left) → IfOk a (λ l. Passes d w t rest n (record { world = l.world; agenda = l.agenda; counted = n })) → IfOk (left n a) (Passes d w t rest n)
+  unfolding left
+  left_if t (Ok l) h = h
+  left_if t (Err arm) h = tt
+
+  ending_passes : (e : Emission) (ts : List code.Task) → map (task_of d) ts ≡ rest → IsHeld w (Emitting e [] ∷ rest) → IfOk (left n (ending d w e rest)) (Passes d w (Emitting e []) rest n)
+  unfolding ending
+  ending_passes e ts same held = left_if (Emitting e []) (ending d w e rest) (bind_ok (resulting d w e) _ Left_passes (λ v _.
+      let down : passed_down rest v ≡ Ok rest = subst (λ (r : List Task). passed_down r v ≡ Ok r) same (kept_down ts v) in
+      rw down (ended e [] held v e.by_event)))
+    where
+      Left_passes : Left → Type 0
+      Left_passes = λ l. Passes d w (Emitting e []) rest n (record { world = l.world; agenda = l.agenda; counted = n })
+
+  -- ** constructions
+
+  constructed_passes : (id : ℕ) → IsHeld w (Constructing id [] true ∷ rest) → IfOk (uncounted rest n (constructed w id true)) (Passes d w (Constructing id [] true) rest n)
+  unfolding constructed
+  constructed_passes id held = record {
+    held = ended_held w id rest held;
+    falls = λ _. omega arith;
+    stays = λ _. refl;
+    counts = λ yes. cc yes;
+  }
+
+  -- a step that hands its part of a construction on
+  handing : (t : Task) → IsHeld w (t ∷ rest) → is_counted t ≡ false → (s : Started) → Quietly w s.world → ((o : ℕ) → total (making_of o) s.tasks ≡ making_of o t) → Falls d w (weight d t) s → Passes d w t rest n (before rest n s)
+  handing t held plain s quiet parts falls = record {
+    held = keeps_quietly w t rest s held quiet parts;
+    falls = λ _. let l = falls.less in omega (arith, l, total-append (weight d) s.tasks rest);
+    stays = λ _. refl;
+    counts = λ yes. cc (yes, plain);
+  }
+
+  sets_passes : (id slot : ℕ) (v : Value) (steps : List Making) → IsHeld w (Constructing id (config.sets slot v ∷ steps) true ∷ rest)
+      → IfOk (uncounted rest n (starts w (Setting id slot v ∷ Constructing id steps true ∷ []))) (Passes d w (Constructing id (config.sets slot v ∷ steps) true) rest n)
+  sets_passes id slot v steps held = handing (Constructing id (config.sets slot v ∷ steps) true) held refl (record { world = w; tasks = Setting id slot v ∷ Constructing id steps true ∷ [] })
+      (record { lives = λ q h. h; builder = refl; floating = refl })
+      (λ o. omega arith)
+      (record { less = omega arith })
+
+  runs_passes : (id program : ℕ) (steps : List Making) → IsHeld w (Constructing id (config.runs program ∷ steps) true ∷ rest) → (args : List Value)
+      → IfOk (uncounted rest n (program_before d w program args (Constructing id steps true ∷ []))) (Passes d w (Constructing id (config.runs program ∷ steps) true) rest n)
+  unfolding program_before beginning_program
+  runs_passes id program steps held args = uncounted_if whole (program_before d w program args (Constructing id steps true ∷ [])) (bind_ok (beginning_program d w program args) _ P (λ s is.
+      let b = if_ok_at Begins (beginning_program d w program args) s begins is in
+      handing whole held refl (record { world = s.world; tasks = s.tasks ++ Constructing id steps true ∷ [] })
+          b.0
+          (λ o. let z = b.1 o in omega (arith, z, total-append (making_of o) s.tasks (Constructing id steps true ∷ [])))
+          (record { less = let l = b.2 in let k = b.3 in omega (arith, l, k, total-append (weight d) s.tasks (Constructing id steps true ∷ [])) })))
+    where
+      whole : Task
+      whole = Constructing id (config.runs program ∷ steps) true
+
+      P : Started → Type 0
+      P = λ s. Passes d w whole rest n (before rest n s)
+
+      Begins : Started → Type 0
+      Begins = λ s. Quietly w s.world × ((o : ℕ) → total (making_of o) s.tasks ≡ 0) × (total (weight d) s.tasks ≤ 1) × (waiting s.world.objects ≡ waiting w.objects)
+
+      only : (b : Bool) (s : Started) → Begins s → IfOk (only_if b arms.Parameters (Ok s)) Begins
+      only true s h = h
+      only false s h = tt
+
+      begins : IfOk (beginning_program d w program args) Begins
+      begins = bind_ok (known arms.Code (program_at d program)) _ Begins (λ p _.
+          only (all_fit (fits_register d w.objects) args p.params) (record { world = said d w (lines.run p.name); tasks = rest_of (first_frame program p args) ∷ [] })
+              (record { lives = λ q h. h; builder = refl; floating = refl }, (λ o. refl), omega arith, refl))
+
+  thaws_passes : (id : ℕ) (steps : List Making) → IsHeld w (Constructing id (config.thaws ∷ steps) true ∷ rest)
+      → IfOk (uncounted rest n (thawing_made w id steps true)) (Passes d w (Constructing id (config.thaws ∷ steps) true) rest n)
+  unfolding thawing_made
+  thaws_passes id steps held = uncounted_if whole (thawing_made w id steps true)
+      (both Hands (Falls d w (weight d whole)) (λ s. Passes d w whole rest n (before rest n s)) (thawing_made w id steps true) hands (thawing_made_falls d w id steps true)
+          (λ s h falls. handing whole held refl s h.0 h.1 falls))
+    where
+      whole : Task
+      whole = Constructing id (config.thaws ∷ steps) true
+
+      Hands : Started → Type 0
+      Hands = λ s. Quietly w s.world × ((o : ℕ) → total (making_of o) s.tasks ≡ making_of o whole)
+
+      hands : IfOk (thawing_made w id steps true) Hands
+      hands = bind_ok (changed w.objects id frozen_less) _ Hands (λ r e.
+          let h = if_ok_at (λ (r : Objects × List ℕ). (q : ℕ) → is_some (find r.0 q) ≡ true → is_some (find w.objects q) ≡ true) (changed w.objects id frozen_less) r (changed_lives w.objects id frozen_less) e in
+          (record { lives = h; builder = refl; floating = refl }, λ o. omega arith))
+
+  constructing_passes : (id : ℕ) (steps : List Making) → IsHeld w (Constructing id steps true ∷ rest) → IfOk (act d w (Constructing id steps true ∷ rest) n) (Passes d w (Constructing id steps true) rest n)
+  constructing_passes id [] held = constructed_passes id held
+  constructing_passes id (config.sets slot v ∷ steps) held = sets_passes id slot v steps held
+  constructing_passes id (config.runs program ∷ steps) held = runs_passes id program steps held _
+  constructing_passes id (config.thaws ∷ steps) held = thaws_passes id steps held
+
+  -- ** thaws and events
+
+  thawing_passes : (id : ℕ) (slots : List ℕ) → IsHeld w (Thawing id slots ∷ rest) → IfOk (act d w (Thawing id slots ∷ rest) n) (Passes d w (Thawing id slots) rest n)
+  thawing_passes id slots held = steadily (Thawing id slots) held (λ o. refl) refl (thawing w id slots) (thawing_calm w id slots) (thawing_falls d w id slots)
+
+  setting_passes : (id slot : ℕ) (v : Value) → IsHeld w (Setting id slot v ∷ rest) → IfOk (act d w (Setting id slot v ∷ rest) n) (Passes d w (Setting id slot v) rest n)
+  setting_passes id slot v held = steadily (Setting id slot v) held (λ o. refl) refl (setting d w id slot v) (setting_calm d w id slot v) (setting_falls d w id slot v)
+
+  carrying_passes : (event : Event) → IsHeld w (Carrying (event_of event) ∷ rest) → IfOk (act d w (Carrying (event_of event) ∷ rest) n) (Passes d w (Carrying (event_of event)) rest n)
+  carrying_passes (events.Set place slot v) held = steadily (Carrying (event_of (events.Set place slot v))) held (λ o. refl) refl (carrying_set w place.0 slot (value (value_view v))) (carrying_set_calm w place.0 slot (value (value_view v))) (carrying_set_falls d w place.0 slot (value (value_view v)))
+  carrying_passes (events.Get place slot) held = steadily (Carrying (event_of (events.Get place slot))) held (λ o. refl) refl (carrying_get d w place.0 slot) (carrying_get_calm d w place.0 slot) (carrying_get_falls d w place.0 slot)
+
+  -- ** the build
+
+  waiting_more : (os : Objects) (o : Object) → o.queue ≡ [] → waiting (os ++ Some o ∷ []) ≡ waiting os
+  waiting_more os o none = let e = ap (λ (q : List ℕ). 2 * length q) none in omega (arith, e, total-append waiting_in os (Some o ∷ []))
+
+  -- an object is made, and its construction begins
+  made : (place : ℕ) (p : Place) (items : List Item) → slice_get d.places place ≡ Some p → IsHeld w (Building (makes place ∷ items) ∷ rest)
+      → Passes d w (Building (makes place ∷ items)) rest n (record {
+          world = said d (with_object d w (new_object d place p None)) (lines.construct (suc (length w.objects)) (type_of d p.class).name);
+          agenda = Constructing (suc (length w.objects)) (config.thaws ∷ []) true ∷ Building items ∷ rest;
+          counted = n })
+  made place p items at held = record {
+    held = made_held w (said d (with_object d w (new_object d place p None)) (lines.construct (suc (length w.objects)) (type_of d p.class).name)) (Building (makes place ∷ items)) rest
+        (new_object d place p None) (is_a d.types p.class initially_unowned) (config.thaws ∷ []) (Building items) held (λ q. refl) refl refl refl;
+    falls = λ _. omega (arith, waiting_more w.objects (new_object d place p None) refl);
+    stays = λ _. refl;
+    counts = λ yes. cc yes;
+  }
+
+  module _ (basic : IsBasic d) (place : ℕ) (held : IsHeld w (Building (build_from d place) ∷ rest)) where
+    abbrev P : Config → Type 0
+    P = Passes d w (Building (build_from d place)) rest n
+
+    built_there : (p : Place) → slice_get d.places place ≡ Some p → IfOk (uncounted rest n (building d w (build_from d place))) P
+    built_there p at = subst (λ (a : Answer Config). IfOk a P) (sym (builds_next d basic w place p at rest n)) (by (type_of d p.class).is_abstract refl)
+      where
+        items : List Item
+        items = build_from d (suc place)
+
+        next : build_from d place ≡ makes place ∷ items
+        next = next_made d basic w place p at
+
+        by : (b : Bool) → (type_of d p.class).is_abstract ≡ b → IfOk (uncounted (Building items ∷ rest) n (making d w place None true)) P
+        by true is = rw (abstract_there d basic w place p at is) tt
+        by false is = rw (made_there d basic w place p at is)
+            (subst (λ (xs : List Item). Passes d w (Building xs) rest n (record {
+                world = said d (with_object d w (new_object d place p None)) (lines.construct (suc (length w.objects)) (type_of d p.class).name);
+                agenda = Constructing (suc (length w.objects)) (config.thaws ∷ []) true ∷ Building items ∷ rest;
+                counted = n })) (sym next) (made place p items at (subst (λ (xs : List Item). IsHeld w (Building xs ∷ rest)) next held)))
+
+    built_past : length d.places ≤ place → IfOk (uncounted rest n (building d w (build_from d place))) P
+    built_past past = subst (λ (a : Answer Started). IfOk (uncounted rest n a) P) (sym (builds_nothing d w place past))
+        (steady (Building (build_from d place)) held (λ o. refl) refl (record { world = w; tasks = [] }) (record { quiet = record { lives = λ q h. h; builder = refl; floating = refl }; none = λ o. refl }) (record { less = omega arith }))
+
+    building_passes : IfOk (act d w (Building (build_from d place) ∷ rest) n) P
+    building_passes = by (slice_get d.places place) refl
+      where
+        by : (o : Option Place) → slice_get d.places place ≡ o → IfOk (uncounted rest n (building d w (build_from d place))) P
+        by (Some p) at = built_there p at
+        by None at = built_past (within_none d.places place at)
+
+  -- what the step of each task of the engine leads to
+  pub acted : IsBasic d → (t : code.Task) (ts : List code.Task) → map (task_of d) ts ≡ rest → IsHeld w (task_of d t ∷ rest) → IfOk (act d w (task_of d t ∷ rest) n) (Passes d w (task_of d t) rest n)
+  acted basic (tasks.Setting id slot v) ts same held = setting_passes id slot (value_view v) held
+  acted basic (tasks.Notifying id slot) ts same held = notifying_passes id slot held
+  acted basic (tasks.Emitting id class slot) ts same held = ending_passes (notification id (name_of d class slot)) ts same held
+  acted basic (tasks.Thawing id slots) ts same held = thawing_passes id slots held
+  acted basic (tasks.Constructing id steps) ts same held = constructing_passes id steps held
+  acted basic (tasks.Building place) ts same held = building_passes basic place held
+  acted basic (tasks.Carrying event) ts same held = carrying_passes event held
