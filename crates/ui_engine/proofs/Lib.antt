@@ -14,3 +14,5 @@ pub mod Notified
 pub mod Built
 pub mod Acts
 pub mod Building
+pub mod Stepping
+pub mod Reaching

@@ -116,7 +116,7 @@ module _ (d : Definition) (w : World) (id : ℕ) (name : List ℕ) (rest : List 
         ends_by (Ok None) (result_by_class (Ok class) of ∙ ap (λ (ss : List Signal). known arms.Code (slice_get ss 0) >>= λ s. Ok (result_of d s.result None)) (basic.known_signals class known_class))
         ∙ ap (λ (a : Answer (List Task)). a >>= λ agenda. leaves w agenda) passes
 
-reverse-map : {A B : Type 0} (f : A → B) (xs : List A) → reverse (map f xs) ≡ map f (reverse xs)
+pub reverse-map : {A B : Type 0} (f : A → B) (xs : List A) → reverse (map f xs) ≡ map f (reverse xs)
 reverse-map f [] = refl
 reverse-map f (x ∷ xs) =
     reverse-append (f x ∷ []) (map f xs) ∙ ap (λ ys. ys ++ f x ∷ []) (reverse-map f xs) ∙ sym (map-append f (reverse xs) (x ∷ []))

@@ -20,5 +20,6 @@ is_counted _ = false
 
 -- what the step of a task was
 abbrev pub IsMade : Made → machine.Definition → Task → Type 0
+IsMade mades.Nothing d task = ⊥
 IsMade mades.Uncounted d task = is_counted (task_of d task) ≡ false
 IsMade mades.Counted d task = is_counted (task_of d task) ≡ true

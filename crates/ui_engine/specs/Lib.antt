@@ -7,3 +7,4 @@ pub mod TaskView
 pub mod Measure
 pub mod EngineView
 pub mod PlainSets
+pub mod Stepping

@@ -17,6 +17,8 @@ pub struct Engine {
 /// What a step was.
 #[derive(Clone, Copy, Debug, PartialEq, Eq)]
 pub enum Made {
+    /// None was left to make.
+    Nothing,
     Uncounted,
     Counted,
 }

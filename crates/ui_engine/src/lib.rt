@@ -12,6 +12,7 @@ mod heap;
 mod notifications;
 mod object;
 mod running;
+mod runs;
 mod sets;
 mod task;
 mod texts;

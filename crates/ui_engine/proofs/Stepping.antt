@@ -1,0 +1,46 @@
+-- While objects are held, the machine's step is the first task's.
+use Rattle.std.proofs.Common.{◌≡◌, ℕ, suc, ◌<◌, true, false, List, [], ◌∷◌, map, reverse, None, Result, Ok, Err, refl, sym, ap, subst, ◌∙◌}
+use Rattle.std.specs.Prelude.{IfOk, OnErr}
+use Rattle.ui_machine.specs.declared.arm.Halt.{Halt}
+use Rattle.ui_machine.specs.Definition.{Definition}
+use Rattle.ui_machine.specs.Config.{Task, Config}
+use Rattle.ui_machine.specs.Answers.{Answer, Goes, Stops}
+use Rattle.ui_machine.specs.Objects.{next_unheld}
+use Rattle.ui_machine.specs.Mentions.{mentions}
+use Rattle.ui_machine.specs.Steps.{act, first_of, step, most_steps}
+use Rattle.builder_defs.specs.Meaning.{IsBasic}
+use Rattle.ui_engine.specs.declared.task.Task as code
+use Rattle.ui_engine.specs.declared.task.Stack.{Stack}
+use Rattle.ui_engine.specs.declared.engine.Made.{Made}
+use Rattle.ui_engine.specs.declared.engine.Made.TheVariants as mades
+use Rattle.ui_engine.specs.TaskView.{task_of, agenda_of}
+use Rattle.ui_engine.specs.EngineView.{IsMade}
+use Rattle.ui_engine.specs.Holding.{IsHeld}
+use Rattle.ui_engine.specs.Stepping.{Stepped}
+use Rattle.ui_engine.proofs.Held.{none_unmentioned, if_ok_at}
+use Rattle.ui_engine.proofs.Notified.{reverse-map}
+use Rattle.ui_engine.proofs.Acts.{Passes, acted}
+
+-- nothing is unheld, so that the first task acts
+pub step_acts : (d : Definition) (c : Config) → IsHeld c.world c.agenda → step d c ≡ act d c.world c.agenda c.counted
+step_acts d c held = ap (first_of d c) (none_unmentioned d c held)
+
+module _ (d : Definition) (basic : IsBasic d) (c e : Config) (held : IsHeld c.world c.agenda) (task : code.Task) (s : Stack) (first : c.agenda ≡ task_of d task ∷ agenda_of d s) where
+  acts : step d c ≡ act d c.world (task_of d task ∷ agenda_of d s) c.counted
+  acts = step_acts d c held ∙ ap (λ (ts : List Task). act d c.world ts c.counted) first
+
+  passes : act d c.world (task_of d task ∷ agenda_of d s) c.counted ≡ Ok e → Passes d c.world (task_of d task) (agenda_of d s) c.counted e
+  passes is =
+      let held' = subst (λ (ts : List Task). IsHeld c.world ts) first held in
+      if_ok_at (Passes d c.world (task_of d task) (agenda_of d s) c.counted) (act d c.world (task_of d task ∷ agenda_of d s) c.counted) e
+          (acted d c.world (agenda_of d s) c.counted basic task (reverse s.tasks.items) (sym (reverse-map (task_of d) s.tasks.items)) held') is
+
+  pub first_stepped : (result : Result Made Halt) → Goes result (act d c.world (task_of d task ∷ agenda_of d s) c.counted) e → IfOk result (λ made. IsMade made d task) → OnErr result (e.world.transcript ≡ c.world.transcript) → Stepped result d c e
+  first_stepped (Ok mades.Nothing) goes made quiet = absurd made
+  first_stepped (Ok mades.Uncounted) goes made quiet =
+      let p = passes goes in
+      (acts ∙ goes, p.held, rw first (p.falls made), p.stays made)
+  first_stepped (Ok mades.Counted) goes made quiet =
+      let p = passes goes in
+      (acts ∙ goes, p.held, (p.counts made).0, (p.counts made).1)
+  first_stepped (Err halt) goes made quiet = (subst (Stops halt) (sym acts) goes, quiet)

@@ -1,0 +1,18 @@
+use Rattle.std.proofs.Common.{◌≡◌}
+use Rattle.ui_machine.specs.Runs.{Reaches}
+use Rattle.ui_engine.specs.View.{world_of}
+use Rattle.ui_engine.specs.TaskView.{agenda_of}
+use Rattle.ui_engine.specs.EngineView.{config_of}
+use Rattle.ui_engine.specs.Holding.{IsHeld}
+use Rattle.ui_engine.specs.Measure.{work}
+use Rattle.ui_engine.proofs.engine.Engine.advance.Given as goal
+
+abbrev pub invariant-loop : goal.invariant-loop
+invariant-loop l = record {
+  reached : Reaches l.definition (config_of l.definition l.fn.self) (config_of l.definition l.self);
+  held : IsHeld (world_of l.self.world) (agenda_of l.definition l.self.stack);
+  counted : l.self.counted ≡ l.fn.self.counted;
+}
+
+abbrev pub decreases-loop : goal.decreases-loop
+decreases-loop l = work l.definition (config_of l.definition l.self)

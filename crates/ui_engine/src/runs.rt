@@ -1,0 +1,51 @@
+//! Runs: steps until nothing is left to do.
+
+ghost use Rattle.ui_engine.specs.View.{world_of};
+ghost use Rattle.ui_engine.specs.TaskView.{agenda_of};
+ghost use Rattle.ui_engine.specs.EngineView.{config_of};
+ghost use Rattle.ui_engine.specs.Holding.{IsHeld};
+ghost use Rattle.ui_engine.specs.Stepping.{Stepped, Advanced, Ran};
+
+use crate::engine::{Engine, Made};
+use builder_defs::Definition;
+use ui_machine::Halt;
+
+impl Engine {
+    // Makes the step of the first task, if there is one.
+    fn step(&mut self, definition: &Definition) -> Result<Made, Halt>
+        requires held { IsHeld (world_of self.now.world) (agenda_of definition.now self.now.stack) }
+        ensures { Stepped result definition.now (config_of definition.now self.old) (config_of definition.now self.new) }
+    {
+        let _types = definition.types();
+        let Some(task) = self.stack.pop() else {
+            return Ok(Made::Nothing);
+        };
+        self.act(definition, task)
+    }
+
+    // Makes steps until a counted one is made or none is left, and answers whether one was made.
+    fn advance(&mut self, definition: &Definition) -> Result<bool, Halt>
+        requires held { IsHeld (world_of self.now.world) (agenda_of definition.now self.now.stack) }
+        ensures { Advanced result definition.now (config_of definition.now self.old) (config_of definition.now self.new) }
+    {
+        loop {
+            match self.step(definition)? {
+                Made::Nothing => return Ok(false),
+                Made::Uncounted => {}
+                Made::Counted => return Ok(true),
+            }
+        }
+    }
+
+    /// Makes steps until none is left.
+    pub(crate) fn run(&mut self, definition: &Definition) -> Result<(), Halt>
+        requires held { IsHeld (world_of self.now.world) (agenda_of definition.now self.now.stack) }
+        ensures { Ran result definition.now (config_of definition.now self.old) (config_of definition.now self.new) }
+    {
+        loop {
+            if !self.advance(definition)? {
+                return Ok(());
+            }
+        }
+    }
+}
