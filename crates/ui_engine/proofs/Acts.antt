@@ -165,9 +165,9 @@ module _ (d : Definition) (w : World) (rest : List Task) (n : ℕ) where
   runs_passes id program steps held args = uncounted_if whole (program_before d w program args (Constructing id steps true ∷ [])) (bind_ok (beginning_program d w program args) _ P (λ s is.
       let b = if_ok_at Begins (beginning_program d w program args) s begins is in
       handing whole held refl (record { world = s.world; tasks = s.tasks ++ Constructing id steps true ∷ [] })
-          b.0
-          (λ o. let z = b.1 o in omega (arith, z, total-append (making_of o) s.tasks (Constructing id steps true ∷ [])))
-          (record { less = let l = b.2 in let k = b.3 in omega (arith, l, k, total-append (weight d) s.tasks (Constructing id steps true ∷ [])) })))
+      b.0
+      (λ o. let z = b.1 o in omega (arith, z, total-append (making_of o) s.tasks (Constructing id steps true ∷ [])))
+      (record { less = let l = b.2 in let k = b.3 in omega (arith, l, k, total-append (weight d) s.tasks (Constructing id steps true ∷ [])) })))
     where
       whole : Task
       whole = Constructing id (config.runs program ∷ steps) true
@@ -185,14 +185,14 @@ module _ (d : Definition) (w : World) (rest : List Task) (n : ℕ) where
       begins : IfOk (beginning_program d w program args) Begins
       begins = bind_ok (known arms.Code (program_at d program)) _ Begins (λ p _.
           only (all_fit (fits_register d w.objects) args p.params) (record { world = said d w (lines.run p.name); tasks = rest_of (first_frame program p args) ∷ [] })
-              (record { lives = λ q h. h; builder = refl; floating = refl }, (λ o. refl), omega arith, refl))
+          (record { lives = λ q h. h; builder = refl; floating = refl }, (λ o. refl), omega arith, refl))
 
   thaws_passes : (id : ℕ) (steps : List Making) → IsHeld w (Constructing id (config.thaws ∷ steps) true ∷ rest)
       → IfOk (uncounted rest n (thawing_made w id steps true)) (Passes d w (Constructing id (config.thaws ∷ steps) true) rest n)
   unfolding thawing_made
   thaws_passes id steps held = uncounted_if whole (thawing_made w id steps true)
       (both Hands (Falls d w (weight d whole)) (λ s. Passes d w whole rest n (before rest n s)) (thawing_made w id steps true) hands (thawing_made_falls d w id steps true)
-          (λ s h falls. handing whole held refl s h.0 h.1 falls))
+      (λ s h falls. handing whole held refl s h.0 h.1 falls))
     where
       whole : Task
       whole = Constructing id (config.thaws ∷ steps) true
@@ -231,9 +231,10 @@ module _ (d : Definition) (w : World) (rest : List Task) (n : ℕ) where
   -- an object is made, and its construction begins
   made : (place : ℕ) (p : Place) (items : List Item) → slice_get d.places place ≡ Some p → IsHeld w (Building (makes place ∷ items) ∷ rest)
       → Passes d w (Building (makes place ∷ items)) rest n (record {
-          world = said d (with_object d w (new_object d place p None)) (lines.construct (suc (length w.objects)) (type_of d p.class).name);
-          agenda = Constructing (suc (length w.objects)) (config.thaws ∷ []) true ∷ Building items ∷ rest;
-          counted = n })
+        world = said d (with_object d w (new_object d place p None)) (lines.construct (suc (length w.objects)) (type_of d p.class).name);
+        agenda = Constructing (suc (length w.objects)) (config.thaws ∷ []) true ∷ Building items ∷ rest;
+        counted = n;
+      })
   made place p items at held = record {
     held = made_held w (said d (with_object d w (new_object d place p None)) (lines.construct (suc (length w.objects)) (type_of d p.class).name)) (Building (makes place ∷ items)) rest
         (new_object d place p None) (is_a d.types p.class initially_unowned) (config.thaws ∷ []) (Building items) held (λ q. refl) refl refl refl;
@@ -259,9 +260,10 @@ module _ (d : Definition) (w : World) (rest : List Task) (n : ℕ) where
         by true is = rw (abstract_there d basic w place p at is) tt
         by false is = rw (made_there d basic w place p at is)
             (subst (λ (xs : List Item). Passes d w (Building xs) rest n (record {
-                world = said d (with_object d w (new_object d place p None)) (lines.construct (suc (length w.objects)) (type_of d p.class).name);
-                agenda = Constructing (suc (length w.objects)) (config.thaws ∷ []) true ∷ Building items ∷ rest;
-                counted = n })) (sym next) (made place p items at (subst (λ (xs : List Item). IsHeld w (Building xs ∷ rest)) next held)))
+              world = said d (with_object d w (new_object d place p None)) (lines.construct (suc (length w.objects)) (type_of d p.class).name);
+              agenda = Constructing (suc (length w.objects)) (config.thaws ∷ []) true ∷ Building items ∷ rest;
+              counted = n;
+            })) (sym next) (made place p items at (subst (λ (xs : List Item). IsHeld w (Building xs ∷ rest)) next held)))
 
     built_past : length d.places ≤ place → IfOk (uncounted rest n (building d w (build_from d place))) P
     built_past past = subst (λ (a : Answer Started). IfOk (uncounted rest n a) P) (sym (builds_nothing d w place past))

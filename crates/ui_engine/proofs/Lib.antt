@@ -16,3 +16,4 @@ pub mod Acts
 pub mod Building
 pub mod Stepping
 pub mod Reaching
+pub mod Beginning

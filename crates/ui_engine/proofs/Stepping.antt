@@ -33,7 +33,7 @@ module _ (d : Definition) (basic : IsBasic d) (c e : Config) (held : IsHeld c.wo
   passes is =
       let held' = subst (λ (ts : List Task). IsHeld c.world ts) first held in
       if_ok_at (Passes d c.world (task_of d task) (agenda_of d s) c.counted) (act d c.world (task_of d task ∷ agenda_of d s) c.counted) e
-          (acted d c.world (agenda_of d s) c.counted basic task (reverse s.tasks.items) (sym (reverse-map (task_of d) s.tasks.items)) held') is
+      (acted d c.world (agenda_of d s) c.counted basic task (reverse s.tasks.items) (sym (reverse-map (task_of d) s.tasks.items)) held') is
 
   pub first_stepped : (result : Result Made Halt) → Goes result (act d c.world (task_of d task ∷ agenda_of d s) c.counted) e → IfOk result (λ made. IsMade made d task) → OnErr result (e.world.transcript ≡ c.world.transcript) → Stepped result d c e
   first_stepped (Ok mades.Nothing) goes made quiet = absurd made

@@ -8,3 +8,4 @@ pub mod Measure
 pub mod EngineView
 pub mod PlainSets
 pub mod Stepping
+pub mod SessionView

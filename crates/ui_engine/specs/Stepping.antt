@@ -1,11 +1,13 @@
 -- What the steps of the engine come to, beside the machine's.
-use Rattle.std.specs.Prelude.{◌≡◌, ℕ, suc, ◌<◌, Bool, true, false, [], Result, Ok, Err}
+use Rattle.std.specs.Prelude.{◌≡◌, ℕ, suc, ◌<◌, Bool, true, false, [], option_map, Result, Ok, Err}
 use Rattle.ui_machine.specs.declared.arm.Halt.{Halt}
 use Rattle.ui_machine.specs.Definition.{Definition}
-use Rattle.ui_machine.specs.Config.{Config}
+use Rattle.ui_machine.specs.Config.{World, Config}
 use Rattle.ui_machine.specs.Answers.{Stops}
 use Rattle.ui_machine.specs.Steps.{step, most_steps}
-use Rattle.ui_machine.specs.Runs.{Reaches, HasEnded, Halts}
+use Rattle.ui_machine.specs.Runs.{Reaches, HasEnded, Dispatches, Halts}
+use Rattle.g_values.specs.View.{value_view}
+use Rattle.ui_engine.specs.declared.dispatches.Reply.{Reply}
 use Rattle.ui_engine.specs.Holding.{IsHeld}
 use Rattle.ui_engine.specs.Measure.{work}
 use Rattle.ui_engine.specs.declared.engine.Made.{Made}
@@ -28,3 +30,8 @@ Advanced (Err halt) d c e = Halts d c halt e.world.transcript
 abbrev pub Ran : {X : Type 0} → Result X Halt → Definition → Config → Config → Type 0
 Ran (Ok _) d c e = Reaches d c e × HasEnded d e × IsHeld e.world e.agenda
 Ran (Err halt) d c e = Halts d c halt e.world.transcript
+
+-- a whole dispatch, or how far it came
+abbrev pub Carried : Result Reply Halt → Definition → Config → World → Type 0
+Carried (Ok reply) d c new = Dispatches d c reply.steps new × (option_map value_view reply.result ≡ new.result) × (reply.dispatches ≡ 1) × IsHeld new []
+Carried (Err halt) d c new = Halts d c halt new.transcript

@@ -7,13 +7,18 @@
 mod builds;
 mod carrying;
 mod counting;
+mod dispatches;
 mod engine;
 mod heap;
 mod notifications;
 mod object;
 mod running;
 mod runs;
+mod session;
 mod sets;
 mod task;
 mod texts;
 mod world;
+
+pub use dispatches::Reply;
+pub use session::{Finished, Refused, Session, SessionFault, StartFault, Started};

@@ -1,0 +1,32 @@
+use Rattle.std.proofs.Common.{◌≡◌, List, [], ◌∷◌, ◌++◌, refl, sym, ap, subst, ◌∙◌}
+use Rattle.std.specs.Prelude.{string_bytes}
+use Rattle.std.proofs.lemmas.Result.{err_from_is_err_and}
+use Rattle.ui_machine.specs.Config.{Task, World, Config}
+use Rattle.ui_machine.specs.Runs.{Reaches, beginning}
+use Rattle.ui_engine.specs.View.{world_of}
+use Rattle.ui_engine.specs.TaskView.{task_of}
+use Rattle.ui_engine.specs.EngineView.{config_of}
+use Rattle.ui_engine.specs.Holding.{IsHeld}
+use Rattle.ui_engine.proofs.Reaching.{reaches_here}
+use Rattle.ui_engine.proofs.engine.Engine.dispatch.Goals as goal
+
+pub returns-in_err-begin : goal.returns-in_err-begin
+returns-in_err-begin c =
+    let p = err_from_is_err_and c.from_residual.result c.from_residual.ensures.1 in
+    let d = c.args.definition.now in
+    let start = beginning (world_of c.args.self.now.world) (task_of d c.args.task) in
+    rw (p.1, p.2) (record { at = start; reached = reaches_here d start; stops = tt; lines = sym c.in_err-begin.ensures.err })
+
+pub returns : goal.returns
+returns c =
+    let d = c.args.definition.now in
+    let e = config_of d c.run.new.self in
+    let ran = c.in_ok-run.ensures in
+    let reached = subst (λ (from : Config). Reaches d from e) c.in_ok-begin.ensures.ok ran.0 in
+    let said = c.in_ok-say.ensures.ok ∙ ap (λ line. record (world_of c.run.new.self.world) { transcript = (world_of c.run.new.self.world).transcript ++ line ∷ [] }) c.in_ok-line.ensures in
+    let held = subst (λ (ts : List Task). IsHeld (world_of c.run.new.self.world) ts) ran.1.agenda ran.2 in (
+      record { at = e; reached = reached; ended = ran.1; counts = refl; leaves = sym said },
+      c.in_ok-result.ensures ∙ ap (λ (w : World). w.result) (sym said),
+      refl,
+      subst (λ (w : World). IsHeld w []) (sym said) (record { lives = held.lives; floats = held.floats }),
+    )

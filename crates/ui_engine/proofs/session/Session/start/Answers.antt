@@ -1,0 +1,25 @@
+use Rattle.std.proofs.Common.{[], ◌∷◌, codes, ap, subst, sym, ◌∙◌}
+use Rattle.ui_machine.specs.Config.{World, Item, Building, Config}
+use Rattle.ui_machine.specs.Lines as lines
+use Rattle.ui_machine.specs.Worlds.{said}
+use Rattle.ui_machine.specs.Runs.{beginning, first_world}
+use Rattle.ui_engine.specs.View.{world_of}
+use Rattle.ui_engine.specs.TaskView.{build_from}
+use Rattle.ui_engine.specs.SessionView.{Comes}
+use Rattle.ui_engine.proofs.Beginning.{none_held, only_objects}
+use Rattle.ui_engine.proofs.session.Session.start.Goals as goal
+
+pub invariant_of-session : goal.invariant_of-session
+invariant_of-session c _ =
+    let d = c.args.definition in
+    let first = c.new-engine.ensures d in
+    let said = c.in-Ok.ensures in
+    none_held (world_of c.announce.new.self.world) (ap (λ (w : World). w.objects) said ∙ ap (λ (w : World). w.objects) first) (ap (λ (w : World). w.floating) said ∙ ap (λ (w : World). w.floating) first)
+
+pub returns-clause-built : goal.returns-clause-built
+returns-clause-built c =
+    let d = c.args.definition in
+    let announced = c.in-Ok.ensures ∙ ap (λ w. said d w lines.build) (c.new-engine.ensures d) in
+    let items = only_objects d c.types-types.ensures.basic in
+    let start = ap (λ w. beginning w (Building (build_from d 0))) announced ∙ ap (λ items. beginning (said d (first_world d []) lines.build) (Building items)) (sym items) in
+    subst (λ (from : Config). Comes c.carry_out-build.result d from c.carry_out-build.new.self) start c.carry_out-build.ensures

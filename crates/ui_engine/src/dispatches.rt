@@ -1,0 +1,101 @@
+//! Dispatches: one task, and all that it leads to.
+
+ghost use Rattle.std.specs.Prelude.{◌≡◌, [], ◌∷◌, ◌++◌, codes, option_map, OnOk, OnErr, IfOk};
+ghost use Rattle.g_values.specs.View.{value_view};
+ghost use Rattle.ui_machine.specs.Definition as machine;
+ghost use Rattle.ui_machine.specs.Runs.{beginning, first_world};
+ghost use Rattle.ui_engine.specs.View.{world_of};
+ghost use Rattle.ui_engine.specs.TaskView.{task_of};
+ghost use Rattle.ui_engine.specs.EngineView.{config_of};
+ghost use Rattle.ui_engine.specs.Holding.{IsHeld};
+ghost use Rattle.ui_engine.specs.Stepping.{Carried};
+
+use crate::engine::Engine;
+use crate::heap::Heap;
+use crate::task::{Stack, Task};
+use crate::texts::end_line;
+use crate::world::World;
+use builder_defs::Definition;
+use g_values::Value;
+use std::alloc::{AllocError, Global};
+use ui_machine::Halt;
+
+/// What a dispatch led to.
+#[derive(Drop)]
+pub struct Reply {
+    /// The value that the event told, where it told one.
+    pub result: Option<Value>,
+    /// How many lines `end` were said.
+    pub dispatches: u32,
+    /// The counted steps.
+    pub steps: u64,
+}
+
+impl Engine {
+    /// Nothing is built yet, and there is nothing to do.
+    pub fn new(alloc: Global) -> Self
+        ensures { (d : machine.Definition) → world_of result.world ≡ first_world d [] }
+    {
+        Engine {
+            world: World {
+                heap: Heap::new(alloc),
+                builder: Vec::new(alloc),
+                floating: Vec::new(alloc),
+                transcript: Vec::new(alloc),
+                result: None,
+            },
+            stack: Stack::new(alloc),
+            counted: 0,
+            alloc,
+        }
+    }
+
+    // The task is all there is to do, and nothing of its dispatch is counted yet.
+    fn begin(&mut self, definition: &Definition, task: Task) -> Result<(), AllocError>
+        ensures ok { OnOk result (config_of definition.now self.new ≡ beginning (world_of self.old.world) (task_of definition.now task)) }
+        ensures err { OnErr result ((world_of self.new.world).transcript ≡ (world_of self.old.world).transcript) }
+    {
+        let _ = definition;
+        self.world.result = None;
+        self.counted = 0;
+        self.stack.clear();
+        self.stack.push(task)?;
+        Ok(())
+    }
+
+    /// The line with which the build begins.
+    pub fn announce(&mut self) -> Result<(), AllocError>
+        ensures { OnOk result (world_of self.new.world ≡ record (world_of self.old.world) { transcript = (world_of self.old.world).transcript ++ codes "build" ∷ [] }) }
+    {
+        let line = String::from_str(self.alloc, "build")?;
+        self.world.say(line)
+    }
+
+    /// Carries out a task with all that it leads to, and tells of its end.
+    pub(crate) fn dispatch(&mut self, definition: &Definition, task: Task) -> Result<Reply, Halt>
+        requires held { IsHeld (world_of self.now.world) [] }
+        ensures { Carried result definition.now (beginning (world_of self.old.world) (task_of definition.now task)) (world_of self.new.world) }
+    {
+        self.begin(definition, task)?;
+        self.run(definition)?;
+        let result = copied(&self.world.result)?;
+        let steps = self.counted;
+        let line = end_line(self.alloc, steps)?;
+        self.world.say(line)?;
+        Ok(Reply {
+            result,
+            dispatches: 1,
+            steps,
+        })
+    }
+}
+
+// The same value once more, if there is one.
+fn copied(value: &Option<Value>) -> Result<Option<Value>, AllocError>
+    ensures { IfOk result (λ copy. option_map value_view copy ≡ option_map value_view value.now) }
+{
+    match value {
+        Some(value) => Ok(Some(value.copied()?)),
+        None => Ok(None),
+    }
+}

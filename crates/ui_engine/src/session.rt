@@ -1,0 +1,155 @@
+//! A session: a definition, and what stands while its events come.
+
+ghost use Rattle.std.specs.Prelude.{◌≡◌, [], map, string_bytes, IfOk, IfErr, false};
+ghost use Rattle.ui_machine.specs.Runs.{beginning, of_build, of_event};
+ghost use Rattle.builder_defs.specs.Meaning.{event_of};
+ghost use Rattle.ui_engine.specs.TaskView.{task_of};
+ghost use Rattle.ui_engine.specs.SessionView.{Answers, Comes};
+
+use crate::dispatches::Reply;
+use crate::engine::Engine;
+use crate::task::Task;
+use builder_defs::{Definition, Event};
+use std::alloc::Global;
+use std::marker::Model;
+use ui_machine::{Arm, Halt};
+
+/// Why an event was not carried out to its end.
+#[derive(Clone, Copy, Debug, PartialEq, Eq)]
+pub enum SessionFault {
+    /// Memory was refused. The session has stopped.
+    OutOfMemory,
+    /// The session stopped before, in its build or in an event.
+    Stopped,
+    /// The machine is stuck there. The session has stopped.
+    Stuck(Arm),
+}
+
+impl From<Halt> for SessionFault {
+    ghost use Rattle.ui_engine.specs.TaskView.{task_of};
+    ghost use Rattle.ui_engine.specs.SessionView.{fault_of};
+
+    ghost from_gives = { λ halt fault. fault ≡ fault_of halt };
+
+    fn from(halt: Halt) -> SessionFault {
+        match halt {
+            Halt::OutOfMemory => SessionFault::OutOfMemory,
+            Halt::Stuck(arm) => SessionFault::Stuck(arm),
+        }
+    }
+}
+
+/// What runs a definition. Where it has not stopped, each object that lives is held, and nothing is left to do.
+#[derive(Drop)]
+pub struct Session {
+    definition: Definition,
+    engine: Engine,
+    stopped: bool,
+}
+
+impl Model for Session {
+    ghost use Rattle.std.specs.Prelude.{◌≡◌, false, []};
+    ghost use Rattle.ui_engine.specs.TaskView.{task_of};
+    ghost use Rattle.ui_engine.specs.SessionView.{Standing};
+    ghost use Rattle.ui_engine.specs.View.{world_of};
+    ghost use Rattle.ui_engine.specs.Holding.{IsHeld};
+
+    ghost Value = { Standing };
+
+    ghost view = { λ s. record { definition = s.definition; world = world_of s.engine.world; stopped = s.stopped } };
+
+    ghost invariant = { λ s. s.stopped ≡ false → IsHeld (world_of s.engine.world) [] };
+}
+
+/// A session whose definition was built, or whose build stopped it.
+#[derive(Drop)]
+pub struct Started {
+    pub session: Session,
+    pub build: Result<Reply, SessionFault>,
+}
+
+/// Why no session began.
+#[derive(Clone, Copy, Debug, PartialEq, Eq)]
+pub enum StartFault {
+    /// Memory was refused before the build.
+    OutOfMemory,
+}
+
+/// The definition that no session began with.
+#[derive(Drop)]
+pub struct Refused {
+    pub fault: StartFault,
+    pub definition: Definition,
+}
+
+/// What is left of a session.
+#[derive(Drop)]
+pub struct Finished {
+    pub transcript: Vec<String>,
+}
+
+impl Session {
+    /// Builds a definition's objects.
+    pub fn start(alloc: Global, definition: Definition) -> Result<Started, Refused>
+        ensures built { IfOk result (λ started. Comes started.build definition (of_build definition []) started.session) }
+        ensures refused { IfErr result (λ refused. refused.definition ≡ definition) }
+    {
+        let _types = definition.types();
+        let mut engine = Engine::new(alloc);
+        let Ok(()) = engine.announce() else {
+            return Err(Refused {
+                fault: StartFault::OutOfMemory,
+                definition,
+            });
+        };
+        let mut session = Session {
+            definition,
+            engine,
+            stopped: false,
+        };
+        let build = session.carry_out(Task::Building { place: 0 });
+        Ok(Started { session, build })
+    }
+
+    /// Carries out an event with all that it leads to.
+    pub fn dispatch(&mut self, event: Event) -> Result<Reply, SessionFault>
+        ensures { Answers self.old.stopped result self.old (of_event self.old.world (event_of event)) self.new }
+    {
+        if self.stopped {
+            return Err(SessionFault::Stopped);
+        }
+        self.carry_out(Task::Carrying(event))
+    }
+
+    // Carries out a task with all that it leads to. Where that halts the session stops.
+    fn carry_out(&mut self, task: Task) -> Result<Reply, SessionFault>
+        requires goes_on { self.now.stopped ≡ false }
+        ensures { Comes result self.old.definition (beginning self.old.world (task_of self.old.definition task)) self.new }
+    {
+        match self.engine.dispatch(&self.definition, task) {
+            Ok(reply) => return Ok(reply),
+            Err(halt) => {
+                self.stopped = true;
+                return Err(SessionFault::from(halt));
+            }
+        }
+    }
+
+    /// The lines so far, without their LF.
+    pub fn transcript(&self) -> &[String]
+        ensures { map string_bytes result.now ≡ self.now.world.transcript }
+    {
+        self.engine.world.transcript.as_slice()
+    }
+
+    /// Ends the session, also where it has stopped, and hands out its lines.
+    pub fn finish(self) -> Finished
+        ensures { map string_bytes result.transcript.items ≡ self.world.transcript }
+    {
+        let engine = self.engine;
+        let world = engine.world;
+        Finished {
+            transcript: world.transcript,
+        }
+    }
+}
