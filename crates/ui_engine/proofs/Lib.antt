@@ -1,3 +1,4 @@
+pub mod Growing
 pub mod Listed
 pub mod Shown
 pub mod Maps

@@ -15,6 +15,8 @@ use Rattle.ui_engine.specs.declared.engine.Made.{Made}
 use Rattle.ui_engine.specs.declared.engine.Made.TheVariants as mades
 use Rattle.ui_engine.specs.TaskView.{task_of, agenda_of}
 use Rattle.ui_engine.specs.EngineView.{IsMade}
+use Rattle.ui_engine.specs.Growing.{Longer}
+use Rattle.ui_engine.proofs.Growing.{longer_by}
 use Rattle.ui_engine.specs.Holding.{IsHeld}
 use Rattle.ui_engine.specs.Stepping.{Stepped}
 use Rattle.ui_engine.proofs.Held.{none_unmentioned, if_ok_at}
@@ -44,3 +46,7 @@ module _ (d : Definition) (basic : IsBasic d) (c e : Config) (held : IsHeld c.wo
       let p = passes goes in
       (acts ∙ goes, p.held, (p.counts made).0, (p.counts made).1)
   first_stepped (Err halt) goes made quiet = (subst (Stops halt) (sym acts) goes, quiet)
+
+  pub first_grows : (result : Result Made Halt) → Goes result (act d c.world (task_of d task ∷ agenda_of d s) c.counted) e → OnErr result (e.world.transcript ≡ c.world.transcript) → Longer c.world.transcript e.world.transcript
+  first_grows (Ok made) goes quiet = (passes goes).grows
+  first_grows (Err halt) goes quiet = longer_by quiet

@@ -1,3 +1,4 @@
+pub mod Growing
 pub mod ObjectView
 pub mod HeapView
 pub mod Holding

@@ -3,6 +3,7 @@
 ghost use Rattle.ui_engine.specs.View.{world_of};
 ghost use Rattle.ui_engine.specs.TaskView.{agenda_of};
 ghost use Rattle.ui_engine.specs.EngineView.{config_of};
+ghost use Rattle.ui_engine.specs.Growing.{Longer};
 ghost use Rattle.ui_engine.specs.Holding.{IsHeld};
 ghost use Rattle.ui_engine.specs.Stepping.{Stepped, Advanced, Ran};
 
@@ -14,7 +15,8 @@ impl Engine {
     // Makes the step of the first task, if there is one.
     fn step(&mut self, definition: &Definition) -> Result<Made, Halt>
         requires held { IsHeld (world_of self.now.world) (agenda_of definition.now self.now.stack) }
-        ensures { Stepped result definition.now (config_of definition.now self.old) (config_of definition.now self.new) }
+        ensures stepped { Stepped result definition.now (config_of definition.now self.old) (config_of definition.now self.new) }
+        ensures grows { Longer (world_of self.old.world).transcript (world_of self.new.world).transcript }
     {
         let _types = definition.types();
         let Some(task) = self.stack.pop() else {
@@ -26,7 +28,8 @@ impl Engine {
     // Makes steps until a counted one is made or none is left, and answers whether one was made.
     fn advance(&mut self, definition: &Definition) -> Result<bool, Halt>
         requires held { IsHeld (world_of self.now.world) (agenda_of definition.now self.now.stack) }
-        ensures { Advanced result definition.now (config_of definition.now self.old) (config_of definition.now self.new) }
+        ensures advanced { Advanced result definition.now (config_of definition.now self.old) (config_of definition.now self.new) }
+        ensures grows { Longer (world_of self.old.world).transcript (world_of self.new.world).transcript }
     {
         loop {
             match self.step(definition)? {
@@ -40,7 +43,8 @@ impl Engine {
     /// Makes steps until none is left.
     pub(crate) fn run(&mut self, definition: &Definition) -> Result<(), Halt>
         requires held { IsHeld (world_of self.now.world) (agenda_of definition.now self.now.stack) }
-        ensures { Ran result definition.now (config_of definition.now self.old) (config_of definition.now self.new) }
+        ensures ran { Ran result definition.now (config_of definition.now self.old) (config_of definition.now self.new) }
+        ensures grows { Longer (world_of self.old.world).transcript (world_of self.new.world).transcript }
     {
         loop {
             if !self.advance(definition)? {

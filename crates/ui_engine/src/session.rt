@@ -3,6 +3,7 @@
 ghost use Rattle.std.specs.Prelude.{◌≡◌, [], map, string_bytes, IfOk, IfErr, false};
 ghost use Rattle.ui_machine.specs.Runs.{beginning, of_build, of_event};
 ghost use Rattle.builder_defs.specs.Meaning.{event_of};
+ghost use Rattle.ui_engine.specs.Growing.{Longer};
 ghost use Rattle.ui_engine.specs.TaskView.{task_of};
 ghost use Rattle.ui_engine.specs.SessionView.{Answers, Comes};
 
@@ -113,7 +114,9 @@ impl Session {
 
     /// Carries out an event with all that it leads to.
     pub fn dispatch(&mut self, event: Event) -> Result<Reply, SessionFault>
-        ensures { Answers self.old.stopped result self.old (of_event self.old.world (event_of event)) self.new }
+        ensures answers { Answers self.old.stopped result self.old (of_event self.old.world (event_of event)) self.new }
+        // It only adds lines.
+        ensures grows { Longer self.old.world.transcript self.new.world.transcript }
     {
         if self.stopped {
             return Err(SessionFault::Stopped);
@@ -124,7 +127,8 @@ impl Session {
     // Carries out a task with all that it leads to. Where that halts the session stops.
     fn carry_out(&mut self, task: Task) -> Result<Reply, SessionFault>
         requires goes_on { self.now.stopped ≡ false }
-        ensures { Comes result self.old.definition (beginning self.old.world (task_of self.old.definition task)) self.new }
+        ensures comes { Comes result self.old.definition (beginning self.old.world (task_of self.old.definition task)) self.new }
+        ensures grows { Longer self.old.world.transcript self.new.world.transcript }
     {
         match self.engine.dispatch(&self.definition, task) {
             Ok(reply) => return Ok(reply),

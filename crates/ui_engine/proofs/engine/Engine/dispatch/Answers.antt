@@ -7,21 +7,22 @@ use Rattle.ui_engine.specs.View.{world_of}
 use Rattle.ui_engine.specs.TaskView.{task_of}
 use Rattle.ui_engine.specs.EngineView.{config_of}
 use Rattle.ui_engine.specs.Holding.{IsHeld}
+use Rattle.ui_engine.proofs.Growing.{longer_by, longer_on}
 use Rattle.ui_engine.proofs.Reaching.{reaches_here}
 use Rattle.ui_engine.proofs.engine.Engine.dispatch.Goals as goal
 
-pub returns-in_err-begin : goal.returns-in_err-begin
-returns-in_err-begin c =
+pub returns-in_err-begin-clause-carried : goal.returns-in_err-begin-clause-carried
+returns-in_err-begin-clause-carried c =
     let p = err_from_is_err_and c.from_residual.result c.from_residual.ensures.1 in
     let d = c.args.definition.now in
     let start = beginning (world_of c.args.self.now.world) (task_of d c.args.task) in
     rw (p.1, p.2) (record { at = start; reached = reaches_here d start; stops = tt; lines = sym c.in_err-begin.ensures.err })
 
-pub returns : goal.returns
-returns c =
+pub returns-clause-carried : goal.returns-clause-carried
+returns-clause-carried c =
     let d = c.args.definition.now in
     let e = config_of d c.run.new.self in
-    let ran = c.in_ok-run.ensures in
+    let ran = c.in_ok-run.ensures.ran in
     let reached = subst (λ (from : Config). Reaches d from e) c.in_ok-begin.ensures.ok ran.0 in
     let said = c.in_ok-say.ensures.ok ∙ ap (λ line. record (world_of c.run.new.self.world) { transcript = (world_of c.run.new.self.world).transcript ++ line ∷ [] }) c.in_ok-line.ensures in
     let held = subst (λ (ts : List Task). IsHeld (world_of c.run.new.self.world) ts) ran.1.agenda ran.2 in (
@@ -30,3 +31,9 @@ returns c =
       refl,
       subst (λ (w : World). IsHeld w []) (sym said) (record { lives = held.lives; floats = held.floats }),
     )
+
+pub returns-clause-grows : goal.returns-clause-grows
+returns-clause-grows c =
+    let begun = ap (λ (e : Config). e.world.transcript) c.in_ok-begin.ensures.ok in
+    let said = ap (λ (w : World). w.transcript) c.in_ok-say.ensures.ok in
+    longer_on (longer_by begun) (longer_on c.in_ok-run.ensures.grows (record { more = _; whole = said }))

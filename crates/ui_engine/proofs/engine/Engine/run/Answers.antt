@@ -5,25 +5,26 @@ use Rattle.ui_engine.specs.View.{world_of}
 use Rattle.ui_engine.specs.EngineView.{config_of}
 use Rattle.ui_engine.specs.Holding.{IsHeld}
 use Rattle.ui_engine.specs.Stepping.{Advanced}
+use Rattle.ui_engine.proofs.Growing.{longer_on}
 use Rattle.ui_engine.proofs.Reaching.{reaches_on, halts_on}
 use Rattle.ui_engine.proofs.Held.{none_unmentioned, none_floats}
 use Rattle.ui_engine.proofs.engine.Engine.run.Goals as goal
 
-pub returns-in_err-advance : goal.returns-in_err-advance
-returns-in_err-advance c =
+pub returns-in_err-advance-clause-ran : goal.returns-in_err-advance-clause-ran
+returns-in_err-advance-clause-ran c =
     let p = err_from_is_err_and c.from_residual.result c.from_residual.ensures.1 in
-    rw (p.1, p.2) (halts_on c.args.definition.now c.loop.invariant.reached c.in_err-advance.ensures)
+    rw (p.1, p.2) (halts_on c.args.definition.now c.loop.invariant.reached c.in_err-advance.ensures.advanced)
 
-pub returns-then-not-branch : goal.returns-then-not-branch
-returns-then-not-branch c =
+pub returns-then-not-branch-clause-ran : goal.returns-then-not-branch-clause-ran
+returns-then-not-branch-clause-ran c =
     let d = c.args.definition.now in
     let e = config_of d c.advance.new.self in
-    let a = subst (λ (more : Bool). Advanced (Ok more) d (config_of d c.loop.self) e) c.if-not-branch.true c.in_ok-advance.ensures in
+    let a = subst (λ (more : Bool). Advanced (Ok more) d (config_of d c.loop.self) e) c.if-not-branch.true c.in_ok-advance.ensures.advanced in
     let none = none_floats (world_of c.advance.new.self.world) (subst (λ (ts : List Task). IsHeld (world_of c.advance.new.self.world) ts) a.2 a.1) in
     (reaches_on d c.loop.invariant.reached a.0, record { agenda = a.2; floating = none; held = none_unmentioned d e a.1 }, a.1)
 
 pub loop-preserved : goal.loop-preserved
 loop-preserved c =
     let d = c.args.definition.now in
-    let a = subst (λ (more : Bool). Advanced (Ok more) d (config_of d c.loop.self) (config_of d c.advance.new.self)) c.if-not-branch.false c.in_ok-advance.ensures in
-    record { reached = reaches_on d c.loop.invariant.reached a.0; held = a.1 }
+    let a = subst (λ (more : Bool). Advanced (Ok more) d (config_of d c.loop.self) (config_of d c.advance.new.self)) c.if-not-branch.false c.in_ok-advance.ensures.advanced in
+    record { reached = reaches_on d c.loop.invariant.reached a.0; held = a.1; grows = longer_on c.loop.invariant.grows c.in_ok-advance.ensures.grows }

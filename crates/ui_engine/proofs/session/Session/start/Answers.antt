@@ -22,4 +22,4 @@ returns-clause-built c =
     let announced = c.in-Ok.ensures ∙ ap (λ w. said d w lines.build) (c.new-engine.ensures d) in
     let items = only_objects d c.types-types.ensures.basic in
     let start = ap (λ w. beginning w (Building (build_from d 0))) announced ∙ ap (λ items. beginning (said d (first_world d []) lines.build) (Building items)) (sym items) in
-    subst (λ (from : Config). Comes c.carry_out-build.result d from c.carry_out-build.new.self) start c.carry_out-build.ensures
+    subst (λ (from : Config). Comes c.carry_out-build.result d from c.carry_out-build.new.self) start c.carry_out-build.ensures.comes
