@@ -11,3 +11,4 @@ pub mod Words
 pub mod Members
 pub mod Ids
 pub mod Values
+pub mod Printing

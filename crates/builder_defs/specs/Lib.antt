@@ -1,6 +1,7 @@
 pub mod Meaning
 pub mod Binding
 pub mod Refusals
+pub mod FaultText
 pub mod Document
 pub mod EventMeaning
 pub mod Denoted

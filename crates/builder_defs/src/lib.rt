@@ -10,6 +10,7 @@ mod event;
 mod event_fault;
 mod event_reading;
 mod fault;
+mod fault_text;
 mod object_entry;
 mod objects;
 mod properties;

@@ -1,0 +1,73 @@
+-- How the refusal of a definition is printed: its name and its fields, with one blank between them.
+use Rattle.std.specs.Prelude.{ℕ, ◌+◌, ◌/◌, ◌%◌, List, [], ◌∷◌, ◌++◌, codes, decimal, nat_lt, if◌then◌else◌}
+use Rattle.std.specs.List.{flat_map}
+use Rattle.type_tree.specs.TypeName.{is_within}
+use Rattle.type_tree.specs.declared.error.TypeLimit.{TypeLimit}
+use Rattle.type_tree.specs.declared.error.TypeLimit.TheVariants as limits
+use Rattle.type_tree.specs.declared.error.TypeError.{TypeError}
+use Rattle.type_tree.specs.declared.error.TypeError.TheVariants as types
+use Rattle.param_specs.specs.declared.error.SpecError.{SpecError}
+use Rattle.param_specs.specs.declared.error.SpecError.TheVariants as specs
+use Rattle.builder_defs.specs.declared.fault.DefinitionLimit.{DefinitionLimit}
+use Rattle.builder_defs.specs.declared.fault.DefinitionLimit.TheVariants.{Types, Properties, Objects}
+use Rattle.builder_defs.specs.Refusals.{Refusal, too_long, not_utf8, not_json, shape, unknown, duplicate, bad_type, bad_spec, limit}
+
+-- ** paths and names
+
+-- the upper case digit of a number below 16
+abbrev pub hex_digit : ℕ → ℕ
+hex_digit d = if nat_lt d 10 then 48 + d else 55 + d
+
+-- a byte that can be seen as it is, any other as `%` and two hexadecimal digits
+abbrev pub printed_byte : ℕ → List ℕ
+printed_byte x = if is_within 33 126 x then x ∷ [] else 37 ∷ hex_digit (x / 16) ∷ hex_digit (x % 16) ∷ []
+
+abbrev pub printed : List ℕ → List ℕ
+printed bytes = flat_map printed_byte bytes
+
+-- ** causes
+
+abbrev pub type_limit_name : TypeLimit → List ℕ
+type_limit_name limits.Types = codes "types"
+type_limit_name limits.Depth = codes "depth"
+
+-- a cause and its own fields; a type is told by its number
+abbrev pub type_cause_text : TypeError → List ℕ
+type_cause_text types.BadName = codes "BadName"
+type_cause_text types.Duplicate = codes "Duplicate"
+type_cause_text types.UnknownParent = codes "UnknownParent"
+type_cause_text types.FinalParent = codes "FinalParent"
+type_cause_text (types.Prerequisite t) = codes "Prerequisite " ++ decimal t
+type_cause_text (types.Limit l) = codes "Limit " ++ type_limit_name l
+type_cause_text types.OutOfMemory = codes "OutOfMemory"
+
+-- a cause and its own fields; a property is told by its slot
+abbrev pub spec_cause_text : SpecError → List ℕ
+spec_cause_text specs.BadName = codes "BadName"
+spec_cause_text specs.Duplicate = codes "Duplicate"
+spec_cause_text specs.FlagsClash = codes "FlagsClash"
+spec_cause_text specs.RangeEmpty = codes "RangeEmpty"
+spec_cause_text specs.DefaultInvalid = codes "DefaultInvalid"
+spec_cause_text specs.Limit = codes "Limit"
+spec_cause_text (specs.OverrideMissing slot) = codes "OverrideMissing " ++ decimal slot
+spec_cause_text (specs.OverrideDiffers slot) = codes "OverrideDiffers " ++ decimal slot
+spec_cause_text specs.OutOfMemory = codes "OutOfMemory"
+
+-- ** refusals
+
+abbrev pub limit_name : DefinitionLimit → List ℕ
+limit_name Types = codes "types"
+limit_name Properties = codes "properties"
+limit_name Objects = codes "objects"
+
+-- a refusal as it is printed behind `refused: `
+abbrev pub refusal_text : Refusal → List ℕ
+refusal_text too_long = codes "TooLong"
+refusal_text not_utf8 = codes "NotUtf8"
+refusal_text not_json = codes "NotJson"
+refusal_text (shape path) = codes "Shape " ++ printed path
+refusal_text (unknown path name) = codes "Unknown " ++ (printed path ++ (codes " " ++ printed name))
+refusal_text (duplicate path) = codes "Duplicate " ++ printed path
+refusal_text (bad_type path cause) = codes "BadType " ++ (printed path ++ (codes " " ++ type_cause_text cause))
+refusal_text (bad_spec path cause) = codes "BadSpec " ++ (printed path ++ (codes " " ++ spec_cause_text cause))
+refusal_text (limit l) = codes "Limit " ++ limit_name l

@@ -1,0 +1,147 @@
+//! How the refusal of a definition is printed.
+
+ghost use Rattle.std.specs.Prelude.{◌≡◌, ◌<◌, ◌++◌, IfOk, OnOk, string_bytes};
+ghost use Rattle.builder_defs.specs.Refusals.{refusal};
+ghost use Rattle.builder_defs.specs.FaultText.{hex_digit, printed_byte, printed, type_limit_name, type_cause_text, spec_cause_text, limit_name, refusal_text};
+
+use crate::fault::{DefinitionFault, DefinitionLimit};
+use param_specs::SpecError;
+use std::alloc::{AllocError, Global};
+use type_tree::{TypeError, TypeLimit};
+
+impl DefinitionFault {
+    /// The fault's name and fields, with one blank between them: what the program writes behind `refused: `. In paths and names each byte
+    /// outside 33 to 126 is written as `%` and two upper case hexadecimal digits.
+    pub fn text(&self, alloc: Global) -> Result<String, AllocError>
+        ensures exact { IfOk result (λ text. string_bytes text ≡ refusal_text (refusal self.now)) }
+    {
+        match self {
+            DefinitionFault::TooLong => String::from_str(alloc, "TooLong"),
+            DefinitionFault::NotUtf8 => String::from_str(alloc, "NotUtf8"),
+            DefinitionFault::NotJson => String::from_str(alloc, "NotJson"),
+            DefinitionFault::Shape(path) => {
+                let path = printed(alloc, path.as_str())?;
+                format!(in alloc; "Shape {path}")
+            }
+            DefinitionFault::Unknown(path, name) => {
+                let path = printed(alloc, path.as_str())?;
+                let name = printed(alloc, name.as_str())?;
+                format!(in alloc; "Unknown {path} {name}")
+            }
+            DefinitionFault::Duplicate(path) => {
+                let path = printed(alloc, path.as_str())?;
+                format!(in alloc; "Duplicate {path}")
+            }
+            DefinitionFault::BadType(path, cause) => {
+                let path = printed(alloc, path.as_str())?;
+                let cause = type_cause_text(alloc, *cause)?;
+                format!(in alloc; "BadType {path} {cause}")
+            }
+            DefinitionFault::BadSpec(path, cause) => {
+                let path = printed(alloc, path.as_str())?;
+                let cause = spec_cause_text(alloc, *cause)?;
+                format!(in alloc; "BadSpec {path} {cause}")
+            }
+            DefinitionFault::Limit(limit) => {
+                let name = limit_name(*limit);
+                format!(in alloc; "Limit {name}")
+            }
+        }
+    }
+}
+
+// What there is too much of.
+fn limit_name(limit: DefinitionLimit) -> &'static str
+    ensures { result.now ≡ limit_name limit }
+{
+    match limit {
+        DefinitionLimit::Types => "types",
+        DefinitionLimit::Properties => "properties",
+        DefinitionLimit::Objects => "objects",
+    }
+}
+
+// What a tree has too much of.
+fn type_limit_name(limit: TypeLimit) -> &'static str
+    ensures { result.now ≡ type_limit_name limit }
+{
+    match limit {
+        TypeLimit::Types => "types",
+        TypeLimit::Depth => "depth",
+    }
+}
+
+// Why a type is not added: the name of the cause and its own fields. A type is told by its number.
+fn type_cause_text(alloc: Global, cause: TypeError) -> Result<String, AllocError>
+    ensures { IfOk result (λ text. string_bytes text ≡ type_cause_text cause) }
+{
+    match cause {
+        TypeError::BadName => String::from_str(alloc, "BadName"),
+        TypeError::Duplicate => String::from_str(alloc, "Duplicate"),
+        TypeError::UnknownParent => String::from_str(alloc, "UnknownParent"),
+        TypeError::FinalParent => String::from_str(alloc, "FinalParent"),
+        TypeError::Prerequisite(required) => {
+            let number = required.index();
+            format!(in alloc; "Prerequisite {number}")
+        }
+        TypeError::Limit(limit) => {
+            let name = type_limit_name(limit);
+            format!(in alloc; "Limit {name}")
+        }
+        TypeError::OutOfMemory => String::from_str(alloc, "OutOfMemory"),
+    }
+}
+
+// Why a property is not installed: the name of the cause and its own fields. A property is told by its slot.
+fn spec_cause_text(alloc: Global, cause: SpecError) -> Result<String, AllocError>
+    ensures { IfOk result (λ text. string_bytes text ≡ spec_cause_text cause) }
+{
+    match cause {
+        SpecError::BadName => String::from_str(alloc, "BadName"),
+        SpecError::Duplicate => String::from_str(alloc, "Duplicate"),
+        SpecError::FlagsClash => String::from_str(alloc, "FlagsClash"),
+        SpecError::RangeEmpty => String::from_str(alloc, "RangeEmpty"),
+        SpecError::DefaultInvalid => String::from_str(alloc, "DefaultInvalid"),
+        SpecError::Limit => String::from_str(alloc, "Limit"),
+        SpecError::OverrideMissing(slot) => format!(in alloc; "OverrideMissing {slot}"),
+        SpecError::OverrideDiffers(slot) => format!(in alloc; "OverrideDiffers {slot}"),
+        SpecError::OutOfMemory => String::from_str(alloc, "OutOfMemory"),
+    }
+}
+
+// A path or a name as it is printed.
+fn printed(alloc: Global, text: &str) -> Result<String, AllocError>
+    ensures { IfOk result (λ out. string_bytes out ≡ printed text.now) }
+{
+    let mut out = String::new(alloc);
+    for byte in text.as_bytes() {
+        push_printed(&mut out, *byte)?;
+    }
+    Ok(out)
+}
+
+// Adds a byte as it is printed.
+fn push_printed(out: &mut String, byte: u8) -> Result<(), AllocError>
+    ensures { OnOk result (string_bytes out.new ≡ string_bytes out.old ++ printed_byte byte) }
+{
+    if (33..=126).contains(&byte) {
+        out.push(char::from(byte))?;
+        return Ok(());
+    }
+    out.push('%')?;
+    out.push(hex_digit(byte / 16))?;
+    out.push(hex_digit(byte % 16))?;
+    Ok(())
+}
+
+// The upper case digit of a number below 16.
+fn hex_digit(digit: u8) -> char
+    requires { digit < 16 }
+    ensures { result ≡ hex_digit digit }
+{
+    if digit < 10 {
+        char::from(b'0' + digit)
+    } else {
+        char::from(b'A' + (digit - 10))
+    }
+}
