@@ -139,6 +139,13 @@ impl Session {
         }
     }
 
+    /// The definition that it runs.
+    pub fn definition(&self) -> &Definition
+        ensures { result.now ≡ self.now.definition }
+    {
+        &self.definition
+    }
+
     /// The lines so far, without their LF.
     pub fn transcript(&self) -> &[String]
         ensures { map string_bytes result.now ≡ self.now.world.transcript }

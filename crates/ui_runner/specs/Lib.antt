@@ -4,3 +4,6 @@ pub mod Story
 pub mod Writing
 pub mod Reading
 pub mod Telling
+pub mod Events
+pub mod Opening
+pub mod OpeningView

@@ -1,10 +1,28 @@
 -- The outcome that the code's answer stands for.
 use Rattle.std.specs.Prelude.{ℕ, List, Result, Ok, Err}
+use Rattle.ui_machine.specs.declared.arm.Halt.TheVariants as halts
+use Rattle.builder_defs.specs.EventMeaning.{event_refusal}
+use Rattle.builder_defs.specs.declared.event_fault.EventError.{EventError}
+use Rattle.builder_defs.specs.declared.event_fault.EventError.TheVariants as errors
+use Rattle.ui_engine.specs.declared.session.SessionFault.{SessionFault}
+use Rattle.ui_engine.specs.declared.session.SessionFault.TheVariants as ends
+use Rattle.ui_runner.specs.Texts.{line_refusal}
 use Rattle.ui_runner.specs.Story.{Outcome, said, refused, cut_off, stopped}
 use Rattle.ui_runner.specs.declared.listener.LineFault.{LineFault}
 use Rattle.ui_runner.specs.declared.listener.LineFault.TheVariants as faults
 use Rattle.ui_runner.specs.declared.telling.Telling.{Telling}
 use Rattle.ui_runner.specs.declared.telling.Telling.TheVariants as tellings
+
+-- why a line is not carried out that is no event, or for whose reading no memory was found
+abbrev pub reading_fault : EventError → LineFault
+reading_fault errors.OutOfMemory = faults.Stopped halts.OutOfMemory
+reading_fault (errors.Refused fault) = faults.Refused (line_refusal (event_refusal fault))
+
+-- why an event was not carried out to its end
+abbrev pub dispatch_fault : SessionFault → LineFault
+dispatch_fault ends.OutOfMemory = faults.Stopped halts.OutOfMemory
+dispatch_fault ends.Stopped = faults.Stopped halts.OutOfMemory
+dispatch_fault (ends.Stuck arm) = faults.Stopped (halts.Stuck arm)
 
 -- what a line came to that said these lines
 abbrev pub outcome_of : {T : Type 0} → Result T LineFault → List (List ℕ) → Outcome

@@ -4,8 +4,22 @@ use Rattle.ui_machine.specs.declared.arm.Arm.{Arm}
 use Rattle.ui_machine.specs.declared.arm.Arm.TheVariants as arms
 use Rattle.ui_machine.specs.declared.arm.Halt.{Halt}
 use Rattle.ui_machine.specs.declared.arm.Halt.TheVariants as halts
+use Rattle.builder_defs.specs.Refusals.{Refusal}
+use Rattle.builder_defs.specs.FaultText.{refusal_text}
+use Rattle.builder_defs.specs.EventMeaning.{EventRefusal, too_long, not_json, shape, unknown, not_readable, not_writable, construct_only, value_fault}
 use Rattle.ui_runner.specs.declared.refusal.LineRefusal.{LineRefusal}
 use Rattle.ui_runner.specs.declared.refusal.LineRefusal.TheVariants as refusals
+
+-- the refusal of a line that denotes no event
+abbrev pub line_refusal : EventRefusal → LineRefusal
+line_refusal too_long = refusals.TooLong
+line_refusal not_json = refusals.NotJson
+line_refusal shape = refusals.Shape
+line_refusal (unknown name) = refusals.Unknown
+line_refusal not_readable = refusals.NotReadable
+line_refusal not_writable = refusals.NotWritable
+line_refusal construct_only = refusals.ConstructOnly
+line_refusal value_fault = refusals.ValueFault
 
 abbrev pub name_of : LineRefusal → List ℕ
 name_of refusals.TooLong = codes "TooLong"
@@ -52,3 +66,17 @@ refused_line n refusal = joined (codes "line " ∷ decimal n ∷ codes " refused
 
 abbrev pub stopped_line : ℕ → Halt → List ℕ
 stopped_line n halt = joined (codes "line " ∷ decimal n ∷ codes " stopped: " ∷ stop_name halt ∷ codes "\n" ∷ [])
+
+-- ** before the events
+
+-- a definition's bytes are refused
+abbrev pub definition_refused : Refusal → List ℕ
+definition_refused refusal = joined (codes "refused: " ∷ refusal_text refusal ∷ codes "\n" ∷ [])
+
+-- no memory was found before the build
+abbrev pub nothing_begun : List ℕ
+nothing_begun = codes "refused: OutOfMemory\n"
+
+-- the build stopped
+abbrev pub build_stopped : Halt → List ℕ
+build_stopped halt = joined (codes "build stopped: " ∷ stop_name halt ∷ codes "\n" ∷ [])

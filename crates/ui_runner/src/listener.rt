@@ -5,6 +5,9 @@ ghost use Rattle.ui_runner.specs.Story.{Replies};
 ghost use Rattle.ui_runner.specs.Telling.{outcome_of};
 
 use crate::refusal::LineRefusal;
+use builder_defs::EventError;
+use std::alloc::Global;
+use ui_engine::SessionFault;
 use ui_machine::Halt;
 
 /// Why an event line was not carried out to its end.
@@ -14,6 +17,37 @@ pub enum LineFault {
     Refused(LineRefusal),
     /// The run ends there.
     Stopped(Halt),
+}
+
+impl From<EventError> for LineFault {
+    ghost use Rattle.std.specs.Prelude.{◌≡◌};
+    ghost use Rattle.ui_runner.specs.Telling.{reading_fault};
+
+    ghost from_gives = { λ error fault. fault ≡ reading_fault error };
+
+    fn from(error: EventError) -> LineFault {
+        match error {
+            EventError::OutOfMemory => LineFault::Stopped(Halt::OutOfMemory),
+            EventError::Refused(fault) => LineFault::Refused(LineRefusal::from(fault)),
+        }
+    }
+}
+
+impl From<SessionFault> for LineFault {
+    ghost use Rattle.std.specs.Prelude.{◌≡◌};
+    ghost use Rattle.ui_runner.specs.Telling.{dispatch_fault};
+
+    ghost from_gives = { λ error fault. fault ≡ dispatch_fault error };
+
+    // A session that has stopped carries nothing out, as if it found no memory for it.
+    fn from(fault: SessionFault) -> LineFault {
+        match fault {
+            SessionFault::OutOfMemory | SessionFault::Stopped => {
+                LineFault::Stopped(Halt::OutOfMemory)
+            }
+            SessionFault::Stuck(arm) => LineFault::Stopped(Halt::Stuck(arm)),
+        }
+    }
 }
 
 /// Carries out event lines, and keeps a transcript.
@@ -29,7 +63,7 @@ pub trait Listener {
         ensures { map string_bytes result.now ≡ lines self.now };
 
     /// Carries out one line, neither blank nor past the limit.
-    fn listen(&mut self, line: &[u8]) -> Result<(), LineFault>
+    fn listen(&mut self, alloc: Global, line: &[u8]) -> Result<(), LineFault>
         ensures grows { length (lines self.old) ≤ length (lines self.new) }
         ensures replies { replies self.old line.now (outcome_of result (drop (length (lines self.old)) (lines self.new))) self.new };
 }

@@ -2,9 +2,12 @@
 #![tactic(auto)]
 
 mod chunk;
+mod hearing;
 mod line_reader;
 mod listener;
+mod opening;
 mod refusal;
+mod run;
 mod story;
 mod telling;
 mod writing;

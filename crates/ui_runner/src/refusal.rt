@@ -3,6 +3,8 @@
 ghost use Rattle.std.specs.Prelude.{◌≡◌};
 ghost use Rattle.ui_runner.specs.Texts.{name_of};
 
+use builder_defs::EventFault;
+
 /// Why a line of the event file is refused. All but the first two end nothing.
 #[derive(Clone, Copy, Debug, PartialEq, Eq)]
 pub enum LineRefusal {
@@ -19,6 +21,27 @@ pub enum LineRefusal {
     ValueFault,
     ClockBack,
     Released,
+}
+
+impl From<EventFault> for LineRefusal {
+    ghost use Rattle.std.specs.Prelude.{◌≡◌};
+    ghost use Rattle.builder_defs.specs.EventMeaning.{event_refusal};
+    ghost use Rattle.ui_runner.specs.Texts.{line_refusal};
+
+    ghost from_gives = { λ fault refusal. refusal ≡ line_refusal (event_refusal fault) };
+
+    fn from(fault: EventFault) -> LineRefusal {
+        match fault {
+            EventFault::TooLong => LineRefusal::TooLong,
+            EventFault::NotJson => LineRefusal::NotJson,
+            EventFault::Shape => LineRefusal::Shape,
+            EventFault::Unknown(_) => LineRefusal::Unknown,
+            EventFault::NotReadable => LineRefusal::NotReadable,
+            EventFault::NotWritable => LineRefusal::NotWritable,
+            EventFault::ConstructOnly => LineRefusal::ConstructOnly,
+            EventFault::ValueFault => LineRefusal::ValueFault,
+        }
+    }
 }
 
 impl LineRefusal {

@@ -43,7 +43,7 @@ pub fn tell_lines<L: Listener, R: Feed, W: Sink>(
             return status;
         };
         let before = listener.transcript().len();
-        let telling = tell(listener, number, found, lines.line.as_slice());
+        let telling = tell(alloc, listener, number, found, lines.line.as_slice());
         let said = &listener.transcript()[before..];
         let Ok(()) = write_telling(writer, number, telling, said) else {
             return 4;

@@ -9,6 +9,7 @@ use crate::MOST_LINES;
 use crate::line_reader::Found;
 use crate::listener::{LineFault, Listener};
 use crate::refusal::LineRefusal;
+use std::alloc::Global;
 use ui_machine::Halt;
 
 /// What a line came to, beside the lines that were said.
@@ -53,7 +54,13 @@ fn is_blank(line: &[u8]) -> bool
 }
 
 /// Tells the listener the line that was found, unless the run refuses it or passes over it.
-pub fn tell<L: Listener>(listener: &mut L, number: u64, found: Found, buffer: &[u8]) -> Telling
+pub fn tell<L: Listener>(
+    alloc: Global,
+    listener: &mut L,
+    number: u64,
+    found: Found,
+    buffer: &[u8],
+) -> Telling
     ensures tells { (line : List ℕ) → IsOf found buffer.now line →
         Tells L.replies listener.old number line (told_of result (drop (length (L.lines listener.old)) (L.lines listener.new))) listener.new }
     ensures grows { length (L.lines listener.old) ≤ length (L.lines listener.new) }
@@ -71,7 +78,7 @@ pub fn tell<L: Listener>(listener: &mut L, number: u64, found: Found, buffer: &[
     if is_blank(buffer) {
         return Telling::Said;
     }
-    match listener.listen(buffer) {
+    match listener.listen(alloc, buffer) {
         Ok(()) => return Telling::Said,
         Err(LineFault::Refused(refusal)) => return Telling::Refused(refusal),
         Err(LineFault::Stopped(halt)) => return Telling::Stopped(halt),

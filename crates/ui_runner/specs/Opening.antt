@@ -1,0 +1,59 @@
+-- How a run opens, before it tells the event lines, and the whole run.
+use Rattle.std.specs.Prelude.{◌≡◌, ◌⊎◌, ℕ, List, [], ◌++◌, Ok, Err}
+use Rattle.ui_machine.specs.declared.arm.Halt.{Halt}
+use Rattle.ui_machine.specs.Runs.{of_build, Dispatches, Halts}
+use Rattle.builder_defs.specs.Refusals.{Refusal}
+use Rattle.builder_defs.specs.Denoted.{denoted}
+use Rattle.ui_engine.specs.SessionView.{Standing}
+use Rattle.ui_runner.specs.Texts.{lines_text, definition_refused, nothing_begun, build_stopped}
+use Rattle.ui_runner.specs.Story.{IsFrontOf, Story}
+use Rattle.ui_runner.specs.Events.{event_replies}
+
+pub data Opening : Type 0 where
+  refused : Refusal → Opening  -- the definition's bytes
+  unbegun : Opening  -- for want of memory before the build
+  stopped : Standing → Halt → Opening  -- in the build
+  built : Standing → Opening
+
+-- what is written of an opening
+abbrev pub opening_text : Opening → List ℕ
+opening_text (refused refusal) = definition_refused refusal
+opening_text unbegun = nothing_begun
+opening_text (stopped s halt) = lines_text s.world.transcript ++ build_stopped halt
+opening_text (built s) = lines_text s.world.transcript
+
+-- a session stands at the end of the definition's build
+pub record IsBuilt (s : Standing) : Type 0 where
+  pub steps : ℕ
+  pub dispatches : Dispatches s.definition (of_build s.definition []) steps s.world
+
+-- how a run with these bytes of a definition may open
+abbrev pub Opens : List ℕ → Opening → Type 0
+Opens bytes (refused refusal) = denoted bytes ≡ Err refusal
+Opens bytes unbegun = Unit {0}
+Opens bytes (stopped s halt) = (denoted bytes ≡ Ok s.definition) × Halts s.definition (of_build s.definition []) halt s.world.transcript
+Opens bytes (built s) = (denoted bytes ≡ Ok s.definition) × IsBuilt s
+
+-- the text was written and the status answered, or a device failed within the text
+abbrev pub Concludes : List ℕ → ℕ → ℕ → List ℕ → Type 0
+Concludes whole answer status text = ((status ≡ 4) × IsFrontOf text whole) ⊎ ((status ≡ answer) × (text ≡ whole))
+
+-- the lines of the build were written, and then the event lines told
+pub record Plays (s : Standing) (lines : List (List ℕ)) (status : ℕ) (text : List ℕ) : Type 0 where
+  pub rest : List ℕ
+  pub new : Standing
+  pub whole : text ≡ lines_text s.world.transcript ++ rest
+  pub story : Story event_replies s lines status rest new
+
+-- what a run comes to after its opening: 1 where the definition is refused, 3 for want of memory and where the build stopped
+abbrev pub Proceeds : Opening → List (List ℕ) → ℕ → List ℕ → Type 0
+Proceeds (refused refusal) lines status text = Concludes (definition_refused refusal) 1 status text
+Proceeds unbegun lines status text = Concludes nothing_begun 3 status text
+Proceeds (stopped s halt) lines status text = Concludes (lines_text s.world.transcript ++ build_stopped halt) 3 status text
+Proceeds (built s) lines status text = ((status ≡ 4) × IsFrontOf text (lines_text s.world.transcript)) ⊎ Plays s lines status text
+
+-- a run with these bytes of a definition and these event lines
+pub record Ran (bytes : List ℕ) (lines : List (List ℕ)) (status : ℕ) (text : List ℕ) : Type 0 where
+  pub opening : Opening
+  pub opens : Opens bytes opening
+  pub proceeds : Proceeds opening lines status text
