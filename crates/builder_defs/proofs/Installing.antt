@@ -1,12 +1,12 @@
 -- Installing a property, seen as the types' own properties.
-use Rattle.std.proofs.Common.{◌≡◌, ℕ, List, Option, Some, None, Result, Ok, Err, refl, sym, ap, ◌∙◌}
+use Rattle.std.proofs.Common.{◌≡◌, ℕ, List, Some, Ok, Err, refl, sym, ap, ◌∙◌}
 use Rattle.std.proofs.Math.Path.{fun_ext}
 use Rattle.std.proofs.lemmas.Option.{none-some}
 use Rattle.ui_machine.specs.Types.{GType}
 use Rattle.ui_machine.specs.Properties.{Spec}
 use Rattle.param_specs.specs.declared.error.SpecError.{SpecError}
 use Rattle.param_specs.specs.declared.error.SpecError.TheVariants.{BadName, Duplicate, FlagsClash, RangeEmpty, DefaultInvalid, Limit, OverrideMissing, OverrideDiffers, OutOfMemory}
-use Rattle.param_specs.specs.Table.{own_of, specs_of, install_fault, canonical_spec, Installs, AddsSpec}
+use Rattle.param_specs.specs.Table.{own_of, specs_of, install_fault, canonical_spec, Installs}
 use Rattle.builder_defs.specs.Refusals.{bad_spec}
 use Rattle.builder_defs.specs.Denoted.{specs_by, cause_of, add_own, installed_or, installed, spec_at, property_at}
 use Rattle.builder_defs.specs.Binding.{◌>>=◌}

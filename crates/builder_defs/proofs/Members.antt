@@ -1,5 +1,5 @@
 -- The members of an object, beside the entries of its map.
-use Rattle.std.proofs.Common.{◌≡◌, ℕ, suc, ◌||◌, nat_eq, length, arith, List, [], ◌∷◌, map, Bool, true, false, cond, not, Option, Some, None, option_map, String, Global, string_bytes, refl, sym, ap, ◌∙◌}
+use Rattle.std.proofs.Common.{◌≡◌, ℕ, suc, ◌||◌, nat_eq, length, arith, List, [], ◌∷◌, map, Bool, true, false, cond, not, Option, Some, option_map, String, Global, string_bytes, refl, ap, ◌∙◌}
 use Rattle.std.specs.List.{find, list_any}
 use Rattle.std.proofs.lemmas.Bool.Decides.{nat_tests}
 use Rattle.std.specs.Map.{keys_of}

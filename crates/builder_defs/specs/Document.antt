@@ -1,9 +1,9 @@
 -- The parts of a JSON document, by their paths: JSON pointers (RFC 6901).
-use Rattle.std.specs.Prelude.{◌≡◌, ℕ, ◌+◌, List, [], ◌∷◌, ◌++◌, codes, decimal, Bool, true, false, cond, not, ◌||◌, nat_eq, nat_lt, length, if◌then◌else◌, Option, None, Some, option_and_then, Result, Ok, Err}
+use Rattle.std.specs.Prelude.{ℕ, ◌+◌, List, [], ◌∷◌, ◌++◌, codes, decimal, Bool, true, false, cond, not, nat_eq, nat_lt, length, if◌then◌else◌, Option, None, Some, option_and_then, Result, Ok, Err}
 use Rattle.std.specs.List.{find, flat_map, list_any}
 use Rattle.std.specs.Str.{bytes_eq, is_utf8}
-use Rattle.serde_json.specs.Data.{Data, null, boolean, number, string, array, object, Items, no_items, item, Members, no_members, member}
-use Rattle.serde_json.specs.Find.{get, as_str, as_array, as_object, as_number, as_u64}
+use Rattle.serde_json.specs.Data.{Data, Items, no_items, item, Members, no_members, member}
+use Rattle.serde_json.specs.Find.{get, as_str, as_array, as_object}
 use Rattle.serde_json.specs.Read.{read}
 use Rattle.builder_defs.specs.Binding.{◌>>=◌}
 use Rattle.builder_defs.specs.Refusals.{Refusal, shape, too_long, not_utf8, not_json, or_refused, refused_if}

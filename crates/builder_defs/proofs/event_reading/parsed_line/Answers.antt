@@ -1,4 +1,4 @@
-use Rattle.std.proofs.Common.{◌≡◌, Some, None, true, false}
+use Rattle.std.proofs.Common.{Some}
 use Rattle.serde_json.specs.View.{view}
 use Rattle.builder_defs.proofs.Values.{line_value-not_utf8, line_value-text}
 use Rattle.builder_defs.proofs.event_reading.parsed_line.Goals as goal

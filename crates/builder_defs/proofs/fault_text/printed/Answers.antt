@@ -1,4 +1,4 @@
-use Rattle.std.proofs.Common.{◌≡◌, string_bytes, take, ap, sym, ◌∙◌}
+use Rattle.std.proofs.Common.{string_bytes, ap, ◌∙◌}
 use Rattle.std.proofs.lemmas.List.{take_all}
 use Rattle.builder_defs.specs.FaultText.{printed}
 use Rattle.builder_defs.proofs.Printing.{printed_more}

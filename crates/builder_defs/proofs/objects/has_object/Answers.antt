@@ -1,4 +1,4 @@
-use Rattle.std.proofs.Common.{◌≡◌, ◌∙◌, ap, is_some}
+use Rattle.std.proofs.Common.{◌∙◌, ap, is_some}
 use Rattle.builder_defs.proofs.Ids.{place_is}
 use Rattle.builder_defs.proofs.objects.has_object.Goals as goal
 

@@ -1,8 +1,7 @@
-use Rattle.std.proofs.Common.{◌≡◌, ◌∙◌, ◌++◌, ◌∷◌, [], List, Ok, sym, ap, map, subst, length, ◌≤◌, ◌<◌, arith}
+use Rattle.std.proofs.Common.{◌∙◌, [], List, Ok, sym, ap, map, subst, length, ◌≤◌, ◌<◌, arith}
 use Rattle.std.proofs.lemmas.Result.{err_from_is_err_and}
-use Rattle.std.proofs.lemmas.List.{map_push, length_push}
+use Rattle.std.proofs.lemmas.List.{length_push}
 use Rattle.serde_json.specs.View.{view, items_view}
-use Rattle.ui_machine.specs.Definition.{Place}
 use Rattle.builder_defs.specs.Meaning.{plain_object}
 use Rattle.builder_defs.specs.Document.{each}
 use Rattle.builder_defs.specs.Denoted.{object_of}

@@ -1,4 +1,4 @@
-use Rattle.std.proofs.Common.{◌≡◌, ◌∙◌, sym, ap, Err}
+use Rattle.std.proofs.Common.{◌∙◌, sym, ap, Err}
 use Rattle.param_specs.specs.View.{spec_view}
 use Rattle.builder_defs.specs.Refusals.{bad_spec}
 use Rattle.builder_defs.proofs.Installing.{installs_ok, installs_err}

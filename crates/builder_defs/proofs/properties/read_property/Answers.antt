@@ -1,8 +1,7 @@
-use Rattle.std.proofs.Common.{◌≡◌, ◌∙◌}
+use Rattle.std.proofs.Common.{◌∙◌}
 use Rattle.std.proofs.lemmas.Result.{err_from_is_err_and}
 use Rattle.serde_json.specs.View.{view}
 use Rattle.param_specs.specs.View.{spec_view}
-use Rattle.param_specs.specs.Table.{own_of}
 use Rattle.builder_defs.proofs.Chains.{fails_as, spec_fails, property_with}
 use Rattle.builder_defs.proofs.properties.read_property.Goals as goal
 

@@ -1,4 +1,3 @@
-use Rattle.std.proofs.Common.{◌≡◌}
 use Rattle.serde_json.specs.View.{view, members_view}
 use Rattle.builder_defs.proofs.Soundness.{sound}
 use Rattle.builder_defs.proofs.Whole.{definition_done}

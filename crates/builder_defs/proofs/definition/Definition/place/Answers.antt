@@ -1,4 +1,4 @@
-use Rattle.std.proofs.Common.{◌≡◌, ◌∙◌, Some, None, option_map, ap}
+use Rattle.std.proofs.Common.{◌∙◌, Some, None, option_map, ap}
 use Rattle.builder_defs.proofs.Ids.{place_found}
 use Rattle.builder_defs.proofs.definition.Definition.place.Goals as goal
 

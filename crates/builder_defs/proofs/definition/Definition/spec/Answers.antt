@@ -1,5 +1,4 @@
 use Rattle.std.proofs.Common.{◌≡◌, ◌<◌, List, length, slice_get, sym, ap, ◌∙◌, arith}
-use Rattle.ui_machine.specs.Types.{GType}
 use Rattle.ui_machine.specs.Properties.{Spec}
 use Rattle.ui_machine.specs.Definition as machine
 use Rattle.ui_machine.specs.Lookups.{specs_of, spec_of}
