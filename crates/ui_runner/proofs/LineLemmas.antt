@@ -1,6 +1,7 @@
 -- Lines found byte by byte.
-use Rattle.std.proofs.Common.{◌≡◌, ◌≢◌, ℕ, ◌<◌, ◌≤◌, Bool, true, false, List, [], ◌∷◌, ◌++◌, length, refl, sym, ap, ◌∙◌, append_assoc, append-nil, length-append, arith}
+use Rattle.std.proofs.Common.{◌≡◌, ◌≢◌, ℕ, ◌<◌, ◌≤◌, Bool, true, false, List, [], ◌∷◌, ◌++◌, length, refl, sym, ap, ◌∙◌, append_assoc, append-nil, length-append, arith, take}
 use Rattle.std.specs.Prelude.{Option, Some, None, IfSome, ◌==◌, ◌||◌, if◌then◌else◌}
+use Rattle.std.proofs.lemmas.List.{take_all}
 use Rattle.std.specs.List.{list_any}
 use Rattle.std.specs.Io.KnownBytes.{Consumes, Keeps, IsAtEnd}
 use Rattle.std.proofs.KnownBytes.{Consumes-trans}
@@ -130,3 +131,23 @@ pub known_map : (a b : Option (List ℕ)) (P Q : List ℕ → List ℕ → Type 
 known_map None b P Q h f = tt
 known_map (Some xs) None P Q h f = absurd h
 known_map (Some xs) (Some ys) P Q h f = f xs ys h
+
+-- ** the bytes of a definition
+
+take_front : (bs ys : List ℕ) → take (length bs) (bs ++ ys) ≡ bs
+take_front [] ys = refl
+take_front (b ∷ bs) ys = ap (λ rest. b ∷ rest) (take_front bs ys)
+
+pub taken_front : (a b : Option (List ℕ)) (bs : List ℕ) (n : ℕ) → Consumes a b bs → n ≡ length bs → IfSome a (λ input. bs ≡ take n input)
+taken_front None b bs n h e = tt
+taken_front (Some xs) None bs n h e = absurd h
+taken_front (Some xs) (Some ys) bs n h e = rw (h, e) (sym (take_front bs ys))
+
+pub taken_whole : (a b c : Option (List ℕ)) (bs : List ℕ) (n : ℕ) → Consumes a b bs → Keeps b c × IsAtEnd c → length bs ≤ n → IfSome a (λ input. bs ≡ take n input)
+taken_whole None b c bs n h e lt = tt
+taken_whole (Some xs) None c bs n h e lt = absurd h
+taken_whole (Some xs) (Some ys) None bs n h e lt = absurd e.0
+taken_whole (Some xs) (Some ys) (Some zs) bs n h e lt =
+    let none : ys ≡ [] = sym e.0 ∙ e.1 in
+    let x : xs ≡ bs = rw none at h ∙ append-nil bs in
+    rw x (sym (take_all n bs lt))
