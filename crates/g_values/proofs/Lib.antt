@@ -1,3 +1,5 @@
 pub mod Numbers
 pub mod Numerals
 pub mod Wholes
+pub mod Called
+pub mod Bars

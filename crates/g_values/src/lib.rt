@@ -6,14 +6,17 @@
 mod error;
 mod kind;
 mod members;
+mod naming;
+mod reading;
 mod transforming;
 mod value;
 mod whole;
 mod zero;
 
-pub use error::TransformError;
+pub use error::{JsonError, TransformError};
 pub use kind::Kind;
 pub use members::{has_number, known_bits};
+pub use reading::{MOST_TEXT_BYTES, from_json};
 pub use transforming::{transform, transformable};
 pub use value::{Value, kind_of};
 pub use zero::zero_of;
