@@ -3,3 +3,4 @@ pub mod Numerals
 pub mod Wholes
 pub mod Called
 pub mod Bars
+pub mod Products

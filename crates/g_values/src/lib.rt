@@ -3,6 +3,7 @@
 //! A contract sees a kind and a value as the pure ones of the abstract machine.
 #![tactic(auto)]
 
+mod arithmetic;
 mod error;
 mod kind;
 mod members;
@@ -13,6 +14,9 @@ mod value;
 mod whole;
 mod zero;
 
+pub use arithmetic::{
+    is_at_most, is_equal, is_less, wrapping_difference, wrapping_product, wrapping_sum,
+};
 pub use error::{JsonError, TransformError};
 pub use kind::Kind;
 pub use members::{has_number, known_bits};
@@ -21,5 +25,11 @@ pub use transforming::{transform, transformable};
 pub use value::{Value, kind_of};
 pub use zero::zero_of;
 
+#[cfg(test)]
+mod arithmetic_tests;
+#[cfg(test)]
+mod pair_tests;
+#[cfg(test)]
+mod reading_tests;
 #[cfg(test)]
 mod tests;
