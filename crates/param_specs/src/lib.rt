@@ -7,6 +7,7 @@ mod error;
 mod flags;
 mod growing;
 mod name;
+mod overriding;
 mod spec;
 mod table;
 mod validating;
