@@ -3,7 +3,8 @@
 use crate::Value::{Bool, Int, Int64, UInt, UInt64};
 use crate::reading_tests::number_of;
 use crate::{
-    Value, is_at_most, is_equal, is_less, wrapping_difference, wrapping_product, wrapping_sum,
+    Value, is_at_most, is_equal, is_less, is_same, wrapping_difference, wrapping_product,
+    wrapping_sum,
 };
 
 fn number(value: Option<Value>) -> Option<i128> {
@@ -69,6 +70,7 @@ fn compares_numbers(rt: HostRuntime) {
     ] {
         assert_eq!(rt; is_less(&m, &n), Some(less));
         assert_eq!(rt; is_equal(&m, &n), Some(equal));
+        assert_eq!(rt; is_same(&m, &n), equal);
         assert_eq!(rt; is_at_most(&m, &n), Some(less || equal));
     }
 }

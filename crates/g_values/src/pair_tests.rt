@@ -1,8 +1,8 @@
 //! Transformations of all pairs of kinds, and of the values at the ends.
 
-use crate::reading_tests::{is_known, number_of};
+use crate::reading_tests::number_of;
 use crate::tests::{Types, make_types};
-use crate::{Kind, TransformError, Value, transform, transformable, zero_of};
+use crate::{Kind, TransformError, Value, is_known, transform, transformable, zero_of};
 use std::alloc::Global;
 use std::test::Fail;
 

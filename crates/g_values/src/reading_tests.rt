@@ -1,25 +1,9 @@
 //! Worked values, read from JSON.
 
-ghost use Rattle.std.specs.Prelude.{IsTrue};
-ghost use Rattle.g_values.specs.View.{IsKnown};
-
 use crate::tests::{Types, make_types};
-use crate::{JsonError, Kind, MOST_TEXT_BYTES, Value, from_json};
+use crate::{JsonError, Kind, MOST_TEXT_BYTES, Value, from_json, is_known};
 use std::alloc::Global;
 use std::test::Fail;
-use type_tree::TypeTree;
-
-// Whether an enum's kind names an enum, and a flags kind a flags type.
-pub fn is_known(tree: &TypeTree, kind: Kind) -> bool
-    ensures { IsTrue result → IsKnown tree.now kind }
-{
-    match kind {
-        Kind::Enum(t) => tree.is_enum(t),
-        Kind::Flags(t) => tree.is_flags(t),
-        Kind::Bool | Kind::Int | Kind::UInt | Kind::Int64 | Kind::UInt64 => true,
-        Kind::Text | Kind::Object(_) => true,
-    }
-}
 
 // The number of a value.
 pub fn number_of(value: &Value) -> Option<i128> {
