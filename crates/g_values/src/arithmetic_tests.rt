@@ -11,47 +11,59 @@ fn number(value: Option<Value>) -> Option<i128> {
     number_of(&value?)
 }
 
+// The sum, the difference and the product.
+fn results(left: Value, right: Value) -> [Option<i128>; 3] {
+    [
+        number(wrapping_sum(&left, &right)),
+        number(wrapping_difference(&left, &right)),
+        number(wrapping_product(&left, &right)),
+    ]
+}
+
 #[test]
-fn wraps_at_the_ends(rt: HostRuntime) {
-    for (m, n, sum, difference, product) in [
-        (Int(2147483647), Int(1), -2147483648, 2147483646, 2147483647),
-        (
-            Int(-2147483648),
-            Int(-1),
-            2147483647,
-            -2147483647,
-            -2147483648,
-        ),
-        (Int(65536), Int(65536), 131072, 0, 0),
-        (UInt(4294967295), UInt(2), 1, 4294967293, 4294967294),
-        (UInt(0), UInt(1), 1, 4294967295, 0),
-        (
-            Int64(9223372036854775807),
-            Int64(2),
-            -9223372036854775807,
-            9223372036854775805,
-            -2,
-        ),
-        (
-            Int64(-9223372036854775808),
-            Int64(-1),
-            9223372036854775807,
-            -9223372036854775807,
-            -9223372036854775808,
-        ),
-        (
-            UInt64(18446744073709551615),
-            UInt64(18446744073709551615),
-            18446744073709551614,
-            0,
-            1,
-        ),
-        (UInt64(0), UInt64(1), 1, 18446744073709551615, 0),
-    ] {
-        assert_eq!(rt; number(wrapping_sum(&m, &n)), Some(sum));
-        assert_eq!(rt; number(wrapping_difference(&m, &n)), Some(difference));
-        assert_eq!(rt; number(wrapping_product(&m, &n)), Some(product));
-    }
+fn wraps_32_bits(rt: HostRuntime) {
+    let past = results(Int(i32::MAX), Int(1));
+    assert_eq!(rt;
+        past,
+        [Some(-2147483648), Some(2147483646), Some(2147483647)]
+    );
+    let least = results(Int(i32::MIN), Int(-1));
+    assert_eq!(rt;
+        least,
+        [Some(2147483647), Some(-2147483647), Some(-2147483648)]
+    );
+    let half = results(Int(65536), Int(65536));
+    assert_eq!(rt; half, [Some(131072), Some(0), Some(0)]);
+    let all = results(UInt(u32::MAX), UInt(2));
+    assert_eq!(rt; all, [Some(1), Some(4294967293), Some(4294967294)]);
+    let below = results(UInt(0), UInt(1));
+    assert_eq!(rt; below, [Some(1), Some(4294967295), Some(0)]);
+}
+
+#[test]
+fn wraps_64_bits(rt: HostRuntime) {
+    let past = results(Int64(i64::MAX), Int64(2));
+    assert_eq!(rt;
+        past,
+        [
+            Some(-9223372036854775807),
+            Some(9223372036854775805),
+            Some(-2)
+        ]
+    );
+    let least = results(Int64(i64::MIN), Int64(-1));
+    assert_eq!(rt;
+        least,
+        [
+            Some(9223372036854775807),
+            Some(-9223372036854775807),
+            Some(-9223372036854775808)
+        ]
+    );
+    let all = results(UInt64(u64::MAX), UInt64(u64::MAX));
+    assert_eq!(rt; all, [Some(18446744073709551614), Some(0), Some(1)]);
+    let below = results(UInt64(0), UInt64(1));
+    assert_eq!(rt; below, [Some(1), Some(18446744073709551615), Some(0)]);
 }
 
 #[test]

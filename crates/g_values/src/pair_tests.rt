@@ -29,7 +29,8 @@ fn transformed(
     value: &Value,
     to: Kind,
 ) -> Result<Value, TransformError> {
-    if !is_known(&types.tree, to) {
+    let asked = to;
+    if !is_known(&types.tree, asked) {
         return Err(TransformError::OutOfMemory);
     }
     transform(alloc, &types.tree, value, to)
@@ -37,7 +38,8 @@ fn transformed(
 
 // Whether the zero value of the one kind becomes a value of the other, if there is an answer but `NoTransform` to that.
 fn is_pair(alloc: Global, types: &Types, from: Kind, to: Kind) -> Option<bool> {
-    if !is_known(&types.tree, from) {
+    let asked = from;
+    if !is_known(&types.tree, asked) {
         return None;
     }
     let zero = zero_of(&types.tree, from);
@@ -55,56 +57,60 @@ fn transforms_all_pairs(rt: HostRuntime) -> Result<(), Fail> {
     let Some(kinds) = kinds_of(&types) else {
         return Ok(());
     };
-    for (from, pairs) in kinds {
-        for ((to, _), pair) in kinds.into_iter().zip(pairs.chars()) {
-            assert_eq!(rt; transformable(&types.tree, from, to), pair == '1');
-            assert_eq!(rt; is_pair(alloc, &types, from, to), Some(pair == '1'));
+    for (from, pairs) in kinds.iter() {
+        for ((to, _), pair) in kinds.iter().zip(pairs.chars()) {
+            assert_eq!(rt; transformable(&types.tree, *from, *to), pair == '1');
+            assert_eq!(rt; is_pair(alloc, &types, *from, *to), Some(pair == '1'));
         }
     }
     Ok(())
 }
 
 #[test]
-fn keeps_low_bits(rt: HostRuntime) -> Result<(), Fail> {
+fn keeps_low_bits_of_32(rt: HostRuntime) -> Result<(), Fail> {
     let alloc = rt.alloc();
     let types = make_types(alloc)?;
     for (value, to, want) in [
-        (Value::Int(-2147483648), Kind::UInt, 2147483648),
-        (Value::Int(-2147483648), Kind::Int64, -2147483648),
-        (Value::Int(-2147483648), Kind::UInt64, 18446744071562067968),
+        (Value::Int(i32::MIN), Kind::UInt, 2147483648),
+        (Value::Int(i32::MIN), Kind::Int64, -2147483648),
+        (Value::Int(i32::MIN), Kind::UInt64, 18446744071562067968),
         (Value::Int(-1), Kind::UInt, 4294967295),
         (Value::Int(-1), Kind::Int64, -1),
         (Value::Int(-1), Kind::UInt64, 18446744073709551615),
         (Value::UInt(2147483648), Kind::Int, -2147483648),
         (Value::UInt(2147483648), Kind::Int64, 2147483648),
-        (Value::UInt(4294967295), Kind::Int, -1),
-        (Value::Int64(-9223372036854775808), Kind::Int, 0),
-        (
-            Value::Int64(-9223372036854775808),
-            Kind::UInt64,
-            9223372036854775808,
-        ),
-        (Value::Int64(4294967296), Kind::Int, 0),
-        (Value::Int64(4294967296), Kind::UInt, 0),
-        (Value::Int64(4294967296), Kind::Bool, 1),
-        (
-            Value::UInt64(9223372036854775808),
-            Kind::Int64,
-            -9223372036854775808,
-        ),
-        (Value::UInt64(9223372036854775808), Kind::UInt, 0),
-        (Value::UInt64(18446744073709551615), Kind::Int64, -1),
-        (Value::UInt64(18446744073709551615), Kind::UInt, 4294967295),
+        (Value::UInt(u32::MAX), Kind::Int, -1),
         (Value::Bool(true), Kind::Int64, 1),
         (Value::Enum(types.mode, 1), Kind::UInt64, 1),
-        (Value::Flags(types.marks, 4294967295), Kind::Int, -1),
-        (
-            Value::Flags(types.marks, 4294967295),
-            Kind::Int64,
-            4294967295,
-        ),
+        (Value::Flags(types.marks, u32::MAX), Kind::Int, -1),
+        (Value::Flags(types.marks, u32::MAX), Kind::UInt, 4294967295),
     ] {
         let value = transformed(alloc, &types, &value, to)?;
+        assert_eq!(rt; number_of(&value), Some(want));
+    }
+    Ok(())
+}
+
+#[test]
+fn keeps_low_bits_of_64(rt: HostRuntime) -> Result<(), Fail> {
+    let alloc = rt.alloc();
+    let types = make_types(alloc)?;
+    let half = Value::UInt64(9223372036854775808);
+    let least = Value::Int64(i64::MIN);
+    let low = Value::Int64(4294967296);
+    let all = Value::UInt64(u64::MAX);
+    for (value, to, want) in [
+        (&least, Kind::Int, 0),
+        (&least, Kind::UInt64, 9223372036854775808),
+        (&low, Kind::Int, 0),
+        (&low, Kind::UInt, 0),
+        (&low, Kind::Bool, 1),
+        (&half, Kind::Int64, -9223372036854775808),
+        (&half, Kind::UInt, 0),
+        (&all, Kind::Int64, -1),
+        (&all, Kind::UInt, 4294967295),
+    ] {
+        let value = transformed(alloc, &types, value, to)?;
         assert_eq!(rt; number_of(&value), Some(want));
     }
     Ok(())

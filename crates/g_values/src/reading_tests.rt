@@ -27,7 +27,8 @@ fn read(
     text: &str,
 ) -> Result<Result<Value, JsonError>, Fail> {
     let json = serde_json::Value::from_str(alloc, text)?;
-    if !is_known(&types.tree, kind) {
+    let asked = kind;
+    if !is_known(&types.tree, asked) {
         return Ok(Err(JsonError::OutOfMemory));
     }
     Ok(from_json(alloc, &types.tree, &json, kind))
