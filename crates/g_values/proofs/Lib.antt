@@ -1,3 +1,7 @@
 pub mod Numbers
 pub mod Numerals
 pub mod Wholes
+pub mod Called
+pub mod Bars
+pub mod Products
+pub mod Texts

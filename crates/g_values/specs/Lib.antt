@@ -1,1 +1,4 @@
 pub mod View
+pub mod Naming
+pub mod Reading
+pub mod Arithmetic

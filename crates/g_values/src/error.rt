@@ -1,7 +1,8 @@
-//! Why a value does not become one of another kind.
+//! Why a value does not become one of another kind, and why JSON stands for no value.
 
 ghost use Rattle.std.specs.Prelude.{◌≡◌};
 ghost use Rattle.g_values.specs.declared.error.TransformError.TheVariants.{OutOfMemory};
+ghost use Rattle.g_values.specs.declared.error.JsonError.TheVariants as json;
 
 use std::alloc::AllocError;
 use thiserror::Error;
@@ -25,5 +26,33 @@ impl From<AllocError> for TransformError {
 
     fn from(_error: AllocError) -> TransformError {
         TransformError::OutOfMemory
+    }
+}
+
+/// Why JSON stands for no value of a kind.
+#[derive(Clone, Copy, Debug, PartialEq, Eq, Error)]
+pub enum JsonError {
+    /// JSON of this sort stands for no value of the kind.
+    #[error("WrongJson")]
+    WrongJson,
+    /// The kind does not have the number.
+    #[error("OutOfRange")]
+    OutOfRange,
+    /// No member is called so or has the number.
+    #[error("UnknownMember")]
+    UnknownMember,
+    /// The text has more than 4,096 bytes.
+    #[error("TextTooLong")]
+    TextTooLong,
+    /// No memory was found.
+    #[error("OutOfMemory")]
+    OutOfMemory,
+}
+
+impl From<AllocError> for JsonError {
+    ghost from_gives = { λ _ error. error ≡ json.OutOfMemory };
+
+    fn from(_error: AllocError) -> JsonError {
+        JsonError::OutOfMemory
     }
 }

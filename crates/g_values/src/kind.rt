@@ -1,6 +1,9 @@
 //! Kinds of values.
 
-use type_tree::TypeId;
+ghost use Rattle.std.specs.Prelude.{◌↔◌, IsTrue};
+ghost use Rattle.g_values.specs.View.{IsKnown};
+
+use type_tree::{TypeId, TypeTree};
 
 /// What a property, an argument or a result may hold.
 #[derive(Clone, Copy, Debug, PartialEq, Eq)]
@@ -22,4 +25,16 @@ pub enum Kind {
     Flags(TypeId),
     /// An object of a class or interface, or null.
     Object(TypeId),
+}
+
+/// Whether an enum's kind names an enum of the tree, and a flags kind a flags type.
+pub fn is_known(tree: &TypeTree, kind: Kind) -> bool
+    ensures { IsTrue result ↔ IsKnown tree.now kind }
+{
+    match kind {
+        Kind::Enum(t) => tree.is_enum(t),
+        Kind::Flags(t) => tree.is_flags(t),
+        Kind::Bool | Kind::Int | Kind::UInt | Kind::Int64 | Kind::UInt64 => true,
+        Kind::Text | Kind::Object(_) => true,
+    }
 }

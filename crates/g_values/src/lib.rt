@@ -3,20 +3,35 @@
 //! A contract sees a kind and a value as the pure ones of the abstract machine.
 #![tactic(auto)]
 
+mod arithmetic;
 mod error;
 mod kind;
 mod members;
+mod naming;
+mod reading;
+mod sameness;
 mod transforming;
 mod value;
 mod whole;
 mod zero;
 
-pub use error::TransformError;
-pub use kind::Kind;
+pub use arithmetic::{
+    is_at_most, is_equal, is_less, wrapping_difference, wrapping_product, wrapping_sum,
+};
+pub use error::{JsonError, TransformError};
+pub use kind::{Kind, is_known};
 pub use members::{has_number, known_bits};
+pub use reading::{MOST_TEXT_BYTES, from_json};
+pub use sameness::is_same;
 pub use transforming::{transform, transformable};
 pub use value::{Value, kind_of};
 pub use zero::zero_of;
 
+#[cfg(test)]
+mod arithmetic_tests;
+#[cfg(test)]
+mod pair_tests;
+#[cfg(test)]
+mod reading_tests;
 #[cfg(test)]
 mod tests;

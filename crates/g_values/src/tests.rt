@@ -6,13 +6,13 @@ use std::test::Fail;
 use type_tree::{EnumMember, FlagsMember, TypeId, TypeTree};
 
 #[derive(Drop)]
-struct Types {
-    tree: TypeTree,
-    mode: TypeId,
-    marks: TypeId,
+pub struct Types {
+    pub tree: TypeTree,
+    pub mode: TypeId,
+    pub marks: TypeId,
 }
 
-fn make_types(alloc: Global) -> Result<Types, Fail> {
+pub fn make_types(alloc: Global) -> Result<Types, Fail> {
     let mut tree = TypeTree::new(alloc)?;
     let mut modes = Vec::new(alloc);
     for (name, nick, number) in [("OFF", "off", 0), ("ON", "on", 1)] {

@@ -2,3 +2,5 @@ pub mod Specs
 pub mod Dashes
 pub mod Same
 pub mod Lists
+pub mod First
+pub mod Within

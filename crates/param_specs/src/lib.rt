@@ -7,6 +7,7 @@ mod error;
 mod flags;
 mod growing;
 mod name;
+mod overriding;
 mod spec;
 mod table;
 mod validating;
@@ -16,7 +17,11 @@ pub use flags::PropertyFlags;
 pub use name::is_property_name;
 pub use spec::Spec;
 pub use table::{MOST_PROPERTIES, SpecTable};
-pub use validating::validate;
+pub use validating::{takes, validate};
 
 #[cfg(test)]
+mod overriding_tests;
+#[cfg(test)]
 mod tests;
+#[cfg(test)]
+mod validating_tests;

@@ -66,6 +66,7 @@ impl SpecTable {
     pub fn slots_of(&self, tree: &TypeTree, t: TypeId) -> usize
         ensures count { result ≡ length (specs_of tree.now self.now t) }
         ensures bound { result ≤ 64 * (t + 1) }
+        ensures few { result ≤ 16448 }
         ensures own { length (own_of self.now t) ≤ result }
     {
         let own = self.own(t).len();
@@ -93,7 +94,7 @@ impl SpecTable {
     }
 
     // The slot of a property of a type, its own or inherited.
-    fn slot(&self, tree: &TypeTree, t: TypeId, name: &str) -> Option<usize>
+    pub(crate) fn slot(&self, tree: &TypeTree, t: TypeId, name: &str) -> Option<usize>
         ensures slot { result ≡ slot_named (specs_of tree.now self.now t) name.now }
         ensures bound { IfSome result (λ i. i < 16448) }
     {
@@ -108,7 +109,7 @@ impl SpecTable {
     }
 
     // The property of a slot.
-    fn spec_at(&self, tree: &TypeTree, t: TypeId, slot: usize) -> &Spec
+    pub(crate) fn spec_at(&self, tree: &TypeTree, t: TypeId, slot: usize) -> &Spec
         requires { slot < length (specs_of tree.now self.now t) }
         ensures { slice_get (specs_of tree.now self.now t) slot ≡ Some (spec_view result.now) }
     {

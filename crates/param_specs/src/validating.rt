@@ -1,6 +1,6 @@
 //! Validation: how a value is brought into its property's spec (GObject manual, g_param_value_validate).
 
-ghost use Rattle.std.specs.Prelude.{◌≡◌, ◌≤ℤ◌, ℤ, ℕ, pos, cond, not, nat_eq, bit_and, List, Option, None, Some};
+ghost use Rattle.std.specs.Prelude.{◌≡◌, ◌↔◌, IsTrue, ◌≤ℤ◌, ℤ, ℕ, pos, cond, not, nat_eq, bit_and, List, Option, None, Some};
 ghost use Rattle.std.specs.Ordering.{int_eq};
 ghost use Rattle.ui_machine.specs.Values as values;
 ghost use Rattle.ui_machine.specs.Kinds as kinds;
@@ -15,7 +15,7 @@ ghost use Rattle.param_specs.specs.View.{spec_view};
 ghost use Rattle.param_specs.specs.Validation.{Takes, KnowsClass, IsWithin, Corrects};
 
 use crate::spec::Spec;
-use g_values::{Kind, Value, has_number, known_bits};
+use g_values::{Kind, Value, has_number, kind_of, known_bits};
 use type_tree::{TypeId, TypeTree};
 use ui_machine::ObjectId;
 
@@ -33,6 +33,67 @@ pub fn validate(tree: &TypeTree, spec: &Spec, value: Value) -> (Value, bool)
         Some(corrected) => (corrected, true),
         None => (value, false),
     }
+}
+
+/// Whether `validate` takes a value of a property: a number's range lies within the number's kind, and an enum's default is of that enum.
+pub fn takes(tree: &TypeTree, spec: &Spec, value: &Value) -> bool
+    ensures { IsTrue result ↔ Takes tree.now spec.now value.now }
+{
+    match value {
+        Value::Bool(_) => true,
+        Value::Int(_) => has_range_of_int(spec),
+        Value::UInt(_) => has_range_of_uint(spec),
+        Value::Int64(_) => has_range_of_int64(spec),
+        Value::UInt64(_) => has_range_of_uint64(spec),
+        Value::Text(_) => true,
+        Value::Enum(t, _) => tree.is_enum(*t) && kind_of(&spec.default) == Kind::Enum(*t),
+        Value::Flags(t, _) => tree.is_flags(*t),
+        Value::Object(_, _) => true,
+    }
+}
+
+// Whether the ends of the range are numbers of the kind.
+fn has_range_of_int(spec: &Spec) -> bool
+    ensures { IsTrue result ↔ IsWithin int spec.now }
+{
+    has_range_within(spec, i128::from(i32::MIN), i128::from(i32::MAX))
+}
+
+// The same for numbers of 32 bits.
+fn has_range_of_uint(spec: &Spec) -> bool
+    ensures { IsTrue result ↔ IsWithin uint spec.now }
+{
+    has_range_within(spec, 0, i128::from(u32::MAX))
+}
+
+// The same for numbers of 64 bits with a sign.
+fn has_range_of_int64(spec: &Spec) -> bool
+    ensures { IsTrue result ↔ IsWithin int64 spec.now }
+{
+    has_range_within(spec, i128::from(i64::MIN), i128::from(i64::MAX))
+}
+
+// The same for numbers of 64 bits.
+fn has_range_of_uint64(spec: &Spec) -> bool
+    ensures { IsTrue result ↔ IsWithin uint64 spec.now }
+{
+    has_range_within(spec, 0, i128::from(u64::MAX))
+}
+
+// Whether the ends of the range lie between two numbers, both included.
+fn has_range_within(spec: &Spec, low: i128, high: i128) -> bool
+    ensures min { IsTrue result → (low ≤ℤ spec.now.min) × (spec.now.min ≤ℤ high) }
+    ensures max { IsTrue result → (low ≤ℤ spec.now.max) × (spec.now.max ≤ℤ high) }
+    ensures all { low ≤ℤ spec.now.min → spec.now.min ≤ℤ high → low ≤ℤ spec.now.max → spec.now.max ≤ℤ high → IsTrue result }
+{
+    lies_within(spec.min, low, high) && lies_within(spec.max, low, high)
+}
+
+// Whether a number lies between two others, both included.
+fn lies_within(number: i128, low: i128, high: i128) -> bool
+    ensures { IsTrue result ↔ (low ≤ℤ number) × (number ≤ℤ high) }
+{
+    low <= number && number <= high
 }
 
 // What takes the value's place, if it is not valid.

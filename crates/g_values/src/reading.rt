@@ -1,0 +1,145 @@
+//! Values read from JSON.
+
+ghost use Rattle.std.specs.Prelude.{◌≡◌, ◌≤ℤ◌, ℤ, pos, map, option_map, IfOk};
+ghost use Rattle.std.specs.Rc.{rc_str_bytes};
+ghost use Rattle.serde_json.specs.View.{view};
+ghost use Rattle.serde_json.specs.Find.{as_null, as_bool, as_str};
+ghost use Rattle.type_tree.specs.Entry.{enum_member, flags_member};
+ghost use Rattle.g_values.specs.View.{kind_view, value_view, value_kind, IsKnown};
+ghost use Rattle.g_values.specs.Reading.{whole_number, number_between, enum_number, flags_bits, text_or_null, expected, json_value, Means};
+
+use crate::error::JsonError;
+use crate::kind::Kind;
+use crate::members::has_number;
+use crate::naming::{bits_named, enum_called};
+use crate::value::Value;
+use std::alloc::Global;
+use std::rc::RcStr;
+use type_tree::{EnumMember, FlagsMember, TypeTree};
+
+/// The most bytes of a text.
+pub const MOST_TEXT_BYTES: usize = 4_096;
+
+/// The value of a kind that JSON stands for: true or false; a whole number; a text or null; an enum's member by name, nick or number; flags as
+/// a number, or by names and nicks between bars; of objects, null alone.
+///
+/// # Errors
+///
+/// `WrongJson` where JSON of this sort stands for no value of the kind, `OutOfRange` for a number that the kind does not have,
+/// `UnknownMember` for what no member is called and no member's number is, `TextTooLong` past 4,096 bytes.
+pub fn from_json(
+    alloc: Global,
+    tree: &TypeTree,
+    json: &serde_json::Value,
+    kind: Kind,
+) -> Result<Value, JsonError>
+    requires { IsKnown tree.now kind }
+    ensures value { Means value_view result (json_value tree.now (kind_view kind) (view json.now)) }
+    ensures kind { IfOk result (λ v. value_kind v ≡ kind_view kind) }
+{
+    match kind {
+        Kind::Bool => Ok(Value::Bool(truth_in(json)?)),
+        Kind::Int => {
+            let number = number_in(json, i128::from(i32::MIN), i128::from(i32::MAX))?;
+            Ok(Value::Int(number as i32))
+        }
+        Kind::UInt => {
+            let number = number_in(json, 0, i128::from(u32::MAX))?;
+            Ok(Value::UInt(number as u32))
+        }
+        Kind::Int64 => {
+            let number = number_in(json, i128::from(i64::MIN), i128::from(i64::MAX))?;
+            Ok(Value::Int64(number as i64))
+        }
+        Kind::UInt64 => {
+            let number = number_in(json, 0, i128::from(u64::MAX))?;
+            Ok(Value::UInt64(number as u64))
+        }
+        Kind::Text => Ok(Value::Text(text_in(alloc, json)?)),
+        Kind::Enum(t) => Ok(Value::Enum(t, enum_number_in(tree.enum_members(t), json)?)),
+        Kind::Flags(t) => Ok(Value::Flags(t, bits_in(tree.flags_members(t), json)?)),
+        Kind::Object(t) => {
+            null_in(json)?;
+            Ok(Value::Object(t, None))
+        }
+    }
+}
+
+// A truth value.
+fn truth_in(json: &serde_json::Value) -> Result<bool, JsonError>
+    ensures { result ≡ expected (as_bool (view json.now)) }
+{
+    json.as_bool().ok_or(JsonError::WrongJson)
+}
+
+// Null.
+fn null_in(json: &serde_json::Value) -> Result<(), JsonError>
+    ensures { result ≡ expected (as_null (view json.now)) }
+{
+    json.as_null().ok_or(JsonError::WrongJson)
+}
+
+// A whole number of 64 bits, with or without a sign.
+fn whole_number(json: &serde_json::Value) -> Option<i128>
+    ensures { result ≡ whole_number (view json.now) }
+{
+    json.as_number()?.as_i128()
+}
+
+// A whole number between two others, both included.
+fn number_in(json: &serde_json::Value, low: i128, high: i128) -> Result<i128, JsonError>
+    ensures number { result ≡ number_between low high (whole_number (view json.now)) }
+    ensures low { IfOk result (λ n. low ≤ℤ n) }
+    ensures high { IfOk result (λ n. n ≤ℤ high) }
+{
+    let Some(number) = whole_number(json) else {
+        return Err(JsonError::WrongJson);
+    };
+    if number < low || number > high {
+        return Err(JsonError::OutOfRange);
+    }
+    Ok(number)
+}
+
+// A text that is not too long, or null.
+fn text_in(alloc: Global, json: &serde_json::Value) -> Result<Option<RcStr>, JsonError>
+    ensures { Means (option_map rc_str_bytes) result (text_or_null (view json.now)) }
+{
+    if json.is_null() {
+        return Ok(None);
+    }
+    let Some(text) = json.as_str() else {
+        return Err(JsonError::WrongJson);
+    };
+    if text.len() > MOST_TEXT_BYTES {
+        return Err(JsonError::TextTooLong);
+    }
+    let text = RcStr::from_str(alloc, text)?;
+    Ok(Some(text))
+}
+
+// The number of a member of an enum, which is called or given itself.
+fn enum_number_in(members: &[EnumMember], json: &serde_json::Value) -> Result<i32, JsonError>
+    ensures { result ≡ enum_number (map enum_member members.now) (as_str (view json.now)) (whole_number (view json.now)) }
+{
+    if let Some(word) = json.as_str() {
+        return enum_called(members, word).ok_or(JsonError::UnknownMember);
+    }
+    let number = number_in(json, i128::from(i32::MIN), i128::from(i32::MAX))?;
+    if has_number(members, number) {
+        Ok(number as i32)
+    } else {
+        Err(JsonError::UnknownMember)
+    }
+}
+
+// Bits that are named, or any number of 32 bits that is given itself.
+fn bits_in(members: &[FlagsMember], json: &serde_json::Value) -> Result<u32, JsonError>
+    ensures { result ≡ flags_bits (map flags_member members.now) (as_str (view json.now)) (whole_number (view json.now)) }
+{
+    if let Some(text) = json.as_str() {
+        return bits_named(members, text).ok_or(JsonError::UnknownMember);
+    }
+    let number = number_in(json, 0, i128::from(u32::MAX))?;
+    Ok(number as u32)
+}

@@ -1,0 +1,102 @@
+//! Properties of an interface that a type has to have.
+
+ghost use Rattle.std.specs.Prelude.{◌≡◌, ◌<◌, length, position, IfSome};
+ghost use Rattle.param_specs.specs.View.{spec_view};
+ghost use Rattle.param_specs.specs.Table.{specs_of};
+ghost use Rattle.param_specs.specs.Overriding.{same_range, same_rest, same_spec, is_missing, differs, override_fault, fine_or};
+
+use crate::error::SpecError;
+use crate::spec::Spec;
+use crate::table::SpecTable;
+use g_values::is_same;
+use type_tree::{TypeId, TypeTree};
+
+impl SpecTable {
+    /// Tests that a type has each property of an interface, its own or inherited, with the same kind, range, default, weakness and flags.
+    ///
+    /// # Errors
+    ///
+    /// `OverrideMissing` with the interface's slot of the first that the type does not have; else `OverrideDiffers` with that of the first that
+    /// it has otherwise.
+    pub fn override_from(
+        &self,
+        tree: &TypeTree,
+        t: TypeId,
+        interface: TypeId,
+    ) -> Result<(), SpecError>
+        ensures { result ≡ fine_or (override_fault (specs_of tree.now self.now t) (specs_of tree.now self.now interface)) }
+    {
+        if let Some(slot) = self.first_missing(tree, t, interface) {
+            return Err(SpecError::OverrideMissing(slot as u16));
+        }
+        if let Some(slot) = self.first_different(tree, t, interface) {
+            return Err(SpecError::OverrideDiffers(slot as u16));
+        }
+        Ok(())
+    }
+
+    // The slot of the interface's first property that a type does not have.
+    fn first_missing(&self, tree: &TypeTree, t: TypeId, interface: TypeId) -> Option<usize>
+        ensures slot { result ≡ position (is_missing (specs_of tree.now self.now t)) (specs_of tree.now self.now interface) }
+        ensures few { IfSome result (λ i. i < 16448) }
+    {
+        for slot in 0..self.slots_of(tree, interface) {
+            if self.is_missing(tree, t, self.spec_at(tree, interface, slot)) {
+                return Some(slot);
+            }
+        }
+        None
+    }
+
+    // The slot of the interface's first property that a type has otherwise.
+    fn first_different(&self, tree: &TypeTree, t: TypeId, interface: TypeId) -> Option<usize>
+        ensures slot { result ≡ position (differs (specs_of tree.now self.now t)) (specs_of tree.now self.now interface) }
+        ensures few { IfSome result (λ i. i < 16448) }
+    {
+        for slot in 0..self.slots_of(tree, interface) {
+            if self.differs(tree, t, self.spec_at(tree, interface, slot)) {
+                return Some(slot);
+            }
+        }
+        None
+    }
+
+    // Whether a type has no property of this name.
+    fn is_missing(&self, tree: &TypeTree, t: TypeId, wanted: &Spec) -> bool
+        ensures { result ≡ is_missing (specs_of tree.now self.now t) (spec_view wanted.now) }
+    {
+        self.slot(tree, t, wanted.name.as_str()).is_none()
+    }
+
+    // Whether a type has another property of this name.
+    #[tactic(auto, using(crate::proofs::Within::slot_within))]
+    fn differs(&self, tree: &TypeTree, t: TypeId, wanted: &Spec) -> bool
+        ensures { result ≡ differs (specs_of tree.now self.now t) (spec_view wanted.now) }
+    {
+        match self.slot(tree, t, wanted.name.as_str()) {
+            Some(slot) => !is_same_spec(self.spec_at(tree, t, slot), wanted),
+            None => false,
+        }
+    }
+}
+
+// Whether two properties have one kind, range, default, weakness and flags.
+fn is_same_spec(a: &Spec, b: &Spec) -> bool
+    ensures { result ≡ same_spec (spec_view a.now) (spec_view b.now) }
+{
+    has_same_range(a, b) && has_same_rest(a, b)
+}
+
+// Whether two properties have one kind and range.
+fn has_same_range(a: &Spec, b: &Spec) -> bool
+    ensures { result ≡ same_range (spec_view a.now) (spec_view b.now) }
+{
+    a.kind == b.kind && a.min == b.min && a.max == b.max
+}
+
+// Whether two properties have one default, weakness and flags.
+fn has_same_rest(a: &Spec, b: &Spec) -> bool
+    ensures { result ≡ same_rest (spec_view a.now) (spec_view b.now) }
+{
+    is_same(&a.default, &b.default) && a.weak == b.weak && a.flags == b.flags
+}
