@@ -1,0 +1,2 @@
+pub mod JudgedRows
+pub mod JudgedRefusals

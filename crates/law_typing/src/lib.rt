@@ -1,0 +1,47 @@
+//! What an accepted definition is: typing, edges, ranks, costs, depths and the report, with laws of them.
+#![tactic(auto)]
+
+ghost use Rattle.law_typing.specs.FirstRun as first_run_case;
+ghost use Rattle.law_typing.specs.NothingToDo as nothing_to_do_case;
+ghost use Rattle.law_typing.specs.Freezes as freezes_case;
+ghost use Rattle.law_typing.specs.Pair as pair_case;
+ghost use Rattle.law_typing.specs.Labels as labels_case;
+ghost use Rattle.law_typing.specs.Floating as floating_case;
+ghost use Rattle.law_typing.specs.LastReference as last_reference_case;
+ghost use Rattle.law_typing.specs.MainLoop as main_loop_case;
+ghost use Rattle.law_typing.specs.Chain as chain_case;
+ghost use Rattle.law_typing.specs.Knobs as knobs_case;
+ghost use Rattle.law_typing.specs.SetConstructOnly as set_construct_only_case;
+ghost use Rattle.law_typing.specs.UnfitHandler as unfit_handler_case;
+ghost use Rattle.law_typing.specs.UnfitBinding as unfit_binding_case;
+ghost use Rattle.law_typing.specs.SecondPair as second_pair_case;
+ghost use Rattle.law_typing.specs.FrozenPair as frozen_pair_case;
+ghost use Rattle.law_typing.specs.OpenFreeze as open_freeze_case;
+ghost use Rattle.law_typing.specs.LabelCycle as label_cycle_case;
+ghost use Rattle.law_typing.specs.TooLarge as too_large_case;
+
+/// Definitions that are accepted, each with its report, computed from the definition as data.
+pub fn reports()
+    ensures first_run { first_run_case.Holds }
+    ensures nothing_to_do { nothing_to_do_case.Holds }
+    ensures freezes { freezes_case.Holds }
+    ensures pair { pair_case.Holds }
+    ensures labels { labels_case.Holds }
+    ensures floating { floating_case.Holds }
+    ensures last_reference { last_reference_case.Holds }
+    ensures main_loop { main_loop_case.Holds }
+    ensures chain { chain_case.Holds }
+    ensures knobs { knobs_case.Holds }
+{}
+
+/// Definitions that are refused, one for each word of refusal.
+pub fn refusals()
+    ensures set_construct_only { set_construct_only_case.Holds }
+    ensures unfit_handler { unfit_handler_case.Holds }
+    ensures unfit_binding { unfit_binding_case.Holds }
+    ensures second_pair { second_pair_case.Holds }
+    ensures frozen_pair { frozen_pair_case.Holds }
+    ensures open_freeze { open_freeze_case.Holds }
+    ensures label_cycle { label_cycle_case.Holds }
+    ensures too_large { too_large_case.Holds }
+{}
