@@ -1,2 +1,10 @@
 pub mod JudgedRows
 pub mod JudgedRefusals
+pub mod Lists
+pub mod RankProofs
+pub mod SettledProofs
+pub mod JudgedProofs
+pub mod CostProofs
+pub mod ChainProofs
+pub mod KnobsProofs
+pub mod NamesProofs

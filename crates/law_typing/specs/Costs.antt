@@ -53,6 +53,14 @@ path_costs g t n (s ∷ more) = with_next g t n s (path_costs g t (suc n) more)
 abbrev pub program_cost : Graph → Tables → List Stretch → ℕ
 program_cost g t stretches = read 0 (path_costs g t 0 stretches) 0
 
+-- the costliest way from the beginning of a block to a return
+abbrev pub block_cost : Graph → Tables → List Stretch → ℕ → ℕ
+block_cost g t stretches block = read 0 (path_costs g t 0 stretches) block
+
+-- the costliest way from some instruction on, where these are what it and those after it may start, and these the next blocks
+abbrev pub code_cost : Graph → Tables → List Stretch → List Start → List ℕ → ℕ
+code_cost g t stretches starts next = starts_cost g t starts + greatest (block_cost g t stretches) next
+
 -- ** channels
 
 -- some programs, each once
@@ -72,14 +80,15 @@ emission_cost g t r =
     + g.most_handlers * greatest (of_program t) r.connectable
     + targets_cost g t r.targets
 
--- the cost of a channel without the other end of its pair; a construction costs its programs
+-- a construction costs its programs
+abbrev pub cost_at : Graph → Tables → Raised → Channel → ℕ
+cost_at g t r (constructed place) = programs_cost t r.handlers
+cost_at g t r (property place slot) = emission_cost g t r
+cost_at g t r (signal place number) = emission_cost g t r
+
+-- the cost of a channel without the other end of its pair
 abbrev pub channel_cost : Graph → Tables → Raised → ℕ
-channel_cost g t r = of r.channel
-  where
-    of : Channel → ℕ
-    of (constructed place) = programs_cost t r.handlers
-    of (property place slot) = emission_cost g t r
-    of (signal place number) = emission_cost g t r
+channel_cost g t r = cost_at g t r r.channel
 
 -- ** the equations
 
@@ -92,7 +101,7 @@ abbrev pub channels_by : Graph → Tables → Tables
 channels_by g t = record t { channels = map (λ (r : Raised). (r.channel, channel_cost g t r)) g.raised }
 
 -- the tables are the costs of the graph: each channel and each program costs what its parts do
-pub record Solves (g : Graph) (t : Tables) : Type 0 where
+pub record SolvesCosts (g : Graph) (t : Tables) : Type 0 where
   pub channels : t.channels ≡ (channels_by g t).channels
   pub programs : t.programs ≡ (programs_by g t).programs
 

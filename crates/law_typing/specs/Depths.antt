@@ -44,13 +44,14 @@ property_depth g t r None = 1 + depth_within t r
 property_depth g t r (Some other) = 2 + max (depth_within t r) (depth_within_if t (raised_of g other))
 
 -- a construction has no frame of its own here, a signal that of its emission
+abbrev pub depth_at : Graph → Tables → Raised → Channel → ℕ
+depth_at g t r (constructed place) = depth_within t r
+depth_at g t r (property place slot) = property_depth g t r (other_end g (property place slot))
+depth_at g t r (signal place number) = 1 + depth_within t r
+
+-- the depth of a channel
 abbrev pub channel_depth : Graph → Tables → Raised → ℕ
-channel_depth g t r = of r.channel
-  where
-    of : Channel → ℕ
-    of (constructed place) = depth_within t r
-    of (property place slot) = property_depth g t r (other_end g r.channel)
-    of (signal place number) = 1 + depth_within t r
+channel_depth g t r = depth_at g t r r.channel
 
 -- ** the equations
 
@@ -63,7 +64,7 @@ abbrev pub channels_by : Graph → Tables → Tables
 channels_by g t = record t { channels = map (λ (r : Raised). (r.channel, channel_depth g t r)) g.raised }
 
 -- the tables are the depths of the graph
-pub record Solves (g : Graph) (t : Tables) : Type 0 where
+pub record SolvesDepths (g : Graph) (t : Tables) : Type 0 where
   pub channels : t.channels ≡ (channels_by g t).channels
   pub programs : t.programs ≡ (programs_by g t).programs
 

@@ -162,20 +162,23 @@ raised_at d ns c = record {
 
 -- ** what a program may start
 
--- the channels of a property or signal by name over some places
+-- the number of something of a class, if there is a class
+abbrev pub number_for : (ℕ → Option ℕ) → Option ℕ → Option ℕ
+number_for number_in None = None
+number_for number_in (Some class) = number_in class
+
+-- the channel of a place, if its class has the number
+abbrev pub channel_for : (ℕ → Channel) → Option ℕ → Option Channel
+channel_for channel None = None
+channel_for channel (Some number) = Some (channel number)
+
+-- the channel of a property or signal at a place, where `number_in` gives its number in a class
+abbrev pub channel_over : Definition → (ℕ → Option ℕ) → (ℕ → ℕ → Channel) → ℕ → Option Channel
+channel_over d number_in channel place = channel_for (channel place) (number_for number_in (class_at d place))
+
+-- those over some places
 abbrev pub over : Definition → (ℕ → Option ℕ) → (ℕ → ℕ → Channel) → List ℕ → List Channel
-over d number_in channel ps = present d (filter_map at ps)
-  where
-    channel_at : ℕ → Option ℕ → Option Channel
-    channel_at place None = None
-    channel_at place (Some number) = Some (channel place number)
-
-    number_at : Option ℕ → Option ℕ
-    number_at None = None
-    number_at (Some class) = number_in class
-
-    at : ℕ → Option Channel
-    at place = channel_at place (number_at (class_at d place))
+over d number_in channel ps = present d (filter_map (channel_over d number_in channel) ps)
 
 -- whether a property is among the given ones, by a value that is not a forward one
 abbrev pub is_given : (place slot : ℕ) → GivenProperty → Bool

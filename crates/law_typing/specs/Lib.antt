@@ -15,6 +15,10 @@ pub mod Costs
 pub mod Depths
 pub mod Report
 pub mod Verdict
+pub mod Inherits
+pub mod Accepted
+pub mod Laws
+pub mod CostLaws
 pub mod Words
 pub mod FirstRun
 pub mod NothingToDo
@@ -34,3 +38,6 @@ pub mod FrozenPair
 pub mod OpenFreeze
 pub mod LabelCycle
 pub mod TooLarge
+pub mod Stickers
+pub mod ChainLaw
+pub mod NamesLaw

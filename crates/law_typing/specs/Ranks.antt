@@ -97,9 +97,9 @@ above ranks a = suc (entry ranks a.from)
 abbrev pub rank_by : List Arrow → Table → Channel → ℕ
 rank_by edges ranks n = greatest (above ranks) (filter (λ (a : Arrow). same_channel a.to n) edges)
 
--- the nodes, each by its first channel
+-- the node of each channel, in the order of the report; a pair stands there twice
 abbrev pub nodes : Graph → List Channel
-nodes g = filter (λ c. same_channel (node g c) c) (map (λ (r : Raised). r.channel) g.raised)
+nodes g = map (λ (r : Raised). node g r.channel) g.raised
 
 -- the rank of each of some nodes, by those of the others
 abbrev pub ranked : List Arrow → List Channel → Table → Table
