@@ -1,11 +1,12 @@
 -- Tables that going on does not change meet their equations.
 use Rattle.std.proofs.Common.{◌≡◌, refl, sym, ap, subst, ◌∙◌, ℕ, zero, suc, ◌+◌, Bool, true, false, List, [], ◌∷◌, length, map, Option, Some}
 use Rattle.std.specs.Prelude.{nat_eq}
+use Rattle.std.specs.List.{filter}
 use Rattle.std.proofs.lemmas.Bool.{eqb-true}
 use Rattle.law_typing.specs.Channels.{Channel}
 use Rattle.law_typing.specs.Graph.{Graph, Raised}
 use Rattle.law_typing.specs.Tables.{Table, Tables, same_numbers, same_table, same_tables, goes_on, settled}
-use Rattle.law_typing.specs.Ranks.{Arrow, arrows, nodes, rank_by, ranked, ranks_by, ranks, IsRanking}
+use Rattle.law_typing.specs.Ranks.{Arrow, arrows, nodes, rank_by, ranked, leads, ranks_by, ranks, IsRanking}
 use Rattle.law_typing.specs.Costs.{SolvesCosts, costs, no_tables, channel_cost, program_cost}
 use Rattle.law_typing.specs.Depths.{SolvesDepths, depths, channel_depth, program_depth}
 use Rattle.law_typing.proofs.Lists.{both_parts}
@@ -72,7 +73,7 @@ module _ (edges : List Arrow) (ns : List Channel) where
   ranks_solved : (u : Table) → ranks_by edges ns ≡ Some u → u ≡ ranked edges ns u
   ranks_solved u e =
       let r =
-      reached same_table (ranked edges ns) (IsOf ns) (λ t k. record { number = rank_by edges t; is = refl }) (suc (length ns))
+      reached same_table (ranked edges ns) (IsOf ns) (λ t k. record { number = rank_by edges t; is = refl }) (suc (length (filter (leads edges) ns)))
       (map (λ n. (n, 0)) ns) u (record { number = λ n. 0; is = refl }) e in
       let same : r.at ≡ u = stays r.at r.kept r.stays ∙ sym r.is in
       r.is ∙ ap (ranked edges ns) same

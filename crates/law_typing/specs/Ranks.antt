@@ -109,9 +109,13 @@ ranked edges ns ranks = map (λ n. (n, rank_by edges ranks n)) ns
 abbrev pub IsRanking : Graph → Table → Type 0
 IsRanking g ranks = ranks ≡ ranked (arrows g) (nodes g) ranks
 
--- the ranks, if there is no cycle: a chain has fewer edges than there are nodes
+-- whether an edge leads from a node
+abbrev pub leads : List Arrow → Channel → Bool
+leads edges n = list_any (λ (a : Arrow). same_channel a.from n) edges
+
+-- the ranks, if there is no cycle: the edges of a chain begin at different nodes, so that it has no more of them than nodes lead on
 abbrev pub ranks_by : List Arrow → List Channel → Option Table
-ranks_by edges ns = settled same_table (suc (length ns)) (ranked edges ns) (map (λ n. (n, 0)) ns)
+ranks_by edges ns = settled same_table (suc (length (filter (leads edges) ns))) (ranked edges ns) (map (λ n. (n, 0)) ns)
 
 abbrev pub ranks : Graph → Option Table
 ranks g = ranks_by (arrows g) (nodes g)
