@@ -41,3 +41,5 @@ pub mod TooLarge
 pub mod Stickers
 pub mod ChainLaw
 pub mod NamesLaw
+pub mod WellRead
+pub mod Good
