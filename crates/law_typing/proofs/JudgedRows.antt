@@ -9,6 +9,7 @@ use Rattle.law_typing.specs.Labels as labels_case
 use Rattle.law_typing.specs.Floating as floating_case
 use Rattle.law_typing.specs.LastReference as lastreference_case
 use Rattle.law_typing.specs.MainLoop as mainloop_case
+use Rattle.law_typing.specs.LabelChain as labelchain_case
 use Rattle.law_typing.specs.Stickers as stickers_case
 use Rattle.law_typing.specs.Chain as chain_case
 use Rattle.law_typing.specs.Knobs as knobs_case
@@ -44,6 +45,10 @@ lastreference_holds = refl
 pub mainloop_holds : mainloop_case.Holds
 unfolding data_in passing two_numbers two_passing moving reckoning comparing sameness negating combining joining converting property_of getting changing_none assigning place_for naming adopting arguments emitting program_named connecting on_handlers attaching methods_for method_named calling entering branching branching_null returning
 mainloop_holds = refl
+
+pub labelchain_holds : labelchain_case.Holds
+unfolding data_in passing two_numbers two_passing moving reckoning comparing sameness negating combining joining converting property_of getting changing_none assigning place_for naming adopting arguments emitting program_named connecting on_handlers attaching methods_for method_named calling entering branching branching_null returning
+labelchain_holds = refl
 
 pub stickers_holds : stickers_case.Holds
 unfolding data_in passing two_numbers two_passing moving reckoning comparing sameness negating combining joining converting property_of getting changing_none assigning place_for naming adopting arguments emitting program_named connecting on_handlers attaching methods_for method_named calling entering branching branching_null returning

@@ -8,3 +8,4 @@ pub mod CostProofs
 pub mod ChainProofs
 pub mod KnobsProofs
 pub mod NamesProofs
+pub mod WordProofs

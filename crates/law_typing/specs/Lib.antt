@@ -43,3 +43,5 @@ pub mod ChainLaw
 pub mod NamesLaw
 pub mod WellRead
 pub mod Good
+pub mod LabelChain
+pub mod RuleWords

@@ -6,6 +6,7 @@ ghost use Rattle.law_typing.specs.CostLaws.{CostsSolved, DepthsSolved, Emissions
 ghost use Rattle.law_typing.specs.ChainLaw.{ChainsDouble, ThreeLinks};
 ghost use Rattle.law_typing.specs.NamesLaw.{OneGraph};
 ghost use Rattle.law_typing.specs.Accepted.{Accepted};
+ghost use Rattle.law_typing.specs.RuleWords.{RuleWords, BindingWords};
 ghost use Rattle.law_typing.specs.FirstRun as first_run_case;
 ghost use Rattle.law_typing.specs.NothingToDo as nothing_to_do_case;
 ghost use Rattle.law_typing.specs.Freezes as freezes_case;
@@ -14,6 +15,7 @@ ghost use Rattle.law_typing.specs.Labels as labels_case;
 ghost use Rattle.law_typing.specs.Floating as floating_case;
 ghost use Rattle.law_typing.specs.LastReference as last_reference_case;
 ghost use Rattle.law_typing.specs.MainLoop as main_loop_case;
+ghost use Rattle.law_typing.specs.LabelChain as label_chain_case;
 ghost use Rattle.law_typing.specs.Stickers as stickers_case;
 ghost use Rattle.law_typing.specs.Chain as chain_case;
 ghost use Rattle.law_typing.specs.Knobs as knobs_case;
@@ -36,6 +38,7 @@ pub fn reports()
     ensures floating { floating_case.Holds }
     ensures last_reference { last_reference_case.Holds }
     ensures main_loop { main_loop_case.Holds }
+    ensures label_chain { label_chain_case.Holds }
     ensures stickers { stickers_case.Holds }
     ensures chain { chain_case.Holds }
     ensures knobs { knobs_case.Holds }
@@ -51,6 +54,12 @@ pub fn refusals()
     ensures open_freeze { open_freeze_case.Holds }
     ensures label_cycle { label_cycle_case.Holds }
     ensures too_large { too_large_case.Holds }
+{}
+
+/// Each word of the rules of instructions and of bindings.
+pub fn words()
+    ensures rules { RuleWords }
+    ensures bindings { BindingWords }
 {}
 
 /// What is judged to be accepted is, by ranks, costs and depths that meet their equations; and one definition with a program, a binding, a
