@@ -1,0 +1,11 @@
+pub mod JudgedRows
+pub mod JudgedRefusals
+pub mod Lists
+pub mod RankProofs
+pub mod SettledProofs
+pub mod JudgedProofs
+pub mod CostProofs
+pub mod ChainProofs
+pub mod KnobsProofs
+pub mod NamesProofs
+pub mod WordProofs

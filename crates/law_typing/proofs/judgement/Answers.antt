@@ -1,0 +1,6 @@
+use Rattle.law_typing.proofs.JudgedProofs.{judged_is_accepted}
+use Rattle.law_typing.proofs.KnobsProofs.{knobs_accepted}
+use Rattle.law_typing.proofs.judgement.Goals as goal
+
+pub returns : goal.returns
+returns c = record { accepted = judged_is_accepted; one = knobs_accepted }

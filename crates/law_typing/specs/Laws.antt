@@ -1,0 +1,47 @@
+-- Laws of ranks, costs and depths, and of what is judged.
+use Rattle.std.specs.Prelude.{◌≡◌, ◌⊎◌, ℕ, ◌<◌, true, List, [], ◌∷◌}
+use Rattle.ui_machine.specs.Definition.{Definition}
+use Rattle.law_typing.specs.Channels.{Entry}
+use Rattle.law_typing.specs.Graph.{Graph, graph}
+use Rattle.law_typing.specs.Tables.{Table, entry, Tables}
+use Rattle.law_typing.specs.Ranks.{Arrow, arrows, nodes, ranks, IsRanking, IsAcyclic}
+use Rattle.law_typing.specs.Costs.{costs, bound}
+use Rattle.law_typing.specs.Depths.{depths}
+use Rattle.law_typing.specs.Inherits.{inherits}
+use Rattle.law_typing.specs.Accepted.{Accepted}
+use Rattle.law_typing.specs.Report.{report}
+use Rattle.law_typing.specs.Verdict.{verdict, accepted}
+
+-- x is one of the entries
+abbrev pub IsIn : {A : Type 0} → A → List A → Type 0
+IsIn x [] = ⊥
+IsIn x (y ∷ ys) = (x ≡ y) ⊎ IsIn x ys
+
+-- ** ranks
+
+-- a rank rises along each edge that leads to the node of a channel
+abbrev pub RanksRise : Type 0
+RanksRise =
+    (g : Graph) (ranks : Table) → IsRanking g ranks → (a : Arrow) → IsIn a (arrows g) → IsIn a.to (nodes g) → entry ranks a.from < entry ranks a.to
+
+-- where there are ranks there is no cycle
+abbrev pub RankedIsAcyclic : Type 0
+RankedIsAcyclic = (g : Graph) (ranks : Table) → IsRanking g ranks → IsAcyclic g
+
+-- ** judgement
+
+-- what is judged to be accepted is, and the report tells its ranks, costs and depths
+abbrev pub JudgedIsAccepted : Type 0
+JudgedIsAccepted =
+    (d : Definition) (lines : List (List ℕ)) → inherits d ≡ true → verdict d ≡ accepted lines →
+    (a : Accepted d) × (lines ≡ report d (graph d) a.weighed.ranks a.weighed.costs a.weighed.depths)
+
+-- ** names
+
+-- ranks, costs and depths are of the graph alone, in which there are no names: where two definitions have one graph they have one ranking,
+-- and their entries have the same bounds
+abbrev pub NamesDoNotCount : Type 0
+NamesDoNotCount =
+    (d e : Definition) → graph d ≡ graph e →
+    (ranks (graph d) ≡ ranks (graph e)) × (costs (graph d) ≡ costs (graph e)) × (depths (graph d) ≡ depths (graph e))
+    × ((t : Tables) (at : Entry) → bound (graph d) t at ≡ bound (graph e) t at)

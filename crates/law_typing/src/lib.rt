@@ -1,0 +1,106 @@
+//! What an accepted definition is: typing, edges, ranks, costs, depths and the report, with laws of them.
+#![tactic(auto)]
+
+ghost use Rattle.law_typing.specs.Laws.{RanksRise, RankedIsAcyclic, JudgedIsAccepted, NamesDoNotCount};
+ghost use Rattle.law_typing.specs.CostLaws.{CostsSolved, DepthsSolved, EmissionsCover, PairsCover, StartsCover, CodeCovers, BlocksCover, SetsCover, EmitsCover, DepthsCover};
+ghost use Rattle.law_typing.specs.ChainLaw.{ChainsDouble, ThreeLinks};
+ghost use Rattle.law_typing.specs.NamesLaw.{OneGraph};
+ghost use Rattle.law_typing.specs.Accepted.{Accepted};
+ghost use Rattle.law_typing.specs.RuleWords.{RuleWords, BindingWords};
+ghost use Rattle.law_typing.specs.FirstRun as first_run_case;
+ghost use Rattle.law_typing.specs.NothingToDo as nothing_to_do_case;
+ghost use Rattle.law_typing.specs.Freezes as freezes_case;
+ghost use Rattle.law_typing.specs.Pair as pair_case;
+ghost use Rattle.law_typing.specs.Labels as labels_case;
+ghost use Rattle.law_typing.specs.Floating as floating_case;
+ghost use Rattle.law_typing.specs.LastReference as last_reference_case;
+ghost use Rattle.law_typing.specs.MainLoop as main_loop_case;
+ghost use Rattle.law_typing.specs.LabelChain as label_chain_case;
+ghost use Rattle.law_typing.specs.Stickers as stickers_case;
+ghost use Rattle.law_typing.specs.Chain as chain_case;
+ghost use Rattle.law_typing.specs.Knobs as knobs_case;
+ghost use Rattle.law_typing.specs.SetConstructOnly as set_construct_only_case;
+ghost use Rattle.law_typing.specs.UnfitHandler as unfit_handler_case;
+ghost use Rattle.law_typing.specs.UnfitBinding as unfit_binding_case;
+ghost use Rattle.law_typing.specs.SecondPair as second_pair_case;
+ghost use Rattle.law_typing.specs.FrozenPair as frozen_pair_case;
+ghost use Rattle.law_typing.specs.OpenFreeze as open_freeze_case;
+ghost use Rattle.law_typing.specs.LabelCycle as label_cycle_case;
+ghost use Rattle.law_typing.specs.TooLarge as too_large_case;
+
+/// Definitions that are accepted, each with its report, computed from the definition as data.
+pub fn reports()
+    ensures first_run { first_run_case.Holds }
+    ensures nothing_to_do { nothing_to_do_case.Holds }
+    ensures freezes { freezes_case.Holds }
+    ensures pair { pair_case.Holds }
+    ensures labels { labels_case.Holds }
+    ensures floating { floating_case.Holds }
+    ensures last_reference { last_reference_case.Holds }
+    ensures main_loop { main_loop_case.Holds }
+    ensures label_chain { label_chain_case.Holds }
+    ensures stickers { stickers_case.Holds }
+    ensures chain { chain_case.Holds }
+    ensures knobs { knobs_case.Holds }
+{}
+
+/// Definitions that are refused, one for each word of refusal.
+pub fn refusals()
+    ensures set_construct_only { set_construct_only_case.Holds }
+    ensures unfit_handler { unfit_handler_case.Holds }
+    ensures unfit_binding { unfit_binding_case.Holds }
+    ensures second_pair { second_pair_case.Holds }
+    ensures frozen_pair { frozen_pair_case.Holds }
+    ensures open_freeze { open_freeze_case.Holds }
+    ensures label_cycle { label_cycle_case.Holds }
+    ensures too_large { too_large_case.Holds }
+{}
+
+/// Each word of the rules of instructions and of bindings.
+pub fn words()
+    ensures rules { RuleWords }
+    ensures bindings { BindingWords }
+{}
+
+/// What is judged to be accepted is, by ranks, costs and depths that meet their equations; and one definition with a program, a binding, a
+/// pair and a prototype is.
+pub fn judgement()
+    ensures accepted { JudgedIsAccepted }
+    ensures one { Accepted knobs_case.definition }
+{}
+
+/// A rank rises along each edge, so where there are ranks there is no cycle.
+pub fn ranks()
+    ensures rise { RanksRise }
+    ensures acyclic { RankedIsAcyclic }
+{}
+
+/// A cost is at least each of the parts that are added to it.
+pub fn costs()
+    ensures solved { CostsSolved }
+    ensures emissions { EmissionsCover }
+    ensures pairs { PairsCover }
+    ensures starts { StartsCover }
+    ensures code { CodeCovers }
+    ensures blocks { BlocksCover }
+    ensures sets { SetsCover }
+    ensures emits { EmitsCover }
+{}
+
+/// A depth is more than that of each thing that may run above.
+pub fn depths()
+    ensures solved { DepthsSolved }
+    ensures cover { DepthsCover }
+{}
+
+/// Costs are of the graph alone, in which there are no names.
+pub fn names()
+    ensures graph { NamesDoNotCount }
+    ensures renamed { OneGraph }
+{}
+
+/// Each handler of a chain that sets the next property twice doubles the cost.
+pub fn chains()
+    ensures double { ChainsDouble }
+    ensures three { ThreeLinks }
+{}
