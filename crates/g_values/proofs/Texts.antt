@@ -1,5 +1,5 @@
 -- Texts, byte by byte.
-use Rattle.std.proofs.Common.{◌≡◌, ◌∙◌, Bool, true, false, cond, ◌&&◌, nat_eq, List, [], ◌∷◌, ℕ, bytes_eq, refl, ap}
+use Rattle.std.proofs.Common.{◌≡◌, ◌∙◌, Bool, true, false, cond, ◌&&◌, nat_eq, List, [], ◌∷◌, ℕ, bytes_eq, refl}
 use Rattle.ui_machine.specs.Names.{same_name}
 
 cond-and : (b c : Bool) → cond b c false ≡ (b && c)

@@ -1,4 +1,4 @@
-use Rattle.std.proofs.Common.{◌≡◌, ◌∙◌, ◌<◌, ◌∷◌, [], ◌++◌, length, ap, arith}
+use Rattle.std.proofs.Common.{◌∙◌, ◌<◌, ◌∷◌, [], ◌++◌, length, ap, arith}
 use Rattle.param_specs.proofs.Lists.{AddsSpec-set, SameSpecs-set, on_err_if}
 use Rattle.param_specs.proofs.growing.add.Goals as goal
 

@@ -1,4 +1,4 @@
-use Rattle.std.proofs.Common.{◌≡◌, ◌∙◌, ap}
+use Rattle.std.proofs.Common.{◌∙◌, ap}
 use Rattle.param_specs.specs.View.{lists_of}
 use Rattle.param_specs.specs.Table.{own_of}
 use Rattle.param_specs.proofs.Lists.{SameSpecs-grown}

@@ -1,4 +1,4 @@
-use Rattle.std.proofs.Common.{◌≡◌, ◌∙◌, ◌+◌, ap, sym, option_map}
+use Rattle.std.proofs.Common.{◌∙◌, ◌+◌, ap, sym, option_map}
 use Rattle.param_specs.proofs.Specs.{slot-inherited, slot-own, slot-root}
 use Rattle.param_specs.proofs.table.SpecTable.+slot.Goals as goal
 

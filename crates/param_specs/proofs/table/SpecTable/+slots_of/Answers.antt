@@ -1,4 +1,4 @@
-use Rattle.std.proofs.Common.{◌∙◌, ◌+◌, map, sym, ap, length}
+use Rattle.std.proofs.Common.{◌∙◌, ◌+◌, map, sym, ap}
 use Rattle.std.proofs.lemmas.List.{length-map}
 use Rattle.param_specs.specs.View.{spec_view}
 use Rattle.param_specs.proofs.Specs.{count-child, count-root}

@@ -1,4 +1,4 @@
-use Rattle.std.proofs.Common.{◌≡◌, ◌∙◌, ◌<◌, ◌≤◌, ◌-◌, ap, sym, subst, length, arith, length-append}
+use Rattle.std.proofs.Common.{◌∙◌, ◌<◌, ap, sym, subst, length, arith, length-append}
 use Rattle.param_specs.specs.View.{spec_view}
 use Rattle.param_specs.specs.Table.{own_of, specs_of}
 use Rattle.param_specs.proofs.Specs.{spec-inherited, spec-own, spec-root, specs_of-child, specs_of-root}

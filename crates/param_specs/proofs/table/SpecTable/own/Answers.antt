@@ -1,8 +1,8 @@
-use Rattle.std.proofs.Common.{◌≡◌, ◌∙◌, ◌<◌, ◌≤◌, [], length, map, sym, ap, subst, arith}
+use Rattle.std.proofs.Common.{◌∙◌, ◌<◌, ◌≤◌, [], length, map, sym, ap, subst, arith}
 use Rattle.std.proofs.lemmas.List.{length-map}
 use Rattle.ui_machine.specs.Seq.{read}
 use Rattle.param_specs.specs.View.{spec_view}
-use Rattle.param_specs.specs.Table.{IsTable, own_of}
+use Rattle.param_specs.specs.Table.{own_of}
 use Rattle.param_specs.proofs.Specs.{read-map, read-map-past}
 use Rattle.param_specs.proofs.table.SpecTable.own.Goals as goal
 

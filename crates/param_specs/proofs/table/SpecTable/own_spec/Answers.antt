@@ -1,4 +1,4 @@
-use Rattle.std.proofs.Common.{◌≡◌, ◌∙◌, ◌<◌, length, map, sym, ap, subst, arith}
+use Rattle.std.proofs.Common.{◌∙◌, ◌<◌, length, sym, ap, subst, arith}
 use Rattle.std.proofs.lemmas.List.{length-map}
 use Rattle.param_specs.specs.View.{spec_view}
 use Rattle.param_specs.specs.Table.{own_of}
