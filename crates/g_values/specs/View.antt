@@ -1,5 +1,6 @@
 -- Which pure kind and value a kind and a value stand for.
-use Rattle.std.specs.Prelude.{◌≡◌, pos, Bool, true, false, List, Option, None, Some, option_map, ℤ, Result, Ok, Err}
+use Rattle.std.specs.Prelude.{◌≡◌, pos, Bool, true, false, List, Option, None, Some, option_map, IsSome, ℤ, Result, Ok, Err}
+use Rattle.std.specs.declared.alloc.AllocError.{AllocError}
 use Rattle.std.specs.Rc.{rc_str_bytes}
 use Rattle.ui_machine.specs.Kinds.{int, uint, int64, uint64}
 use Rattle.ui_machine.specs.Kinds as kinds
@@ -83,10 +84,15 @@ BecomesWhole o (kinds.enum t) n = o ≡ None
 BecomesWhole o (kinds.flags t) n = o ≡ None
 BecomesWhole o (kinds.object t) n = o ≡ None
 
+-- The same; without memory it would have become a value.
+abbrev pub Yields : Result (Option Value) AllocError → kinds.Kind → Option values.Value → Type 0
+Yields (Ok o) kind answer = Becomes o kind answer
+Yields (Err e) kind answer = IsSome answer
+
 -- A transformation answers the value of the kind; it is refused where the pair of kinds has no transformation, and else where the value
--- has no result.
+-- has no result. Without memory it would have been answered.
 abbrev pub Transforms : Result Value TransformError → List GType → kinds.Kind → kinds.Kind → values.Value → Type 0
 Transforms (Ok w) types from to v = (transformed types from to v ≡ Some (value_view w)) × (value_kind w ≡ to)
 Transforms (Err NoTransform) types from to v = is_transformable types from to ≡ false
 Transforms (Err NotAMember) types from to v = (is_transformable types from to ≡ true) × (transformed types from to v ≡ None)
-Transforms (Err OutOfMemory) types from to v = is_transformable types from to ≡ true
+Transforms (Err OutOfMemory) types from to v = IsSome (transformed types from to v)

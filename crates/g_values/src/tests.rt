@@ -1,7 +1,11 @@
 //! Worked values.
 
-use crate::{Kind, TransformError, Value, kind_of, transform, transformable, zero_of};
+use crate::{
+    Kind, TransformError, Value, has_number, is_same, kind_of, known_bits, transform,
+    transformable, zero_of,
+};
 use std::alloc::Global;
+use std::rc::RcStr;
 use std::test::Fail;
 use type_tree::{EnumMember, FlagsMember, TypeId, TypeTree};
 
@@ -91,5 +95,28 @@ fn transforms_members(rt: HostRuntime) -> Result<(), Fail> {
     assert!(rt; matches!(zero_of(&types.tree, Kind::Text), Value::Text(None)));
     assert_eq!(rt; kind_of(&Value::Bool(true)), Kind::Bool);
     assert!(rt; matches!(Value::Int(7).copied()?, Value::Int(7)));
+    Ok(())
+}
+
+#[test]
+fn tells_of_members(rt: HostRuntime) -> Result<(), Fail> {
+    let types = make_types(rt.alloc())?;
+    let members = types.tree.enum_members(types.mode);
+    assert!(rt; has_number(members, 1));
+    assert!(rt; !has_number(members, 4294967297));
+    assert_eq!(rt; known_bits(types.tree.flags_members(types.marks)), 3);
+    assert!(rt; types.tree.is_enum(types.mode));
+    let zero = zero_of(&types.tree, Kind::Enum(types.mode));
+    assert!(rt; matches!(zero, Value::Enum(_, 0)));
+    Ok(())
+}
+
+#[test]
+fn shares_texts(rt: HostRuntime) -> Result<(), Fail> {
+    let text = Value::Text(Some(RcStr::from_str(rt.alloc(), "hi")?));
+    let copy = text.copied()?;
+    assert!(rt; matches!(&copy, Value::Text(Some(t)) if t.as_str() == "hi"));
+    assert!(rt; is_same(&text, &copy));
+    assert!(rt; !is_same(&text, &Value::Text(None)));
     Ok(())
 }

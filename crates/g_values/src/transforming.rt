@@ -1,6 +1,6 @@
 //! How values of one kind become values of another.
 
-ghost use Rattle.std.specs.Prelude.{◌≡◌, pos, ◌<ℤ◌, ◌≤ℤ◌, neg_ℤ, IfOk, List, true, unsigned_abs, Option, option_map};
+ghost use Rattle.std.specs.Prelude.{◌≡◌, pos, ◌<ℤ◌, ◌≤ℤ◌, neg_ℤ, List, true, unsigned_abs, Option, option_map};
 ghost use Rattle.std.specs.Rc.{rc_str_bytes};
 ghost use Rattle.ui_machine.specs.Kinds.{Whole};
 ghost use Rattle.ui_machine.specs.Kinds as kinds;
@@ -9,7 +9,7 @@ ghost use Rattle.ui_machine.specs.Types.{GType, enum, flags};
 ghost use Rattle.ui_machine.specs.Text.{members_of};
 ghost use Rattle.type_tree.specs.Adding.{sort_of};
 ghost use Rattle.ui_machine.specs.Transform.{is_transformable, converted, transformed, has_number, is_known, if_so};
-ghost use Rattle.g_values.specs.View.{kind_view, value_view, value_kind, is_whole_kind, IsKnown, Becomes, BecomesWhole, Transforms};
+ghost use Rattle.g_values.specs.View.{kind_view, value_view, value_kind, is_whole_kind, IsKnown, Becomes, BecomesWhole, Yields, Transforms};
 
 use crate::error::TransformError;
 use crate::kind::Kind;
@@ -69,7 +69,7 @@ fn from_bool(
     value: bool,
     kind: Kind,
 ) -> Result<Option<Value>, AllocError>
-    ensures { IfOk result (λ o. Becomes o (kind_view kind) (converted tree.now (kind_view kind) (values.bool value))) }
+    ensures { Yields result (kind_view kind) (converted tree.now (kind_view kind) (values.bool value)) }
 {
     match kind {
         Kind::Bool => Ok(Some(Value::Bool(value))),
@@ -91,7 +91,7 @@ fn from_number(
     requires known { IsKnown tree.now kind }
     requires low { neg_ℤ (pos 9223372036854775808) ≤ℤ number }
     requires high { number <ℤ pos 18446744073709551616 }
-    ensures { (k : Whole) → IfOk result (λ o. Becomes o (kind_view kind) (converted tree.now (kind_view kind) (values.whole k number))) }
+    ensures { (k : Whole) → Yields result (kind_view kind) (converted tree.now (kind_view kind) (values.whole k number)) }
 {
     match kind {
         Kind::Bool => Ok(Some(Value::Bool(number != 0))),
@@ -129,7 +129,7 @@ fn flags_value(tree: &TypeTree, t: TypeId, number: i128) -> Option<Value>
 
 // What a text becomes.
 fn from_text(text: &Option<RcStr>, kind: Kind) -> Result<Option<Value>, AllocError>
-    ensures { (tree : List GType) → IfOk result (λ o. Becomes o (kind_view kind) (converted tree (kind_view kind) (values.text (option_map rc_str_bytes text.now)))) }
+    ensures { (tree : List GType) → Yields result (kind_view kind) (converted tree (kind_view kind) (values.text (option_map rc_str_bytes text.now))) }
 {
     match kind {
         Kind::Text => match text {
@@ -188,7 +188,7 @@ fn convert(
 ) -> Result<Option<Value>, AllocError>
     requires known { IsKnown tree.now kind }
     requires transformable { is_transformable tree.now (value_kind value.now) (kind_view kind) ≡ true }
-    ensures { IfOk result (λ o. Becomes o (kind_view kind) (converted tree.now (kind_view kind) (value_view value.now))) }
+    ensures { Yields result (kind_view kind) (converted tree.now (kind_view kind) (value_view value.now)) }
 {
     match value {
         Value::Bool(b) => from_bool(alloc, tree, *b, kind),
