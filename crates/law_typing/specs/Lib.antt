@@ -45,3 +45,4 @@ pub mod WellRead
 pub mod Good
 pub mod LabelChain
 pub mod RuleWords
+pub mod ClassHandlers
