@@ -1,7 +1,7 @@
 //! What an accepted definition is: typing, edges, ranks, costs, depths and the report, with laws of them.
 #![tactic(auto)]
 
-ghost use Rattle.law_typing.specs.Laws.{RanksRise, RankedIsAcyclic, JudgedIsAccepted, NamesDoNotCount};
+ghost use Rattle.law_typing.specs.Laws.{RanksRise, EdgesLeadToNodes, RankedIsAcyclic, JudgedIsAccepted, NamesDoNotCount};
 ghost use Rattle.law_typing.specs.CostLaws.{CostsSolved, DepthsSolved, EmissionsCover, PairsCover, StartsCover, CodeCovers, BlocksCover, SetsCover, EmitsCover, DepthsCover};
 ghost use Rattle.law_typing.specs.ChainLaw.{ChainsDouble, ThreeLinks};
 ghost use Rattle.law_typing.specs.NamesLaw.{OneGraph};
@@ -72,9 +72,10 @@ pub fn judgement()
     ensures one { Accepted knobs_case.definition }
 {}
 
-/// A rank rises along each edge, so where there are ranks there is no cycle.
+/// A rank rises along each edge to a node, and in the graph of a definition each edge leads to one; so where there are ranks there is no cycle.
 pub fn ranks()
     ensures rise { RanksRise }
+    ensures lead { EdgesLeadToNodes }
     ensures acyclic { RankedIsAcyclic }
 {}
 
