@@ -25,16 +25,16 @@ use Rattle.law_typing.proofs.CostProofs.{listed_in, place_below}
 
 -- ** members
 
-append_left : {A : Type 0} (xs ys : List A) (x : A) → IsIn x xs → IsIn x (xs ++ ys)
+pub append_left : {A : Type 0} (xs ys : List A) (x : A) → IsIn x xs → IsIn x (xs ++ ys)
 append_left [] ys x h = absurd h
 append_left (y ∷ xs) ys x (inl e) = inl e
 append_left (y ∷ xs) ys x (inr h) = inr (append_left xs ys x h)
 
-append_right : {A : Type 0} (xs ys : List A) (x : A) → IsIn x ys → IsIn x (xs ++ ys)
+pub append_right : {A : Type 0} (xs ys : List A) (x : A) → IsIn x ys → IsIn x (xs ++ ys)
 append_right [] ys x h = h
 append_right (y ∷ xs) ys x h = inr (append_right xs ys x h)
 
-flat_in : {A B : Type 0} (f : A → List B) (xs : List A) (x : A) (b : B) → IsIn x xs → IsIn b (f x) → IsIn b (flat_map f xs)
+pub flat_in : {A B : Type 0} (f : A → List B) (xs : List A) (x : A) (b : B) → IsIn x xs → IsIn b (f x) → IsIn b (flat_map f xs)
 flat_in f [] x b h k = h
 flat_in f (y ∷ ys) x b (inl e) k = append_left (f y) (flat_map f ys) b (subst (λ z. IsIn b (f z)) e k)
 flat_in f (y ∷ ys) x b (inr h) k = append_right (f y) (flat_map f ys) b (flat_in f ys x b h k)

@@ -10,3 +10,4 @@ pub mod KnobsProofs
 pub mod NamesProofs
 pub mod WordProofs
 pub mod EdgeProofs
+pub mod OneSolutionProofs

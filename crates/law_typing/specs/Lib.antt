@@ -46,3 +46,4 @@ pub mod Good
 pub mod LabelChain
 pub mod RuleWords
 pub mod ClassHandlers
+pub mod OneSolution

@@ -3,6 +3,7 @@
 
 ghost use Rattle.law_typing.specs.Laws.{RanksRise, EdgesLeadToNodes, RankedIsAcyclic, JudgedIsAccepted, NamesDoNotCount};
 ghost use Rattle.law_typing.specs.CostLaws.{CostsSolved, DepthsSolved, EmissionsCover, PairsCover, StartsCover, CodeCovers, BlocksCover, SetsCover, EmitsCover, DepthsCover};
+ghost use Rattle.law_typing.specs.OneSolution.{OneRanking, OneCost, OneDepth};
 ghost use Rattle.law_typing.specs.ChainLaw.{ChainsDouble, ThreeLinks};
 ghost use Rattle.law_typing.specs.NamesLaw.{OneGraph};
 ghost use Rattle.law_typing.specs.Accepted.{Accepted};
@@ -95,6 +96,13 @@ pub fn costs()
 pub fn depths()
     ensures solved { DepthsSolved }
     ensures cover { DepthsCover }
+{}
+
+/// Without a cycle the equations of ranks, costs and depths have one solution.
+pub fn solutions()
+    ensures ranks { OneRanking }
+    ensures costs { OneCost }
+    ensures depths { OneDepth }
 {}
 
 /// Costs are of the graph alone, in which there are no names.
