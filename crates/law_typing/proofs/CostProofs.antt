@@ -139,7 +139,7 @@ blocks_cover g t stretches block s e all =
 
 -- ** what programs raise
 
-listed_in : (f : ℕ → ℕ) (n i : ℕ) → i < n → IsIn (f i) (listed f n)
+pub listed_in : (f : ℕ → ℕ) (n i : ℕ) → i < n → IsIn (f i) (listed f n)
 listed_in f zero i h = absurd (omega (arith, h))
 listed_in f (suc n) zero h = inl refl
 listed_in f (suc n) (suc i) h = inr (listed_in (λ i. f (suc i)) n i (omega (arith, h)))
@@ -162,7 +162,7 @@ filter_map_in h [] x b e there = there
 filter_map_in h (y ∷ ys) x b e (inl s) = found_here_too (h y) (filter_map h ys) b (ap h (sym s) ∙ e)
 filter_map_in h (y ∷ ys) x b e (inr there) = found_later (h y) (filter_map h ys) b (filter_map_in h ys x b e there)
 
-place_below : (d : Definition) (place class : ℕ) (o : Option Place) → place_at d place ≡ o → option_map (λ (p : Place). p.class) o ≡ Some class → place < length d.places
+pub place_below : (d : Definition) (place class : ℕ) (o : Option Place) → place_at d place ≡ o → option_map (λ (p : Place). p.class) o ≡ Some class → place < length d.places
 place_below d place class None e f = absurd (cc)
 place_below d place class (Some p) e f = slice_below d.places place p e
 

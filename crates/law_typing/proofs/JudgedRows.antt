@@ -11,6 +11,7 @@ use Rattle.law_typing.specs.LastReference as lastreference_case
 use Rattle.law_typing.specs.MainLoop as mainloop_case
 use Rattle.law_typing.specs.LabelChain as labelchain_case
 use Rattle.law_typing.specs.Stickers as stickers_case
+use Rattle.law_typing.specs.ClassHandlers as classhandlers_case
 use Rattle.law_typing.specs.Chain as chain_case
 use Rattle.law_typing.specs.Knobs as knobs_case
 
@@ -53,6 +54,10 @@ labelchain_holds = refl
 pub stickers_holds : stickers_case.Holds
 unfolding data_in passing two_numbers two_passing moving reckoning comparing sameness negating combining joining converting property_of getting changing_none assigning place_for naming adopting arguments emitting program_named connecting on_handlers attaching methods_for method_named calling entering branching branching_null returning
 stickers_holds = refl
+
+pub classhandlers_holds : classhandlers_case.Holds
+unfolding data_in passing two_numbers two_passing moving reckoning comparing sameness negating combining joining converting property_of getting changing_none assigning place_for naming adopting arguments emitting program_named connecting on_handlers attaching methods_for method_named calling entering branching branching_null returning
+classhandlers_holds = refl
 
 pub chain_holds : chain_case.Holds
 unfolding data_in passing two_numbers two_passing moving reckoning comparing sameness negating combining joining converting property_of getting changing_none assigning place_for naming adopting arguments emitting program_named connecting on_handlers attaching methods_for method_named calling entering branching branching_null returning

@@ -9,3 +9,5 @@ pub mod ChainProofs
 pub mod KnobsProofs
 pub mod NamesProofs
 pub mod WordProofs
+pub mod EdgeProofs
+pub mod OneSolutionProofs

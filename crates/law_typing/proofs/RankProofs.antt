@@ -20,7 +20,7 @@ ranks_rise g ranks solved a edge there =
     omega (arith, e, most)
 
 -- each edge begins at the node of a channel
-begins : (g : Graph) → Each (λ (a : Arrow). IsIn a.from (nodes g)) (arrows g)
+pub begins : (g : Graph) → Each (λ (a : Arrow). IsIn a.from (nodes g)) (arrows g)
 begins g = each_flat Begins (arrows_from g) g.raised from
   where
     Begins : Arrow → Type 0

@@ -1,7 +1,7 @@
 -- The words of the rules compute.
 use Rattle.std.proofs.Common.{refl}
 use Rattle.law_typing.specs.Typing.{data_in, passing, two_numbers, two_passing, moving, reckoning, comparing, sameness, negating, combining, joining, converting, property_of, getting, changing_none, assigning, place_for, naming, adopting, arguments, emitting, program_named, connecting, on_handlers, attaching, methods_for, method_named, calling, entering, branching, branching_null, returning}
-use Rattle.law_typing.specs.RuleWords.{RuleWords, BindingWords}
+use Rattle.law_typing.specs.RuleWords.{RuleWords, BindingWords, BracketWords}
 
 pub rule_words : RuleWords
 unfolding data_in passing two_numbers two_passing moving reckoning comparing sameness negating combining joining converting property_of getting changing_none assigning place_for naming adopting arguments emitting program_named connecting on_handlers attaching methods_for method_named calling entering branching branching_null returning
@@ -9,3 +9,6 @@ rule_words = record { keeps = refl; unset = refl; kind = refl; null = refl; unkn
 
 pub binding_words : BindingWords
 binding_words = record { keeps = refl; same = refl; readable = refl; writable = refl; construct_only = refl; of_kinds = refl; invert = refl; backwards = refl }
+
+pub bracket_words : BracketWords
+bracket_words = record { nested = refl; crossed = refl; left_open = refl; thaw_first = refl; written_between = refl; result_between = refl; another_written = refl }

@@ -62,13 +62,14 @@ abbrev pub is_readable_one : Option Spec → Bool
 is_readable_one None = false
 is_readable_one (Some s) = is_readable s
 
+-- the spec of a class's property, if there is a class
+abbrev pub spec_if : Definition → ℕ → Option ℕ → Option Spec
+spec_if d slot None = None
+spec_if d slot (Some class) = spec_of d class slot
+
 -- the spec of a property of a place, if it has one at the slot
 abbrev pub spec_at : Definition → (place slot : ℕ) → Option Spec
-spec_at d place slot = of (class_at d place)
-  where
-    of : Option ℕ → Option Spec
-    of None = None
-    of (Some class) = spec_of d class slot
+spec_at d place slot = spec_if d slot (class_at d place)
 
 -- the signals of a place, `notify` first
 abbrev pub signals_at : Definition → ℕ → List Signal

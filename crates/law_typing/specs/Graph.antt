@@ -2,7 +2,7 @@
 use Rattle.std.specs.Prelude.{ℕ, suc, Bool, true, false, cond, not, ◌&&◌, ◌||◌, nat_eq, nat_lt, List, [], ◌∷◌, ◌++◌, length, map, codes, Option, None, Some}
 use Rattle.std.specs.List.{filter, filter_map, flat_map, list_any}
 use Rattle.ui_machine.specs.Seq.{read}
-use Rattle.ui_machine.specs.Properties.{Spec, has_flags, is_readable}
+use Rattle.ui_machine.specs.Properties.{Spec, has_flags}
 use Rattle.ui_machine.specs.Definition.{Definition, Signal, Attached, Instruction, Block, Program, Place, Bind, GivenProperty}
 use Rattle.ui_machine.specs.Definition as words
 use Rattle.ui_machine.specs.Lookups.{slot_of, specs_of, place_of, program_of}
@@ -184,16 +184,16 @@ over d number_in channel ps = present d (filter_map (channel_over d number_in ch
 abbrev pub is_given : (place slot : ℕ) → GivenProperty → Bool
 is_given place slot g = nat_eq g.slot slot && not (is_forward place g.given)
 
--- the built properties of a place, from this slot on: readable, and construct, construct-only or given by a value that is not a forward one
-abbrev pub built_from : (place : ℕ) → List GivenProperty → ℕ → List Spec → List Channel
-built_from place given slot [] = []
-built_from place given slot (s ∷ specs) =
-    cond (is_readable s && (is_at_construction s || list_any (is_given place slot) given)) (property place slot ∷ []) []
-    ++ built_from place given (suc slot) specs
+-- the properties of a place that are set as its object is made, from this slot on: construct, construct-only, or given by a value that is not
+-- a forward one
+abbrev pub set_from : (place : ℕ) → List GivenProperty → ℕ → List Spec → List Channel
+set_from place given slot [] = []
+set_from place given slot (s ∷ specs) =
+    cond (is_at_construction s || list_any (is_given place slot) given) (property place slot ∷ []) [] ++ set_from place given (suc slot) specs
 
--- what the making of a place's object raises: its construction, and its built properties
+-- what the making of a place's object raises: its construction, and its built properties, which are the readable ones of those
 abbrev pub raised_by_making : Definition → ℕ → Place → List Channel
-raised_by_making d place p = present d (constructed place ∷ []) ++ built_from place p.given 0 (specs_of d p.class)
+raised_by_making d place p = present d (constructed place ∷ set_from place p.given 0 (specs_of d p.class))
 
 -- of the places from this number on
 abbrev pub makings_from : Definition → ℕ → List Place → List (List Channel)

@@ -24,6 +24,10 @@ abbrev pub RanksRise : Type 0
 RanksRise =
     (g : Graph) (ranks : Table) → IsRanking g ranks → (a : Arrow) → IsIn a (arrows g) → IsIn a.to (nodes g) → entry ranks a.from < entry ranks a.to
 
+-- in the graph of a definition each edge does
+abbrev pub EdgesLeadToNodes : Type 0
+EdgesLeadToNodes = (d : Definition) (a : Arrow) → IsIn a (arrows (graph d)) → IsIn a.to (nodes (graph d))
+
 -- where there are ranks there is no cycle
 abbrev pub RankedIsAcyclic : Type 0
 RankedIsAcyclic = (g : Graph) (ranks : Table) → IsRanking g ranks → IsAcyclic g

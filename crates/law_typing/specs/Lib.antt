@@ -45,3 +45,5 @@ pub mod WellRead
 pub mod Good
 pub mod LabelChain
 pub mod RuleWords
+pub mod ClassHandlers
+pub mod OneSolution

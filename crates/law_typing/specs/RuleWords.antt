@@ -1,5 +1,5 @@
 -- Each word of a rule that an instruction or a binding may break, told of one that breaks it.
-use Rattle.std.specs.Prelude.{◌≡◌, ℕ, pos, negsuc, false, [], ◌∷◌, codes, Option, None, Some, Ok, Err}
+use Rattle.std.specs.Prelude.{◌≡◌, ℕ, pos, true, negsuc, false, [], ◌∷◌, codes, Option, None, Some, Ok, Err}
 use Rattle.ui_machine.specs.Seq.{read}
 use Rattle.ui_machine.specs.Kinds as kinds
 use Rattle.ui_machine.specs.Values as values
@@ -13,6 +13,7 @@ use Rattle.law_typing.specs.Typing.{typed}
 use Rattle.law_typing.specs.Faults.{BindingWord}
 use Rattle.law_typing.specs.Faults as faults
 use Rattle.law_typing.specs.BindingRules.{word_of}
+use Rattle.law_typing.specs.Brackets.{is_balanced}
 use Rattle.law_typing.specs.Words.{class_type, property, signal, notify, class_of, block, program, object, bind}
 
 abbrev pub definition : Definition
@@ -87,3 +88,13 @@ pub record BindingWords : Type 0 where
   pub invert : from_to 0 0 4 ≡ Some faults.invert
   -- backwards the other end has to be writable
   pub backwards : from_to 2 0 1 ≡ Some faults.writable
+
+-- freezes and thaws that match, and some that do not
+pub record BracketWords : Type 0 where
+  pub nested : is_balanced (words.freeze 0 ∷ words.freeze 0 ∷ words.thaw 0 ∷ words.thaw 0 ∷ words.return None ∷ []) ≡ true
+  pub crossed : is_balanced (words.freeze 0 ∷ words.freeze 1 ∷ words.thaw 0 ∷ words.thaw 1 ∷ words.return None ∷ []) ≡ true
+  pub left_open : is_balanced (words.freeze 0 ∷ words.return None ∷ []) ≡ false
+  pub thaw_first : is_balanced (words.thaw 0 ∷ words.freeze 0 ∷ words.return None ∷ []) ≡ false
+  pub written_between : is_balanced (words.freeze 0 ∷ words.move 0 0 ∷ words.thaw 0 ∷ words.return None ∷ []) ≡ false
+  pub result_between : is_balanced (words.freeze 0 ∷ words.emit (Some 0) 1 (codes "s") None [] ∷ words.thaw 0 ∷ words.return None ∷ []) ≡ false
+  pub another_written : is_balanced (words.freeze 0 ∷ words.move 1 0 ∷ words.thaw 0 ∷ words.return None ∷ []) ≡ true

@@ -1,12 +1,13 @@
 //! What an accepted definition is: typing, edges, ranks, costs, depths and the report, with laws of them.
 #![tactic(auto)]
 
-ghost use Rattle.law_typing.specs.Laws.{RanksRise, RankedIsAcyclic, JudgedIsAccepted, NamesDoNotCount};
+ghost use Rattle.law_typing.specs.Laws.{RanksRise, EdgesLeadToNodes, RankedIsAcyclic, JudgedIsAccepted, NamesDoNotCount};
 ghost use Rattle.law_typing.specs.CostLaws.{CostsSolved, DepthsSolved, EmissionsCover, PairsCover, StartsCover, CodeCovers, BlocksCover, SetsCover, EmitsCover, DepthsCover};
+ghost use Rattle.law_typing.specs.OneSolution.{OneRanking, OneCost, OneDepth};
 ghost use Rattle.law_typing.specs.ChainLaw.{ChainsDouble, ThreeLinks};
 ghost use Rattle.law_typing.specs.NamesLaw.{OneGraph};
 ghost use Rattle.law_typing.specs.Accepted.{Accepted};
-ghost use Rattle.law_typing.specs.RuleWords.{RuleWords, BindingWords};
+ghost use Rattle.law_typing.specs.RuleWords.{RuleWords, BindingWords, BracketWords};
 ghost use Rattle.law_typing.specs.FirstRun as first_run_case;
 ghost use Rattle.law_typing.specs.NothingToDo as nothing_to_do_case;
 ghost use Rattle.law_typing.specs.Freezes as freezes_case;
@@ -17,6 +18,7 @@ ghost use Rattle.law_typing.specs.LastReference as last_reference_case;
 ghost use Rattle.law_typing.specs.MainLoop as main_loop_case;
 ghost use Rattle.law_typing.specs.LabelChain as label_chain_case;
 ghost use Rattle.law_typing.specs.Stickers as stickers_case;
+ghost use Rattle.law_typing.specs.ClassHandlers as class_handlers_case;
 ghost use Rattle.law_typing.specs.Chain as chain_case;
 ghost use Rattle.law_typing.specs.Knobs as knobs_case;
 ghost use Rattle.law_typing.specs.SetConstructOnly as set_construct_only_case;
@@ -40,6 +42,7 @@ pub fn reports()
     ensures main_loop { main_loop_case.Holds }
     ensures label_chain { label_chain_case.Holds }
     ensures stickers { stickers_case.Holds }
+    ensures class_handlers { class_handlers_case.Holds }
     ensures chain { chain_case.Holds }
     ensures knobs { knobs_case.Holds }
 {}
@@ -56,10 +59,11 @@ pub fn refusals()
     ensures too_large { too_large_case.Holds }
 {}
 
-/// Each word of the rules of instructions and of bindings.
+/// Each word of the rules of instructions and of bindings, and which brackets match.
 pub fn words()
     ensures rules { RuleWords }
     ensures bindings { BindingWords }
+    ensures brackets { BracketWords }
 {}
 
 /// What is judged to be accepted is, by ranks, costs and depths that meet their equations; and one definition with a program, a binding, a
@@ -69,9 +73,10 @@ pub fn judgement()
     ensures one { Accepted knobs_case.definition }
 {}
 
-/// A rank rises along each edge, so where there are ranks there is no cycle.
+/// A rank rises along each edge to a node, and in the graph of a definition each edge leads to one; so where there are ranks there is no cycle.
 pub fn ranks()
     ensures rise { RanksRise }
+    ensures lead { EdgesLeadToNodes }
     ensures acyclic { RankedIsAcyclic }
 {}
 
@@ -91,6 +96,13 @@ pub fn costs()
 pub fn depths()
     ensures solved { DepthsSolved }
     ensures cover { DepthsCover }
+{}
+
+/// Without a cycle the equations of ranks, costs and depths have one solution.
+pub fn solutions()
+    ensures ranks { OneRanking }
+    ensures costs { OneCost }
+    ensures depths { OneDepth }
 {}
 
 /// Costs are of the graph alone, in which there are no names.
