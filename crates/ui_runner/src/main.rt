@@ -3,6 +3,8 @@
 
 mod chunk;
 mod definition_file;
+#[cfg(test)]
+mod fakes;
 mod hearing;
 mod line_reader;
 mod listener;
@@ -11,6 +13,8 @@ mod refusal;
 mod run;
 mod story;
 mod telling;
+#[cfg(test)]
+mod tests;
 mod words;
 mod writing;
 
