@@ -7,3 +7,4 @@ pub mod Telling
 pub mod Events
 pub mod Opening
 pub mod OpeningView
+pub mod Files

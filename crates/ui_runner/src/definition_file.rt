@@ -1,7 +1,8 @@
 //! The bytes of a definition, out of a feed.
 
-ghost use Rattle.std.specs.Prelude.{◌≡◌, ◌+◌, take, IfOk, IfSome};
+ghost use Rattle.std.specs.Prelude.{◌≡◌, ◌+◌, take, IfOk, IfSome, MatchResult};
 ghost use Rattle.builder_defs.specs.declared.document.TheConstants.{MAX_BYTES};
+ghost use Rattle.ui_runner.specs.Files.{Marks};
 
 use crate::chunk::Chunk;
 use builder_defs::MAX_BYTES;
@@ -18,18 +19,33 @@ pub enum FileFault {
 }
 
 impl From<DeviceFault> for FileFault {
+    ghost use Rattle.std.specs.Prelude.{◌≡◌};
+    ghost use Rattle.ui_runner.specs.declared.definition_file.FileFault.TheVariants as faults;
+
+    ghost from_gives = { λ fault file_fault. file_fault ≡ faults.Unreadable };
+
     fn from(_fault: DeviceFault) -> FileFault {
         FileFault::Unreadable
     }
 }
 
 impl From<AllocError> for FileFault {
+    ghost use Rattle.std.specs.Prelude.{◌≡◌};
+    ghost use Rattle.ui_runner.specs.declared.definition_file.FileFault.TheVariants as faults;
+
+    ghost from_gives = { λ error file_fault. file_fault ≡ faults.OutOfMemory };
+
     fn from(_error: AllocError) -> FileFault {
         FileFault::OutOfMemory
     }
 }
 
 impl<T: Drop> From<AllocFailed<T>> for FileFault {
+    ghost use Rattle.std.specs.Prelude.{◌≡◌};
+    ghost use Rattle.ui_runner.specs.declared.definition_file.FileFault.TheVariants as faults;
+
+    ghost from_gives = { λ error file_fault. file_fault ≡ faults.OutOfMemory };
+
     fn from(_error: AllocFailed<T>) -> FileFault {
         FileFault::OutOfMemory
     }
@@ -37,7 +53,8 @@ impl<T: Drop> From<AllocFailed<T>> for FileFault {
 
 /// All bytes of a feed, but no more than the limit of a definition and one, by which it is refused.
 pub fn definition_bytes<R: Feed>(alloc: Global, reader: &mut R) -> Result<Vec<u8>, FileFault>
-    ensures { IfOk result (λ bytes. IfSome (R.left reader.old) (λ input. bytes.items ≡ take (MAX_BYTES + 1) input)) }
+    ensures bytes { IfOk result (λ bytes. IfSome (R.left reader.old) (λ input. bytes.items ≡ take (MAX_BYTES + 1) input)) }
+    ensures marks { MatchResult result (λ _. R.failed reader.new ≡ R.failed reader.old) (Marks (R.failed reader.old) (R.failed reader.new)) }
 {
     let mut chunk = Chunk::new();
     let mut bytes = Vec::new(alloc);

@@ -3,6 +3,8 @@
 
 mod chunk;
 mod definition_file;
+#[cfg(test)]
+mod fakes;
 mod hearing;
 mod line_reader;
 mod listener;
@@ -11,16 +13,18 @@ mod refusal;
 mod run;
 mod story;
 mod telling;
+#[cfg(test)]
+mod tests;
 mod words;
 mod writing;
 
 use definition_file::{FileFault, definition_bytes};
 use run::run;
 use std::fs::File;
+use std::io;
 use std::process::ExitCode;
-use std::{env, io};
 use ui_machine::Device;
-use words::{Request, USAGE, WordsFault, read_words};
+use words::{Request, USAGE, WordsFault, given_words, read_words};
 
 /// The most bytes of an event line, without its LF.
 pub const LINE_LIMIT: usize = 65_536;
@@ -31,16 +35,20 @@ pub const MOST_LINES: u64 = 65_536;
 const REFUSED_FOR_MEMORY: &str = "refused: OutOfMemory";
 
 fn main(rt: HostRuntime) -> io::Result<ExitCode> {
-    let Ok(args) = env::args(&rt) else {
-        return usage(&rt);
-    };
-    let Ok(words) = args.collect::<Vec<String>>(rt.alloc()) else {
-        return out_of_memory(&rt);
+    let words = match given_words(&rt) {
+        Ok(words) => words,
+        Err(fault) => return refuse_words(&rt, fault),
     };
     match read_words(rt.alloc(), words.as_slice()) {
         Ok(request) => perform(&rt, request),
-        Err(WordsFault::Usage) => usage(&rt),
-        Err(WordsFault::OutOfMemory) => out_of_memory(&rt),
+        Err(fault) => refuse_words(&rt, fault),
+    }
+}
+
+fn refuse_words(rt: &HostRuntime, fault: WordsFault) -> io::Result<ExitCode> {
+    match fault {
+        WordsFault::Usage => usage(rt),
+        WordsFault::OutOfMemory => out_of_memory(rt),
     }
 }
 

@@ -3,6 +3,7 @@
 use clap::error::ErrorKind;
 use clap::{Arg, ArgMatches, Command, Error};
 use std::alloc::{AllocError, Global};
+use std::{env, io};
 
 /// What is told of words that ask for nothing.
 pub const USAGE: &str = "usage: ui verify DEF | ui run DEF EVENTS";
@@ -27,6 +28,15 @@ impl From<AllocError> for WordsFault {
     }
 }
 
+impl From<io::Error> for WordsFault {
+    fn from(error: io::Error) -> WordsFault {
+        match error.kind() {
+            io::ErrorKind::OutOfMemory => WordsFault::OutOfMemory,
+            _ => WordsFault::Usage,
+        }
+    }
+}
+
 impl From<Error> for WordsFault {
     fn from(error: Error) -> WordsFault {
         match error.kind() {
@@ -48,6 +58,12 @@ fn request_of<'a>(matches: &ArgMatches<'a>) -> Option<Request<'a>> {
     let definition = inner.get_str("DEF")?;
     let events = inner.get_str("EVENTS")?;
     Some(Request { definition, events })
+}
+
+/// The words that the program was started with.
+pub fn given_words(rt: &HostRuntime) -> Result<Vec<String>, WordsFault> {
+    let words = env::args(rt)?.collect::<Vec<String>>(rt.alloc())?;
+    Ok(words)
 }
 
 /// Reads the words, the name of the program first.

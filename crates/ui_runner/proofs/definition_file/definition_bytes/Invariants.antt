@@ -7,6 +7,7 @@ abbrev pub invariant-loop-chunk : goal.invariant-loop-chunk
 invariant-loop-chunk g l = record {
   consumed : Consumes (g.R.Feed.left l.fn.reader) (prepend_known l.chunk (g.R.Feed.left l.reader)) l.bytes.items;
   within : length l.bytes.items ≤ MAX_BYTES + 1;
+  works : g.R.Feed.failed l.reader ≡ g.R.Feed.failed l.fn.reader;
 }
 
 abbrev pub decreases-loop-chunk : goal.decreases-loop-chunk
