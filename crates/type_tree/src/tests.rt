@@ -1,6 +1,9 @@
 //! Worked values.
 
-use crate::{EnumMember, TypeError, TypeFlags, TypeTree};
+use crate::{
+    EnumMember, FlagsMember, MOST_DEPTH, MOST_TYPES, TypeError, TypeFlags, TypeLimit, TypeSort,
+    TypeTree,
+};
 use std::alloc::Global;
 use std::test::Fail;
 
@@ -65,5 +68,79 @@ fn keeps_members(rt: HostRuntime) -> Result<(), Fail> {
     let marks = tree.add_flags("Marks", Vec::new(alloc))?;
     assert_eq!(rt; tree.flags_members(marks).len(), 0);
     assert_eq!(rt; tree.len(), 4);
+    Ok(())
+}
+
+#[test]
+fn tells_of_its_types(rt: HostRuntime) -> Result<(), Fail> {
+    let alloc = rt.alloc();
+    let mut tree = TypeTree::new(alloc)?;
+    let sealed = TypeFlags {
+        is_abstract: true,
+        is_final: true,
+    };
+    let labelled = tree.add_interface("Labelled", &["GInitiallyUnowned"])?;
+    let base = tree.add_class("Base", "GInitiallyUnowned", sealed, &["Labelled"])?;
+    let mut bits = Vec::new(alloc);
+    bits.push(FlagsMember {
+        name: String::from_str(alloc, "FIRST")?,
+        nick: String::from_str(alloc, "first")?,
+        bits: 1,
+    })?;
+    let marks = tree.add_flags("Marks", bits)?;
+    assert!(rt; tree.flags(base).is_abstract && tree.flags(base).is_final);
+    assert_eq!(rt; tree.parent(base), tree.find("GInitiallyUnowned"));
+    assert_eq!(rt; tree.parent(labelled), None);
+    assert!(rt; matches!(tree.interfaces(base), [t] if *t == labelled));
+    assert!(rt; tree.is_flags(marks) && !tree.is_enum(marks));
+    assert_eq!(rt; tree.nick(marks, 1), "first");
+    assert_eq!(rt; tree.nick(marks, 2), "");
+    if let Some(t) = tree.find("Marks") {
+        assert_eq!(rt; tree.name(t), "Marks");
+        assert!(rt; matches!(tree.sort(t), TypeSort::Flags));
+    }
+    Ok(())
+}
+
+#[test]
+fn has_room_for_16_levels(rt: HostRuntime) -> Result<(), Fail> {
+    let alloc = rt.alloc();
+    let mut tree = TypeTree::new(alloc)?;
+    let mut parent = String::from_str(alloc, "GObject")?;
+    for level in 1..MOST_DEPTH {
+        let name = format!(in alloc; "Level{level}")?;
+        let t = tree.add_class(name.as_str(), parent.as_str(), TypeFlags::NONE, &[])?;
+        assert_eq!(rt; tree.depth(t), level + 1);
+        parent = name;
+    }
+    let deeper = tree.add_class("Deeper", parent.as_str(), TypeFlags::NONE, &[]);
+    assert_eq!(rt; deeper, Err(TypeError::Limit(TypeLimit::Depth)));
+    Ok(())
+}
+
+#[test]
+fn has_room_for_256_types(rt: HostRuntime) -> Result<(), Fail> {
+    let alloc = rt.alloc();
+    let mut tree = TypeTree::new(alloc)?;
+    for number in 2..MOST_TYPES {
+        let name = format!(in alloc; "Type{number}")?;
+        let _ = tree.add_interface(name.as_str(), &[])?;
+    }
+    assert_eq!(rt; tree.len(), MOST_TYPES);
+    assert_eq!(rt;
+        tree.add_interface("More", &[]),
+        Err(TypeError::Limit(TypeLimit::Types))
+    );
+    assert_eq!(rt;
+        tree.add_enum("More", Vec::new(alloc)),
+        Err(TypeError::Limit(TypeLimit::Types))
+    );
+    assert_eq!(rt;
+        tree.add_flags("More", Vec::new(alloc)),
+        Err(TypeError::Limit(TypeLimit::Types))
+    );
+    let class = tree.add_class("More", "GObject", TypeFlags::NONE, &[]);
+    assert_eq!(rt; class, Err(TypeError::Limit(TypeLimit::Types)));
+    assert_eq!(rt; tree.add_interface("Type2", &[]), Err(TypeError::Duplicate));
     Ok(())
 }
