@@ -20,7 +20,7 @@ use Rattle.law_typing.specs.Sites.{sites}
 use Rattle.law_typing.specs.Ranks.{Arrow, arrow, arrows, arrows_by, arrows_from, is_raised, node, nodes, running_at, started, started_by}
 use Rattle.law_typing.specs.Accepted.{Each}
 use Rattle.law_typing.specs.Laws.{IsIn, EdgesLeadToNodes}
-use Rattle.law_typing.proofs.Lists.{both_parts, same_channel_true, map_in, any_in, each_in, each_append, each_flat}
+use Rattle.law_typing.proofs.Lists.{both_parts, same_channel_true, same_channel_refl, map_in, any_in, any_true, each_in, each_append, each_flat}
 use Rattle.law_typing.proofs.CostProofs.{listed_in, place_below}
 
 -- ** members
@@ -168,6 +168,12 @@ module _ (d : Definition) where
   node_there c e =
       map_in (λ (r : Raised). node (graph d) r.channel) (graph d).raised (raised_at d (connections d (sites d)) c)
       (map_in (raised_at d (connections d (sites d))) (channels d) c (in_channels d c e))
+
+  -- and it is one of the graph
+  pub channel_is_raised : (c : Channel) → is_channel d c ≡ true → is_raised (graph d) c ≡ true
+  channel_is_raised c e =
+      any_true (λ (r : Raised). same_channel r.channel c) (graph d).raised (raised_at d (connections d (sites d)) c)
+      (map_in (raised_at d (connections d (sites d))) (channels d) c (in_channels d c e)) (same_channel_refl c)
 
   -- so has one that is raised
   raised_there : (c : Channel) → is_raised (graph d) c ≡ true → IsIn (node (graph d) c) (nodes (graph d))

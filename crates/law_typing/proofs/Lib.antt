@@ -11,3 +11,4 @@ pub mod NamesProofs
 pub mod WordProofs
 pub mod EdgeProofs
 pub mod OneSolutionProofs
+pub mod PairProofs

@@ -2,7 +2,7 @@
 use Rattle.std.proofs.Common.{◌≡◌, inl, inr, ◌⊎◌, refl, sym, ap, subst, ◌∙◌, ℕ, ◌≤◌, Bool, true, false, cond, List, [], ◌∷◌, ◌++◌, map, arith}
 use Rattle.std.specs.Prelude.{◌&&◌, ◌||◌, nat_eq}
 use Rattle.std.specs.List.{filter, flat_map, list_any}
-use Rattle.std.proofs.lemmas.Bool.{eqb-true, eq-eqb}
+use Rattle.std.proofs.lemmas.Bool.{eqb-true, eq-eqb, or_left, or_right}
 use Rattle.ui_machine.specs.Seq.{total}
 use Rattle.law_typing.specs.Channels.{Channel, constructed, property, signal, same_channel}
 use Rattle.law_typing.specs.Tables.{entry, greatest}
@@ -77,6 +77,12 @@ any_in test (x ∷ xs) e = at (any_in test xs) (either_part (test x) (list_any t
     at : (list_any test xs ≡ true → (y : _) × IsIn y xs × (test y ≡ true)) → (test x ≡ true) ⊎ (list_any test xs ≡ true) → (y : _) × IsIn y (x ∷ xs) × (test y ≡ true)
     at more (inl t) = (x, inl refl, t)
     at more (inr t) = later (more t)
+
+-- what is there is found
+pub any_true : {A : Type 0} (test : A → Bool) (xs : List A) (x : A) → IsIn x xs → test x ≡ true → list_any test xs ≡ true
+any_true test [] x h e = absurd h
+any_true test (y ∷ ys) x (inl s) e = or_left (test y) (list_any test ys) (ap test (sym s) ∙ e)
+any_true test (y ∷ ys) x (inr h) e = or_right (test y) (list_any test ys) (any_true test ys x h e)
 
 pub each_in : {A : Type 0} (P : A → Type 0) (xs : List A) → Each P xs → (x : A) → IsIn x xs → P x
 each_in P [] all x h = absurd h

@@ -1,7 +1,6 @@
 -- The equations of ranks, costs and depths have one solution.
 use Rattle.std.proofs.Common.{◌≡◌, inl, inr, refl, sym, ap, subst, ◌∙◌, ℕ, zero, suc, ◌+◌, ◌-◌, ◌≤◌, ◌<◌, Bool, true, false, cond, List, [], ◌∷◌, ◌++◌, map, Option, None, Some, arith}
-use Rattle.std.specs.List.{filter, flat_map, find, list_any}
-use Rattle.std.proofs.lemmas.Bool.{or_left, or_right}
+use Rattle.std.specs.List.{filter, flat_map, find}
 use Rattle.ui_machine.specs.Seq.{read, total}
 use Rattle.law_typing.specs.Channels.{Channel, constructed, property, signal, same_channel}
 use Rattle.law_typing.specs.Channels as causes
@@ -12,7 +11,7 @@ use Rattle.law_typing.specs.Costs.{other_end, with_other, node_cost, start_cost,
 use Rattle.law_typing.specs.Depths.{deepest, raised_of, start_depth, program_depth, depth_within, depth_within_if, property_depth, depth_at, channel_depth}
 use Rattle.law_typing.specs.Laws.{IsIn}
 use Rattle.law_typing.specs.OneSolution.{IsPaired, OneRanking, OneCost, OneDepth}
-use Rattle.law_typing.proofs.Lists.{same_channel_true, same_channel_refl, map_in, filter_in, each_in, entry_of}
+use Rattle.law_typing.proofs.Lists.{same_channel_true, same_channel_refl, any_true, map_in, filter_in, each_in, entry_of}
 use Rattle.law_typing.proofs.RankProofs.{ranks_rise, begins}
 use Rattle.law_typing.proofs.EdgeProofs.{append_left, append_right, flat_in}
 
@@ -98,11 +97,6 @@ SameNode g t u c = Same t u c × ((e : Channel) → other_end g c ≡ Some e →
 -- and what an emission at a channel runs and leads to
 abbrev SameParts : Graph → Tables → Tables → Raised → Type 0
 SameParts g t u r = ((q : ℕ) → IsIn q (running_at r) → of_program t q ≡ of_program u q) × ((c : Channel) → IsIn c r.targets → SameNode g t u c)
-
-any_true : {A : Type 0} (test : A → Bool) (xs : List A) (x : A) → IsIn x xs → test x ≡ true → list_any test xs ≡ true
-any_true test [] x h e = absurd h
-any_true test (y ∷ ys) x (inl s) e = or_left (test y) (list_any test ys) (ap test (sym s) ∙ e)
-any_true test (y ∷ ys) x (inr h) e = or_right (test y) (list_any test ys) (any_true test ys x h e)
 
 find_in : {A : Type 0} (test : A → Bool) (xs : List A) (x : A) → find test xs ≡ Some x → IsIn x xs × (test x ≡ true)
 find_in test [] x e = absurd (cc)

@@ -3,7 +3,7 @@
 
 ghost use Rattle.law_typing.specs.Laws.{RanksRise, EdgesLeadToNodes, RankedIsAcyclic, JudgedIsAccepted, NamesDoNotCount};
 ghost use Rattle.law_typing.specs.CostLaws.{CostsSolved, DepthsSolved, EmissionsCover, PairsCover, StartsCover, CodeCovers, BlocksCover, SetsCover, EmitsCover, DepthsCover};
-ghost use Rattle.law_typing.specs.OneSolution.{OneRanking, OneCost, OneDepth};
+ghost use Rattle.law_typing.specs.OneSolution.{OneRanking, OneCost, OneDepth, AcceptedIsPaired, AcceptedOnce};
 ghost use Rattle.law_typing.specs.ChainLaw.{ChainsDouble, ThreeLinks};
 ghost use Rattle.law_typing.specs.NamesLaw.{OneGraph};
 ghost use Rattle.law_typing.specs.Accepted.{Accepted};
@@ -98,11 +98,13 @@ pub fn depths()
     ensures cover { DepthsCover }
 {}
 
-/// Without a cycle the equations of ranks, costs and depths have one solution.
+/// Without a cycle the equations of ranks, costs and depths have one solution, so that an accepted definition has one report.
 pub fn solutions()
     ensures ranks { OneRanking }
     ensures costs { OneCost }
     ensures depths { OneDepth }
+    ensures paired { AcceptedIsPaired }
+    ensures once { AcceptedOnce }
 {}
 
 /// Costs are of the graph alone, in which there are no names.
