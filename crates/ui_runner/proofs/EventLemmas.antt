@@ -1,9 +1,8 @@
 -- What a session's answers are to the lines that it hears.
-use Rattle.std.proofs.Common.{◌≡◌, ℕ, suc, Bool, true, false, List, [], ◌∷◌, ◌++◌, length, drop, Result, Ok, Err, refl, sym, ap, subst, ◌∙◌, inl, inr}
-use Rattle.ui_machine.specs.declared.arm.Halt.TheVariants as halts
+use Rattle.std.proofs.Common.{◌≡◌, ℕ, Bool, true, false, List, [], ◌∷◌, ◌++◌, length, drop, Ok, Err, refl, sym, ap, ◌∙◌, inl, inr}
 use Rattle.ui_machine.specs.Config.{Event}
 use Rattle.ui_machine.specs.Runs.{of_event}
-use Rattle.builder_defs.specs.EventMeaning.{EventRefusal, event_refusal, event_denoted, Fails}
+use Rattle.builder_defs.specs.EventMeaning.{event_refusal, event_denoted, Fails}
 use Rattle.builder_defs.specs.declared.event_fault.EventError.{EventError}
 use Rattle.builder_defs.specs.declared.event_fault.EventError.TheVariants as errors
 use Rattle.ui_engine.specs.Growing.{Longer}
@@ -11,7 +10,6 @@ use Rattle.ui_engine.specs.declared.dispatches.Reply.{Reply}
 use Rattle.ui_engine.specs.declared.session.SessionFault.{SessionFault}
 use Rattle.ui_engine.specs.declared.session.SessionFault.TheVariants as ends
 use Rattle.ui_engine.specs.SessionView.{Standing, Answers}
-use Rattle.ui_runner.specs.Story.{Outcome}
 use Rattle.ui_runner.specs.Telling.{outcome_of, reading_fault, dispatch_fault}
 use Rattle.ui_runner.specs.Events.{Says, event_replies}
 

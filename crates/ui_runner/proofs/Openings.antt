@@ -1,5 +1,5 @@
 -- How a run opens, and what follows.
-use Rattle.std.proofs.Common.{◌≡◌, ◌≢◌, ℕ, List, [], ◌∷◌, ◌++◌, codes, String, Global, Option, Some, None, Result, Ok, Err, refl, sym, ap, subst, ◌∙◌, inl, inr}
+use Rattle.std.proofs.Common.{◌≡◌, ℕ, List, [], ◌∷◌, ◌++◌, codes, String, Global, Option, Some, None, Result, Ok, Err, refl, sym, ap, subst, ◌∙◌, inl, inr}
 use Rattle.std.specs.Prelude.{IfSome, string_bytes}
 use Rattle.std.specs.Io.KnownBytes.{Appends}
 use Rattle.std.proofs.KnownBytes.{Appends-trans}
@@ -17,11 +17,11 @@ use Rattle.builder_defs.specs.FaultText.{refusal_text}
 use Rattle.ui_runner.specs.declared.opening.Opening.TheVariants as code
 use Rattle.ui_runner.specs.OpeningView.{IsOpening, Opened, halt_of}
 use Rattle.ui_runner.specs.Texts.{joined, lines_text, nothing_begun, build_stopped}
-use Rattle.ui_runner.specs.Story.{IsFrontOf, Story}
+use Rattle.ui_runner.specs.Story.{Story}
 use Rattle.ui_runner.specs.Events.{event_replies}
 use Rattle.ui_runner.specs.Writing.{AppendsPart}
 use Rattle.ui_runner.specs.Lines.{lines_of}
-use Rattle.ui_runner.specs.Opening.{Opening, refused, unbegun, built, stopped, Opens, Concludes, Plays, Proceeds, Ran}
+use Rattle.ui_runner.specs.Opening.{Opening, refused, unbegun, built, stopped, Opens, Concludes, Proceeds, Ran}
 
 module _ (bytes : List ℕ) (d : Definition) (s : Standing) (denotes : denoted bytes ≡ Ok d) where
   pub opens_built : (build : Result Reply SessionFault) → Comes build d (of_build d []) s → halt_of build ≡ None → Opens bytes (built s)
