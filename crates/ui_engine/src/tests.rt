@@ -80,7 +80,8 @@ fn builds_nothing(rt: HostRuntime) -> Result<(), Fail> {
 
 #[test]
 fn builds_what_begins_floating(rt: HostRuntime) -> Result<(), Fail> {
-    let definition = r#"{"format":1,"objects":[{"id":"a","class":"GInitiallyUnowned"},{"id":"b","class":"GObject"}]}"#;
+    let definition =
+        r#"{"format":1,"objects":[{"id":"a","class":"GInitiallyUnowned"},{"id":"b","class":"GObject"}]}"#;
     assert_eq!(rt;
         told(rt.alloc(), definition, "")?.as_str(),
         "build\nconstruct #1 GInitiallyUnowned\nconstruct #2 GObject\nend 0\n"
@@ -177,7 +178,10 @@ fn stuck_at(alloc: Global, line: &str) -> Result<(Option<SessionFault>, String),
     if further.err() != Some(SessionFault::Stopped) {
         return Err(Fail::from("the session goes on"));
     }
-    Ok((fault, joined(alloc, session.finish().transcript.as_slice())?))
+    Ok((
+        fault,
+        joined(alloc, session.finish().transcript.as_slice())?,
+    ))
 }
 
 const BOX_BUILT: &str = "build\nconstruct #1 Box\nend 0\n";

@@ -23,4 +23,4 @@ pub returns-clause-grows : goal.returns-clause-grows
 returns-clause-grows c =
     let d = c.args.definition.now in
     first_grows d c.types-types.ensures.basic (config_of d c.args.self.now) (config_of d c.act.new.self) c.requires.held c.in-Some.task c.pop.new.self (c.in-Some.ensures d)
-        c.act.result c.act.ensures.step c.act.ensures.quiet
+    c.act.result c.act.ensures.step c.act.ensures.quiet
