@@ -12,3 +12,6 @@ pub mod WordProofs
 pub mod EdgeProofs
 pub mod OneSolutionProofs
 pub mod PairProofs
+pub mod SettlesProofs
+pub mod SettlesTables
+pub mod ExactProofs

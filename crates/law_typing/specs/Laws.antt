@@ -40,6 +40,11 @@ JudgedIsAccepted =
     (d : Definition) (lines : List (List ℕ)) → inherits d ≡ true → verdict d ≡ accepted lines →
     (a : Accepted d) × (lines ≡ report d (graph d) a.weighed.ranks a.weighed.costs a.weighed.depths)
 
+-- and each accepted definition is judged so, with that report
+abbrev pub AcceptedIsJudged : Type 0
+AcceptedIsJudged =
+    (d : Definition) (a : Accepted d) → verdict d ≡ accepted (report d (graph d) a.weighed.ranks a.weighed.costs a.weighed.depths)
+
 -- ** names
 
 -- ranks, costs and depths are of the graph alone, in which there are no names: where two definitions have one graph they have one ranking,

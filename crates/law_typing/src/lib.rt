@@ -1,7 +1,7 @@
 //! What an accepted definition is: typing, edges, ranks, costs, depths and the report, with laws of them.
 #![tactic(auto)]
 
-ghost use Rattle.law_typing.specs.Laws.{RanksRise, EdgesLeadToNodes, RankedIsAcyclic, JudgedIsAccepted, NamesDoNotCount};
+ghost use Rattle.law_typing.specs.Laws.{RanksRise, EdgesLeadToNodes, RankedIsAcyclic, JudgedIsAccepted, AcceptedIsJudged, NamesDoNotCount};
 ghost use Rattle.law_typing.specs.CostLaws.{CostsSolved, DepthsSolved, EmissionsCover, PairsCover, StartsCover, CodeCovers, BlocksCover, SetsCover, EmitsCover, DepthsCover};
 ghost use Rattle.law_typing.specs.OneSolution.{OneRanking, OneCost, OneDepth, AcceptedIsPaired, AcceptedOnce};
 ghost use Rattle.law_typing.specs.ChainLaw.{ChainsDouble, ThreeLinks};
@@ -66,10 +66,11 @@ pub fn words()
     ensures brackets { BracketWords }
 {}
 
-/// What is judged to be accepted is, by ranks, costs and depths that meet their equations; and one definition with a program, a binding, a
-/// pair and a prototype is.
+/// What is judged to be accepted is, by ranks, costs and depths that meet their equations, and whatever is accepted is judged so. One
+/// definition with a program, a binding, a pair and a prototype is accepted.
 pub fn judgement()
     ensures accepted { JudgedIsAccepted }
+    ensures judged { AcceptedIsJudged }
     ensures one { Accepted knobs_case.definition }
 {}
 
