@@ -15,3 +15,4 @@ pub mod PairProofs
 pub mod SettlesProofs
 pub mod SettlesTables
 pub mod ExactProofs
+pub mod KnobsBeginProofs

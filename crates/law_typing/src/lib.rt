@@ -3,6 +3,7 @@
 
 ghost use Rattle.law_typing.specs.Laws.{RanksRise, EdgesLeadToNodes, RankedIsAcyclic, JudgedIsAccepted, AcceptedIsJudged, NamesDoNotCount};
 ghost use Rattle.law_typing.specs.CostLaws.{CostsSolved, DepthsSolved, EmissionsCover, PairsCover, StartsCover, CodeCovers, BlocksCover, SetsCover, EmitsCover, DepthsCover};
+ghost use Rattle.law_typing.specs.KnobsBegin.{KnobsBegin};
 ghost use Rattle.law_typing.specs.OneSolution.{OneRanking, OneCost, OneDepth, AcceptedIsPaired, AcceptedOnce};
 ghost use Rattle.law_typing.specs.ChainLaw.{ChainsDouble, ThreeLinks};
 ghost use Rattle.law_typing.specs.NamesLaw.{OneGraph};
@@ -72,6 +73,11 @@ pub fn judgement()
     ensures accepted { JudgedIsAccepted }
     ensures judged { AcceptedIsJudged }
     ensures one { Accepted knobs_case.definition }
+{}
+
+/// What each step is to keep holds as the build of that definition begins.
+pub fn beginning()
+    ensures holds { KnobsBegin }
 {}
 
 /// A rank rises along each edge to a node, and in the graph of a definition each edge leads to one; so where there are ranks there is no cycle.
