@@ -16,3 +16,4 @@ pub mod SettlesProofs
 pub mod SettlesTables
 pub mod ExactProofs
 pub mod KnobsBeginProofs
+pub mod CycleProofs

@@ -16,12 +16,12 @@ use Rattle.law_typing.proofs.OneSolutionProofs.{map_same, filtered_kept}
 -- ** counting
 
 -- a list without one entry
-record Without {A : Type 0} (x : A) (xs : List A) : Type 0 where
+pub record Without {A : Type 0} (x : A) (xs : List A) : Type 0 where
   pub rest : List A
   pub shorter : length xs ≡ suc (length rest)
   pub kept : (y : A) → IsIn y xs → (y ≡ x) ⊎ IsIn y rest
 
-without : {A : Type 0} (x : A) (xs : List A) → IsIn x xs → Without x xs
+pub without : {A : Type 0} (x : A) (xs : List A) → IsIn x xs → Without x xs
 without x [] h = absurd h
 without x (y ∷ ys) (inl e) = record { rest = ys; shorter = omega arith; kept = λ z k. by z k }
   where
@@ -61,7 +61,7 @@ counted {A} f (suc m) xs each =
 -- ** a chain has nodes of each rank
 
 -- what is greatest is some entry, if it is anything
-attained : {A : Type 0} (f : A → ℕ) (xs : List A) (m : ℕ) → greatest f xs ≡ suc m → (x : A) × IsIn x xs × (f x ≡ suc m)
+pub attained : {A : Type 0} (f : A → ℕ) (xs : List A) (m : ℕ) → greatest f xs ≡ suc m → (x : A) × IsIn x xs × (f x ≡ suc m)
 attained f [] m e = absurd (omega (arith, e))
 attained {A} f (x ∷ xs) m e = by (eqb_tells (f x) (suc m)) (attained f xs m)
   where

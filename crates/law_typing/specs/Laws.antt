@@ -1,10 +1,10 @@
 -- Laws of ranks, costs and depths, and of what is judged.
-use Rattle.std.specs.Prelude.{◌≡◌, ◌⊎◌, ℕ, ◌<◌, true, List, [], ◌∷◌}
+use Rattle.std.specs.Prelude.{◌≡◌, ◌⊎◌, ℕ, ◌<◌, true, List, [], ◌∷◌, None}
 use Rattle.ui_machine.specs.Definition.{Definition}
-use Rattle.law_typing.specs.Channels.{Entry}
+use Rattle.law_typing.specs.Channels.{Entry, Link}
 use Rattle.law_typing.specs.Graph.{Graph, graph}
 use Rattle.law_typing.specs.Tables.{Table, entry, Tables}
-use Rattle.law_typing.specs.Ranks.{Arrow, arrows, nodes, ranks, IsRanking, IsAcyclic}
+use Rattle.law_typing.specs.Ranks.{Arrow, arrows, nodes, ranks, is_cycle, IsRanking, IsAcyclic}
 use Rattle.law_typing.specs.Costs.{costs, bound}
 use Rattle.law_typing.specs.Depths.{depths}
 use Rattle.law_typing.specs.Inherits.{inherits}
@@ -31,6 +31,10 @@ EdgesLeadToNodes = (d : Definition) (a : Arrow) → IsIn a (arrows (graph d)) �
 -- where there are ranks there is no cycle
 abbrev pub RankedIsAcyclic : Type 0
 RankedIsAcyclic = (g : Graph) (ranks : Table) → IsRanking g ranks → IsAcyclic g
+
+-- and where there are none there is one
+abbrev pub UnrankedHasCycle : Type 0
+UnrankedHasCycle = (g : Graph) → ranks g ≡ None → (links : List Link) × (is_cycle g links ≡ true)
 
 -- ** judgement
 

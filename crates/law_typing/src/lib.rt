@@ -1,7 +1,7 @@
 //! What an accepted definition is: typing, edges, ranks, costs, depths and the report, with laws of them.
 #![tactic(auto)]
 
-ghost use Rattle.law_typing.specs.Laws.{RanksRise, EdgesLeadToNodes, RankedIsAcyclic, JudgedIsAccepted, AcceptedIsJudged, NamesDoNotCount};
+ghost use Rattle.law_typing.specs.Laws.{RanksRise, EdgesLeadToNodes, RankedIsAcyclic, UnrankedHasCycle, JudgedIsAccepted, AcceptedIsJudged, NamesDoNotCount};
 ghost use Rattle.law_typing.specs.CostLaws.{CostsSolved, DepthsSolved, EmissionsCover, PairsCover, StartsCover, CodeCovers, BlocksCover, SetsCover, EmitsCover, DepthsCover};
 ghost use Rattle.law_typing.specs.KnobsBegin.{KnobsBegin};
 ghost use Rattle.law_typing.specs.OneSolution.{OneRanking, OneCost, OneDepth, AcceptedIsPaired, AcceptedOnce};
@@ -80,11 +80,13 @@ pub fn beginning()
     ensures holds { KnobsBegin }
 {}
 
-/// A rank rises along each edge to a node, and in the graph of a definition each edge leads to one; so where there are ranks there is no cycle.
+/// A rank rises along each edge to a node, and in the graph of a definition each edge leads to one. Where there are ranks there is no
+/// cycle, and where there are none there is one.
 pub fn ranks()
     ensures rise { RanksRise }
     ensures lead { EdgesLeadToNodes }
     ensures acyclic { RankedIsAcyclic }
+    ensures cycle { UnrankedHasCycle }
 {}
 
 /// A cost is at least each of the parts that are added to it.
