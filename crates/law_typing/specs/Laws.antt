@@ -10,7 +10,7 @@ use Rattle.law_typing.specs.Depths.{depths}
 use Rattle.law_typing.specs.Inherits.{inherits}
 use Rattle.law_typing.specs.Accepted.{Accepted}
 use Rattle.law_typing.specs.Report.{report}
-use Rattle.law_typing.specs.Verdict.{verdict, accepted}
+use Rattle.law_typing.specs.Verdict.{verdict, accepted, has_cycle}
 
 -- x is one of the entries
 abbrev pub IsIn : {A : Type 0} → A → List A → Type 0
@@ -48,6 +48,10 @@ JudgedIsAccepted =
 abbrev pub AcceptedIsJudged : Type 0
 AcceptedIsJudged =
     (d : Definition) (a : Accepted d) → verdict d ≡ accepted (report d (graph d) a.weighed.ranks a.weighed.costs a.weighed.depths)
+
+-- what is judged to have a cycle has one
+abbrev pub CycleIsReal : Type 0
+CycleIsReal = (d : Definition) → verdict d ≡ has_cycle → (links : List Link) × (is_cycle (graph d) links ≡ true)
 
 -- ** names
 

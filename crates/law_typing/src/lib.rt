@@ -1,7 +1,7 @@
 //! What an accepted definition is: typing, edges, ranks, costs, depths and the report, with laws of them.
 #![tactic(auto)]
 
-ghost use Rattle.law_typing.specs.Laws.{RanksRise, EdgesLeadToNodes, RankedIsAcyclic, UnrankedHasCycle, JudgedIsAccepted, AcceptedIsJudged, NamesDoNotCount};
+ghost use Rattle.law_typing.specs.Laws.{RanksRise, EdgesLeadToNodes, RankedIsAcyclic, UnrankedHasCycle, JudgedIsAccepted, AcceptedIsJudged, CycleIsReal, NamesDoNotCount};
 ghost use Rattle.law_typing.specs.CostLaws.{CostsSolved, DepthsSolved, EmissionsCover, PairsCover, StartsCover, CodeCovers, BlocksCover, SetsCover, EmitsCover, DepthsCover};
 ghost use Rattle.law_typing.specs.KnobsBegin.{KnobsBegin};
 ghost use Rattle.law_typing.specs.OneSolution.{OneRanking, OneCost, OneDepth, AcceptedIsPaired, AcceptedOnce};
@@ -67,11 +67,12 @@ pub fn words()
     ensures brackets { BracketWords }
 {}
 
-/// What is judged to be accepted is, by ranks, costs and depths that meet their equations, and whatever is accepted is judged so. One
-/// definition with a program, a binding, a pair and a prototype is accepted.
+/// What is judged to be accepted is, by ranks, costs and depths that meet their equations, and whatever is accepted is judged so.
+/// What is judged to have a cycle has one. One definition with a program, a binding, a pair and a prototype is accepted.
 pub fn judgement()
     ensures accepted { JudgedIsAccepted }
     ensures judged { AcceptedIsJudged }
+    ensures cycle { CycleIsReal }
     ensures one { Accepted knobs_case.definition }
 {}
 
