@@ -20,6 +20,7 @@ use Rattle.law_typing.specs.Report.{report}
 use Rattle.law_typing.specs.Verdict.{Verdict, accepted, local_faults, most_bound, told, too_large, unless_too_large, by_tables, by_ranks, by_graph, by_faults}
 use Rattle.law_typing.specs.Accepted.{Each, Weighed}
 use Rattle.law_typing.specs.Laws.{JudgedIsAccepted}
+use Rattle.law_typing.proofs.Lists.{both_empty}
 use Rattle.law_typing.proofs.RankProofs.{ranked_is_acyclic}
 use Rattle.law_typing.proofs.SettledProofs.{ranks_are, costs_are, depths_are}
 
@@ -81,10 +82,6 @@ module _ (d : Definition) (g : Graph) (lines : List (List ℕ)) where
 no_faults : (d : Definition) (lines : List (List ℕ)) (faults : List Fault) → by_faults d faults ≡ accepted lines → (faults ≡ []) × (by_graph d (graph d) ≡ accepted lines)
 no_faults d lines [] e = (refl, e)
 no_faults d lines (f ∷ fs) e = absurd (cc)
-
-both_empty : {A : Type 0} (xs ys : List A) → xs ++ ys ≡ [] → (xs ≡ []) × (ys ≡ [])
-both_empty [] ys e = (refl, e)
-both_empty (x ∷ xs) ys e = absurd (cc)
 
 pub judged_is_accepted : JudgedIsAccepted
 judged_is_accepted d lines inherits e =

@@ -12,3 +12,8 @@ pub mod WordProofs
 pub mod EdgeProofs
 pub mod OneSolutionProofs
 pub mod PairProofs
+pub mod SettlesProofs
+pub mod SettlesTables
+pub mod ExactProofs
+pub mod KnobsBeginProofs
+pub mod CycleProofs

@@ -101,6 +101,11 @@ pub each_flat : {A B : Type 0} (P : B → Type 0) (f : A → List B) (xs : List 
 each_flat P f [] all = tt
 each_flat P f (x ∷ xs) all = each_append P (f x) (flat_map f xs) (all x (inl refl)) (each_flat P f xs (λ y h. all y (inr h)))
 
+-- two lists without entries
+pub both_empty : {A : Type 0} (xs ys : List A) → xs ++ ys ≡ [] → (xs ≡ []) × (ys ≡ [])
+both_empty [] ys e = (refl, e)
+both_empty (x ∷ xs) ys e = absurd (cc)
+
 -- ** numbers
 
 pub greatest_in : {A : Type 0} (f : A → ℕ) (xs : List A) (x : A) → IsIn x xs → f x ≤ greatest f xs

@@ -17,35 +17,35 @@ use Rattle.law_typing.proofs.EdgeProofs.{append_left, append_right, flat_in}
 
 -- ** sums of equal parts
 
-greatest_same : {A : Type 0} (f h : A → ℕ) (xs : List A) → ((x : A) → IsIn x xs → f x ≡ h x) → greatest f xs ≡ greatest h xs
+pub greatest_same : {A : Type 0} (f h : A → ℕ) (xs : List A) → ((x : A) → IsIn x xs → f x ≡ h x) → greatest f xs ≡ greatest h xs
 greatest_same f h [] same = refl
 greatest_same f h (x ∷ xs) same =
     let a = same x (inl refl) in
     let b = greatest_same f h xs (λ y k. same y (inr k)) in
     cc
 
-total_same : {A : Type 0} (f h : A → ℕ) (xs : List A) → ((x : A) → IsIn x xs → f x ≡ h x) → total f xs ≡ total h xs
+pub total_same : {A : Type 0} (f h : A → ℕ) (xs : List A) → ((x : A) → IsIn x xs → f x ≡ h x) → total f xs ≡ total h xs
 total_same f h [] same = refl
 total_same f h (x ∷ xs) same =
     let a = same x (inl refl) in
     let b = total_same f h xs (λ y k. same y (inr k)) in
     cc
 
-map_same : {A B : Type 0} (f h : A → B) (xs : List A) → ((x : A) → IsIn x xs → f x ≡ h x) → map f xs ≡ map h xs
+pub map_same : {A B : Type 0} (f h : A → B) (xs : List A) → ((x : A) → IsIn x xs → f x ≡ h x) → map f xs ≡ map h xs
 map_same f h [] same = refl
 map_same f h (x ∷ xs) same =
     let a = same x (inl refl) in
     let b = map_same f h xs (λ y k. same y (inr k)) in
     cc
 
-read_map_same : {A : Type 0} (f h : List A → ℕ) (xs : List (List A)) (i : ℕ) → f (read [] xs i) ≡ h (read [] xs i) → read 0 (map f xs) i ≡ read 0 (map h xs) i
+pub read_map_same : {A : Type 0} (f h : List A → ℕ) (xs : List (List A)) (i : ℕ) → f (read [] xs i) ≡ h (read [] xs i) → read 0 (map f xs) i ≡ read 0 (map h xs) i
 read_map_same f h [] i e = refl
 read_map_same f h (x ∷ xs) zero e = e
 read_map_same f h (x ∷ xs) (suc i) e = read_map_same f h xs i e
 
 -- ** one ranking
 
-filtered_kept : {A : Type 0} (test : A → Bool) (xs : List A) (x : A) → IsIn x (filter test xs) → (test x ≡ true) × IsIn x xs
+pub filtered_kept : {A : Type 0} (test : A → Bool) (xs : List A) (x : A) → IsIn x (filter test xs) → (test x ≡ true) × IsIn x xs
 filtered_kept test [] x h = absurd h
 filtered_kept {A} test (y ∷ ys) x h = by (test y) refl (filtered_kept test ys x) h
   where
@@ -87,18 +87,18 @@ one_ranking g r u solves_r solves_u =
 -- ** what the tables say of a channel
 
 -- two tables give a channel the same number
-abbrev Same : Tables → Tables → Channel → Type 0
+abbrev pub Same : Tables → Tables → Channel → Type 0
 Same t u c = entry t.channels c ≡ entry u.channels c
 
 -- and the other end of its pair
-abbrev SameNode : Graph → Tables → Tables → Channel → Type 0
+abbrev pub SameNode : Graph → Tables → Tables → Channel → Type 0
 SameNode g t u c = Same t u c × ((e : Channel) → other_end g c ≡ Some e → Same t u e)
 
 -- and what an emission at a channel runs and leads to
-abbrev SameParts : Graph → Tables → Tables → Raised → Type 0
+abbrev pub SameParts : Graph → Tables → Tables → Raised → Type 0
 SameParts g t u r = ((q : ℕ) → IsIn q (running_at r) → of_program t q ≡ of_program u q) × ((c : Channel) → IsIn c r.targets → SameNode g t u c)
 
-find_in : {A : Type 0} (test : A → Bool) (xs : List A) (x : A) → find test xs ≡ Some x → IsIn x xs × (test x ≡ true)
+pub find_in : {A : Type 0} (test : A → Bool) (xs : List A) (x : A) → find test xs ≡ Some x → IsIn x xs × (test x ≡ true)
 find_in test [] x e = absurd (cc)
 find_in {A} test (y ∷ ys) x e = by (test y) refl (find_in test ys x) e
   where
@@ -109,7 +109,7 @@ find_in {A} test (y ∷ ys) x e = by (test y) refl (find_in test ys x) e
     by true is more f = let s : x ≡ y = cc in (inl s, ap test s ∙ is)
     by false is more f = later (more f)
 
-entry_below : (t : Table) (c : Channel) → entry t c ≤ greatest (λ (x : Channel × ℕ). x.1) t
+pub entry_below : (t : Table) (c : Channel) → entry t c ≤ greatest (λ (x : Channel × ℕ). x.1) t
 entry_below [] c = omega arith
 entry_below (x ∷ xs) c = by (same_channel x.0 c) (entry_below xs c)
   where
@@ -117,7 +117,7 @@ entry_below (x ∷ xs) c = by (same_channel x.0 c) (entry_below xs c)
     by true h = omega arith
     by false h = omega (arith, h)
 
-entry_same : (f h : Raised → ℕ) (rs : List Raised) (c : Channel) → ((r : Raised) → IsIn r rs → r.channel ≡ c → f r ≡ h r) →
+pub entry_same : (f h : Raised → ℕ) (rs : List Raised) (c : Channel) → ((r : Raised) → IsIn r rs → r.channel ≡ c → f r ≡ h r) →
     entry (map (λ (r : Raised). (r.channel, f r)) rs) c ≡ entry (map (λ (r : Raised). (r.channel, h r)) rs) c
 entry_same f h [] c same = refl
 entry_same f h (r ∷ rs) c same = by (same_channel r.channel c) refl (entry_same f h rs c (λ x k. same x (inr k)))
@@ -131,7 +131,7 @@ entry_same f h (r ∷ rs) c same = by (same_channel r.channel c) refl (entry_sam
 
 module _ (g : Graph) (ranks : Table) (solved : IsRanking g ranks) where
   -- a channel is above another one, if its node is one of the graph
-  abbrev Beyond : Channel → Channel → Type 0
+  abbrev pub Beyond : Channel → Channel → Type 0
   Beyond from k = (r : Raised) → IsIn r g.raised → node g r.channel ≡ node g k → entry ranks (node g from) < entry ranks (node g k)
 
   edge_beyond : (from : Channel) (by : causes.Cause) (k : Channel) → IsIn (arrow g from by k) (arrows g) → Beyond from k
@@ -139,7 +139,7 @@ module _ (g : Graph) (ranks : Table) (solved : IsRanking g ranks) where
       ranks_rise g ranks solved (arrow g from by k) edge
       (subst (λ c. IsIn c (nodes g)) e (map_in (λ (r : Raised). node g r.channel) g.raised r h))
 
-  started_beyond : (r : Raised) → IsIn r g.raised → (q : ℕ) → IsIn q (running_at r) → (k : Channel) → IsIn k (started_by g q) → Beyond r.channel k
+  pub started_beyond : (r : Raised) → IsIn r g.raised → (q : ℕ) → IsIn q (running_at r) → (k : Channel) → IsIn k (started_by g q) → Beyond r.channel k
   started_beyond r h q runs k starts =
       edge_beyond r.channel (causes.program q) k
       (flat_in (arrows_from g) g.raised r (arrow g r.channel (causes.program q) k) h
@@ -148,7 +148,7 @@ module _ (g : Graph) (ranks : Table) (solved : IsRanking g ranks) where
       (flat_in (arrows_by g r.channel) (running_at r) q (arrow g r.channel (causes.program q) k) runs
       (map_in (arrow g r.channel (causes.program q)) (started_by g q) k starts))))
 
-  target_beyond : (r : Raised) → IsIn r g.raised → (c : Channel) → IsIn c r.targets → is_raised g c ≡ true → Beyond r.channel c
+  pub target_beyond : (r : Raised) → IsIn r g.raised → (c : Channel) → IsIn c r.targets → is_raised g c ≡ true → Beyond r.channel c
   target_beyond r h c leads there =
       edge_beyond r.channel causes.binding c
       (flat_in (arrows_from g) g.raised r (arrow g r.channel causes.binding c) h
@@ -274,7 +274,7 @@ module _ (g : Graph) (t u : Tables) where
       ap (λ c. (c + greatest (λ to. read 0 (path_costs g t (suc n) more) (to - suc n)) s.next) ∷ path_costs g t (suc n) more) here
       ∙ ap (λ (ls : List ℕ). (starts_cost g u s.starts + greatest (λ to. read 0 ls (to - suc n)) s.next) ∷ ls) later
 
-  program_cost_same : (stretches : List Stretch) →
+  pub program_cost_same : (stretches : List Stretch) →
       ((s : Stretch) → IsIn s stretches → (i : Start) → IsIn i s.starts → (k : Channel) → IsIn k (started i) → SameNode g t u k) →
       program_cost g t stretches ≡ program_cost g u stretches
   program_cost_same stretches same = ap (λ ls. read 0 ls 0) (path_costs_same 0 stretches same)
@@ -302,7 +302,7 @@ module _ (g : Graph) (t u : Tables) where
       let d = total_same (λ c. 1 + node_cost g t c) (λ c. 1 + node_cost g u c) r.targets (λ c h. ap (λ n. 1 + n) (node_cost_same c (same.1 c h))) in
       cc
 
-  cost_at_same : (r : Raised) (c : Channel) → SameParts g t u r → cost_at g t r c ≡ cost_at g u r c
+  pub cost_at_same : (r : Raised) (c : Channel) → SameParts g t u r → cost_at g t r c ≡ cost_at g u r c
   cost_at_same r (constructed place) same = handlers_same r same
   cost_at_same r (property place slot) same = emission_same r same
   cost_at_same r (signal place number) same = emission_same r same
@@ -323,7 +323,7 @@ module _ (g : Graph) (t u : Tables) where
   start_depth_same (raises cs) same = deepest_same cs same
   start_depth_same (makes cs) same = ap (λ n. 1 + n) (deepest_same cs same)
 
-  program_depth_same : (stretches : List Stretch) →
+  pub program_depth_same : (stretches : List Stretch) →
       ((s : Stretch) → IsIn s stretches → (i : Start) → IsIn i s.starts → (k : Channel) → IsIn k (started i) → SameNode g t u k) →
       program_depth t stretches ≡ program_depth u stretches
   program_depth_same stretches same =
@@ -349,7 +349,7 @@ module _ (g : Graph) (t u : Tables) where
       let b = within_if_same (raised_of g e) (λ other found. others e other refl found) in
       cc
 
-  depth_at_same : (r : Raised) (c : Channel) → SameParts g t u r →
+  pub depth_at_same : (r : Raised) (c : Channel) → SameParts g t u r →
       ((e : Channel) (other : Raised) → other_end g c ≡ Some e → raised_of g e ≡ Some other → SameParts g t u other) → depth_at g t r c ≡ depth_at g u r c
   depth_at_same r (constructed place) same others = within_same r same
   depth_at_same r (property place slot) same others = property_same r (other_end g (property place slot)) same others

@@ -1,5 +1,5 @@
 -- The pairs of an accepted definition: no two share an end, and both ends of each are channels of one node.
-use Rattle.std.proofs.Common.{◌≡◌, inl, inr, refl, sym, ap, subst, ◌∙◌, ℕ, suc, Bool, true, false, cond, List, [], ◌∷◌, ◌++◌, map, Option, None, Some}
+use Rattle.std.proofs.Common.{◌≡◌, inl, inr, refl, sym, ap, subst, ◌∙◌, ℕ, suc, Bool, true, false, cond, List, [], ◌∷◌, map, Option, None, Some}
 use Rattle.std.specs.Prelude.{not, ◌&&◌, ◌||◌}
 use Rattle.std.specs.List.{filter, list_any}
 use Rattle.std.proofs.lemmas.Bool.{or_parts}
@@ -9,14 +9,14 @@ use Rattle.ui_machine.specs.Definition.{Definition, Bind}
 use Rattle.law_typing.specs.Channels.{Channel, same_channel, spec_at, is_readable_one, is_channel, is_pair, source_of, target_of}
 use Rattle.law_typing.specs.Faults.{BindingWord, Fault}
 use Rattle.law_typing.specs.Faults as words
-use Rattle.law_typing.specs.BindingRules.{or_word, first_word, is_invertible, word_between, word_of, fault_of, faults_from, shares_end, is_second, second_from}
+use Rattle.law_typing.specs.BindingRules.{or_word, first_word, is_invertible, word_between, word_of, fault_of, faults_from, shares_end, is_second, second_from, binding_faults, pair_faults}
 use Rattle.law_typing.specs.Graph.{graph, is_before, in_order, pairs_of}
 use Rattle.law_typing.specs.Ranks.{node_in}
 use Rattle.law_typing.specs.Costs.{other_end_in}
 use Rattle.law_typing.specs.Accepted.{Each}
 use Rattle.law_typing.specs.Laws.{IsIn}
-use Rattle.law_typing.specs.OneSolution.{AcceptedIsPaired, AcceptedOnce}
-use Rattle.law_typing.proofs.Lists.{same_channel_true, same_channel_refl}
+use Rattle.law_typing.specs.OneSolution.{IsPaired, AcceptedIsPaired, AcceptedOnce}
+use Rattle.law_typing.proofs.Lists.{same_channel_true, same_channel_refl, both_empty}
 use Rattle.law_typing.proofs.EdgeProofs.{channel_is_raised}
 use Rattle.law_typing.proofs.OneSolutionProofs.{one_ranking, one_cost, one_depth}
 
@@ -89,10 +89,6 @@ one_node (p ∷ ps) c e apart is = by (same_channel p.0 c) (same_channel p.1 c) 
         ap (λ b. cond b p.0 (node_in ps c)) k ∙ (more is ∙ sym (ap (λ b. cond b p.0 (node_in ps e)) other))
 
 -- ** what no fault says
-
-both_empty : {A : Type 0} (xs ys : List A) → xs ++ ys ≡ [] → (xs ≡ []) × (ys ≡ [])
-both_empty [] ys e = (refl, e)
-both_empty (x ∷ xs) ys e = absurd (cc)
 
 no_word : (binding : ℕ) (w : Option BindingWord) → fault_of binding w ≡ [] → w ≡ None
 no_word binding None e = refl
@@ -254,10 +250,10 @@ readable_ends : (d : Definition) (bs : List Bind) → Each (λ b. word_of d b �
 readable_ends d [] all = tt
 readable_ends d (b ∷ bs) all = (λ h. pair_read d b h all.0, readable_ends d bs all.1)
 
-pub accepted_is_paired : AcceptedIsPaired
-accepted_is_paired d a =
-    let none = no_words d 0 d.bindings a.bindings in
-    let apart = disjoint d [] d.bindings none (no_second [] 0 d.bindings a.pairs) in
+pub paired_by : (d : Definition) → binding_faults d ≡ [] → pair_faults d ≡ [] → IsPaired (graph d)
+paired_by d bindings pairs =
+    let none = no_words d 0 d.bindings bindings in
+    let apart = disjoint d [] d.bindings none (no_second [] 0 d.bindings pairs) in
     let ends =
     each_pair (λ (p : Channel × Channel). (is_channel d p.0 ≡ true) × (is_channel d p.1 ≡ true)) d.bindings
     (each_to (λ b. is_pair b ≡ true → PairRead d b)
@@ -268,6 +264,9 @@ accepted_is_paired d a =
       node = λ c e is. one_node (pairs_of d.bindings) c e apart is;
       raised = λ c e is h. channel_is_raised d c (end_in (λ c. is_channel d c ≡ true) (pairs_of d.bindings) c e ends is);
     }
+
+pub accepted_is_paired : AcceptedIsPaired
+accepted_is_paired d a = paired_by d a.bindings a.pairs
 
 pub accepted_once : AcceptedOnce
 accepted_once d a b =

@@ -120,10 +120,10 @@ module _ (g : Graph) (channel_of : Tables → Raised → ℕ) (programs_by : Tab
 
 pub costs_are : (g : Graph) (u : Tables) → costs g ≡ Some u → SolvesCosts g u
 costs_are g u e =
-    let s = solved g (channel_cost g) (λ t. map (program_cost g t) g.programs) (2 + length g.raised) (no_tables g) u (record { number = λ r. 0; is = refl }) e in
+    let s = solved g (channel_cost g) (λ t. map (program_cost g t) g.programs) (3 + length g.raised) (no_tables g) u (record { number = λ r. 0; is = refl }) e in
     record { channels = s.1; programs = s.0 }
 
 pub depths_are : (g : Graph) (u : Tables) → depths g ≡ Some u → SolvesDepths g u
 depths_are g u e =
-    let s = solved g (channel_depth g) (λ t. map (program_depth t) g.programs) (2 + length g.raised) (no_tables g) u (record { number = λ r. 0; is = refl }) e in
+    let s = solved g (channel_depth g) (λ t. map (program_depth t) g.programs) (3 + length g.raised) (no_tables g) u (record { number = λ r. 0; is = refl }) e in
     record { channels = s.1; programs = s.0 }

@@ -109,9 +109,9 @@ pub record SolvesCosts (g : Graph) (t : Tables) : Type 0 where
 abbrev pub no_tables : Graph → Tables
 no_tables g = record { channels = map (λ (r : Raised). (r.channel, 0)) g.raised; programs = map (λ (p : List Stretch). 0) g.programs }
 
--- the costs, where the graph has no cycle: they are reached in as many goes as there are channels, and two
+-- the costs, where the graph has no cycle: they are reached in as many goes as there are channels, and three
 abbrev pub costs : Graph → Option Tables
-costs g = settled same_tables (2 + length g.raised) (λ t. channels_by g (programs_by g t)) (no_tables g)
+costs g = settled same_tables (3 + length g.raised) (λ t. channels_by g (programs_by g t)) (no_tables g)
 
 -- ** entries
 

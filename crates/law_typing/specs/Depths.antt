@@ -70,7 +70,7 @@ pub record SolvesDepths (g : Graph) (t : Tables) : Type 0 where
 
 -- the depths, where the graph has no cycle
 abbrev pub depths : Graph → Option Tables
-depths g = settled same_tables (2 + length g.raised) (λ t. channels_by g (programs_by g t)) (no_tables g)
+depths g = settled same_tables (3 + length g.raised) (λ t. channels_by g (programs_by g t)) (no_tables g)
 
 -- the making of an object: its construction's frame, and the most above it
 abbrev pub making_depth : Tables → List Channel → ℕ

@@ -148,8 +148,8 @@ abbrev pub ObjectsGood : Definition → World → Type 0
 ObjectsGood d w = (id : ℕ) (o : Object) → heap.find w.objects id ≡ Some o → ObjectGood d w (standing w.objects) id o
 
 -- A peer that a place names is in the pool, of the shape of the place's class, and open while no object has got it. What the builder has
--- still to make finds its own there.
-pub record PoolGood (d : Definition) (w : World) (place : ℕ) (p : Place) (name : List ℕ) : Type 0 where
+-- still to make, after so many objects, finds its own there.
+pub record PoolGood (d : Definition) (w : World) (made place : ℕ) (p : Place) (name : List ℕ) : Type 0 where
   pub number : ℕ
   pub peer : Peer
   pub shape : ℕ
@@ -159,10 +159,10 @@ pub record PoolGood (d : Definition) (w : World) (place : ℕ) (p : Place) (name
   pub of_class : nearest_shape most_depth d p.class ≡ Some shape
   pub shaped : (slice_get d.shapes shape ≡ Some methods) × (peer.state.shape ≡ methods.methods)
   pub is_open : peer.holder ≡ None → peer.state.is_open ≡ true
-  pub left : p.is_prototype ≡ false → length w.builder ≤ place → peer.holder ≡ None
+  pub left : p.is_prototype ≡ false → made ≤ place → peer.holder ≡ None
 
-abbrev pub PeersGood : Definition → World → Type 0
-PeersGood d w = (place : ℕ) (p : Place) → place_at d place ≡ Some p → Each (PoolGood d w place p) p.peers
+abbrev pub PeersGood : Definition → World → (made : ℕ) → Type 0
+PeersGood d w made = (place : ℕ) (p : Place) → place_at d place ≡ Some p → Each (PoolGood d w made place p) p.peers
 
 -- ** handlers, bindings, sources, the builder
 
@@ -455,10 +455,12 @@ step_depth depths place (sets slot v) = entry depths.channels (property place sl
 step_depth depths place (runs program) = of_program depths program
 step_depth depths place thaws = 0
 
-pub record ConstructingGood (d : Definition) (costs depths : Tables) (s : Standing) (id : ℕ) (todo : List Making) (steps frames : ℕ) : Type 0 where
+pub record ConstructingGood (d : Definition) (costs depths : Tables) (w : World) (id : ℕ) (todo : List Making) (held : Bool) (steps frames : ℕ) : Type 0 where
   pub place : ℕ
-  pub is : s id ≡ Some place
-  pub fits : Each (MakingGood d s place) todo
+  pub is : standing w.objects id ≡ Some place
+  -- what the builder makes is of the place that it comes to next
+  pub for_builder : held ≡ true → place ≡ length w.builder
+  pub fits : Each (MakingGood d (standing w.objects) place) todo
   pub cheap : total (step_cost d costs place) todo ≤ steps
   pub shallow : Each (λ m. 1 + step_depth depths place m ≤ frames) todo
   pub one : 1 ≤ frames
@@ -568,7 +570,7 @@ TaskGood d costs depths w up below (Running program block at passes into registe
 TaskGood d costs depths w up below (Answering source) steps frames = Suits d (Some kinds.bool) up
 TaskGood d costs depths w up below (Calling object peer method args to) steps frames = TakesNone up × CallingGood d w below object peer method args to
 TaskGood d costs depths w up below (Constructing id todo held) steps frames =
-    TakesNone up × ConstructingGood d costs depths (standing w.objects) id todo steps frames
+    TakesNone up × ConstructingGood d costs depths w id todo held steps frames
 TaskGood d costs depths w up below (Building items) steps frames =
     TakesNone up × (total (item_cost d costs) items ≤ steps) × Each (λ item. item_depth d depths item ≤ frames) items
 TaskGood d costs depths w up below (Carrying event) steps frames = TakesNone up × CarryingGood d costs depths w event steps frames
@@ -654,7 +656,7 @@ pub record Good (d : Definition) (costs depths : Tables) (most_counted most : �
   pub bindings : Each (BindingGood d (standing c.world.objects) c.agenda c.world.objects) c.world.bindings
   pub sources : Each (SourceGood d (standing c.world.objects)) c.world.sources
   -- the peers of the pool are there for those that want them
-  pub peers : PeersGood d c.world
+  pub peers : PeersGood d c.world (length c.world.builder + total is_for_builder c.agenda)
   -- the build goes on where it was, and what the builder holds lives at its place
   pub build : BuildGood d c.world c.agenda c.agenda
   pub held : HeldGood (standing c.world.objects) c.world.builder
@@ -678,7 +680,7 @@ pub record Resting (d : Definition) (costs depths : Tables) (w : World) : Type 0
   pub handlers : HandlersGood d costs depths (standing w.objects) w.handlers
   pub bindings : Each (BindingGood d (standing w.objects) [] w.objects) w.bindings
   pub sources : Each (SourceGood d (standing w.objects)) w.sources
-  pub peers : PeersGood d w
+  pub peers : PeersGood d w (length w.builder)
   pub held : HeldGood (standing w.objects) w.builder
   pub floating : w.floating ≡ []
   pub thawed : (id : ℕ) (o : Object) → heap.find w.objects id ≡ Some o → (o.freezes ≡ 0) × (o.queue ≡ [])

@@ -5,8 +5,9 @@ use Rattle.ui_machine.specs.Seq.{read}
 use Rattle.ui_machine.specs.Properties.{Spec, has_flags}
 use Rattle.ui_machine.specs.Definition.{Definition, Signal, Attached, Instruction, Block, Program, Place, Bind, GivenProperty}
 use Rattle.ui_machine.specs.Definition as words
-use Rattle.ui_machine.specs.Lookups.{slot_of, specs_of, place_of, program_of}
+use Rattle.ui_machine.specs.Lookups.{slot_of, specs_of, place_at, place_of, program_of}
 use Rattle.ui_machine.specs.Emissions.{signal_of, class_handler_of}
+use Rattle.ui_machine.specs.Programs.{is_number}
 use Rattle.ui_machine.specs.Connections.{signal_number}
 use Rattle.ui_machine.specs.Builds.{is_at_construction, is_forward}
 use Rattle.law_typing.specs.RegisterKinds.{Kinds, kind_in, class_at, places}
@@ -48,11 +49,6 @@ pub record Graph : Type 0 where
 
 -- ** what runs at a channel
 
--- whether there is a number, and it is n
-abbrev pub is_number : ℕ → Option ℕ → Bool
-is_number n None = false
-is_number n (Some m) = nat_eq m n
-
 -- whether a detail, if there is one, names the property of the slot
 abbrev pub names_slot : Definition → (class slot : ℕ) → Option (List ℕ) → Bool
 names_slot d class slot None = true
@@ -75,7 +71,7 @@ abbrev pub listed_if : {A : Type 0} → Option A → List A
 listed_if None = []
 listed_if (Some x) = x ∷ []
 
--- the signal of a class by its number
+-- the program that a class runs for a signal, if the signal is there
 abbrev pub handler_of_signal : Definition → ℕ → Option Signal → List ℕ
 handler_of_signal d class None = []
 handler_of_signal d class (Some s) = listed_if (class_handler_of d class s.name)
@@ -101,13 +97,14 @@ stages_at d (signal place number) = of (class_at d place)
     of None = 0
     of (Some class) = stages_of (signal_of d class number)
 
+-- the signals of a place, if there is one
+abbrev pub signals_of : Option Place → List Attached
+signals_of None = []
+signals_of (Some p) = p.signals
+
 -- the signals that an object of the definition names for itself
 abbrev pub attached_to : Definition → ℕ → List Attached
-attached_to d place = signals_of (read None (map Some d.places) place)
-  where
-    signals_of : Option Place → List Attached
-    signals_of None = []
-    signals_of (Some p) = p.signals
+attached_to d place = signals_of (place_at d place)
 
 -- the programs of those that can mean the channel
 abbrev pub attached_for : Definition → Channel → ℕ → List ℕ

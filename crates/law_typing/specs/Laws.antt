@@ -1,16 +1,16 @@
 -- Laws of ranks, costs and depths, and of what is judged.
-use Rattle.std.specs.Prelude.{◌≡◌, ◌⊎◌, ℕ, ◌<◌, true, List, [], ◌∷◌}
+use Rattle.std.specs.Prelude.{◌≡◌, ◌⊎◌, ℕ, ◌<◌, true, List, [], ◌∷◌, None}
 use Rattle.ui_machine.specs.Definition.{Definition}
-use Rattle.law_typing.specs.Channels.{Entry}
+use Rattle.law_typing.specs.Channels.{Entry, Link}
 use Rattle.law_typing.specs.Graph.{Graph, graph}
 use Rattle.law_typing.specs.Tables.{Table, entry, Tables}
-use Rattle.law_typing.specs.Ranks.{Arrow, arrows, nodes, ranks, IsRanking, IsAcyclic}
+use Rattle.law_typing.specs.Ranks.{Arrow, arrows, nodes, ranks, is_cycle, IsRanking, IsAcyclic}
 use Rattle.law_typing.specs.Costs.{costs, bound}
 use Rattle.law_typing.specs.Depths.{depths}
 use Rattle.law_typing.specs.Inherits.{inherits}
 use Rattle.law_typing.specs.Accepted.{Accepted}
 use Rattle.law_typing.specs.Report.{report}
-use Rattle.law_typing.specs.Verdict.{verdict, accepted}
+use Rattle.law_typing.specs.Verdict.{verdict, accepted, has_cycle}
 
 -- x is one of the entries
 abbrev pub IsIn : {A : Type 0} → A → List A → Type 0
@@ -32,6 +32,10 @@ EdgesLeadToNodes = (d : Definition) (a : Arrow) → IsIn a (arrows (graph d)) �
 abbrev pub RankedIsAcyclic : Type 0
 RankedIsAcyclic = (g : Graph) (ranks : Table) → IsRanking g ranks → IsAcyclic g
 
+-- and where there are none there is one
+abbrev pub UnrankedHasCycle : Type 0
+UnrankedHasCycle = (g : Graph) → ranks g ≡ None → (links : List Link) × (is_cycle g links ≡ true)
+
 -- ** judgement
 
 -- what is judged to be accepted is, and the report tells its ranks, costs and depths
@@ -39,6 +43,15 @@ abbrev pub JudgedIsAccepted : Type 0
 JudgedIsAccepted =
     (d : Definition) (lines : List (List ℕ)) → inherits d ≡ true → verdict d ≡ accepted lines →
     (a : Accepted d) × (lines ≡ report d (graph d) a.weighed.ranks a.weighed.costs a.weighed.depths)
+
+-- and each accepted definition is judged so, with that report
+abbrev pub AcceptedIsJudged : Type 0
+AcceptedIsJudged =
+    (d : Definition) (a : Accepted d) → verdict d ≡ accepted (report d (graph d) a.weighed.ranks a.weighed.costs a.weighed.depths)
+
+-- what is judged to have a cycle has one
+abbrev pub CycleIsReal : Type 0
+CycleIsReal = (d : Definition) → verdict d ≡ has_cycle → (links : List Link) × (is_cycle (graph d) links ≡ true)
 
 -- ** names
 

@@ -47,3 +47,4 @@ pub mod LabelChain
 pub mod RuleWords
 pub mod ClassHandlers
 pub mod OneSolution
+pub mod KnobsBegin

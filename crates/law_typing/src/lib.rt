@@ -1,8 +1,9 @@
 //! What an accepted definition is: typing, edges, ranks, costs, depths and the report, with laws of them.
 #![tactic(auto)]
 
-ghost use Rattle.law_typing.specs.Laws.{RanksRise, EdgesLeadToNodes, RankedIsAcyclic, JudgedIsAccepted, NamesDoNotCount};
+ghost use Rattle.law_typing.specs.Laws.{RanksRise, EdgesLeadToNodes, RankedIsAcyclic, UnrankedHasCycle, JudgedIsAccepted, AcceptedIsJudged, CycleIsReal, NamesDoNotCount};
 ghost use Rattle.law_typing.specs.CostLaws.{CostsSolved, DepthsSolved, EmissionsCover, PairsCover, StartsCover, CodeCovers, BlocksCover, SetsCover, EmitsCover, DepthsCover};
+ghost use Rattle.law_typing.specs.KnobsBegin.{KnobsBegin};
 ghost use Rattle.law_typing.specs.OneSolution.{OneRanking, OneCost, OneDepth, AcceptedIsPaired, AcceptedOnce};
 ghost use Rattle.law_typing.specs.ChainLaw.{ChainsDouble, ThreeLinks};
 ghost use Rattle.law_typing.specs.NamesLaw.{OneGraph};
@@ -66,18 +67,27 @@ pub fn words()
     ensures brackets { BracketWords }
 {}
 
-/// What is judged to be accepted is, by ranks, costs and depths that meet their equations; and one definition with a program, a binding, a
-/// pair and a prototype is.
+/// What is judged to be accepted is, by ranks, costs and depths that meet their equations, and whatever is accepted is judged so.
+/// What is judged to have a cycle has one. One definition with a program, a binding, a pair and a prototype is accepted.
 pub fn judgement()
     ensures accepted { JudgedIsAccepted }
+    ensures judged { AcceptedIsJudged }
+    ensures cycle { CycleIsReal }
     ensures one { Accepted knobs_case.definition }
 {}
 
-/// A rank rises along each edge to a node, and in the graph of a definition each edge leads to one; so where there are ranks there is no cycle.
+/// What each step is to keep holds as the build of that definition begins.
+pub fn beginning()
+    ensures holds { KnobsBegin }
+{}
+
+/// A rank rises along each edge to a node, and in the graph of a definition each edge leads to one. Where there are ranks there is no
+/// cycle, and where there are none there is one.
 pub fn ranks()
     ensures rise { RanksRise }
     ensures lead { EdgesLeadToNodes }
     ensures acyclic { RankedIsAcyclic }
+    ensures cycle { UnrankedHasCycle }
 {}
 
 /// A cost is at least each of the parts that are added to it.
