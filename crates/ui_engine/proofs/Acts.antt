@@ -1,28 +1,27 @@
 -- What the step of each task leaves of what holds the objects, of the work and of the count.
-use Rattle.std.proofs.Common.{◌≡◌, ℕ, zero, suc, ◌+◌, ◌*◌, ◌<◌, ◌≤◌, Bool, true, false, cond, nat_lt, nat_eq, List, [], ◌∷◌, ◌++◌, length, map, Option, Some, None, is_some, Result, Ok, Err, slice_get, refl, sym, ap, subst, ◌∙◌, arith}
+use Rattle.std.proofs.Common.{◌≡◌, ℕ, zero, suc, ◌+◌, ◌*◌, ◌<◌, ◌≤◌, Bool, true, false, nat_lt, List, [], ◌∷◌, ◌++◌, length, map, Option, Some, None, is_some, Ok, Err, slice_get, refl, sym, ap, subst, ◌∙◌, arith}
 use Rattle.std.specs.Prelude.{IfOk}
 use Rattle.std.proofs.lemmas.Bool.Decides.{nat_tests}
-use Rattle.ui_machine.specs.declared.arm.Arm.{Arm}
 use Rattle.ui_machine.specs.declared.arm.Arm.TheVariants as arms
 use Rattle.ui_machine.specs.Seq.{total}
 use Rattle.ui_machine.specs.Values.{Value}
 use Rattle.ui_machine.specs.Definition.{Definition, Place, value}
 use Rattle.ui_machine.specs.Ancestry.{is_a}
 use Rattle.ui_machine.specs.Lines as lines
-use Rattle.ui_machine.specs.Lookups.{type_of, place_at, program_at}
+use Rattle.ui_machine.specs.Lookups.{type_of, program_at}
 use Rattle.ui_machine.specs.Config as config
 use Rattle.ui_machine.specs.Config.{Object, Objects, Making, Item, makes, Emission, Task, Setting, Notifying, Beginning, Emitting, Transferring, Unsetting, Thawing, Running, Answering, Calling, Constructing, Building, Carrying, Due, World, Config}
-use Rattle.ui_machine.specs.Answers.{Answer, ◌>>=◌, known, only_if}
+use Rattle.ui_machine.specs.Answers.{Answer, known, only_if}
 use Rattle.ui_machine.specs.Objects.{find, changed, frozen_less}
-use Rattle.ui_machine.specs.Worlds.{Started, starts, said, holding, sunk, without}
+use Rattle.ui_machine.specs.Worlds.{Started, starts, said}
 use Rattle.ui_machine.specs.Registers.{rest_of}
 use Rattle.ui_machine.specs.Programs.{first_frame, all_fit, fits_register, beginning_program, program_before}
 use Rattle.ui_machine.specs.Emissions.{notifying, notification}
 use Rattle.ui_machine.specs.Turns.{resulting}
-use Rattle.ui_machine.specs.Results.{Left, leaves, passed_down, told, ending}
-use Rattle.ui_machine.specs.Builds.{initially_unowned, making, with_object, new_object, thawing_made, constructed, floats}
+use Rattle.ui_machine.specs.Results.{Left, passed_down, told, ending}
+use Rattle.ui_machine.specs.Builds.{initially_unowned, making, with_object, new_object, thawing_made, constructed}
 use Rattle.ui_machine.specs.Sets.{setting}
-use Rattle.ui_machine.specs.Steps.{most_steps, before, uncounted, counted, left, act, thawing, constructing, building, building_object, carrying, carrying_set, carrying_get}
+use Rattle.ui_machine.specs.Steps.{most_steps, before, uncounted, left, act, thawing, building, carrying_set, carrying_get}
 use Rattle.g_values.specs.View.{value_view}
 use Rattle.builder_defs.specs.declared.event.Event.{Event}
 use Rattle.builder_defs.specs.declared.event.Event.TheVariants as events
@@ -34,7 +33,7 @@ use Rattle.ui_engine.specs.EngineView.{is_counted}
 use Rattle.ui_engine.specs.Growing.{Longer}
 use Rattle.ui_engine.proofs.Growing.{longer_same, longer_one}
 use Rattle.ui_engine.specs.Holding.{making_of, IsHeld}
-use Rattle.ui_engine.specs.Measure.{weight, waiting_in, waiting, work}
+use Rattle.ui_engine.specs.Measure.{weight, waiting_in, waiting}
 use Rattle.ui_engine.proofs.Lists.{total-append}
 use Rattle.ui_engine.proofs.Held.{Quietly, keeps_quietly, if_ok_at, bind_ok, changed_lives, made_held, ended_held}
 use Rattle.ui_engine.proofs.Quiet.{Calm, notifying_calm, setting_calm, carrying_set_calm, carrying_get_calm, thawing_calm}

@@ -1,15 +1,15 @@
 -- How the build begins: nothing lives, and objects are all that there is to make.
-use Rattle.std.proofs.Common.{◌≡◌, ℕ, zero, suc, ◌+◌, ◌<◌, Bool, true, false, cond, List, [], ◌∷◌, ◌++◌, map, Option, Some, None, is_some, slice_get, refl, sym, ap, subst, ◌∙◌, arith}
+use Rattle.std.proofs.Common.{◌≡◌, ℕ, zero, suc, Bool, true, false, cond, List, [], ◌∷◌, ◌++◌, Some, is_some, slice_get, refl, ap, subst, ◌∙◌, arith}
 use Rattle.std.proofs.lemmas.List.{append-nil}
 use Rattle.std.specs.List.{flat_map}
 use Rattle.ui_machine.specs.Seq.{total}
-use Rattle.ui_machine.specs.Definition.{Definition, Place, GivenProperty, Attached, Bind}
-use Rattle.ui_machine.specs.Config.{Objects, Item, binds, connects, Task, World}
+use Rattle.ui_machine.specs.Definition.{Definition, Place, Attached, Bind}
+use Rattle.ui_machine.specs.Config.{Objects, Item, binds, connects, World}
 use Rattle.ui_machine.specs.Objects.{find}
 use Rattle.ui_machine.specs.Mentions.{same}
 use Rattle.ui_machine.specs.Builds.{made_items, forward_of, forward_items, numbered, connected_items, build_items}
 use Rattle.builder_defs.specs.Meaning.{IsBasic}
-use Rattle.ui_engine.specs.Holding.{IsHeld, making_of}
+use Rattle.ui_engine.specs.Holding.{IsHeld}
 use Rattle.ui_engine.specs.TaskView.{build_from}
 
 nothing_lives : (os : Objects) (id : ℕ) → os ≡ [] → is_some (find os id) ≡ true → ⊥

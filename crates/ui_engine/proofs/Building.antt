@@ -7,10 +7,10 @@ use Rattle.std.proofs.Math.Seq.{drop-cons}
 use Rattle.ui_machine.specs.declared.arm.Arm.TheVariants as arms
 use Rattle.ui_machine.specs.Properties.{Spec, has_flags}
 use Rattle.ui_machine.specs.Definition.{Definition, Place, GivenProperty}
-use Rattle.ui_machine.specs.Lookups.{type_of, class_of, specs_of, place_at}
+use Rattle.ui_machine.specs.Lookups.{type_of, specs_of}
 use Rattle.ui_machine.specs.Lines as lines
-use Rattle.ui_machine.specs.Config.{Making, thaws, Item, makes, Task, Constructing, Building, World}
-use Rattle.ui_machine.specs.Answers.{Answer, ◌>>=◌, known, only_if}
+use Rattle.ui_machine.specs.Config.{thaws, Item, makes, Task, Constructing, Building, World}
+use Rattle.ui_machine.specs.Answers.{Answer, ◌>>=◌}
 use Rattle.ui_machine.specs.Worlds.{Started, starts, said, without}
 use Rattle.ui_machine.specs.Builds.{is_at_construction, construct_sets, constructed_runs, runs_above, run_of, given_sets, construction, new_object, with_object, making, made_items, adopts_if, first_peer, peers_of, peer_for}
 use Rattle.ui_machine.specs.Steps.{uncounted, building, building_object}

@@ -1,5 +1,5 @@
 -- Uncounted steps make the work less.
-use Rattle.std.proofs.Common.{◌≡◌, ℕ, zero, suc, ◌+◌, ◌-◌, ◌*◌, ◌<◌, ◌≤◌, Bool, true, false, cond, nat_eq, nat_lt, ◌&&◌, ◌||◌, List, [], ◌∷◌, ◌++◌, length, Option, Some, None, Result, Ok, Err, slice_get, refl, sym, ap, subst, ◌∙◌, arith, length-append}
+use Rattle.std.proofs.Common.{◌≡◌, ℕ, zero, suc, ◌+◌, ◌-◌, ◌*◌, ◌<◌, ◌≤◌, Bool, true, false, cond, nat_eq, nat_lt, ◌&&◌, ◌||◌, List, [], ◌∷◌, ◌++◌, length, Option, Some, None, Ok, Err, refl, ap, arith, length-append}
 use Rattle.std.specs.Prelude.{IfOk}
 use Rattle.std.specs.List.{list_any}
 use Rattle.std.proofs.lemmas.List.{length-reverse}
@@ -12,11 +12,10 @@ use Rattle.ui_machine.specs.Transform.{same_value}
 use Rattle.ui_machine.specs.Clamp.{clamp}
 use Rattle.ui_machine.specs.Properties.{Spec, is_lax, is_readable}
 use Rattle.ui_machine.specs.Definition.{Definition, Given}
-use Rattle.ui_machine.specs.Lookups.{spec_of}
 use Rattle.ui_machine.specs.Queue.{queued, thawed}
-use Rattle.ui_machine.specs.Config.{Object, Objects, Making, Task, Setting, Notifying, Thawing, Constructing, World}
+use Rattle.ui_machine.specs.Config.{Object, Objects, Making, Notifying, World}
 use Rattle.ui_machine.specs.Answers.{Answer, ◌>>=◌, known, only_if}
-use Rattle.ui_machine.specs.Objects.{find, put, class_in, object_at, asked, value_at, changed, with_value, raised, frozen_less, less_frozen}
+use Rattle.ui_machine.specs.Objects.{find, put, class_in, asked, value_at, changed, with_value, raised, frozen_less, less_frozen}
 use Rattle.ui_machine.specs.Worlds.{Started, starts, said}
 use Rattle.ui_machine.specs.Sets.{spec_at, raising, notifies, kept, written, settled, setting, lives, has_kind}
 use Rattle.ui_machine.specs.Builds.{thawing_made, given_value, held_object}

@@ -1,18 +1,16 @@
 -- While the builder and constructions hold all objects, no object is without a mention.
-use Rattle.std.proofs.Common.{◌≡◌, ◌≢◌, ℕ, zero, suc, ◌+◌, ◌<◌, ◌≤◌, Bool, true, false, cond, nat_eq, List, [], ◌∷◌, ◌++◌, length, Option, Some, None, is_some, IsSome, Result, Ok, Err, refl, sym, ap, subst, ◌∙◌, arith, inl, inr}
+use Rattle.std.proofs.Common.{◌≡◌, ◌≢◌, ℕ, suc, ◌+◌, ◌<◌, ◌≤◌, Bool, true, false, cond, nat_eq, List, [], ◌∷◌, ◌++◌, length, Option, Some, None, is_some, Ok, Err, refl, sym, ap, subst, ◌∙◌, arith, inl, inr}
 use Rattle.std.specs.Prelude.{IfOk}
 use Rattle.std.proofs.lemmas.Bool.{cases_eq}
 use Rattle.std.proofs.lemmas.Bool.Decides.{nat_tests}
-use Rattle.ui_machine.specs.declared.arm.Arm.{Arm}
 use Rattle.ui_machine.specs.declared.arm.Arm.TheVariants as arms
 use Rattle.ui_machine.specs.Seq.{read, total}
 use Rattle.ui_machine.specs.Definition.{Definition}
-use Rattle.ui_machine.specs.Config.{Object, Objects, Held, built, Making, Task, Setting, Notifying, Beginning, Emitting, Transferring, Unsetting, Thawing, Running, Answering, Calling, Constructing, Building, Carrying, Due, World, Config}
+use Rattle.ui_machine.specs.Config.{Object, Objects, built, Making, Task, Setting, Notifying, Beginning, Emitting, Transferring, Unsetting, Thawing, Running, Answering, Calling, Constructing, Building, Carrying, Due, World, Config}
 use Rattle.ui_machine.specs.Answers.{Answer, ◌>>=◌, known}
 use Rattle.ui_machine.specs.Objects.{find, put, changed, unheld_from, next_unheld}
 use Rattle.ui_machine.specs.Mentions.{same, in_held, in_task, mentions}
 use Rattle.ui_machine.specs.Worlds.{Started, holding, sunk, without}
-use Rattle.ui_machine.specs.Builds.{floats}
 use Rattle.ui_engine.specs.Growing.{Longer}
 use Rattle.ui_engine.proofs.Growing.{longer_on}
 use Rattle.ui_engine.specs.Holding.{making_of, IsHeld}

@@ -1,5 +1,5 @@
 -- Lists that are read after a write, and sums over them.
-use Rattle.std.proofs.Common.{◌≡◌, ◌≢◌, ℕ, zero, suc, ◌+◌, ◌<◌, ◌≤◌, List, [], ◌∷◌, ◌++◌, length, Option, Some, None, is_some, refl, sym, ap, ◌∙◌, arith, true}
+use Rattle.std.proofs.Common.{◌≡◌, ◌≢◌, ℕ, zero, suc, ◌+◌, ◌<◌, List, [], ◌∷◌, ◌++◌, length, Option, None, is_some, refl, ap, arith, true}
 use Rattle.ui_machine.specs.Seq.{read, write, total}
 use Rattle.ui_machine.specs.Config.{Object, Objects}
 use Rattle.ui_machine.specs.Objects.{find, put}

@@ -6,19 +6,18 @@ use Rattle.ui_machine.specs.declared.arm.Arm.{Arm}
 use Rattle.ui_machine.specs.declared.arm.Arm.TheVariants as arms
 use Rattle.ui_machine.specs.Properties.{Spec}
 use Rattle.ui_machine.specs.Definition.{Definition, ClassHandler, Signal}
-use Rattle.ui_machine.specs.Lookups.{type_of, class_of, spec_of}
+use Rattle.ui_machine.specs.Lookups.{type_of, spec_of}
 use Rattle.ui_machine.specs.Lines as lines
-use Rattle.ui_machine.specs.Config as config
-use Rattle.ui_machine.specs.Config.{Object, Objects, Task, Emission, Emitting, World}
+use Rattle.ui_machine.specs.Config.{Object, Task, Emitting, World}
 use Rattle.ui_machine.specs.Answers.{Answer, ◌>>=◌, known}
-use Rattle.ui_machine.specs.Objects.{find, asked, object_at}
+use Rattle.ui_machine.specs.Objects.{find, asked}
 use Rattle.ui_machine.specs.Worlds.{Started, starts, said}
 use Rattle.ui_machine.specs.Steps.{counted, uncounted, most_steps}
-use Rattle.ui_machine.specs.Emissions.{notifying, notification, notify_plan, nearest_handler, or_else, up, handler_in, class_handler_of, most_depth, at_stage, signal_at, notify_flags}
+use Rattle.ui_machine.specs.Emissions.{notifying, notification, notify_plan, nearest_handler, or_else, up, handler_in, class_handler_of, most_depth, signal_at}
 use Rattle.ui_machine.specs.Values.{Value}
 use Rattle.ui_machine.specs.Turns.{resulting, result_of}
-use Rattle.ui_machine.specs.Results.{Left, ending, leaves, passed_down, told}
-use Rattle.builder_defs.specs.Meaning.{IsBasic, notify_signal}
+use Rattle.ui_machine.specs.Results.{ending, leaves, passed_down, told}
+use Rattle.builder_defs.specs.Meaning.{IsBasic}
 use Rattle.ui_engine.specs.TaskView.{name_of, name_in, task_of, agenda_of}
 use Rattle.ui_engine.specs.declared.task.Stack.{Stack}
 use Rattle.ui_engine.specs.declared.task.Task as code

@@ -1,5 +1,5 @@
 -- A set of a plain property, by what validation says of the value.
-use Rattle.std.proofs.Common.{◌≡◌, ℕ, Bool, true, false, cond, ◌&&◌, ◌||◌, not, List, [], Option, Some, None, Ok, Err, refl, sym, ap, subst, ◌∙◌, arith, ℤ, ◌≤ℤ◌}
+use Rattle.std.proofs.Common.{◌≡◌, ℕ, Bool, true, false, cond, ◌&&◌, ◌||◌, not, List, [], Option, Ok, Err, refl, sym, ap, ◌∙◌, arith, ℤ}
 use Rattle.std.proofs.lemmas.Int.{ints}
 use Rattle.ui_machine.specs.declared.arm.Arm.{Arm}
 use Rattle.ui_machine.specs.declared.arm.Arm.TheVariants as arms
@@ -9,19 +9,17 @@ use Rattle.ui_machine.specs.Values as values
 use Rattle.ui_machine.specs.Types.{GType}
 use Rattle.ui_machine.specs.Transform.{least, greatest, same_value}
 use Rattle.ui_machine.specs.Clamp.{clamp}
-use Rattle.ui_machine.specs.Properties.{Spec, is_readable, is_explicit_notify, is_lax, has_flags}
+use Rattle.ui_machine.specs.Properties.{Spec, is_explicit_notify, is_lax, has_flags}
 use Rattle.ui_machine.specs.Definition.{Definition}
 use Rattle.ui_machine.specs.Lines as lines
 use Rattle.ui_machine.specs.Config.{Objects, World}
 use Rattle.ui_machine.specs.Answers.{Answer, ◌>>=◌, only_if}
 use Rattle.ui_machine.specs.Objects.{class_in, changed, with_value}
-use Rattle.ui_machine.specs.Worlds.{Started, starts, said, with_objects}
-use Rattle.ui_machine.specs.Sets.{spec_at, has_kind, lives, raising, notifies, kept, unless_disposed, written, settled, setting}
-use Rattle.g_values.specs.declared.kind.Kind.{Kind}
-use Rattle.g_values.specs.declared.kind.Kind.TheVariants as of_kind
+use Rattle.ui_machine.specs.Worlds.{starts, said, with_objects}
+use Rattle.ui_machine.specs.Sets.{spec_at, has_kind, lives, raising, kept, unless_disposed, written, settled, setting}
 use Rattle.g_values.specs.declared.value.Value as coded
 use Rattle.g_values.specs.declared.value.Value.TheVariants as of_value
-use Rattle.g_values.specs.View.{kind_view, value_view}
+use Rattle.g_values.specs.View.{value_view}
 use Rattle.param_specs.specs.declared.spec.Spec as specs
 use Rattle.param_specs.specs.View.{spec_view}
 use Rattle.param_specs.specs.Validation.{IsWithin, Takes, KnowsClass}

@@ -1,5 +1,5 @@
 -- What sets, notifications and gets leave of what holds the objects.
-use Rattle.std.proofs.Common.{◌≡◌, ℕ, ◌+◌, Bool, true, false, cond, ◌&&◌, ◌||◌, List, [], ◌∷◌, Option, Some, None, is_some, Result, Ok, Err, refl, subst, arith}
+use Rattle.std.proofs.Common.{◌≡◌, ℕ, Bool, true, false, cond, ◌&&◌, ◌||◌, List, [], ◌∷◌, is_some, Ok, Err, refl, subst}
 use Rattle.std.specs.Prelude.{IfOk}
 use Rattle.ui_machine.specs.declared.arm.Arm.{Arm}
 use Rattle.ui_machine.specs.declared.arm.Arm.TheVariants as arms
@@ -11,13 +11,13 @@ use Rattle.ui_machine.specs.Clamp.{clamp}
 use Rattle.ui_machine.specs.Properties.{Spec, is_lax, is_readable}
 use Rattle.ui_machine.specs.Lookups.{spec_of}
 use Rattle.ui_machine.specs.Definition.{Definition, Given}
-use Rattle.ui_machine.specs.Config.{Object, Objects, Making, Task, Notifying, Thawing, World}
+use Rattle.ui_machine.specs.Config.{Object, Objects, Notifying, World}
 use Rattle.ui_machine.specs.Answers.{Answer, known, only_if}
-use Rattle.ui_machine.specs.Objects.{find, class_in, object_at, asked, value_at, changed, with_value, raised, frozen_less}
+use Rattle.ui_machine.specs.Objects.{find, class_in, object_at, asked, value_at, changed, with_value, raised}
 use Rattle.ui_machine.specs.Worlds.{Started, starts, said}
 use Rattle.ui_machine.specs.Sets.{spec_at, raising, notifies, kept, written, settled, setting, lives, has_kind}
 use Rattle.ui_machine.specs.Emissions.{notifying}
-use Rattle.ui_machine.specs.Builds.{thawing_made, given_value}
+use Rattle.ui_machine.specs.Builds.{given_value}
 use Rattle.ui_machine.specs.Steps.{answered, thawing, carrying_set, carrying_get}
 use Rattle.ui_machine.specs.Builds.{held_object}
 use Rattle.ui_engine.specs.Growing.{Longer}

@@ -1,5 +1,5 @@
 -- The spec of an object's property, found by its class.
-use Rattle.std.proofs.Common.{◌≡◌, ℕ, Option, Some, None, Ok, Err, option_map, Bor, refl, sym, ap, subst, ◌∙◌}
+use Rattle.std.proofs.Common.{◌≡◌, ℕ, Option, Some, None, Ok, Err, refl, ap, ◌∙◌}
 use Rattle.ui_machine.specs.declared.arm.Arm.{Arm}
 use Rattle.ui_machine.specs.declared.arm.Arm.TheVariants as arms
 use Rattle.ui_machine.specs.Properties as properties
@@ -7,10 +7,8 @@ use Rattle.ui_machine.specs.Definition.{Definition}
 use Rattle.ui_machine.specs.Lookups.{spec_of}
 use Rattle.ui_machine.specs.Config.{Object, Objects}
 use Rattle.ui_machine.specs.Answers.{Answer, ◌>>=◌, known}
-use Rattle.ui_machine.specs.Objects.{find, asked, object_at}
+use Rattle.ui_machine.specs.Objects.{find, asked}
 use Rattle.ui_machine.specs.Sets.{spec_at}
-use Rattle.param_specs.specs.declared.spec.Spec.{Spec}
-use Rattle.param_specs.specs.View.{spec_view}
 
 spec_by_class : (d : Definition) (os : Objects) (id slot : ℕ) (r : Answer ℕ) → asked os id (λ o. Ok o.class) ≡ r → spec_at d os id slot ≡ (r >>= λ class. known arms.Code (spec_of d class slot))
 unfolding asked spec_at

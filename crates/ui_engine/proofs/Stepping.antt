@@ -1,13 +1,11 @@
 -- While objects are held, the machine's step is the first task's.
-use Rattle.std.proofs.Common.{◌≡◌, ℕ, suc, ◌<◌, true, false, List, [], ◌∷◌, map, reverse, None, Result, Ok, Err, refl, sym, ap, subst, ◌∙◌}
+use Rattle.std.proofs.Common.{◌≡◌, List, ◌∷◌, reverse, Result, Ok, Err, sym, ap, subst, ◌∙◌}
 use Rattle.std.specs.Prelude.{IfOk, OnErr}
 use Rattle.ui_machine.specs.declared.arm.Halt.{Halt}
 use Rattle.ui_machine.specs.Definition.{Definition}
 use Rattle.ui_machine.specs.Config.{Task, Config}
-use Rattle.ui_machine.specs.Answers.{Answer, Goes, Stops}
-use Rattle.ui_machine.specs.Objects.{next_unheld}
-use Rattle.ui_machine.specs.Mentions.{mentions}
-use Rattle.ui_machine.specs.Steps.{act, first_of, step, most_steps}
+use Rattle.ui_machine.specs.Answers.{Goes, Stops}
+use Rattle.ui_machine.specs.Steps.{act, first_of, step}
 use Rattle.builder_defs.specs.Meaning.{IsBasic}
 use Rattle.ui_engine.specs.declared.task.Task as code
 use Rattle.ui_engine.specs.declared.task.Stack.{Stack}

@@ -1,7 +1,7 @@
 -- What holds the objects of a session whose definition has no programs: the builder, or their own construction.
-use Rattle.std.specs.Prelude.{◌≡◌, ℕ, ◌+◌, ◌<◌, Bool, true, false, List, IsSome}
+use Rattle.std.specs.Prelude.{ℕ, ◌+◌, ◌<◌, true, false, List, IsSome}
 use Rattle.ui_machine.specs.Seq.{total}
-use Rattle.ui_machine.specs.Config.{Task, Setting, Notifying, Beginning, Emitting, Transferring, Unsetting, Thawing, Running, Answering, Calling, Constructing, Building, Carrying, Due, World, Config}
+use Rattle.ui_machine.specs.Config.{Task, Setting, Notifying, Beginning, Emitting, Transferring, Unsetting, Thawing, Running, Answering, Calling, Constructing, Building, Carrying, Due, World}
 use Rattle.ui_machine.specs.Objects.{find}
 use Rattle.ui_machine.specs.Mentions.{same, in_held}
 

@@ -1,5 +1,5 @@
 -- How much may be done before a counted step is due: it falls with each uncounted step.
-use Rattle.std.specs.Prelude.{ℕ, suc, ◌+◌, ◌*◌, List, [], ◌∷◌, length, Option, Some, None}
+use Rattle.std.specs.Prelude.{ℕ, suc, ◌+◌, ◌*◌, length, Option, Some, None}
 use Rattle.ui_machine.specs.Seq.{total}
 use Rattle.ui_machine.specs.Definition.{Definition, Place}
 use Rattle.ui_machine.specs.Lookups.{place_at, specs_of}

@@ -4,8 +4,6 @@ use Rattle.ui_machine.specs.declared.arm.Arm.{Arm}
 use Rattle.ui_machine.specs.Values as values
 use Rattle.ui_machine.specs.Config as config
 use Rattle.ui_machine.specs.Answers.{Answer}
-use Rattle.g_values.specs.declared.value.Value.{Value}
-use Rattle.g_values.specs.View.{value_view}
 
 -- an object that is just made: frozen once
 abbrev pub made_object : ℕ → ℕ → List values.Value → config.Object

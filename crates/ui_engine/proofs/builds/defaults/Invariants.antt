@@ -1,4 +1,4 @@
-use Rattle.std.proofs.Common.{◌≡◌, ◌-◌, ◌≤◌, map, take, length}
+use Rattle.std.proofs.Common.{◌≡◌, ◌-◌, map, take, length}
 use Rattle.ui_machine.specs.Properties.{Spec}
 use Rattle.ui_machine.specs.Lookups.{specs_of}
 use Rattle.g_values.specs.View.{value_view}

@@ -1,4 +1,4 @@
-use Rattle.std.proofs.Common.{◌≡◌, Ok, refl, ◌∙◌, subst, sym}
+use Rattle.std.proofs.Common.{Ok, refl, ◌∙◌, subst, sym}
 use Rattle.ui_engine.specs.declared.engine.Made.{Made}
 use Rattle.ui_engine.specs.EngineView.{config_of}
 use Rattle.ui_engine.specs.Stepping.{Stepped}

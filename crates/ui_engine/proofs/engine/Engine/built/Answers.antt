@@ -1,4 +1,4 @@
-use Rattle.std.proofs.Common.{◌≡◌, ℕ, Option, Some, None, slice_get, refl}
+use Rattle.std.proofs.Common.{ℕ, Option, Some, None, slice_get, refl}
 use Rattle.std.specs.Option.{ok_or}
 use Rattle.ui_machine.specs.declared.arm.Arm.TheVariants as arms
 use Rattle.ui_machine.specs.Answers.{known}

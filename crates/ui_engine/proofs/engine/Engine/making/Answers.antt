@@ -1,18 +1,15 @@
-use Rattle.std.proofs.Common.{◌≡◌, suc, false, true, None, Some, List, [], ◌∷◌, ◌++◌, slice_get, length, map, string_bytes, rules, refl, sym, ap, ◌∙◌}
+use Rattle.std.proofs.Common.{◌≡◌, suc, false, None, Some, List, [], ◌∷◌, ◌++◌, slice_get, length, string_bytes, rules, refl, ap, ◌∙◌}
 use Rattle.std.proofs.lemmas.Option.{slice_get_read}
-use Rattle.ui_machine.specs.Lookups.{type_of, specs_of}
-use Rattle.ui_machine.specs.Properties.{Spec}
+use Rattle.ui_machine.specs.Lookups.{type_of}
 use Rattle.ui_machine.specs.Lines as lines
 use Rattle.ui_machine.specs.Text.{text_of_line}
 use Rattle.ui_machine.specs.Values.{Value}
-use Rattle.ui_machine.specs.Config.{World, Constructing, thaws}
+use Rattle.ui_machine.specs.Config.{World}
 use Rattle.ui_machine.specs.Worlds.{said}
 use Rattle.ui_machine.specs.Builds.{with_object, new_object}
-use Rattle.g_values.specs.View.{value_view}
 use Rattle.builder_defs.specs.Meaning.{plain_object}
 use Rattle.ui_engine.specs.ObjectView.{made_object}
 use Rattle.ui_engine.specs.View.{world_of}
-use Rattle.ui_engine.specs.TaskView.{agenda_of}
 use Rattle.ui_engine.proofs.Building.{place_there, made_there}
 use Rattle.ui_engine.proofs.Left.{left_with}
 use Rattle.ui_engine.proofs.engine.Engine.making.Goals as goal

@@ -1,4 +1,4 @@
-use Rattle.std.proofs.Common.{◌≡◌, suc, sym, ap, refl, rules, Bor, option_map, ◌∙◌}
+use Rattle.std.proofs.Common.{suc, sym, ap, refl, rules, Bor, option_map, ◌∙◌}
 use Rattle.std.proofs.lemmas.Result.{err_from_is_err_and}
 use Rattle.ui_machine.specs.Steps.{uncounted}
 use Rattle.param_specs.specs.declared.spec.Spec.{Spec}

@@ -1,4 +1,4 @@
-use Rattle.std.proofs.Common.{◌≡◌, Bool, List, true, false, Ok, ◌∙◌, subst, sym, ap}
+use Rattle.std.proofs.Common.{Bool, List, Ok, subst}
 use Rattle.std.proofs.lemmas.Result.{err_from_is_err_and}
 use Rattle.ui_machine.specs.Config.{Task}
 use Rattle.ui_engine.specs.View.{world_of}

@@ -1,17 +1,12 @@
-use Rattle.std.proofs.Common.{◌≡◌, true, false, not, refl, sym, ap, ◌∙◌}
+use Rattle.std.proofs.Common.{◌≡◌, true, sym, ap, ◌∙◌}
 use Rattle.std.proofs.lemmas.Result.{err_from_is_err_and}
-use Rattle.ui_machine.specs.Config as config
-use Rattle.ui_machine.specs.Transform.{same_value}
-use Rattle.ui_machine.specs.Clamp.{clamp}
 use Rattle.ui_machine.specs.Objects.{class_in}
 use Rattle.ui_machine.specs.Sets.{has_kind}
-use Rattle.ui_machine.specs.Answers.{Goes}
 use Rattle.ui_machine.specs.Steps.{uncounted}
-use Rattle.g_values.specs.View.{kind_view, value_view}
+use Rattle.g_values.specs.View.{value_view}
 use Rattle.param_specs.specs.View.{spec_view}
 use Rattle.ui_engine.specs.View.{world_of}
 use Rattle.ui_engine.specs.TaskView.{agenda_of}
-use Rattle.ui_engine.specs.EngineView.{config_of}
 use Rattle.ui_engine.proofs.PlainSets.{knows_class, no_spec_set, other_kind_set, refused_by_flag, written_by_flag}
 use Rattle.ui_engine.proofs.Left.{left_alone}
 use Rattle.ui_engine.proofs.engine.Engine.setting.Goals as goal

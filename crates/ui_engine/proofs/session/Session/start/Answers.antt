@@ -1,5 +1,5 @@
-use Rattle.std.proofs.Common.{[], ◌∷◌, codes, ap, subst, sym, ◌∙◌}
-use Rattle.ui_machine.specs.Config.{World, Item, Building, Config}
+use Rattle.std.proofs.Common.{[], ap, subst, sym, ◌∙◌}
+use Rattle.ui_machine.specs.Config.{World, Building, Config}
 use Rattle.ui_machine.specs.Lines as lines
 use Rattle.ui_machine.specs.Worlds.{said}
 use Rattle.ui_machine.specs.Runs.{beginning, first_world}
