@@ -1,6 +1,6 @@
 //! What a definition says.
 
-ghost use Rattle.std.specs.Prelude.{◌≡◌, ◌<◌, length, option_map, slice_get, IfSome, map, position, string_bytes};
+ghost use Rattle.std.specs.Prelude.{◌≡◌, ◌<◌, ◌≤◌, length, option_map, slice_get, IfSome, map, position, string_bytes};
 ghost use Rattle.std.specs.Str.{bytes_eq};
 ghost use Rattle.ui_machine.specs.Lookups.{place_of, spec_of, specs_of, slot_of, type_of};
 ghost use Rattle.param_specs.specs.View.{spec_view};
@@ -83,6 +83,7 @@ impl Definition {
     pub fn slots(&self, class: TypeId) -> usize
         ensures slots { result ≡ length (specs_of self.now class) }
         ensures known { 0 < result → class < length self.now.types }
+        ensures few { result ≤ 16448 }
     {
         if class.index() >= self.types.len() {
             return 0;

@@ -1,8 +1,8 @@
 //! Worked values.
 
 use crate::{
-    EnumMember, FlagsMember, MOST_DEPTH, MOST_TYPES, TypeError, TypeFlags, TypeLimit, TypeSort,
-    TypeTree,
+    EnumMember, FlagsMember, MOST_DEPTH, MOST_TYPES, TypeError, TypeFlags, TypeId, TypeLimit,
+    TypeSort, TypeTree,
 };
 use std::alloc::Global;
 use std::test::Fail;
@@ -15,40 +15,51 @@ fn member(alloc: Global, name: &str, nick: &str, number: i32) -> Result<EnumMemb
     })
 }
 
+const SEALED: TypeFlags = TypeFlags {
+    is_abstract: true,
+    is_final: true,
+};
+
+// A tree with the class `Base`, the final class `Sealed` under it, and the interface `Playable`, which requires `Base`.
+fn base_tree(alloc: Global) -> Result<TypeTree, Fail> {
+    let mut tree = TypeTree::new(alloc)?;
+    let _ = tree.add_class("Base", "GObject", TypeFlags::NONE, &[])?;
+    let _ = tree.add_class("Sealed", "Base", SEALED, &[])?;
+    let _ = tree.add_interface("Playable", &["Base"])?;
+    Ok(tree)
+}
+
 #[test]
-fn refuses_by_the_first_failing_test(rt: HostRuntime) -> Result<(), Fail> {
-    let mut tree = TypeTree::new(rt.alloc())?;
-    let sealed = TypeFlags {
-        is_abstract: false,
-        is_final: true,
-    };
-    assert_eq!(rt;
-        tree.add_class("ab", "GObject", TypeFlags::NONE, &[]),
-        Err(TypeError::BadName)
-    );
-    let base = tree.add_class("Base", "GObject", TypeFlags::NONE, &[])?;
-    assert_eq!(rt;
-        tree.add_class("Base", "GObject", TypeFlags::NONE, &[]),
-        Err(TypeError::Duplicate)
-    );
-    assert_eq!(rt;
-        tree.add_class("Child", "Nope", TypeFlags::NONE, &[]),
-        Err(TypeError::UnknownParent)
-    );
-    let _ = tree.add_class("Sealed", "Base", sealed, &[])?;
-    assert_eq!(rt;
-        tree.add_class("Child", "Sealed", TypeFlags::NONE, &[]),
-        Err(TypeError::FinalParent)
-    );
-    let playable = tree.add_interface("Playable", &["Base"])?;
-    assert_eq!(rt;
-        tree.add_class("Child", "GObject", TypeFlags::NONE, &["Playable"]),
-        Err(TypeError::Prerequisite(base))
-    );
+fn refuses_names(rt: HostRuntime) -> Result<(), Fail> {
+    let mut tree = base_tree(rt.alloc())?;
+    let bad = tree.add_class("ab", "GObject", TypeFlags::NONE, &[]);
+    let taken = tree.add_class("Base", "GObject", TypeFlags::NONE, &[]);
+    let unknown = tree.add_class("Child", "Nope", TypeFlags::NONE, &[]);
+    assert_eq!(rt; bad, Err(TypeError::BadName));
+    assert_eq!(rt; taken, Err(TypeError::Duplicate));
+    assert_eq!(rt; unknown, Err(TypeError::UnknownParent));
+    Ok(())
+}
+
+#[test]
+fn refuses_what_may_not_be_derived(rt: HostRuntime) -> Result<(), Fail> {
+    let mut tree = base_tree(rt.alloc())?;
+    let base = TypeId::new(2);
+    let sealed = tree.add_class("Child", "Sealed", TypeFlags::NONE, &[]);
+    let lacking = tree.add_class("Child", "GObject", TypeFlags::NONE, &["Playable"]);
+    assert_eq!(rt; sealed, Err(TypeError::FinalParent));
+    assert_eq!(rt; lacking, Err(TypeError::Prerequisite(base)));
+    assert_eq!(rt; tree.find("Base"), Some(base));
+    Ok(())
+}
+
+#[test]
+fn knows_what_is_what(rt: HostRuntime) -> Result<(), Fail> {
+    let mut tree = base_tree(rt.alloc())?;
     let player = tree.add_class("Player", "Base", TypeFlags::NONE, &["Playable"])?;
     let child = tree.add_class("Child", "Player", TypeFlags::NONE, &[])?;
-    assert!(rt; tree.is_a(child, playable));
-    assert!(rt; tree.is_a(child, player));
+    let (base, playable) = (TypeId::new(2), TypeId::new(4));
+    assert!(rt; tree.is_a(child, playable) && tree.is_a(child, player));
     assert!(rt; !tree.is_a(playable, base));
     assert_eq!(rt; tree.depth(child), 4);
     assert_eq!(rt; tree.find("Player"), Some(player));
@@ -72,15 +83,21 @@ fn keeps_members(rt: HostRuntime) -> Result<(), Fail> {
 }
 
 #[test]
-fn tells_of_its_types(rt: HostRuntime) -> Result<(), Fail> {
+fn tells_of_classes(rt: HostRuntime) -> Result<(), Fail> {
+    let mut tree = TypeTree::new(rt.alloc())?;
+    let labelled = tree.add_interface("Labelled", &["GInitiallyUnowned"])?;
+    let base = tree.add_class("Base", "GInitiallyUnowned", SEALED, &["Labelled"])?;
+    assert!(rt; tree.flags(base).is_abstract && tree.flags(base).is_final);
+    assert_eq!(rt; tree.parent(base), tree.find("GInitiallyUnowned"));
+    assert_eq!(rt; tree.parent(labelled), None);
+    assert!(rt; matches!(tree.interfaces(base), [t] if *t == labelled));
+    Ok(())
+}
+
+#[test]
+fn tells_of_flags_types(rt: HostRuntime) -> Result<(), Fail> {
     let alloc = rt.alloc();
     let mut tree = TypeTree::new(alloc)?;
-    let sealed = TypeFlags {
-        is_abstract: true,
-        is_final: true,
-    };
-    let labelled = tree.add_interface("Labelled", &["GInitiallyUnowned"])?;
-    let base = tree.add_class("Base", "GInitiallyUnowned", sealed, &["Labelled"])?;
     let mut bits = Vec::new(alloc);
     bits.push(FlagsMember {
         name: String::from_str(alloc, "FIRST")?,
@@ -88,17 +105,11 @@ fn tells_of_its_types(rt: HostRuntime) -> Result<(), Fail> {
         bits: 1,
     })?;
     let marks = tree.add_flags("Marks", bits)?;
-    assert!(rt; tree.flags(base).is_abstract && tree.flags(base).is_final);
-    assert_eq!(rt; tree.parent(base), tree.find("GInitiallyUnowned"));
-    assert_eq!(rt; tree.parent(labelled), None);
-    assert!(rt; matches!(tree.interfaces(base), [t] if *t == labelled));
     assert!(rt; tree.is_flags(marks) && !tree.is_enum(marks));
     assert_eq!(rt; tree.nick(marks, 1), "first");
     assert_eq!(rt; tree.nick(marks, 2), "");
-    if let Some(t) = tree.find("Marks") {
-        assert_eq!(rt; tree.name(t), "Marks");
-        assert!(rt; matches!(tree.sort(t), TypeSort::Flags));
-    }
+    assert_eq!(rt; tree.name(marks), "Marks");
+    assert!(rt; matches!(tree.sort(marks), TypeSort::Flags));
     Ok(())
 }
 

@@ -178,15 +178,13 @@ fn defaults(alloc: Global, definition: &Definition, class: TypeId) -> Result<Vec
     ensures { IfOk result (λ values. map value_view values.items ≡ map (λ (s : Spec). s.default) (specs_of definition.now class)) }
 {
     let mut values = Vec::new(alloc);
+    let _slots = definition.slots(class);
     let mut slot: u16 = 0;
     loop {
         let Some(spec) = definition.spec(class, slot) else {
             return Ok(values);
         };
         values.push(spec.default.copied()?)?;
-        let Some(next) = slot.checked_add(1) else {
-            return Err(AllocError);
-        };
-        slot = next;
+        slot += 1;
     }
 }

@@ -1,4 +1,4 @@
-use Rattle.std.proofs.Common.{◌≡◌, suc, Some, Bor, option_map, slice_get, sym, ap, ◌∙◌, arith}
+use Rattle.std.proofs.Common.{◌≡◌, ◌+◌, suc, Some, Bor, option_map, slice_get, sym, ap, ◌∙◌, arith}
 use Rattle.std.proofs.lemmas.Grind.{common_steps}
 use Rattle.ui_machine.specs.Lookups.{specs_of}
 use Rattle.param_specs.specs.declared.spec.Spec.{Spec}
@@ -12,5 +12,5 @@ loop-spec-preserved c =
     let found : slice_get specs c.loop-spec.slot ≡ Some (spec_view c.in-Some.spec.now) =
     sym c.spec.ensures ∙ ap (option_map (λ (s : Bor Spec). spec_view s.now)) c.in-Some.is in
     let more = one_default_more specs c.loop-spec.slot (spec_view c.in-Some.spec.now) c.loop-spec.values.items c.in_ok-copied.field-0 found c.in_ok-copied.ensures.value c.loop-spec.invariant in
-    let next : c.in-Some-checked_add.next ≡ suc c.loop-spec.slot = grind (arith, common_steps) in
+    let next : c.loop-spec.slot + 1 ≡ suc c.loop-spec.slot = grind (arith, common_steps) in
     rw (next, c.in_ok-push.ensures.items) more
