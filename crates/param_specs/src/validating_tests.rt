@@ -79,43 +79,56 @@ fn validated(tree: &TypeTree, spec: &Spec, value: Value) -> Option<(i128, bool)>
 }
 
 #[test]
-fn brings_numbers_to_the_nearer_end(rt: HostRuntime) -> Result<(), Fail> {
-    let alloc = rt.alloc();
-    let types = make_types(alloc)?;
-    let int = spec_of(alloc, Kind::Int, Value::Int(0), -5, 2147483646)?;
-    let uint = spec_of(alloc, Kind::UInt, Value::UInt(7), 7, 4294967294)?;
-    let int64 = spec_of(alloc, Kind::Int64, Value::Int64(-8), -9, -8)?;
-    let uint64 = spec_of(
-        alloc,
-        Kind::UInt64,
-        Value::UInt64(1),
-        1,
-        18446744073709551614,
-    )?;
-    for (spec, value, want) in [
-        (&int, Value::Int(-2147483648), (-5, true)),
-        (&int, Value::Int(-5), (-5, false)),
-        (&int, Value::Int(2147483647), (2147483646, true)),
-        (&uint, Value::UInt(0), (7, true)),
-        (&uint, Value::UInt(4294967295), (4294967294, true)),
-        (&int64, Value::Int64(-9223372036854775808), (-9, true)),
-        (&int64, Value::Int64(9223372036854775807), (-8, true)),
-        (&uint64, Value::UInt64(0), (1, true)),
-        (
-            &uint64,
-            Value::UInt64(18446744073709551615),
-            (18446744073709551614, true),
-        ),
-        (
-            &uint64,
-            Value::UInt64(9223372036854775808),
-            (9223372036854775808, false),
-        ),
-    ] {
-        assert_eq!(rt; validated(&types.tree, spec, value), Some(want));
-    }
-    let too_wide = spec_of(alloc, Kind::Int, Value::Int(0), 0, 2147483648)?;
-    assert!(rt; !takes(&types.tree, &too_wide, &Value::Int(0)));
+fn brings_int_to_the_nearer_end(rt: HostRuntime) -> Result<(), Fail> {
+    let tree = TypeTree::new(rt.alloc())?;
+    let spec = spec_of(rt.alloc(), Kind::Int, Value::Int(0), -5, 2147483646)?;
+    let least = validated(&tree, &spec, Value::Int(-2147483648));
+    let greatest = validated(&tree, &spec, Value::Int(2147483647));
+    assert_eq!(rt; least, Some((-5, true)));
+    assert_eq!(rt; validated(&tree, &spec, Value::Int(-5)), Some((-5, false)));
+    assert_eq!(rt; greatest, Some((2147483646, true)));
+    Ok(())
+}
+
+#[test]
+fn brings_uint_to_the_nearer_end(rt: HostRuntime) -> Result<(), Fail> {
+    let tree = TypeTree::new(rt.alloc())?;
+    let spec = spec_of(rt.alloc(), Kind::UInt, Value::UInt(7), 7, 4294967294)?;
+    let greatest = validated(&tree, &spec, Value::UInt(4294967295));
+    assert_eq!(rt; validated(&tree, &spec, Value::UInt(0)), Some((7, true)));
+    assert_eq!(rt; greatest, Some((4294967294, true)));
+    Ok(())
+}
+
+#[test]
+fn brings_int64_to_the_nearer_end(rt: HostRuntime) -> Result<(), Fail> {
+    let tree = TypeTree::new(rt.alloc())?;
+    let spec = spec_of(rt.alloc(), Kind::Int64, Value::Int64(-8), -9, -8)?;
+    let least = validated(&tree, &spec, Value::Int64(-9223372036854775808));
+    let greatest = validated(&tree, &spec, Value::Int64(9223372036854775807));
+    assert_eq!(rt; least, Some((-9, true)));
+    assert_eq!(rt; greatest, Some((-8, true)));
+    Ok(())
+}
+
+#[test]
+fn brings_uint64_to_the_nearer_end(rt: HostRuntime) -> Result<(), Fail> {
+    let tree = TypeTree::new(rt.alloc())?;
+    let one = Value::UInt64(1);
+    let spec = spec_of(rt.alloc(), Kind::UInt64, one, 1, 18446744073709551614)?;
+    let half = validated(&tree, &spec, Value::UInt64(9223372036854775808));
+    let greatest = validated(&tree, &spec, Value::UInt64(18446744073709551615));
+    assert_eq!(rt; validated(&tree, &spec, Value::UInt64(0)), Some((1, true)));
+    assert_eq!(rt; half, Some((9223372036854775808, false)));
+    assert_eq!(rt; greatest, Some((18446744073709551614, true)));
+    Ok(())
+}
+
+#[test]
+fn takes_no_range_past_the_kind(rt: HostRuntime) -> Result<(), Fail> {
+    let tree = TypeTree::new(rt.alloc())?;
+    let too_wide = spec_of(rt.alloc(), Kind::Int, Value::Int(0), 0, 2147483648)?;
+    assert!(rt; !takes(&tree, &too_wide, &Value::Int(0)));
     Ok(())
 }
 
