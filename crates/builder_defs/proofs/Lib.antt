@@ -12,3 +12,4 @@ pub mod Members
 pub mod Ids
 pub mod Values
 pub mod Printing
+pub mod PlainKinds

@@ -12,9 +12,11 @@ use Rattle.ui_machine.specs.Properties.{Spec, is_readable, is_writable, is_const
 use Rattle.ui_machine.specs.Definition as machine
 use Rattle.ui_machine.specs.Lookups.{place_of, slot_of, spec_of}
 use Rattle.ui_machine.specs.Config as config
+use Rattle.g_values.specs.Reading.{json_value}
+use Rattle.g_values.specs.declared.error.JsonError.{JsonError}
 use Rattle.builder_defs.specs.Meaning.{class_at}
 use Rattle.builder_defs.specs.Binding.{◌>>=◌}
-use Rattle.builder_defs.specs.declared.event_reading.TheConstants.{MAX_LINE_BYTES, MAX_TEXT_BYTES}
+use Rattle.builder_defs.specs.declared.event_reading.TheConstants.{MAX_LINE_BYTES}
 use Rattle.builder_defs.specs.declared.event_fault.EventFault.{EventFault}
 use Rattle.builder_defs.specs.declared.event_fault.EventFault.TheVariants as faults
 use Rattle.builder_defs.specs.declared.event_fault.EventError.{EventError}
@@ -120,28 +122,10 @@ target d id name = do
 
 -- ** the value of a set
 
-abbrev pub number_given : ℤ → Option Value
-number_given n = if int_lt n (least kinds.int) || int_lt (greatest kinds.int) n then None else Some (values.whole kinds.int n)
-
-abbrev pub text_given : Data → Option Value
-text_given null = Some (values.text None)
-text_given (boolean b) = None
-text_given (number n) = None
-text_given (string s) = if nat_lt MAX_TEXT_BYTES (length s) then None else Some (values.text (Some s))
-text_given (array ds) = None
-text_given (object ms) = None
-
--- a value of a kind that there is so far: a truth value, a number of 32 bits, a text or null
-abbrev pub given_value : kinds.Kind → Data → Option Value
-given_value kinds.bool d = option_map values.bool (as_bool d)
-given_value (kinds.whole kinds.int) d = option_and_then number_given (option_and_then as_i64 (as_number d))
-given_value (kinds.whole kinds.uint) d = None
-given_value (kinds.whole kinds.int64) d = None
-given_value (kinds.whole kinds.uint64) d = None
-given_value kinds.text d = text_given d
-given_value (kinds.enum t) d = None
-given_value (kinds.flags t) d = None
-given_value (kinds.object t) d = None
+-- the value, or the one refusal for whichever cause there is none
+abbrev pub or_value_fault : {A : Type 0} → Result A JsonError → Result A EventRefusal
+or_value_fault (Ok x) = Ok x
+or_value_fault (Err cause) = Err value_fault
 
 -- ** the event
 
@@ -156,7 +140,7 @@ set_event d words = do
   said ← or_refused shape (option_and_then words_of_set (as_array words))
   found ← target d said.0 said.1
   may ← writable found.spec
-  value ← or_refused value_fault (given_value found.spec.kind said.2)
+  value ← or_value_fault (json_value d.types found.spec.kind said.2)
   Ok (config.set found.place found.slot (machine.value value))
 
 unfoldable pub get_event : machine.Definition → Data → Result config.Event EventRefusal

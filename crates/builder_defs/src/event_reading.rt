@@ -1,28 +1,27 @@
 //! Events, read from the lines of an event file.
 
-ghost use Rattle.std.specs.Prelude.{◌≡◌, option_map, IfOk};
+ghost use Rattle.std.specs.Prelude.{◌≡◌, Some, option_map, IfOk};
 ghost use Rattle.serde_json.specs.View.{view, items_view};
-ghost use Rattle.g_values.specs.View.{kind_view, value_view};
-ghost use Rattle.builder_defs.specs.Meaning.{event_of};
+ghost use Rattle.g_values.specs.View.{kind_view, value_view, IsKnown};
+ghost use Rattle.g_values.specs.Reading.{json_value};
+ghost use Rattle.ui_machine.specs.Lookups.{spec_of};
+ghost use Rattle.builder_defs.specs.Meaning.{event_of, class_at};
 ghost use Rattle.param_specs.specs.View.{spec_view};
-ghost use Rattle.builder_defs.specs.EventMeaning.{Gives, event_denoted, event_meant, line_value, has_one_member, words_of_set, words_of_get, set_event, get_event, target, given_value, number_given, text_given, readable, writable, or_refused, value_fault};
+ghost use Rattle.builder_defs.specs.EventMeaning.{Gives, event_denoted, event_meant, line_value, has_one_member, words_of_set, words_of_get, set_event, get_event, target, readable, writable, or_value_fault};
 
 use crate::definition::Definition;
 use crate::event::Event;
 use crate::event_fault::{EventError, EventFault};
 use bitflags::Flags;
-use g_values::Kind;
+use g_values::{JsonError, Kind, from_json};
 use param_specs::{PropertyFlags, Spec};
 use serde_json::Value;
-use std::alloc::{AllocError, Global};
-use std::rc::RcStr;
+use std::alloc::Global;
+use type_tree::TypeTree;
 use ui_machine::Place;
 
 /// The most bytes of a line.
 pub const MAX_LINE_BYTES: usize = 65_536;
-
-/// The most bytes of a text that is set.
-pub const MAX_TEXT_BYTES: usize = 4_096;
 
 /// Reads an event of a definition. A fault is the first one in the order of `EventFault`.
 #[tactic(auto, unfolding(crate::specs::EventMeaning::event_denoted))]
@@ -120,7 +119,7 @@ fn set_in(alloc: Global, definition: &Definition, words: &Value) -> Result<Event
     };
     let target = target_of(alloc, definition, id, name)?;
     check_writable(target.spec)?;
-    let value = value_for(alloc, target.spec.kind, value)?;
+    let value = value_for(alloc, definition.types(), target.spec.kind, value)?;
     Ok(Event::Set {
         place: target.place,
         slot: target.slot,
@@ -163,7 +162,8 @@ fn target_of<'a>(
     id: &str,
     name: &str,
 ) -> Result<Target<'a>, EventError>
-    ensures { Gives (λ t. record { place = t.place.0; slot = t.slot; spec = spec_view t.spec.now }) result (target definition.now id.now name.now) }
+    ensures target { Gives (λ t. record { place = t.place.0; slot = t.slot; spec = spec_view t.spec.now }) result (target definition.now id.now name.now) }
+    ensures spec { IfOk result (λ t. spec_of definition.now (class_at definition.now t.place.0) t.slot ≡ Some (spec_view t.spec.now)) }
 {
     let Some(place) = definition.place(id) else {
         return Err(EventError::Refused(EventFault::Unknown(String::from_str(alloc, id)?)));
@@ -201,64 +201,24 @@ fn check_readable(spec: &Spec) -> Result<(), EventError>
     Ok(())
 }
 
-// A number of 32 bits.
-fn number_given(number: i64) -> Option<g_values::Value>
-    ensures { option_map value_view result ≡ number_given number }
-{
-    if number < i64::from(i32::MIN) || number > i64::from(i32::MAX) {
-        return None;
-    }
-    Some(g_values::Value::Int(number as i32))
-}
-
-// The text that a value holds, or null.
-fn text_given(alloc: Global, value: &Value) -> Result<Option<g_values::Value>, AllocError>
-    ensures { IfOk result (λ o. option_map value_view o ≡ text_given (view value.now)) }
-{
-    if value.is_null() {
-        return Ok(Some(g_values::Value::Text(None)));
-    }
-    match value.as_str() {
-        Some(text) if text.len() <= MAX_TEXT_BYTES => Ok(Some(g_values::Value::Text(Some(
-            RcStr::from_str(alloc, text)?,
-        )))),
-        _ => Ok(None),
-    }
-}
-
-// The value of a kind that a JSON value stands for.
-fn value_given(
+// The value of a kind that a JSON value stands for, or the fault.
+fn value_for(
     alloc: Global,
+    types: &TypeTree,
     kind: Kind,
     value: &Value,
-) -> Result<Option<g_values::Value>, AllocError>
-    ensures { IfOk result (λ o. option_map value_view o ≡ given_value (kind_view kind) (view value.now)) }
+) -> Result<g_values::Value, EventError>
+    requires known { IsKnown types.now kind }
+    ensures { Gives value_view result (or_value_fault (json_value types.now (kind_view kind) (view value.now))) }
 {
-    match kind {
-        Kind::Bool => match value.as_bool() {
-            Some(truth) => Ok(Some(g_values::Value::Bool(truth))),
-            None => Ok(None),
-        },
-        Kind::Int => match value.as_i64() {
-            Some(number) => Ok(number_given(number)),
-            None => Ok(None),
-        },
-        Kind::Text => Ok(text_given(alloc, value)?),
-        Kind::UInt
-        | Kind::Int64
-        | Kind::UInt64
-        | Kind::Enum(_)
-        | Kind::Flags(_)
-        | Kind::Object(_) => Ok(None),
-    }
-}
-
-// The same, or the fault.
-fn value_for(alloc: Global, kind: Kind, value: &Value) -> Result<g_values::Value, EventError>
-    ensures { Gives value_view result (or_refused value_fault (given_value (kind_view kind) (view value.now))) }
-{
-    match value_given(alloc, kind, value)? {
-        Some(value) => Ok(value),
-        None => Err(EventError::Refused(EventFault::ValueFault)),
+    match from_json(alloc, types, value, kind) {
+        Ok(value) => Ok(value),
+        Err(JsonError::OutOfMemory) => Err(EventError::OutOfMemory),
+        Err(
+            JsonError::WrongJson
+            | JsonError::OutOfRange
+            | JsonError::UnknownMember
+            | JsonError::TextTooLong,
+        ) => Err(EventError::Refused(EventFault::ValueFault)),
     }
 }

@@ -1,0 +1,19 @@
+-- The kinds of plain properties are known: none of them names a type.
+use Rattle.std.proofs.Common.{List}
+use Rattle.ui_machine.specs.Types.{GType}
+use Rattle.ui_machine.specs.Properties.{Spec}
+use Rattle.g_values.specs.declared.kind.Kind.{Kind}
+use Rattle.g_values.specs.declared.kind.Kind.TheVariants as code
+use Rattle.g_values.specs.View.{kind_view, IsKnown}
+use Rattle.builder_defs.specs.Meaning.{IsPlainKind}
+
+pub plain_known : (types : List GType) (kind : Kind) (s : Spec) → IsPlainKind (kind_view kind) s → IsKnown types kind
+plain_known types code.Bool s plain = tt
+plain_known types code.Int s plain = tt
+plain_known types code.UInt s plain = tt
+plain_known types code.Int64 s plain = tt
+plain_known types code.UInt64 s plain = tt
+plain_known types code.Text s plain = tt
+plain_known types (code.Enum t) s plain = absurd plain
+plain_known types (code.Flags t) s plain = absurd plain
+plain_known types (code.Object t) s plain = tt
