@@ -2,7 +2,7 @@
 -- the counted steps stay within the bound, and why the frames stay within the depth. Nearly all of it reads of the objects only which
 -- place each living identity has: a write, a freeze or a dispose leaves that as it is, a construction extends it, and a finalisation
 -- takes one identity out, which nothing mentions.
-use Rattle.std.specs.Prelude.{◌≡◌, ◌⊎◌, ℕ, suc, ◌+◌, ◌≤◌, ◌<◌, Ok, Err, ⊤, Bool, true, false, cond, not, ◌&&◌, nat_eq, List, [], ◌∷◌, ◌++◌, length, drop, Option, None, Some, option_map, is_some, slice_get}
+use Rattle.std.specs.Prelude.{◌≡◌, ◌⊎◌, ℕ, suc, ◌+◌, ◌≤◌, ◌<◌, Ok, Err, ⊤, Bool, true, false, cond, not, ◌&&◌, nat_eq, List, [], ◌∷◌, ◌++◌, length, drop, Option, None, Some, option_map, is_some, slice_get, IfSome}
 use Rattle.std.specs.List.{AllZip, filter, flat_map}
 use Rattle.ui_machine.specs.Seq.{read, write, total}
 use Rattle.ui_machine.specs.Kinds.{Kind, RegisterKind}
@@ -17,7 +17,7 @@ use Rattle.ui_machine.specs.Definition as words
 use Rattle.ui_machine.specs.Lookups.{spec_of, place_at, program_at}
 use Rattle.ui_machine.specs.Emissions.{signal_of, most_depth, fits_detail}
 use Rattle.ui_machine.specs.Instructions.{nearest_shape}
-use Rattle.ui_machine.specs.Config.{Object, Objects, Handler, Binding, Source, Peer, Held, unbuilt, built, released, Turn, class_handler, handler, Emission, Making, sets, runs, thaws, Item, makes, adopts, forwards, binds, connects, Event, Registers, Task, Setting, Notifying, Beginning, Emitting, Transferring, Unsetting, Thawing, Running, Answering, Calling, Constructing, Building, Carrying, Due, World, Config}
+use Rattle.ui_machine.specs.Config.{Object, Objects, Handler, Binding, Source, Peer, Held, unbuilt, built, released, Turn, class_handler, handler, Emission, Making, sets, runs, thaws, Item, makes, adopts, forwards, binds, connects, Request, Reply, Registers, Frame, Call, Task, Setting, Notifying, Beginning, Emitting, Transferring, Unsetting, Thawing, Running, Answering, Calling, Constructing, Building, Carrying, Due, World, Config}
 use Rattle.ui_machine.specs.Config as config
 use Rattle.ui_machine.specs.Objects.{live}
 use Rattle.ui_machine.specs.Objects as heap
@@ -31,7 +31,8 @@ use Rattle.ui_machine.specs.Bindings.{listens}
 use Rattle.ui_machine.specs.Builds.{to_make, is_making, build_items}
 use Rattle.ui_machine.specs.Answers.{Answer}
 use Rattle.ui_machine.specs.Worlds.{held_at}
-use Rattle.ui_machine.specs.Steps.{step, most_steps}
+use Rattle.ui_machine.specs.Steps.{step, question, most_steps}
+use Rattle.ui_machine.specs.Runs.{question_in, Fits}
 use Rattle.law_typing.specs.RegisterKinds.{Kinds, kind_in, class_at, covers}
 use Rattle.law_typing.specs.Signatures.{is_taken_by, given_kinds, data_kinds, result_fits}
 use Rattle.law_typing.specs.Typing.{first_broken}
@@ -325,10 +326,10 @@ answer_of (Some p) method to = of (method_of p method)
     of (Some m) = answers to m.result
 
 abbrev pub down : Definition → World → Task → Down
-down d w (Running program block at passes into registers) = given (result_of_program (program_at d program))
+down d w (Running frame) = given (result_of_program (program_at d frame.program))
 down d w (Beginning e) = results (result_of_emission d (standing w.objects) e)
 down d w (Emitting e turns) = results (result_of_emission d (standing w.objects) e)
-down d w (Calling object peer method args to) = answer_of (slice_get w.peers peer) method to
+down d w (Calling call) = answer_of (slice_get w.peers call.peer) call.method call.to
 down d w _ = none
 
 -- the kinds of a program's registers once what comes down to it is written
@@ -356,20 +357,20 @@ TakesNone up = ⊤
 
 -- The rest of a program: its registers fit some kinds, at which the code that is left keeps its rules once what it waits for has come.
 -- Its brackets match, and the code left costs no more than the steps.
-pub record RunningGood (d : Definition) (costs depths : Tables) (s : Standing) (up : Down) (program block at passes : ℕ) (into : Option ℕ) (registers : Registers) (steps frames : ℕ) : Type 0 where
+pub record RunningGood (d : Definition) (costs depths : Tables) (s : Standing) (up : Down) (f : Frame) (steps frames : ℕ) : Type 0 where
   pub p : Program
-  pub is : program_at d program ≡ Some p
+  pub is : program_at d f.program ≡ Some p
   pub b : Block
-  pub in_block : slice_get p.blocks block ≡ Some b
-  pub inside : at < length b.code
-  pub once : passes ≡ 1
+  pub in_block : slice_get p.blocks f.block ≡ Some b
+  pub inside : f.at < length b.code
+  pub once : f.passes ≡ 1
   pub ks : Kinds
-  pub fit : RegistersFit d s ks registers
-  pub comes : Comes into up
-  pub typed : first_broken d p at (awaited ks into up) (drop at b.code) ≡ None
-  pub bracketed : is_bracketed (drop at b.code) ≡ true
+  pub fit : RegistersFit d s ks f.registers
+  pub comes : Comes f.into up
+  pub typed : first_broken d p f.at (awaited ks f.into up) (drop f.at b.code) ≡ None
+  pub bracketed : is_bracketed (drop f.at b.code) ≡ true
   pub cheap :
-      code_cost (graph d) costs (stretches_of d p) (starts_of d p (awaited ks into up) (drop at b.code)) (flat_map next_of (drop at b.code)) ≤ steps
+      code_cost (graph d) costs (stretches_of d p) (starts_of d p (awaited ks f.into up) (drop f.at b.code)) (flat_map next_of (drop f.at b.code)) ≤ steps
   pub shallow : program_depth depths (stretches_of d p) ≤ frames
 
 -- what is due at a channel of a living object
@@ -466,15 +467,14 @@ pub record ConstructingGood (d : Definition) (costs depths : Tables) (w : World)
   pub one : 1 ≤ frames
 
 -- a call that is due: the object's own open or closed peer has the method, the arguments fit, and the program that waits is the next task
-pub record CallingGood (d : Definition) (w : World) (below : List Task) (object peer method : ℕ) (args : List Value) (to : ℕ) : Type 0 where
-  pub lives : Lives (standing w.objects) object
+pub record CallingGood (d : Definition) (w : World) (below : List Task) (call : Call) : Type 0 where
+  pub lives : Lives (standing w.objects) call.object
   pub p : Peer
   pub m : Method
-  pub is : slice_get w.peers peer ≡ Some p
-  pub has : method_of p method ≡ Some m
-  pub args_fit : all_fit (kind_fits (class_by d (standing w.objects)) d.types) args m.params ≡ true
-  pub waits : (program block at passes : ℕ) × (into : Option ℕ) × (registers : Registers) × (rest : List Task)
-      × (below ≡ Running program block at passes into registers ∷ rest) × (to < length registers)
+  pub is : slice_get w.peers call.peer ≡ Some p
+  pub has : method_of p call.method ≡ Some m
+  pub args_fit : all_fit (kind_fits (class_by d (standing w.objects)) d.types) call.args m.params ≡ true
+  pub waits : (frame : Frame) × (rest : List Task) × (below ≡ Running frame ∷ rest) × (call.to < length frame.registers)
 
 -- what an item of the build costs
 abbrev pub item_cost : Definition → Tables → Item → ℕ
@@ -509,12 +509,11 @@ BuildGood d w agenda (Building items ∷ tasks) =
     × Each (λ (h : Held). (id : ℕ) × (h ≡ built id)) w.builder × BuildGood d w agenda tasks
 BuildGood d w agenda (task ∷ tasks) = BuildGood d w agenda tasks
 
--- where an event's dispatch begins
-abbrev pub entry_of : Definition → Event → Entry
+-- where a request's dispatch begins
+abbrev pub entry_of : Definition → Request → Entry
 entry_of d (config.set place slot g) = entries.at (property place slot)
 entry_of d (config.get place slot) = entries.plain
 entry_of d (config.emit place number args detail) = entries.at (signal place number)
-entry_of d (config.turn moment) = entries.plain
 entry_of d (config.release place) = entries.plain
 
 -- the frames of what begins so
@@ -524,18 +523,17 @@ entry_depth depths (entries.at c) = entry depths.channels c
 entry_depth depths (entries.source program) = of_program depths program
 entry_depth depths entries.plain = 0
 
--- what reading says of an event
-abbrev pub EventRead : Definition → Event → Type 0
-EventRead d (config.set place slot g) =
+-- what reading says of a request
+abbrev pub RequestRead : Definition → Request → Type 0
+RequestRead d (config.set place slot g) =
     (spec : Spec) × (spec_at d place slot ≡ Some spec) × (is_writable spec ≡ true) × (is_construct_only spec ≡ false) × GivenFits d spec.kind g
-EventRead d (config.get place slot) = (spec : Spec) × (spec_at d place slot ≡ Some spec) × (is_readable spec ≡ true)
-EventRead d (config.emit place number args detail) =
+RequestRead d (config.get place slot) = (spec : Spec) × (spec_at d place slot ≡ Some spec) × (is_readable spec ≡ true)
+RequestRead d (config.emit place number args detail) =
     (class : ℕ) × (sig : Signal) × (class_at d place ≡ Some class) × (signal_of d class number ≡ Some sig) × (0 < number) × AllZip (λ g kind. GivenFits d kind g) args sig.params
-EventRead d (config.turn moment) = ⊤
-EventRead d (config.release place) = ⊤
+RequestRead d (config.release place) = ⊤
 
--- the places that an event names are held, as reading and the session see to
-abbrev pub places_named : Event → List ℕ
+-- the places that a request names; they are held, as reading and the session see to
+abbrev pub places_named : Request → List ℕ
 places_named (config.set place slot (words.value v)) = place ∷ []
 places_named (config.set place slot (words.named to)) = place ∷ to ∷ []
 places_named (config.get place slot) = place ∷ []
@@ -544,14 +542,13 @@ places_named (config.emit place number args detail) = place ∷ flat_map of args
     of : Given → List ℕ
     of (words.value v) = []
     of (words.named to) = to ∷ []
-places_named (config.turn moment) = []
 places_named (config.release place) = place ∷ []
 
-pub record CarryingGood (d : Definition) (costs depths : Tables) (w : World) (event : Event) (steps frames : ℕ) : Type 0 where
-  pub fits : EventRead d event
-  pub held : Each (λ place. (id : ℕ) × (held_at w place ≡ built id)) (places_named event)
-  pub cheap : cost (graph d) costs (entry_of d event) ≤ steps
-  pub shallow : entry_depth depths (entry_of d event) ≤ frames
+pub record CarryingGood (d : Definition) (costs depths : Tables) (w : World) (request : Request) (steps frames : ℕ) : Type 0 where
+  pub fits : RequestRead d request
+  pub held : Each (λ place. (id : ℕ) × (held_at w place ≡ built id)) (places_named request)
+  pub cheap : cost (graph d) costs (entry_of d request) ≤ steps
+  pub shallow : entry_depth depths (entry_of d request) ≤ frames
 
 -- each task, above these, with what comes down to it
 abbrev pub TaskGood : Definition → Tables → Tables → World → Down → List Task → Task → ℕ → ℕ → Type 0
@@ -565,15 +562,15 @@ TaskGood d costs depths w up below (Transferring number back) steps frames =
 TaskGood d costs depths w up below (Unsetting number) steps frames = TakesNone up
 TaskGood d costs depths w up below (Thawing id slots) steps frames =
     TakesNone up × ThawingGood d costs depths (standing w.objects) below id slots steps frames
-TaskGood d costs depths w up below (Running program block at passes into registers) steps frames =
-    TakesNone up × RunningGood d costs depths (standing w.objects) up program block at passes into registers steps frames
+TaskGood d costs depths w up below (Running frame) steps frames =
+    TakesNone up × RunningGood d costs depths (standing w.objects) up frame steps frames
 TaskGood d costs depths w up below (Answering source) steps frames = Suits d (Some kinds.bool) up
-TaskGood d costs depths w up below (Calling object peer method args to) steps frames = TakesNone up × CallingGood d w below object peer method args to
+TaskGood d costs depths w up below (Calling call) steps frames = TakesNone up × CallingGood d w below call
 TaskGood d costs depths w up below (Constructing id todo held) steps frames =
     TakesNone up × ConstructingGood d costs depths w id todo held steps frames
 TaskGood d costs depths w up below (Building items) steps frames =
     TakesNone up × (total (item_cost d costs) items ≤ steps) × Each (λ item. item_depth d depths item ≤ frames) items
-TaskGood d costs depths w up below (Carrying event) steps frames = TakesNone up × CarryingGood d costs depths w event steps frames
+TaskGood d costs depths w up below (Carrying request) steps frames = TakesNone up × CarryingGood d costs depths w request steps frames
 TaskGood d costs depths w up below (Due source) steps frames =
     TakesNone up × ((s : Source) × (sources.source_of source w.sources ≡ Some s) × (of_program costs s.program ≤ steps) × (of_program depths s.program ≤ frames))
 
@@ -581,7 +578,7 @@ TaskGood d costs depths w up below (Due source) steps frames =
 
 -- a frame is the rest of a program, an emission or a construction
 abbrev pub is_frame : Task → ℕ
-is_frame (Running program block at passes into registers) = 1
+is_frame (Running frame) = 1
 is_frame (Emitting e turns) = 1
 is_frame (Constructing id todo held) = 1
 is_frame _ = 0
@@ -600,7 +597,7 @@ AgendaGood d costs depths w most up (task ∷ below) budget =
 
 -- how often a program's rest holds an object frozen: the registers that its code still thaws
 abbrev pub frozen_by : Definition → ℕ → Task → ℕ
-frozen_by d id (Running program block at passes into registers) = total holding (opened (drop at (code_of (program_at d program))))
+frozen_by d id (Running frame) = total holding (opened (drop frame.at (code_of (program_at d frame.program))))
   where
     in_block : Option Block → List Instruction
     in_block None = []
@@ -608,14 +605,14 @@ frozen_by d id (Running program block at passes into registers) = total holding 
 
     code_of : Option Program → List Instruction
     code_of None = []
-    code_of (Some p) = in_block (slice_get p.blocks block)
+    code_of (Some p) = in_block (slice_get p.blocks frame.block)
 
     names : Option Value → ℕ
     names (Some (values.object (Some i))) = cond (nat_eq i id) 1 0
     names _ = 0
 
     holding : ℕ → ℕ
-    holding r = names (read None registers r)
+    holding r = names (read None frame.registers r)
 frozen_by d id (Constructing object todo held) = cond (nat_eq object id) (to_thaw todo) 0
   where
     to_thaw : List Making → ℕ
@@ -693,9 +690,14 @@ abbrev pub Fine : Definition → Tables → Tables → ℕ → ℕ → Answer Co
 Fine d costs depths most_counted most (Ok c) = Good d costs depths most_counted most c
 Fine d costs depths most_counted most (Err arm) = ⊥
 
+-- a reply that the step takes: that of the peer which is asked, as every peer may give it
+pub record Replies (d : Definition) (c : Config) (reply : Option Reply) : Type 0 where
+  pub asks : question d c ≡ question_in reply
+  pub fits : IfSome reply (Fits d)
+
 -- each step of a run of an accepted definition keeps what is good
 abbrev pub StepsKeepGood : Type 0
 StepsKeepGood =
     (d : Definition) → WellRead d → (a : Accepted d) → (most_counted : ℕ) → most_counted ≤ most_steps → (c : Config) →
-    Good d a.weighed.costs a.weighed.depths most_counted (depth (graph d) a.weighed.depths) c →
-    Fine d a.weighed.costs a.weighed.depths most_counted (depth (graph d) a.weighed.depths) (step d c)
+    Good d a.weighed.costs a.weighed.depths most_counted (depth (graph d) a.weighed.depths) c → (reply : Option Reply) → Replies d c reply →
+    Fine d a.weighed.costs a.weighed.depths most_counted (depth (graph d) a.weighed.depths) (step d reply c)

@@ -14,9 +14,9 @@ pub held_at_rest : HeldAtRest
 held_at_rest d w counted o = omega arith
 
 pub ends_stay : EndsStay
-ends_stay d c h =
-    ap (first_of d c) h.held
-    ∙ (ap (λ (ts : List Task). act d c.world ts c.counted) h.agenda
+ends_stay d reply c h =
+    ap (first_of d reply c) h.held
+    ∙ (ap (λ (ts : List Task). act d c.world reply ts c.counted) h.agenda
     ∙ (ap (λ (floating : List ℕ). Ok (record { world = settling c.world floating; agenda = []; counted = c.counted })) h.floating
     ∙ ap (λ (ts : List Task). Ok (record { world = c.world; agenda = ts; counted = c.counted })) (sym h.agenda)))
 

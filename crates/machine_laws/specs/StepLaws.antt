@@ -1,5 +1,5 @@
 -- Laws of configurations and steps.
-use Rattle.std.specs.Prelude.{◌≡◌, ℕ, ◌+◌, true, false, List, [], None, Some, Ok}
+use Rattle.std.specs.Prelude.{◌≡◌, ℕ, ◌+◌, true, false, List, [], Option, None, Some, Ok}
 use Rattle.ui_machine.specs.Seq.{total}
 use Rattle.ui_machine.specs.Kinds as kinds
 use Rattle.ui_machine.specs.Values as values
@@ -7,7 +7,7 @@ use Rattle.ui_machine.specs.Types.{GType}
 use Rattle.ui_machine.specs.Ancestry.{is_a}
 use Rattle.ui_machine.specs.Transform.{kind_fits}
 use Rattle.ui_machine.specs.Definition.{Definition}
-use Rattle.ui_machine.specs.Config.{Object, Objects, World, Config}
+use Rattle.ui_machine.specs.Config.{Reply, Object, Objects, World, Config}
 use Rattle.ui_machine.specs.Objects.{find, put, class_in}
 use Rattle.ui_machine.specs.Mentions.{same, in_object, in_held, in_source, mentions}
 use Rattle.ui_machine.specs.Steps.{step}
@@ -22,7 +22,7 @@ HeldAtRest =
 
 -- where a dispatch has ended no step changes anything
 abbrev pub EndsStay : Type 0
-EndsStay = (d : Definition) (c : Config) → HasEnded d c → step d c ≡ Ok c
+EndsStay = (d : Definition) (reply : Option Reply) (c : Config) → HasEnded d c → step d reply c ≡ Ok c
 
 -- an object that fits a type lives, and its class is the type
 abbrev pub FittingLives : Type 0

@@ -8,7 +8,7 @@ use Rattle.ui_machine.specs.Instructions.{moving, reckoning, comparing, sameness
 use Rattle.ui_machine.specs.Objects.{asked, changed, with_value}
 use Rattle.ui_machine.specs.Programs.{beginning_program, program_before}
 use Rattle.ui_machine.specs.Registers.{values_in, truth_in, text_in, whole_in, operand_in, data_in, written_to}
-use Rattle.ui_machine.specs.Results.{down_to_emission, down_to_source, received_at, ending}
+use Rattle.ui_machine.specs.Results.{down_to_emission, down_to_source, received_by, ending}
 use Rattle.ui_machine.specs.Running.{block_in, given_by, returned, returning, in_front, running}
 use Rattle.ui_machine.specs.Sets.{spec_at, raising, written, setting}
 use Rattle.ui_machine.specs.Steps.{building_object, carrying_set, carrying_get, given_values, carrying_emit, carrying_release, sourcing, left}
@@ -28,49 +28,49 @@ use Rattle.machine_rows.specs.UnfitResult as unfitresult_run
 use Rattle.machine_rows.specs.AbstractObject as abstractobject_run
 
 pub unsetregister_holds : unsetregister_run.Holds
-unfolding making constructed thawing_made held_data building_child building_forward building_binding building_handler with_method left_with called uncalled notifying signal_at beginning_emission adopted moving reckoning comparing sameness negating conjunction disjunction joining converting slot_at getting set_from assigning then_goes_on telling naming made_new creating sinking orphaning disposing adopting freezing unfreezing signal_in signal_to_emit emitting connecting on_handlers attaching removing calling jumping branching branching_null asked changed with_value beginning_program program_before values_in truth_in text_in whole_in operand_in data_in written_to down_to_emission down_to_source received_at ending block_in given_by returned returning in_front running spec_at raising written setting building_object carrying_set carrying_get given_values carrying_emit carrying_release sourcing left carried collecting resulting
+unfolding making constructed thawing_made held_data building_child building_forward building_binding building_handler with_method left_with called uncalled notifying signal_at beginning_emission adopted moving reckoning comparing sameness negating conjunction disjunction joining converting slot_at getting set_from assigning then_goes_on telling naming made_new creating sinking orphaning disposing adopting freezing unfreezing signal_in signal_to_emit emitting connecting on_handlers attaching removing calling jumping branching branching_null asked changed with_value beginning_program program_before values_in truth_in text_in whole_in operand_in data_in written_to down_to_emission down_to_source received_by ending block_in given_by returned returning in_front running spec_at raising written setting building_object carrying_set carrying_get given_values carrying_emit carrying_release sourcing left carried collecting resulting
 unsetregister_holds = refl
 
 pub valueofanotherkind_holds : valueofanotherkind_run.Holds
-unfolding making constructed thawing_made held_data building_child building_forward building_binding building_handler with_method left_with called uncalled notifying signal_at beginning_emission adopted moving reckoning comparing sameness negating conjunction disjunction joining converting slot_at getting set_from assigning then_goes_on telling naming made_new creating sinking orphaning disposing adopting freezing unfreezing signal_in signal_to_emit emitting connecting on_handlers attaching removing calling jumping branching branching_null asked changed with_value beginning_program program_before values_in truth_in text_in whole_in operand_in data_in written_to down_to_emission down_to_source received_at ending block_in given_by returned returning in_front running spec_at raising written setting building_object carrying_set carrying_get given_values carrying_emit carrying_release sourcing left carried collecting resulting
+unfolding making constructed thawing_made held_data building_child building_forward building_binding building_handler with_method left_with called uncalled notifying signal_at beginning_emission adopted moving reckoning comparing sameness negating conjunction disjunction joining converting slot_at getting set_from assigning then_goes_on telling naming made_new creating sinking orphaning disposing adopting freezing unfreezing signal_in signal_to_emit emitting connecting on_handlers attaching removing calling jumping branching branching_null asked changed with_value beginning_program program_before values_in truth_in text_in whole_in operand_in data_in written_to down_to_emission down_to_source received_by ending block_in given_by returned returning in_front running spec_at raising written setting building_object carrying_set carrying_get given_values carrying_emit carrying_release sourcing left carried collecting resulting
 valueofanotherkind_holds = refl
 
 pub lateconstructonly_holds : lateconstructonly_run.Holds
-unfolding making constructed thawing_made held_data building_child building_forward building_binding building_handler with_method left_with called uncalled notifying signal_at beginning_emission adopted moving reckoning comparing sameness negating conjunction disjunction joining converting slot_at getting set_from assigning then_goes_on telling naming made_new creating sinking orphaning disposing adopting freezing unfreezing signal_in signal_to_emit emitting connecting on_handlers attaching removing calling jumping branching branching_null asked changed with_value beginning_program program_before values_in truth_in text_in whole_in operand_in data_in written_to down_to_emission down_to_source received_at ending block_in given_by returned returning in_front running spec_at raising written setting building_object carrying_set carrying_get given_values carrying_emit carrying_release sourcing left carried collecting resulting
+unfolding making constructed thawing_made held_data building_child building_forward building_binding building_handler with_method left_with called uncalled notifying signal_at beginning_emission adopted moving reckoning comparing sameness negating conjunction disjunction joining converting slot_at getting set_from assigning then_goes_on telling naming made_new creating sinking orphaning disposing adopting freezing unfreezing signal_in signal_to_emit emitting connecting on_handlers attaching removing calling jumping branching branching_null asked changed with_value beginning_program program_before values_in truth_in text_in whole_in operand_in data_in written_to down_to_emission down_to_source received_by ending block_in given_by returned returning in_front running spec_at raising written setting building_object carrying_set carrying_get given_values carrying_emit carrying_release sourcing left carried collecting resulting
 lateconstructonly_holds = refl
 
 pub unreadableproperty_holds : unreadableproperty_run.Holds
-unfolding making constructed thawing_made held_data building_child building_forward building_binding building_handler with_method left_with called uncalled notifying signal_at beginning_emission adopted moving reckoning comparing sameness negating conjunction disjunction joining converting slot_at getting set_from assigning then_goes_on telling naming made_new creating sinking orphaning disposing adopting freezing unfreezing signal_in signal_to_emit emitting connecting on_handlers attaching removing calling jumping branching branching_null asked changed with_value beginning_program program_before values_in truth_in text_in whole_in operand_in data_in written_to down_to_emission down_to_source received_at ending block_in given_by returned returning in_front running spec_at raising written setting building_object carrying_set carrying_get given_values carrying_emit carrying_release sourcing left carried collecting resulting
+unfolding making constructed thawing_made held_data building_child building_forward building_binding building_handler with_method left_with called uncalled notifying signal_at beginning_emission adopted moving reckoning comparing sameness negating conjunction disjunction joining converting slot_at getting set_from assigning then_goes_on telling naming made_new creating sinking orphaning disposing adopting freezing unfreezing signal_in signal_to_emit emitting connecting on_handlers attaching removing calling jumping branching branching_null asked changed with_value beginning_program program_before values_in truth_in text_in whole_in operand_in data_in written_to down_to_emission down_to_source received_by ending block_in given_by returned returning in_front running spec_at raising written setting building_object carrying_set carrying_get given_values carrying_emit carrying_release sourcing left carried collecting resulting
 unreadableproperty_holds = refl
 
 pub nulloperand_holds : nulloperand_run.Holds
-unfolding making constructed thawing_made held_data building_child building_forward building_binding building_handler with_method left_with called uncalled notifying signal_at beginning_emission adopted moving reckoning comparing sameness negating conjunction disjunction joining converting slot_at getting set_from assigning then_goes_on telling naming made_new creating sinking orphaning disposing adopting freezing unfreezing signal_in signal_to_emit emitting connecting on_handlers attaching removing calling jumping branching branching_null asked changed with_value beginning_program program_before values_in truth_in text_in whole_in operand_in data_in written_to down_to_emission down_to_source received_at ending block_in given_by returned returning in_front running spec_at raising written setting building_object carrying_set carrying_get given_values carrying_emit carrying_release sourcing left carried collecting resulting
+unfolding making constructed thawing_made held_data building_child building_forward building_binding building_handler with_method left_with called uncalled notifying signal_at beginning_emission adopted moving reckoning comparing sameness negating conjunction disjunction joining converting slot_at getting set_from assigning then_goes_on telling naming made_new creating sinking orphaning disposing adopting freezing unfreezing signal_in signal_to_emit emitting connecting on_handlers attaching removing calling jumping branching branching_null asked changed with_value beginning_program program_before values_in truth_in text_in whole_in operand_in data_in written_to down_to_emission down_to_source received_by ending block_in given_by returned returning in_front running spec_at raising written setting building_object carrying_set carrying_get given_values carrying_emit carrying_release sourcing left carried collecting resulting
 nulloperand_holds = refl
 
 pub unfitargument_holds : unfitargument_run.Holds
-unfolding making constructed thawing_made held_data building_child building_forward building_binding building_handler with_method left_with called uncalled notifying signal_at beginning_emission adopted moving reckoning comparing sameness negating conjunction disjunction joining converting slot_at getting set_from assigning then_goes_on telling naming made_new creating sinking orphaning disposing adopting freezing unfreezing signal_in signal_to_emit emitting connecting on_handlers attaching removing calling jumping branching branching_null asked changed with_value beginning_program program_before values_in truth_in text_in whole_in operand_in data_in written_to down_to_emission down_to_source received_at ending block_in given_by returned returning in_front running spec_at raising written setting building_object carrying_set carrying_get given_values carrying_emit carrying_release sourcing left carried collecting resulting
+unfolding making constructed thawing_made held_data building_child building_forward building_binding building_handler with_method left_with called uncalled notifying signal_at beginning_emission adopted moving reckoning comparing sameness negating conjunction disjunction joining converting slot_at getting set_from assigning then_goes_on telling naming made_new creating sinking orphaning disposing adopting freezing unfreezing signal_in signal_to_emit emitting connecting on_handlers attaching removing calling jumping branching branching_null asked changed with_value beginning_program program_before values_in truth_in text_in whole_in operand_in data_in written_to down_to_emission down_to_source received_by ending block_in given_by returned returning in_front running spec_at raising written setting building_object carrying_set carrying_get given_values carrying_emit carrying_release sourcing left carried collecting resulting
 unfitargument_holds = refl
 
 pub unfitparameters_holds : unfitparameters_run.Holds
-unfolding making constructed thawing_made held_data building_child building_forward building_binding building_handler with_method left_with called uncalled notifying signal_at beginning_emission adopted moving reckoning comparing sameness negating conjunction disjunction joining converting slot_at getting set_from assigning then_goes_on telling naming made_new creating sinking orphaning disposing adopting freezing unfreezing signal_in signal_to_emit emitting connecting on_handlers attaching removing calling jumping branching branching_null asked changed with_value beginning_program program_before values_in truth_in text_in whole_in operand_in data_in written_to down_to_emission down_to_source received_at ending block_in given_by returned returning in_front running spec_at raising written setting building_object carrying_set carrying_get given_values carrying_emit carrying_release sourcing left carried collecting resulting
+unfolding making constructed thawing_made held_data building_child building_forward building_binding building_handler with_method left_with called uncalled notifying signal_at beginning_emission adopted moving reckoning comparing sameness negating conjunction disjunction joining converting slot_at getting set_from assigning then_goes_on telling naming made_new creating sinking orphaning disposing adopting freezing unfreezing signal_in signal_to_emit emitting connecting on_handlers attaching removing calling jumping branching branching_null asked changed with_value beginning_program program_before values_in truth_in text_in whole_in operand_in data_in written_to down_to_emission down_to_source received_by ending block_in given_by returned returning in_front running spec_at raising written setting building_object carrying_set carrying_get given_values carrying_emit carrying_release sourcing left carried collecting resulting
 unfitparameters_holds = refl
 
 pub thawwithoutfreeze_holds : thawwithoutfreeze_run.Holds
-unfolding making constructed thawing_made held_data building_child building_forward building_binding building_handler with_method left_with called uncalled notifying signal_at beginning_emission adopted moving reckoning comparing sameness negating conjunction disjunction joining converting slot_at getting set_from assigning then_goes_on telling naming made_new creating sinking orphaning disposing adopting freezing unfreezing signal_in signal_to_emit emitting connecting on_handlers attaching removing calling jumping branching branching_null asked changed with_value beginning_program program_before values_in truth_in text_in whole_in operand_in data_in written_to down_to_emission down_to_source received_at ending block_in given_by returned returning in_front running spec_at raising written setting building_object carrying_set carrying_get given_values carrying_emit carrying_release sourcing left carried collecting resulting
+unfolding making constructed thawing_made held_data building_child building_forward building_binding building_handler with_method left_with called uncalled notifying signal_at beginning_emission adopted moving reckoning comparing sameness negating conjunction disjunction joining converting slot_at getting set_from assigning then_goes_on telling naming made_new creating sinking orphaning disposing adopting freezing unfreezing signal_in signal_to_emit emitting connecting on_handlers attaching removing calling jumping branching branching_null asked changed with_value beginning_program program_before values_in truth_in text_in whole_in operand_in data_in written_to down_to_emission down_to_source received_by ending block_in given_by returned returning in_front running spec_at raising written setting building_object carrying_set carrying_get given_values carrying_emit carrying_release sourcing left carried collecting resulting
 thawwithoutfreeze_holds = refl
 
 pub callwithoutpeer_holds : callwithoutpeer_run.Holds
-unfolding making constructed thawing_made held_data building_child building_forward building_binding building_handler with_method left_with called uncalled notifying signal_at beginning_emission adopted moving reckoning comparing sameness negating conjunction disjunction joining converting slot_at getting set_from assigning then_goes_on telling naming made_new creating sinking orphaning disposing adopting freezing unfreezing signal_in signal_to_emit emitting connecting on_handlers attaching removing calling jumping branching branching_null asked changed with_value beginning_program program_before values_in truth_in text_in whole_in operand_in data_in written_to down_to_emission down_to_source received_at ending block_in given_by returned returning in_front running spec_at raising written setting building_object carrying_set carrying_get given_values carrying_emit carrying_release sourcing left carried collecting resulting
+unfolding making constructed thawing_made held_data building_child building_forward building_binding building_handler with_method left_with called uncalled notifying signal_at beginning_emission adopted moving reckoning comparing sameness negating conjunction disjunction joining converting slot_at getting set_from assigning then_goes_on telling naming made_new creating sinking orphaning disposing adopting freezing unfreezing signal_in signal_to_emit emitting connecting on_handlers attaching removing calling jumping branching branching_null asked changed with_value beginning_program program_before values_in truth_in text_in whole_in operand_in data_in written_to down_to_emission down_to_source received_by ending block_in given_by returned returning in_front running spec_at raising written setting building_object carrying_set carrying_get given_values carrying_emit carrying_release sourcing left carried collecting resulting
 callwithoutpeer_holds = refl
 
 pub unknownproperty_holds : unknownproperty_run.Holds
-unfolding making constructed thawing_made held_data building_child building_forward building_binding building_handler with_method left_with called uncalled notifying signal_at beginning_emission adopted moving reckoning comparing sameness negating conjunction disjunction joining converting slot_at getting set_from assigning then_goes_on telling naming made_new creating sinking orphaning disposing adopting freezing unfreezing signal_in signal_to_emit emitting connecting on_handlers attaching removing calling jumping branching branching_null asked changed with_value beginning_program program_before values_in truth_in text_in whole_in operand_in data_in written_to down_to_emission down_to_source received_at ending block_in given_by returned returning in_front running spec_at raising written setting building_object carrying_set carrying_get given_values carrying_emit carrying_release sourcing left carried collecting resulting
+unfolding making constructed thawing_made held_data building_child building_forward building_binding building_handler with_method left_with called uncalled notifying signal_at beginning_emission adopted moving reckoning comparing sameness negating conjunction disjunction joining converting slot_at getting set_from assigning then_goes_on telling naming made_new creating sinking orphaning disposing adopting freezing unfreezing signal_in signal_to_emit emitting connecting on_handlers attaching removing calling jumping branching branching_null asked changed with_value beginning_program program_before values_in truth_in text_in whole_in operand_in data_in written_to down_to_emission down_to_source received_by ending block_in given_by returned returning in_front running spec_at raising written setting building_object carrying_set carrying_get given_values carrying_emit carrying_release sourcing left carried collecting resulting
 unknownproperty_holds = refl
 
 pub unfitresult_holds : unfitresult_run.Holds
-unfolding making constructed thawing_made held_data building_child building_forward building_binding building_handler with_method left_with called uncalled notifying signal_at beginning_emission adopted moving reckoning comparing sameness negating conjunction disjunction joining converting slot_at getting set_from assigning then_goes_on telling naming made_new creating sinking orphaning disposing adopting freezing unfreezing signal_in signal_to_emit emitting connecting on_handlers attaching removing calling jumping branching branching_null asked changed with_value beginning_program program_before values_in truth_in text_in whole_in operand_in data_in written_to down_to_emission down_to_source received_at ending block_in given_by returned returning in_front running spec_at raising written setting building_object carrying_set carrying_get given_values carrying_emit carrying_release sourcing left carried collecting resulting
+unfolding making constructed thawing_made held_data building_child building_forward building_binding building_handler with_method left_with called uncalled notifying signal_at beginning_emission adopted moving reckoning comparing sameness negating conjunction disjunction joining converting slot_at getting set_from assigning then_goes_on telling naming made_new creating sinking orphaning disposing adopting freezing unfreezing signal_in signal_to_emit emitting connecting on_handlers attaching removing calling jumping branching branching_null asked changed with_value beginning_program program_before values_in truth_in text_in whole_in operand_in data_in written_to down_to_emission down_to_source received_by ending block_in given_by returned returning in_front running spec_at raising written setting building_object carrying_set carrying_get given_values carrying_emit carrying_release sourcing left carried collecting resulting
 unfitresult_holds = refl
 
 pub abstractobject_holds : abstractobject_run.Holds
-unfolding making constructed thawing_made held_data building_child building_forward building_binding building_handler with_method left_with called uncalled notifying signal_at beginning_emission adopted moving reckoning comparing sameness negating conjunction disjunction joining converting slot_at getting set_from assigning then_goes_on telling naming made_new creating sinking orphaning disposing adopting freezing unfreezing signal_in signal_to_emit emitting connecting on_handlers attaching removing calling jumping branching branching_null asked changed with_value beginning_program program_before values_in truth_in text_in whole_in operand_in data_in written_to down_to_emission down_to_source received_at ending block_in given_by returned returning in_front running spec_at raising written setting building_object carrying_set carrying_get given_values carrying_emit carrying_release sourcing left carried collecting resulting
+unfolding making constructed thawing_made held_data building_child building_forward building_binding building_handler with_method left_with called uncalled notifying signal_at beginning_emission adopted moving reckoning comparing sameness negating conjunction disjunction joining converting slot_at getting set_from assigning then_goes_on telling naming made_new creating sinking orphaning disposing adopting freezing unfreezing signal_in signal_to_emit emitting connecting on_handlers attaching removing calling jumping branching branching_null asked changed with_value beginning_program program_before values_in truth_in text_in whole_in operand_in data_in written_to down_to_emission down_to_source received_by ending block_in given_by returned returning in_front running spec_at raising written setting building_object carrying_set carrying_get given_values carrying_emit carrying_release sourcing left carried collecting resulting
 abstractobject_holds = refl

@@ -6,7 +6,7 @@ use Rattle.ui_machine.specs.Definition.{Definition}
 use Rattle.ui_machine.specs.Definition as words
 use Rattle.ui_machine.specs.Config.{Event, Peer}
 use Rattle.ui_machine.specs.Config as config
-use Rattle.machine_rows.specs.Play.{Reply, shown}
+use Rattle.machine_rows.specs.Play.{Scripted, shown}
 use Rattle.machine_rows.specs.Words.{class_type, notify, class_of, block, program, object}
 
 abbrev pub definition : Definition
@@ -48,11 +48,11 @@ peers =
 
 abbrev pub events : List Event
 events =
-    config.release 1
-    ∷ config.release 0
+    config.request (config.release 1)
+    ∷ config.request (config.release 0)
     ∷ []
 
-abbrev pub replies : List Reply
+abbrev pub replies : List Scripted
 replies =
     []
 

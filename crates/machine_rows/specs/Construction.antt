@@ -5,7 +5,7 @@ use Rattle.ui_machine.specs.Values as values
 use Rattle.ui_machine.specs.Types.{plain_class}
 use Rattle.ui_machine.specs.Definition.{Definition, value}
 use Rattle.ui_machine.specs.Config.{Event, Peer}
-use Rattle.machine_rows.specs.Play.{Reply, shown}
+use Rattle.machine_rows.specs.Play.{Scripted, shown}
 use Rattle.machine_rows.specs.Words.{class_type, property, notify, class_of, gives, object}
 
 abbrev pub definition : Definition
@@ -43,7 +43,7 @@ abbrev pub events : List Event
 events =
     []
 
-abbrev pub replies : List Reply
+abbrev pub replies : List Scripted
 replies =
     []
 

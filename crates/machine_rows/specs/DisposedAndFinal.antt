@@ -7,7 +7,7 @@ use Rattle.ui_machine.specs.Definition.{Definition, named}
 use Rattle.ui_machine.specs.Definition as words
 use Rattle.ui_machine.specs.Config.{Event, Peer}
 use Rattle.ui_machine.specs.Config as config
-use Rattle.machine_rows.specs.Play.{Reply, shown}
+use Rattle.machine_rows.specs.Play.{Scripted, shown}
 use Rattle.machine_rows.specs.Words.{class_type, property, signal, notify, class_of, block, program, attached, object}
 
 abbrev pub definition : Definition
@@ -45,13 +45,13 @@ peers =
 
 abbrev pub events : List Event
 events =
-    config.emit 0 1 [] None
-    ∷ config.set 0 0 (named 1)
-    ∷ config.release 1
-    ∷ config.release 0
+    config.request (config.emit 0 1 [] None)
+    ∷ config.request (config.set 0 0 (named 1))
+    ∷ config.request (config.release 1)
+    ∷ config.request (config.release 0)
     ∷ []
 
-abbrev pub replies : List Reply
+abbrev pub replies : List Scripted
 replies =
     []
 

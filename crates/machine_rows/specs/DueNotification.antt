@@ -6,7 +6,7 @@ use Rattle.ui_machine.specs.Types.{plain_class}
 use Rattle.ui_machine.specs.Definition.{Definition, value, named}
 use Rattle.ui_machine.specs.Config.{Event, Peer}
 use Rattle.ui_machine.specs.Config as config
-use Rattle.machine_rows.specs.Play.{Reply, shown}
+use Rattle.machine_rows.specs.Play.{Scripted, shown}
 use Rattle.machine_rows.specs.Words.{class_type, property, notify, class_of, object, bind}
 
 abbrev pub definition : Definition
@@ -42,12 +42,12 @@ peers =
 
 abbrev pub events : List Event
 events =
-    config.set 0 0 (named 1)
-    ∷ config.release 1
-    ∷ config.set 0 0 (value (values.object None))
+    config.request (config.set 0 0 (named 1))
+    ∷ config.request (config.release 1)
+    ∷ config.request (config.set 0 0 (value (values.object None)))
     ∷ []
 
-abbrev pub replies : List Reply
+abbrev pub replies : List Scripted
 replies =
     []
 

@@ -6,7 +6,7 @@ use Rattle.ui_machine.specs.Types.{plain_class}
 use Rattle.ui_machine.specs.Definition.{Definition, value}
 use Rattle.ui_machine.specs.Config.{Event, Peer}
 use Rattle.ui_machine.specs.Config as config
-use Rattle.machine_rows.specs.Play.{Reply, shown}
+use Rattle.machine_rows.specs.Play.{Scripted, shown}
 use Rattle.machine_rows.specs.Words.{member, enum_type, class_type, property, notify, class_of, bare, object, bind}
 
 abbrev pub definition : Definition
@@ -44,11 +44,11 @@ peers =
 
 abbrev pub events : List Event
 events =
-    config.set 0 0 (value (values.whole kinds.int (pos 5)))
-    ∷ config.set 0 0 (value (values.whole kinds.int (pos 1)))
+    config.request (config.set 0 0 (value (values.whole kinds.int (pos 5))))
+    ∷ config.request (config.set 0 0 (value (values.whole kinds.int (pos 1))))
     ∷ []
 
-abbrev pub replies : List Reply
+abbrev pub replies : List Scripted
 replies =
     []
 

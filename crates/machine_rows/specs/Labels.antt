@@ -7,7 +7,7 @@ use Rattle.ui_machine.specs.Definition.{Definition, value}
 use Rattle.ui_machine.specs.Definition as words
 use Rattle.ui_machine.specs.Config.{Event, Peer}
 use Rattle.ui_machine.specs.Config as config
-use Rattle.machine_rows.specs.Play.{Reply, shown}
+use Rattle.machine_rows.specs.Play.{Scripted, shown}
 use Rattle.machine_rows.specs.Words.{class_type, property, notify, class_of, block, program, attached, object}
 
 abbrev pub definition : Definition
@@ -47,10 +47,10 @@ peers =
 
 abbrev pub events : List Event
 events =
-    config.set 0 0 (value (values.text (Some (codes "hi"))))
+    config.request (config.set 0 0 (value (values.text (Some (codes "hi")))))
     ∷ []
 
-abbrev pub replies : List Reply
+abbrev pub replies : List Scripted
 replies =
     []
 

@@ -7,8 +7,8 @@ use Rattle.ui_machine.specs.Definition.{Definition}
 use Rattle.ui_machine.specs.Definition as words
 use Rattle.ui_machine.specs.Config.{Event, Peer}
 use Rattle.ui_machine.specs.Config as config
-use Rattle.machine_rows.specs.Play.{Reply, shown}
-use Rattle.machine_rows.specs.Words.{class_type, property, signal, notify, class_of, method, shape, block, program, attached, object, prototype, peer, reply}
+use Rattle.machine_rows.specs.Play.{Scripted, shown}
+use Rattle.machine_rows.specs.Words.{class_type, property, signal, notify, class_of, method, shape, block, program, attached, object, prototype, peer, scripted}
 
 abbrev pub definition : Definition
 definition = record {
@@ -62,15 +62,15 @@ peers =
 
 abbrev pub events : List Event
 events =
-    config.emit 0 1 [] None
-    ∷ config.emit 0 2 [] None
-    ∷ config.get 0 1
-    ∷ config.emit 0 1 [] None
+    config.request (config.emit 0 1 [] None)
+    ∷ config.request (config.emit 0 2 [] None)
+    ∷ config.request (config.get 0 1)
+    ∷ config.request (config.emit 0 1 [] None)
     ∷ []
 
-abbrev pub replies : List Reply
+abbrev pub replies : List Scripted
 replies =
-    reply (Some (values.whole kinds.int64 (pos 2))) (values.whole kinds.int64 (pos 2) ∷ [])
+    scripted (Some (values.whole kinds.int64 (pos 2))) (values.whole kinds.int64 (pos 2) ∷ [])
     ∷ []
 
 abbrev pub lines : List (List ℕ)

@@ -1,5 +1,5 @@
 -- A dispatch that has taken the most counted steps.
-use Rattle.std.specs.Prelude.{◌≡◌, ℕ, List, ◌∷◌, Err}
+use Rattle.std.specs.Prelude.{◌≡◌, ℕ, List, ◌∷◌, None, Err}
 use Rattle.ui_machine.specs.declared.arm.Arm.TheVariants as arms
 use Rattle.ui_machine.specs.Config.{World, Notifying, Task}
 use Rattle.ui_machine.specs.Steps.{most_steps, act}
@@ -8,4 +8,4 @@ use Rattle.ui_machine.specs.Definition.{Definition}
 -- one more counted step is not taken
 abbrev pub NoFurtherStep : Type 0
 NoFurtherStep =
-    (d : Definition) (w : World) (object slot : ℕ) (rest : List Task) → act d w (Notifying object slot ∷ rest) most_steps ≡ Err arms.Steps
+    (d : Definition) (w : World) (object slot : ℕ) (rest : List Task) → act d w None (Notifying object slot ∷ rest) most_steps ≡ Err arms.Steps

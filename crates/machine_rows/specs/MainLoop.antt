@@ -7,7 +7,7 @@ use Rattle.ui_machine.specs.Definition.{Definition}
 use Rattle.ui_machine.specs.Definition as words
 use Rattle.ui_machine.specs.Config.{Event, Peer}
 use Rattle.ui_machine.specs.Config as config
-use Rattle.machine_rows.specs.Play.{Reply, shown}
+use Rattle.machine_rows.specs.Play.{Scripted, shown}
 use Rattle.machine_rows.specs.Words.{class_type, signal, notify, class_of, block, program, attached, object}
 
 abbrev pub definition : Definition
@@ -50,7 +50,7 @@ peers =
 
 abbrev pub events : List Event
 events =
-    config.emit 0 1 [] None
+    config.request (config.emit 0 1 [] None)
     ∷ config.turn 100
     ∷ config.turn 350
     ∷ config.turn 360
@@ -59,7 +59,7 @@ events =
     ∷ config.turn 450
     ∷ []
 
-abbrev pub replies : List Reply
+abbrev pub replies : List Scripted
 replies =
     []
 

@@ -6,7 +6,7 @@ use Rattle.ui_machine.specs.Types.{plain_class}
 use Rattle.ui_machine.specs.Definition.{Definition, value}
 use Rattle.ui_machine.specs.Config.{Event, Peer}
 use Rattle.ui_machine.specs.Config as config
-use Rattle.machine_rows.specs.Play.{Reply, shown}
+use Rattle.machine_rows.specs.Play.{Scripted, shown}
 use Rattle.machine_rows.specs.Words.{class_type, property, notify, class_of, object, bind}
 
 abbrev pub definition : Definition
@@ -42,11 +42,11 @@ peers =
 
 abbrev pub events : List Event
 events =
-    config.set 0 0 (value (values.bool true))
-    ∷ config.set 1 0 (value (values.bool true))
+    config.request (config.set 0 0 (value (values.bool true)))
+    ∷ config.request (config.set 1 0 (value (values.bool true)))
     ∷ []
 
-abbrev pub replies : List Reply
+abbrev pub replies : List Scripted
 replies =
     []
 

@@ -1,66 +1,51 @@
--- A whole run, computed: the build and a list of events, where the answers of the peers are given as a list.
-use Rattle.std.specs.Prelude.{ℕ, zero, suc, Bool, true, false, ◌&&◌, List, [], ◌∷◌, map, nat_lt, Option, None, Some, Ok, Err, is_none}
+-- A whole run, computed: the build and a list of events, where the replies of the peers are given as a script.
+use Rattle.std.specs.Prelude.{ℕ, zero, suc, Bool, true, false, ◌&&◌, List, [], ◌∷◌, Option, None, Some, Ok, Err, is_none}
 use Rattle.ui_machine.specs.declared.arm.Arm.TheVariants as arms
 use Rattle.ui_machine.specs.Values.{Value}
 use Rattle.ui_machine.specs.Definition.{Definition}
 use Rattle.ui_machine.specs.Lines as lines
 use Rattle.ui_machine.specs.Config as config
-use Rattle.ui_machine.specs.Config.{PeerState, Peer, Source, Task, Setting, Notifying, Beginning, Emitting, Transferring, Unsetting, Thawing, Running, Answering, Calling, Constructing, Building, Carrying, Due, Event, World, Config}
+use Rattle.ui_machine.specs.Config.{PeerState, Peer, Question, Reply, Source, Due, Event, World, Config}
 use Rattle.ui_machine.specs.Answers.{Answer, ◌>>=◌}
 use Rattle.ui_machine.specs.Objects.{next_unheld}
 use Rattle.ui_machine.specs.Mentions.{mentions}
-use Rattle.ui_machine.specs.Sources.{ready, source_of}
+use Rattle.ui_machine.specs.Sources.{source_of}
 use Rattle.ui_machine.specs.Worlds.{said}
-use Rattle.ui_machine.specs.Calls.{peer_state, is_asked, called}
-use Rattle.ui_machine.specs.Steps.{step, left, turned}
-use Rattle.ui_machine.specs.Runs.{beginning, of_build, of_event}
-use Rattle.ui_machine.specs.Choices.{names_released}
+use Rattle.ui_machine.specs.Steps.{step, question}
+use Rattle.ui_machine.specs.Runs.{one_more, faults_after, Refusal, refusal, turned, ready_at, beginning, of_build, of_request}
 
--- what a peer answers, a value or a fault, and the values of its state from then on
-pub record Reply : Type 0 where
+-- what a peer replies, as a row says it: a value or a fault, and the values of its state from then on
+pub record Scripted : Type 0 where
   pub answer : Option Value
   pub values : List Value
 
--- something, and the replies that are left
+-- something, and the script that is left
 pub record Played (A : Type 0) : Type 0 where
   pub at : A
-  pub replies : List Reply
+  pub script : List Scripted
 
-abbrev pub with_replies : {A : Type 0} → List Reply → Answer A → Answer (Played A)
-with_replies replies (Ok x) = Ok (record { at = x; replies = replies })
-with_replies replies (Err arm) = Err arm
+abbrev pub with_script : {A : Type 0} → List Scripted → Answer A → Answer (Played A)
+with_script script (Ok x) = Ok (record { at = x; script = script })
+with_script script (Err arm) = Err arm
 
 -- ** steps
 
-abbrev pub faults_after : Option Value → ℕ → ℕ
-faults_after None n = suc n
-faults_after (Some v) n = n
+-- the reply to a question that is scripted so
+abbrev pub reply_to : Question → Scripted → Reply
+reply_to q s = record {
+  question = q;
+  answer = s.answer;
+  state = record q.state { calls = one_more q.state.calls; faults = faults_after s.answer q.state.faults; values = s.values };
+}
 
--- a peer's state after it replied
-abbrev pub state_after : PeerState → Reply → PeerState
-state_after s r = record s { calls = suc s.calls; faults = faults_after r.answer s.faults; values = r.values }
+-- one step, where a peer that is asked gives the first reply of the script
+abbrev pub step_with : Definition → Config → List Scripted → Option Question → Answer (Played Config)
+step_with d c script None = with_script script (step d None c)
+step_with d c [] (Some q) = Err arms.Call
+step_with d c (s ∷ script) (Some q) = with_script script (step d (Some (reply_to q s)) c)
 
--- a peer that is asked gives the first reply
-abbrev pub replied : Definition → Config → (peer method : ℕ) → List Value → ℕ → List Task → List Reply → Answer (Played Config)
-replied d c peer method args to rest [] = Err arms.Call
-replied d c peer method args to rest (r ∷ replies) =
-    with_replies replies (left c.counted (called d c.world peer method args to rest r.answer (state_after (peer_state c.world peer) r)))
-
-abbrev pub asks : Definition → Config → (peer method : ℕ) → List Value → ℕ → List Task → List Reply → Bool → Answer (Played Config)
-asks d c peer method args to rest replies false = with_replies replies (step d c)
-asks d c peer method args to rest replies true = replied d c peer method args to rest replies
-
-abbrev pub acts : Definition → Config → List Reply → List Task → Answer (Played Config)
-acts d c replies (Calling object peer method args to ∷ rest) = asks d c peer method args to rest replies (is_asked c.world peer)
-acts d c replies _ = with_replies replies (step d c)
-
-abbrev pub goes_first : Definition → Config → List Reply → Option ℕ → Answer (Played Config)
-goes_first d c replies None = acts d c replies c.agenda
-goes_first d c replies (Some id) = with_replies replies (step d c)
-
--- one step
-abbrev pub played_step : Definition → Config → List Reply → Answer (Played Config)
-played_step d c replies = goes_first d c replies (next_unheld (mentions d c) c.world.objects)
+abbrev pub played_step : Definition → Config → List Scripted → Answer (Played Config)
+played_step d c script = step_with d c script (question d c)
 
 -- ** dispatches
 
@@ -73,56 +58,56 @@ abbrev pub has_ended : Definition → Config → Bool
 has_ended d c = is_empty c.agenda && (is_empty c.world.floating && is_none (next_unheld (mentions d c) c.world.objects))
 
 -- the end of a dispatch that has so many steps at most, counted or not
-abbrev pub played_out : ℕ → Definition → Config → List Reply → Answer (Played Config)
-played_out zero d c replies = Err arms.Steps
-played_out (suc n) d c replies =
-    elim (has_ended d c) [ true ↦ Ok (record { at = c; replies = replies }) | false ↦ played_step d c replies >>= (λ p. played_out n d p.at p.replies) ]
+abbrev pub played_out : ℕ → Definition → Config → List Scripted → Answer (Played Config)
+played_out zero d c script = Err arms.Steps
+played_out (suc n) d c script =
+    elim (has_ended d c) [ true ↦ Ok (record { at = c; script = script }) | false ↦ played_step d c script >>= (λ p. played_out n d p.at p.script) ]
 
 -- the most steps of a dispatch that is played
 abbrev pub most_played : ℕ
 most_played = 100_000
 
 abbrev pub ended_world : Definition → Played Config → Played World
-ended_world d p = record { at = said d p.at.world (lines.end p.at.counted); replies = p.replies }
+ended_world d p = record { at = said d p.at.world (lines.end p.at.counted); script = p.script }
 
 -- the world after a dispatch
-abbrev pub dispatched : Definition → Config → List Reply → Answer (Played World)
-dispatched d c replies = played_out most_played d c replies >>= (λ p. Ok (ended_world d p))
+abbrev pub dispatched : Definition → Config → List Scripted → Answer (Played World)
+dispatched d c script = played_out most_played d c script >>= (λ p. Ok (ended_world d p))
 
 -- ** events
 
-abbrev pub unplayed : World → List Reply → Answer (Played World)
-unplayed w replies = Ok (record { at = w; replies = replies })
+abbrev pub unplayed : World → List Scripted → Answer (Played World)
+unplayed w script = Ok (record { at = w; script = script })
 
-abbrev pub source_played : Definition → World → List Reply → ℕ → Option Source → Answer (Played World)
-source_played d w replies source None = unplayed w replies
-source_played d w replies source (Some s) = dispatched d (beginning w (Due source)) replies
+abbrev pub source_played : Definition → World → List Scripted → ℕ → Option Source → Answer (Played World)
+source_played d w script source None = unplayed w script
+source_played d w script source (Some s) = dispatched d (beginning w (Due source)) script
 
-abbrev pub sources_played : Definition → World → List Reply → List ℕ → Answer (Played World)
-sources_played d w replies [] = unplayed w replies
-sources_played d w replies (source ∷ more) =
-    source_played d w replies source (source_of source w.sources) >>= (λ p. sources_played d p.at p.replies more)
+abbrev pub sources_played : Definition → World → List Scripted → List ℕ → Answer (Played World)
+sources_played d w script [] = unplayed w script
+sources_played d w script (source ∷ more) =
+    source_played d w script source (source_of source w.sources) >>= (λ p. sources_played d p.at p.script more)
 
-abbrev pub turn_played : Definition → World → List Reply → ℕ → Answer (Played World)
-turn_played d w replies moment =
-    elim (nat_lt moment w.moment) [ true ↦ unplayed w replies | false ↦ sources_played d (turned d w moment) replies (map (λ (s : Source). s.number) (ready moment w.sources)) ]
+abbrev pub done : Definition → World → List Scripted → Event → Answer (Played World)
+done d w script (config.request r) = dispatched d (of_request w r) script
+done d w script (config.turn moment) = sources_played d (turned d w moment) script (ready_at w moment)
 
-abbrev pub dispatch_played : Definition → World → List Reply → Event → Answer (Played World)
-dispatch_played d w replies event =
-    elim (names_released w event) [ true ↦ unplayed w replies | false ↦ dispatched d (of_event w event) replies ]
+-- a refused event does nothing
+abbrev pub unless_refused : Definition → World → List Scripted → Event → Option Refusal → Answer (Played World)
+unless_refused d w script event (Some why) = unplayed w script
+unless_refused d w script event None = done d w script event
 
-abbrev pub event_played : Definition → World → List Reply → Event → Answer (Played World)
-event_played d w replies (config.turn moment) = turn_played d w replies moment
-event_played d w replies event = dispatch_played d w replies event
+abbrev pub event_played : Definition → World → List Scripted → Event → Answer (Played World)
+event_played d w script event = unless_refused d w script event (refusal w event)
 
-abbrev pub events_played : Definition → World → List Reply → List Event → Answer (Played World)
-events_played d w replies [] = unplayed w replies
-events_played d w replies (event ∷ events) = event_played d w replies event >>= (λ p. events_played d p.at p.replies events)
+abbrev pub events_played : Definition → World → List Scripted → List Event → Answer (Played World)
+events_played d w script [] = unplayed w script
+events_played d w script (event ∷ events) = event_played d w script event >>= (λ p. events_played d p.at p.script events)
 
 -- the world after the build and the events
-abbrev pub played : Definition → List Peer → List Event → List Reply → Answer (Played World)
-played d peers events replies = dispatched d (of_build d peers) replies >>= (λ p. events_played d p.at p.replies events)
+abbrev pub played : Definition → List Peer → List Event → List Scripted → Answer (Played World)
+played d peers events script = dispatched d (of_build d peers) script >>= (λ p. events_played d p.at p.script events)
 
 -- what the run of a definition shows, over these events
-abbrev pub shown : Definition → List Peer → List Event → List Reply → Answer (List (List ℕ))
-shown d peers events replies = played d peers events replies >>= (λ p. Ok p.at.transcript)
+abbrev pub shown : Definition → List Peer → List Event → List Scripted → Answer (List (List ℕ))
+shown d peers events script = played d peers events script >>= (λ p. Ok p.at.transcript)

@@ -1,26 +1,23 @@
 -- What is played is a run of the machine.
-use Rattle.std.specs.Prelude.{◌≡◌, ◌⊎◌, List, [], ◌∷◌, Ok}
+use Rattle.std.specs.Prelude.{◌≡◌, List, ◌++◌, map, Ok}
 use Rattle.ui_machine.specs.Definition.{Definition}
-use Rattle.ui_machine.specs.Config.{Peer, Event, World}
-use Rattle.ui_machine.specs.Choices.{Moves, IsRun}
-use Rattle.machine_rows.specs.Play.{Reply, Played, state_after, played}
+use Rattle.ui_machine.specs.Config.{Peer, Reply, Event, World}
+use Rattle.ui_machine.specs.Runs.{Tally, IsRun}
+use Rattle.machine_rows.specs.Play.{Scripted, Played, played}
 
--- peers give replies of this sort
-abbrev pub Giving : (Reply → Type 0) → Moves
-Giving P peer s method args answer new = (r : Reply) × P r × (answer ≡ r.answer) × (new ≡ state_after s r)
+-- a reply, as a script says it
+abbrev pub script_of : Reply → Scripted
+script_of r = record { answer = r.answer; values = r.state.values }
 
--- each reply of a list is of a sort
-abbrev pub Each : (Reply → Type 0) → List Reply → Type 0
-Each P [] = Unit {0}
-Each P (r ∷ rs) = P r × Each P rs
+-- a run over these events, whose peers gave the replies of the script up to what is left of it
+pub record IsScripted (d : Definition) (peers : List Peer) (events : List Event) (script : List Scripted) (p : Played World) : Type 0 where
+  pub replies : List Reply
+  pub tally : Tally
+  pub given : map script_of replies ++ p.script ≡ script
+  pub run : IsRun d peers events replies tally p.at
 
--- a reply is one of a list
-abbrev pub Among : List Reply → Reply → Type 0
-Among [] r = ⊥
-Among (x ∷ xs) r = (r ≡ x) ⊎ Among xs r
-
--- a run that is played with some replies is a run in which peers give these
+-- what is played with a script is a run in which the peers give the replies of the script
 abbrev pub PlayedIsRun : Type 0
 PlayedIsRun =
-    (d : Definition) (peers : List Peer) (events : List Event) (replies : List Reply) (p : Played World) →
-    played d peers events replies ≡ Ok p → IsRun (Giving (Among replies)) d peers events p.at
+    (d : Definition) (peers : List Peer) (events : List Event) (script : List Scripted) (p : Played World) →
+    played d peers events script ≡ Ok p → IsScripted d peers events script p

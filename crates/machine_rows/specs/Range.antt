@@ -6,7 +6,7 @@ use Rattle.ui_machine.specs.Types.{plain_class}
 use Rattle.ui_machine.specs.Definition.{Definition, value}
 use Rattle.ui_machine.specs.Config.{Event, Peer}
 use Rattle.ui_machine.specs.Config as config
-use Rattle.machine_rows.specs.Play.{Reply, shown}
+use Rattle.machine_rows.specs.Play.{Scripted, shown}
 use Rattle.machine_rows.specs.Words.{class_type, property, notify, class_of, object}
 
 abbrev pub definition : Definition
@@ -40,12 +40,12 @@ peers =
 
 abbrev pub events : List Event
 events =
-    config.set 0 0 (value (values.whole kinds.int (negsuc 2)))
-    ∷ config.set 0 0 (value (values.whole kinds.int (pos 2147483647)))
-    ∷ config.set 0 0 (value (values.whole kinds.int (negsuc 3)))
+    config.request (config.set 0 0 (value (values.whole kinds.int (negsuc 2))))
+    ∷ config.request (config.set 0 0 (value (values.whole kinds.int (pos 2147483647))))
+    ∷ config.request (config.set 0 0 (value (values.whole kinds.int (negsuc 3))))
     ∷ []
 
-abbrev pub replies : List Reply
+abbrev pub replies : List Scripted
 replies =
     []
 

@@ -6,7 +6,7 @@ use Rattle.ui_machine.specs.Types.{plain_class}
 use Rattle.ui_machine.specs.Definition.{Definition}
 use Rattle.ui_machine.specs.Config.{Event, Peer}
 use Rattle.ui_machine.specs.Config as config
-use Rattle.machine_rows.specs.Play.{Reply, shown}
+use Rattle.machine_rows.specs.Play.{Scripted, shown}
 use Rattle.machine_rows.specs.Words.{class_type, property, notify, class_of, object}
 
 abbrev pub definition : Definition
@@ -40,11 +40,11 @@ peers =
 
 abbrev pub events : List Event
 events =
-    config.release 0
-    ∷ config.get 0 0
+    config.request (config.release 0)
+    ∷ config.request (config.get 0 0)
     ∷ []
 
-abbrev pub replies : List Reply
+abbrev pub replies : List Scripted
 replies =
     []
 

@@ -7,8 +7,8 @@ use Rattle.ui_machine.specs.Definition.{Definition}
 use Rattle.ui_machine.specs.Definition as words
 use Rattle.ui_machine.specs.Config.{Event, Peer}
 use Rattle.ui_machine.specs.Config as config
-use Rattle.machine_rows.specs.Play.{Reply, shown}
-use Rattle.machine_rows.specs.Words.{class_type, signal, notify, class_of, method, shape, block, program, attached, object, peer, reply}
+use Rattle.machine_rows.specs.Play.{Scripted, shown}
+use Rattle.machine_rows.specs.Words.{class_type, signal, notify, class_of, method, shape, block, program, attached, object, peer, scripted}
 
 abbrev pub definition : Definition
 definition = record {
@@ -49,14 +49,14 @@ peers =
 
 abbrev pub events : List Event
 events =
-    config.emit 0 1 [] None
-    ∷ config.emit 0 2 [] None
+    config.request (config.emit 0 1 [] None)
+    ∷ config.request (config.emit 0 2 [] None)
     ∷ []
 
-abbrev pub replies : List Reply
+abbrev pub replies : List Scripted
 replies =
-    reply (Some (values.whole kinds.uint (pos 1))) (values.text (Some (codes "hi")) ∷ [])
-    ∷ reply (Some (values.text (Some (codes "hi")))) (values.text (Some (codes "hi")) ∷ [])
+    scripted (Some (values.whole kinds.uint (pos 1))) (values.text (Some (codes "hi")) ∷ [])
+    ∷ scripted (Some (values.text (Some (codes "hi")))) (values.text (Some (codes "hi")) ∷ [])
     ∷ []
 
 abbrev pub lines : List (List ℕ)

@@ -7,7 +7,7 @@ use Rattle.ui_machine.specs.Definition.{Definition}
 use Rattle.ui_machine.specs.Definition as words
 use Rattle.ui_machine.specs.Config.{Event, Peer}
 use Rattle.ui_machine.specs.Config as config
-use Rattle.machine_rows.specs.Play.{Reply, shown}
+use Rattle.machine_rows.specs.Play.{Scripted, shown}
 use Rattle.machine_rows.specs.Words.{class_type, signal, notify, class_of, block, program, attached, object}
 
 abbrev pub definition : Definition
@@ -44,10 +44,10 @@ peers =
 
 abbrev pub events : List Event
 events =
-    config.emit 0 1 [] None
+    config.request (config.emit 0 1 [] None)
     ∷ []
 
-abbrev pub replies : List Reply
+abbrev pub replies : List Scripted
 replies =
     []
 

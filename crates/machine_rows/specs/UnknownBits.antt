@@ -6,7 +6,7 @@ use Rattle.ui_machine.specs.Types.{plain_class}
 use Rattle.ui_machine.specs.Definition.{Definition, value}
 use Rattle.ui_machine.specs.Config.{Event, Peer}
 use Rattle.ui_machine.specs.Config as config
-use Rattle.machine_rows.specs.Play.{Reply, shown}
+use Rattle.machine_rows.specs.Play.{Scripted, shown}
 use Rattle.machine_rows.specs.Words.{member, flags_type, class_type, property, signal, notify, class_of, bare, object}
 
 abbrev pub definition : Definition
@@ -42,13 +42,13 @@ peers =
 
 abbrev pub events : List Event
 events =
-    config.set 0 0 (value (values.flags 2 5))
-    ∷ config.set 0 1 (value (values.flags 2 5))
-    ∷ config.set 0 0 (value (values.flags 2 3))
-    ∷ config.emit 0 1 ((value (values.flags 2 5)) ∷ []) None
+    config.request (config.set 0 0 (value (values.flags 2 5)))
+    ∷ config.request (config.set 0 1 (value (values.flags 2 5)))
+    ∷ config.request (config.set 0 0 (value (values.flags 2 3)))
+    ∷ config.request (config.emit 0 1 ((value (values.flags 2 5)) ∷ []) None)
     ∷ []
 
-abbrev pub replies : List Reply
+abbrev pub replies : List Scripted
 replies =
     []
 

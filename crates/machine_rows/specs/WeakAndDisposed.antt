@@ -7,7 +7,7 @@ use Rattle.ui_machine.specs.Definition.{Definition, named}
 use Rattle.ui_machine.specs.Definition as words
 use Rattle.ui_machine.specs.Config.{Event, Peer}
 use Rattle.ui_machine.specs.Config as config
-use Rattle.machine_rows.specs.Play.{Reply, shown}
+use Rattle.machine_rows.specs.Play.{Scripted, shown}
 use Rattle.machine_rows.specs.Words.{class_type, property, signal, notify, class_of, block, program, attached, object}
 
 abbrev pub definition : Definition
@@ -45,14 +45,14 @@ peers =
 
 abbrev pub events : List Event
 events =
-    config.set 0 0 (named 1)
-    ∷ config.emit 1 1 [] None
-    ∷ config.get 0 0
-    ∷ config.set 0 0 (named 1)
-    ∷ config.set 0 1 (named 1)
+    config.request (config.set 0 0 (named 1))
+    ∷ config.request (config.emit 1 1 [] None)
+    ∷ config.request (config.get 0 0)
+    ∷ config.request (config.set 0 0 (named 1))
+    ∷ config.request (config.set 0 1 (named 1))
     ∷ []
 
-abbrev pub replies : List Reply
+abbrev pub replies : List Scripted
 replies =
     []
 

@@ -7,7 +7,7 @@ use Rattle.ui_machine.specs.Types as types
 use Rattle.ui_machine.specs.Properties.{Spec}
 use Rattle.ui_machine.specs.Definition.{Accumulator, Signal, Method, Shape, ClassHandler, Class, Instruction, Block, Program, Given, GivenProperty, Attached, Place, Bind}
 use Rattle.ui_machine.specs.Config.{Peer}
-use Rattle.machine_rows.specs.Play.{Reply}
+use Rattle.machine_rows.specs.Play.{Scripted}
 
 -- ** types
 
@@ -95,5 +95,5 @@ abbrev pub peer : List ℕ → List Method → List Value → Peer
 peer name methods state =
     record { name = name; state = record { shape = methods; is_open = true; calls = 0; faults = 0; values = state }; holder = None }
 
-abbrev pub reply : Option Value → List Value → Reply
-reply answer state = record { answer = answer; values = state }
+abbrev pub scripted : Option Value → List Value → Scripted
+scripted answer state = record { answer = answer; values = state }

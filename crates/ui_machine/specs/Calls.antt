@@ -1,5 +1,5 @@
 -- Peers: which one an object gets, and what its calls lead to.
-use Rattle.std.specs.Prelude.{ℕ, Bool, false, cond, List, [], ◌∷◌, Option, None, Some, Ok, is_none, slice_get}
+use Rattle.std.specs.Prelude.{ℕ, Bool, false, cond, List, [], ◌∷◌, Option, None, Some, Ok, Err, is_none, slice_get}
 use Rattle.ui_machine.specs.declared.arm.Arm.TheVariants as arms
 use Rattle.ui_machine.specs.Seq.{read, write}
 use Rattle.ui_machine.specs.Names.{place_named}
@@ -8,7 +8,7 @@ use Rattle.ui_machine.specs.Transform.{zero_value}
 use Rattle.ui_machine.specs.Definition.{Definition, Method}
 use Rattle.ui_machine.specs.Lines.{Line}
 use Rattle.ui_machine.specs.Lines as lines
-use Rattle.ui_machine.specs.Config.{Peer, PeerState, Task, World}
+use Rattle.ui_machine.specs.Config.{Peer, PeerState, Question, Reply, Call, Task, World}
 use Rattle.ui_machine.specs.Answers.{Answer, ◌>>=◌, known}
 use Rattle.ui_machine.specs.Turns.{or_zero}
 use Rattle.ui_machine.specs.Results.{Left, received}
@@ -72,25 +72,36 @@ left_with w rest to v = do
   agenda ← received rest to (Some v)
   Ok (record { world = w; agenda = agenda })
 
--- a peer answered so, and is in that state; after a fault the program is given the zero value
-unfoldable pub called : Definition → World → (peer method : ℕ) → List Value → ℕ → List Task → Option Value → PeerState → Answer Left
-called d w peer method args to rest answer state =
-    with_method w peer method (λ p m. left_with (said d (with_peer_state w peer p state) (call_line p m args answer)) rest to (or_zero d m.result answer))
+-- a peer gave this reply; after a fault the program is given the zero value
+unfoldable pub called : Definition → World → Call → List Task → Reply → Answer Left
+called d w call rest reply =
+    with_method w call.peer call.method (λ p m.
+    left_with (said d (with_peer_state w call.peer p reply.state) (call_line p m call.args reply.answer)) rest call.to (or_zero d m.result reply.answer))
 
 -- a peer that is closed is not called, and the program is given the zero value
-unfoldable pub uncalled : Definition → World → (peer method : ℕ) → List Value → ℕ → List Task → Answer Left
-uncalled d w peer method args to rest =
-    with_method w peer method (λ p m. left_with (said d w (lines.closed p.name m.name args)) rest to (zero_value d.types m.result))
+unfoldable pub uncalled : Definition → World → Call → List Task → Answer Left
+uncalled d w call rest =
+    with_method w call.peer call.method (λ p m.
+    left_with (said d w (lines.closed p.name m.name call.args)) rest call.to (zero_value d.types m.result))
 
 -- a peer's state; one that is not there is closed
 abbrev pub peer_state : World → ℕ → PeerState
 peer_state w peer = (read no_peer w.peers peer).state
 
--- whether a peer is asked, who may then answer as he likes
+-- whether a peer is asked: a closed one is not
 abbrev pub is_asked : World → ℕ → Bool
 is_asked w peer = (peer_state w peer).is_open
 
--- a call of which no answer is known: what is stuck does not depend on it, so a fault stands for each answer
-abbrev pub calling_on : Definition → World → (peer method : ℕ) → List Value → ℕ → List Task → Answer Left
-calling_on d w peer method args to rest =
-    cond (is_asked w peer) (called d w peer method args to rest None (peer_state w peer)) (uncalled d w peer method args to rest)
+-- a peer that is asked gives the reply; there is no step without one
+abbrev pub replied : Definition → World → Call → List Task → Option Reply → Answer Left
+replied d w call rest None = Err arms.Call
+replied d w call rest (Some reply) = called d w call rest reply
+
+-- a due call of a peer
+abbrev pub calling_on : Definition → World → Call → List Task → Option Reply → Answer Left
+calling_on d w call rest reply = cond (is_asked w call.peer) (replied d w call rest reply) (uncalled d w call rest)
+
+-- what a due call asks, if it asks
+abbrev pub question_of : World → Call → Option Question
+question_of w call =
+    cond (is_asked w call.peer) (Some (record { peer = call.peer; state = peer_state w call.peer; method = call.method; args = call.args })) None

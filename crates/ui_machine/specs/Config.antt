@@ -70,6 +70,19 @@ pub record Peer : Type 0 where
   pub state : PeerState
   pub holder : Option ℕ  -- the object that got it
 
+-- what an open peer is asked: a method, by its number in the peer's shape, with arguments
+pub record Question : Type 0 where
+  pub peer : ℕ  -- its number in the pool
+  pub state : PeerState  -- in which it is asked
+  pub method : ℕ
+  pub args : List Value
+
+-- what the peer that was asked gives
+pub record Reply : Type 0 where
+  pub question : Question
+  pub answer : Option Value  -- None is a fault
+  pub state : PeerState  -- in which it is from then on
+
 -- what the builder has of a definition's object
 pub data Held : Type 0 where
   unbuilt : Held
@@ -108,17 +121,40 @@ pub data Item : Type 0 where
   binds : (number : ℕ) → Item
   connects : (place number : ℕ) → Item
 
--- what comes from outside, by place
+-- what is asked of an object of the builder, by its place
+pub data Request : Type 0 where
+  set : (place slot : ℕ) (given : Given) → Request
+  get : (place slot : ℕ) → Request
+  emit : (place signal : ℕ) (args : List Given) (detail : Option (List ℕ)) → Request
+  release : (place : ℕ) → Request
+
+-- what comes from outside: a request, which is carried out in one dispatch, or a turn of the main loop, which has a dispatch for each
+-- ready source
 pub data Event : Type 0 where
-  set : (place slot : ℕ) (given : Given) → Event
-  get : (place slot : ℕ) → Event
-  emit : (place signal : ℕ) (args : List Given) (detail : Option (List ℕ)) → Event
+  request : (request : Request) → Event
   turn : (moment : ℕ) → Event
-  release : (place : ℕ) → Event
 
 -- the registers of a program; one may be unset
 abbrev pub Registers : Type 0
 Registers = List (Option Value)
+
+-- a program that runs: the instruction that it has come to, the passes that are left of its block, the register that waits for an
+-- emission's result, and its registers
+pub record Frame : Type 0 where
+  pub program : ℕ
+  pub block : ℕ
+  pub at : ℕ
+  pub passes : ℕ
+  pub into : Option ℕ
+  pub registers : Registers
+
+-- a call of a peer that is due: whose peer it is, what is asked, and the register for the answer
+pub record Call : Type 0 where
+  pub object : ℕ
+  pub peer : ℕ
+  pub method : ℕ
+  pub args : List Value
+  pub to : ℕ
 
 -- What there is to do is a list of tasks. What comes down from a task goes to the one below it: a program's result to its emission or
 -- source, an emission's to the program that waits for it.
@@ -130,12 +166,12 @@ pub data Task : Type 0 where
   Transferring : (number : ℕ) (back : Bool) → Task
   Unsetting : (number : ℕ) → Task  -- the binding stops setting
   Thawing : (object : ℕ) (slots : List ℕ) → Task  -- the notifications that are left of a thaw
-  Running : (program block at passes : ℕ) (into : Option ℕ) (registers : Registers) → Task  -- the rest of a program
+  Running : (frame : Frame) → Task  -- the rest of a program
   Answering : (source : ℕ) → Task  -- a source whose program runs
-  Calling : (object peer method : ℕ) (args : List Value) (to : ℕ) → Task  -- a peer is to answer
+  Calling : (call : Call) → Task  -- a peer is to answer
   Constructing : (object : ℕ) (steps : List Making) (held : Bool) → Task  -- held: by the builder, once it has ended
   Building : (items : List Item) → Task
-  Carrying : (event : Event) → Task
+  Carrying : (request : Request) → Task
   Due : (source : ℕ) → Task  -- a ready source is to run
 
 -- ** the configuration

@@ -1,5 +1,5 @@
 -- Dispose and finalisation (GObject manual, g_object_run_dispose and finalize).
-use Rattle.std.specs.Prelude.{ℕ, Bool, true, false, cond, nat_eq, ◌||◌, not, List, [], ◌∷◌, map, Option, Some, None, option_map}
+use Rattle.std.specs.Prelude.{ℕ, Bool, true, false, cond, nat_eq, ◌||◌, not, List, [], ◌∷◌, map, fold, Option, Some, None, option_map}
 use Rattle.std.specs.List.{filter}
 use Rattle.ui_machine.specs.Seq.{read, write}
 use Rattle.ui_machine.specs.Values.{Value}
@@ -127,3 +127,18 @@ disposed d w id =
 -- the world after an object was finalised: disposed, again if it was, and taken out
 abbrev pub finalised : Definition → World → ℕ → World
 finalised d w id = said d (with_objects (disposed d w id) (put (disposed d w id).objects id None)) (lines.final id)
+
+-- ** the end of a session
+
+-- the peers with an object's closed if it is open
+abbrev pub peers_closed : List Peer → Option Object → List Peer
+peers_closed peers None = peers
+peers_closed peers (Some o) = closed_at peers o.peer
+  where
+    closed_at : List Peer → Option ℕ → List Peer
+    closed_at peers None = peers
+    closed_at peers (Some k) = write no_peer peers k (closed_peer (read no_peer peers k))
+
+-- the world as a session is finished: each object's open peer is closed, the lowest identity first, and nothing is said
+abbrev pub finish : World → World
+finish w = record w { peers = fold peers_closed w.peers w.objects }

@@ -13,13 +13,13 @@ use Rattle.ui_machine.specs.Definition as words
 use Rattle.ui_machine.specs.Lookups.{slot_of, class_of, type_of, program_at, program_of, place_at, place_of}
 use Rattle.ui_machine.specs.Lines as lines
 use Rattle.ui_machine.specs.Sources as sources
-use Rattle.ui_machine.specs.Config.{Emission, Handler, Setting, Beginning, Thawing, Calling, Task, World}
+use Rattle.ui_machine.specs.Config.{Emission, Handler, Frame, Setting, Beginning, Thawing, Calling, Task, World}
 use Rattle.ui_machine.specs.Answers.{Answer, ◌>>=◌, known, only_if}
 use Rattle.ui_machine.specs.Objects.{find, live, object_at, asked, changed, value_at, class_in, frozen_more, frozen_less, most_identities}
 use Rattle.ui_machine.specs.Emissions.{or_else, up, most_depth}
 use Rattle.ui_machine.specs.Bindings.{bindings_without}
 use Rattle.ui_machine.specs.Sets.{has_kind, spec_at, raising, is_disposed}
-use Rattle.ui_machine.specs.Registers.{Frame, value_in, values_in, truth_in, text_in, whole_in, operand_in, data_in, with_register, goes_on, written_to, gives, tells}
+use Rattle.ui_machine.specs.Registers.{value_in, values_in, truth_in, text_in, whole_in, operand_in, data_in, with_register, goes_on, written_to, gives, tells}
 use Rattle.ui_machine.specs.Programs.{all_fit}
 use Rattle.ui_machine.specs.Turns.{or_zero}
 use Rattle.ui_machine.specs.Families.{adopted, orphaned}
@@ -419,7 +419,8 @@ calling d w f to object name args = do
   m ← known arms.Call (method_of p number)
   given ← values_in f args
   only_if (all_fit (kind_fits (class_in w.objects) d.types) given m.params) arms.Call
-      (only_if (nat_lt to (length f.registers)) arms.Code (goes_on w (Calling id peer number given to ∷ []) f))
+      (only_if (nat_lt to (length f.registers)) arms.Code
+      (goes_on w (Calling (record { object = id; peer = peer; method = number; args = given; to = to }) ∷ []) f))
 
 -- ** jumps
 

@@ -36,4 +36,3 @@ pub mod Instructions
 pub mod Running
 pub mod Steps
 pub mod Runs
-pub mod Choices

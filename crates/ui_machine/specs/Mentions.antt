@@ -55,12 +55,12 @@ in_task o (Emitting emission turns) = in_emission o emission
 in_task o (Transferring number back) = 0
 in_task o (Unsetting number) = 0
 in_task o (Thawing object slots) = same o object
-in_task o (Running program block at passes into registers) = total (in_register o) registers
+in_task o (Running frame) = total (in_register o) frame.registers
 in_task o (Answering source) = 0
-in_task o (Calling object peer method args to) = same o object + total (in_value o) args
+in_task o (Calling call) = same o call.object + total (in_value o) call.args
 in_task o (Constructing object steps held) = same o object
 in_task o (Building items) = 0
-in_task o (Carrying event) = 0
+in_task o (Carrying request) = 0
 in_task o (Due source) = 0
 
 -- a source holds its data

@@ -9,10 +9,9 @@ use Rattle.ui_machine.specs.Transform.{kind_fits, is_one}
 use Rattle.ui_machine.specs.Definition.{Definition, Program, Block}
 use Rattle.ui_machine.specs.Lookups.{program_at}
 use Rattle.ui_machine.specs.Lines as lines
-use Rattle.ui_machine.specs.Config.{Object, Objects, Registers, Task, World}
+use Rattle.ui_machine.specs.Config.{Object, Objects, Registers, Frame, Running, Task, World}
 use Rattle.ui_machine.specs.Answers.{Answer, ◌>>=◌, known, only_if}
 use Rattle.ui_machine.specs.Objects.{find, class_in}
-use Rattle.ui_machine.specs.Registers.{Frame, rest_of}
 use Rattle.ui_machine.specs.Worlds.{Started, starts, said}
 
 -- ** what fits a parameter
@@ -72,7 +71,7 @@ unfoldable pub beginning_program : Definition → World → ℕ → List Value �
 beginning_program d w number args = do
   p ← known arms.Code (program_at d number)
   only_if (all_fit (fits_register d w.objects) args p.params) arms.Parameters
-      (starts (said d w (lines.run p.name)) (rest_of (first_frame number p args) ∷ []))
+      (starts (said d w (lines.run p.name)) (Running (first_frame number p args) ∷ []))
 
 -- a program begins in front of other tasks
 unfoldable pub program_before : Definition → World → ℕ → List Value → List Task → Answer Started

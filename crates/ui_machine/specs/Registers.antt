@@ -5,24 +5,10 @@ use Rattle.ui_machine.specs.Seq.{read, write}
 use Rattle.ui_machine.specs.Kinds.{Whole}
 use Rattle.ui_machine.specs.Values.{Value}
 use Rattle.ui_machine.specs.Values as values
-use Rattle.ui_machine.specs.Config.{Registers, Task, Running, World}
+use Rattle.ui_machine.specs.Config.{Registers, Frame, Task, Running, World}
 use Rattle.ui_machine.specs.Answers.{Answer, ◌>>=◌, known, only_if}
 use Rattle.ui_machine.specs.Objects.{find}
 use Rattle.ui_machine.specs.Worlds.{Started, starts}
-
--- a program that runs: the instruction that it has come to, the passes that are left of its block, the register that waits for an
--- emission's result, and its registers
-pub record Frame : Type 0 where
-  pub program : ℕ
-  pub block : ℕ
-  pub at : ℕ
-  pub passes : ℕ
-  pub into : Option ℕ
-  pub registers : Registers
-
--- the rest of a program as a task
-abbrev pub rest_of : Frame → Task
-rest_of f = Running f.program f.block f.at f.passes f.into f.registers
 
 -- ** reading
 
@@ -101,7 +87,7 @@ with_register to v registers = only_if (nat_lt to (length registers)) arms.Code 
 
 -- what it starts goes in front of the rest of the program
 abbrev pub goes_on : World → List Task → Frame → Answer Started
-goes_on w tasks f = starts w (tasks ++ rest_of f ∷ [])
+goes_on w tasks f = starts w (tasks ++ Running f ∷ [])
 
 -- a register is written
 unfoldable pub written_to : World → ℕ → Option Value → Frame → Answer Started

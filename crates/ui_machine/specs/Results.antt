@@ -7,7 +7,7 @@ use Rattle.ui_machine.specs.Values as values
 use Rattle.ui_machine.specs.Definition.{Definition}
 use Rattle.ui_machine.specs.Lines as lines
 use Rattle.ui_machine.specs.Sources as sources
-use Rattle.ui_machine.specs.Config.{Registers, Turn, Emission, Emitting, Running, Answering, Task, World}
+use Rattle.ui_machine.specs.Config.{Turn, Emission, Emitting, Frame, Running, Answering, Task, World}
 use Rattle.ui_machine.specs.Answers.{Answer, ◌>>=◌}
 use Rattle.ui_machine.specs.Registers.{with_register}
 use Rattle.ui_machine.specs.Turns.{collecting, resulting}
@@ -55,26 +55,26 @@ given_down d w (task ∷ rest) given = untaken w (task ∷ rest) given
 
 -- ** results of emissions and peers
 
--- the program that is first goes on with a value in a register
-unfoldable pub received_at : (program block at passes : ℕ) → Registers → List Task → ℕ → Option Value → Answer (List Task)
-received_at program block at passes registers rest to v = do
-  new ← with_register to v registers
-  Ok (Running program block at passes None new ∷ rest)
+-- the program goes on with a value in a register
+unfoldable pub received_by : Frame → List Task → ℕ → Option Value → Answer (List Task)
+received_by f rest to v = do
+  new ← with_register to v f.registers
+  Ok (Running (record f { into = None; registers = new }) ∷ rest)
 
 -- the first task, a program, goes on so
 abbrev pub received : List Task → ℕ → Option Value → Answer (List Task)
-received (Running program block at passes into registers ∷ rest) to v = received_at program block at passes registers rest to v
+received (Running f ∷ rest) to v = received_by f rest to v
 received _ to v = Err arms.Code
 
 -- a program that waits for a result is given it, and there is one
-abbrev pub taken : (program block at passes : ℕ) → Option ℕ → Registers → List Task → Option Value → Answer (List Task)
-taken program block at passes None registers rest v = Ok (Running program block at passes None registers ∷ rest)
-taken program block at passes (Some to) registers rest None = Err arms.Result
-taken program block at passes (Some to) registers rest (Some v) = received_at program block at passes registers rest to (Some v)
+abbrev pub taken : Option ℕ → Frame → List Task → Option Value → Answer (List Task)
+taken None f rest v = Ok (Running f ∷ rest)
+taken (Some to) f rest None = Err arms.Result
+taken (Some to) f rest (Some v) = received_by f rest to (Some v)
 
 -- an emission's result goes to the program that waits for it
 abbrev pub passed_down : List Task → Option Value → Answer (List Task)
-passed_down (Running program block at passes into registers ∷ rest) v = taken program block at passes into registers rest v
+passed_down (Running f ∷ rest) v = taken f.into f rest v
 passed_down rest v = Ok rest
 
 -- an event tells of its emission's result

@@ -6,10 +6,10 @@ use Rattle.ui_machine.specs.Transform.{kind_fits}
 use Rattle.ui_machine.specs.Definition.{Definition, Program, Block, Instruction}
 use Rattle.ui_machine.specs.Definition as words
 use Rattle.ui_machine.specs.Lookups.{program_at}
-use Rattle.ui_machine.specs.Config.{Task, World}
+use Rattle.ui_machine.specs.Config.{Frame, Task, Running, World}
 use Rattle.ui_machine.specs.Answers.{Answer, ◌>>=◌, known, only_if}
 use Rattle.ui_machine.specs.Objects.{class_in}
-use Rattle.ui_machine.specs.Registers.{Frame, rest_of, value_in}
+use Rattle.ui_machine.specs.Registers.{value_in}
 use Rattle.ui_machine.specs.Turns.{stopped, suits}
 use Rattle.ui_machine.specs.Results.{Left, leaves, given_down}
 use Rattle.ui_machine.specs.Instructions.{instruction}
@@ -67,7 +67,7 @@ in_front rest answer = do
 
 -- what an instruction leads to, with the rest of the agenda
 abbrev pub instructed : Definition → World → List Task → Frame → Instruction → Answer Left
-instructed d w rest f words.stop = leaves w (rest_of f ∷ stopped rest)
+instructed d w rest f words.stop = leaves w (Running f ∷ stopped rest)
 instructed d w rest f (words.return from) = returning d w f rest from
 instructed d w rest f i = in_front rest (instruction d w rest f i)
 

@@ -1,25 +1,92 @@
--- Runs of the machine.
-use Rattle.std.specs.Prelude.{◌≡◌, ℕ, zero, suc, List, [], ◌∷◌, None, Ok}
+-- Runs of the machine: the build, and then the events, over what the peers reply.
+use Rattle.std.specs.Prelude.{◌≡◌, ℕ, zero, suc, ◌+◌, ◌%◌, ◌^◌, ◌≤◌, nat_lt, Bool, true, false, ◌||◌, List, [], ◌∷◌, ◌++◌, map, length, Option, None, Some, option_map, slice_get, Ok, Err, IsTrue, IsSome}
+use Rattle.std.specs.List.{list_any}
+use Rattle.ui_machine.specs.declared.arm.Arm.{Arm}
 use Rattle.ui_machine.specs.declared.arm.Halt.{Halt}
-use Rattle.ui_machine.specs.Definition.{Definition}
+use Rattle.ui_machine.specs.declared.arm.Halt.TheVariants as halts
+use Rattle.ui_machine.specs.Values.{Value}
+use Rattle.ui_machine.specs.Values as values
+use Rattle.ui_machine.specs.Transform.{kind_fits}
+use Rattle.ui_machine.specs.Definition.{Definition, Method, Given, value, named}
 use Rattle.ui_machine.specs.Lines as lines
-use Rattle.ui_machine.specs.Config.{Task, Building, Carrying, Peer, World, Config, Event}
-use Rattle.ui_machine.specs.Answers.{Stops}
+use Rattle.ui_machine.specs.Config as config
+use Rattle.ui_machine.specs.Config.{PeerState, Peer, Question, Reply, Source, Held, unbuilt, built, released, Task, Building, Carrying, Due, Request, Event, World, Config}
 use Rattle.ui_machine.specs.Objects.{next_unheld}
 use Rattle.ui_machine.specs.Mentions.{mentions}
-use Rattle.ui_machine.specs.Worlds.{said}
+use Rattle.ui_machine.specs.Sources.{ready, source_of}
+use Rattle.ui_machine.specs.Instructions.{most_bytes}
+use Rattle.ui_machine.specs.Worlds.{said, held_at}
 use Rattle.ui_machine.specs.Builds.{build_items}
-use Rattle.ui_machine.specs.Steps.{step}
+use Rattle.ui_machine.specs.Steps.{step, question}
 
--- n steps lead from one configuration to the other
-abbrev pub Steps : Definition → ℕ → Config → Config → Type 0
-Steps d zero c e = c ≡ e
-Steps d (suc n) c e = (mid : Config) × Steps d n c mid × (step d mid ≡ Ok e)
+-- ** what peers reply
+
+-- the question that a reply is to, if there is one
+abbrev pub question_in : Option Reply → Option Question
+question_in reply = option_map (λ (r : Reply). r.question) reply
+
+-- a count that goes round at 2^64
+abbrev pub one_more : ℕ → ℕ
+one_more n = (n + 1) % 2 ^ 64
+
+-- the count of faults after an answer
+abbrev pub faults_after : Option Value → ℕ → ℕ
+faults_after None n = one_more n
+faults_after (Some v) n = n
+
+-- a text is short enough
+abbrev pub IsShort : Value → Type 0
+IsShort (values.text (Some s)) = length s ≤ most_bytes
+IsShort _ = Unit {0}
+
+-- an answer is of the method's result kind
+abbrev pub AnswerFits : Definition → Option Method → Option Value → Type 0
+AnswerFits d m None = Unit {0}
+AnswerFits d None (Some v) = ⊥
+AnswerFits d (Some m) (Some v) = IsTrue (kind_fits (λ _. None) d.types v m.result) × IsShort v
+
+-- what every peer keeps to: its shape, its openness, its counts, and the kind of its answers
+pub record Fits (d : Definition) (r : Reply) : Type 0 where
+  pub shape : r.state.shape ≡ r.question.state.shape
+  pub openness : r.state.is_open ≡ r.question.state.is_open
+  pub calls : r.state.calls ≡ one_more r.question.state.calls
+  pub faults : r.state.faults ≡ faults_after r.answer r.question.state.faults
+  pub answer : AnswerFits d (slice_get r.question.state.shape r.question.method) r.answer
+
+-- what a peer of a given relation may reply: asked so it may answer this, a value or a fault, and go to that state
+abbrev pub Allowed : (Question → Option Value → PeerState → Type 0) → Reply → Type 0
+Allowed relation r = relation r.question r.answer r.state
+
+-- ** steps
+
+-- one step, with the reply of the peer that is asked; where none is asked there is no reply
+pub record Step (d : Definition) (reply : Option Reply) (c e : Config) : Type 0 where
+  pub asks : question d c ≡ question_in reply
+  pub leads : step d reply c ≡ Ok e
+
+-- one reply, or none
+abbrev pub listed : Option Reply → List Reply
+listed None = []
+listed (Some reply) = reply ∷ []
+
+-- a step, and then what follows it
+pub record Goes (d : Definition) (replies : List Reply) (c : Config) (Follows : List Reply → Config → Type 0) : Type 0 where
+  pub reply : Option Reply
+  pub later : List Reply
+  pub mid : Config
+  pub replied : replies ≡ listed reply ++ later
+  pub step : Step d reply c mid
+  pub follows : Follows later mid
+
+-- n steps lead from one configuration to the other, and their peers give these replies
+abbrev pub Steps : Definition → ℕ → List Reply → Config → Config → Type 0
+Steps d zero replies c e = (replies ≡ []) × (c ≡ e)
+Steps d (suc n) replies c e = Goes d replies c (λ later mid. Steps d n later mid e)
 
 -- some steps do
-pub record Reaches (d : Definition) (c e : Config) : Type 0 where
+pub record Reaches (d : Definition) (replies : List Reply) (c e : Config) : Type 0 where
   pub count : ℕ
-  pub steps : Steps d count c e
+  pub steps : Steps d count replies c e
 
 -- nothing is left to do: the agenda is empty, nothing floats, and each object that lives is held
 pub record HasEnded (d : Definition) (c : Config) : Type 0 where
@@ -27,30 +94,47 @@ pub record HasEnded (d : Definition) (c : Config) : Type 0 where
   pub floating : c.world.floating ≡ []
   pub held : next_unheld (mentions d c) c.world.objects ≡ None
 
+-- the next step is stuck by the arm
+pub record IsStuck (d : Definition) (c : Config) (arm : Arm) : Type 0 where
+  pub reply : Option Reply
+  pub asks : question d c ≡ question_in reply
+  pub stuck : step d reply c ≡ Err arm
+
+-- ** dispatches
+
 -- a dispatch from a configuration comes to its end after so many counted steps, and leaves that world
-pub record Dispatches (d : Definition) (c : Config) (count : ℕ) (new : World) : Type 0 where
+pub record Dispatches (d : Definition) (replies : List Reply) (c : Config) (count : ℕ) (new : World) : Type 0 where
   pub at : Config
-  pub reached : Reaches d c at
+  pub reached : Reaches d replies c at
   pub ended : HasEnded d at
   pub counts : at.counted ≡ count
   pub leaves : said d at.world (lines.end at.counted) ≡ new
 
--- a dispatch halts where it stands, and has shown these lines: where it is stuck, the arm is the machine's
-pub record Halts (d : Definition) (c : Config) (halt : Halt) (shown : List (List ℕ)) : Type 0 where
+-- why a dispatch goes no further: it found no memory, of which the machine knows nothing, or it is stuck
+abbrev pub HaltsAt : Definition → Config → Halt → Type 0
+HaltsAt d c halts.OutOfMemory = Unit {0}
+HaltsAt d c (halts.Stuck arm) = IsStuck d c arm
+
+-- a dispatch halts where it stands, and has shown these lines
+pub record Halts (d : Definition) (replies : List Reply) (c : Config) (halt : Halt) (shown : List (List ℕ)) : Type 0 where
   pub at : Config
-  pub reached : Reaches d c at
-  pub stops : Stops halt (step d at)
+  pub reached : Reaches d replies c at
+  pub stops : HaltsAt d at halt
   pub lines : at.world.transcript ≡ shown
 
 -- ** where dispatches begin
 
+-- the world as an event begins, which has told no value yet
+abbrev pub untold : World → World
+untold w = record w { result = None }
+
 -- a dispatch begins with one task, and has counted nothing
 abbrev pub beginning : World → Task → Config
-beginning w task = record { world = record w { result = None }; agenda = task ∷ []; counted = 0 }
+beginning w task = record { world = untold w; agenda = task ∷ []; counted = 0 }
 
--- where an event's dispatch begins
-abbrev pub of_event : World → Event → Config
-of_event w event = beginning w (Carrying event)
+-- where a request's dispatch begins
+abbrev pub of_request : World → Request → Config
+of_request w request = beginning w (Carrying request)
 
 -- the world before anything is built
 abbrev pub first_world : Definition → List Peer → World
@@ -72,3 +156,147 @@ first_world d peers = record {
 -- the build begins with its line
 abbrev pub of_build : Definition → List Peer → Config
 of_build d peers = beginning (said d (first_world d peers) lines.build) (Building (build_items d))
+
+-- ** requests
+
+-- whether the builder has let an object go
+abbrev pub is_released : Held → Bool
+is_released unbuilt = false
+is_released (built id) = false
+is_released released = true
+
+-- whether a given value names such an object
+abbrev pub gives_released : World → Given → Bool
+gives_released w (value v) = false
+gives_released w (named place) = is_released (held_at w place)
+
+-- whether a request names an object that was released, in any position
+abbrev pub names_released : World → Request → Bool
+names_released w (config.set place slot given) = is_released (held_at w place) || gives_released w given
+names_released w (config.get place slot) = is_released (held_at w place)
+names_released w (config.emit place signal args detail) = is_released (held_at w place) || list_any (gives_released w) args
+names_released w (config.release place) = is_released (held_at w place)
+
+-- ** turns (GLib manual, g_main_context_iteration)
+
+-- whether a moment lies before the latest one
+abbrev pub is_back : World → ℕ → Bool
+is_back w moment = nat_lt moment w.moment
+
+-- the world as a turn begins
+abbrev pub turned : Definition → World → ℕ → World
+turned d w moment = record (said d (untold w) (lines.turn moment)) { moment = moment }
+
+-- the numbers of the sources that a turn is to run
+abbrev pub ready_at : World → ℕ → List ℕ
+ready_at w moment = map (λ (s : Source). s.number) (ready moment w.sources)
+
+-- ** what events come to
+
+-- how many dispatches there were, and their counted steps together
+pub record Tally : Type 0 where
+  pub dispatches : ℕ
+  pub steps : ℕ
+
+-- no dispatch
+abbrev pub no_dispatch : Tally
+no_dispatch = record { dispatches = 0; steps = 0 }
+
+-- one dispatch of so many steps
+abbrev pub one_dispatch : ℕ → Tally
+one_dispatch steps = record { dispatches = 1; steps = steps }
+
+-- both together
+abbrev pub tallied : Tally → Tally → Tally
+tallied first later = record { dispatches = first.dispatches + later.dispatches; steps = first.steps + later.steps }
+
+-- two parts, one after the other
+pub record Then (First Later : List Reply → World → Tally → World → Type 0) (replies : List Reply) (w : World) (tally : Tally) (new : World) : Type 0 where
+  pub first : List Reply
+  pub later : List Reply
+  pub mid : World
+  pub first_tally : Tally
+  pub later_tally : Tally
+  pub replied : replies ≡ first ++ later
+  pub counts : tally ≡ tallied first_tally later_tally
+  pub begins : First first w first_tally mid
+  pub goes_on : Later later mid later_tally new
+
+-- nothing is done
+pub record Rests (replies : List Reply) (w : World) (tally : Tally) (new : World) : Type 0 where
+  pub replied : replies ≡ []
+  pub counts : tally ≡ no_dispatch
+  pub same : w ≡ new
+
+-- one dispatch from this configuration
+pub record Carries (d : Definition) (c : Config) (replies : List Reply) (tally : Tally) (new : World) : Type 0 where
+  pub steps : ℕ
+  pub counts : tally ≡ one_dispatch steps
+  pub dispatches : Dispatches d replies c steps new
+
+-- a turn's source is run if it still stands at its place
+abbrev pub RunsSource : Definition → ℕ → Option Source → List Reply → World → Tally → World → Type 0
+RunsSource d number None replies w tally new = Rests replies w tally new
+RunsSource d number (Some s) replies w tally new = Carries d (beginning w (Due number)) replies tally new
+
+-- the sources of a turn run one after the other, each in a dispatch of its own
+abbrev pub RunsSources : Definition → List ℕ → List Reply → World → Tally → World → Type 0
+RunsSources d [] replies w tally new = Rests replies w tally new
+RunsSources d (number ∷ more) replies w tally new =
+    Then (λ first v. RunsSource d number (source_of number v.sources) first v) (RunsSources d more) replies w tally new
+
+-- why an event is refused, which then leaves the world as it is
+pub data Refusal : Type 0 where
+  gone : Refusal  -- it names an object that the builder has let go
+  clock_back : Refusal  -- its moment lies before the latest one
+
+-- why an event is refused, if it is
+abbrev pub refusal : World → Event → Option Refusal
+refusal w (config.request r) = elim (names_released w r) [ true ↦ Some gone | false ↦ None ]
+refusal w (config.turn moment) = elim (is_back w moment) [ true ↦ Some clock_back | false ↦ None ]
+
+-- what an event that is not refused does
+abbrev pub Does : Definition → Event → List Reply → World → Tally → World → Type 0
+Does d (config.request r) replies w tally new = Carries d (of_request w r) replies tally new
+Does d (config.turn moment) replies w tally new = RunsSources d (ready_at w moment) replies (turned d w moment) tally new
+
+-- what comes of an event
+abbrev pub Comes : Definition → Event → Option Refusal → List Reply → World → Tally → World → Type 0
+Comes d event (Some why) replies w tally new = Rests replies w tally new
+Comes d event None replies w tally new = Does d event replies w tally new
+
+-- an event leads from a world to another
+abbrev pub Serves : Definition → Event → List Reply → World → Tally → World → Type 0
+Serves d event replies w tally new = Comes d event (refusal w event) replies w tally new
+
+-- a list of events does, one after the other
+abbrev pub ServesAll : Definition → List Event → List Reply → World → Tally → World → Type 0
+ServesAll d [] replies w tally new = Rests replies w tally new
+ServesAll d (event ∷ events) replies w tally new = Then (Serves d event) (ServesAll d events) replies w tally new
+
+-- a run: the build, and then the events
+abbrev pub IsRun : Definition → List Peer → List Event → List Reply → Tally → World → Type 0
+IsRun d peers events replies tally new =
+    Then (λ first w. Carries d (of_build d peers) first) (ServesAll d events) replies (first_world d peers) tally new
+
+-- ** where events halt
+
+-- some sources of a turn have run, and then the dispatch of the next halts
+pub record TurnHalts (d : Definition) (moment : ℕ) (replies : List Reply) (w : World) (halt : Halt) (shown : List (List ℕ)) : Type 0 where
+  pub done : List ℕ
+  pub number : ℕ
+  pub more : List ℕ
+  pub sources : ready_at w moment ≡ done ++ number ∷ more
+  pub first : List Reply
+  pub later : List Reply
+  pub replied : replies ≡ first ++ later
+  pub mid : World
+  pub tally : Tally
+  pub runs : RunsSources d done first (turned d w moment) tally mid
+  pub stands : IsSome (source_of number mid.sources)
+  pub halts : Halts d later (beginning mid (Due number)) halt shown
+
+-- a dispatch of an event that is not refused halts
+abbrev pub HaltsIn : Definition → Event → List Reply → World → Halt → List (List ℕ) → Type 0
+HaltsIn d (config.request r) replies w halt shown = Halts d replies (of_request w r) halt shown
+HaltsIn d (config.turn moment) replies w halt shown = TurnHalts d moment replies w halt shown

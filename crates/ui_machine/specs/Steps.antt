@@ -9,7 +9,7 @@ use Rattle.ui_machine.specs.Properties.{is_readable}
 use Rattle.ui_machine.specs.Definition.{Definition, Given}
 use Rattle.ui_machine.specs.Lines as lines
 use Rattle.ui_machine.specs.Config as config
-use Rattle.ui_machine.specs.Config.{World, Config, Task, Setting, Notifying, Beginning, Emitting, Transferring, Unsetting, Thawing, Running, Answering, Calling, Constructing, Building, Carrying, Due, Held, unbuilt, built, released, Making, sets, runs, thaws, Item, makes, adopts, forwards, binds, connects, Event}
+use Rattle.ui_machine.specs.Config.{World, Config, Task, Setting, Notifying, Beginning, Emitting, Transferring, Unsetting, Thawing, Running, Answering, Calling, Constructing, Building, Carrying, Due, Held, unbuilt, built, released, Question, Reply, Making, sets, runs, thaws, Item, makes, adopts, forwards, binds, connects, Request}
 use Rattle.ui_machine.specs.Answers.{Answer, ◌>>=◌, known, only_if}
 use Rattle.ui_machine.specs.Objects.{asked, value_at, next_unheld}
 use Rattle.ui_machine.specs.Mentions.{mentions}
@@ -20,7 +20,7 @@ use Rattle.ui_machine.specs.Emissions.{notifying, beginning_emission}
 use Rattle.ui_machine.specs.Transfers.{transferring, unsetting}
 use Rattle.ui_machine.specs.Turns.{taking}
 use Rattle.ui_machine.specs.Results.{Left, ending}
-use Rattle.ui_machine.specs.Calls.{calling_on}
+use Rattle.ui_machine.specs.Calls.{calling_on, question_of}
 use Rattle.ui_machine.specs.Builds.{making, constructed, thawing_made, given_value, held_object, peer_for, building_child, building_forward, building_binding, building_handler}
 use Rattle.ui_machine.specs.Instructions.{new_emission}
 use Rattle.ui_machine.specs.Running.{running}
@@ -59,7 +59,7 @@ building d w (forwards place slot to ∷ items) = building_forward w place slot 
 building d w (binds number ∷ items) = building_binding d w number items
 building d w (connects place number ∷ items) = building_handler d w place number items
 
--- ** events
+-- ** requests
 
 -- a set by an event
 unfoldable pub carrying_set : World → ℕ → ℕ → Given → Answer Started
@@ -102,16 +102,11 @@ carrying_release d w place = do
   _ ← held_object w place
   starts (with_held (said d w (lines.release p.id)) place released) []
 
--- the world as a turn begins (GLib manual, g_main_context_iteration)
-abbrev pub turned : Definition → World → ℕ → World
-turned d w moment = record (said d w (lines.turn moment)) { moment = moment }
-
--- what an event does
-abbrev pub carrying : Definition → World → Event → Answer Started
+-- what a request does
+abbrev pub carrying : Definition → World → Request → Answer Started
 carrying d w (config.set place slot given) = carrying_set w place slot given
 carrying d w (config.get place slot) = carrying_get d w place slot
 carrying d w (config.emit place signal args detail) = carrying_emit w place signal args detail
-carrying d w (config.turn moment) = starts (turned d w moment) []
 carrying d w (config.release place) = carrying_release d w place
 
 -- the program of a ready source begins, with its data
@@ -156,31 +151,59 @@ abbrev pub settling : World → List ℕ → World
 settling w [] = w
 settling w (id ∷ ids) = sunk w id
 
--- what the first task does
-abbrev pub act : Definition → World → List Task → ℕ → Answer Config
-act d w [] n = Ok (record { world = settling w w.floating; agenda = []; counted = n })
-act d w (Setting id slot v ∷ rest) n = uncounted rest n (setting d w id slot v)
-act d w (Notifying id slot ∷ rest) n = counted rest n (notifying d w id slot)
-act d w (Beginning emission ∷ rest) n = counted rest n (beginning_emission d w emission)
-act d w (Emitting emission [] ∷ rest) n = left n (ending d w emission rest)
-act d w (Emitting emission (turn ∷ turns) ∷ rest) n = uncounted rest n (taking d w emission turns turn)
-act d w (Transferring number back ∷ rest) n = counted rest n (transferring d w number back)
-act d w (Unsetting number ∷ rest) n = uncounted rest n (unsetting w number)
-act d w (Thawing id slots ∷ rest) n = uncounted rest n (thawing w id slots)
-act d w (Running program block at passes into registers ∷ rest) n =
-    counted_left n (running d w rest (record { program = program; block = block; at = at; passes = passes; into = into; registers = registers }))
-act d w (Answering source ∷ rest) n = uncounted rest n (starts w [])
-act d w (Calling object peer method args to ∷ rest) n = left n (calling_on d w peer method args to rest)
-act d w (Constructing id steps held ∷ rest) n = uncounted rest n (constructing d w id steps held)
-act d w (Building items ∷ rest) n = uncounted rest n (building d w items)
-act d w (Carrying event ∷ rest) n = uncounted rest n (carrying d w event)
-act d w (Due source ∷ rest) n = uncounted rest n (sourcing d w source)
+-- what the first task does; a call takes the reply
+abbrev pub act : Definition → World → Option Reply → List Task → ℕ → Answer Config
+act d w reply [] n = Ok (record { world = settling w w.floating; agenda = []; counted = n })
+act d w reply (Setting id slot v ∷ rest) n = uncounted rest n (setting d w id slot v)
+act d w reply (Notifying id slot ∷ rest) n = counted rest n (notifying d w id slot)
+act d w reply (Beginning emission ∷ rest) n = counted rest n (beginning_emission d w emission)
+act d w reply (Emitting emission [] ∷ rest) n = left n (ending d w emission rest)
+act d w reply (Emitting emission (turn ∷ turns) ∷ rest) n = uncounted rest n (taking d w emission turns turn)
+act d w reply (Transferring number back ∷ rest) n = counted rest n (transferring d w number back)
+act d w reply (Unsetting number ∷ rest) n = uncounted rest n (unsetting w number)
+act d w reply (Thawing id slots ∷ rest) n = uncounted rest n (thawing w id slots)
+act d w reply (Running frame ∷ rest) n = counted_left n (running d w rest frame)
+act d w reply (Answering source ∷ rest) n = uncounted rest n (starts w [])
+act d w reply (Calling call ∷ rest) n = left n (calling_on d w call rest reply)
+act d w reply (Constructing id steps held ∷ rest) n = uncounted rest n (constructing d w id steps held)
+act d w reply (Building items ∷ rest) n = uncounted rest n (building d w items)
+act d w reply (Carrying request ∷ rest) n = uncounted rest n (carrying d w request)
+act d w reply (Due source ∷ rest) n = uncounted rest n (sourcing d w source)
 
 -- an object without a mention is finalised before anything else
-abbrev pub first_of : Definition → Config → Option ℕ → Answer Config
-first_of d c (Some id) = counted c.agenda c.counted (starts (finalised d c.world id) [])
-first_of d c None = act d c.world c.agenda c.counted
+abbrev pub first_of : Definition → Option Reply → Config → Option ℕ → Answer Config
+first_of d reply c (Some id) = counted c.agenda c.counted (starts (finalised d c.world id) [])
+first_of d reply c None = act d c.world reply c.agenda c.counted
 
--- the step from a configuration, or the arm by which it is stuck
-abbrev pub step : Definition → Config → Answer Config
-step d c = first_of d c (next_unheld (mentions d c) c.world.objects)
+-- the step from a configuration, or the arm by which it is stuck; a peer that is asked gives this reply
+abbrev pub step : Definition → Option Reply → Config → Answer Config
+step d reply c = first_of d reply c (next_unheld (mentions d c) c.world.objects)
+
+-- ** what a step asks
+
+-- what the first task asks of a peer
+abbrev pub asked_first : World → List Task → Option Question
+asked_first w [] = None
+asked_first w (Setting id slot v ∷ rest) = None
+asked_first w (Notifying id slot ∷ rest) = None
+asked_first w (Beginning emission ∷ rest) = None
+asked_first w (Emitting emission turns ∷ rest) = None
+asked_first w (Transferring number back ∷ rest) = None
+asked_first w (Unsetting number ∷ rest) = None
+asked_first w (Thawing id slots ∷ rest) = None
+asked_first w (Running frame ∷ rest) = None
+asked_first w (Answering source ∷ rest) = None
+asked_first w (Calling call ∷ rest) = question_of w call
+asked_first w (Constructing id steps held ∷ rest) = None
+asked_first w (Building items ∷ rest) = None
+asked_first w (Carrying request ∷ rest) = None
+asked_first w (Due source ∷ rest) = None
+
+-- a finalisation asks nothing
+abbrev pub asked_after : Config → Option ℕ → Option Question
+asked_after c (Some id) = None
+asked_after c None = asked_first c.world c.agenda
+
+-- what the step from a configuration asks of a peer, if it asks one
+abbrev pub question : Definition → Config → Option Question
+question d c = asked_after c (next_unheld (mentions d c) c.world.objects)
