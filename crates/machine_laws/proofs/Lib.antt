@@ -3,3 +3,4 @@ pub mod ClampProofs
 pub mod QueueProofs
 pub mod PlanProofs
 pub mod StepProofs
+pub mod JoinProofs
