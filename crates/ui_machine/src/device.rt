@@ -22,11 +22,12 @@ pub trait Feed {
     ghost failed: { Self → Bool };
 
     /// Reads some bytes into the front of `buf`, and answers how many: none only at the end, or into an empty slice.
-    /// A fault takes none and marks the feed as failed.
+    /// A fault takes none and marks the feed as failed; after it no more reads may be made.
     fn read(&mut self, buf: &mut [u8]) -> Result<usize, DeviceFault>
+        requires works { failed self.old ≡ false }
         ensures bound { ReadsAtMost result buf.new }
         ensures bytes { ReadConsumes (left self.old) (left self.new) result buf.new }
-        ensures marks { MatchResult result (λ _. failed self.new ≡ failed self.old) (λ _. failed self.new ≡ true) };
+        ensures marks { MatchResult result (λ _. failed self.new ≡ false) (λ _. failed self.new ≡ true) };
 
     /// Whether a read has failed.
     fn has_failed(&self) -> bool
@@ -42,12 +43,13 @@ pub trait Sink {
     ghost failed: { Self → Bool };
 
     /// Takes a front of `bytes`, and answers how long it is: at least 1, unless there are none. A fault takes none and marks
-    /// the sink as failed.
+    /// the sink as failed; after it no more writes may be made.
     fn write(&mut self, bytes: &[u8]) -> Result<usize, DeviceFault>
+        requires works { failed self.old ≡ false }
         ensures bound { WritesAtMost result bytes.now }
         ensures some { IfOk result (λ n. 0 < length bytes.now → 0 < n) }
         ensures bytes { WriteAppends (taken self.old) (taken self.new) result bytes.now }
-        ensures marks { MatchResult result (λ _. failed self.new ≡ failed self.old) (λ _. failed self.new ≡ true) };
+        ensures marks { MatchResult result (λ _. failed self.new ≡ false) (λ _. failed self.new ≡ true) };
 
     /// Whether a write has failed.
     fn has_failed(&self) -> bool

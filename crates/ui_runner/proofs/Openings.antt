@@ -1,5 +1,5 @@
 -- How a run opens, and what follows.
-use Rattle.std.proofs.Common.{◌≡◌, ℕ, List, [], ◌∷◌, ◌++◌, codes, String, Global, Option, Some, None, Result, Ok, Err, refl, sym, ap, subst, ◌∙◌, inl, inr}
+use Rattle.std.proofs.Common.{◌≡◌, ℕ, Bool, true, List, [], ◌∷◌, ◌++◌, codes, String, Global, Option, Some, None, Result, Ok, Err, refl, sym, ap, subst, ◌∙◌, inl, inr}
 use Rattle.std.specs.Prelude.{IfSome, string_bytes}
 use Rattle.std.specs.Io.KnownBytes.{Appends}
 use Rattle.std.proofs.KnownBytes.{Appends-trans}
@@ -65,14 +65,14 @@ pub some_always : {A : Type 0} (o : Option A) (P : A → Type 0) → ((x : A) �
 some_always None P h = tt
 some_always (Some x) P h = h x
 
-module _ (a b c : Option (List ℕ)) (s : SessionState) where
+module _ (a b c : Option (List ℕ)) (s : SessionState) (torn : Bool) where
   -- the build's lines broke off
-  pub breaks_off : (lines : List (List ℕ)) → AppendsPart a c (lines_text s.world.transcript) → (text : List ℕ) × Proceeds (built s) lines 4 text × Appends a c text
-  breaks_off lines p = (p.part, inl (refl, (p.more, p.split)), p.appends)
+  pub breaks_off : (lines : List (List ℕ)) → torn ≡ true → AppendsPart a c (lines_text s.world.transcript) → (text : List ℕ) × Proceeds (built s) lines 4 torn text × Appends a c text
+  breaks_off lines failed p = (p.part, inl (refl, failed, (p.more, p.split)), p.appends)
 
   -- they were written, and then the events told
   pub plays : (lines : List (List ℕ)) (status : ℕ) (new : SessionState) → Appends a b (lines_text s.world.transcript)
-      → (rest : List ℕ) × Story event_replies s lines status rest new × Appends b c rest → (text : List ℕ) × Proceeds (built s) lines status text × Appends a c text
+      → (rest : List ℕ) × Story event_replies s lines status torn rest new × Appends b c rest → (text : List ℕ) × Proceeds (built s) lines status torn text × Appends a c text
   plays lines status new first told = (
     lines_text s.world.transcript ++ told.0,
     inr (record { rest = told.0; new = new; whole = refl; story = told.1; run = λ built. runs_over s lines told.1.outcomes new built told.1.told }),
@@ -100,12 +100,12 @@ open_refused bytes text unbegun is opens = absurd is
 open_refused bytes text (stopped s h) is opens = absurd is
 open_refused bytes text (built s) is opens = absurd is
 
-module _ (bytes : List ℕ) (input a c : Option (List ℕ)) (status : ℕ) where
+module _ (bytes : List ℕ) (input a c : Option (List ℕ)) (status : ℕ) (torn : Bool) where
   abbrev pub IsWritten : List ℕ → ℕ → Type 0
-  IsWritten whole answer = (out : List ℕ) × Concludes whole answer status out × Appends a c out
+  IsWritten whole answer = (out : List ℕ) × Concludes whole answer status torn out × Appends a c out
 
   abbrev pub RanOver : Type 0
-  RanOver = IfSome input (λ left. (text : List ℕ) × Ran bytes (lines_of left) status text × Appends a c text)
+  RanOver = IfSome input (λ left. (text : List ℕ) × Ran bytes (lines_of left) status torn text × Appends a c text)
 
   pub ran_stopped : (session : SessionState) (halt : Halt) → Opened bytes (code.Stopped session halt) → IsWritten (lines_text session.world.transcript ++ build_stopped halt) 3 → RanOver
   ran_stopped session halt o w = some_always input _ (λ left. (w.0, record { opening = stopped session halt; opens = open_stopped bytes session halt o.opening o.is o.opens; proceeds = w.1 }, w.2))
@@ -119,5 +119,5 @@ module _ (bytes : List ℕ) (input a c : Option (List ℕ)) (status : ℕ) where
       let concludes = rw r.2 at w.1 in
       some_always input _ (λ left. (w.0, record { opening = refused r.0; opens = r.1; proceeds = concludes }, w.2))
 
-  pub ran_built : (session : SessionState) → Opened bytes (code.Built session) → IfSome input (λ left. (text : List ℕ) × Proceeds (built session) (lines_of left) status text × Appends a c text) → RanOver
+  pub ran_built : (session : SessionState) → Opened bytes (code.Built session) → IfSome input (λ left. (text : List ℕ) × Proceeds (built session) (lines_of left) status torn text × Appends a c text) → RanOver
   ran_built session o w = if_some input _ _ (λ left t. (t.0, record { opening = built session; opens = open_built bytes session o.opening o.is o.opens; proceeds = t.1 }, t.2)) w

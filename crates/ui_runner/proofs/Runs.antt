@@ -68,8 +68,8 @@ module _ {S : Type 0} (replies : Replies S) where
   }
 
   -- a run that was not broken off: its lines are at an end, or it is
-  pub whole_story : {old now : S} {all left : List (List ℕ)} {number status : ℕ} {ended : Bool} {text : List ℕ}
-      → (c : Came replies old all now number status ended left text) → IsOver all c.outcomes → Story replies old all status text now
+  pub whole_story : {old now : S} {all left : List (List ℕ)} {number status : ℕ} {ended torn : Bool} {text : List ℕ}
+      → (c : Came replies old all now number status ended left text) → IsOver all c.outcomes → Story replies old all status torn text now
   whole_story c over = record {
     outcomes = c.outcomes;
     told = c.told;
@@ -79,22 +79,34 @@ module _ {S : Type 0} (replies : Replies S) where
     answer = λ _. c.answers;
   }
 
-  pub ended_story : {old now : S} {all left : List (List ℕ)} {number status : ℕ} {text : List ℕ}
-      → Came replies old all now number status true left text → Story replies old all status text now
+  pub ended_story : {old now : S} {all left : List (List ℕ)} {number status : ℕ} {torn : Bool} {text : List ℕ}
+      → Came replies old all now number status true left text → Story replies old all status torn text now
   ended_story c = whole_story c (inr c.over)
 
-  pub told_story : {old now : S} {all left : List (List ℕ)} {number status : ℕ} {ended : Bool} {text : List ℕ}
-      → Came replies old all now number status ended left text → left ≡ [] → Story replies old all status text now
+  pub told_story : {old now : S} {all left : List (List ℕ)} {number status : ℕ} {ended torn : Bool} {text : List ℕ}
+      → Came replies old all now number status ended left text → left ≡ [] → Story replies old all status torn text now
   told_story {left = left} c e = whole_story c (inl (c.counts ∙ ap length (sym (append-nil c.done) ∙ ap (λ ls. c.done ++ ls) (sym e) ∙ sym c.split)))
 
-  -- a run whose device failed
-  pub broken_story : {old now : S} {all left : List (List ℕ)} {number status : ℕ} {ended : Bool} {text : List ℕ} (part more : List ℕ)
-      → Came replies old all now number status ended left text → text ≡ part ++ more → Story replies old all 4 part now
-  broken_story part more c e = record {
+  -- a run whose reader failed: the lines so far stand whole
+  pub cut_story : {old now : S} {all left : List (List ℕ)} {number status : ℕ} {ended torn : Bool} {text : List ℕ}
+      → Came replies old all now number status ended left text → Story replies old all 4 torn text now
+  cut_story c = record {
+    outcomes = c.outcomes;
+    told = c.told;
+    broke = λ _. ([], sym c.writes ∙ sym (append-nil _));
+    whole = λ _. c.writes;
+    over = λ ne. absurd (ne refl);
+    answer = λ ne. absurd (ne refl);
+  }
+
+  -- a run whose writer failed
+  pub broken_story : {old now : S} {all left : List (List ℕ)} {number status : ℕ} {ended torn : Bool} {text : List ℕ} (part more : List ℕ) → torn ≡ true
+      → Came replies old all now number status ended left text → text ≡ part ++ more → Story replies old all 4 torn part now
+  broken_story part more failed c e = record {
     outcomes = c.outcomes;
     told = c.told;
     broke = λ _. (more, sym c.writes ∙ e);
-    whole = λ ne. absurd (ne refl);
+    whole = λ fine. cc (failed, fine);
     over = λ ne. absurd (ne refl);
     answer = λ ne. absurd (ne refl);
   }
@@ -150,18 +162,18 @@ module _ {S : Type 0} (replies : Replies S) (old now new : S) (a b c w₀ w₁ w
     f.goes_on,
   ))
 
-  pub breaks : AppendsPart w₁ w₂ (text_at number o) → IfSome a (λ input. (text : List ℕ) × Story replies old (lines_of input) 4 text new × Appends w₀ w₂ text)
-  breaks p = known_so a c _ _ told_line (λ xs zs t. (
+  pub breaks : (torn : Bool) → torn ≡ true → AppendsPart w₁ w₂ (text_at number o) → IfSome a (λ input. (text : List ℕ) × Story replies old (lines_of input) 4 torn text new × Appends w₀ w₂ text)
+  breaks torn failed p = known_so a c _ _ told_line (λ xs zs t. (
     t.1.text ++ p.part,
-    broken_story replies (t.1.text ++ p.part) p.more t.1.came (ap (λ u. t.1.text ++ u) p.split ∙ sym (append_assoc t.1.text p.part p.more)),
+    broken_story replies (t.1.text ++ p.part) p.more failed t.1.came (ap (λ u. t.1.text ++ u) p.split ∙ sym (append_assoc t.1.text p.part p.more)),
     Appends-trans w₀ w₁ w₂ _ _ t.1.appends p.appends,
   ))
 
-  pub ends_there : (answer : ℕ) → answer ≡ status_after status o → true ≡ ends o → Appends w₁ w₂ (text_at number o)
-      → IfSome a (λ input. (text : List ℕ) × Story replies old (lines_of input) answer text new × Appends w₀ w₂ text)
-  ends_there answer e x p = known_so a c _ _ told_line (λ xs zs t. (
+  pub ends_there : (torn : Bool) (answer : ℕ) → answer ≡ status_after status o → true ≡ ends o → Appends w₁ w₂ (text_at number o)
+      → IfSome a (λ input. (text : List ℕ) × Story replies old (lines_of input) answer torn text new × Appends w₀ w₂ text)
+  ends_there torn answer e x p = known_so a c _ _ told_line (λ xs zs t. (
     t.1.text ++ text_at number o,
-    subst (λ s. Story replies old (lines_of xs) s (t.1.text ++ text_at number o) new) (sym e)
+    subst (λ s. Story replies old (lines_of xs) s torn (t.1.text ++ text_at number o) new) (sym e)
         (ended_story replies (subst (λ d. Came replies old (lines_of xs) new (number + 1) (status_after status o) d t.0 (t.1.text ++ text_at number o)) (sym x) t.1.came)),
     Appends-trans w₀ w₁ w₂ _ _ t.1.appends p,
   ))

@@ -9,3 +9,4 @@ pub mod RunOver
 pub mod Opening
 pub mod OpeningView
 pub mod Files
+pub mod Endings

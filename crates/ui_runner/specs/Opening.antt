@@ -1,5 +1,5 @@
 -- How a run opens, before it tells the event lines, and the whole run.
-use Rattle.std.specs.Prelude.{◌≡◌, ◌⊎◌, ℕ, true, false, List, [], ◌++◌, Ok, Err}
+use Rattle.std.specs.Prelude.{◌≡◌, ◌⊎◌, ℕ, Bool, true, false, List, [], ◌++◌, Ok, Err}
 use Rattle.ui_machine.specs.declared.arm.Halt.{Halt}
 use Rattle.ui_machine.specs.Runs.{Tally, Carries, Halts, of_build}
 use Rattle.builder_defs.specs.Refusals.{Refusal}
@@ -41,28 +41,30 @@ Opens bytes unbegun = Unit {0}
 Opens bytes (stopped s halt) = (denoted bytes ≡ Ok s.definition) × IsHalted s halt
 Opens bytes (built s) = (denoted bytes ≡ Ok s.definition) × IsBuilt s
 
--- the text was written and the status answered, or a device failed within the text
-abbrev pub Concludes : List ℕ → ℕ → ℕ → List ℕ → Type 0
-Concludes whole answer status text = ((status ≡ 4) × IsFrontOf text whole) ⊎ ((status ≡ answer) × (text ≡ whole))
+-- the text was written and the status answered, or the writer failed within the text
+abbrev pub Concludes : List ℕ → ℕ → ℕ → Bool → List ℕ → Type 0
+Concludes whole answer status torn text =
+    ((status ≡ 4) × (torn ≡ true) × IsFrontOf text whole) ⊎ ((status ≡ answer) × (torn ≡ false) × (text ≡ whole))
 
 -- the lines of the build were written, and then the event lines told
-pub record Plays (s : SessionState) (lines : List (List ℕ)) (status : ℕ) (text : List ℕ) : Type 0 where
+pub record Plays (s : SessionState) (lines : List (List ℕ)) (status : ℕ) (torn : Bool) (text : List ℕ) : Type 0 where
   pub rest : List ℕ
   pub new : SessionState
   pub whole : text ≡ lines_text s.world.transcript ++ rest
-  pub story : Story event_replies s lines status rest new
+  pub story : Story event_replies s lines status torn rest new
   -- what was carried out is a run of the machine
   pub run : IsBuilt s → RunsOver s lines story.outcomes new
 
 -- what a run comes to after its opening: 1 where the definition is refused, 3 for want of memory and where the build stopped
-abbrev pub Proceeds : Opening → List (List ℕ) → ℕ → List ℕ → Type 0
-Proceeds (refused refusal) lines status text = Concludes (definition_refused refusal) 1 status text
-Proceeds unbegun lines status text = Concludes nothing_begun 3 status text
-Proceeds (stopped s halt) lines status text = Concludes (lines_text s.world.transcript ++ build_stopped halt) 3 status text
-Proceeds (built s) lines status text = ((status ≡ 4) × IsFrontOf text (lines_text s.world.transcript)) ⊎ Plays s lines status text
+abbrev pub Proceeds : Opening → List (List ℕ) → ℕ → Bool → List ℕ → Type 0
+Proceeds (refused refusal) lines status torn text = Concludes (definition_refused refusal) 1 status torn text
+Proceeds unbegun lines status torn text = Concludes nothing_begun 3 status torn text
+Proceeds (stopped s halt) lines status torn text = Concludes (lines_text s.world.transcript ++ build_stopped halt) 3 status torn text
+Proceeds (built s) lines status torn text =
+    ((status ≡ 4) × (torn ≡ true) × IsFrontOf text (lines_text s.world.transcript)) ⊎ Plays s lines status torn text
 
--- a run with these bytes of a definition and these event lines
-pub record Ran (bytes : List ℕ) (lines : List (List ℕ)) (status : ℕ) (text : List ℕ) : Type 0 where
+-- a run with these bytes of a definition and these event lines, whose writer failed or not
+pub record Ran (bytes : List ℕ) (lines : List (List ℕ)) (status : ℕ) (torn : Bool) (text : List ℕ) : Type 0 where
   pub opening : Opening
   pub opens : Opens bytes opening
-  pub proceeds : Proceeds opening lines status text
+  pub proceeds : Proceeds opening lines status torn text

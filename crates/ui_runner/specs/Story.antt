@@ -103,13 +103,14 @@ IsOver lines outcomes = (length outcomes ≡ length lines) ⊎ (list_any ends ou
 abbrev pub IsFrontOf : List ℕ → List ℕ → Type 0
 IsFrontOf text whole = (more : List ℕ) × (whole ≡ text ++ more)
 
--- a run over these lines that ended in this status: their outcomes, and what it wrote
-pub record Story {S : Type 0} (replies : Replies S) (old : S) (lines : List (List ℕ)) (status : ℕ) (text : List ℕ) (new : S) : Type 0 where
+-- a run over these lines that ended in this status, where the writer failed or not: their outcomes, and what it wrote
+pub record Story {S : Type 0} (replies : Replies S) (old : S) (lines : List (List ℕ)) (status : ℕ) (torn : Bool) (text : List ℕ) (new : S) : Type 0 where
   pub outcomes : List Outcome
   pub told : Tale replies old 1 lines outcomes new
-  -- a device failed: the text broke off
-  pub broke : status ≡ 4 → IsFrontOf text (text_from 1 outcomes)
-  -- none did: the whole text, to the end of the lines or of the run
-  pub whole : status ≢ 4 → text ≡ text_from 1 outcomes
+  -- the writer failed: the text broke off
+  pub broke : torn ≡ true → IsFrontOf text (text_from 1 outcomes)
+  -- it did not: the whole text of the outcomes so far, also where the reader failed
+  pub whole : torn ≡ false → text ≡ text_from 1 outcomes
+  -- no device failed: there are no more outcomes, by the end of the lines or of the run
   pub over : status ≢ 4 → IsOver lines outcomes
   pub answer : status ≢ 4 → status ≡ status_of outcomes

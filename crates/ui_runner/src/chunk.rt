@@ -1,6 +1,6 @@
 //! Bytes read ahead.
 
-ghost use Rattle.std.specs.Prelude.{◌≡◌, ◌≤◌, ◌++◌, [], ◌∷◌, ℕ, List, drop, take, length, true, IfOk, OnOk, MatchOption, MatchResult};
+ghost use Rattle.std.specs.Prelude.{◌≡◌, ◌≤◌, ◌++◌, [], ◌∷◌, ℕ, List, drop, take, length, true, IfOk, OnOk, MatchOption, MatchResult, false};
 ghost use Rattle.std.specs.Io.KnownBytes.{Keeps, Consumes, IsAtEnd, prepend_known};
 ghost use Rattle.ui_runner.specs.declared.chunk.TheConstants.{CHUNK_SIZE};
 
@@ -40,11 +40,12 @@ impl Chunk {
 
     /// Takes the next byte, and reads where there is none; None at the end. A read is not tried again.
     pub fn next<R: Feed>(&mut self, reader: &mut R) -> Result<Option<u8>, DeviceFault>
+        requires works { R.failed reader.old ≡ false }
         ensures byte { IfOk result (λ next. MatchOption next
             (Keeps (prepend_known self.old (R.left reader.old)) (prepend_known self.new (R.left reader.new))
             × IsAtEnd (prepend_known self.new (R.left reader.new)))
             (λ b. Consumes (prepend_known self.old (R.left reader.old)) (prepend_known self.new (R.left reader.new)) (b ∷ []))) }
-        ensures marks { MatchResult result (λ _. R.failed reader.new ≡ R.failed reader.old) (λ _. R.failed reader.new ≡ true) }
+        ensures marks { MatchResult result (λ _. R.failed reader.new ≡ false) (λ _. R.failed reader.new ≡ true) }
         ensures small { length self.new ≤ CHUNK_SIZE }
     {
         self.fill(reader)?;
@@ -54,10 +55,11 @@ impl Chunk {
 
     // Reads where there is no byte.
     fn fill<R: Feed>(&mut self, reader: &mut R) -> Result<(), DeviceFault>
+        requires works { R.failed reader.old ≡ false }
         ensures keeps { OnOk result (Keeps (prepend_known self.old (R.left reader.old)) (prepend_known self.new (R.left reader.new))) }
         ensures small { length self.new ≤ CHUNK_SIZE }
         ensures end { OnOk result (self.new ≡ [] → IsAtEnd (R.left reader.new)) }
-        ensures marks { MatchResult result (λ _. R.failed reader.new ≡ R.failed reader.old) (λ _. R.failed reader.new ≡ true) }
+        ensures marks { MatchResult result (λ _. R.failed reader.new ≡ false) (λ _. R.failed reader.new ≡ true) }
     {
         if self.at < self.end {
             return Ok(());

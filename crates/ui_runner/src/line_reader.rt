@@ -1,6 +1,6 @@
 //! Lines out of bytes.
 
-ghost use Rattle.std.specs.Prelude.{◌≡◌, ◌≤◌, true, length, OnOk, IfOk, MatchResult};
+ghost use Rattle.std.specs.Prelude.{◌≡◌, ◌≤◌, true, length, OnOk, IfOk, MatchResult, false};
 ghost use Rattle.std.specs.Io.KnownBytes.{prepend_known};
 ghost use Rattle.ui_runner.specs.Reading.{WhereKnown, Reads};
 
@@ -30,11 +30,12 @@ impl LineReader {
     /// Reads the next line into the buffer; None at the end. It reads no further than a chunk past the line, and where a line is too
     /// long no further than a chunk past the limit.
     pub fn next_line<R: Feed>(&mut self, reader: &mut R) -> Result<Option<Found>, DeviceFault>
+        requires works { R.failed reader.old ≡ false }
         ensures reads { IfOk result (λ found.
             WhereKnown (prepend_known self.old.chunk (R.left reader.old)) (prepend_known self.new.chunk (R.left reader.new))
             (λ xs ys. Reads found self.new.line.items xs ys)) }
         ensures small { OnOk result (length self.new.chunk ≤ CHUNK_SIZE) }
-        ensures marks { MatchResult result (λ _. R.failed reader.new ≡ R.failed reader.old) (λ _. R.failed reader.new ≡ true) }
+        ensures marks { MatchResult result (λ _. R.failed reader.new ≡ false) (λ _. R.failed reader.new ≡ true) }
     {
         self.line.clear();
         loop {

@@ -3,6 +3,7 @@
 
 mod chunk;
 mod definition_file;
+mod ending;
 #[cfg(test)]
 mod fakes;
 mod hearing;
@@ -19,12 +20,12 @@ mod words;
 mod writing;
 
 use definition_file::{FileFault, definition_bytes};
+use ending::Ending;
 use run::run;
 use std::fs::File;
-use std::io;
 use std::process::ExitCode;
 use ui_machine::Device;
-use words::{Request, USAGE, WordsFault, given_words, read_words};
+use words::{Request, WordsFault, given_words, read_words};
 
 /// The most bytes of an event line, without its LF.
 pub const LINE_LIMIT: usize = 65_536;
@@ -32,28 +33,31 @@ pub const LINE_LIMIT: usize = 65_536;
 /// The most event lines.
 pub const MOST_LINES: u64 = 65_536;
 
-const REFUSED_FOR_MEMORY: &str = "refused: OutOfMemory";
+fn main(rt: HostRuntime) -> ExitCode {
+    ExitCode::from(status(&rt))
+}
 
-fn main(rt: HostRuntime) -> io::Result<ExitCode> {
-    let words = match given_words(&rt) {
+// Reads the words and does what they ask for.
+fn status(rt: &HostRuntime) -> u8 {
+    let words = match given_words(rt) {
         Ok(words) => words,
-        Err(fault) => return refuse_words(&rt, fault),
+        Err(fault) => return refuse_words(rt, fault),
     };
     match read_words(rt.alloc(), words.as_slice()) {
-        Ok(request) => perform(&rt, request),
-        Err(fault) => refuse_words(&rt, fault),
+        Ok(request) => perform(rt, request),
+        Err(fault) => refuse_words(rt, fault),
     }
 }
 
-fn refuse_words(rt: &HostRuntime, fault: WordsFault) -> io::Result<ExitCode> {
+fn refuse_words(rt: &HostRuntime, fault: WordsFault) -> u8 {
     match fault {
-        WordsFault::Usage => usage(rt),
+        WordsFault::Usage => Ending::Usage.tell(&mut Device::new(rt.stderr()), ""),
         WordsFault::OutOfMemory => out_of_memory(rt),
     }
 }
 
 // Reads the definition, opens the events, and runs.
-fn perform(rt: &HostRuntime, request: Request<'_>) -> io::Result<ExitCode> {
+fn perform(rt: &HostRuntime, request: Request<'_>) -> u8 {
     let bytes = match definition_at(rt, request.definition) {
         Ok(bytes) => bytes,
         Err(FileFault::OutOfMemory) => return out_of_memory(rt),
@@ -64,8 +68,7 @@ fn perform(rt: &HostRuntime, request: Request<'_>) -> io::Result<ExitCode> {
     };
     let mut reader = Device::new(events);
     let mut writer = Device::new(rt.stdout());
-    let status = run(rt.alloc(), bytes.as_slice(), &mut reader, &mut writer);
-    Ok(ExitCode::from(status))
+    run(rt.alloc(), bytes.as_slice(), &mut reader, &mut writer)
 }
 
 fn definition_at(rt: &HostRuntime, name: &str) -> Result<Vec<u8>, FileFault> {
@@ -76,17 +79,10 @@ fn definition_at(rt: &HostRuntime, name: &str) -> Result<Vec<u8>, FileFault> {
     definition_bytes(rt.alloc(), &mut reader)
 }
 
-fn usage(rt: &HostRuntime) -> io::Result<ExitCode> {
-    eprintln!(rt; "{USAGE}")?;
-    Ok(ExitCode::from(2))
+fn unreadable(rt: &HostRuntime, name: &str) -> u8 {
+    Ending::Unreadable.tell(&mut Device::new(rt.stderr()), name)
 }
 
-fn unreadable(rt: &HostRuntime, name: &str) -> io::Result<ExitCode> {
-    eprintln!(rt; "cannot read {name}")?;
-    Ok(ExitCode::from(4))
-}
-
-fn out_of_memory(rt: &HostRuntime) -> io::Result<ExitCode> {
-    println!(rt; "{REFUSED_FOR_MEMORY}")?;
-    Ok(ExitCode::from(3))
+fn out_of_memory(rt: &HostRuntime) -> u8 {
+    Ending::OutOfMemory.tell(&mut Device::new(rt.stdout()), "")
 }

@@ -1,6 +1,6 @@
 //! The lines of the event file, from the first to the one that ends the run.
 
-ghost use Rattle.std.specs.Prelude.{◌≡◌, ◌≢◌, ◌≤◌, ◌+◌, length, ℕ, List, true, ◌||◌, IfSome};
+ghost use Rattle.std.specs.Prelude.{◌≡◌, ◌≢◌, ◌≤◌, ◌+◌, length, ℕ, List, true, ◌||◌, IfSome, false};
 ghost use Rattle.std.specs.Io.KnownBytes.{Appends};
 ghost use Rattle.ui_runner.specs.Lines.{lines_of};
 ghost use Rattle.ui_runner.specs.Story.{Story, told_lines, reach};
@@ -21,13 +21,15 @@ pub fn tell_lines<L: Listener, R: Feed, W: Sink>(
     reader: &mut R,
     writer: &mut W,
 ) -> u8
+    requires reader { R.failed reader.old ≡ false }
+    requires writer { W.failed writer.old ≡ false }
     ensures story { IfSome (R.left reader.old) (λ input. (text : List ℕ) ×
-        Story L.replies listener.old (lines_of input) result text listener.new × Appends (W.taken writer.old) (W.taken writer.new) text) }
+        Story L.replies listener.old (lines_of input) result (W.failed writer.new) text listener.new × Appends (W.taken writer.old) (W.taken writer.new) text) }
     // It reads no further than the lines up to the first that ends the run, and a chunk.
     ensures near { result ≢ 4 → IfSome (R.left reader.old) (λ input. IfSome (R.left reader.new) (λ rest.
         length input ≤ length rest + (reach (told_lines 1 (lines_of input)) + CHUNK_SIZE))) }
     ensures failed { result ≡ 4 → (R.failed reader.new || W.failed writer.new) ≡ true }
-    ensures works { result ≢ 4 → (R.failed reader.new ≡ R.failed reader.old) × (W.failed writer.new ≡ W.failed writer.old) }
+    ensures works { result ≢ 4 → (R.failed reader.new ≡ false) × (W.failed writer.new ≡ false) }
 {
     let mut lines = LineReader {
         chunk: Chunk::new(),

@@ -1,6 +1,6 @@
 //! Text out to a sink.
 
-ghost use Rattle.std.specs.Prelude.{◌≡◌, true, List, map, flat_map, MatchResult, string_bytes};
+ghost use Rattle.std.specs.Prelude.{◌≡◌, true, List, map, flat_map, MatchResult, string_bytes, false};
 ghost use Rattle.ui_runner.specs.Writing.{Writes};
 ghost use Rattle.ui_runner.specs.Texts.{joined, lines_text, refused_line, stopped_line, stop_name};
 ghost use Rattle.ui_runner.specs.Story.{text_at};
@@ -13,8 +13,9 @@ use ui_machine::{Arm, DeviceFault, Halt, Sink};
 
 /// Writes all the bytes, or what comes before the first write that fails.
 pub fn write_all<W: Sink>(writer: &mut W, bytes: &[u8]) -> Result<(), DeviceFault>
+    requires works { W.failed writer.old ≡ false }
     ensures writes { Writes result (W.taken writer.old) (W.taken writer.new) bytes.now }
-    ensures marks { MatchResult result (λ _. W.failed writer.new ≡ W.failed writer.old) (λ _. W.failed writer.new ≡ true) }
+    ensures marks { MatchResult result (λ _. W.failed writer.new ≡ false) (λ _. W.failed writer.new ≡ true) }
 {
     let mut done = 0;
     while done < bytes.len() {
@@ -28,8 +29,9 @@ pub fn write_all<W: Sink>(writer: &mut W, bytes: &[u8]) -> Result<(), DeviceFaul
 
 /// Writes texts one after the other, as `write_all` does.
 pub fn write_parts<W: Sink>(writer: &mut W, parts: &[&[u8]]) -> Result<(), DeviceFault>
+    requires works { W.failed writer.old ≡ false }
     ensures writes { Writes result (W.taken writer.old) (W.taken writer.new) (flat_map (λ part. part.now) parts.now) }
-    ensures marks { MatchResult result (λ _. W.failed writer.new ≡ W.failed writer.old) (λ _. W.failed writer.new ≡ true) }
+    ensures marks { MatchResult result (λ _. W.failed writer.new ≡ false) (λ _. W.failed writer.new ≡ true) }
 {
     for part in parts {
         let Ok(()) = write_all(writer, part) else {
@@ -41,8 +43,9 @@ pub fn write_parts<W: Sink>(writer: &mut W, parts: &[&[u8]]) -> Result<(), Devic
 
 /// Writes lines, each with its LF.
 pub fn write_lines<W: Sink>(writer: &mut W, lines: &[String]) -> Result<(), DeviceFault>
+    requires works { W.failed writer.old ≡ false }
     ensures writes { Writes result (W.taken writer.old) (W.taken writer.new) (lines_text (map string_bytes lines.now)) }
-    ensures marks { MatchResult result (λ _. W.failed writer.new ≡ W.failed writer.old) (λ _. W.failed writer.new ≡ true) }
+    ensures marks { MatchResult result (λ _. W.failed writer.new ≡ false) (λ _. W.failed writer.new ≡ true) }
 {
     for line in lines {
         let Ok(()) = write_parts(writer, &[line.as_bytes(), b"\n"]) else {
@@ -79,8 +82,9 @@ fn write_refused<W: Sink>(
     number: u64,
     refusal: LineRefusal,
 ) -> Result<(), DeviceFault>
+    requires works { W.failed writer.old ≡ false }
     ensures writes { Writes result (W.taken writer.old) (W.taken writer.new) (refused_line number refusal) }
-    ensures marks { MatchResult result (λ _. W.failed writer.new ≡ W.failed writer.old) (λ _. W.failed writer.new ≡ true) }
+    ensures marks { MatchResult result (λ _. W.failed writer.new ≡ false) (λ _. W.failed writer.new ≡ true) }
 {
     let mut digits = Buffer::new();
     let number = digits.format(number).as_bytes();
@@ -97,8 +101,9 @@ fn write_refused<W: Sink>(
 }
 
 fn write_stopped<W: Sink>(writer: &mut W, number: u64, halt: Halt) -> Result<(), DeviceFault>
+    requires works { W.failed writer.old ≡ false }
     ensures writes { Writes result (W.taken writer.old) (W.taken writer.new) (stopped_line number halt) }
-    ensures marks { MatchResult result (λ _. W.failed writer.new ≡ W.failed writer.old) (λ _. W.failed writer.new ≡ true) }
+    ensures marks { MatchResult result (λ _. W.failed writer.new ≡ false) (λ _. W.failed writer.new ≡ true) }
 {
     let mut digits = Buffer::new();
     let number = digits.format(number).as_bytes();
@@ -121,8 +126,9 @@ pub fn write_telling<W: Sink>(
     telling: Telling,
     lines: &[String],
 ) -> Result<(), DeviceFault>
+    requires works { W.failed writer.old ≡ false }
     ensures writes { Writes result (W.taken writer.old) (W.taken writer.new) (text_at number (told_of telling (map string_bytes lines.now))) }
-    ensures marks { MatchResult result (λ _. W.failed writer.new ≡ W.failed writer.old) (λ _. W.failed writer.new ≡ true) }
+    ensures marks { MatchResult result (λ _. W.failed writer.new ≡ false) (λ _. W.failed writer.new ≡ true) }
 {
     match telling {
         Telling::Said => write_lines(writer, lines),

@@ -6,5 +6,5 @@ pub returns-clause-plays : goal.returns-clause-plays
 returns-clause-plays g c =
     let first = rw c.transcript.ensures at c.in-Ok.ensures.writes in
     if_some (g.R.Feed.left c.args.reader.now) _ _
-    (λ input told. plays (g.W.Sink.taken c.args.writer.now) (g.W.Sink.taken c.write_lines.new.writer) (g.W.Sink.taken c.tell_lines.new.writer) c.args.session (lines_of input) c.tell_lines.result c.tell_lines.new.listener first told)
+    (λ input told. plays (g.W.Sink.taken c.args.writer.now) (g.W.Sink.taken c.write_lines.new.writer) (g.W.Sink.taken c.tell_lines.new.writer) c.args.session (g.W.Sink.failed c.tell_lines.new.writer) (lines_of input) c.tell_lines.result c.tell_lines.new.listener first told)
     c.tell_lines.ensures.story

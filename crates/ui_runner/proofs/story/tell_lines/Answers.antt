@@ -17,8 +17,8 @@ loop-next-init g c = record {
       (λ xs ys. (text : List ℕ) × Came g.L.Listener.replies c.args.listener.now (lines_of xs) c.args.listener.now 1 0 false (lines_of ys) text
       × Appends (g.W.Sink.taken c.args.writer.now) (g.W.Sink.taken c.args.writer.now) text)
       (λ xs. ([], came_start g.L.Listener.replies c.args.listener.now (lines_of xs), Appends-nil (g.W.Sink.taken c.args.writer.now))));
-  reader_works = refl;
-  writer_works = refl;
+  reader_works = c.requires.reader;
+  writer_works = c.requires.writer;
   near = rw (c.new.ensures, prepend_known-nil (g.R.Feed.left c.args.reader.now))
       (known_here (g.R.Feed.left c.args.reader.now) (λ xs ys. IsNear 1 xs ys) (λ xs. omega arith));
   works = λ e. absurd (omega arith);
@@ -33,7 +33,7 @@ returns-in_default-write_telling-clause-story g c =
     let tells = rw c.as_slice.ensures.value at c.tell-telling.ensures.tells in
     let reads = rw c.in-Some.is at c.in-Ok.ensures.reads in
     breaks g.L.Listener.replies _ _ _ _ _ _ _ _ _ c.loop-next.number c.loop-next.status c.in-Some.found _ (told_of c.tell-telling.result said)
-    c.loop-next.invariant.came reads tells writes
+    c.loop-next.invariant.came reads tells _ c.in_default-write_telling.ensures.marks writes
 
 pub returns-then-ends-clause-story : goal.returns-then-ends-clause-story
 returns-then-ends-clause-story g c =
@@ -43,7 +43,7 @@ returns-then-ends-clause-story g c =
     let tells = rw c.as_slice.ensures.value at c.tell-telling.ensures.tells in
     let reads = rw c.in-Some.is at c.in-Ok.ensures.reads in
     ends_there g.L.Listener.replies _ _ _ _ _ _ _ _ _ c.loop-next.number c.loop-next.status c.in-Some.found _ (told_of c.tell-telling.result said)
-    c.loop-next.invariant.came reads tells c.status_after-status.result (c.status_after-status.ensures said) (sym c.if-ends.true ∙ c.ends.ensures said) writes
+    c.loop-next.invariant.came reads tells _ c.status_after-status.result (c.status_after-status.ensures said) (sym c.if-ends.true ∙ c.ends.ensures said) writes
 
 pub loop-next-preserved : goal.loop-next-preserved
 loop-next-preserved g c =
@@ -60,8 +60,8 @@ loop-next-preserved g c =
           (λ xs ys zs h f. near_more xs ys zs c.loop-next.number _ h f on.0);
       came = goes_on_from g.L.Listener.replies _ _ _ _ _ _ _ _ _ c.loop-next.number c.loop-next.status c.in-Some.found _ (told_of c.tell-telling.result said)
           c.loop-next.invariant.came reads tells c.status_after-status.result (c.status_after-status.ensures said) goes on.1 writes;
-      reader_works = c.in-Ok.ensures.marks ∙ c.loop-next.invariant.reader_works;
-      writer_works = c.in-Ok-write_telling.ensures.marks ∙ c.loop-next.invariant.writer_works;
+      reader_works = c.in-Ok.ensures.marks;
+      writer_works = c.in-Ok-write_telling.ensures.marks;
       works = rw (c.status_after-status.ensures said) (status_is_no_fault c.loop-next.status (told_of c.tell-telling.result said) c.loop-next.invariant.works);
       within = omega (arith, on.0);
     }

@@ -12,8 +12,8 @@ invariant-loop-next g l = record {
   came : WhereKnown (g.R.Feed.left l.fn.reader) (prepend_known l.lines.chunk (g.R.Feed.left l.reader))
       (λ xs ys. (text : List ℕ) × Came g.L.Listener.replies l.fn.listener (lines_of xs) l.listener l.number l.status false (lines_of ys) text
       × Appends (g.W.Sink.taken l.fn.writer) (g.W.Sink.taken l.writer) text);
-  reader_works : g.R.Feed.failed l.reader ≡ g.R.Feed.failed l.fn.reader;
-  writer_works : g.W.Sink.failed l.writer ≡ g.W.Sink.failed l.fn.writer;
+  reader_works : g.R.Feed.failed l.reader ≡ false;
+  writer_works : g.W.Sink.failed l.writer ≡ false;
   near : WhereKnown (g.R.Feed.left l.fn.reader) (prepend_known l.lines.chunk (g.R.Feed.left l.reader)) (λ xs ys. IsNear l.number xs ys);
   works : l.status ≢ 4;
   within : l.number ≤ MOST_LINES + 1;

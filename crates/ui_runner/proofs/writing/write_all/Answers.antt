@@ -1,4 +1,4 @@
-use Rattle.std.proofs.Common.{arith, length-take, length-drop, ◌∙◌}
+use Rattle.std.proofs.Common.{arith, length-take, length-drop}
 use Rattle.ui_runner.proofs.Pieces.{stops_before, goes_on}
 use Rattle.ui_runner.proofs.writing.write_all.Goals as goal
 
@@ -9,5 +9,5 @@ pub loop-done-preserved : goal.loop-done-preserved
 loop-done-preserved g c = record {
   within = omega (arith, simp (length-take, length-drop) at c.in-Ok.ensures.bound);
   appends = goes_on _ _ _ c.args.bytes.now c.loop-done.done c.in-Ok.count c.loop-done.invariant.appends c.in-Ok.ensures.bytes;
-  works = c.in-Ok.ensures.marks ∙ c.loop-done.invariant.works;
+  works = c.in-Ok.ensures.marks;
 }

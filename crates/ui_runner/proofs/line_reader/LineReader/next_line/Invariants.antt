@@ -9,7 +9,7 @@ invariant-loop-byte g l = record {
   consumed : Consumes (prepend_known l.fn.self.chunk (g.R.Feed.left l.fn.reader)) (prepend_known l.self.chunk (g.R.Feed.left l.reader)) l.self.line.items;
   within : length l.self.line.items ≤ LINE_LIMIT;
   no_end : has_end l.self.line.items ≡ false;
-  works : g.R.Feed.failed l.reader ≡ g.R.Feed.failed l.fn.reader;
+  works : g.R.Feed.failed l.reader ≡ false;
 }
 
 abbrev pub decreases-loop-byte : goal.decreases-loop-byte

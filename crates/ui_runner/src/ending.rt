@@ -1,0 +1,58 @@
+//! How the program ends where it runs nothing: its one line, and its status.
+
+ghost use Rattle.std.specs.Prelude.{◌≡◌, false};
+ghost use Rattle.ui_runner.specs.Endings.{ending_prefix, ending_line, ending_status};
+ghost use Rattle.ui_runner.specs.Writing.{IsTold};
+
+use crate::words::USAGE;
+use crate::writing::write_parts;
+use ui_machine::Sink;
+
+/// Why nothing is run.
+#[derive(Clone, Copy, Debug, PartialEq, Eq)]
+pub enum Ending {
+    /// The words of the command line ask for nothing.
+    Usage,
+    /// The definition can't be read, or the events can't be opened.
+    Unreadable,
+    /// No memory was found for the words or for the bytes of the definition.
+    OutOfMemory,
+}
+
+impl Ending {
+    /// Writes the line, with the name of the file that can't be read, and answers the status: 2 for the words of the command line and
+    /// 4 for a file, whether or not the line was lost; 3 for want of memory, and 4 where its line was lost.
+    pub fn tell<W: Sink>(self, writer: &mut W, name: &str) -> u8
+        requires works { W.failed writer.old ≡ false }
+        ensures text { IsTold (W.failed writer.new) (W.taken writer.old) (W.taken writer.new) (ending_line self name.now) }
+        ensures status { result ≡ ending_status self (W.failed writer.new) }
+    {
+        let prefix = self.prefix().as_bytes();
+        let name = name.as_bytes();
+        let Ok(()) = write_parts(writer, &[prefix, name, b"\n"]) else {
+            return self.status(true);
+        };
+        self.status(false)
+    }
+
+    fn prefix(self) -> &'static str
+        ensures { result.now ≡ ending_prefix self }
+    {
+        match self {
+            Ending::Usage => USAGE,
+            Ending::Unreadable => "cannot read ",
+            Ending::OutOfMemory => "refused: OutOfMemory",
+        }
+    }
+
+    fn status(self, lost: bool) -> u8
+        ensures { result ≡ ending_status self lost }
+    {
+        match self {
+            Ending::Usage => 2,
+            Ending::Unreadable => 4,
+            Ending::OutOfMemory if lost => 4,
+            Ending::OutOfMemory => 3,
+        }
+    }
+}
