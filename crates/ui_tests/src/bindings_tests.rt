@@ -1,4 +1,6 @@
-use crate::{Binding, BindingFlags, Bindings, Transfer};
+//! Bindings that stand, and what a notification sets by them.
+
+use bindings::{Binding, BindingFlags, Bindings, Transfer};
 use bitflags::Flags;
 use std::test::Fail;
 use ui_machine::ObjectId;

@@ -1,4 +1,6 @@
-use crate::{AttachError, Context, Due, MAX_SOURCES, TurnError};
+//! Sources, and whose turn it is.
+
+use main_context::{AttachError, Context, Due, MAX_SOURCES, TurnError};
 use std::test::Fail;
 use ui_machine::ObjectId;
 
