@@ -98,18 +98,3 @@ fn stops_where_the_machine_is_stuck(rt: HostRuntime) -> Result<(), Fail> {
     }
     Ok(())
 }
-
-#[test]
-fn finishes_with_its_transcript(rt: HostRuntime) -> Result<(), Fail> {
-    let alloc = rt.alloc();
-    let (mut session, _) = box_session(alloc)?;
-    let _ = tell(alloc, &mut session, BOX, r#"{"set":["b","n",5]}"#)??;
-    let lines = joined(alloc, session.transcript())?;
-    let finished = session.finish();
-    assert_eq!(rt;
-        joined(alloc, finished.transcript.as_slice())?.as_str(),
-        lines.as_str()
-    );
-    assert!(rt; lines.as_str().ends_with("set #1.n 5\nnotify #1.n\nend 1\n"));
-    Ok(())
-}
