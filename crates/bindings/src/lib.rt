@@ -11,8 +11,6 @@ mod bound;
 mod fault;
 mod flags;
 mod list;
-#[cfg(test)]
-mod tests;
 
 pub use binding::{Binding, Transfer};
 pub use fault::BindError;

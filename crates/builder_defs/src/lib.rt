@@ -24,8 +24,3 @@ pub use event_reading::{MAX_LINE_BYTES, read_event};
 pub use fault::{DefinitionFault, DefinitionLimit, ReadError};
 pub use object_entry::ObjectEntry;
 pub use reading::read_definition;
-
-#[cfg(test)]
-mod event_tests;
-#[cfg(test)]
-mod tests;

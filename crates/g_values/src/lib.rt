@@ -26,12 +26,3 @@ pub use sameness::is_same;
 pub use transforming::{transform, transformable};
 pub use value::{Value, kind_of};
 pub use zero::zero_of;
-
-#[cfg(test)]
-mod arithmetic_tests;
-#[cfg(test)]
-mod pair_tests;
-#[cfg(test)]
-mod reading_tests;
-#[cfg(test)]
-mod tests;

@@ -11,8 +11,6 @@ mod context;
 mod fault;
 mod source;
 mod sources;
-#[cfg(test)]
-mod tests;
 
 pub use batch::Batch;
 pub use context::{Context, MAX_SOURCES};

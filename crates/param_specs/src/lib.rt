@@ -18,10 +18,3 @@ pub use name::is_property_name;
 pub use spec::Spec;
 pub use table::{MOST_PROPERTIES, SpecTable};
 pub use validating::{takes, validate};
-
-#[cfg(test)]
-mod overriding_tests;
-#[cfg(test)]
-mod tests;
-#[cfg(test)]
-mod validating_tests;

@@ -18,6 +18,3 @@ pub use member::{EnumMember, FlagsMember};
 pub use name::is_type_name;
 pub use tree::{MOST_DEPTH, MOST_TYPES, TypeTree};
 pub use type_id::TypeId;
-
-#[cfg(test)]
-mod tests;

@@ -22,6 +22,3 @@ mod world;
 
 pub use dispatches::Reply;
 pub use session::{Finished, Refused, Session, SessionFault, StartFault, Started};
-
-#[cfg(test)]
-mod tests;

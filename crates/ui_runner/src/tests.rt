@@ -1,4 +1,4 @@
-//! Whole runs, over devices that move few bytes a call and fail.
+//! Whole runs, over devices that move few bytes a call and fail. They stand here and not above, since no crate can use a program's.
 
 use crate::definition_file::{FileFault, definition_bytes};
 use crate::fakes::{Pace, Source, Target};
@@ -23,8 +23,6 @@ const SET_AND_GET: &str = r#"{"set":["b","n",5]}
 // What the whole run over these events writes.
 const FIRST_RUN: &str =
     "build\nconstruct #1 Box\nend 0\nset #1.n 5\nnotify #1.n\nend 1\nget #1.n 5\nend 0\n";
-
-const GET: &str = r#"{"get":["b","n"]}"#;
 
 const FAST: Pace = Pace {
     step: 4096,
@@ -87,35 +85,8 @@ fn check(
     for pace in [slow(0), FAST] {
         let got = run_over(alloc, definition.as_bytes(), events.as_bytes(), pace, pace)?;
         assert_eq!(rt; str::from_utf8(got.text.as_slice())?, text);
-        assert_eq!(rt; got.status, status, "{text}");
-        assert!(rt; !got.failed);
+        assert_eq!(rt; (got.status, got.failed), (status, false), "{text}");
     }
-    Ok(())
-}
-
-// Tests a run over the box: what it writes after the build.
-fn check_events(
-    rt: &impl Abort,
-    alloc: Global,
-    events: &str,
-    status: u8,
-    text: &str,
-) -> Result<(), Fail> {
-    let whole = format!(in alloc; "{BUILT}{text}")?;
-    check(rt, alloc, BOX, events, status, whole.as_str())
-}
-
-// Tests a definition that is refused: one line, and no read.
-fn check_refused(
-    rt: &impl Abort,
-    alloc: Global,
-    definition: &[u8],
-    text: &str,
-) -> Result<(), Fail> {
-    let got = run_over(alloc, definition, SET_AND_GET.as_bytes(), FAST, FAST)?;
-    assert_eq!(rt; str::from_utf8(got.text.as_slice())?, text);
-    assert_eq!(rt; got.status, 1, "{text}");
-    assert_eq!(rt; got.reads, 0);
     Ok(())
 }
 
@@ -126,23 +97,6 @@ fn times(alloc: Global, byte: u8, count: usize) -> Result<Vec<u8>, Fail> {
         bytes.push(byte)?;
     }
     Ok(bytes)
-}
-
-// An event of so many bytes.
-fn long_event(alloc: Global, length: usize) -> Result<String, Fail> {
-    let mut line = String::from_str(alloc, GET)?;
-    for _ in GET.len()..length {
-        line.push(' ')?;
-    }
-    Ok(line)
-}
-
-#[test]
-fn runs(rt: HostRuntime) -> Result<(), Fail> {
-    let alloc = rt.alloc();
-    check(&rt, alloc, BOX, SET_AND_GET, 0, FIRST_RUN)?;
-    check(&rt, alloc, r#"{"format":1}"#, "", 0, "build\nend 0\n")?;
-    Ok(())
 }
 
 // A class with a text and a bool, and an object of it.
@@ -171,89 +125,63 @@ get #1.f TRUE
 end 0
 "#;
 
-#[test]
-fn tells_texts_and_bools(rt: HostRuntime) -> Result<(), Fail> {
-    check(&rt, rt.alloc(), LABEL, LABEL_EVENTS, 0, LABEL_RUN)
-}
-
 // Blank lines count. The last line has no end.
 const BAD_EVENTS: &str =
     "\n \t\r\nx\n{\"get\":[\"c\",\"n\"]}\n\n{\"set\":[\"b\",\"n\",2.5]}\n[]\n{\"get\":[\"b\",\"n\"]}";
 
 const BAD_EVENTS_RUN: &str =
-    "line 3 refused: NotJson\nline 4 refused: Unknown\nline 6 refused: ValueFault\nline 7 refused: Shape\nget #1.n 0\nend 0\n";
+    "build\nconstruct #1 Box\nend 0\nline 3 refused: NotJson\nline 4 refused: Unknown\nline 6 refused: ValueFault\nline 7 refused: Shape\nget #1.n 0\nend 0\n";
 
 #[test]
-fn refuses_lines(rt: HostRuntime) -> Result<(), Fail> {
-    check_events(&rt, rt.alloc(), BAD_EVENTS, 5, BAD_EVENTS_RUN)
-}
-
-#[test]
-fn refuses_definitions(rt: HostRuntime) -> Result<(), Fail> {
-    let alloc = rt.alloc();
-    check_refused(&rt, alloc, &[255], "refused: NotUtf8\n")?;
-    let mut lists = times(alloc, b'[', 128)?;
-    lists.extend_from_slice(times(alloc, b']', 128)?.as_slice())?;
-    check_refused(&rt, alloc, lists.as_slice(), "refused: NotJson\n")?;
-    let unknown = br#"{"format":1,"objects":[{"id":"b","class":"Knob"}]}"#;
-    check_refused(
-        &rt,
-        alloc,
-        unknown,
-        "refused: Unknown /objects/0/class Knob\n",
-    )?;
-    let blanks = times(alloc, b' ', 4_194_305)?;
-    check_refused(&rt, alloc, blanks.as_slice(), "refused: TooLong\n")?;
-    Ok(())
-}
-
-#[test]
-fn refuses_each_beginning(rt: HostRuntime) -> Result<(), Fail> {
-    for end in 0..BOX.len() {
-        let beginning = BOX.as_bytes().get(..end).ok_or("no beginning")?;
-        check_refused(&rt, rt.alloc(), beginning, "refused: NotJson\n")?;
+fn runs(rt: HostRuntime) -> Result<(), Fail> {
+    for (definition, events, status, text) in [
+        (BOX, SET_AND_GET, 0, FIRST_RUN),
+        (r#"{"format":1}"#, "", 0, "build\nend 0\n"),
+        (LABEL, LABEL_EVENTS, 0, LABEL_RUN),
+        (BOX, BAD_EVENTS, 5, BAD_EVENTS_RUN),
+    ] {
+        check(&rt, rt.alloc(), definition, events, status, text)?;
     }
     Ok(())
 }
 
+// Of a definition that is refused nothing is read.
 #[test]
-fn knows_the_longest_line(rt: HostRuntime) -> Result<(), Fail> {
-    let alloc = rt.alloc();
-    let mut line = long_event(alloc, 65_536)?;
-    check_events(&rt, alloc, line.as_str(), 0, "get #1.n 0\nend 0\n")?;
-    line.push(' ')?;
-    line.push('\n')?;
-    line.push_str(GET)?;
-    check_events(&rt, alloc, line.as_str(), 5, "line 1 refused: TooLong\n")?;
-    // Nothing is read past the byte by which the line is too long.
-    let got = run_over(alloc, BOX.as_bytes(), line.as_bytes(), slow(0), FAST)?;
-    assert_eq!(rt; got.reads, 65_537);
+fn refuses_each_beginning(rt: HostRuntime) -> Result<(), Fail> {
+    for end in 0..BOX.len() {
+        let beginning = BOX.as_bytes().get(..end).ok_or("no beginning")?;
+        let got = run_over(rt.alloc(), beginning, SET_AND_GET.as_bytes(), FAST, FAST)?;
+        assert_eq!(rt; str::from_utf8(got.text.as_slice())?, "refused: NotJson\n");
+        assert_eq!(rt; (got.status, got.reads), (1, 0), "{end} bytes");
+    }
     Ok(())
 }
 
+// A byte a call: nothing is read past the byte by which a line is too long, or by which there is a line too many.
 #[test]
-fn knows_the_last_line(rt: HostRuntime) -> Result<(), Fail> {
+fn reads_to_the_limits(rt: HostRuntime) -> Result<(), Fail> {
     let alloc = rt.alloc();
-    let mut lines = times(alloc, b'\n', 65_536)?;
-    let events = str::from_utf8(lines.as_slice())?;
-    check_events(&rt, alloc, events, 0, "")?;
-    lines.push(b'\n')?;
-    let events = str::from_utf8(lines.as_slice())?;
-    check_events(&rt, alloc, events, 5, "line 65537 refused: TooMany\n")?;
+    for (byte, count, status, reads) in [
+        (b' ', 65_536, 0, 65_538),
+        (b' ', 65_537, 5, 65_537),
+        (b'\n', 65_536, 0, 65_537),
+        (b'\n', 65_537, 5, 65_537),
+    ] {
+        let events = times(alloc, byte, count)?;
+        let got = run_over(alloc, BOX.as_bytes(), events.as_slice(), slow(0), FAST)?;
+        assert_eq!(rt; (got.status, got.reads), (status, reads), "{byte} {count}");
+    }
     Ok(())
 }
 
 // Each read fails once: what was written is a front of the text, and nothing is read again.
 #[test]
 fn ends_with_the_reader(rt: HostRuntime) -> Result<(), Fail> {
-    let alloc = rt.alloc();
     let (definition, events) = (BOX.as_bytes(), SET_AND_GET.as_bytes());
-    let whole = run_over(alloc, definition, events, slow(0), FAST)?;
+    let whole = run_over(rt.alloc(), definition, events, slow(0), FAST)?;
     for before in 0..whole.reads {
-        let got = run_over(alloc, definition, events, slow(before + 1), FAST)?;
-        assert_eq!(rt; got.status, 4);
-        assert_eq!(rt; got.reads, before + 1);
-        assert!(rt; got.failed);
+        let got = run_over(rt.alloc(), definition, events, slow(before + 1), FAST)?;
+        assert_eq!(rt; (got.status, got.reads, got.failed), (4, before + 1, true));
         assert!(rt; got.text.as_slice().starts_with(BUILT.as_bytes()));
         assert!(rt; FIRST_RUN.as_bytes().starts_with(got.text.as_slice()));
     }
@@ -263,14 +191,11 @@ fn ends_with_the_reader(rt: HostRuntime) -> Result<(), Fail> {
 // Each write fails once: all before it was written, and nothing is written again.
 #[test]
 fn ends_with_the_writer(rt: HostRuntime) -> Result<(), Fail> {
-    let alloc = rt.alloc();
     let (definition, events) = (BOX.as_bytes(), SET_AND_GET.as_bytes());
-    let whole = run_over(alloc, definition, events, FAST, slow(0))?;
+    let whole = run_over(rt.alloc(), definition, events, FAST, slow(0))?;
     for before in 0..whole.writes {
-        let got = run_over(alloc, definition, events, FAST, slow(before + 1))?;
-        assert_eq!(rt; got.status, 4);
-        assert_eq!(rt; got.writes, before + 1);
-        assert!(rt; got.failed);
+        let got = run_over(rt.alloc(), definition, events, FAST, slow(before + 1))?;
+        assert_eq!(rt; (got.status, got.writes, got.failed), (4, before + 1, true));
         let written = FIRST_RUN.as_bytes().get(..got.text.len());
         assert_eq!(rt; Some(got.text.as_slice()), written);
     }
@@ -280,21 +205,16 @@ fn ends_with_the_writer(rt: HostRuntime) -> Result<(), Fail> {
 // A writer that takes nothing has failed, also of a definition that is refused.
 #[test]
 fn ends_with_a_writer_that_takes_nothing(rt: HostRuntime) -> Result<(), Fail> {
-    let full = Pace {
-        step: 0,
-        fails_at: 0,
-    };
+    let (events, full) = (
+        SET_AND_GET.as_bytes(),
+        Pace {
+            step: 0,
+            fails_at: 0,
+        },
+    );
     for definition in [BOX, "{"] {
-        let got = run_over(
-            rt.alloc(),
-            definition.as_bytes(),
-            SET_AND_GET.as_bytes(),
-            FAST,
-            full,
-        )?;
-        assert_eq!(rt; got.status, 4);
-        assert_eq!(rt; got.writes, 1);
-        assert!(rt; got.text.is_empty());
+        let got = run_over(rt.alloc(), definition.as_bytes(), events, FAST, full)?;
+        assert_eq!(rt; (got.status, got.writes, got.text.len()), (4, 1, 0));
     }
     Ok(())
 }
@@ -333,25 +253,25 @@ fn stands_want_of_memory(rt: HostRuntime) -> Result<(), Fail> {
     Ok(())
 }
 
-fn read_file(alloc: Global, bytes: &[u8], pace: Pace) -> Result<Result<Vec<u8>, FileFault>, Fail> {
+// What is read of so many blanks: how many bytes, or why none.
+fn read_blanks(alloc: Global, count: usize, pace: Pace) -> Result<Result<usize, FileFault>, Fail> {
     let mut reader = Device::new(Source {
-        bytes: Vec::from_slice(alloc, bytes)?,
+        bytes: times(alloc, b' ', count)?,
         at: 0,
         pace,
         calls: 0,
     });
-    Ok(definition_bytes(alloc, &mut reader))
+    Ok(definition_bytes(alloc, &mut reader).map(|bytes| bytes.len()))
 }
 
 #[test]
 fn reads_definition_files(rt: HostRuntime) -> Result<(), Fail> {
-    let alloc = rt.alloc();
-    let bytes = read_file(alloc, BOX.as_bytes(), slow(0))?;
-    assert_eq!(rt; bytes.ok().as_deref(), Some(BOX.as_bytes()));
-    let fault = read_file(alloc, BOX.as_bytes(), slow(9))?;
-    assert_eq!(rt; fault.err(), Some(FileFault::Unreadable));
-    let blanks = times(alloc, b' ', 4_194_310)?;
-    let bytes = read_file(alloc, blanks.as_slice(), FAST)?;
-    assert_eq!(rt; bytes.map(|b| b.len()).ok(), Some(4_194_305));
+    for (count, pace, want) in [
+        (118, slow(0), Ok(118)),
+        (118, slow(9), Err(FileFault::Unreadable)),
+        (4_194_310, FAST, Ok(4_194_305)),
+    ] {
+        assert_eq!(rt; read_blanks(rt.alloc(), count, pace)?, want, "{count}");
+    }
     Ok(())
 }

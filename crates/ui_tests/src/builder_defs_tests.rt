@@ -1,0 +1,203 @@
+//! Definitions and events: what they say, and the sizes that no kept file has.
+
+use crate::fixtures::times;
+use builder_defs::{
+    Definition, DefinitionFault, EventError, MAX_BYTES, MAX_LINE_BYTES, ReadError, read_definition,
+    read_event,
+};
+use param_specs::SpecError;
+use std::alloc::Global;
+use std::test::Fail;
+use type_tree::{TypeError, TypeId, TypeLimit};
+use ui_machine::Place;
+
+// A definition of two classes and three objects.
+const BOXES: &str =
+    r#"{"format":1,"classes":[{"name":"Box","properties":[{"name":"wide_one","kind":"int"},{"name":"title","kind":"text"}]},{"name":"Bare"}],"objects":[{"id":"b-1","class":"Box"},{"id":"_","class":"GInitiallyUnowned"},{"id":"Z","class":"Bare"}]}"#;
+
+// What is printed of a definition's refusal, or `accepted`.
+fn verdict(alloc: Global, bytes: &[u8]) -> Result<String, Fail> {
+    match read_definition(alloc, bytes) {
+        Ok(_) => Ok(String::from_str(alloc, "accepted")?),
+        Err(ReadError::Refused(fault)) => Ok(fault.text(alloc)?),
+        Err(ReadError::OutOfMemory) => Ok(String::from_str(alloc, "OutOfMemory")?),
+    }
+}
+
+#[test]
+fn refuses_each_beginning(rt: HostRuntime) -> Result<(), Fail> {
+    for end in 0..BOXES.len() + 1 {
+        let beginning = BOXES.as_bytes().get(..end).ok_or("no beginning")?;
+        let want = if end < BOXES.len() {
+            "NotJson"
+        } else {
+            "accepted"
+        };
+        assert_eq!(rt;
+            verdict(rt.alloc(), beginning)?.as_str(),
+            want,
+            "{end} bytes"
+        );
+    }
+    Ok(())
+}
+
+#[test]
+fn knows_the_longest_definition(rt: HostRuntime) -> Result<(), Fail> {
+    let alloc = rt.alloc();
+    for (length, want) in [(MAX_BYTES, "accepted"), (MAX_BYTES + 1, "TooLong")] {
+        let blanks = times(alloc, " ", length - 12)?;
+        let text = format!(in alloc; "{{\"format\":1}}{blanks}")?;
+        assert_eq!(rt; text.len(), length);
+        assert_eq!(rt; verdict(alloc, text.as_bytes())?.as_str(), want, "{length}");
+    }
+    Ok(())
+}
+
+// What a definition says of an object: its place, class and number of properties.
+fn told_object(alloc: Global, definition: &Definition, id: &str) -> Result<String, Fail> {
+    let Some(place) = definition.place(id) else {
+        return Ok(String::new(alloc));
+    };
+    let class = definition.class_at(place);
+    let (name, slots) = (definition.class_name(class), definition.slots(class));
+    let number = place.0;
+    Ok(format!(in alloc; "{number} {name} {slots}")?)
+}
+
+#[test]
+fn tells_objects(rt: HostRuntime) -> Result<(), Fail> {
+    let alloc = rt.alloc();
+    let definition = read_definition(alloc, BOXES.as_bytes())?;
+    assert_eq!(rt; definition.types().len(), 4);
+    assert_eq!(rt; definition.objects().len(), 3);
+    for (id, want) in [
+        ("b-1", "0 Box 2"),
+        ("_", "1 GInitiallyUnowned 0"),
+        ("Z", "2 Bare 0"),
+        ("z", ""),
+    ] {
+        assert_eq!(rt; told_object(alloc, &definition, id)?.as_str(), want, "{id}");
+    }
+    Ok(())
+}
+
+// What a definition says of a property of the first object: its name, kind, default and numbers.
+fn told_property(alloc: Global, definition: &Definition, name: &str) -> Result<String, Fail> {
+    let class = definition.class_at(Place(0));
+    let Some(slot) = definition.slot(class, name) else {
+        return Ok(String::new(alloc));
+    };
+    let spec = definition.spec(class, slot).ok_or("no spec")?;
+    let (name, kind, default) = (spec.name.as_str(), spec.kind, &spec.default);
+    let (min, max) = (spec.min, spec.max);
+    Ok(format!(in alloc; "{slot} {name} {kind:?} {default:?} {min} {max}")?)
+}
+
+#[test]
+fn tells_properties(rt: HostRuntime) -> Result<(), Fail> {
+    let alloc = rt.alloc();
+    let definition = read_definition(alloc, BOXES.as_bytes())?;
+    for (name, want) in [
+        ("wide_one", "0 wide-one Int Int(0) -2147483648 2147483647"),
+        ("wide-one", "0 wide-one Int Int(0) -2147483648 2147483647"),
+        ("title", "1 title Text Text(None) 0 0"),
+        ("Title", ""),
+    ] {
+        assert_eq!(rt;
+            told_property(alloc, &definition, name)?.as_str(),
+            want,
+            "{name}"
+        );
+    }
+    assert!(rt; definition.spec(definition.class_at(Place(0)), 2).is_none());
+    Ok(())
+}
+
+#[test]
+fn tells_the_fields_of_causes(rt: HostRuntime) -> Result<(), Fail> {
+    let alloc = rt.alloc();
+    for (cause, want) in [
+        (TypeError::Limit(TypeLimit::Depth), "BadType /p Limit depth"),
+        (
+            TypeError::Prerequisite(TypeId::new(12)),
+            "BadType /p Prerequisite 12",
+        ),
+    ] {
+        let fault = DefinitionFault::BadType(String::from_str(alloc, "/p")?, cause);
+        assert_eq!(rt; fault.text(alloc)?.as_str(), want);
+    }
+    for (cause, want) in [
+        (SpecError::Limit, "BadSpec /p Limit"),
+        (
+            SpecError::OverrideMissing(63),
+            "BadSpec /p OverrideMissing 63",
+        ),
+    ] {
+        let fault = DefinitionFault::BadSpec(String::from_str(alloc, "/p")?, cause);
+        assert_eq!(rt; fault.text(alloc)?.as_str(), want);
+    }
+    Ok(())
+}
+
+// An event as it is seen when debugging, or the fault.
+fn told_event(alloc: Global, definition: &Definition, line: &[u8]) -> Result<String, Fail> {
+    match read_event(alloc, definition, line) {
+        Ok(event) => Ok(format!(in alloc; "{event:?}")?),
+        Err(EventError::Refused(fault)) => Ok(format!(in alloc; "{fault:?}")?),
+        Err(EventError::OutOfMemory) => Ok(String::from_str(alloc, "OutOfMemory")?),
+    }
+}
+
+#[test]
+fn reads_events(rt: HostRuntime) -> Result<(), Fail> {
+    let alloc = rt.alloc();
+    let definition = read_definition(alloc, BOXES.as_bytes())?;
+    for (line, want) in [
+        (
+            r#"{"set":["b-1","wide-one",-7]}"#,
+            "Set { place: Place(0), slot: 0, value: Int(-7) }",
+        ),
+        (
+            r#"{"set":["b-1","title",null]}"#,
+            "Set { place: Place(0), slot: 1, value: Text(None) }",
+        ),
+        (
+            r#"{"set":["b-1","title","\u0062"]}"#,
+            "Set { place: Place(0), slot: 1, value: Text(Some(\"b\")) }",
+        ),
+        (
+            r#"{"get":["b-1","title"]}"#,
+            "Get { place: Place(0), slot: 1 }",
+        ),
+        (r#"{"get":["Z","title"]}"#, "Unknown(\"title\")"),
+    ] {
+        assert_eq!(rt;
+            told_event(alloc, &definition, line.as_bytes())?.as_str(),
+            want,
+            "{line}"
+        );
+    }
+    assert_eq!(rt; told_event(alloc, &definition, &[255])?.as_str(), "NotJson");
+    Ok(())
+}
+
+#[test]
+fn knows_the_longest_event(rt: HostRuntime) -> Result<(), Fail> {
+    let alloc = rt.alloc();
+    let definition = read_definition(alloc, BOXES.as_bytes())?;
+    for (length, want) in [
+        (MAX_LINE_BYTES, "ValueFault"),
+        (MAX_LINE_BYTES + 1, "TooLong"),
+    ] {
+        let letters = times(alloc, "x", length - 26)?;
+        let line = format!(in alloc; "{{\"set\":[\"b-1\",\"title\",\"{letters}\"]}}")?;
+        assert_eq!(rt; line.len(), length);
+        assert_eq!(rt;
+            told_event(alloc, &definition, line.as_bytes())?.as_str(),
+            want,
+            "{length}"
+        );
+    }
+    Ok(())
+}

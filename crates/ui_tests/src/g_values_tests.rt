@@ -1,0 +1,438 @@
+//! Values of each kind: arithmetic, transformations, and values read from JSON.
+
+use crate::fixtures::{marks_kind, mode_kind, number_of, times, tree_of_members, value_of};
+use g_values::{
+    JsonError, Kind, MOST_TEXT_BYTES, TransformError, Value, from_json, has_number, is_at_most,
+    is_equal, is_known, is_less, is_same, kind_of, known_bits, transform, transformable,
+    wrapping_difference, wrapping_product, wrapping_sum, zero_of,
+};
+use std::alloc::Global;
+use std::rc::RcStr;
+use std::test::Fail;
+use type_tree::{TypeId, TypeTree};
+
+fn number(value: Option<Value>) -> Option<i128> {
+    number_of(&value?)
+}
+
+// The sum, the difference and the product.
+fn results(left: &Value, right: &Value) -> [Option<i128>; 3] {
+    [
+        number(wrapping_sum(left, right)),
+        number(wrapping_difference(left, right)),
+        number(wrapping_product(left, right)),
+    ]
+}
+
+#[test]
+fn wraps_results(rt: HostRuntime) {
+    for (kind, (m, n), (sum, difference, product)) in [
+        (
+            Kind::Int,
+            (2147483647, 1),
+            (-2147483648, 2147483646, 2147483647),
+        ),
+        (
+            Kind::Int,
+            (-2147483648, -1),
+            (2147483647, -2147483647, -2147483648),
+        ),
+        (Kind::Int, (65536, 65536), (131072, 0, 0)),
+        (Kind::UInt, (4294967295, 2), (1, 4294967293, 4294967294)),
+        (Kind::UInt, (0, 1), (1, 4294967295, 0)),
+        (
+            Kind::Int64,
+            (9223372036854775807, 2),
+            (-9223372036854775807, 9223372036854775805, -2),
+        ),
+        (
+            Kind::Int64,
+            (-9223372036854775808, -1),
+            (
+                9223372036854775807,
+                -9223372036854775807,
+                -9223372036854775808,
+            ),
+        ),
+        (
+            Kind::UInt64,
+            (18446744073709551615, 18446744073709551615),
+            (18446744073709551614, 0, 1),
+        ),
+        (Kind::UInt64, (0, 1), (1, 18446744073709551615, 0)),
+    ] {
+        let same = kind;
+        let (left, right) = (value_of(kind, m), value_of(same, n));
+        let want = [Some(sum), Some(difference), Some(product)];
+        assert_eq!(rt; results(&left, &right), want);
+    }
+}
+
+// Whether the one is less than the other, equal to it, and at most it.
+fn comparisons(left: &Value, right: &Value) -> [Option<bool>; 3] {
+    [
+        is_less(left, right),
+        is_equal(left, right),
+        is_at_most(left, right),
+    ]
+}
+
+#[test]
+fn compares_numbers(rt: HostRuntime) {
+    for (kind, m, n, less, equal) in [
+        (Kind::Int, -2147483648, 2147483647, true, false),
+        (Kind::Int, 0, 0, false, true),
+        (Kind::UInt, 4294967295, 0, false, false),
+        (Kind::Int64, -1, 0, true, false),
+        (
+            Kind::UInt64,
+            9223372036854775808,
+            9223372036854775808,
+            false,
+            true,
+        ),
+    ] {
+        let (left, right) = (value_of(kind, m), value_of(kind, n));
+        assert_eq!(rt;
+            comparisons(&left, &right),
+            [Some(less), Some(equal), Some(less || equal)],
+            "{m} {n}"
+        );
+        assert_eq!(rt; is_same(&left, &right), equal, "{m} {n}");
+    }
+}
+
+#[test]
+fn takes_one_kind_alone(rt: HostRuntime) {
+    for (m, n) in [
+        (Kind::Int, Kind::UInt),
+        (Kind::UInt, Kind::UInt64),
+        (Kind::Int64, Kind::Int),
+        (Kind::Bool, Kind::Bool),
+    ] {
+        let (left, right) = (value_of(m, 1), value_of(n, 1));
+        assert_eq!(rt; results(&left, &right), [None, None, None]);
+        assert_eq!(rt; comparisons(&left, &right), [None, None, None]);
+    }
+}
+
+// Transforms a value to a kind that the tree knows; to another, as without memory.
+fn transformed(
+    alloc: Global,
+    tree: &TypeTree,
+    value: &Value,
+    to: Kind,
+) -> Result<Value, TransformError> {
+    let asked = to;
+    if !is_known(tree, asked) {
+        return Err(TransformError::OutOfMemory);
+    }
+    transform(alloc, tree, value, to)
+}
+
+// The zero value of a kind that the tree knows.
+fn zero(tree: &TypeTree, kind: Kind) -> Option<Value> {
+    let asked = kind;
+    if !is_known(tree, asked) {
+        return None;
+    }
+    Some(zero_of(tree, kind))
+}
+
+// Whether the zero value of the one kind becomes a value of the other, if the tree knows both.
+fn becomes(alloc: Global, tree: &TypeTree, from: Kind, to: Kind) -> Option<bool> {
+    match transformed(alloc, tree, &zero(tree, from)?, to) {
+        Ok(_) => Some(true),
+        Err(TransformError::NoTransform) => Some(false),
+        Err(_) => None,
+    }
+}
+
+// Each kind, with the kinds to which it is transformable, in the same order.
+fn kinds() -> [(Kind, &'static str); 9] {
+    [
+        (Kind::Bool, "111111000"),
+        (Kind::Int, "111111110"),
+        (Kind::UInt, "111111110"),
+        (Kind::Int64, "111111110"),
+        (Kind::UInt64, "111111110"),
+        (Kind::Text, "000001000"),
+        (mode_kind(), "011110100"),
+        (marks_kind(), "011110010"),
+        (Kind::Object(TypeId::new(0)), "000000001"),
+    ]
+}
+
+#[test]
+fn transforms_all_pairs(rt: HostRuntime) -> Result<(), Fail> {
+    let alloc = rt.alloc();
+    let tree = tree_of_members(alloc)?;
+    for (from, pairs) in kinds().iter() {
+        for ((to, _), pair) in kinds().iter().zip(pairs.chars()) {
+            assert_eq!(rt; transformable(&tree, *from, *to), pair == '1');
+            assert_eq!(rt; becomes(alloc, &tree, *from, *to), Some(pair == '1'));
+        }
+    }
+    Ok(())
+}
+
+// The value that a number of the one kind becomes, as it is seen when debugging, or why it becomes none.
+fn told(
+    alloc: Global,
+    tree: &TypeTree,
+    from: Kind,
+    number: i128,
+    to: Kind,
+) -> Result<String, Fail> {
+    match transformed(alloc, tree, &value_of(from, number), to) {
+        Ok(Value::Text(Some(text))) => Ok(String::from_str(alloc, text.as_str())?),
+        Ok(value) => Ok(format!(in alloc; "{value:?}")?),
+        Err(fault) => Ok(format!(in alloc; "{fault:?}")?),
+    }
+}
+
+#[test]
+fn transforms_numbers(rt: HostRuntime) -> Result<(), Fail> {
+    let alloc = rt.alloc();
+    let tree = tree_of_members(alloc)?;
+    for (from, number, to, want) in [
+        (Kind::Int, -2147483648, Kind::UInt, "UInt(2147483648)"),
+        (Kind::Int, -2147483648, Kind::Int64, "Int64(-2147483648)"),
+        (
+            Kind::Int,
+            -2147483648,
+            Kind::UInt64,
+            "UInt64(18446744071562067968)",
+        ),
+        (Kind::Int, -1, Kind::UInt, "UInt(4294967295)"),
+        (Kind::Int, -1, Kind::UInt64, "UInt64(18446744073709551615)"),
+        (Kind::UInt, 2147483648, Kind::Int, "Int(-2147483648)"),
+        (Kind::UInt, 2147483648, Kind::Int64, "Int64(2147483648)"),
+        (Kind::UInt, 4294967295, Kind::Int, "Int(-1)"),
+        (Kind::Bool, 1, Kind::Int64, "Int64(1)"),
+        (mode_kind(), 1, Kind::UInt64, "UInt64(1)"),
+        (marks_kind(), 4294967295, Kind::Int, "Int(-1)"),
+        (Kind::Int64, -9223372036854775808, Kind::Int, "Int(0)"),
+        (
+            Kind::Int64,
+            -9223372036854775808,
+            Kind::UInt64,
+            "UInt64(9223372036854775808)",
+        ),
+        (Kind::Int64, 4294967296, Kind::UInt, "UInt(0)"),
+        (Kind::Int64, 4294967296, Kind::Bool, "Bool(true)"),
+        (
+            Kind::UInt64,
+            9223372036854775808,
+            Kind::Int64,
+            "Int64(-9223372036854775808)",
+        ),
+        (Kind::UInt64, 18446744073709551615, Kind::Int64, "Int64(-1)"),
+        (
+            Kind::UInt64,
+            18446744073709551615,
+            Kind::UInt,
+            "UInt(4294967295)",
+        ),
+    ] {
+        assert_eq!(rt;
+            told(alloc, &tree, from, number, to)?.as_str(),
+            want,
+            "{number}"
+        );
+    }
+    Ok(())
+}
+
+#[test]
+fn transforms_to_members_and_texts(rt: HostRuntime) -> Result<(), Fail> {
+    let alloc = rt.alloc();
+    let tree = tree_of_members(alloc)?;
+    for (from, number, to, want) in [
+        (Kind::Int, 1, mode_kind(), "Enum(TypeId { number: 2 }, 1)"),
+        (Kind::Int, 5, mode_kind(), "NotAMember"),
+        (Kind::Int64, 4294967297, mode_kind(), "NotAMember"),
+        (
+            Kind::UInt,
+            3,
+            marks_kind(),
+            "Flags(TypeId { number: 3 }, 3)",
+        ),
+        (Kind::UInt, 4, marks_kind(), "NotAMember"),
+        (Kind::Int, -1, marks_kind(), "NotAMember"),
+        (Kind::Int64, 4294967297, marks_kind(), "NotAMember"),
+        (
+            Kind::UInt64,
+            9223372036854775809,
+            marks_kind(),
+            "NotAMember",
+        ),
+        (Kind::Text, 0, Kind::Int, "NoTransform"),
+        (Kind::Bool, 0, Kind::Text, "FALSE"),
+        (Kind::Bool, 1, Kind::Text, "TRUE"),
+        (Kind::Int, -2147483648, Kind::Text, "-2147483648"),
+        (Kind::UInt, 4294967295, Kind::Text, "4294967295"),
+        (
+            Kind::Int64,
+            -9223372036854775808,
+            Kind::Text,
+            "-9223372036854775808",
+        ),
+        (
+            Kind::UInt64,
+            18446744073709551615,
+            Kind::Text,
+            "18446744073709551615",
+        ),
+    ] {
+        assert_eq!(rt;
+            told(alloc, &tree, from, number, to)?.as_str(),
+            want,
+            "{number}"
+        );
+    }
+    Ok(())
+}
+
+#[test]
+fn tells_of_values(rt: HostRuntime) -> Result<(), Fail> {
+    let tree = tree_of_members(rt.alloc())?;
+    let members = tree.enum_members(TypeId::new(2));
+    for (number, want) in [(0, true), (1, true), (2, false), (4294967297, false)] {
+        assert_eq!(rt; has_number(members, number), want, "{number}");
+    }
+    assert_eq!(rt; known_bits(tree.flags_members(TypeId::new(3))), 3);
+    for (kind, _) in kinds().iter() {
+        let value = value_of(*kind, 1);
+        assert_eq!(rt; kind_of(&value), *kind);
+        assert!(rt; is_same(&value, &value.copied()?));
+    }
+    let text = Value::Text(Some(RcStr::from_str(rt.alloc(), "hi")?));
+    assert!(rt; is_same(&text, &text.copied()?));
+    assert!(rt; !is_same(&text, &Value::Text(None)));
+    Ok(())
+}
+
+// Reads a value of a kind that the tree knows; of another, as without memory.
+fn read(
+    alloc: Global,
+    tree: &TypeTree,
+    json: &serde_json::Value,
+    kind: Kind,
+) -> Result<Value, JsonError> {
+    let asked = kind;
+    if !is_known(tree, asked) {
+        return Err(JsonError::OutOfMemory);
+    }
+    from_json(alloc, tree, json, kind)
+}
+
+// The value that a text stands for, as it is seen when debugging, or why it stands for none.
+fn told_json(alloc: Global, tree: &TypeTree, kind: Kind, text: &str) -> Result<String, Fail> {
+    let json = serde_json::Value::from_str(alloc, text)?;
+    match read(alloc, tree, &json, kind) {
+        Ok(value) => Ok(format!(in alloc; "{value:?}")?),
+        Err(fault) => Ok(format!(in alloc; "{fault:?}")?),
+    }
+}
+
+#[test]
+fn reads_numbers_and_texts(rt: HostRuntime) -> Result<(), Fail> {
+    let alloc = rt.alloc();
+    let tree = tree_of_members(alloc)?;
+    for (kind, text, want) in [
+        (Kind::Bool, "true", "Bool(true)"),
+        (Kind::Bool, "1", "WrongJson"),
+        (Kind::Int, "-2147483648", "Int(-2147483648)"),
+        (Kind::Int, "2147483647", "Int(2147483647)"),
+        (Kind::Int, "2147483648", "OutOfRange"),
+        (Kind::Int, "-2147483649", "OutOfRange"),
+        (Kind::Int, "1.0", "WrongJson"),
+        (Kind::Int, "1e0", "WrongJson"),
+        (Kind::Int, "-0", "WrongJson"),
+        (Kind::UInt, "4294967295", "UInt(4294967295)"),
+        (Kind::UInt, "4294967296", "OutOfRange"),
+        (Kind::UInt, "-1", "OutOfRange"),
+        (
+            Kind::Int64,
+            "-9223372036854775808",
+            "Int64(-9223372036854775808)",
+        ),
+        (Kind::Int64, "9223372036854775808", "OutOfRange"),
+        (
+            Kind::UInt64,
+            "18446744073709551615",
+            "UInt64(18446744073709551615)",
+        ),
+        (Kind::UInt64, "18446744073709551616", "WrongJson"),
+        (Kind::UInt64, "-1", "OutOfRange"),
+        (Kind::Text, "1", "WrongJson"),
+        (Kind::Text, "null", "Text(None)"),
+        (Kind::Text, "\"hi\"", "Text(Some(\"hi\"))"),
+    ] {
+        assert_eq!(rt;
+            told_json(alloc, &tree, kind, text)?.as_str(),
+            want,
+            "{text}"
+        );
+    }
+    Ok(())
+}
+
+#[test]
+fn reads_members_and_objects(rt: HostRuntime) -> Result<(), Fail> {
+    let alloc = rt.alloc();
+    let tree = tree_of_members(alloc)?;
+    let (mode, marks, object) = (mode_kind(), marks_kind(), Kind::Object(TypeId::new(0)));
+    for (kind, text, want) in [
+        (mode, "\"ON\"", "Enum(TypeId { number: 2 }, 1)"),
+        (mode, "\"on\"", "Enum(TypeId { number: 2 }, 1)"),
+        (mode, "0", "Enum(TypeId { number: 2 }, 0)"),
+        (mode, "5", "UnknownMember"),
+        (mode, "2147483648", "OutOfRange"),
+        (mode, "\" on\"", "UnknownMember"),
+        (mode, "null", "WrongJson"),
+        (
+            marks,
+            "4294967295",
+            "Flags(TypeId { number: 3 }, 4294967295)",
+        ),
+        (marks, "4294967296", "OutOfRange"),
+        (marks, "-1", "OutOfRange"),
+        (marks, "\"a | b\"", "Flags(TypeId { number: 3 }, 3)"),
+        (marks, "\"\\tA|b\\r\"", "Flags(TypeId { number: 3 }, 3)"),
+        (marks, "\"a|\"", "Flags(TypeId { number: 3 }, 1)"),
+        (marks, "\" | \"", "Flags(TypeId { number: 3 }, 0)"),
+        (marks, "\"\"", "Flags(TypeId { number: 3 }, 0)"),
+        (marks, "\"a|c\"", "UnknownMember"),
+        (marks, "\"\\na\"", "UnknownMember"),
+        (marks, "[]", "WrongJson"),
+        (object, "null", "Object(TypeId { number: 0 }, None)"),
+        (object, "\"a\"", "WrongJson"),
+    ] {
+        assert_eq!(rt;
+            told_json(alloc, &tree, kind, text)?.as_str(),
+            want,
+            "{text}"
+        );
+    }
+    Ok(())
+}
+
+// What is read of a text of so many letters.
+fn read_letters(alloc: Global, tree: &TypeTree, letters: usize) -> Result<String, Fail> {
+    let text = times(alloc, "x", letters)?;
+    let quoted = format!(in alloc; "\"{text}\"")?;
+    told_json(alloc, tree, Kind::Text, quoted.as_str())
+}
+
+#[test]
+fn knows_the_longest_text(rt: HostRuntime) -> Result<(), Fail> {
+    let alloc = rt.alloc();
+    let tree = tree_of_members(alloc)?;
+    for (letters, is_long) in [(MOST_TEXT_BYTES, false), (MOST_TEXT_BYTES + 1, true)] {
+        let read = read_letters(alloc, &tree, letters)?;
+        assert_eq!(rt; read.as_str() == "TextTooLong", is_long, "{letters}");
+    }
+    Ok(())
+}

@@ -1,0 +1,161 @@
+//! Types: which may be added, and what is told of them.
+
+use crate::fixtures::tree_of_members;
+use std::alloc::Global;
+use std::test::Fail;
+use type_tree::{
+    MOST_DEPTH, MOST_TYPES, TypeError, TypeFlags, TypeId, TypeLimit, TypeSort, TypeTree,
+};
+
+const SEALED: TypeFlags = TypeFlags {
+    is_abstract: true,
+    is_final: true,
+};
+
+// Adds a class that implements an interface, or none where its name is empty.
+fn add(
+    tree: &mut TypeTree,
+    name: &str,
+    parent: &str,
+    interface: &str,
+) -> Result<TypeId, TypeError> {
+    if interface.is_empty() {
+        tree.add_class(name, parent, TypeFlags::NONE, &[])
+    } else {
+        tree.add_class(name, parent, TypeFlags::NONE, &[interface])
+    }
+}
+
+// A tree with the class `Base`, which is type 2, the final class `Sealed` under it, and the interface `Playable`, which requires `Base`.
+fn base_tree(alloc: Global) -> Result<TypeTree, Fail> {
+    let mut tree = TypeTree::new(alloc)?;
+    let _ = tree.add_class("Base", "GObject", TypeFlags::NONE, &[])?;
+    let _ = tree.add_class("Sealed", "Base", SEALED, &[])?;
+    let _ = tree.add_interface("Playable", &["Base"])?;
+    Ok(tree)
+}
+
+#[test]
+fn adds_classes(rt: HostRuntime) -> Result<(), Fail> {
+    let mut tree = base_tree(rt.alloc())?;
+    for (name, parent, interface, want) in [
+        ("ab", "GObject", "", Err(TypeError::BadName)),
+        ("Base", "GObject", "", Err(TypeError::Duplicate)),
+        ("Child", "Nope", "", Err(TypeError::UnknownParent)),
+        ("Child", "Sealed", "", Err(TypeError::FinalParent)),
+        (
+            "Child",
+            "GObject",
+            "Playable",
+            Err(TypeError::Prerequisite(TypeId::new(2))),
+        ),
+        ("Player", "Base", "Playable", Ok(TypeId::new(5))),
+        ("Child", "Player", "", Ok(TypeId::new(6))),
+    ] {
+        assert_eq!(rt;
+            add(&mut tree, name, parent, interface),
+            want,
+            "{name} {parent}"
+        );
+    }
+    for (a, b, want) in [
+        (6, 4, true),
+        (6, 5, true),
+        (6, 2, true),
+        (4, 2, false),
+        (2, 6, false),
+    ] {
+        assert_eq!(rt; tree.is_a(TypeId::new(a), TypeId::new(b)), want, "{a} {b}");
+    }
+    Ok(())
+}
+
+// Each type of the tree: its name, its sort, its parent and its depth.
+#[test]
+fn tells_of_classes(rt: HostRuntime) -> Result<(), Fail> {
+    let tree = base_tree(rt.alloc())?;
+    for (number, name, sort, parent, depth) in [
+        (0, "GObject", TypeSort::Class, None, 1),
+        (1, "GInitiallyUnowned", TypeSort::Class, Some(0), 2),
+        (2, "Base", TypeSort::Class, Some(0), 2),
+        (3, "Sealed", TypeSort::Class, Some(2), 3),
+        (4, "Playable", TypeSort::Interface, None, 1),
+    ] {
+        let t = tree.find(name).ok_or("no type")?;
+        assert_eq!(rt; t.index(), number, "{number}");
+        assert!(rt; tree.sort(t) == sort && tree.depth(t) == depth, "{number}");
+        assert_eq!(rt; tree.parent(t).map(|p| p.index()), parent, "{number}");
+        assert_eq!(rt; tree.flags(t).is_final, name == "Sealed", "{number}");
+        assert_eq!(rt;
+            tree.interfaces(t).len(),
+            usize::from(name == "Playable"),
+            "{number}"
+        );
+    }
+    assert_eq!(rt; tree.find("base"), None);
+    Ok(())
+}
+
+#[test]
+fn tells_of_members(rt: HostRuntime) -> Result<(), Fail> {
+    let tree = tree_of_members(rt.alloc())?;
+    let (mode, marks) = (TypeId::new(2), TypeId::new(3));
+    for (t, number, nick) in [
+        (mode, 0, "off"),
+        (mode, 1, "on"),
+        (mode, 2, ""),
+        (marks, 1, "a"),
+        (marks, 3, ""),
+        (marks, -1, ""),
+    ] {
+        assert_eq!(rt; tree.nick(t, number), nick, "{number}");
+    }
+    for (t, is_enum) in [(mode, true), (marks, false)] {
+        assert_eq!(rt; tree.is_enum(t), is_enum);
+        assert_eq!(rt; tree.is_flags(t), !is_enum);
+        assert_eq!(rt; tree.enum_members(t).len(), usize::from(is_enum) * 2);
+        assert_eq!(rt; tree.flags_members(t).len(), usize::from(!is_enum) * 2);
+    }
+    Ok(())
+}
+
+#[test]
+fn has_room_for_16_levels(rt: HostRuntime) -> Result<(), Fail> {
+    let alloc = rt.alloc();
+    let mut tree = TypeTree::new(alloc)?;
+    let mut parent = String::from_str(alloc, "GObject")?;
+    for level in 1..MOST_DEPTH + 1 {
+        let name = format!(in alloc; "Level{level}")?;
+        let added = tree.add_class(name.as_str(), parent.as_str(), TypeFlags::NONE, &[]);
+        let want = if level < MOST_DEPTH {
+            None
+        } else {
+            Some(TypeError::Limit(TypeLimit::Depth))
+        };
+        assert_eq!(rt; added.err(), want, "{level}");
+        parent = name;
+    }
+    Ok(())
+}
+
+#[test]
+fn has_room_for_256_types(rt: HostRuntime) -> Result<(), Fail> {
+    let alloc = rt.alloc();
+    let mut tree = TypeTree::new(alloc)?;
+    for number in 2..MOST_TYPES {
+        let name = format!(in alloc; "Type{number}")?;
+        let _ = tree.add_interface(name.as_str(), &[])?;
+    }
+    assert_eq!(rt; tree.len(), MOST_TYPES);
+    for (name, want) in [
+        ("More", TypeError::Limit(TypeLimit::Types)),
+        ("Type2", TypeError::Duplicate),
+    ] {
+        let want = Err(want);
+        assert_eq!(rt; tree.add_interface(name, &[]), want, "{name}");
+        assert_eq!(rt; tree.add_enum(name, Vec::new(alloc)), want, "{name}");
+        assert_eq!(rt; tree.add_flags(name, Vec::new(alloc)), want, "{name}");
+        assert_eq!(rt; add(&mut tree, name, "GObject", ""), want, "{name}");
+    }
+    Ok(())
+}
