@@ -1,12 +1,11 @@
 //! How the program ends where it runs nothing: its one line, and its status.
 
-ghost use Rattle.std.specs.Prelude.{◌≡◌, false};
-ghost use Rattle.ui_runner.specs.Endings.{ending_prefix, ending_line, ending_status};
-ghost use Rattle.ui_runner.specs.Writing.{IsTold};
+ghost use Rattle.std.specs.Prelude.{◌≡◌, true, false, MatchResult};
+ghost use Rattle.ui_runner.specs.Endings.{ending_line, ending_status};
+ghost use Rattle.ui_runner.specs.Writing.{Writes, IsTold};
 
-use crate::words::USAGE;
 use crate::writing::write_parts;
-use ui_machine::Sink;
+use ui_machine::{DeviceFault, Sink};
 
 /// Why nothing is run.
 #[derive(Clone, Copy, Debug, PartialEq, Eq)]
@@ -27,21 +26,22 @@ impl Ending {
         ensures text { IsTold (W.failed writer.new) (W.taken writer.old) (W.taken writer.new) (ending_line self name.now) }
         ensures status { result ≡ ending_status self (W.failed writer.new) }
     {
-        let prefix = self.prefix().as_bytes();
-        let name = name.as_bytes();
-        let Ok(()) = write_parts(writer, &[prefix, name, b"\n"]) else {
+        let Ok(()) = self.write(writer, name) else {
             return self.status(true);
         };
         self.status(false)
     }
 
-    fn prefix(self) -> &'static str
-        ensures { result.now ≡ ending_prefix self }
+    fn write<W: Sink>(self, writer: &mut W, name: &str) -> Result<(), DeviceFault>
+        requires works { W.failed writer.old ≡ false }
+        ensures writes { Writes result (W.taken writer.old) (W.taken writer.new) (ending_line self name.now) }
+        ensures marks { MatchResult result (λ _. W.failed writer.new ≡ false) (λ _. W.failed writer.new ≡ true) }
     {
+        let name = name.as_bytes();
         match self {
-            Ending::Usage => USAGE,
-            Ending::Unreadable => "cannot read ",
-            Ending::OutOfMemory => "refused: OutOfMemory",
+            Ending::Usage => return write_parts(writer, &[b"usage: ui verify DEF | ui run DEF EVENTS", name, b"\n"]),
+            Ending::Unreadable => return write_parts(writer, &[b"cannot read ", name, b"\n"]),
+            Ending::OutOfMemory => return write_parts(writer, &[b"refused: OutOfMemory", name, b"\n"]),
         }
     }
 

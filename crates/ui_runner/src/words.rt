@@ -5,9 +5,6 @@ use clap::{Arg, ArgMatches, Command, Error};
 use std::alloc::{AllocError, Global};
 use std::{env, io};
 
-/// What is told of words that ask for nothing.
-pub const USAGE: &str = "usage: ui verify DEF | ui run DEF EVENTS";
-
 /// What the words ask for: a definition is run over the lines of an event file.
 #[derive(Clone, Copy, Debug, PartialEq, Eq)]
 pub struct Request<'a> {
