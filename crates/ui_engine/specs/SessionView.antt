@@ -16,6 +16,10 @@ pub record SessionState : Type 0 where
   pub world : World
   pub stopped : Bool
 
+-- the same session without the lines that it has said
+abbrev pub without_lines : SessionState → SessionState
+without_lines s = record s { world = record s.world { transcript = [] } }
+
 -- the fault that stops a session where the engine halts
 abbrev pub fault_of : Halt → SessionFault
 fault_of halts.OutOfMemory = faults.OutOfMemory

@@ -5,7 +5,7 @@ ghost use Rattle.ui_machine.specs.Runs.{beginning};
 ghost use Rattle.builder_defs.specs.Meaning.{event_of};
 ghost use Rattle.ui_engine.specs.Growing.{Longer};
 ghost use Rattle.ui_engine.specs.TaskView.{task_of};
-ghost use Rattle.ui_engine.specs.SessionView.{Answers, Comes, building, carrying_out};
+ghost use Rattle.ui_engine.specs.SessionView.{Answers, Comes, building, carrying_out, without_lines};
 
 use crate::dispatches::Reply;
 use crate::engine::Engine;
@@ -146,11 +146,19 @@ impl Session {
         &self.definition
     }
 
-    /// The lines so far, without their LF.
+    /// The lines that were said since the last call of `forget`, without their LF.
     pub fn transcript(&self) -> &[String]
         ensures { map string_bytes result.now ≡ self.now.world.transcript }
     {
         self.engine.world.transcript.as_slice()
+    }
+
+    /// Gives up the lines so far, once they are written elsewhere, so that a session takes no more memory the longer it runs. They make
+    /// no difference to what is said later.
+    pub fn forget(&mut self)
+        ensures { self.new ≡ without_lines self.old }
+    {
+        self.engine.world.transcript.clear();
     }
 
     /// Ends the session, also where it has stopped, and hands out its lines.

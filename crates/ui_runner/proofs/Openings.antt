@@ -11,7 +11,7 @@ use Rattle.builder_defs.specs.Denoted.{denoted}
 use Rattle.ui_engine.specs.declared.dispatches.Reply.{Reply}
 use Rattle.ui_engine.specs.declared.session.SessionFault.{SessionFault}
 use Rattle.ui_engine.specs.declared.session.SessionFault.TheVariants as faults
-use Rattle.ui_engine.specs.SessionView.{SessionState, building, tally_of, Comes, Breaks}
+use Rattle.ui_engine.specs.SessionView.{SessionState, without_lines, building, tally_of, Comes, Breaks}
 use Rattle.builder_defs.specs.Refusals.{Refusal}
 use Rattle.builder_defs.specs.FaultText.{refusal_text}
 use Rattle.ui_runner.specs.declared.opening.Opening.TheVariants as code
@@ -72,7 +72,7 @@ module _ (a b c : Option (List ℕ)) (s : SessionState) (torn : Bool) where
 
   -- they were written, and then the events told
   pub plays : (lines : List (List ℕ)) (status : ℕ) (new : SessionState) → Appends a b (lines_text s.world.transcript)
-      → (rest : List ℕ) × Story event_replies s lines status torn rest new × Appends b c rest → (text : List ℕ) × Proceeds (built s) lines status torn text × Appends a c text
+      → (rest : List ℕ) × Story event_replies without_lines (without_lines s) lines status torn rest new × Appends b c rest → (text : List ℕ) × Proceeds (built s) lines status torn text × Appends a c text
   plays lines status new first told = (
     lines_text s.world.transcript ++ told.0,
     inr (record { rest = told.0; new = new; whole = refl; story = told.1; run = λ built. runs_over s lines told.1.outcomes new built told.1.told }),

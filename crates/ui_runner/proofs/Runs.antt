@@ -17,10 +17,10 @@ use Rattle.ui_runner.specs.Writing.{AppendsPart}
 use Rattle.ui_runner.proofs.LineLemmas.{or_false, known_further, known_so, known_map}
 
 -- the lines told so far, and those left
-pub record Came {S : Type 0} (replies : Replies S) (old : S) (all : List (List ℕ)) (now : S) (number status : ℕ) (ended : Bool) (left : List (List ℕ)) (text : List ℕ) : Type 0 where
+pub record Came {S : Type 0} (replies : Replies S) (forgotten : S → S) (old : S) (all : List (List ℕ)) (now : S) (number status : ℕ) (ended : Bool) (left : List (List ℕ)) (text : List ℕ) : Type 0 where
   pub outcomes : List Outcome
   pub done : List (List ℕ)
-  pub told : Tale replies old 1 all outcomes now
+  pub told : Tale replies forgotten old 1 all outcomes now
   pub split : all ≡ done ++ left
   pub counts : length outcomes ≡ length done
   pub next : number ≡ 1 + length outcomes
@@ -34,10 +34,10 @@ text_more n (p ∷ os) o =
     ap (λ t. text_at n p ++ t) (text_more (n + 1) os o) ∙ sym (append_assoc (text_at n p) (text_from (n + 1) os) (text_at ((n + 1) + length os) o))
     ∙ ap (λ k. (text_at n p ++ text_from (n + 1) os) ++ text_at k o) (omega arith)
 
-module _ {S : Type 0} (replies : Replies S) where
+module _ {S : Type 0} (replies : Replies S) (forgotten : S → S) where
   tale_more : (n : ℕ) (done left : List (List ℕ)) (os : List Outcome) (old mid new : S) (line : List ℕ) (o : Outcome) → length os ≡ length done
-      → list_any ends os ≡ false → Tale replies old n (done ++ line ∷ left) os mid → Tells replies mid (n + length os) line o new
-      → Tale replies old n (done ++ line ∷ left) (os ++ o ∷ []) new
+      → list_any ends os ≡ false → Tale replies forgotten old n (done ++ line ∷ left) os mid → Tells replies mid (n + length os) line o new
+      → Tale replies forgotten old n (done ++ line ∷ left) (os ++ o ∷ []) (forgotten new)
   tale_more n [] left [] old mid new line o c e told tells =
       let z : n + 0 ≡ n = omega arith in
       (new, subst (λ s. Tells replies s n line o new) told (subst (λ k. Tells replies mid k line o new) z tells), λ x. refl, refl)
@@ -47,17 +47,17 @@ module _ {S : Type 0} (replies : Replies S) where
       let f = or_false (ends p) (list_any ends os) e in
       let z : n + length (p ∷ os) ≡ (n + 1) + length os = omega arith in
       let c' : length os ≡ length done = omega arith in
-      (told.0, told.1, λ x. cc (x, f.0), tale_more (n + 1) done left os told.0 mid new line o c' f.1 told.3 (subst (λ k. Tells replies mid k line o new) z tells))
+      (told.0, told.1, λ x. cc (x, f.0), tale_more (n + 1) done left os (forgotten told.0) mid new line o c' f.1 told.3 (subst (λ k. Tells replies mid k line o new) z tells))
 
   -- one more line was told
   pub came_more : {old now new : S} {all left : List (List ℕ)} {number status : ℕ} {text : List ℕ} (line : List ℕ) (o : Outcome)
-      → Came replies old all now number status false (line ∷ left) text → Tells replies now number line o new
-      → Came replies old all new (number + 1) (status_after status o) (ends o) left (text ++ text_at number o)
+      → Came replies forgotten old all now number status false (line ∷ left) text → Tells replies now number line o new
+      → Came replies forgotten old all (forgotten new) (number + 1) (status_after status o) (ends o) left (text ++ text_at number o)
   came_more {old} {now} {new} {all} {left} {number} {status} {text} line o c tells = record {
     outcomes = c.outcomes ++ o ∷ [];
     done = c.done ++ line ∷ [];
-    told = subst (λ ls. Tale replies old 1 ls (c.outcomes ++ o ∷ []) new) (sym c.split)
-        (tale_more 1 c.done left c.outcomes old now new line o c.counts c.over (subst (λ ls. Tale replies old 1 ls c.outcomes now) c.split c.told)
+    told = subst (λ ls. Tale replies forgotten old 1 ls (c.outcomes ++ o ∷ []) (forgotten new)) (sym c.split)
+        (tale_more 1 c.done left c.outcomes old now new line o c.counts c.over (subst (λ ls. Tale replies forgotten old 1 ls c.outcomes now) c.split c.told)
         (subst (λ k. Tells replies now k line o new) c.next tells));
     split = c.split ∙ sym (append_assoc c.done (line ∷ []) left);
     counts = simp length-append (omega (arith, c.counts));
@@ -69,7 +69,7 @@ module _ {S : Type 0} (replies : Replies S) where
 
   -- a run that was not broken off: its lines are at an end, or it is
   pub whole_story : {old now : S} {all left : List (List ℕ)} {number status : ℕ} {ended torn : Bool} {text : List ℕ}
-      → (c : Came replies old all now number status ended left text) → IsOver all c.outcomes → Story replies old all status torn text now
+      → (c : Came replies forgotten old all now number status ended left text) → IsOver all c.outcomes → Story replies forgotten old all status torn text now
   whole_story c over = record {
     outcomes = c.outcomes;
     told = c.told;
@@ -80,16 +80,16 @@ module _ {S : Type 0} (replies : Replies S) where
   }
 
   pub ended_story : {old now : S} {all left : List (List ℕ)} {number status : ℕ} {torn : Bool} {text : List ℕ}
-      → Came replies old all now number status true left text → Story replies old all status torn text now
+      → Came replies forgotten old all now number status true left text → Story replies forgotten old all status torn text now
   ended_story c = whole_story c (inr c.over)
 
   pub told_story : {old now : S} {all left : List (List ℕ)} {number status : ℕ} {ended torn : Bool} {text : List ℕ}
-      → Came replies old all now number status ended left text → left ≡ [] → Story replies old all status torn text now
+      → Came replies forgotten old all now number status ended left text → left ≡ [] → Story replies forgotten old all status torn text now
   told_story {left = left} c e = whole_story c (inl (c.counts ∙ ap length (sym (append-nil c.done) ∙ ap (λ ls. c.done ++ ls) (sym e) ∙ sym c.split)))
 
   -- a run whose reader failed: the lines so far stand whole
   pub cut_story : {old now : S} {all left : List (List ℕ)} {number status : ℕ} {ended torn : Bool} {text : List ℕ}
-      → Came replies old all now number status ended left text → Story replies old all 4 torn text now
+      → Came replies forgotten old all now number status ended left text → Story replies forgotten old all 4 torn text now
   cut_story c = record {
     outcomes = c.outcomes;
     told = c.told;
@@ -101,7 +101,7 @@ module _ {S : Type 0} (replies : Replies S) where
 
   -- a run whose writer failed
   pub broken_story : {old now : S} {all left : List (List ℕ)} {number status : ℕ} {ended torn : Bool} {text : List ℕ} (part more : List ℕ) → torn ≡ true
-      → Came replies old all now number status ended left text → text ≡ part ++ more → Story replies old all 4 torn part now
+      → Came replies forgotten old all now number status ended left text → text ≡ part ++ more → Story replies forgotten old all 4 torn part now
   broken_story part more failed c e = record {
     outcomes = c.outcomes;
     told = c.told;
@@ -111,7 +111,7 @@ module _ {S : Type 0} (replies : Replies S) where
     answer = λ ne. absurd (ne refl);
   }
 
-  pub came_start : (old : S) (all : List (List ℕ)) → Came replies old all old 1 0 false all []
+  pub came_start : (old : S) (all : List (List ℕ)) → Came replies forgotten old all old 1 0 false all []
   came_start old all = record {
     outcomes = [];
     done = [];
@@ -142,48 +142,48 @@ said_since f before after now new h k =
     ap (map f) (take_rest after (length before)) ∙ sym (drop-map f (length before) after) ∙ ap (drop (length before)) k ∙ ap (λ i. drop i new) n
 
 -- a line was told, and its text followed the text before it
-pub record Adds {S : Type 0} (replies : Replies S) (old new : S) (all : List (List ℕ)) (number status : ℕ) (o : Outcome) (left : List (List ℕ)) (first second : Option (List ℕ)) : Type 0 where
+pub record Adds {S : Type 0} (replies : Replies S) (forgotten : S → S) (old new : S) (all : List (List ℕ)) (number status : ℕ) (o : Outcome) (left : List (List ℕ)) (first second : Option (List ℕ)) : Type 0 where
   pub text : List ℕ
-  pub came : Came replies old all new (number + 1) (status_after status o) (ends o) left (text ++ text_at number o)
+  pub came : Came replies forgotten old all (forgotten new) (number + 1) (status_after status o) (ends o) left (text ++ text_at number o)
   pub appends : Appends first second text
 
-module _ {S : Type 0} (replies : Replies S) (old now new : S) (a b c w₀ w₁ w₂ : Option (List ℕ)) (number status : ℕ) (found : Found) (buffer : List ℕ) (o : Outcome)
-    (h : WhereKnown a b (λ xs ys. (text : List ℕ) × Came replies old (lines_of xs) now number status false (lines_of ys) text × Appends w₀ w₁ text))
+module _ {S : Type 0} (replies : Replies S) (forgotten : S → S) (old now new : S) (a b c w₀ w₁ w₂ : Option (List ℕ)) (number status : ℕ) (found : Found) (buffer : List ℕ) (o : Outcome)
+    (h : WhereKnown a b (λ xs ys. (text : List ℕ) × Came replies forgotten old (lines_of xs) now number status false (lines_of ys) text × Appends w₀ w₁ text))
     (k : WhereKnown b c (λ ys zs. Finds found buffer ys zs))
     (tells : (line : List ℕ) → IsOf found buffer line → Tells replies now number line o new) where
-  told_line : WhereKnown a c (λ xs zs. (left : List (List ℕ)) × Adds replies old new (lines_of xs) number status o left w₀ w₁ × (found ≡ founds.Whole → left ≡ lines_of zs))
+  told_line : WhereKnown a c (λ xs zs. (left : List (List ℕ)) × Adds replies forgotten old new (lines_of xs) number status o left w₀ w₁ × (found ≡ founds.Whole → left ≡ lines_of zs))
   told_line = known_further a b c _ _ _ h k (λ xs ys zs p f. (
     f.rest,
     record {
       text = p.0;
-      came = came_more replies f.line o (subst (λ ls. Came replies old (lines_of xs) now number status false ls p.0) f.first p.1) (tells f.line f.is);
+      came = came_more replies forgotten f.line o (subst (λ ls. Came replies forgotten old (lines_of xs) now number status false ls p.0) f.first p.1) (tells f.line f.is);
       appends = p.2;
     },
     f.goes_on,
   ))
 
-  pub breaks : (torn : Bool) → torn ≡ true → AppendsPart w₁ w₂ (text_at number o) → IfSome a (λ input. (text : List ℕ) × Story replies old (lines_of input) 4 torn text new × Appends w₀ w₂ text)
+  pub breaks : (torn : Bool) → torn ≡ true → AppendsPart w₁ w₂ (text_at number o) → IfSome a (λ input. (text : List ℕ) × Story replies forgotten old (lines_of input) 4 torn text (forgotten new) × Appends w₀ w₂ text)
   breaks torn failed p = known_so a c _ _ told_line (λ xs zs t. (
     t.1.text ++ p.part,
-    broken_story replies (t.1.text ++ p.part) p.more failed t.1.came (ap (λ u. t.1.text ++ u) p.split ∙ sym (append_assoc t.1.text p.part p.more)),
+    broken_story replies forgotten (t.1.text ++ p.part) p.more failed t.1.came (ap (λ u. t.1.text ++ u) p.split ∙ sym (append_assoc t.1.text p.part p.more)),
     Appends-trans w₀ w₁ w₂ _ _ t.1.appends p.appends,
   ))
 
   pub ends_there : (torn : Bool) (answer : ℕ) → answer ≡ status_after status o → true ≡ ends o → Appends w₁ w₂ (text_at number o)
-      → IfSome a (λ input. (text : List ℕ) × Story replies old (lines_of input) answer torn text new × Appends w₀ w₂ text)
+      → IfSome a (λ input. (text : List ℕ) × Story replies forgotten old (lines_of input) answer torn text (forgotten new) × Appends w₀ w₂ text)
   ends_there torn answer e x p = known_so a c _ _ told_line (λ xs zs t. (
     t.1.text ++ text_at number o,
-    subst (λ s. Story replies old (lines_of xs) s torn (t.1.text ++ text_at number o) new) (sym e)
-        (ended_story replies (subst (λ d. Came replies old (lines_of xs) new (number + 1) (status_after status o) d t.0 (t.1.text ++ text_at number o)) (sym x) t.1.came)),
+    subst (λ s. Story replies forgotten old (lines_of xs) s torn (t.1.text ++ text_at number o) (forgotten new)) (sym e)
+        (ended_story replies forgotten (subst (λ d. Came replies forgotten old (lines_of xs) (forgotten new) (number + 1) (status_after status o) d t.0 (t.1.text ++ text_at number o)) (sym x) t.1.came)),
     Appends-trans w₀ w₁ w₂ _ _ t.1.appends p,
   ))
 
   pub goes_on_from : (answer : ℕ) → answer ≡ status_after status o → false ≡ ends o → found ≡ founds.Whole → Appends w₁ w₂ (text_at number o)
-      → WhereKnown a c (λ xs zs. (text : List ℕ) × Came replies old (lines_of xs) new (number + 1) answer false (lines_of zs) text × Appends w₀ w₂ text)
+      → WhereKnown a c (λ xs zs. (text : List ℕ) × Came replies forgotten old (lines_of xs) (forgotten new) (number + 1) answer false (lines_of zs) text × Appends w₀ w₂ text)
   goes_on_from answer e x whole p = known_map a c _ _ told_line (λ xs zs t. (
     t.1.text ++ text_at number o,
-    subst (λ ls. Came replies old (lines_of xs) new (number + 1) answer false ls (t.1.text ++ text_at number o)) (t.2 whole)
-        (subst (λ s. Came replies old (lines_of xs) new (number + 1) s false t.0 (t.1.text ++ text_at number o)) (sym e)
-        (subst (λ d. Came replies old (lines_of xs) new (number + 1) (status_after status o) d t.0 (t.1.text ++ text_at number o)) (sym x) t.1.came)),
+    subst (λ ls. Came replies forgotten old (lines_of xs) (forgotten new) (number + 1) answer false ls (t.1.text ++ text_at number o)) (t.2 whole)
+        (subst (λ s. Came replies forgotten old (lines_of xs) (forgotten new) (number + 1) s false t.0 (t.1.text ++ text_at number o)) (sym e)
+        (subst (λ d. Came replies forgotten old (lines_of xs) (forgotten new) (number + 1) (status_after status o) d t.0 (t.1.text ++ text_at number o)) (sym x) t.1.came)),
     Appends-trans w₀ w₁ w₂ _ _ t.1.appends p,
   ))

@@ -4,7 +4,7 @@ use Rattle.ui_machine.specs.declared.arm.Halt.{Halt}
 use Rattle.ui_machine.specs.Runs.{Tally, Carries, Halts, of_build}
 use Rattle.builder_defs.specs.Refusals.{Refusal}
 use Rattle.builder_defs.specs.Denoted.{denoted}
-use Rattle.ui_engine.specs.SessionView.{SessionState}
+use Rattle.ui_engine.specs.SessionView.{SessionState, without_lines}
 use Rattle.ui_runner.specs.Texts.{lines_text, definition_refused, nothing_begun, build_stopped}
 use Rattle.ui_runner.specs.Story.{IsFrontOf, Story}
 use Rattle.ui_runner.specs.Events.{event_replies}
@@ -51,7 +51,7 @@ pub record Plays (s : SessionState) (lines : List (List ℕ)) (status : ℕ) (to
   pub rest : List ℕ
   pub new : SessionState
   pub whole : text ≡ lines_text s.world.transcript ++ rest
-  pub story : Story event_replies s lines status torn rest new
+  pub story : Story event_replies without_lines (without_lines s) lines status torn rest new
   -- what was carried out is a run of the machine
   pub run : IsBuilt s → RunsOver s lines story.outcomes new
 

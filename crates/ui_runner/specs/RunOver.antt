@@ -4,6 +4,7 @@ use Rattle.ui_machine.specs.declared.arm.Halt.{Halt}
 use Rattle.ui_machine.specs.Definition.{Definition}
 use Rattle.ui_machine.specs.Config.{Event, World}
 use Rattle.ui_machine.specs.Runs.{Tally, IsRun, HaltsIn}
+use Rattle.machine_laws.specs.FrontLaws.{fronted}
 use Rattle.builder_defs.specs.EventMeaning.{EventRefusal, event_denoted}
 use Rattle.ui_engine.specs.SessionView.{SessionState}
 use Rattle.ui_runner.specs.Story as story
@@ -30,15 +31,30 @@ events_served d n lines [] = []
 events_served d n [] (outcome ∷ outcomes) = []
 events_served d n (line ∷ lines) (outcome ∷ outcomes) = event_served d n line outcome ++ events_served d (n + 1) lines outcomes
 
+-- the lines that were said of a line of the file
+abbrev pub said_of : Outcome → List (List ℕ)
+said_of (said lines) = lines
+said_of (refused r) = []
+said_of (cut_off r) = []
+said_of (stopped halt lines) = lines
+
+-- all of them, in order
+abbrev pub said_in : List Outcome → List (List ℕ)
+said_in [] = []
+said_in (outcome ∷ outcomes) = said_of outcome ++ said_in outcomes
+
 -- one more event halts
 pub record HaltsNext (d : Definition) (w new : World) : Type 0 where
   pub event : Event
   pub halt : Halt
   pub halts : HaltsIn d event [] w halt new.transcript
 
--- the build and the events that were served are a run of the machine; where the session stopped in an event, that one halted after it
+-- The build of a session and the events that were served are a run of the machine; where the session stopped in an event, that one
+-- halted after it. The session has forgotten the lines in front of its own: with them its lines are all that were said.
 pub record RunsOver (s : SessionState) (lines : List (List ℕ)) (outcomes : List Outcome) (new : SessionState) : Type 0 where
   pub tally : Tally
   pub last : World
   pub run : IsRun s.definition [] (events_served s.definition 1 lines outcomes) [] tally last
-  pub after : (last ≡ new.world) ⊎ HaltsNext s.definition last new.world
+  pub front : List (List ℕ)
+  pub after : (last ≡ fronted front new.world) ⊎ HaltsNext s.definition last (fronted front new.world)
+  pub shows : front ++ new.world.transcript ≡ s.world.transcript ++ said_in outcomes

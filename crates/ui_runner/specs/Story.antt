@@ -89,12 +89,14 @@ Meets replies event old line outcome new = replies old line outcome new
 abbrev pub Tells : {S : Type 0} → Replies S → S → ℕ → List ℕ → Outcome → S → Type 0
 Tells replies old n line outcome new = Meets replies (fate n line) old line outcome new ⊎ ((outcome ≡ stopped halts.OutOfMemory []) × (new ≡ old))
 
--- the first of these lines, the first of all numbered n, come to these outcomes, one after the other, and none comes after an end
-abbrev pub Tale : {S : Type 0} → Replies S → S → ℕ → List (List ℕ) → List Outcome → S → Type 0
-Tale replies old n lines [] new = new ≡ old
-Tale replies old n [] (outcome ∷ outcomes) new = ⊥
-Tale {S} replies old n (line ∷ lines) (outcome ∷ outcomes) new =
-    (mid : S) × Tells replies old n line outcome mid × (ends outcome ≡ true → outcomes ≡ []) × Tale replies mid (n + 1) lines outcomes new
+-- the first of these lines, the first of all numbered n, come to these outcomes, one after the other, and none comes after an end; what
+-- was said of a line is forgotten before the next
+abbrev pub Tale : {S : Type 0} → Replies S → (S → S) → S → ℕ → List (List ℕ) → List Outcome → S → Type 0
+Tale replies forgotten old n lines [] new = new ≡ old
+Tale replies forgotten old n [] (outcome ∷ outcomes) new = ⊥
+Tale {S} replies forgotten old n (line ∷ lines) (outcome ∷ outcomes) new =
+    (mid : S) × Tells replies old n line outcome mid × (ends outcome ≡ true → outcomes ≡ [])
+    × Tale replies forgotten (forgotten mid) (n + 1) lines outcomes new
 
 -- no line is left to be told
 abbrev pub IsOver : List (List ℕ) → List Outcome → Type 0
@@ -104,9 +106,9 @@ abbrev pub IsFrontOf : List ℕ → List ℕ → Type 0
 IsFrontOf text whole = (more : List ℕ) × (whole ≡ text ++ more)
 
 -- a run over these lines that ended in this status, where the writer failed or not: their outcomes, and what it wrote
-pub record Story {S : Type 0} (replies : Replies S) (old : S) (lines : List (List ℕ)) (status : ℕ) (torn : Bool) (text : List ℕ) (new : S) : Type 0 where
+pub record Story {S : Type 0} (replies : Replies S) (forgotten : S → S) (old : S) (lines : List (List ℕ)) (status : ℕ) (torn : Bool) (text : List ℕ) (new : S) : Type 0 where
   pub outcomes : List Outcome
-  pub told : Tale replies old 1 lines outcomes new
+  pub told : Tale replies forgotten old 1 lines outcomes new
   -- the writer failed: the text broke off
   pub broke : torn ≡ true → IsFrontOf text (text_from 1 outcomes)
   -- it did not: the whole text of the outcomes so far, also where the reader failed

@@ -6,14 +6,21 @@ use std::alloc::Global;
 use ui_engine::Session;
 
 impl Listener for Session {
+    ghost use Rattle.ui_engine.specs.SessionView.{without_lines};
     ghost use Rattle.ui_runner.specs.Events.{event_replies};
 
     ghost replies = { event_replies };
 
     ghost lines = { λ s. s.world.transcript };
 
+    ghost forgotten = { without_lines };
+
     fn transcript(&self) -> &[String] {
         Session::transcript(self)
+    }
+
+    fn forget(&mut self) {
+        Session::forget(self);
     }
 
     fn listen(&mut self, alloc: Global, line: &[u8]) -> Result<(), LineFault> {

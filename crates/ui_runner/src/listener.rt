@@ -55,12 +55,19 @@ pub trait Listener {
     /// What it may answer to a line, and how it stands then.
     ghost replies: { Replies Self };
 
-    /// The lines said so far.
+    /// The lines said since the last were forgotten.
     ghost lines: { Self → List (List ℕ) };
 
-    /// The lines said so far, without their LF.
+    /// The same without the lines.
+    ghost forgotten: { Self → Self };
+
+    /// The lines said since the last were forgotten, without their LF.
     fn transcript(&self) -> &[String]
         ensures { map string_bytes result.now ≡ lines self.now };
+
+    /// Gives up the lines. They make no difference to what is said later.
+    fn forget(&mut self)
+        ensures { self.new ≡ forgotten self.old };
 
     /// Carries out one line, neither blank nor past the limit.
     fn listen(&mut self, alloc: Global, line: &[u8]) -> Result<(), LineFault>

@@ -110,5 +110,6 @@ fn play<R: Feed, W: Sink>(alloc: Global, mut session: Session, reader: &mut R, w
     let Ok(()) = write_lines(writer, session.transcript()) else {
         return 4;
     };
+    session.forget();
     tell_lines(alloc, &mut session, reader, writer)
 }

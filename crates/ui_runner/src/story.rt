@@ -24,7 +24,7 @@ pub fn tell_lines<L: Listener, R: Feed, W: Sink>(
     requires reader { R.failed reader.old ≡ false }
     requires writer { W.failed writer.old ≡ false }
     ensures story { IfSome (R.left reader.old) (λ input. (text : List ℕ) ×
-        Story L.replies listener.old (lines_of input) result (W.failed writer.new) text listener.new × Appends (W.taken writer.old) (W.taken writer.new) text) }
+        Story L.replies L.forgotten listener.old (lines_of input) result (W.failed writer.new) text listener.new × Appends (W.taken writer.old) (W.taken writer.new) text) }
     // It reads no further than the lines up to the first that ends the run, and a chunk.
     ensures near { result ≢ 4 → IfSome (R.left reader.old) (λ input. IfSome (R.left reader.new) (λ rest.
         length input ≤ length rest + (reach (told_lines 1 (lines_of input)) + CHUNK_SIZE))) }
@@ -47,7 +47,9 @@ pub fn tell_lines<L: Listener, R: Feed, W: Sink>(
         let before = listener.transcript().len();
         let telling = tell(alloc, listener, number, found, lines.line.as_slice());
         let said = &listener.transcript()[before..];
-        let Ok(()) = write_telling(writer, number, telling, said) else {
+        let written = write_telling(writer, number, telling, said);
+        listener.forget();
+        let Ok(()) = written else {
             return 4;
         };
         status = telling.status_after(status);

@@ -14,9 +14,9 @@ pub loop-next-init : goal.loop-next-init
 loop-next-init g c = record {
   came = rw (c.new.ensures, prepend_known-nil (g.R.Feed.left c.args.reader.now))
       (known_here (g.R.Feed.left c.args.reader.now)
-      (λ xs ys. (text : List ℕ) × Came g.L.Listener.replies c.args.listener.now (lines_of xs) c.args.listener.now 1 0 false (lines_of ys) text
+      (λ xs ys. (text : List ℕ) × Came g.L.Listener.replies g.L.Listener.forgotten c.args.listener.now (lines_of xs) c.args.listener.now 1 0 false (lines_of ys) text
       × Appends (g.W.Sink.taken c.args.writer.now) (g.W.Sink.taken c.args.writer.now) text)
-      (λ xs. ([], came_start g.L.Listener.replies c.args.listener.now (lines_of xs), Appends-nil (g.W.Sink.taken c.args.writer.now))));
+      (λ xs. ([], came_start g.L.Listener.replies g.L.Listener.forgotten c.args.listener.now (lines_of xs), Appends-nil (g.W.Sink.taken c.args.writer.now))));
   reader_works = c.requires.reader;
   writer_works = c.requires.writer;
   near = rw (c.new.ensures, prepend_known-nil (g.R.Feed.left c.args.reader.now))
@@ -32,7 +32,7 @@ returns-in_default-write_telling-clause-story g c =
     at c.in_default-write_telling.ensures.writes in
     let tells = rw c.as_slice.ensures.value at c.tell-telling.ensures.tells in
     let reads = rw c.in-Some.is at c.in-Ok.ensures.reads in
-    breaks g.L.Listener.replies _ _ _ _ _ _ _ _ _ c.loop-next.number c.loop-next.status c.in-Some.found _ (told_of c.tell-telling.result said)
+    breaks g.L.Listener.replies g.L.Listener.forgotten _ _ _ _ _ _ _ _ _ c.loop-next.number c.loop-next.status c.in-Some.found _ (told_of c.tell-telling.result said)
     c.loop-next.invariant.came reads tells _ c.in_default-write_telling.ensures.marks writes
 
 pub returns-then-ends-clause-story : goal.returns-then-ends-clause-story
@@ -42,7 +42,7 @@ returns-then-ends-clause-story g c =
     at c.in-Ok-write_telling.ensures.writes in
     let tells = rw c.as_slice.ensures.value at c.tell-telling.ensures.tells in
     let reads = rw c.in-Some.is at c.in-Ok.ensures.reads in
-    ends_there g.L.Listener.replies _ _ _ _ _ _ _ _ _ c.loop-next.number c.loop-next.status c.in-Some.found _ (told_of c.tell-telling.result said)
+    ends_there g.L.Listener.replies g.L.Listener.forgotten _ _ _ _ _ _ _ _ _ c.loop-next.number c.loop-next.status c.in-Some.found _ (told_of c.tell-telling.result said)
     c.loop-next.invariant.came reads tells _ c.status_after-status.result (c.status_after-status.ensures said) (sym c.if-ends.true ∙ c.ends.ensures said) writes
 
 pub loop-next-preserved : goal.loop-next-preserved
@@ -58,7 +58,7 @@ loop-next-preserved g c =
     record {
       near = known_further _ _ _ _ _ (λ xs zs. IsNear (c.loop-next.number + 1) xs zs) c.loop-next.invariant.near whole
           (λ xs ys zs h f. near_more xs ys zs c.loop-next.number _ h f on.0);
-      came = goes_on_from g.L.Listener.replies _ _ _ _ _ _ _ _ _ c.loop-next.number c.loop-next.status c.in-Some.found _ (told_of c.tell-telling.result said)
+      came = goes_on_from g.L.Listener.replies g.L.Listener.forgotten _ _ _ _ _ _ _ _ _ c.loop-next.number c.loop-next.status c.in-Some.found _ (told_of c.tell-telling.result said)
           c.loop-next.invariant.came reads tells c.status_after-status.result (c.status_after-status.ensures said) goes on.1 writes;
       reader_works = c.in-Ok.ensures.marks;
       writer_works = c.in-Ok-write_telling.ensures.marks;

@@ -10,7 +10,7 @@ use Rattle.ui_runner.proofs.story.tell_lines.Given as goal
 abbrev pub invariant-loop-next : goal.invariant-loop-next
 invariant-loop-next g l = record {
   came : WhereKnown (g.R.Feed.left l.fn.reader) (prepend_known l.lines.chunk (g.R.Feed.left l.reader))
-      (λ xs ys. (text : List ℕ) × Came g.L.Listener.replies l.fn.listener (lines_of xs) l.listener l.number l.status false (lines_of ys) text
+      (λ xs ys. (text : List ℕ) × Came g.L.Listener.replies g.L.Listener.forgotten l.fn.listener (lines_of xs) l.listener l.number l.status false (lines_of ys) text
       × Appends (g.W.Sink.taken l.fn.writer) (g.W.Sink.taken l.writer) text);
   reader_works : g.R.Feed.failed l.reader ≡ false;
   writer_works : g.W.Sink.failed l.writer ≡ false;
