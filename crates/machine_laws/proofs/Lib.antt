@@ -3,3 +3,5 @@ pub mod ClampProofs
 pub mod QueueProofs
 pub mod PlanProofs
 pub mod StepProofs
+pub mod FrontProofs
+pub mod FrontRuns

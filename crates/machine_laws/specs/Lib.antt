@@ -3,3 +3,4 @@ pub mod ClampLaws
 pub mod QueueLaws
 pub mod PlanLaws
 pub mod StepLaws
+pub mod FrontLaws

@@ -119,17 +119,17 @@ abbrev pub objects_disposed : Definition → ℕ → Objects → Objects
 objects_disposed d id os =
     orphans (children_of (find os id)) (put (map (option_map (forgets d id)) os) id (option_map (lets_go d) (find (map (option_map (forgets d id)) os) id)))
 
+-- the world where an object has let go of what it held, and is forgotten by weak properties, handlers and bindings
+abbrev pub without_object : Definition → World → ℕ → World
+without_object d w id = record w {
+  objects = objects_disposed d id w.objects;
+  handlers = filter (λ h. not (is_of_object id h)) w.handlers;
+  bindings = bindings_without_end id w.bindings;
+}
+
 -- the world after an object was disposed
 abbrev pub disposed : Definition → World → ℕ → Answer World
-disposed d w id =
-    closing d (peer_of (find w.objects id))
-    (said_if d (is_first (find w.objects id))
-    (record w {
-      objects = objects_disposed d id w.objects;
-      handlers = filter (λ h. not (is_of_object id h)) w.handlers;
-      bindings = bindings_without_end id w.bindings;
-    })
-    (lines.dispose id))
+disposed d w id = closing d (peer_of (find w.objects id)) (said_if d (is_first (find w.objects id)) (without_object d w id) (lines.dispose id))
 
 -- the world after an object was finalised: disposed, again if it was, and taken out
 unfoldable pub finalised : Definition → World → ℕ → Answer World
