@@ -141,14 +141,14 @@ set_event d words = do
   found ← target d said.0 said.1
   may ← writable found.spec
   value ← or_value_fault (json_value d.types found.spec.kind said.2)
-  Ok (config.set found.place found.slot (machine.value value))
+  Ok (config.request (config.set found.place found.slot (machine.value value)))
 
 unfoldable pub get_event : machine.Definition → Data → Result config.Event EventRefusal
 get_event d words = do
   said ← or_refused shape (option_and_then words_of_get (as_array words))
   found ← target d said.0 said.1
   may ← readable found.spec
-  Ok (config.get found.place found.slot)
+  Ok (config.request (config.get found.place found.slot))
 
 -- the event that the member `set` asks for, and where there is none the one that `get` asks for
 abbrev pub event_by : machine.Definition → Option Data → Option Data → Result config.Event EventRefusal

@@ -92,6 +92,10 @@ pub record IsBasic (d : machine.Definition) : Type 0 where
   pub known_signals : (t : ℕ) → t < length d.types → (lookups.class_of d t).signals ≡ notify_signal ∷ []
   pub unknown_signals : (t : ℕ) → length d.types ≤ t → (lookups.class_of d t).signals ≡ []
 
+abbrev pub request_of : Event → config.Request
+request_of (events.Set place slot v) = config.set place.0 slot (machine.value (value_view v))
+request_of (events.Get place slot) = config.get place.0 slot
+
+-- the same as an event
 abbrev pub event_of : Event → config.Event
-event_of (events.Set place slot v) = config.set place.0 slot (machine.value (value_view v))
-event_of (events.Get place slot) = config.get place.0 slot
+event_of event = config.request (request_of event)

@@ -5,3 +5,4 @@ pub mod PlanProofs
 pub mod StepProofs
 pub mod FrontProofs
 pub mod FrontRuns
+pub mod JoinProofs

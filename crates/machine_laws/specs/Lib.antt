@@ -4,3 +4,4 @@ pub mod QueueLaws
 pub mod PlanLaws
 pub mod StepLaws
 pub mod FrontLaws
+pub mod JoinLaws

@@ -6,6 +6,7 @@ ghost use Rattle.machine_laws.specs.QueueLaws.{ThawsInReverse, QueuesOnce};
 ghost use Rattle.machine_laws.specs.PlanLaws.{HandlersRunOnce, InOrder, StagesInOrder, NotifyStages};
 ghost use Rattle.machine_laws.specs.ClampLaws.{ClampsToValid, ClampsOnce};
 ghost use Rattle.machine_laws.specs.FrontLaws.{StepAppends, QuestionStays, StepsAppend, DispatchAppends, HaltAppends, EventAppends, EventsAppend, EventHaltAppends};
+ghost use Rattle.machine_laws.specs.JoinLaws.{BuildIsRun, RunsGoOn};
 ghost use Rattle.machine_laws.specs.StepLaws.{HeldAtRest, EndsStay, FittingLives, FinalisedFitsNothing};
 
 /// A queue has each slot once, and a thaw notifies its slots in reverse.
@@ -53,4 +54,10 @@ pub fn validation()
 pub fn types()
     ensures reflexive { IsAReflexive }
     ensures transitive { IsATransitive }
+{}
+
+/// The parts of a run, joined: the build is a run without events, and a run and one more event are a run.
+pub fn runs()
+    ensures build { BuildIsRun }
+    ensures goes_on { RunsGoOn }
 {}

@@ -14,7 +14,6 @@ use Rattle.ui_machine.specs.Config.{Object, Objects, Making, Item, makes, Emissi
 use Rattle.ui_machine.specs.Answers.{Answer, known, only_if}
 use Rattle.ui_machine.specs.Objects.{find, changed, frozen_less}
 use Rattle.ui_machine.specs.Worlds.{Started, starts, said}
-use Rattle.ui_machine.specs.Registers.{rest_of}
 use Rattle.ui_machine.specs.Programs.{first_frame, all_fit, fits_register, beginning_program, program_before}
 use Rattle.ui_machine.specs.Emissions.{notifying, notification}
 use Rattle.ui_machine.specs.Turns.{resulting}
@@ -25,7 +24,7 @@ use Rattle.ui_machine.specs.Steps.{most_steps, before, uncounted, left, act, tha
 use Rattle.g_values.specs.View.{value_view}
 use Rattle.builder_defs.specs.declared.event.Event.{Event}
 use Rattle.builder_defs.specs.declared.event.Event.TheVariants as events
-use Rattle.builder_defs.specs.Meaning.{IsBasic, event_of}
+use Rattle.builder_defs.specs.Meaning.{IsBasic, request_of}
 use Rattle.ui_engine.specs.declared.task.Task.TheVariants as tasks
 use Rattle.ui_engine.specs.declared.task.Task as code
 use Rattle.ui_engine.specs.TaskView.{task_of, name_of, build_from}
@@ -87,7 +86,7 @@ module _ (d : Definition) (w : World) (rest : List Task) (n : ℕ) where
   }
   notified id slot held small (Err arm) calm = tt
 
-  notifying_passes : (id slot : ℕ) → IsHeld w (Notifying id slot ∷ rest) → IfOk (act d w (Notifying id slot ∷ rest) n) (Passes d w (Notifying id slot) rest n)
+  notifying_passes : (id slot : ℕ) → IsHeld w (Notifying id slot ∷ rest) → IfOk (act d w None (Notifying id slot ∷ rest) n) (Passes d w (Notifying id slot) rest n)
   notifying_passes id slot held = by (nat_lt n most_steps) refl
     where
       by : (b : Bool) → nat_lt n most_steps ≡ b → IfOk (only_if b arms.Steps (uncounted rest (suc n) (notifying d w id slot))) (Passes d w (Notifying id slot) rest n)
@@ -191,7 +190,7 @@ module _ (d : Definition) (w : World) (rest : List Task) (n : ℕ) where
 
       begins : IfOk (beginning_program d w program args) Begins
       begins = bind_ok (known arms.Code (program_at d program)) _ Begins (λ p _.
-          only (all_fit (fits_register d w.objects) args p.params) (record { world = said d w (lines.run p.name); tasks = rest_of (first_frame program p args) ∷ [] })
+          only (all_fit (fits_register d w.objects) args p.params) (record { world = said d w (lines.run p.name); tasks = Running (first_frame program p args) ∷ [] })
           (record { lives = λ q h. h; builder = refl; floating = refl; grows = longer_one w.transcript _ }, (λ o. refl), omega arith, refl))
 
   thaws_passes : (id : ℕ) (steps : List Making) → IsHeld w (Constructing id (config.thaws ∷ steps) true ∷ rest)
@@ -212,7 +211,7 @@ module _ (d : Definition) (w : World) (rest : List Task) (n : ℕ) where
           let h = if_ok_at (λ (r : Objects × List ℕ). (q : ℕ) → is_some (find r.0 q) ≡ true → is_some (find w.objects q) ≡ true) (changed w.objects id frozen_less) r (changed_lives w.objects id frozen_less) e in
           (record { lives = h; builder = refl; floating = refl; grows = longer_same w.transcript }, λ o. omega arith))
 
-  constructing_passes : (id : ℕ) (steps : List Making) → IsHeld w (Constructing id steps true ∷ rest) → IfOk (act d w (Constructing id steps true ∷ rest) n) (Passes d w (Constructing id steps true) rest n)
+  constructing_passes : (id : ℕ) (steps : List Making) → IsHeld w (Constructing id steps true ∷ rest) → IfOk (act d w None (Constructing id steps true ∷ rest) n) (Passes d w (Constructing id steps true) rest n)
   constructing_passes id [] held = constructed_passes id held
   constructing_passes id (config.sets slot v ∷ steps) held = sets_passes id slot v steps held
   constructing_passes id (config.runs program ∷ steps) held = runs_passes id program steps held _
@@ -220,15 +219,15 @@ module _ (d : Definition) (w : World) (rest : List Task) (n : ℕ) where
 
   -- ** thaws and events
 
-  thawing_passes : (id : ℕ) (slots : List ℕ) → IsHeld w (Thawing id slots ∷ rest) → IfOk (act d w (Thawing id slots ∷ rest) n) (Passes d w (Thawing id slots) rest n)
+  thawing_passes : (id : ℕ) (slots : List ℕ) → IsHeld w (Thawing id slots ∷ rest) → IfOk (act d w None (Thawing id slots ∷ rest) n) (Passes d w (Thawing id slots) rest n)
   thawing_passes id slots held = steadily (Thawing id slots) held (λ o. refl) refl (thawing w id slots) (thawing_calm w id slots) (thawing_falls d w id slots)
 
-  setting_passes : (id slot : ℕ) (v : Value) → IsHeld w (Setting id slot v ∷ rest) → IfOk (act d w (Setting id slot v ∷ rest) n) (Passes d w (Setting id slot v) rest n)
+  setting_passes : (id slot : ℕ) (v : Value) → IsHeld w (Setting id slot v ∷ rest) → IfOk (act d w None (Setting id slot v ∷ rest) n) (Passes d w (Setting id slot v) rest n)
   setting_passes id slot v held = steadily (Setting id slot v) held (λ o. refl) refl (setting d w id slot v) (setting_calm d w id slot v) (setting_falls d w id slot v)
 
-  carrying_passes : (event : Event) → IsHeld w (Carrying (event_of event) ∷ rest) → IfOk (act d w (Carrying (event_of event) ∷ rest) n) (Passes d w (Carrying (event_of event)) rest n)
-  carrying_passes (events.Set place slot v) held = steadily (Carrying (event_of (events.Set place slot v))) held (λ o. refl) refl (carrying_set w place.0 slot (value (value_view v))) (carrying_set_calm w place.0 slot (value (value_view v))) (carrying_set_falls d w place.0 slot (value (value_view v)))
-  carrying_passes (events.Get place slot) held = steadily (Carrying (event_of (events.Get place slot))) held (λ o. refl) refl (carrying_get d w place.0 slot) (carrying_get_calm d w place.0 slot) (carrying_get_falls d w place.0 slot)
+  carrying_passes : (event : Event) → IsHeld w (Carrying (request_of event) ∷ rest) → IfOk (act d w None (Carrying (request_of event) ∷ rest) n) (Passes d w (Carrying (request_of event)) rest n)
+  carrying_passes (events.Set place slot v) held = steadily (Carrying (request_of (events.Set place slot v))) held (λ o. refl) refl (carrying_set w place.0 slot (value (value_view v))) (carrying_set_calm w place.0 slot (value (value_view v))) (carrying_set_falls d w place.0 slot (value (value_view v)))
+  carrying_passes (events.Get place slot) held = steadily (Carrying (request_of (events.Get place slot))) held (λ o. refl) refl (carrying_get d w place.0 slot) (carrying_get_calm d w place.0 slot) (carrying_get_falls d w place.0 slot)
 
   -- ** the build
 
@@ -277,7 +276,7 @@ module _ (d : Definition) (w : World) (rest : List Task) (n : ℕ) where
     built_past past = subst (λ (a : Answer Started). IfOk (uncounted rest n a) P) (sym (builds_nothing d w place past))
         (steady (Building (build_from d place)) held (λ o. refl) refl (record { world = w; tasks = [] }) (record { quiet = record { lives = λ q h. h; builder = refl; floating = refl; grows = longer_same w.transcript }; none = λ o. refl }) (record { less = omega arith }))
 
-    building_passes : IfOk (act d w (Building (build_from d place) ∷ rest) n) P
+    building_passes : IfOk (act d w None (Building (build_from d place) ∷ rest) n) P
     building_passes = by (slice_get d.places place) refl
       where
         by : (o : Option Place) → slice_get d.places place ≡ o → IfOk (uncounted rest n (building d w (build_from d place))) P
@@ -285,7 +284,7 @@ module _ (d : Definition) (w : World) (rest : List Task) (n : ℕ) where
         by None at = built_past (within_none d.places place at)
 
   -- what the step of each task of the engine leads to
-  pub acted : IsBasic d → (t : code.Task) (ts : List code.Task) → map (task_of d) ts ≡ rest → IsHeld w (task_of d t ∷ rest) → IfOk (act d w (task_of d t ∷ rest) n) (Passes d w (task_of d t) rest n)
+  pub acted : IsBasic d → (t : code.Task) (ts : List code.Task) → map (task_of d) ts ≡ rest → IsHeld w (task_of d t ∷ rest) → IfOk (act d w None (task_of d t ∷ rest) n) (Passes d w (task_of d t) rest n)
   acted basic (tasks.Setting id slot v) ts same held = setting_passes id slot (value_view v) held
   acted basic (tasks.Notifying id slot) ts same held = notifying_passes id slot held
   acted basic (tasks.Emitting id class slot) ts same held = ending_passes (notification id (name_of d class slot)) ts same held

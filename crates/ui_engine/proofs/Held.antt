@@ -35,13 +35,13 @@ making_at_most o (Emitting emission turns) = omega arith
 making_at_most o (Transferring number back) = omega arith
 making_at_most o (Unsetting number) = omega arith
 making_at_most o (Thawing object slots) = omega arith
-making_at_most o (Running program block at passes into registers) = omega arith
+making_at_most o (Running frame) = omega arith
 making_at_most o (Answering source) = omega arith
-making_at_most o (Calling object peer method args to) = omega arith
+making_at_most o (Calling call) = omega arith
 making_at_most o (Constructing object steps true) = omega arith
 making_at_most o (Constructing object steps false) = omega arith
 making_at_most o (Building items) = omega arith
-making_at_most o (Carrying event) = omega arith
+making_at_most o (Carrying request) = omega arith
 making_at_most o (Due source) = omega arith
 
 all_at_most : (o : ℕ) (ts : List Task) → total (making_of o) ts ≤ total (in_task o) ts

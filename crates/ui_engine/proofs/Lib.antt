@@ -18,3 +18,4 @@ pub mod Building
 pub mod Stepping
 pub mod Reaching
 pub mod Beginning
+pub mod Serving

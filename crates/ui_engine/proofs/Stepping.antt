@@ -1,13 +1,16 @@
 -- While objects are held, the machine's step is the first task's.
-use Rattle.std.proofs.Common.{◌≡◌, List, ◌∷◌, reverse, Result, Ok, Err, sym, ap, subst, ◌∙◌}
+use Rattle.std.proofs.Common.{◌≡◌, List, ◌∷◌, reverse, None, Result, Ok, Err, refl, sym, ap, subst, ◌∙◌}
 use Rattle.std.specs.Prelude.{IfOk, OnErr}
 use Rattle.ui_machine.specs.declared.arm.Halt.{Halt}
+use Rattle.ui_machine.specs.declared.arm.Halt.TheVariants as halts
 use Rattle.ui_machine.specs.Definition.{Definition}
-use Rattle.ui_machine.specs.Config.{Task, Config}
+use Rattle.ui_machine.specs.Config.{Task, World, Config}
 use Rattle.ui_machine.specs.Answers.{Goes, Stops}
-use Rattle.ui_machine.specs.Steps.{act, first_of, step}
+use Rattle.ui_machine.specs.Steps.{act, first_of, step, asked_first, asked_after, question}
+use Rattle.ui_machine.specs.Runs.{HaltsAt}
 use Rattle.builder_defs.specs.Meaning.{IsBasic}
 use Rattle.ui_engine.specs.declared.task.Task as code
+use Rattle.ui_engine.specs.declared.task.Task.TheVariants as tasks
 use Rattle.ui_engine.specs.declared.task.Stack.{Stack}
 use Rattle.ui_engine.specs.declared.engine.Made.{Made}
 use Rattle.ui_engine.specs.declared.engine.Made.TheVariants as mades
@@ -22,29 +25,47 @@ use Rattle.ui_engine.proofs.Notified.{reverse-map}
 use Rattle.ui_engine.proofs.Acts.{Passes, acted}
 
 -- nothing is unheld, so that the first task acts
-pub step_acts : (d : Definition) (c : Config) → IsHeld c.world c.agenda → step d c ≡ act d c.world c.agenda c.counted
-step_acts d c held = ap (first_of d c) (none_unmentioned d c held)
+pub step_acts : (d : Definition) (c : Config) → IsHeld c.world c.agenda → step d None c ≡ act d c.world None c.agenda c.counted
+step_acts d c held = ap (first_of d None c) (none_unmentioned d c held)
+
+-- no task of the engine asks a peer
+asks_none : (d : Definition) (w : World) (task : code.Task) (rest : List Task) → asked_first w (task_of d task ∷ rest) ≡ None
+asks_none d w (tasks.Setting id slot v) rest = refl
+asks_none d w (tasks.Notifying id slot) rest = refl
+asks_none d w (tasks.Emitting id class slot) rest = refl
+asks_none d w (tasks.Thawing id slots) rest = refl
+asks_none d w (tasks.Constructing id steps) rest = refl
+asks_none d w (tasks.Building place) rest = refl
+asks_none d w (tasks.Carrying event) rest = refl
+
+-- why the step of a task that asks none goes no further
+halts_at : (d : Definition) (c : Config) (halt : Halt) → question d c ≡ None → Stops halt (step d None c) → HaltsAt d c halt
+halts_at d c halts.OutOfMemory none stops = tt
+halts_at d c (halts.Stuck arm) none stops = record { reply = None; asks = none; stuck = stops }
 
 module _ (d : Definition) (basic : IsBasic d) (c e : Config) (held : IsHeld c.world c.agenda) (task : code.Task) (s : Stack) (first : c.agenda ≡ task_of d task ∷ agenda_of d s) where
-  acts : step d c ≡ act d c.world (task_of d task ∷ agenda_of d s) c.counted
-  acts = step_acts d c held ∙ ap (λ (ts : List Task). act d c.world ts c.counted) first
+  acts : step d None c ≡ act d c.world None (task_of d task ∷ agenda_of d s) c.counted
+  acts = step_acts d c held ∙ ap (λ (ts : List Task). act d c.world None ts c.counted) first
 
-  passes : act d c.world (task_of d task ∷ agenda_of d s) c.counted ≡ Ok e → Passes d c.world (task_of d task) (agenda_of d s) c.counted e
+  asks : question d c ≡ None
+  asks = ap (asked_after c) (none_unmentioned d c held) ∙ ap (λ (ts : List Task). asked_first c.world ts) first ∙ asks_none d c.world task (agenda_of d s)
+
+  passes : act d c.world None (task_of d task ∷ agenda_of d s) c.counted ≡ Ok e → Passes d c.world (task_of d task) (agenda_of d s) c.counted e
   passes is =
       let held' = subst (λ (ts : List Task). IsHeld c.world ts) first held in
-      if_ok_at (Passes d c.world (task_of d task) (agenda_of d s) c.counted) (act d c.world (task_of d task ∷ agenda_of d s) c.counted) e
+      if_ok_at (Passes d c.world (task_of d task) (agenda_of d s) c.counted) (act d c.world None (task_of d task ∷ agenda_of d s) c.counted) e
       (acted d c.world (agenda_of d s) c.counted basic task (reverse s.tasks.items) (sym (reverse-map (task_of d) s.tasks.items)) held') is
 
-  pub first_stepped : (result : Result Made Halt) → Goes result (act d c.world (task_of d task ∷ agenda_of d s) c.counted) e → IfOk result (λ made. IsMade made d task) → OnErr result (e.world.transcript ≡ c.world.transcript) → Stepped result d c e
+  pub first_stepped : (result : Result Made Halt) → Goes result (act d c.world None (task_of d task ∷ agenda_of d s) c.counted) e → IfOk result (λ made. IsMade made d task) → OnErr result (e.world.transcript ≡ c.world.transcript) → Stepped result d c e
   first_stepped (Ok mades.Nothing) goes made quiet = absurd made
   first_stepped (Ok mades.Uncounted) goes made quiet =
       let p = passes goes in
-      (acts ∙ goes, p.held, rw first (p.falls made), p.stays made)
+      (record { asks = asks; leads = acts ∙ goes }, p.held, rw first (p.falls made), p.stays made)
   first_stepped (Ok mades.Counted) goes made quiet =
       let p = passes goes in
-      (acts ∙ goes, p.held, (p.counts made).0, (p.counts made).1)
-  first_stepped (Err halt) goes made quiet = (subst (Stops halt) (sym acts) goes, quiet)
+      (record { asks = asks; leads = acts ∙ goes }, p.held, (p.counts made).0, (p.counts made).1)
+  first_stepped (Err halt) goes made quiet = (halts_at d c halt asks (subst (Stops halt) (sym acts) goes), quiet)
 
-  pub first_grows : (result : Result Made Halt) → Goes result (act d c.world (task_of d task ∷ agenda_of d s) c.counted) e → OnErr result (e.world.transcript ≡ c.world.transcript) → Longer c.world.transcript e.world.transcript
+  pub first_grows : (result : Result Made Halt) → Goes result (act d c.world None (task_of d task ∷ agenda_of d s) c.counted) e → OnErr result (e.world.transcript ≡ c.world.transcript) → Longer c.world.transcript e.world.transcript
   first_grows (Ok made) goes quiet = (passes goes).grows
   first_grows (Err halt) goes quiet = longer_by quiet

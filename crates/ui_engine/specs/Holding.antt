@@ -14,13 +14,13 @@ making_of o (Emitting emission turns) = 0
 making_of o (Transferring number back) = 0
 making_of o (Unsetting number) = 0
 making_of o (Thawing object slots) = 0
-making_of o (Running program block at passes into registers) = 0
+making_of o (Running frame) = 0
 making_of o (Answering source) = 0
-making_of o (Calling object peer method args to) = 0
+making_of o (Calling call) = 0
 making_of o (Constructing object steps true) = same o object
 making_of o (Constructing object steps false) = 0
 making_of o (Building items) = 0
-making_of o (Carrying event) = 0
+making_of o (Carrying request) = 0
 making_of o (Due source) = 0
 
 -- each living object is held, and what floats is under construction

@@ -25,12 +25,12 @@ weight d (Emitting emission turns) = 1
 weight d (Transferring number back) = 1
 weight d (Unsetting number) = 1
 weight d (Thawing id slots) = 2 * length slots + 1
-weight d (Running program block at passes into registers) = 1
+weight d (Running frame) = 1
 weight d (Answering source) = 1
-weight d (Calling object peer method args to) = 1
+weight d (Calling call) = 1
 weight d (Constructing id steps held) = 4 * length steps + 1
 weight d (Building items) = total (item_weight d) items + 1
-weight d (Carrying event) = 4
+weight d (Carrying request) = 4
 weight d (Due source) = 1
 
 -- a notification that waits

@@ -1,17 +1,17 @@
 -- What a session stands at, and what it answers.
-use Rattle.std.specs.Prelude.{◌≡◌, Bool, true, false, option_map, Result, Ok, Err}
+use Rattle.std.specs.Prelude.{◌≡◌, ℕ, Bool, true, false, List, [], option_map, Result, Ok, Err}
 use Rattle.ui_machine.specs.declared.arm.Halt.{Halt}
 use Rattle.ui_machine.specs.declared.arm.Halt.TheVariants as halts
 use Rattle.ui_machine.specs.Definition.{Definition}
-use Rattle.ui_machine.specs.Config.{World, Config}
-use Rattle.ui_machine.specs.Runs.{Dispatches, Halts}
+use Rattle.ui_machine.specs.Config.{Event, World, Config}
+use Rattle.ui_machine.specs.Runs.{Tally, Carries, Halts, Serves, HaltsIn, of_build}
 use Rattle.g_values.specs.View.{value_view}
 use Rattle.ui_engine.specs.declared.dispatches.Reply.{Reply}
 use Rattle.ui_engine.specs.declared.session.SessionFault.{SessionFault}
 use Rattle.ui_engine.specs.declared.session.SessionFault.TheVariants as faults
 
 -- a definition, the world that stands, and whether the session has stopped
-pub record Standing : Type 0 where
+pub record SessionState : Type 0 where
   pub definition : Definition
   pub world : World
   pub stopped : Bool
@@ -21,28 +21,48 @@ abbrev pub fault_of : Halt → SessionFault
 fault_of halts.OutOfMemory = faults.OutOfMemory
 fault_of (halts.Stuck arm) = faults.Stuck arm
 
--- the dispatch came to its end: one line `end`, with so many steps, and the value that it told
-pub record Ends (reply : Reply) (d : Definition) (c : Config) (new : Standing) : Type 0 where
-  pub dispatches : Dispatches d c reply.steps new.world
+-- what a reply counts
+abbrev pub tally_of : Reply → Tally
+tally_of reply = record { dispatches = reply.dispatches; steps = reply.steps }
+
+-- what a call may come to: a part of a run with these counts that leads to a world, or one that halts and has shown these lines
+pub record Ways : Type 1 where
+  pub to : Tally → World → Type 0
+  pub halts : Halt → List (List ℕ) → Type 0
+
+-- one dispatch from a configuration
+abbrev pub carrying_out : Definition → Config → Ways
+carrying_out d c = record { to = Carries d c []; halts = Halts d [] c }
+
+-- the build of a definition
+abbrev pub building : Definition → Ways
+building d = carrying_out d (of_build d [])
+
+-- an event, from a world
+abbrev pub serving : Definition → World → Event → Ways
+serving d w event = record { to = Serves d event [] w; halts = HaltsIn d event [] w }
+
+-- the part of the run came to its end, with the value that it told
+pub record Ends (reply : Reply) (ways : Ways) (d : Definition) (new : SessionState) : Type 0 where
+  pub leads : ways.to (tally_of reply) new.world
   pub value : option_map value_view reply.result ≡ new.world.result
-  pub one : reply.dispatches ≡ 1
   pub definition : new.definition ≡ d
   pub goes_on : new.stopped ≡ false
 
--- the dispatch halted, and the session stopped with it
-pub record Breaks (halt : Halt) (d : Definition) (c : Config) (new : Standing) : Type 0 where
-  pub halts : Halts d c halt new.world.transcript
+-- it halted, and the session stopped with it
+pub record Breaks (halt : Halt) (ways : Ways) (d : Definition) (new : SessionState) : Type 0 where
+  pub halts : ways.halts halt new.world.transcript
   pub definition : new.definition ≡ d
   pub stops : new.stopped ≡ true
 
--- what comes of a dispatch that begins at this configuration, in a session that has not stopped
-abbrev pub Comes : Result Reply SessionFault → Definition → Config → Standing → Type 0
-Comes (Ok reply) d c new = Ends reply d c new
-Comes (Err faults.OutOfMemory) d c new = Breaks halts.OutOfMemory d c new
-Comes (Err (faults.Stuck arm)) d c new = Breaks (halts.Stuck arm) d c new
-Comes (Err faults.Stopped) d c new = ⊥
+-- what comes of a call, in a session that has not stopped
+abbrev pub Comes : Result Reply SessionFault → Ways → Definition → SessionState → Type 0
+Comes (Ok reply) ways d new = Ends reply ways d new
+Comes (Err faults.OutOfMemory) ways d new = Breaks halts.OutOfMemory ways d new
+Comes (Err (faults.Stuck arm)) ways d new = Breaks (halts.Stuck arm) ways d new
+Comes (Err faults.Stopped) ways d new = ⊥
 
--- a session that has stopped answers that, and changes nothing
-abbrev pub Answers : Bool → Result Reply SessionFault → Standing → Config → Standing → Type 0
-Answers true result old c new = (result ≡ Err faults.Stopped) × (new ≡ old)
-Answers false result old c new = Comes result old.definition c new
+-- an event: a session that has stopped answers that, and changes nothing
+abbrev pub Answers : Bool → Result Reply SessionFault → SessionState → Event → SessionState → Type 0
+Answers true result old event new = (result ≡ Err faults.Stopped) × (new ≡ old)
+Answers false result old event new = Comes result (serving old.definition old.world event) old.definition new

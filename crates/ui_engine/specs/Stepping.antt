@@ -1,11 +1,10 @@
 -- What the steps of the engine come to, beside the machine's.
-use Rattle.std.specs.Prelude.{◌≡◌, suc, ◌<◌, Bool, true, false, [], option_map, Result, Ok, Err}
+use Rattle.std.specs.Prelude.{◌≡◌, suc, ◌<◌, Bool, true, false, [], Option, None, option_map, Result, Ok, Err}
 use Rattle.ui_machine.specs.declared.arm.Halt.{Halt}
 use Rattle.ui_machine.specs.Definition.{Definition}
 use Rattle.ui_machine.specs.Config.{World, Config}
-use Rattle.ui_machine.specs.Answers.{Stops}
-use Rattle.ui_machine.specs.Steps.{step, most_steps}
-use Rattle.ui_machine.specs.Runs.{Reaches, HasEnded, Dispatches, Halts}
+use Rattle.ui_machine.specs.Steps.{most_steps}
+use Rattle.ui_machine.specs.Runs.{Step, Reaches, HasEnded, HaltsAt, Dispatches, Halts}
 use Rattle.g_values.specs.View.{value_view}
 use Rattle.ui_engine.specs.declared.dispatches.Reply.{Reply}
 use Rattle.ui_engine.specs.Holding.{IsHeld}
@@ -16,22 +15,22 @@ use Rattle.ui_engine.specs.declared.engine.Made.TheVariants as mades
 -- one step: an uncounted one leaves less work, and a counted one was still to be had
 abbrev pub Stepped : Result Made Halt → Definition → Config → Config → Type 0
 Stepped (Ok mades.Nothing) d c e = (c.agenda ≡ []) × (e ≡ c)
-Stepped (Ok mades.Uncounted) d c e = (step d c ≡ Ok e) × IsHeld e.world e.agenda × (work d e < work d c) × (e.counted ≡ c.counted)
-Stepped (Ok mades.Counted) d c e = (step d c ≡ Ok e) × IsHeld e.world e.agenda × (c.counted < most_steps) × (e.counted ≡ suc c.counted)
-Stepped (Err halt) d c e = Stops halt (step d c) × (e.world.transcript ≡ c.world.transcript)
+Stepped (Ok mades.Uncounted) d c e = Step d None c e × IsHeld e.world e.agenda × (work d e < work d c) × (e.counted ≡ c.counted)
+Stepped (Ok mades.Counted) d c e = Step d None c e × IsHeld e.world e.agenda × (c.counted < most_steps) × (e.counted ≡ suc c.counted)
+Stepped (Err halt) d c e = HaltsAt d c halt × (e.world.transcript ≡ c.world.transcript)
 
 -- steps up to a counted one, or to the end
 abbrev pub Advanced : Result Bool Halt → Definition → Config → Config → Type 0
-Advanced (Ok true) d c e = Reaches d c e × IsHeld e.world e.agenda × (c.counted < most_steps) × (e.counted ≡ suc c.counted)
-Advanced (Ok false) d c e = Reaches d c e × IsHeld e.world e.agenda × (e.agenda ≡ [])
-Advanced (Err halt) d c e = Halts d c halt e.world.transcript
+Advanced (Ok true) d c e = Reaches d [] c e × IsHeld e.world e.agenda × (c.counted < most_steps) × (e.counted ≡ suc c.counted)
+Advanced (Ok false) d c e = Reaches d [] c e × IsHeld e.world e.agenda × (e.agenda ≡ [])
+Advanced (Err halt) d c e = Halts d [] c halt e.world.transcript
 
 -- all steps
 abbrev pub Ran : {X : Type 0} → Result X Halt → Definition → Config → Config → Type 0
-Ran (Ok _) d c e = Reaches d c e × HasEnded d e × IsHeld e.world e.agenda
-Ran (Err halt) d c e = Halts d c halt e.world.transcript
+Ran (Ok _) d c e = Reaches d [] c e × HasEnded d e × IsHeld e.world e.agenda
+Ran (Err halt) d c e = Halts d [] c halt e.world.transcript
 
 -- a whole dispatch, or how far it came
 abbrev pub Carried : Result Reply Halt → Definition → Config → World → Type 0
-Carried (Ok reply) d c new = Dispatches d c reply.steps new × (option_map value_view reply.result ≡ new.result) × (reply.dispatches ≡ 1) × IsHeld new []
-Carried (Err halt) d c new = Halts d c halt new.transcript
+Carried (Ok reply) d c new = Dispatches d [] c reply.steps new × (option_map value_view reply.result ≡ new.result) × (reply.dispatches ≡ 1) × IsHeld new []
+Carried (Err halt) d c new = Halts d [] c halt new.transcript

@@ -7,7 +7,7 @@ use Rattle.ui_machine.specs.Config as config
 use Rattle.ui_machine.specs.Emissions.{notification}
 use Rattle.ui_machine.specs.Builds.{made_items}
 use Rattle.g_values.specs.View.{value_view}
-use Rattle.builder_defs.specs.Meaning.{event_of}
+use Rattle.builder_defs.specs.Meaning.{request_of}
 use Rattle.ui_engine.specs.declared.task.Task.{Task}
 use Rattle.ui_engine.specs.declared.task.Task.TheVariants as tasks
 use Rattle.ui_engine.specs.declared.task.Stack.{Stack}
@@ -32,7 +32,7 @@ task_of d (tasks.Emitting id class slot) = config.Emitting (notification id (nam
 task_of d (tasks.Thawing id slots) = config.Thawing id slots
 task_of d (tasks.Constructing id steps) = config.Constructing id steps true
 task_of d (tasks.Building place) = config.Building (build_from d place)
-task_of d (tasks.Carrying event) = config.Carrying (event_of event)
+task_of d (tasks.Carrying event) = config.Carrying (request_of event)
 
 -- the machine's agenda, the first task first
 abbrev pub agenda_of : machine.Definition → Stack → List config.Task

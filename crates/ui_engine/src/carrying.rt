@@ -5,7 +5,7 @@ ghost use Rattle.ui_machine.specs.Answers.{Goes};
 ghost use Rattle.ui_machine.specs.Steps.{uncounted, carrying, carrying_set, carrying_get};
 ghost use Rattle.ui_machine.specs.Definition as machine;
 ghost use Rattle.g_values.specs.View.{value_view};
-ghost use Rattle.builder_defs.specs.Meaning.{event_of};
+ghost use Rattle.builder_defs.specs.Meaning.{request_of};
 ghost use Rattle.ui_machine.specs.Builds.{held_object};
 ghost use Rattle.ui_engine.specs.ObjectView.{Shows};
 ghost use Rattle.ui_engine.specs.View.{world_of};
@@ -72,7 +72,7 @@ impl Engine {
     // What an event does.
     pub(crate) fn carrying(&mut self, definition: &Definition, event: Event) -> Result<(), Halt>
         ensures step { Goes result
-            (uncounted (agenda_of definition.now self.old.stack) self.old.counted (carrying definition.now (world_of self.old.world) (event_of event)))
+            (uncounted (agenda_of definition.now self.old.stack) self.old.counted (carrying definition.now (world_of self.old.world) (request_of event)))
             (config_of definition.now self.new) }
         ensures quiet { OnErr result ((world_of self.new.world).transcript ≡ (world_of self.old.world).transcript) }
     {

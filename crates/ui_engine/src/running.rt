@@ -16,7 +16,7 @@ impl Engine {
     // Does what a task says, and answers whether that was counted.
     pub(crate) fn act(&mut self, definition: &Definition, task: Task) -> Result<Made, Halt>
         ensures step { Goes result
-            (act definition.now (world_of self.old.world) (task_of definition.now task ∷ agenda_of definition.now self.old.stack) self.old.counted)
+            (act definition.now (world_of self.old.world) None (task_of definition.now task ∷ agenda_of definition.now self.old.stack) self.old.counted)
             (config_of definition.now self.new) }
         ensures quiet { OnErr result ((world_of self.new.world).transcript ≡ (world_of self.old.world).transcript) }
         ensures made { IfOk result (λ made. IsMade made definition.now task) }

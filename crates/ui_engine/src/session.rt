@@ -1,11 +1,11 @@
 //! A session: a definition, and what stands while its events come.
 
 ghost use Rattle.std.specs.Prelude.{◌≡◌, [], map, string_bytes, IfOk, IfErr, false};
-ghost use Rattle.ui_machine.specs.Runs.{beginning, of_build, of_event};
+ghost use Rattle.ui_machine.specs.Runs.{beginning};
 ghost use Rattle.builder_defs.specs.Meaning.{event_of};
 ghost use Rattle.ui_engine.specs.Growing.{Longer};
 ghost use Rattle.ui_engine.specs.TaskView.{task_of};
-ghost use Rattle.ui_engine.specs.SessionView.{Answers, Comes};
+ghost use Rattle.ui_engine.specs.SessionView.{Answers, Comes, building, carrying_out};
 
 use crate::dispatches::Reply;
 use crate::engine::Engine;
@@ -51,11 +51,11 @@ pub struct Session {
 impl Model for Session {
     ghost use Rattle.std.specs.Prelude.{◌≡◌, false, []};
     ghost use Rattle.ui_engine.specs.TaskView.{task_of};
-    ghost use Rattle.ui_engine.specs.SessionView.{Standing};
+    ghost use Rattle.ui_engine.specs.SessionView.{SessionState};
     ghost use Rattle.ui_engine.specs.View.{world_of};
     ghost use Rattle.ui_engine.specs.Holding.{IsHeld};
 
-    ghost Value = { Standing };
+    ghost Value = { SessionState };
 
     ghost view = { λ s. record { definition = s.definition; world = world_of s.engine.world; stopped = s.stopped } };
 
@@ -92,7 +92,7 @@ pub struct Finished {
 impl Session {
     /// Builds a definition's objects.
     pub fn start(alloc: Global, definition: Definition) -> Result<Started, Refused>
-        ensures built { IfOk result (λ started. Comes started.build definition (of_build definition []) started.session) }
+        ensures built { IfOk result (λ started. Comes started.build (building definition) definition started.session) }
         ensures refused { IfErr result (λ refused. refused.definition ≡ definition) }
     {
         let _types = definition.types();
@@ -114,7 +114,7 @@ impl Session {
 
     /// Carries out an event with all that it leads to.
     pub fn dispatch(&mut self, event: Event) -> Result<Reply, SessionFault>
-        ensures answers { Answers self.old.stopped result self.old (of_event self.old.world (event_of event)) self.new }
+        ensures answers { Answers self.old.stopped result self.old (event_of event) self.new }
         // It only adds lines.
         ensures grows { Longer self.old.world.transcript self.new.world.transcript }
     {
@@ -127,7 +127,7 @@ impl Session {
     // Carries out a task with all that it leads to. Where that halts the session stops.
     fn carry_out(&mut self, task: Task) -> Result<Reply, SessionFault>
         requires goes_on { self.now.stopped ≡ false }
-        ensures comes { Comes result self.old.definition (beginning self.old.world (task_of self.old.definition task)) self.new }
+        ensures comes { Comes result (carrying_out self.old.definition (beginning self.old.world (task_of self.old.definition task))) self.old.definition self.new }
         ensures grows { Longer self.old.world.transcript self.new.world.transcript }
     {
         match self.engine.dispatch(&self.definition, task) {

@@ -5,6 +5,7 @@ pub mod Writing
 pub mod Reading
 pub mod Telling
 pub mod Events
+pub mod RunOver
 pub mod Opening
 pub mod OpeningView
 pub mod Files

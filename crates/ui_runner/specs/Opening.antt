@@ -1,19 +1,20 @@
 -- How a run opens, before it tells the event lines, and the whole run.
-use Rattle.std.specs.Prelude.{◌≡◌, ◌⊎◌, ℕ, List, [], ◌++◌, Ok, Err}
+use Rattle.std.specs.Prelude.{◌≡◌, ◌⊎◌, ℕ, true, false, List, [], ◌++◌, Ok, Err}
 use Rattle.ui_machine.specs.declared.arm.Halt.{Halt}
-use Rattle.ui_machine.specs.Runs.{of_build, Dispatches, Halts}
+use Rattle.ui_machine.specs.Runs.{Tally, Carries, Halts, of_build}
 use Rattle.builder_defs.specs.Refusals.{Refusal}
 use Rattle.builder_defs.specs.Denoted.{denoted}
-use Rattle.ui_engine.specs.SessionView.{Standing}
+use Rattle.ui_engine.specs.SessionView.{SessionState}
 use Rattle.ui_runner.specs.Texts.{lines_text, definition_refused, nothing_begun, build_stopped}
 use Rattle.ui_runner.specs.Story.{IsFrontOf, Story}
 use Rattle.ui_runner.specs.Events.{event_replies}
+use Rattle.ui_runner.specs.RunOver.{RunsOver}
 
 pub data Opening : Type 0 where
   refused : Refusal → Opening  -- the definition's bytes
   unbegun : Opening  -- for want of memory before the build
-  stopped : Standing → Halt → Opening  -- in the build
-  built : Standing → Opening
+  stopped : SessionState → Halt → Opening  -- in the build
+  built : SessionState → Opening
 
 -- what is written of an opening
 abbrev pub opening_text : Opening → List ℕ
@@ -23,15 +24,21 @@ opening_text (stopped s halt) = lines_text s.world.transcript ++ build_stopped h
 opening_text (built s) = lines_text s.world.transcript
 
 -- a session stands at the end of the definition's build
-pub record IsBuilt (s : Standing) : Type 0 where
-  pub steps : ℕ
-  pub dispatches : Dispatches s.definition (of_build s.definition []) steps s.world
+pub record IsBuilt (s : SessionState) : Type 0 where
+  pub tally : Tally
+  pub carries : Carries s.definition (of_build s.definition []) [] tally s.world
+  pub goes_on : s.stopped ≡ false
+
+-- a session has stopped in the definition's build
+pub record IsHalted (s : SessionState) (halt : Halt) : Type 0 where
+  pub halts : Halts s.definition [] (of_build s.definition []) halt s.world.transcript
+  pub stops : s.stopped ≡ true
 
 -- how a run with these bytes of a definition may open
 abbrev pub Opens : List ℕ → Opening → Type 0
 Opens bytes (refused refusal) = denoted bytes ≡ Err refusal
 Opens bytes unbegun = Unit {0}
-Opens bytes (stopped s halt) = (denoted bytes ≡ Ok s.definition) × Halts s.definition (of_build s.definition []) halt s.world.transcript
+Opens bytes (stopped s halt) = (denoted bytes ≡ Ok s.definition) × IsHalted s halt
 Opens bytes (built s) = (denoted bytes ≡ Ok s.definition) × IsBuilt s
 
 -- the text was written and the status answered, or a device failed within the text
@@ -39,11 +46,13 @@ abbrev pub Concludes : List ℕ → ℕ → ℕ → List ℕ → Type 0
 Concludes whole answer status text = ((status ≡ 4) × IsFrontOf text whole) ⊎ ((status ≡ answer) × (text ≡ whole))
 
 -- the lines of the build were written, and then the event lines told
-pub record Plays (s : Standing) (lines : List (List ℕ)) (status : ℕ) (text : List ℕ) : Type 0 where
+pub record Plays (s : SessionState) (lines : List (List ℕ)) (status : ℕ) (text : List ℕ) : Type 0 where
   pub rest : List ℕ
-  pub new : Standing
+  pub new : SessionState
   pub whole : text ≡ lines_text s.world.transcript ++ rest
   pub story : Story event_replies s lines status rest new
+  -- what was carried out is a run of the machine
+  pub run : IsBuilt s → RunsOver s lines story.outcomes new
 
 -- what a run comes to after its opening: 1 where the definition is refused, 3 for want of memory and where the build stopped
 abbrev pub Proceeds : Opening → List (List ℕ) → ℕ → List ℕ → Type 0

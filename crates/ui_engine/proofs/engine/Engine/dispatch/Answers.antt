@@ -22,7 +22,7 @@ returns-clause-carried c =
     let d = c.args.definition.now in
     let e = config_of d c.run.new.self in
     let ran = c.in_ok-run.ensures.ran in
-    let reached = subst (λ (from : Config). Reaches d from e) c.in_ok-begin.ensures.ok ran.0 in
+    let reached = subst (λ (from : Config). Reaches d [] from e) c.in_ok-begin.ensures.ok ran.0 in
     let said = c.in_ok-say.ensures.ok ∙ ap (λ line. record (world_of c.run.new.self.world) { transcript = (world_of c.run.new.self.world).transcript ++ line ∷ [] }) c.in_ok-line.ensures in
     let held = subst (λ (ts : List Task). IsHeld (world_of c.run.new.self.world) ts) ran.1.agenda ran.2 in (
       record { at = e; reached = reached; ended = ran.1; counts = refl; leaves = sym said },

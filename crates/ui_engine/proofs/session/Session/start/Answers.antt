@@ -5,7 +5,7 @@ use Rattle.ui_machine.specs.Worlds.{said}
 use Rattle.ui_machine.specs.Runs.{beginning, first_world}
 use Rattle.ui_engine.specs.View.{world_of}
 use Rattle.ui_engine.specs.TaskView.{build_from}
-use Rattle.ui_engine.specs.SessionView.{Comes}
+use Rattle.ui_engine.specs.SessionView.{Comes, carrying_out}
 use Rattle.ui_engine.proofs.Beginning.{none_held, only_objects}
 use Rattle.ui_engine.proofs.session.Session.start.Goals as goal
 
@@ -22,4 +22,4 @@ returns-clause-built c =
     let announced = c.in-Ok.ensures ∙ ap (λ w. said d w lines.build) (c.new-engine.ensures d) in
     let items = only_objects d c.types-types.ensures.basic in
     let start = ap (λ w. beginning w (Building (build_from d 0))) announced ∙ ap (λ items. beginning (said d (first_world d []) lines.build) (Building items)) (sym items) in
-    subst (λ (from : Config). Comes c.carry_out-build.result d from c.carry_out-build.new.self) start c.carry_out-build.ensures.comes
+    subst (λ (from : Config). Comes c.carry_out-build.result (carrying_out d from) d c.carry_out-build.new.self) start c.carry_out-build.ensures.comes

@@ -1,0 +1,54 @@
+-- An event that names no released object is served by one dispatch.
+use Rattle.std.proofs.Common.{◌≡◌, ℕ, zero, suc, Bool, true, false, List, [], ◌∷◌, map, Option, Some, None, Result, Ok, Err, refl, sym, ap, subst, ◌∙◌}
+use Rattle.ui_machine.specs.declared.arm.Halt.{Halt}
+use Rattle.ui_machine.specs.Seq.{read}
+use Rattle.ui_machine.specs.Definition.{Definition}
+use Rattle.ui_machine.specs.Config as config
+use Rattle.ui_machine.specs.Config.{Held, built, unbuilt, Carrying, Request, Event, World}
+use Rattle.ui_machine.specs.Worlds.{held_at}
+use Rattle.ui_machine.specs.Runs as runs
+use Rattle.ui_machine.specs.Runs.{is_released, names_released, Refusal, gone, refusal, beginning}
+use Rattle.builder_defs.specs.declared.event.Event as code
+use Rattle.builder_defs.specs.declared.event.Event.TheVariants as events
+use Rattle.builder_defs.specs.Meaning.{request_of}
+use Rattle.ui_engine.specs.declared.dispatches.Reply.{Reply}
+use Rattle.ui_engine.specs.declared.session.SessionFault.{SessionFault}
+use Rattle.ui_engine.specs.declared.session.SessionFault.TheVariants as faults
+use Rattle.ui_engine.specs.SessionView.{SessionState, tally_of, serving, carrying_out, Comes, Answers}
+
+-- what was only built is not released
+built_stays : (ids : List ℕ) (place : ℕ) → is_released (read unbuilt (map built ids) place) ≡ false
+built_stays [] place = refl
+built_stays (id ∷ ids) zero = refl
+built_stays (id ∷ ids) (suc place) = built_stays ids place
+
+stays : (w : World) (ids : List ℕ) (place : ℕ) → w.builder ≡ map built ids → is_released (held_at w place) ≡ false
+stays w ids place same = ap (λ (held : List Held). is_released (read unbuilt held place)) same ∙ built_stays ids place
+
+names_none : (w : World) (ids : List ℕ) (event : code.Event) → w.builder ≡ map built ids → names_released w (request_of event) ≡ false
+names_none w ids (events.Set place slot v) same = rw (stays w ids place.0 same) refl
+names_none w ids (events.Get place slot) same = stays w ids place.0 same
+
+module _ (d : Definition) (w : World) (r : Request) (none : names_released w r ≡ false) where
+  unrefused : refusal w (config.request r) ≡ None
+  unrefused = ap (λ (b : Bool). elim b as (λ _. Option Refusal) [ true ↦ Some gone | false ↦ None ]) none
+
+  serves : (result : Result Reply SessionFault) (new : SessionState) → Comes result (carrying_out d (beginning w (Carrying r))) d new → Comes result (serving d w (config.request r)) d new
+  serves (Ok reply) new ends = record {
+    leads = subst (λ (why : Option Refusal). runs.Comes d (config.request r) why [] w (tally_of reply) new.world) (sym unrefused) ends.leads;
+    value = ends.value;
+    definition = ends.definition;
+    goes_on = ends.goes_on;
+  }
+  serves (Err faults.OutOfMemory) new breaks = record { halts = breaks.halts; definition = breaks.definition; stops = breaks.stops }
+  serves (Err (faults.Stuck arm)) new breaks = record { halts = breaks.halts; definition = breaks.definition; stops = breaks.stops }
+  serves (Err faults.Stopped) new never = absurd never
+
+-- a session that has not stopped answers so
+pub answers : (old : SessionState) (ids : List ℕ) (event : code.Event) (result : Result Reply SessionFault) (new : SessionState)
+    → old.world.builder ≡ map built ids → old.stopped ≡ false
+    → Comes result (carrying_out old.definition (beginning old.world (Carrying (request_of event)))) old.definition new
+    → Answers old.stopped result old (config.request (request_of event)) new
+answers old ids event result new same goes comes =
+    subst (λ (b : Bool). Answers b result old (config.request (request_of event)) new) (sym goes)
+    (serves old.definition old.world (request_of event) (names_none old.world ids event same) result new comes)
