@@ -21,7 +21,7 @@ use Rattle.ui_machine.specs.Disposal.{no_peer}
 use Rattle.ui_machine.specs.Calls.{peer_number, has_shape}
 use Rattle.ui_machine.specs.Families.{adopted}
 use Rattle.ui_machine.specs.Connections.{signal_number, detail_at, is_too_late, with_handler}
-use Rattle.ui_machine.specs.Worlds.{Started, starts, said, with_objects, held_at, with_held, sunk}
+use Rattle.ui_machine.specs.Worlds.{Started, starts, said, with_objects, held_at, is_unbuilt, with_held, sunk}
 
 -- ** given values
 
@@ -161,7 +161,7 @@ unfoldable pub constructed : World → ℕ → Bool → Answer Started
 constructed w id false = starts w []
 constructed w id true = do
   o ← object_at w.objects id
-  starts (sunk (with_held w o.place (built id)) id) []
+  only_if (is_unbuilt (held_at w o.place)) arms.Code (starts (sunk (with_held w o.place (built id)) id) [])
 
 -- the thaw that ends a construction
 unfoldable pub thawing_made : World → ℕ → List Making → Bool → Answer Started
