@@ -120,14 +120,14 @@ module _ (d : Definition) where
           })
       by (halting none h ending) =
           let last = over ending in
-          let none_said = ap (λ (w' : World). w'.transcript) last.2.1 ∙ says ∙ ap (λ rest. w.transcript ++ rest) (sym (append-nil lines) ∙ ap (λ rest. lines ++ rest) (sym last.1)) in
+          let none_said = ap (λ (w' : World). w'.transcript) last.3 ∙ says ∙ ap (λ rest. w.transcript ++ rest) (sym (append-nil lines) ∙ ap (λ rest. lines ++ rest) (sym last.1)) in
           subst (λ (events : List Event). Served d w (events ++ later) (lines ++ more) new) (sym none)
           (subst (λ (events : List Event). Served d w events (lines ++ more) new) (sym last.0) (record {
             tally = no_dispatch;
             last = w;
             serves = record { replied = refl; counts = refl; same = refl };
-            front = last.2.0;
-            after = inr (subst (HaltsNext d w) (sym last.2.1) h);
+            front = last.2;
+            after = inr (subst (HaltsNext d w) (sym last.3) h);
             shows = none_said;
           }))
 
@@ -135,7 +135,7 @@ module _ (d : Definition) where
   over : (outcomes : List Outcome) (n : ℕ) (lines : List (List ℕ)) (front : List (List ℕ)) (mid new : SessionState) → outcomes ≡ [] → Tale event_replies without_lines (without_lines mid) n lines outcomes new
       → (events_served d n lines outcomes ≡ []) × (said_in outcomes ≡ []) × (given_up : List (List ℕ)) × (fronted given_up new.world ≡ fronted front mid.world)
   over [] n lines front mid new none tale =
-      (refl, refl, (front ++ mid.world.transcript, ap (λ (s : SessionState). fronted (front ++ mid.world.transcript) s.world) tale ∙ all_in_front front mid.world))
+      (refl, refl, front ++ mid.world.transcript, ap (λ (s : SessionState). fronted (front ++ mid.world.transcript) s.world) tale ∙ all_in_front front mid.world)
   over (outcome ∷ outcomes) n lines front mid new none tale = cc none
 
   served : (outcomes : List Outcome) (n : ℕ) (lines : List (List ℕ)) (front : List (List ℕ)) (old new : SessionState) → old.definition ≡ d → Tale event_replies without_lines old n lines outcomes new

@@ -25,31 +25,31 @@ loop-next-init g c = record {
   within = omega arith;
 }
 
-pub returns-in_default-write_telling-clause-story : goal.returns-in_default-write_telling-clause-story
-returns-in_default-write_telling-clause-story g c =
+pub returns-in_default-written-clause-story : goal.returns-in_default-written-clause-story
+returns-in_default-written-clause-story g c =
     let said = drop (length (g.L.Listener.lines c.loop-next.listener)) (g.L.Listener.lines c.tell-telling.new.listener) in
     let writes = rw (said_since string_bytes c.transcript-before.result.now c.transcript.result.now _ _ c.transcript-before.ensures c.transcript.ensures)
-    at c.in_default-write_telling.ensures.writes in
+    at c.in_default-written.ensures.writes in
     let tells = rw c.as_slice.ensures.value at c.tell-telling.ensures.tells in
     let reads = rw c.in-Some.is at c.in-Ok.ensures.reads in
-    breaks g.L.Listener.replies g.L.Listener.forgotten _ _ _ _ _ _ _ _ _ c.loop-next.number c.loop-next.status c.in-Some.found _ (told_of c.tell-telling.result said)
-    c.loop-next.invariant.came reads tells _ c.in_default-write_telling.ensures.marks writes
+    rw c.forget.ensures (breaks g.L.Listener.replies g.L.Listener.forgotten _ _ _ _ _ _ _ _ _ c.loop-next.number c.loop-next.status c.in-Some.found _ (told_of c.tell-telling.result said)
+    c.loop-next.invariant.came reads tells _ c.in_default-written.ensures.marks writes)
 
 pub returns-then-ends-clause-story : goal.returns-then-ends-clause-story
 returns-then-ends-clause-story g c =
     let said = drop (length (g.L.Listener.lines c.loop-next.listener)) (g.L.Listener.lines c.tell-telling.new.listener) in
     let writes = rw (said_since string_bytes c.transcript-before.result.now c.transcript.result.now _ _ c.transcript-before.ensures c.transcript.ensures)
-    at c.in-Ok-write_telling.ensures.writes in
+    at c.in-Ok-written.ensures.writes in
     let tells = rw c.as_slice.ensures.value at c.tell-telling.ensures.tells in
     let reads = rw c.in-Some.is at c.in-Ok.ensures.reads in
-    ends_there g.L.Listener.replies g.L.Listener.forgotten _ _ _ _ _ _ _ _ _ c.loop-next.number c.loop-next.status c.in-Some.found _ (told_of c.tell-telling.result said)
-    c.loop-next.invariant.came reads tells _ c.status_after-status.result (c.status_after-status.ensures said) (sym c.if-ends.true ∙ c.ends.ensures said) writes
+    rw c.forget.ensures (ends_there g.L.Listener.replies g.L.Listener.forgotten _ _ _ _ _ _ _ _ _ c.loop-next.number c.loop-next.status c.in-Some.found _ (told_of c.tell-telling.result said)
+    c.loop-next.invariant.came reads tells _ c.status_after-status.result (c.status_after-status.ensures said) (sym c.if-ends.true ∙ c.ends.ensures said) writes)
 
 pub loop-next-preserved : goal.loop-next-preserved
 loop-next-preserved g c =
     let said = drop (length (g.L.Listener.lines c.loop-next.listener)) (g.L.Listener.lines c.tell-telling.new.listener) in
     let writes = rw (said_since string_bytes c.transcript-before.result.now c.transcript.result.now _ _ c.transcript-before.ensures c.transcript.ensures)
-    at c.in-Ok-write_telling.ensures.writes in
+    at c.in-Ok-written.ensures.writes in
     let tells = rw c.as_slice.ensures.value at c.tell-telling.ensures.tells in
     let reads = rw c.in-Some.is at c.in-Ok.ensures.reads in
     let goes = sym c.if-ends.false ∙ c.ends.ensures said in
@@ -58,10 +58,10 @@ loop-next-preserved g c =
     record {
       near = known_further _ _ _ _ _ (λ xs zs. IsNear (c.loop-next.number + 1) xs zs) c.loop-next.invariant.near whole
           (λ xs ys zs h f. near_more xs ys zs c.loop-next.number _ h f on.0);
-      came = goes_on_from g.L.Listener.replies g.L.Listener.forgotten _ _ _ _ _ _ _ _ _ c.loop-next.number c.loop-next.status c.in-Some.found _ (told_of c.tell-telling.result said)
-          c.loop-next.invariant.came reads tells c.status_after-status.result (c.status_after-status.ensures said) goes on.1 writes;
+      came = rw c.forget.ensures (goes_on_from g.L.Listener.replies g.L.Listener.forgotten _ _ _ _ _ _ _ _ _ c.loop-next.number c.loop-next.status c.in-Some.found _ (told_of c.tell-telling.result said)
+          c.loop-next.invariant.came reads tells c.status_after-status.result (c.status_after-status.ensures said) goes on.1 writes);
       reader_works = c.in-Ok.ensures.marks;
-      writer_works = c.in-Ok-write_telling.ensures.marks;
+      writer_works = c.in-Ok-written.ensures.marks;
       works = rw (c.status_after-status.ensures said) (status_is_no_fault c.loop-next.status (told_of c.tell-telling.result said) c.loop-next.invariant.works);
       within = omega (arith, on.0);
     }
