@@ -16,7 +16,6 @@ use Rattle.ui_machine.specs.Definition.{Definition, Signal, Method, Shape, Instr
 use Rattle.ui_machine.specs.Definition as words
 use Rattle.ui_machine.specs.Lookups.{spec_of, place_at, program_at}
 use Rattle.ui_machine.specs.Emissions.{signal_of, most_depth, fits_detail}
-use Rattle.ui_machine.specs.Instructions.{nearest_shape}
 use Rattle.ui_machine.specs.Config.{Object, Objects, Handler, Binding, Source, Peer, Held, unbuilt, built, released, Turn, class_handler, handler, Emission, Making, sets, runs, thaws, Item, makes, adopts, forwards, binds, connects, Request, Reply, Registers, Frame, Call, Task, Setting, Notifying, Beginning, Emitting, Transferring, Unsetting, Thawing, Running, Answering, Calling, Constructing, Building, Carrying, Due, World, Config}
 use Rattle.ui_machine.specs.Config as config
 use Rattle.ui_machine.specs.Objects.{live}
@@ -26,7 +25,7 @@ use Rattle.ui_machine.specs.Sets.{has_kind}
 use Rattle.ui_machine.specs.Turns.{handler_of}
 use Rattle.ui_machine.specs.Transfers.{binding_of}
 use Rattle.ui_machine.specs.Sources as sources
-use Rattle.ui_machine.specs.Calls.{method_of, peer_number}
+use Rattle.ui_machine.specs.Calls.{nearest_shape, method_of, peer_number}
 use Rattle.ui_machine.specs.Bindings.{listens}
 use Rattle.ui_machine.specs.Builds.{to_make, is_making, build_items}
 use Rattle.ui_machine.specs.Answers.{Answer}

@@ -13,7 +13,8 @@ use Rattle.ui_machine.specs.Definition as words
 use Rattle.ui_machine.specs.Lookups.{slot_of, spec_of, program_at, program_of, place_at, place_of}
 use Rattle.ui_machine.specs.Emissions.{signal_of, most_depth}
 use Rattle.ui_machine.specs.Connections.{signal_number}
-use Rattle.ui_machine.specs.Instructions.{is_convertible, nearest_shape}
+use Rattle.ui_machine.specs.Calls.{nearest_shape}
+use Rattle.ui_machine.specs.Instructions.{is_convertible}
 use Rattle.law_typing.specs.RegisterKinds.{Kinds, kind_in, class_at, holds_objects, never_null, fits, kinds_fit}
 use Rattle.law_typing.specs.Rules.{Rule, Typing, ◌>>=◌, known, only_if}
 use Rattle.law_typing.specs.Rules as rules

@@ -12,7 +12,7 @@ use Rattle.ui_machine.specs.Definition as words
 use Rattle.ui_machine.specs.Lookups.{type_of, spec_of, place_at, program_at}
 use Rattle.ui_machine.specs.Emissions.{signal_of}
 use Rattle.ui_machine.specs.Builds.{is_forward}
-use Rattle.ui_machine.specs.Instructions.{has_shape}
+use Rattle.ui_machine.specs.Calls.{has_shape}
 use Rattle.law_typing.specs.RegisterKinds.{Kinds}
 use Rattle.law_typing.specs.Brackets.{written}
 use Rattle.law_typing.specs.Graph.{next_of}
@@ -31,11 +31,12 @@ pub record SpecRead (d : Definition) (s : Spec) : Type 0 where
   pub construct : is_construct s ≡ true → is_writable s ≡ true
   pub construct_only : is_construct_only s ≡ true → is_writable s ≡ true
 
--- `notify` is the first signal of a class, and has neither arguments nor a result
+-- `notify` is the first signal of a class: it runs first and is detailed, and has neither arguments nor a result
 pub record HasNotify (d : Definition) (class : ℕ) : Type 0 where
   pub signal : Signal
   pub is : signal_of d class 0 ≡ Some signal
   pub name : signal.name ≡ codes "notify"
+  pub flags : signal.flags ≡ 17
   pub params : signal.params ≡ []
   pub result : signal.result ≡ None
 

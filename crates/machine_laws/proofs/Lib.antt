@@ -3,4 +3,6 @@ pub mod ClampProofs
 pub mod QueueProofs
 pub mod PlanProofs
 pub mod StepProofs
+pub mod FrontProofs
+pub mod FrontRuns
 pub mod JoinProofs

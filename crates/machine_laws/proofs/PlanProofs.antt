@@ -1,13 +1,13 @@
 -- The plan of an emission.
 use Rattle.std.proofs.Common.{◌≡◌, inl, inr, refl, ℕ, ◌+◌, ◌≤◌, Bool, true, false, cond, List, [], ◌∷◌, ◌++◌, Option, None, Some, arith}
-use Rattle.std.specs.Prelude.{map, not, ◌&&◌, codes}
+use Rattle.std.specs.Prelude.{map, not, ◌&&◌}
 use Rattle.std.specs.List.{filter}
 use Rattle.ui_machine.specs.Mentions.{same}
 use Rattle.ui_machine.specs.Properties.{has_flags}
 use Rattle.ui_machine.specs.Config.{Handler, Binding, Turn, class_handler, handler, World}
 use Rattle.ui_machine.specs.Config as config
 use Rattle.ui_machine.specs.Bindings.{transfers, listens, goes_back}
-use Rattle.ui_machine.specs.Emissions.{at_stage, runs_for, handlers_for, plan, notify_flags, class_handler_of}
+use Rattle.ui_machine.specs.Emissions.{at_stage, runs_for, handlers_for, plan, class_handler_of}
 use Rattle.machine_laws.specs.PlanLaws.{is_turn_of, turns_of, stands, HandlersRunOnce, IsPart, numbers, InOrder, StagesInOrder, NotifyStages}
 use Rattle.machine_laws.proofs.QueueProofs.{total_append}
 
@@ -62,7 +62,7 @@ planned_once w class flags id signal moved detail number none =
 pub handlers_run_once : HandlersRunOnce
 handlers_run_once = (
   λ w class flags id signal detail number. planned_once w class flags id signal [] detail number refl,
-  λ d w class id slot name number. planned_once w (class_handler_of d class (codes "notify")) notify_flags id 0 (transfers id slot w.bindings) (Some name) number
+  λ d w s class id slot name number. planned_once w (class_handler_of d class s.name) s.flags id 0 (transfers id slot w.bindings) (Some name) number
       (no_transfer_turn number id slot (filter (listens id slot) w.bindings)),
 )
 

@@ -3,4 +3,5 @@ pub mod ClampLaws
 pub mod QueueLaws
 pub mod PlanLaws
 pub mod StepLaws
+pub mod FrontLaws
 pub mod JoinLaws

@@ -2,7 +2,7 @@
 use Rattle.std.specs.Prelude.{◌≡◌, ◌⊎◌, ℕ, ◌≤◌, Bool, true, false, List, [], ◌∷◌, ◌++◌, map, Option, Some}
 use Rattle.ui_machine.specs.Seq.{total}
 use Rattle.ui_machine.specs.Mentions.{same}
-use Rattle.ui_machine.specs.Definition.{Definition}
+use Rattle.ui_machine.specs.Definition.{Definition, Signal}
 use Rattle.ui_machine.specs.Config.{Handler, Turn, class_handler, handler, World}
 use Rattle.ui_machine.specs.Config as config
 use Rattle.ui_machine.specs.Emissions.{handlers_for, plan, notify_plan}
@@ -26,8 +26,8 @@ abbrev pub HandlersRunOnce : Type 0
 HandlersRunOnce =
     ((w : World) (class : Option ℕ) (flags id signal : ℕ) (detail : Option (List ℕ)) (number : ℕ) →
     turns_of number (plan w class flags [] id signal detail) ≤ stands number w.handlers)
-    × ((d : Definition) (w : World) (class id slot : ℕ) (name : List ℕ) (number : ℕ) →
-    turns_of number (notify_plan d w class id slot name) ≤ stands number w.handlers)
+    × ((d : Definition) (w : World) (s : Signal) (class id slot : ℕ) (name : List ℕ) (number : ℕ) →
+    turns_of number (notify_plan d w s class id slot name) ≤ stands number w.handlers)
 
 -- a list that is another with some left out
 abbrev pub IsPart : List ℕ → List ℕ → Type 0

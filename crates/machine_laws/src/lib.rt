@@ -5,6 +5,7 @@ ghost use Rattle.machine_laws.specs.TypeLaws.{IsAReflexive, IsATransitive};
 ghost use Rattle.machine_laws.specs.QueueLaws.{ThawsInReverse, QueuesOnce};
 ghost use Rattle.machine_laws.specs.PlanLaws.{HandlersRunOnce, InOrder, StagesInOrder, NotifyStages};
 ghost use Rattle.machine_laws.specs.ClampLaws.{ClampsToValid, ClampsOnce};
+ghost use Rattle.machine_laws.specs.FrontLaws.{StepAppends, QuestionStays, StepsAppend, DispatchAppends, HaltAppends, EventAppends, EventsAppend, EventHaltAppends};
 ghost use Rattle.machine_laws.specs.JoinLaws.{BuildIsRun, RunsGoOn};
 ghost use Rattle.machine_laws.specs.StepLaws.{HeldAtRest, EndsStay, FittingLives, FinalisedFitsNothing};
 
@@ -29,6 +30,18 @@ pub fn steps()
     ensures ends { EndsStay }
     ensures lives { FittingLives }
     ensures finalised { FinalisedFitsNothing }
+{}
+
+/// A step adds lines to the transcript, and never reads it.
+pub fn transcripts()
+    ensures step { StepAppends }
+    ensures question { QuestionStays }
+    ensures steps { StepsAppend }
+    ensures dispatch { DispatchAppends }
+    ensures halt { HaltAppends }
+    ensures event { EventAppends }
+    ensures events { EventsAppend }
+    ensures event_halt { EventHaltAppends }
 {}
 
 /// A validated value is valid, and validation leaves it as it is.

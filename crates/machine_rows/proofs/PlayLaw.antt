@@ -12,7 +12,7 @@ use Rattle.ui_machine.specs.Objects.{next_unheld}
 use Rattle.ui_machine.specs.Mentions.{mentions}
 use Rattle.ui_machine.specs.Sources.{source_of}
 use Rattle.ui_machine.specs.Steps.{step, question}
-use Rattle.ui_machine.specs.Runs.{Step, Steps, listed, HasEnded, Tally, no_dispatch, one_dispatch, tallied, Then, Rests, Carries, RunsSource, RunsSources, Refusal, refusal, Does, Comes, Serves, ServesAll, IsRun, turned, ready_at, beginning, of_build, of_request, first_world}
+use Rattle.ui_machine.specs.Runs.{Step, Steps, listed, HasEnded, Tally, no_dispatch, one_dispatch, tallied, Then, Rests, Carries, RunsSource, RunsSources, Refusal, refusal, Does, Comes, Serves, ServesAll, turned, ready_at, beginning, of_build, of_request, first_world}
 use Rattle.machine_rows.specs.Play.{Scripted, Played, with_script, reply_to, step_with, played_step, is_empty, has_ended, played_out, most_played, ended_world, dispatched, unplayed, source_played, sources_played, done, unless_refused, event_played, events_played, played}
 use Rattle.machine_rows.specs.PlayLaw.{script_of, IsScripted, PlayedIsRun}
 
@@ -239,7 +239,7 @@ module _ (d : Definition) where
       of_both : Both (dispatched d (of_build d peers) script) (λ q. events_played d q.at q.script events) p → IsScripted d peers events script p
       of_both b =
           let whole = after (λ replies w. Carries d (of_build d peers) replies) (ServesAll d events) (first_world d peers) script b.mid p
-                  (dispatch_of (of_build d peers) (first_world d peers) script b.mid b.first) (events_of_run events b.mid.at b.mid.script p b.then) in
+          (dispatch_of (of_build d peers) (first_world d peers) script b.mid b.first) (events_of_run events b.mid.at b.mid.script p b.then) in
           record { replies = whole.replies; tally = whole.tally; given = whole.given; run = whole.holds }
 
 pub played_is_run : PlayedIsRun

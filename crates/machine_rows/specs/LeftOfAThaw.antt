@@ -1,4 +1,5 @@
--- The notifications that are left of a thaw hold their object.
+-- An object that is made and then not kept: its construction's thaw notifies, the last first, and then the object goes. While notifications
+-- of the thaw are left the construction holds the object too, so that the run does not tell whether they do.
 use Rattle.std.specs.Prelude.{◌≡◌, ℕ, pos, negsuc, false, List, [], ◌∷◌, codes, None, Ok}
 use Rattle.ui_machine.specs.Kinds as kinds
 use Rattle.ui_machine.specs.Values as values

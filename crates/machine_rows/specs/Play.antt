@@ -111,3 +111,7 @@ played d peers events script = dispatched d (of_build d peers) script >>= (λ p.
 -- what the run of a definition shows, over these events
 abbrev pub shown : Definition → List Peer → List Event → List Scripted → Answer (List (List ℕ))
 shown d peers events script = played d peers events script >>= (λ p. Ok p.at.transcript)
+
+-- the same, with the value that the last event told
+abbrev pub ends_in : Definition → List Peer → List Event → List Scripted → Answer (List (List ℕ) × Option Value)
+ends_in d peers events script = played d peers events script >>= (λ p. Ok (p.at.transcript, p.at.result))

@@ -61,6 +61,8 @@ ghost use Rattle.machine_rows.specs.LateConnection as late_connection_run;
 ghost use Rattle.machine_rows.specs.StillToBuild as still_to_build_run;
 ghost use Rattle.machine_rows.specs.PairAndBinding as pair_and_binding_run;
 ghost use Rattle.machine_rows.specs.FrozenEnds as frozen_ends_run;
+ghost use Rattle.machine_rows.specs.TurnWithoutSources as turn_without_sources_run;
+ghost use Rattle.machine_rows.specs.TurnAfterAValue as turn_after_a_value_run;
 ghost use Rattle.machine_rows.specs.UnsetRegister as unset_register_run;
 ghost use Rattle.machine_rows.specs.ValueOfAnotherKind as value_of_another_kind_run;
 ghost use Rattle.machine_rows.specs.LateConstructOnly as late_construct_only_run;
@@ -73,6 +75,23 @@ ghost use Rattle.machine_rows.specs.CallWithoutPeer as call_without_peer_run;
 ghost use Rattle.machine_rows.specs.UnknownProperty as unknown_property_run;
 ghost use Rattle.machine_rows.specs.UnfitResult as unfit_result_run;
 ghost use Rattle.machine_rows.specs.AbstractObject as abstract_object_run;
+ghost use Rattle.machine_rows.specs.LateForward as late_forward_run;
+ghost use Rattle.machine_rows.specs.UnwritableForward as unwritable_forward_run;
+ghost use Rattle.machine_rows.specs.LateSetByEvent as late_set_by_event_run;
+ghost use Rattle.machine_rows.specs.UnwritableSetByEvent as unwritable_set_by_event_run;
+ghost use Rattle.machine_rows.specs.UnwritableGiven as unwritable_given_run;
+ghost use Rattle.machine_rows.specs.UnwritableConstruct as unwritable_construct_run;
+ghost use Rattle.machine_rows.specs.InvalidDefault as invalid_default_run;
+ghost use Rattle.machine_rows.specs.NewOfAnObject as new_of_an_object_run;
+ghost use Rattle.machine_rows.specs.ObjectOfAPrototype as object_of_a_prototype_run;
+ghost use Rattle.machine_rows.specs.UnknownBinding as unknown_binding_run;
+ghost use Rattle.machine_rows.specs.UnknownDetail as unknown_detail_run;
+ghost use Rattle.machine_rows.specs.UndetailedConnect as undetailed_connect_run;
+ghost use Rattle.machine_rows.specs.UndetailedEmit as undetailed_emit_run;
+ghost use Rattle.machine_rows.specs.UndetailedEvent as undetailed_event_run;
+ghost use Rattle.machine_rows.specs.UndetailedSignal as undetailed_signal_run;
+ghost use Rattle.machine_rows.specs.UnknownNotification as unknown_notification_run;
+ghost use Rattle.machine_rows.specs.PeerWithoutShape as peer_without_shape_run;
 
 /// Each worked run shows its lines.
 pub fn rows()
@@ -138,6 +157,8 @@ pub fn corners()
     ensures still_to_build { still_to_build_run.Holds }
     ensures pair_and_binding { pair_and_binding_run.Holds }
     ensures frozen_ends { frozen_ends_run.Holds }
+    ensures turn_without_sources { turn_without_sources_run.Holds }
+    ensures turn_after_a_value { turn_after_a_value_run.Holds }
 {}
 
 /// Each arm by which the machine may be stuck is reached by a definition that a check would refuse.
@@ -154,6 +175,23 @@ pub fn arms()
     ensures unknown_property { unknown_property_run.Holds }
     ensures unfit_result { unfit_result_run.Holds }
     ensures abstract_object { abstract_object_run.Holds }
+    ensures late_forward { late_forward_run.Holds }
+    ensures unwritable_forward { unwritable_forward_run.Holds }
+    ensures late_set_by_event { late_set_by_event_run.Holds }
+    ensures unwritable_set_by_event { unwritable_set_by_event_run.Holds }
+    ensures unwritable_given { unwritable_given_run.Holds }
+    ensures unwritable_construct { unwritable_construct_run.Holds }
+    ensures invalid_default { invalid_default_run.Holds }
+    ensures new_of_an_object { new_of_an_object_run.Holds }
+    ensures object_of_a_prototype { object_of_a_prototype_run.Holds }
+    ensures unknown_binding { unknown_binding_run.Holds }
+    ensures unknown_detail { unknown_detail_run.Holds }
+    ensures undetailed_connect { undetailed_connect_run.Holds }
+    ensures undetailed_emit { undetailed_emit_run.Holds }
+    ensures undetailed_event { undetailed_event_run.Holds }
+    ensures undetailed_signal { undetailed_signal_run.Holds }
+    ensures unknown_notification { unknown_notification_run.Holds }
+    ensures peer_without_shape { peer_without_shape_run.Holds }
 {}
 
 /// No counted step is taken past the most of a dispatch.

@@ -1,8 +1,9 @@
 -- Bindings between properties (GObject manual, GBinding).
 use Rattle.std.specs.Prelude.{ℕ, Bool, false, cond, not, ◌&&◌, ◌||◌, nat_eq, List, map, Option, None, Some}
-use Rattle.std.specs.List.{filter}
+use Rattle.std.specs.List.{filter, list_any}
 use Rattle.ui_machine.specs.Names.{same_name}
 use Rattle.ui_machine.specs.Properties.{has_flags}
+use Rattle.ui_machine.specs.Definition.{Definition, Bind}
 use Rattle.ui_machine.specs.Config.{Binding, Turn}
 use Rattle.ui_machine.specs.Config as config
 
@@ -34,13 +35,18 @@ transfers object slot bindings = map (λ b. config.transfer b.number (goes_back 
 
 -- ** how they end
 
+-- whether a binding of this name, if it has one, is called so
+abbrev pub is_name : List ℕ → Option (List ℕ) → Bool
+is_name name None = false
+is_name name (Some own) = same_name own name
+
 -- whether the binding is called so
 abbrev pub is_called : List ℕ → Binding → Bool
-is_called name b = called b.name
-  where
-    called : Option (List ℕ) → Bool
-    called None = false
-    called (Some own) = same_name own name
+is_called name b = is_name name b.name
+
+-- whether the definition has a binding that is called so
+abbrev pub is_binding : Definition → List ℕ → Bool
+is_binding d name = list_any (λ (b : Bind). is_name name b.name) d.bindings
 
 -- whether the object is one of the ends
 abbrev pub is_end : ℕ → Binding → Bool

@@ -1,25 +1,27 @@
 -- Constructions and the build (GObject manual, object construction; GTK manual, GtkBuilder).
-use Rattle.std.specs.Prelude.{ℕ, pos, zero, suc, Bool, true, false, cond, nat_eq, nat_le, ◌||◌, not, List, [], ◌∷◌, ◌++◌, map, length, Option, Some, None, Ok, slice_get}
-use Rattle.std.specs.List.{flat_map}
+use Rattle.std.specs.Prelude.{ℕ, pos, zero, suc, Bool, true, false, cond, nat_eq, nat_le, ◌||◌, not, List, [], ◌∷◌, ◌++◌, map, length, Option, Some, None, Ok, is_some, slice_get}
+use Rattle.std.specs.List.{flat_map, list_all}
 use Rattle.ui_machine.specs.declared.arm.Arm.TheVariants as arms
 use Rattle.ui_machine.specs.Seq.{read, write, total}
 use Rattle.ui_machine.specs.Kinds as kinds
 use Rattle.ui_machine.specs.Values.{Value}
 use Rattle.ui_machine.specs.Values as values
 use Rattle.ui_machine.specs.Ancestry.{is_a}
-use Rattle.ui_machine.specs.Properties.{Spec, has_flags, is_construct, is_construct_only}
+use Rattle.ui_machine.specs.Transform.{same_bool}
+use Rattle.ui_machine.specs.Clamp.{is_valid}
+use Rattle.ui_machine.specs.Properties.{Spec, has_flags, is_writable, is_construct, is_construct_only}
 use Rattle.ui_machine.specs.Definition.{Definition, Given, value, named, GivenProperty, Attached, Place, Bind}
 use Rattle.ui_machine.specs.Lookups.{type_of, class_of, specs_of, place_at}
 use Rattle.ui_machine.specs.Lines as lines
 use Rattle.ui_machine.specs.Config.{Object, Handler, Binding, Peer, Held, unbuilt, built, released, Making, sets, runs, thaws, Item, makes, adopts, forwards, binds, connects, Setting, Transferring, Thawing, Constructing, Building, Task, World}
 use Rattle.ui_machine.specs.Answers.{Answer, ◌>>=◌, known, only_if}
-use Rattle.ui_machine.specs.Objects.{find, changed, frozen_less}
-use Rattle.ui_machine.specs.Sets.{is_disposed}
+use Rattle.ui_machine.specs.Objects.{find, object_at, changed, frozen_less}
+use Rattle.ui_machine.specs.Sets.{is_disposed, spec_at, if_settable}
 use Rattle.ui_machine.specs.Disposal.{no_peer}
-use Rattle.ui_machine.specs.Calls.{peer_number}
+use Rattle.ui_machine.specs.Calls.{peer_number, has_shape}
 use Rattle.ui_machine.specs.Families.{adopted}
-use Rattle.ui_machine.specs.Connections.{signal_number, detail_for, is_too_late, with_handler}
-use Rattle.ui_machine.specs.Worlds.{Started, starts, said, with_objects, held_at, holding, sunk}
+use Rattle.ui_machine.specs.Connections.{signal_number, detail_at, is_too_late, with_handler}
+use Rattle.ui_machine.specs.Worlds.{Started, starts, said, with_objects, held_at, with_held, sunk}
 
 -- ** given values
 
@@ -99,10 +101,23 @@ construction d w place p =
     ++ (given_sets w place (specs_of d p.class) p.given
     ++ thaws ∷ []))
 
+-- whether a default is valid; it names no object
+abbrev pub has_valid_default : Definition → Spec → Bool
+has_valid_default d s = is_valid (λ id. None) d.types s s.default
+
 -- an object as it is made: each property has its default, and notifications are frozen
 abbrev pub new_object : Definition → ℕ → Place → Option ℕ → Object
-new_object d place p peer =
-    record { class = p.class; place = place; values = map (λ (s : Spec). s.default) (specs_of d p.class); freezes = 1; queue = []; children = []; parent = None; disposed = false; peer = peer }
+new_object d place p peer = record {
+  class = p.class;
+  place = place;
+  values = map (λ (s : Spec). s.default) (specs_of d p.class);
+  freezes = 1;
+  queue = [];
+  children = [];
+  parent = None;
+  disposed = false;
+  peer = peer;
+}
 
 -- the number of GInitiallyUnowned
 abbrev pub initially_unowned : ℕ
@@ -131,13 +146,22 @@ unfoldable pub making : Definition → World → ℕ → Option ℕ → Bool →
 making d w place peer held = do
   p ← known arms.Code (place_at d place)
   only_if (not (type_of d p.class).is_abstract) arms.Abstract
+      (only_if (list_all (has_valid_default d) (specs_of d p.class)) arms.Value
       (starts (said d (with_object d w (new_object d place p peer)) (lines.construct (suc (length w.objects)) (type_of d p.class).name))
-      (Constructing (suc (length w.objects)) (construction d w place p) held ∷ []))
+      (Constructing (suc (length w.objects)) (construction d w place p) held ∷ [])))
 
--- the end of a construction: what the builder made is held by it, under the next place, and sunk
+-- a set of a construction, of a writable property
+unfoldable pub making_set : Definition → World → (id slot : ℕ) → Value → List Task → Answer Started
+making_set d w id slot v tasks = do
+  s ← spec_at d w.objects id slot
+  only_if (is_writable s) arms.Flags (starts w (Setting id slot v ∷ tasks))
+
+-- the end of a construction: what the builder made is held by it, under the object's place, and sunk
 unfoldable pub constructed : World → ℕ → Bool → Answer Started
 constructed w id false = starts w []
-constructed w id true = starts (sunk (holding w id) id) []
+constructed w id true = do
+  o ← object_at w.objects id
+  starts (sunk (with_held w o.place (built id)) id) []
 
 -- the thaw that ends a construction
 unfoldable pub thawing_made : World → ℕ → List Making → Bool → Answer Started
@@ -207,14 +231,10 @@ abbrev pub first_peer : List Peer → List (List ℕ) → Option ℕ
 first_peer peers [] = None
 first_peer peers (name ∷ names) = peer_number peers name
 
--- the peers that a place names
-abbrev pub peers_of : Option Place → List (List ℕ)
-peers_of None = []
-peers_of (Some p) = p.peers
-
--- the peer of a place's object, if it has one
-abbrev pub peer_for : Definition → World → ℕ → Option ℕ
-peer_for d w place = first_peer w.peers (peers_of (place_at d place))
+-- the peer of a place's object: it has one where its class has a shape, and none elsewhere
+abbrev pub peer_for : Definition → World → Place → Answer (Option ℕ)
+peer_for d w p =
+    only_if (same_bool (has_shape d p.class) (is_some (first_peer w.peers p.peers))) arms.Code (Ok (first_peer w.peers p.peers))
 
 -- an object becomes its parent's child
 unfoldable pub building_child : Definition → World → ℕ → List Item → Answer Started
@@ -226,12 +246,18 @@ building_child d w place items = do
   family ← adopted d w parent child
   starts family.0 (Building items ∷ [])
 
--- a forward reference is set
-unfoldable pub building_forward : World → ℕ → ℕ → ℕ → List Item → Answer Started
-building_forward w place slot to items = do
-  id ← held_object w place
+-- the set of a forward reference
+unfoldable pub set_forward : World → (id slot to : ℕ) → List Item → Answer Started
+set_forward w id slot to items = do
   target ← held_object w to
   starts w (Setting id slot (values.object (Some target)) ∷ Building items ∷ [])
+
+-- a forward reference is set
+unfoldable pub building_forward : Definition → World → (place slot to : ℕ) → List Item → Answer Started
+building_forward d w place slot to items = do
+  id ← held_object w place
+  s ← spec_at d w.objects id slot
+  if_settable s (set_forward w id slot to items)
 
 -- a binding of the definition, between two objects
 abbrev pub new_binding : ℕ → Bind → ℕ → ℕ → Binding
@@ -265,12 +291,12 @@ building_binding d w number items = do
       (starts (with_binding w (new_binding number b source target)) (first_transfer number b ++ Building items ∷ []))
 
 -- a signal of the definition, as a handler on an object
-abbrev pub new_handler : World → ℕ → ℕ → Attached → Option ℕ → Handler
-new_handler w id signal a arg = record {
+abbrev pub new_handler : World → (id signal : ℕ) → Option (List ℕ) → Attached → Option ℕ → Handler
+new_handler w id signal detail a arg = record {
   number = suc w.last_handler;
   object = id;
   signal = signal;
-  detail = detail_for signal a.detail;
+  detail = detail;
   program = a.program;
   after = a.after;
   swapped = a.swapped;
@@ -287,7 +313,8 @@ building_handler d w place number items = do
   id ← held_object w place
   arg ← held_data w a.with
   signal ← known arms.Code (signal_number d p.class a.signal)
-  cond (is_too_late w.objects id arg) (starts w (Building items ∷ [])) (starts (with_handler w (new_handler w id signal a arg)) (Building items ∷ []))
+  detail ← detail_at d p.class signal a.detail
+  cond (is_too_late w.objects id arg) (starts w (Building items ∷ [])) (starts (with_handler w (new_handler w id signal detail a arg)) (Building items ∷ []))
 
 -- ** what the builder has still to do
 

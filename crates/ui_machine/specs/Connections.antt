@@ -1,12 +1,16 @@
 -- Handlers: connected, disconnected, blocked (GObject manual, signals: g_signal_connect_data, g_signal_handler_block).
-use Rattle.std.specs.Prelude.{ℕ, suc, ◌-◌, ◌+◌, Bool, true, false, cond, not, ◌&&◌, ◌||◌, nat_eq, nat_lt, min, List, [], ◌∷◌, ◌++◌, length, map, codes, Option, None, Some, option_map}
+use Rattle.std.specs.Prelude.{ℕ, suc, ◌-◌, ◌+◌, Bool, true, false, cond, not, ◌&&◌, ◌||◌, nat_eq, nat_lt, min, List, [], ◌∷◌, ◌++◌, length, map, codes, Option, None, Some, option_map, Ok, is_some}
 use Rattle.std.specs.List.{filter}
+use Rattle.ui_machine.specs.declared.arm.Arm.TheVariants as arms
 use Rattle.ui_machine.specs.Names.{canonical, place_named}
+use Rattle.ui_machine.specs.Properties.{has_flags}
 use Rattle.ui_machine.specs.Definition.{Definition, Signal}
-use Rattle.ui_machine.specs.Lookups.{class_of}
+use Rattle.ui_machine.specs.Lookups.{class_of, slot_of}
 use Rattle.ui_machine.specs.Lines as lines
 use Rattle.ui_machine.specs.Config.{Objects, Handler, World}
-use Rattle.ui_machine.specs.Objects.{find}
+use Rattle.ui_machine.specs.Answers.{Answer, ◌>>=◌, only_if}
+use Rattle.ui_machine.specs.Objects.{find, object_at}
+use Rattle.ui_machine.specs.Emissions.{signal_at}
 use Rattle.ui_machine.specs.Sets.{is_disposed}
 use Rattle.ui_machine.specs.Worlds.{said}
 
@@ -14,9 +18,30 @@ use Rattle.ui_machine.specs.Worlds.{said}
 abbrev pub signal_number : Definition → ℕ → List ℕ → Option ℕ
 signal_number d class name = place_named (λ (s : Signal). s.name) (class_of d class).signals (canonical name)
 
+-- ** details (g_signal_connect with `signal::detail`)
+
+-- whether a detail may stand at a signal: the signal is detailed, and a detail of `notify` names a property
+abbrev pub may_stand : Definition → (class number : ℕ) → Signal → Option (List ℕ) → Bool
+may_stand d class number s None = true
+may_stand d class number s (Some detail) = has_flags 16 s.flags && (not (nat_eq number 0) || is_some (slot_of d class detail))
+
 -- a detail of `notify` is a property's name, and stands in its canonical spelling; another is kept as it is written
 abbrev pub detail_for : ℕ → Option (List ℕ) → Option (List ℕ)
 detail_for signal detail = cond (nat_eq signal 0) (option_map canonical detail) detail
+
+-- a detail as it stands at a signal of a class, by the signal's number
+unfoldable pub detail_at : Definition → (class number : ℕ) → Option (List ℕ) → Answer (Option (List ℕ))
+detail_at d class number detail = do
+  s ← signal_at d class number
+  only_if (may_stand d class number s detail) arms.Code (Ok (detail_for number detail))
+
+-- the same at a signal of an object
+unfoldable pub detail_in : Definition → World → (id number : ℕ) → Option (List ℕ) → Answer (Option (List ℕ))
+detail_in d w id number detail = do
+  o ← object_at w.objects id
+  detail_at d o.class number detail
+
+-- ** connecting
 
 -- the greatest number of a handler
 abbrev pub most_handlers : ℕ

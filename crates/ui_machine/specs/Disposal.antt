@@ -1,6 +1,7 @@
 -- Dispose and finalisation (GObject manual, g_object_run_dispose and finalize).
-use Rattle.std.specs.Prelude.{ℕ, Bool, true, false, cond, nat_eq, ◌||◌, not, List, [], ◌∷◌, map, fold, Option, Some, None, option_map}
+use Rattle.std.specs.Prelude.{ℕ, Bool, true, false, cond, nat_eq, ◌||◌, not, List, [], ◌∷◌, map, fold, Option, Some, None, Ok, option_map, slice_get}
 use Rattle.std.specs.List.{filter}
+use Rattle.ui_machine.specs.declared.arm.Arm.TheVariants as arms
 use Rattle.ui_machine.specs.Seq.{read, write}
 use Rattle.ui_machine.specs.Values.{Value}
 use Rattle.ui_machine.specs.Values as values
@@ -10,6 +11,7 @@ use Rattle.ui_machine.specs.Lookups.{specs_of}
 use Rattle.ui_machine.specs.Lines.{Line}
 use Rattle.ui_machine.specs.Lines as lines
 use Rattle.ui_machine.specs.Config.{Object, Objects, Handler, Peer, World}
+use Rattle.ui_machine.specs.Answers.{Answer, ◌>>=◌, known}
 use Rattle.ui_machine.specs.Objects.{find, put}
 use Rattle.ui_machine.specs.Bindings.{bindings_without_end}
 use Rattle.ui_machine.specs.Worlds.{said, with_objects}
@@ -83,12 +85,17 @@ no_peer = record { name = []; state = record { shape = []; is_open = false; call
 abbrev pub closed_peer : Peer → Peer
 closed_peer p = record p { state = record p.state { is_open = false } }
 
--- the object's peer is closed if it is open
-abbrev pub closing : Definition → Option ℕ → World → World
-closing d None w = w
-closing d (Some k) w =
-    cond (read no_peer w.peers k).state.is_open
-    (said d (record w { peers = write no_peer w.peers k (closed_peer (read no_peer w.peers k)) }) (lines.close (read no_peer w.peers k).name)) w
+-- the world after a peer of the pool was closed, if it is open
+abbrev pub closed_if_open : Definition → World → ℕ → Peer → World
+closed_if_open d w number p =
+    cond p.state.is_open (said d (record w { peers = write no_peer w.peers number (closed_peer p) }) (lines.close p.name)) w
+
+-- the world after the object's peer, if it has one, was closed
+unfoldable pub closing : Definition → Option ℕ → World → Answer World
+closing d None w = Ok w
+closing d (Some number) w = do
+  p ← known arms.Code (slice_get w.peers number)
+  Ok (closed_if_open d w number p)
 
 -- ** dispose
 
@@ -112,21 +119,23 @@ abbrev pub objects_disposed : Definition → ℕ → Objects → Objects
 objects_disposed d id os =
     orphans (children_of (find os id)) (put (map (option_map (forgets d id)) os) id (option_map (lets_go d) (find (map (option_map (forgets d id)) os) id)))
 
+-- the world where an object has let go of what it held, and is forgotten by weak properties, handlers and bindings
+abbrev pub without_object : Definition → World → ℕ → World
+without_object d w id = record w {
+  objects = objects_disposed d id w.objects;
+  handlers = filter (λ h. not (is_of_object id h)) w.handlers;
+  bindings = bindings_without_end id w.bindings;
+}
+
 -- the world after an object was disposed
-abbrev pub disposed : Definition → World → ℕ → World
-disposed d w id =
-    closing d (peer_of (find w.objects id))
-    (said_if d (is_first (find w.objects id))
-    (record w {
-      objects = objects_disposed d id w.objects;
-      handlers = filter (λ h. not (is_of_object id h)) w.handlers;
-      bindings = bindings_without_end id w.bindings;
-    })
-    (lines.dispose id))
+abbrev pub disposed : Definition → World → ℕ → Answer World
+disposed d w id = closing d (peer_of (find w.objects id)) (said_if d (is_first (find w.objects id)) (without_object d w id) (lines.dispose id))
 
 -- the world after an object was finalised: disposed, again if it was, and taken out
-abbrev pub finalised : Definition → World → ℕ → World
-finalised d w id = said d (with_objects (disposed d w id) (put (disposed d w id).objects id None)) (lines.final id)
+unfoldable pub finalised : Definition → World → ℕ → Answer World
+finalised d w id = do
+  v ← disposed d w id
+  Ok (said d (with_objects v (put v.objects id None)) (lines.final id))
 
 -- ** the end of a session
 

@@ -1,5 +1,5 @@
 -- Emissions: what runs in them, and in which order (GObject manual, signals).
-use Rattle.std.specs.Prelude.{ℕ, zero, suc, Bool, true, false, cond, nat_eq, ◌&&◌, not, List, [], ◌∷◌, ◌++◌, map, codes, Option, Some, None, slice_get}
+use Rattle.std.specs.Prelude.{ℕ, zero, suc, Bool, true, false, cond, nat_eq, ◌&&◌, not, List, [], ◌∷◌, ◌++◌, map, Option, Some, None, slice_get}
 use Rattle.std.specs.List.{filter}
 use Rattle.ui_machine.specs.declared.arm.Arm.TheVariants as arms
 use Rattle.ui_machine.specs.Names.{same_name}
@@ -18,6 +18,10 @@ use Rattle.ui_machine.specs.Worlds.{Started, starts, said}
 -- the entry of a class's list of signals; number 0 is `notify`
 abbrev pub signal_of : Definition → ℕ → ℕ → Option Signal
 signal_of d class number = slice_get (class_of d class).signals number
+
+-- that signal, or the arm
+unfoldable pub signal_at : Definition → ℕ → ℕ → Answer Signal
+signal_at d class number = known arms.Code (signal_of d class number)
 
 -- ** class handlers
 
@@ -84,31 +88,23 @@ plan w class flags moved id signal detail =
 
 -- ** notifications
 
--- the flags of `notify`: RUN_FIRST and DETAILED
-abbrev pub notify_flags : ℕ
-notify_flags = 17
-
 -- an emission of `notify` for a property
 abbrev pub notification : ℕ → List ℕ → Emission
 notification id name = record { object = id; signal = 0; detail = Some name; args = []; by_event = false; value = None; cleanup = false }
 
--- what an object and a property are notified to
-abbrev pub notify_plan : Definition → World → ℕ → ℕ → ℕ → List ℕ → List Turn
-notify_plan d w class id slot name =
-    plan w (class_handler_of d class (codes "notify")) notify_flags (transfers id slot w.bindings) id 0 (Some name)
+-- the turns of a notification, by the signal `notify` of the class
+abbrev pub notify_plan : Definition → World → Signal → (class id slot : ℕ) → List ℕ → List Turn
+notify_plan d w s class id slot name = plan w (class_handler_of d class s.name) s.flags (transfers id slot w.bindings) id 0 (Some name)
 
 -- a due notification begins
 unfoldable pub notifying : Definition → World → ℕ → ℕ → Answer Started
 notifying d w id slot = do
   o ← object_at w.objects id
-  s ← known arms.Code (spec_of d o.class slot)
-  starts (said d w (lines.notify id s.name)) (Emitting (notification id s.name) (notify_plan d w o.class id slot s.name) ∷ [])
+  p ← known arms.Code (spec_of d o.class slot)
+  s ← signal_at d o.class 0
+  starts (said d w (lines.notify id p.name)) (Emitting (notification id p.name) (notify_plan d w s o.class id slot p.name) ∷ [])
 
 -- ** other emissions
-
--- the signal of a class by its number
-unfoldable pub signal_at : Definition → ℕ → ℕ → Answer Signal
-signal_at d class number = known arms.Code (signal_of d class number)
 
 -- an emission that is due begins: its arguments fit, its line is said, and its turns are taken
 unfoldable pub beginning_emission : Definition → World → Emission → Answer Started

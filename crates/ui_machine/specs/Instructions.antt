@@ -1,5 +1,5 @@
 -- What each instruction does. The frame has already gone past it.
-use Rattle.std.specs.Prelude.{ℕ, zero, suc, ◌+◌, ℤ, ◌+ℤ◌, ◌-ℤ◌, ◌*ℤ◌, int_lt, int_le, Bool, true, false, cond, not, ◌&&◌, ◌||◌, nat_lt, List, [], ◌∷◌, ◌++◌, length, codes, Option, None, Some, Ok, Err, is_some, slice_get}
+use Rattle.std.specs.Prelude.{ℕ, suc, ◌+◌, ℤ, ◌+ℤ◌, ◌-ℤ◌, ◌*ℤ◌, int_lt, int_le, Bool, true, false, cond, not, ◌&&◌, ◌||◌, nat_lt, List, [], ◌∷◌, ◌++◌, length, codes, Option, None, Some, Ok, Err, is_some, slice_get}
 use Rattle.std.specs.Ordering.{int_eq}
 use Rattle.ui_machine.specs.declared.arm.Arm.TheVariants as arms
 use Rattle.ui_machine.specs.Kinds.{Whole, Kind}
@@ -7,24 +7,23 @@ use Rattle.ui_machine.specs.Kinds as kinds
 use Rattle.ui_machine.specs.Values.{Value}
 use Rattle.ui_machine.specs.Values as values
 use Rattle.ui_machine.specs.Transform.{same_whole, same_value, wrapped, transformed, is_transformable, kind_fits}
-use Rattle.ui_machine.specs.Properties.{Spec, is_readable, is_writable, is_construct_only}
+use Rattle.ui_machine.specs.Properties.{is_readable}
 use Rattle.ui_machine.specs.Definition.{Definition, Program, Block, Place, Arithmetic, add, sub, mul, Comparison, eq, lt, le, Instruction}
 use Rattle.ui_machine.specs.Definition as words
-use Rattle.ui_machine.specs.Lookups.{slot_of, class_of, type_of, program_at, program_of, place_at, place_of}
+use Rattle.ui_machine.specs.Lookups.{slot_of, program_at, program_of, place_at, place_of}
 use Rattle.ui_machine.specs.Lines as lines
 use Rattle.ui_machine.specs.Sources as sources
 use Rattle.ui_machine.specs.Config.{Emission, Handler, Frame, Setting, Beginning, Thawing, Calling, Task, World}
 use Rattle.ui_machine.specs.Answers.{Answer, ◌>>=◌, known, only_if}
 use Rattle.ui_machine.specs.Objects.{find, live, object_at, asked, changed, value_at, class_in, frozen_more, frozen_less, most_identities}
-use Rattle.ui_machine.specs.Emissions.{or_else, up, most_depth}
-use Rattle.ui_machine.specs.Bindings.{bindings_without}
-use Rattle.ui_machine.specs.Sets.{has_kind, spec_at, raising, is_disposed}
+use Rattle.ui_machine.specs.Bindings.{is_binding, bindings_without}
+use Rattle.ui_machine.specs.Sets.{has_kind, spec_at, if_settable, raising, is_disposed}
 use Rattle.ui_machine.specs.Registers.{value_in, values_in, truth_in, text_in, whole_in, operand_in, data_in, with_register, goes_on, written_to, gives, tells}
 use Rattle.ui_machine.specs.Programs.{all_fit}
 use Rattle.ui_machine.specs.Turns.{or_zero}
 use Rattle.ui_machine.specs.Families.{adopted, orphaned}
-use Rattle.ui_machine.specs.Connections.{signal_number, detail_for, connected, disconnected, blocked, unblocked, with_handlers_on}
-use Rattle.ui_machine.specs.Calls.{peer_at, first_left, method_of, method_number}
+use Rattle.ui_machine.specs.Connections.{signal_number, detail_in, connected, disconnected, blocked, unblocked, with_handlers_on}
+use Rattle.ui_machine.specs.Calls.{peer_at, first_left, has_shape, method_of, method_number}
 use Rattle.ui_machine.specs.Builds.{object_held, making, to_make, to_connect}
 use Rattle.ui_machine.specs.Disposal.{disposed}
 use Rattle.ui_machine.specs.Worlds.{Started, starts, said, with_objects, held_at, sunk}
@@ -172,10 +171,6 @@ getting d w f to object name = do
   v ← asked w.objects id (value_at slot)
   only_if (is_readable s) arms.Flags (gives w to v f)
 
--- what a program may not set
-abbrev pub if_settable : {X : Type 0} → Spec → Answer X → Answer X
-if_settable s answer = only_if (is_writable s) arms.Flags (only_if (not (is_construct_only s)) arms.ConstructOnly answer)
-
 -- the set of a register's value
 unfoldable pub set_from : World → Frame → (id slot from : ℕ) → Answer Started
 set_from w f id slot from = do
@@ -211,20 +206,12 @@ abbrev pub or_null : Option Value → Value
 or_null None = values.object None
 or_null (Some v) = v
 
--- `object d id`: what the builder holds under the id
+-- `object d id`: what the builder holds under the id, which is of an object
 unfoldable pub naming : Definition → World → Frame → ℕ → List ℕ → Answer Started
 naming d w f to id = do
   place ← known arms.Code (place_of d id)
-  gives w to (or_null (object_held (held_at w place))) f
-
--- the shape of a class: the nearest one up the tree, at most so many classes up
-abbrev pub nearest_shape : ℕ → Definition → ℕ → Option ℕ
-nearest_shape zero d class = None
-nearest_shape (suc n) d class = or_else (class_of d class).shape (up (nearest_shape n d) (type_of d class).parent)
-
--- whether an object of the class has a peer
-abbrev pub has_shape : Definition → ℕ → Bool
-has_shape d class = is_some (nearest_shape most_depth d class)
+  p ← known arms.Code (place_at d place)
+  only_if (not p.is_prototype) arms.Code (gives w to (or_null (object_held (held_at w place))) f)
 
 -- the peer that is left for a prototype
 abbrev pub peer_left : World → Place → Option ℕ
@@ -249,12 +236,17 @@ made_new d w f to place p = do
   registers ← with_register to (Some (values.object (Some (suc (length w.objects))))) f.registers
   goes_on made.world made.tasks (record f { registers = registers })
 
--- `new d c`
+-- an object of a prototype is made, or past the limit its line said
+abbrev pub made_if_room : Definition → World → (to_come : ℕ) → Frame → (to place : ℕ) → Place → Answer Started
+made_if_room d w to_come f to place p =
+    cond (has_room_for_object d w to_come p) (made_new d w f to place p) (gives (said d w (lines.limit (codes "new"))) to (values.object None) f)
+
+-- `new d c`, of a prototype
 unfoldable pub creating : Definition → World → List Task → Frame → ℕ → List ℕ → Answer Started
 creating d w rest f to id = do
   place ← known arms.Code (place_of d id)
   p ← known arms.Code (place_at d place)
-  cond (has_room_for_object d w (to_make rest) p) (made_new d w f to place p) (gives (said d w (lines.limit (codes "new"))) to (values.object None) f)
+  only_if p.is_prototype arms.Code (made_if_room d w (to_make rest) f to place p)
 
 -- `sink o`
 unfoldable pub sinking : World → Frame → ℕ → Answer Started
@@ -269,11 +261,16 @@ orphaning d w f object = do
   o ← object_at w.objects id
   goes_on (orphaned d w id o.parent) [] f
 
+-- the world after an object was disposed, unless it was before
+abbrev pub disposed_once : Definition → World → ℕ → Answer World
+disposed_once d w id = cond (is_disposed (find w.objects id)) (Ok w) (disposed d w id)
+
 -- `dispose o`: once
 unfoldable pub disposing : Definition → World → Frame → ℕ → Answer Started
 disposing d w f object = do
   id ← operand_in w f object
-  goes_on (cond (is_disposed (find w.objects id)) w (disposed d w id)) [] f
+  after ← disposed_once d w id
+  goes_on after [] f
 
 -- `adopt d o o`
 unfoldable pub adopting : Definition → World → Frame → (to parent child : ℕ) → Answer Started
@@ -321,8 +318,9 @@ unfoldable pub emitting : Definition → World → Frame → Option ℕ → ℕ 
 emitting d w f into object name detail args = do
   id ← operand_in w f object
   signal ← signal_to_emit d w id name
+  stands ← detail_in d w id signal detail
   given ← values_in f args
-  goes_on w (Beginning (new_emission id signal detail given false) ∷ []) (record f { into = into })
+  goes_on w (Beginning (new_emission id signal stands given false) ∷ []) (record f { into = into })
 
 -- a handler that bytecode connects
 abbrev pub handler_by_code : World → (id signal : ℕ) → Option (List ℕ) → ℕ → (after swapped : Bool) → Option ℕ → Handler
@@ -330,7 +328,7 @@ handler_by_code w id signal detail program after swapped arg = record {
   number = suc w.last_handler;
   object = id;
   signal = signal;
-  detail = detail_for signal detail;
+  detail = detail;
   program = program;
   after = after;
   swapped = swapped;
@@ -344,9 +342,10 @@ unfoldable pub connecting : Definition → World → List Task → Frame → (to
 connecting d w rest f to object name detail program after swapped with = do
   id ← operand_in w f object
   signal ← signal_in d w id name
+  stands ← detail_in d w id signal detail
   number ← known arms.Code (program_of d program)
   arg ← data_in w f with
-  tells (connected d w (to_connect rest) (handler_by_code w id signal detail number after swapped arg)) to f
+  tells (connected d w (to_connect rest) (handler_by_code w id signal stands number after swapped arg)) to f
 
 -- a change of an object's handlers of a program
 unfoldable pub on_handlers : Definition → World → Frame → ℕ → List ℕ → (World → ℕ → ℕ → World) → Answer Started
@@ -367,9 +366,9 @@ blocking d w f object program = on_handlers d w f object program (with_handlers_
 abbrev pub unblocking : Definition → World → Frame → ℕ → List ℕ → Answer Started
 unblocking d w f object program = on_handlers d w f object program (with_handlers_on unblocked)
 
--- `unbind name`
-abbrev pub unbinding : World → Frame → List ℕ → Answer Started
-unbinding w f name = goes_on (record w { bindings = bindings_without name w.bindings }) [] f
+-- `unbind name`, of a binding of the definition
+abbrev pub unbinding : Definition → World → Frame → List ℕ → Answer Started
+unbinding d w f name = only_if (is_binding d name) arms.Code (goes_on (record w { bindings = bindings_without name w.bindings }) [] f)
 
 -- ** sources
 
@@ -484,7 +483,7 @@ instruction d w rest f (words.disconnect object program) = disconnecting d w f o
 instruction d w rest f (words.block object program) = blocking d w f object program
 instruction d w rest f (words.unblock object program) = unblocking d w f object program
 instruction d w rest f words.stop = goes_on w [] f
-instruction d w rest f (words.unbind name) = unbinding w f name
+instruction d w rest f (words.unbind name) = unbinding d w f name
 instruction d w rest f (words.idle to program priority with) = idling d w f to program priority with
 instruction d w rest f (words.timeout to program priority interval with) = timing d w f to program priority interval with
 instruction d w rest f (words.remove program) = removing d w f program

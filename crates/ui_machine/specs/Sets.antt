@@ -7,7 +7,7 @@ use Rattle.ui_machine.specs.Values.{Value}
 use Rattle.ui_machine.specs.Values as values
 use Rattle.ui_machine.specs.Transform.{same_whole, same_value}
 use Rattle.ui_machine.specs.Clamp.{clamp}
-use Rattle.ui_machine.specs.Properties.{Spec, is_readable, is_explicit_notify, is_lax}
+use Rattle.ui_machine.specs.Properties.{Spec, is_readable, is_writable, is_construct_only, is_explicit_notify, is_lax}
 use Rattle.ui_machine.specs.Definition.{Definition}
 use Rattle.ui_machine.specs.Lookups.{spec_of}
 use Rattle.ui_machine.specs.Lines as lines
@@ -55,6 +55,10 @@ abbrev pub notifies : Spec → Value → Value → Bool
 notifies s old new = is_readable s && (not (is_explicit_notify s) || not (same_value old new))
 
 -- ** sets
+
+-- what a program, an event or the builder may set
+abbrev pub if_settable : {X : Type 0} → Spec → Answer X → Answer X
+if_settable s answer = only_if (is_writable s) arms.Flags (only_if (not (is_construct_only s)) arms.ConstructOnly answer)
 
 -- whether an object lives and is disposed
 abbrev pub is_disposed : Option Object → Bool

@@ -1,5 +1,5 @@
 -- The machine: one step from a configuration.
-use Rattle.std.specs.Prelude.{ℕ, suc, nat_lt, Bool, true, List, [], ◌∷◌, ◌++◌, Option, Some, None, Ok}
+use Rattle.std.specs.Prelude.{ℕ, suc, nat_lt, Bool, true, List, [], ◌∷◌, ◌++◌, Option, Some, None, Ok, Err}
 use Rattle.ui_machine.specs.declared.arm.Arm.TheVariants as arms
 use Rattle.ui_machine.specs.Values.{Value}
 use Rattle.ui_machine.specs.Values as values
@@ -14,14 +14,15 @@ use Rattle.ui_machine.specs.Answers.{Answer, ◌>>=◌, known, only_if}
 use Rattle.ui_machine.specs.Objects.{asked, value_at, next_unheld}
 use Rattle.ui_machine.specs.Mentions.{mentions}
 use Rattle.ui_machine.specs.Worlds.{Started, starts, said, with_held, sunk}
-use Rattle.ui_machine.specs.Sets.{setting, spec_at}
+use Rattle.ui_machine.specs.Sets.{setting, spec_at, if_settable}
 use Rattle.ui_machine.specs.Programs.{program_before}
 use Rattle.ui_machine.specs.Emissions.{notifying, beginning_emission}
 use Rattle.ui_machine.specs.Transfers.{transferring, unsetting}
 use Rattle.ui_machine.specs.Turns.{taking}
 use Rattle.ui_machine.specs.Results.{Left, ending}
 use Rattle.ui_machine.specs.Calls.{calling_on, question_of}
-use Rattle.ui_machine.specs.Builds.{making, constructed, thawing_made, given_value, held_object, peer_for, building_child, building_forward, building_binding, building_handler}
+use Rattle.ui_machine.specs.Builds.{making, making_set, constructed, thawing_made, given_value, held_object, peer_for, building_child, building_forward, building_binding, building_handler}
+use Rattle.ui_machine.specs.Connections.{detail_in}
 use Rattle.ui_machine.specs.Instructions.{new_emission}
 use Rattle.ui_machine.specs.Running.{running}
 use Rattle.ui_machine.specs.Disposal.{finalised}
@@ -40,14 +41,16 @@ thawing w id (slot ∷ slots) = starts w (Notifying id slot ∷ Thawing id slots
 -- the next step of a construction
 abbrev pub constructing : Definition → World → ℕ → List Making → Bool → Answer Started
 constructing d w id [] held = constructed w id held
-constructing d w id (sets slot v ∷ steps) held = starts w (Setting id slot v ∷ Constructing id steps held ∷ [])
+constructing d w id (sets slot v ∷ steps) held = making_set d w id slot v (Constructing id steps held ∷ [])
 constructing d w id (runs program ∷ steps) held = program_before d w program (values.object (Some id) ∷ []) (Constructing id steps held ∷ [])
 constructing d w id (thaws ∷ steps) held = thawing_made w id steps held
 
 -- an object of the build is made, with the peer that is its own
 unfoldable pub building_object : Definition → World → ℕ → List Item → Answer Started
 building_object d w place items = do
-  made ← making d w place (peer_for d w place) true
+  p ← known arms.Code (place_at d place)
+  peer ← peer_for d w p
+  made ← making d w place peer true
   starts made.world (made.tasks ++ Building items ∷ [])
 
 -- the next item of the build
@@ -55,18 +58,24 @@ abbrev pub building : Definition → World → List Item → Answer Started
 building d w [] = starts w []
 building d w (makes place ∷ items) = building_object d w place items
 building d w (adopts place ∷ items) = building_child d w place items
-building d w (forwards place slot to ∷ items) = building_forward w place slot to items
+building d w (forwards place slot to ∷ items) = building_forward d w place slot to items
 building d w (binds number ∷ items) = building_binding d w number items
 building d w (connects place number ∷ items) = building_handler d w place number items
 
 -- ** requests
 
--- a set by an event
-unfoldable pub carrying_set : World → ℕ → ℕ → Given → Answer Started
-carrying_set w place slot given = do
-  id ← held_object w place
+-- the set of a given value
+unfoldable pub set_given : World → (id slot : ℕ) → Given → Answer Started
+set_given w id slot given = do
   v ← known arms.Operand (given_value w given)
   starts w (Setting id slot v ∷ [])
+
+-- a set by an event
+unfoldable pub carrying_set : Definition → World → (place slot : ℕ) → Given → Answer Started
+carrying_set d w place slot given = do
+  id ← held_object w place
+  s ← spec_at d w.objects id slot
+  if_settable s (set_given w id slot given)
 
 -- the world with a value for the event
 abbrev pub answered : World → Value → World
@@ -89,11 +98,12 @@ given_values w (g ∷ gs) = do
   Ok (v ∷ vs)
 
 -- an emission by an event
-unfoldable pub carrying_emit : World → (place signal : ℕ) → List Given → Option (List ℕ) → Answer Started
-carrying_emit w place signal args detail = do
+unfoldable pub carrying_emit : Definition → World → (place signal : ℕ) → List Given → Option (List ℕ) → Answer Started
+carrying_emit d w place signal args detail = do
   id ← held_object w place
+  stands ← detail_in d w id signal detail
   given ← given_values w args
-  starts w (Beginning (new_emission id signal detail given true) ∷ [])
+  starts w (Beginning (new_emission id signal stands given true) ∷ [])
 
 -- the builder lets an object go
 unfoldable pub carrying_release : Definition → World → ℕ → Answer Started
@@ -104,9 +114,9 @@ carrying_release d w place = do
 
 -- what a request does
 abbrev pub carrying : Definition → World → Request → Answer Started
-carrying d w (config.set place slot given) = carrying_set w place slot given
+carrying d w (config.set place slot given) = carrying_set d w place slot given
 carrying d w (config.get place slot) = carrying_get d w place slot
-carrying d w (config.emit place signal args detail) = carrying_emit w place signal args detail
+carrying d w (config.emit place signal args detail) = carrying_emit d w place signal args detail
 carrying d w (config.release place) = carrying_release d w place
 
 -- the program of a ready source begins, with its data
@@ -163,16 +173,22 @@ act d w reply (Transferring number back ∷ rest) n = counted rest n (transferri
 act d w reply (Unsetting number ∷ rest) n = uncounted rest n (unsetting w number)
 act d w reply (Thawing id slots ∷ rest) n = uncounted rest n (thawing w id slots)
 act d w reply (Running frame ∷ rest) n = counted_left n (running d w rest frame)
-act d w reply (Answering source ∷ rest) n = uncounted rest n (starts w [])
+act d w reply (Answering source ∷ rest) n = Err arms.Code
 act d w reply (Calling call ∷ rest) n = left n (calling_on d w call rest reply)
 act d w reply (Constructing id steps held ∷ rest) n = uncounted rest n (constructing d w id steps held)
 act d w reply (Building items ∷ rest) n = uncounted rest n (building d w items)
 act d w reply (Carrying request ∷ rest) n = uncounted rest n (carrying d w request)
 act d w reply (Due source ∷ rest) n = uncounted rest n (sourcing d w source)
 
+-- an object is finalised
+unfoldable pub finalising : Definition → World → ℕ → Answer Started
+finalising d w id = do
+  v ← finalised d w id
+  starts v []
+
 -- an object without a mention is finalised before anything else
 abbrev pub first_of : Definition → Option Reply → Config → Option ℕ → Answer Config
-first_of d reply c (Some id) = counted c.agenda c.counted (starts (finalised d c.world id) [])
+first_of d reply c (Some id) = counted c.agenda c.counted (finalising d c.world id)
 first_of d reply c None = act d c.world reply c.agenda c.counted
 
 -- the step from a configuration, or the arm by which it is stuck; a peer that is asked gives this reply

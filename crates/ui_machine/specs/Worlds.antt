@@ -4,7 +4,7 @@ use Rattle.ui_machine.specs.Seq.{read, write}
 use Rattle.ui_machine.specs.Text.{text_of_line}
 use Rattle.ui_machine.specs.Lines.{Line}
 use Rattle.ui_machine.specs.Definition.{Definition}
-use Rattle.ui_machine.specs.Config.{Objects, Held, unbuilt, built, Task, World}
+use Rattle.ui_machine.specs.Config.{Objects, Held, unbuilt, Task, World}
 use Rattle.ui_machine.specs.Answers.{Answer}
 
 -- the world with a line said
@@ -18,10 +18,6 @@ with_objects w os = record w { objects = os }
 -- what the builder has of a place
 abbrev pub held_at : World → ℕ → Held
 held_at w place = read unbuilt w.builder place
-
--- The builder holds one object more. It builds in the order of the places, so that the object's place is the next.
-abbrev pub holding : World → ℕ → World
-holding w id = record w { builder = w.builder ++ built id ∷ [] }
 
 -- the builder has this of a place
 abbrev pub with_held : World → ℕ → Held → World

@@ -1,0 +1,755 @@
+-- A step adds lines to the transcript, and never reads it.
+use Rattle.std.proofs.Common.{◌≡◌, refl, ap, sym, ◌∙◌, ℕ, suc, ℤ, Bool, true, false, cond, List, [], ◌∷◌, Option, None, Some, Ok, Err, append_assoc}
+use Rattle.std.specs.Prelude.{codes, length, nat_lt}
+use Rattle.ui_machine.specs.declared.arm.Arm.{Arm}
+use Rattle.ui_machine.specs.declared.arm.Arm.TheVariants as arms
+use Rattle.ui_machine.specs.Kinds.{Kind}
+use Rattle.ui_machine.specs.Values.{Value}
+use Rattle.ui_machine.specs.Values as values
+use Rattle.ui_machine.specs.Properties.{Spec}
+use Rattle.ui_machine.specs.Definition.{Definition, Given, Place, Method, Instruction, Arithmetic, Comparison}
+use Rattle.ui_machine.specs.Definition as words
+use Rattle.ui_machine.specs.Lines.{Line}
+use Rattle.ui_machine.specs.Lines as lines
+use Rattle.ui_machine.specs.Sources as sources
+use Rattle.ui_machine.specs.Seq.{write}
+use Rattle.ui_machine.specs.Transform.{zero_value}
+use Rattle.ui_machine.specs.Text.{text_of_line}
+use Rattle.ui_machine.specs.Config as config
+use Rattle.ui_machine.specs.Config.{Object, Objects, Peer, World, Config, Setting, Notifying, Beginning, Emitting, Transferring, Unsetting, Thawing, Running, Answering, Calling, Constructing, Building, Carrying, Due, Task, Emission, Turn, class_handler, handler, Binding, Handler, Frame, Call, Reply, Question, Held, Making, sets, runs, thaws, Item, makes, adopts, forwards, binds, connects, Request}
+use Rattle.ui_machine.specs.Answers.{Answer, ◌>>=◌, only_if}
+use Rattle.ui_machine.specs.Objects.{find, next_unheld}
+use Rattle.ui_machine.specs.Mentions.{mentions}
+use Rattle.ui_machine.specs.Worlds.{Started, said, with_objects, with_held, sunk}
+use Rattle.ui_machine.specs.Sets.{raising, written, setting}
+use Rattle.ui_machine.specs.Emissions.{notifying, beginning_emission}
+use Rattle.ui_machine.specs.Programs.{beginning_program, program_before}
+use Rattle.ui_machine.specs.Transfers.{binding_of, set_by, carried, carried_by, transferring}
+use Rattle.ui_machine.specs.Turns.{or_zero, handler_of, turn_of, taking, collecting, resulting}
+use Rattle.ui_machine.specs.Families.{updated, with_parent, with_child, with_family, adopted, orphaned}
+use Rattle.ui_machine.specs.Disposal.{no_peer, closed_peer, closed_if_open, closing, said_if, is_first, peer_of, without_object, disposed, finalised}
+use Rattle.ui_machine.specs.Registers.{tells, operand_in, data_in, written_to}
+use Rattle.ui_machine.specs.Results.{Left, kept_source, untaken, told, down_to_emission, down_to_source, given_down, ending}
+use Rattle.ui_machine.specs.Calls.{with_peer_state, call_line, replied, with_method, left_with, called, uncalled, calling_on}
+use Rattle.ui_machine.specs.Connections.{detail_in, is_too_late, has_room_for_handler, with_handler, connected, disconnected, blocked, unblocked, with_handlers_on}
+use Rattle.ui_machine.specs.Builds.{given_value, with_object, making, making_set, constructed, thawing_made, held_data, building_child, set_forward, building_forward, building_binding, building_handler}
+use Rattle.ui_machine.specs.Instructions.{disposed_once, most_bytes, gives_from, within_bytes, with_source, attached_to, moving, reckoning, comparing, sameness, negating, conjunction, disjunction, joining, converting, slot_at, getting, set_from, assigning, then_goes_on, telling, naming, made_new, creating, sinking, orphaning, disposing, adopting, freezing, unfreezing, signal_in, signal_to_emit, emitting, connecting, on_handlers, attaching, removing, calling, jumping, branching, branching_null, instruction}
+use Rattle.ui_machine.specs.Running.{returned, returning, in_front, instructed, running}
+use Rattle.ui_machine.specs.Steps.{answered, most_steps, uncounted, counted, counted_left, thawing, constructing, building_object, building, set_given, carrying_set, carrying_get, given_values, carrying_emit, carrying_release, carrying, sourcing, left, settling, act, finalising, first_of, asked_first, asked_after}
+use Rattle.machine_laws.specs.FrontLaws.{fronted, fronted_at, mapped, StepAppends, QuestionStays}
+
+mapped_then : {A B C : Type 0} (f : B → C) (a : Answer A) (g : A → Answer B) → mapped f (a >>= g) ≡ (a >>= λ x. mapped f (g x))
+mapped_then f (Ok x) g = refl
+mapped_then f (Err arm) g = refl
+
+mapped_if : {A B : Type 0} (f : A → B) (b : Bool) (arm : Arm) (a : Answer A) → mapped f (only_if b arm a) ≡ only_if b arm (mapped f a)
+mapped_if f true arm a = refl
+mapped_if f false arm a = refl
+
+mapped_cond : {A B : Type 0} (f : A → B) (b : Bool) (x y : Answer A) → mapped f (cond b x y) ≡ cond b (mapped f x) (mapped f y)
+mapped_cond f true x y = refl
+mapped_cond f false x y = refl
+
+mapped_before : {A B C : Type 0} (f : A → B) (a : Answer A) (g : B → Answer C) → (mapped f a >>= g) ≡ (a >>= λ x. g (f x))
+mapped_before f (Ok x) g = refl
+mapped_before f (Err arm) g = refl
+
+module _ (front : List (List ℕ)) (d : Definition) where
+  abbrev started : Started → Started
+  started s = record s { world = fronted front s.world }
+
+  said_in_front : (w : World) (line : Line) → said d (fronted front w) line ≡ fronted front (said d w line)
+  said_in_front w line = ap (λ (ls : List (List ℕ)). record w { transcript = ls }) (append_assoc front w.transcript (text_of_line d.types line ∷ []))
+
+  said_with_objects : (w : World) (os : Objects) (line : Line) → said d (with_objects (fronted front w) os) line ≡ fronted front (said d (with_objects w os) line)
+  said_with_objects w os line = said_in_front (with_objects w os) line
+
+  abbrev family : World × Bool → World × Bool
+  family done = (fronted front done.0, done.1)
+
+  abbrev remaining : Left → Left
+  remaining l = record l { world = fronted front l.world }
+
+  ruleset parts = (mapped_then, mapped_if, mapped_cond, said_in_front, said_with_objects)
+
+  raises : (w : World) (id slot : ℕ) → raising (fronted front w) id slot ≡ mapped started (raising w id slot)
+  unfolding raising
+  raises w id slot = simp (raising, parts)
+
+  writes : (w : World) (id slot : ℕ) (s : Spec) (v : Value) → written d (fronted front w) id slot s v ≡ mapped started (written d w id slot s v)
+  unfolding written
+  writes w id slot s v = simp (written, parts, raises)
+
+  sets_one : (w : World) (id slot : ℕ) (v : Value) → setting d (fronted front w) id slot v ≡ mapped started (setting d w id slot v)
+  unfolding setting
+  sets_one w id slot v = simp (setting, parts, writes)
+
+  -- ** emissions
+
+  notifies : (w : World) (id slot : ℕ) → notifying d (fronted front w) id slot ≡ mapped started (notifying d w id slot)
+  unfolding notifying
+  notifies w id slot = simp (notifying, parts)
+
+  begins_emission : (w : World) (e : Emission) → beginning_emission d (fronted front w) e ≡ mapped started (beginning_emission d w e)
+  unfolding beginning_emission
+  begins_emission w e = simp (beginning_emission, parts)
+
+  begins_program : (w : World) (number : ℕ) (args : List Value) → beginning_program d (fronted front w) number args ≡ mapped started (beginning_program d w number args)
+  unfolding beginning_program
+  begins_program w number args = simp (beginning_program, parts)
+
+  runs_before : (w : World) (number : ℕ) (args : List Value) (tasks : List Task) → program_before d (fronted front w) number args tasks ≡ mapped started (program_before d w number args tasks)
+  unfolding program_before
+  runs_before w number args tasks = simp (program_before, parts, mapped_before, begins_program)
+
+  turns : (w : World) (e : Emission) (ts : List Turn) (h : Option Handler) → turn_of d (fronted front w) e ts h ≡ mapped started (turn_of d w e ts h)
+  turns w e ts None = refl
+  turns w e ts (Some h) = simp (parts, runs_before)
+
+  takes : (w : World) (e : Emission) (ts : List Turn) (t : Turn) → taking d (fronted front w) e ts t ≡ mapped started (taking d w e ts t)
+  takes w e ts (class_handler program cleanup) = simp (parts, runs_before)
+  takes w e ts (handler number) = turns w e ts (handler_of number w.handlers)
+  takes w e ts (config.transfer number back) = refl
+
+  collects : (w : World) (e : Emission) (ts : List Turn) (given : Option Value) → collecting d (fronted front w) e ts given ≡ collecting d w e ts given
+  unfolding collecting
+  collects w e ts given = refl
+
+  results : (w : World) (e : Emission) → resulting d (fronted front w) e ≡ resulting d w e
+  unfolding resulting
+  results w e = refl
+
+  -- ** transfers, families, disposal
+
+  sets_by : (w : World) (number target slot : ℕ) (v : Option Value) → set_by (fronted front w) number target slot v ≡ mapped started (set_by w number target slot v)
+  sets_by w number target slot None = refl
+  sets_by w number target slot (Some v) = refl
+
+  carries : (w : World) (b : Binding) (source source_slot target target_slot : ℕ) → carried d (fronted front w) b source source_slot target target_slot ≡ mapped started (carried d w b source source_slot target target_slot)
+  unfolding carried
+  carries w b source source_slot target target_slot = simp (carried, parts, sets_by)
+
+  carries_by : (w : World) (back : Bool) (b : Option Binding) → carried_by d (fronted front w) back b ≡ mapped started (carried_by d w back b)
+  carries_by w back None = refl
+  carries_by w false (Some b) = carries w b b.source b.source_slot b.target b.target_slot
+  carries_by w true (Some b) = carries w b b.target b.target_slot b.source b.source_slot
+
+  adopts_if_room : (w : World) (parent child : ℕ) (refused : Bool) →
+      ◌≡◌ {A = World × Bool} (cond refused (said d (fronted front w) (lines.limit (codes "adopt")), false) (with_family d (fronted front w) parent child, true))
+      (family (cond refused (said d w (lines.limit (codes "adopt")), false) (with_family d w parent child, true)))
+  adopts_if_room w parent child true = ap (λ v. (v, false)) (said_in_front w (lines.limit (codes "adopt")))
+  adopts_if_room w parent child false =
+      ap (λ v. (v, true)) (said_in_front (sunk (with_objects w (updated (with_parent (Some parent)) child (updated (with_child child) parent w.objects))) child) (lines.adopt parent child))
+
+  adopts_one : (w : World) (parent child : ℕ) → adopted d (fronted front w) parent child ≡ mapped family (adopted d w parent child)
+  unfolding adopted
+  adopts_one w parent child = simp (adopted, mapped_then, adopts_if_room)
+
+  orphans_one : (w : World) (child : ℕ) (parent : Option ℕ) → orphaned d (fronted front w) child parent ≡ fronted front (orphaned d w child parent)
+  orphans_one w child None = refl
+  orphans_one w child (Some parent) = simp parts
+
+  closes_open : (w : World) (number : ℕ) (p : Peer) → closed_if_open d (fronted front w) number p ≡ fronted front (closed_if_open d w number p)
+  closes_open w number p = by_open (record w { peers = write no_peer w.peers number (closed_peer p) }) p.state.is_open
+    where
+      by_open : (closed : World) (b : Bool) → cond b (said d (fronted front closed) (lines.close p.name)) (fronted front w) ≡ fronted front (cond b (said d closed (lines.close p.name)) w)
+      by_open closed true = said_in_front closed (lines.close p.name)
+      by_open closed false = refl
+
+  closes : (w : World) (peer : Option ℕ) → closing d peer (fronted front w) ≡ mapped (fronted front) (closing d peer w)
+  unfolding closing
+  closes w None = refl
+  closes w (Some number) = simp (closing, parts, closes_open)
+
+  says_if : (w : World) (first : Bool) (line : Line) → said_if d first (fronted front w) line ≡ fronted front (said_if d first w line)
+  says_if w false line = refl
+  says_if w true line = said_in_front w line
+
+  disposes : (w : World) (id : ℕ) → disposed d (fronted front w) id ≡ mapped (fronted front) (disposed d w id)
+  disposes w id =
+      ap (closing d (peer_of (find w.objects id))) (says_if (without_object d w id) (is_first (find w.objects id)) (lines.dispose id))
+      ∙ closes (said_if d (is_first (find w.objects id)) (without_object d w id) (lines.dispose id)) (peer_of (find w.objects id))
+
+  finalises : (w : World) (id : ℕ) → finalised d (fronted front w) id ≡ mapped (fronted front) (finalised d w id)
+  unfolding finalised
+  finalises w id = simp (finalised, parts, disposes, mapped_before)
+
+  -- ** instructions
+
+  reads_operand : (w : World) (f : Frame) (from : ℕ) → operand_in (fronted front w) f from ≡ operand_in w f from
+  unfolding operand_in
+  reads_operand w f from = refl
+
+  reads_data : (w : World) (f : Frame) (from : Option ℕ) → data_in (fronted front w) f from ≡ data_in w f from
+  unfolding data_in operand_in
+  reads_data w f None = refl
+  reads_data w f (Some from) = refl
+
+  writes_register : (w : World) (to : ℕ) (v : Option Value) (f : Frame) → written_to (fronted front w) to v f ≡ mapped started (written_to w to v f)
+  unfolding written_to
+  writes_register w to v f = simp (written_to, parts)
+
+  moves : (w : World) (f : Frame) (to from : ℕ) → moving (fronted front w) f to from ≡ mapped started (moving w f to from)
+  unfolding moving
+  moves w f to from = simp (moving, parts, writes_register, reads_operand, reads_data)
+
+  reckons : (w : World) (f : Frame) (op : Arithmetic) (to a b : ℕ) → reckoning (fronted front w) f op to a b ≡ mapped started (reckoning w f op to a b)
+  unfolding reckoning
+  reckons w f op to a b = simp (reckoning, parts, writes_register, reads_operand, reads_data)
+
+  compares : (w : World) (f : Frame) (op : Comparison) (to a b : ℕ) → comparing (fronted front w) f op to a b ≡ mapped started (comparing w f op to a b)
+  unfolding comparing
+  compares w f op to a b = simp (comparing, parts, writes_register, reads_operand, reads_data)
+
+  tells_same : (w : World) (f : Frame) (to a b : ℕ) → sameness (fronted front w) f to a b ≡ mapped started (sameness w f to a b)
+  unfolding sameness
+  tells_same w f to a b = simp (sameness, parts, writes_register, reads_operand, reads_data)
+
+  joins_both : (w : World) (f : Frame) (to a b : ℕ) → conjunction (fronted front w) f to a b ≡ mapped started (conjunction w f to a b)
+  unfolding conjunction
+  joins_both w f to a b = simp (conjunction, parts, writes_register, reads_operand, reads_data)
+
+  joins_either : (w : World) (f : Frame) (to a b : ℕ) → disjunction (fronted front w) f to a b ≡ mapped started (disjunction w f to a b)
+  unfolding disjunction
+  joins_either w f to a b = simp (disjunction, parts, writes_register, reads_operand, reads_data)
+
+  negates : (w : World) (f : Frame) (to a : ℕ) → negating (fronted front w) f to a ≡ mapped started (negating w f to a)
+  unfolding negating
+  negates w f to a = simp (negating, parts, writes_register, reads_operand, reads_data)
+
+  joins_within : (w : World) (to : ℕ) (f : Frame) (s : List ℕ) → gives_from (within_bytes d (fronted front w) s) to f ≡ mapped started (gives_from (within_bytes d w s) to f)
+  joins_within w to f s = by_length (nat_lt most_bytes (length s))
+    where
+      by_length : (b : Bool) →
+          gives_from (cond b (said d (fronted front w) (lines.limit (codes "join")), values.text None) (fronted front w, values.text (Some s))) to f
+          ≡ mapped started (gives_from (cond b (said d w (lines.limit (codes "join")), values.text None) (w, values.text (Some s))) to f)
+      by_length true = simp (parts, writes_register)
+      by_length false = simp (parts, writes_register)
+
+  joins : (w : World) (f : Frame) (to a b : ℕ) → joining d (fronted front w) f to a b ≡ mapped started (joining d w f to a b)
+  unfolding joining
+  joins w f to a b = simp (joining, mapped_then, joins_within)
+
+  converts : (w : World) (f : Frame) (to a : ℕ) (kind : Kind) → converting d (fronted front w) f to a kind ≡ mapped started (converting d w f to a kind)
+  unfolding converting
+  converts w f to a kind = simp (converting, parts, writes_register, reads_operand, reads_data)
+
+  finds_slot : (w : World) (id : ℕ) (name : List ℕ) → slot_at d (fronted front w) id name ≡ slot_at d w id name
+  unfolding slot_at
+  finds_slot w id name = refl
+
+  gets : (w : World) (f : Frame) (to object : ℕ) (name : List ℕ) → getting d (fronted front w) f to object name ≡ mapped started (getting d w f to object name)
+  unfolding getting
+  gets w f to object name = simp (getting, parts, writes_register, reads_operand, reads_data, finds_slot)
+
+  sets_from : (w : World) (f : Frame) (id slot from : ℕ) → set_from (fronted front w) f id slot from ≡ mapped started (set_from w f id slot from)
+  unfolding set_from
+  sets_from w f id slot from = simp (set_from, parts, writes_register, reads_operand, reads_data)
+
+  assigns : (w : World) (f : Frame) (object : ℕ) (name : List ℕ) (from : ℕ) → assigning d (fronted front w) f object name from ≡ mapped started (assigning d w f object name from)
+  unfolding assigning
+  assigns w f object name from = simp (assigning, parts, writes_register, reads_operand, reads_data, finds_slot, sets_from)
+
+  goes_on_after : (f : Frame) (a : Answer Started) → then_goes_on f (mapped started a) ≡ mapped started (then_goes_on f a)
+  unfolding then_goes_on
+  goes_on_after f (Ok s) = refl
+  goes_on_after f (Err arm) = refl
+
+  tells_of : (w : World) (f : Frame) (object : ℕ) (name : List ℕ) → telling d (fronted front w) f object name ≡ mapped started (telling d w f object name)
+  unfolding telling
+  tells_of w f object name = simp (telling, parts, writes_register, reads_operand, reads_data, finds_slot, raises, goes_on_after)
+
+  names : (w : World) (f : Frame) (to : ℕ) (id : List ℕ) → naming d (fronted front w) f to id ≡ mapped started (naming d w f to id)
+  unfolding naming
+  names w f to id = simp (naming, parts, writes_register, reads_operand, reads_data)
+
+  -- ** constructions
+
+  said_with_object : (w : World) (o : Object) (line : Line) → said d (with_object d (fronted front w) o) line ≡ fronted front (said d (with_object d w o) line)
+  said_with_object w o line = said_in_front (with_object d w o) line
+
+  makes_object : (w : World) (place : ℕ) (peer : Option ℕ) (held : Bool) → making d (fronted front w) place peer held ≡ mapped started (making d w place peer held)
+  unfolding making
+  makes_object w place peer held = simp (making, parts, said_with_object)
+
+  makes_new : (w : World) (f : Frame) (to place : ℕ) (p : Place) → made_new d (fronted front w) f to place p ≡ mapped started (made_new d w f to place p)
+  unfolding made_new
+  makes_new w f to place p = simp (made_new, parts, mapped_before, makes_object)
+
+  creates : (w : World) (rest : List Task) (f : Frame) (to : ℕ) (id : List ℕ) → creating d (fronted front w) rest f to id ≡ mapped started (creating d w rest f to id)
+  unfolding creating
+  creates w rest f to id = simp (creating, parts, writes_register, reads_operand, reads_data, makes_new)
+
+  sinks : (w : World) (f : Frame) (object : ℕ) → sinking (fronted front w) f object ≡ mapped started (sinking w f object)
+  unfolding sinking
+  sinks w f object = simp (sinking, parts, writes_register, reads_operand, reads_data)
+
+  orphans_of : (w : World) (f : Frame) (object : ℕ) → orphaning d (fronted front w) f object ≡ mapped started (orphaning d w f object)
+  unfolding orphaning
+  orphans_of w f object = simp (orphaning, parts, writes_register, reads_operand, reads_data, orphans_one)
+
+  disposes_once : (w : World) (id : ℕ) → disposed_once d (fronted front w) id ≡ mapped (fronted front) (disposed_once d w id)
+  disposes_once w id = simp (parts, disposes)
+
+  disposes_of : (w : World) (f : Frame) (object : ℕ) → disposing d (fronted front w) f object ≡ mapped started (disposing d w f object)
+  unfolding disposing
+  disposes_of w f object = simp (disposing, mapped_then, reads_operand, disposes_once, mapped_before)
+
+  adopts_of : (w : World) (f : Frame) (to parent child : ℕ) → adopting d (fronted front w) f to parent child ≡ mapped started (adopting d w f to parent child)
+  unfolding adopting
+  adopts_of w f to parent child = simp (adopting, parts, writes_register, reads_operand, reads_data, adopts_one, mapped_before)
+
+  freezes : (w : World) (f : Frame) (object : ℕ) → freezing (fronted front w) f object ≡ mapped started (freezing w f object)
+  unfolding freezing
+  freezes w f object = simp (freezing, parts, writes_register, reads_operand, reads_data)
+
+  unfreezes : (w : World) (f : Frame) (object : ℕ) → unfreezing (fronted front w) f object ≡ mapped started (unfreezing w f object)
+  unfolding unfreezing
+  unfreezes w f object = simp (unfreezing, parts, writes_register, reads_operand, reads_data)
+
+  -- ** signals, sources and peers
+
+  finds_signal : (w : World) (id : ℕ) (name : List ℕ) → signal_in d (fronted front w) id name ≡ signal_in d w id name
+  unfolding signal_in
+  finds_signal w id name = refl
+
+  finds_emitted : (w : World) (id : ℕ) (name : List ℕ) → signal_to_emit d (fronted front w) id name ≡ signal_to_emit d w id name
+  unfolding signal_to_emit
+  finds_emitted w id name = simp (signal_to_emit, parts, finds_signal)
+
+  finds_detail : (w : World) (id number : ℕ) (detail : Option (List ℕ)) → detail_in d (fronted front w) id number detail ≡ detail_in d w id number detail
+  unfolding detail_in
+  finds_detail w id number detail = refl
+
+  emits : (w : World) (f : Frame) (into : Option ℕ) (object : ℕ) (name : List ℕ) (detail : Option (List ℕ)) (args : List ℕ) → emitting d (fronted front w) f into object name detail args ≡ mapped started (emitting d w f into object name detail args)
+  unfolding emitting
+  emits w f into object name detail args = simp (emitting, parts, writes_register, reads_operand, reads_data, finds_emitted, finds_detail)
+
+  tells_done : (w v : World) (to : ℕ) (f : Frame) (b : Bool) (line : Line) →
+      tells (cond b (fronted front v, true) (said d (fronted front w) line, false)) to f ≡ mapped started (tells (cond b (v, true) (said d w line, false)) to f)
+  tells_done w v to f true line = writes_register v to (Some (values.bool true)) f
+  tells_done w v to f false line = simp (parts, writes_register)
+
+  connects_one : (w : World) (to_come to : ℕ) (f : Frame) (h : Handler) → tells (connected d (fronted front w) to_come h) to f ≡ mapped started (tells (connected d w to_come h) to f)
+  connects_one w to_come to f h = by_late (is_too_late w.objects h.object h.arg)
+    where
+      by_late : (late : Bool) →
+          tells (cond late (fronted front w, false)
+          (cond (has_room_for_handler d w to_come h.object h.signal) (fronted front (with_handler w h), true) (said d (fronted front w) (lines.limit (codes "connect")), false))) to f
+          ≡ mapped started (tells (cond late (w, false) (cond (has_room_for_handler d w to_come h.object h.signal) (with_handler w h, true) (said d w (lines.limit (codes "connect")), false))) to f)
+      by_late true = writes_register w to (Some (values.bool false)) f
+      by_late false = tells_done w (with_handler w h) to f (has_room_for_handler d w to_come h.object h.signal) (lines.limit (codes "connect"))
+
+  connects_of : (w : World) (rest : List Task) (f : Frame) (to object : ℕ) (name : List ℕ) (detail : Option (List ℕ)) (program : List ℕ) (after swapped : Bool) (with : Option ℕ) → connecting d (fronted front w) rest f to object name detail program after swapped with ≡ mapped started (connecting d w rest f to object name detail program after swapped with)
+  unfolding connecting
+  connects_of w rest f to object name detail program after swapped with = simp (connecting, mapped_then, reads_operand, reads_data, finds_signal, finds_detail, connects_one)
+
+  disconnects : (w : World) (f : Frame) (object : ℕ) (program : List ℕ) → on_handlers d (fronted front w) f object program disconnected ≡ mapped started (on_handlers d w f object program disconnected)
+  unfolding on_handlers
+  disconnects w f object program = simp (on_handlers, parts, writes_register, reads_operand, reads_data)
+
+  blocks_of : (w : World) (f : Frame) (object : ℕ) (program : List ℕ) → on_handlers d (fronted front w) f object program (with_handlers_on blocked) ≡ mapped started (on_handlers d w f object program (with_handlers_on blocked))
+  unfolding on_handlers
+  blocks_of w f object program = simp (on_handlers, parts, writes_register, reads_operand, reads_data)
+
+  unblocks_of : (w : World) (f : Frame) (object : ℕ) (program : List ℕ) → on_handlers d (fronted front w) f object program (with_handlers_on unblocked) ≡ mapped started (on_handlers d w f object program (with_handlers_on unblocked))
+  unfolding on_handlers
+  unblocks_of w f object program = simp (on_handlers, parts, writes_register, reads_operand, reads_data)
+
+  attaches_one : (w : World) (word : List ℕ) (program : ℕ) (priority : ℤ) (interval arg : Option ℕ) (to : ℕ) (f : Frame) →
+      tells (attached_to d (fronted front w) word program priority interval arg) to f ≡ mapped started (tells (attached_to d w word program priority interval arg) to f)
+  attaches_one w word program priority interval arg to f =
+      tells_done w (with_source w program priority interval arg) to f (sources.has_room w.sources w.last_source) (lines.limit word)
+
+  attaches : (w : World) (f : Frame) (word : List ℕ) (to : ℕ) (program : List ℕ) (priority : ℤ) (interval with : Option ℕ) → attaching d (fronted front w) f word to program priority interval with ≡ mapped started (attaching d w f word to program priority interval with)
+  unfolding attaching
+  attaches w f word to program priority interval with = simp (attaching, mapped_then, reads_data, attaches_one)
+
+  removes : (w : World) (f : Frame) (program : List ℕ) → removing d (fronted front w) f program ≡ mapped started (removing d w f program)
+  unfolding removing
+  removes w f program = simp (removing, parts, writes_register, reads_operand, reads_data)
+
+  calls_of : (w : World) (f : Frame) (to object : ℕ) (name args : List ℕ) → calling d (fronted front w) f to object name args ≡ mapped started (calling d w f to object name args)
+  unfolding calling
+  calls_of w f to object name args = simp (calling, parts, writes_register, reads_operand, reads_data)
+
+  jumps : (w : World) (f : Frame) (to : ℕ) → jumping d (fronted front w) f to ≡ mapped started (jumping d w f to)
+  unfolding jumping
+  jumps w f to = simp (jumping, parts, writes_register, reads_operand, reads_data)
+
+  branches : (w : World) (f : Frame) (on then_to else_to : ℕ) → branching d (fronted front w) f on then_to else_to ≡ mapped started (branching d w f on then_to else_to)
+  unfolding branching
+  branches w f on then_to else_to = simp (branching, parts, writes_register, reads_operand, reads_data, jumps)
+
+  branches_null : (w : World) (f : Frame) (on then_to else_to : ℕ) → branching_null d (fronted front w) f on then_to else_to ≡ mapped started (branching_null d w f on then_to else_to)
+  unfolding branching_null
+  branches_null w f on then_to else_to = simp (branching_null, parts, writes_register, reads_operand, reads_data, jumps)
+
+  instructs : (w : World) (rest : List Task) (f : Frame) (i : Instruction) → instruction d (fronted front w) rest f i ≡ mapped started (instruction d w rest f i)
+  instructs w rest f (words.const to kind v) = writes_register w to (Some v) f
+  instructs w rest f (words.move to from) = moves w f to from
+  instructs w rest f (words.clear to) = writes_register w to None f
+  instructs w rest f (words.arithmetic op to a b) = reckons w f op to a b
+  instructs w rest f (words.compare op to a b) = compares w f op to a b
+  instructs w rest f (words.same to a b) = tells_same w f to a b
+  instructs w rest f (words.negate to a) = negates w f to a
+  instructs w rest f (words.both to a b) = joins_both w f to a b
+  instructs w rest f (words.either to a b) = joins_either w f to a b
+  instructs w rest f (words.join to a b) = joins w f to a b
+  instructs w rest f (words.convert to a kind) = converts w f to a kind
+  instructs w rest f (words.get to object name) = gets w f to object name
+  instructs w rest f (words.set object name from) = assigns w f object name from
+  instructs w rest f (words.object to id) = names w f to id
+  instructs w rest f (words.new to id) = creates w rest f to id
+  instructs w rest f (words.sink object) = sinks w f object
+  instructs w rest f (words.orphan object) = orphans_of w f object
+  instructs w rest f (words.dispose object) = disposes_of w f object
+  instructs w rest f (words.adopt to parent child) = adopts_of w f to parent child
+  instructs w rest f (words.freeze object) = freezes w f object
+  instructs w rest f (words.thaw object) = unfreezes w f object
+  instructs w rest f (words.emit into object name detail args) = emits w f into object name detail args
+  instructs w rest f (words.notify object name) = tells_of w f object name
+  instructs w rest f (words.connect to object name detail program after swapped with) = connects_of w rest f to object name detail program after swapped with
+  instructs w rest f (words.disconnect object program) = disconnects w f object program
+  instructs w rest f (words.block object program) = blocks_of w f object program
+  instructs w rest f (words.unblock object program) = unblocks_of w f object program
+  instructs w rest f words.stop = refl
+  instructs w rest f (words.unbind name) = simp parts
+  instructs w rest f (words.idle to program priority with) = attaches w f (codes "idle") to program priority None with
+  instructs w rest f (words.timeout to program priority interval with) = attaches w f (codes "timeout") to program priority (Some interval) with
+  instructs w rest f (words.remove program) = removes w f program
+  instructs w rest f (words.call to object name args) = calls_of w f to object name args
+  instructs w rest f (words.jump to) = jumps w f to
+  instructs w rest f (words.branch on then_to else_to) = branches w f on then_to else_to
+  instructs w rest f (words.branch_null on then_to else_to) = branches_null w f on then_to else_to
+  instructs w rest f (words.return from) = refl
+
+  -- ** what comes down
+
+  gives_emission : (w : World) (e : Emission) (ts : List Turn) (rest : List Task) (given : Option Value) → down_to_emission d (fronted front w) e ts rest given ≡ mapped remaining (down_to_emission d w e ts rest given)
+  unfolding down_to_emission
+  gives_emission w e ts rest given = simp (down_to_emission, parts, collects)
+
+  keeps_source : (w : World) (source : ℕ) (given : Option Value) → kept_source (fronted front w) source given ≡ mapped (fronted front) (kept_source w source given)
+  keeps_source w source (Some (values.bool keep)) = refl
+  keeps_source w source None = refl
+  keeps_source w source (Some (values.whole kind n)) = refl
+  keeps_source w source (Some (values.text s)) = refl
+  keeps_source w source (Some (values.enum type n)) = refl
+  keeps_source w source (Some (values.flags type bits)) = refl
+  keeps_source w source (Some (values.object o)) = refl
+
+  gives_source : (w : World) (source : ℕ) (rest : List Task) (given : Option Value) → down_to_source (fronted front w) source rest given ≡ mapped remaining (down_to_source w source rest given)
+  unfolding down_to_source
+  gives_source w source rest given = simp (down_to_source, parts, keeps_source, mapped_before)
+
+  leaves_untaken : (w : World) (rest : List Task) (given : Option Value) → untaken (fronted front w) rest given ≡ mapped remaining (untaken w rest given)
+  leaves_untaken w rest None = refl
+  leaves_untaken w rest (Some v) = refl
+
+  gives_down : (w : World) (rest : List Task) (given : Option Value) → given_down d (fronted front w) rest given ≡ mapped remaining (given_down d w rest given)
+  gives_down w [] given = leaves_untaken w [] given
+  gives_down w (Setting object slot v ∷ rest) given = leaves_untaken w (Setting object slot v ∷ rest) given
+  gives_down w (Notifying object slot ∷ rest) given = leaves_untaken w (Notifying object slot ∷ rest) given
+  gives_down w (Beginning emission ∷ rest) given = leaves_untaken w (Beginning emission ∷ rest) given
+  gives_down w (Emitting e turns ∷ rest) given = gives_emission w e turns rest given
+  gives_down w (Transferring number back ∷ rest) given = leaves_untaken w (Transferring number back ∷ rest) given
+  gives_down w (Unsetting number ∷ rest) given = leaves_untaken w (Unsetting number ∷ rest) given
+  gives_down w (Thawing object slots ∷ rest) given = leaves_untaken w (Thawing object slots ∷ rest) given
+  gives_down w (Running frame ∷ rest) given = leaves_untaken w (Running frame ∷ rest) given
+  gives_down w (Answering source ∷ rest) given = gives_source w source rest given
+  gives_down w (Calling call ∷ rest) given = leaves_untaken w (Calling call ∷ rest) given
+  gives_down w (Constructing object steps held ∷ rest) given = leaves_untaken w (Constructing object steps held ∷ rest) given
+  gives_down w (Building items ∷ rest) given = leaves_untaken w (Building items ∷ rest) given
+  gives_down w (Carrying request ∷ rest) given = leaves_untaken w (Carrying request ∷ rest) given
+  gives_down w (Due source ∷ rest) given = leaves_untaken w (Due source ∷ rest) given
+
+  tells_result : (w : World) (by_event : Bool) (v : Option Value) → told d (fronted front w) by_event v ≡ fronted front (told d w by_event v)
+  tells_result w by_event None = refl
+  tells_result w false (Some v) = refl
+  tells_result w true (Some v) = ap (λ (x : World). record x { result = Some v }) (said_in_front w (lines.result v))
+
+  ends_emission : (w : World) (e : Emission) (rest : List Task) → ending d (fronted front w) e rest ≡ mapped remaining (ending d w e rest)
+  unfolding ending
+  ends_emission w e rest = simp (ending, parts, results, tells_result)
+
+  says_returned : (w : World) (f : Frame) (from : Option ℕ) → returned d (fronted front w) f from ≡ returned d w f from
+  unfolding returned
+  says_returned w f from = refl
+
+  returns : (w : World) (f : Frame) (rest : List Task) (from : Option ℕ) → returning d (fronted front w) f rest from ≡ mapped remaining (returning d w f rest from)
+  unfolding returning
+  returns w f rest from = simp (returning, parts, says_returned, gives_down)
+
+  puts_in_front : (rest : List Task) (a : Answer Started) → in_front rest (mapped started a) ≡ mapped remaining (in_front rest a)
+  unfolding in_front
+  puts_in_front rest (Ok s) = refl
+  puts_in_front rest (Err arm) = refl
+
+  begins_in_front : (w : World) (rest : List Task) (f : Frame) (i : Instruction) → in_front rest (instruction d (fronted front w) rest f i) ≡ mapped remaining (in_front rest (instruction d w rest f i))
+  begins_in_front w rest f i = ap (in_front rest) (instructs w rest f i) ∙ puts_in_front rest (instruction d w rest f i)
+
+  instructs_all : (w : World) (rest : List Task) (f : Frame) (i : Instruction) → instructed d (fronted front w) rest f i ≡ mapped remaining (instructed d w rest f i)
+  instructs_all w rest f (words.const to kind v) = begins_in_front w rest f (words.const to kind v)
+  instructs_all w rest f (words.move to from) = begins_in_front w rest f (words.move to from)
+  instructs_all w rest f (words.clear to) = begins_in_front w rest f (words.clear to)
+  instructs_all w rest f (words.arithmetic op to a b) = begins_in_front w rest f (words.arithmetic op to a b)
+  instructs_all w rest f (words.compare op to a b) = begins_in_front w rest f (words.compare op to a b)
+  instructs_all w rest f (words.same to a b) = begins_in_front w rest f (words.same to a b)
+  instructs_all w rest f (words.negate to a) = begins_in_front w rest f (words.negate to a)
+  instructs_all w rest f (words.both to a b) = begins_in_front w rest f (words.both to a b)
+  instructs_all w rest f (words.either to a b) = begins_in_front w rest f (words.either to a b)
+  instructs_all w rest f (words.join to a b) = begins_in_front w rest f (words.join to a b)
+  instructs_all w rest f (words.convert to a kind) = begins_in_front w rest f (words.convert to a kind)
+  instructs_all w rest f (words.get to object name) = begins_in_front w rest f (words.get to object name)
+  instructs_all w rest f (words.set object name from) = begins_in_front w rest f (words.set object name from)
+  instructs_all w rest f (words.object to id) = begins_in_front w rest f (words.object to id)
+  instructs_all w rest f (words.new to id) = begins_in_front w rest f (words.new to id)
+  instructs_all w rest f (words.sink object) = begins_in_front w rest f (words.sink object)
+  instructs_all w rest f (words.orphan object) = begins_in_front w rest f (words.orphan object)
+  instructs_all w rest f (words.dispose object) = begins_in_front w rest f (words.dispose object)
+  instructs_all w rest f (words.adopt to parent child) = begins_in_front w rest f (words.adopt to parent child)
+  instructs_all w rest f (words.freeze object) = begins_in_front w rest f (words.freeze object)
+  instructs_all w rest f (words.thaw object) = begins_in_front w rest f (words.thaw object)
+  instructs_all w rest f (words.emit into object name detail args) = begins_in_front w rest f (words.emit into object name detail args)
+  instructs_all w rest f (words.notify object name) = begins_in_front w rest f (words.notify object name)
+  instructs_all w rest f (words.connect to object name detail program after swapped with) = begins_in_front w rest f (words.connect to object name detail program after swapped with)
+  instructs_all w rest f (words.disconnect object program) = begins_in_front w rest f (words.disconnect object program)
+  instructs_all w rest f (words.block object program) = begins_in_front w rest f (words.block object program)
+  instructs_all w rest f (words.unblock object program) = begins_in_front w rest f (words.unblock object program)
+  instructs_all w rest f words.stop = refl
+  instructs_all w rest f (words.unbind name) = begins_in_front w rest f (words.unbind name)
+  instructs_all w rest f (words.idle to program priority with) = begins_in_front w rest f (words.idle to program priority with)
+  instructs_all w rest f (words.timeout to program priority interval with) = begins_in_front w rest f (words.timeout to program priority interval with)
+  instructs_all w rest f (words.remove program) = begins_in_front w rest f (words.remove program)
+  instructs_all w rest f (words.call to object name args) = begins_in_front w rest f (words.call to object name args)
+  instructs_all w rest f (words.jump to) = begins_in_front w rest f (words.jump to)
+  instructs_all w rest f (words.branch on then_to else_to) = begins_in_front w rest f (words.branch on then_to else_to)
+  instructs_all w rest f (words.branch_null on then_to else_to) = begins_in_front w rest f (words.branch_null on then_to else_to)
+  instructs_all w rest f (words.return from) = returns w f rest from
+
+  runs_on : (w : World) (rest : List Task) (f : Frame) → running d (fronted front w) rest f ≡ mapped remaining (running d w rest f)
+  unfolding running
+  runs_on w rest f = simp (running, parts, instructs_all)
+
+  -- ** peers
+
+  left_with_one : (w : World) (rest : List Task) (to : ℕ) (v : Value) → left_with (fronted front w) rest to v ≡ mapped remaining (left_with w rest to v)
+  unfolding left_with
+  left_with_one w rest to v = simp (left_with, mapped_then)
+
+  says_call : (w : World) (c : Call) (rest : List Task) (reply : Reply) (p : Peer) (m : Method) →
+      left_with (said d (with_peer_state (fronted front w) c.peer p reply.state) (call_line p m c.args reply.answer)) rest c.to (or_zero d m.result reply.answer)
+      ≡ mapped remaining (left_with (said d (with_peer_state w c.peer p reply.state) (call_line p m c.args reply.answer)) rest c.to (or_zero d m.result reply.answer))
+  says_call w c rest reply p m =
+      ap (λ v. left_with v rest c.to (or_zero d m.result reply.answer)) (said_in_front (with_peer_state w c.peer p reply.state) (call_line p m c.args reply.answer))
+      ∙ left_with_one (said d (with_peer_state w c.peer p reply.state) (call_line p m c.args reply.answer)) rest c.to (or_zero d m.result reply.answer)
+
+  says_closed : (w : World) (c : Call) (rest : List Task) (p : Peer) (m : Method) →
+      left_with (said d (fronted front w) (lines.closed p.name m.name c.args)) rest c.to (zero_value d.types m.result)
+      ≡ mapped remaining (left_with (said d w (lines.closed p.name m.name c.args)) rest c.to (zero_value d.types m.result))
+  says_closed w c rest p m =
+      ap (λ v. left_with v rest c.to (zero_value d.types m.result)) (said_in_front w (lines.closed p.name m.name c.args))
+      ∙ left_with_one (said d w (lines.closed p.name m.name c.args)) rest c.to (zero_value d.types m.result)
+
+  is_called_with : (w : World) (c : Call) (rest : List Task) (reply : Reply) → called d (fronted front w) c rest reply ≡ mapped remaining (called d w c rest reply)
+  unfolding called with_method
+  is_called_with w c rest reply = simp (called, mapped_then, with_method, says_call)
+
+  is_uncalled : (w : World) (c : Call) (rest : List Task) → uncalled d (fronted front w) c rest ≡ mapped remaining (uncalled d w c rest)
+  unfolding uncalled with_method
+  is_uncalled w c rest = simp (uncalled, mapped_then, with_method, says_closed)
+
+  is_replied : (w : World) (c : Call) (rest : List Task) (reply : Option Reply) → replied d (fronted front w) c rest reply ≡ mapped remaining (replied d w c rest reply)
+  is_replied w c rest None = refl
+  is_replied w c rest (Some reply) = is_called_with w c rest reply
+
+  calls_on : (w : World) (c : Call) (rest : List Task) (reply : Option Reply) → calling_on d (fronted front w) c rest reply ≡ mapped remaining (calling_on d w c rest reply)
+  calls_on w c rest reply = simp (mapped_cond, is_replied, is_uncalled)
+
+  -- ** constructions and the build
+
+  makes_set : (w : World) (id slot : ℕ) (v : Value) (tasks : List Task) → making_set d (fronted front w) id slot v tasks ≡ mapped started (making_set d w id slot v tasks)
+  unfolding making_set
+  makes_set w id slot v tasks = simp (making_set, parts)
+
+  is_constructed : (w : World) (id : ℕ) (held : Bool) → constructed (fronted front w) id held ≡ mapped started (constructed w id held)
+  unfolding constructed
+  is_constructed w id false = refl
+  is_constructed w id true = simp (constructed, parts)
+
+  thaws_made : (w : World) (id : ℕ) (steps : List Making) (held : Bool) → thawing_made (fronted front w) id steps held ≡ mapped started (thawing_made w id steps held)
+  unfolding thawing_made
+  thaws_made w id steps held = simp (thawing_made, parts)
+
+  constructs : (w : World) (id : ℕ) (steps : List Making) (held : Bool) → constructing d (fronted front w) id steps held ≡ mapped started (constructing d w id steps held)
+  constructs w id [] held = is_constructed w id held
+  constructs w id (sets slot v ∷ steps) held = makes_set w id slot v (Constructing id steps held ∷ [])
+  constructs w id (runs program ∷ steps) held = runs_before w program (values.object (Some id) ∷ []) (Constructing id steps held ∷ [])
+  constructs w id (thaws ∷ steps) held = thaws_made w id steps held
+
+  builds_object : (w : World) (place : ℕ) (items : List Item) → building_object d (fronted front w) place items ≡ mapped started (building_object d w place items)
+  unfolding building_object
+  builds_object w place items = simp (building_object, parts, makes_object, mapped_before)
+
+  builds_child : (w : World) (place : ℕ) (items : List Item) → building_child d (fronted front w) place items ≡ mapped started (building_child d w place items)
+  unfolding building_child
+  builds_child w place items = simp (building_child, mapped_then, adopts_one, mapped_before)
+
+  sets_forward : (w : World) (id slot to : ℕ) (items : List Item) → set_forward (fronted front w) id slot to items ≡ mapped started (set_forward w id slot to items)
+  unfolding set_forward
+  sets_forward w id slot to items = simp (set_forward, parts)
+
+  builds_forward : (w : World) (place slot to : ℕ) (items : List Item) → building_forward d (fronted front w) place slot to items ≡ mapped started (building_forward d w place slot to items)
+  unfolding building_forward
+  builds_forward w place slot to items = simp (building_forward, parts, sets_forward)
+
+  builds_binding : (w : World) (number : ℕ) (items : List Item) → building_binding d (fronted front w) number items ≡ mapped started (building_binding d w number items)
+  unfolding building_binding
+  builds_binding w number items = simp (building_binding, parts)
+
+  finds_data : (w : World) (place : Option ℕ) → held_data (fronted front w) place ≡ held_data w place
+  unfolding held_data
+  finds_data w None = refl
+  finds_data w (Some place) = refl
+
+  builds_handler : (w : World) (place number : ℕ) (items : List Item) → building_handler d (fronted front w) place number items ≡ mapped started (building_handler d w place number items)
+  unfolding building_handler
+  builds_handler w place number items = simp (building_handler, parts, finds_data)
+
+  builds : (w : World) (items : List Item) → building d (fronted front w) items ≡ mapped started (building d w items)
+  builds w [] = refl
+  builds w (makes place ∷ items) = builds_object w place items
+  builds w (adopts place ∷ items) = builds_child w place items
+  builds w (forwards place slot to ∷ items) = builds_forward w place slot to items
+  builds w (binds number ∷ items) = builds_binding w number items
+  builds w (connects place number ∷ items) = builds_handler w place number items
+
+  -- ** requests and sources
+
+  finds_given : (w : World) (given : Given) → given_value (fronted front w) given ≡ given_value w given
+  finds_given w (words.value v) = refl
+  finds_given w (words.named to) = refl
+
+  finds_givens : (w : World) (given : List Given) → given_values (fronted front w) given ≡ given_values w given
+  unfolding given_values
+  finds_givens w [] = refl
+  finds_givens w (g ∷ gs) = simp (given_values, finds_given, finds_givens w gs)
+
+  sets_given : (w : World) (id slot : ℕ) (given : Given) → set_given (fronted front w) id slot given ≡ mapped started (set_given w id slot given)
+  unfolding set_given
+  sets_given w id slot given = simp (set_given, parts, finds_given)
+
+  carries_set : (w : World) (place slot : ℕ) (given : Given) → carrying_set d (fronted front w) place slot given ≡ mapped started (carrying_set d w place slot given)
+  unfolding carrying_set
+  carries_set w place slot given = simp (carrying_set, parts, sets_given)
+
+  says_answer : (w : World) (line : Line) (v : Value) → answered (said d (fronted front w) line) v ≡ fronted front (answered (said d w line) v)
+  says_answer w line v = ap (λ x. answered x v) (said_in_front w line)
+
+  says_held : (w : World) (line : Line) (place : ℕ) (held : Held) → with_held (said d (fronted front w) line) place held ≡ fronted front (with_held (said d w line) place held)
+  says_held w line place held = ap (λ x. with_held x place held) (said_in_front w line)
+
+  carries_get : (w : World) (place slot : ℕ) → carrying_get d (fronted front w) place slot ≡ mapped started (carrying_get d w place slot)
+  unfolding carrying_get
+  carries_get w place slot = simp (carrying_get, mapped_then, mapped_if, says_answer)
+
+  carries_emit : (w : World) (place signal : ℕ) (args : List Given) (detail : Option (List ℕ)) → carrying_emit d (fronted front w) place signal args detail ≡ mapped started (carrying_emit d w place signal args detail)
+  unfolding carrying_emit
+  carries_emit w place signal args detail = simp (carrying_emit, parts, finds_detail, finds_givens)
+
+  carries_release : (w : World) (place : ℕ) → carrying_release d (fronted front w) place ≡ mapped started (carrying_release d w place)
+  unfolding carrying_release
+  carries_release w place = simp (carrying_release, mapped_then, says_held)
+
+  carries_request : (w : World) (r : Request) → carrying d (fronted front w) r ≡ mapped started (carrying d w r)
+  carries_request w (config.set place slot given) = carries_set w place slot given
+  carries_request w (config.get place slot) = carries_get w place slot
+  carries_request w (config.emit place signal args detail) = carries_emit w place signal args detail
+  carries_request w (config.release place) = carries_release w place
+
+  runs_source : (w : World) (source : ℕ) → sourcing d (fronted front w) source ≡ mapped started (sourcing d w source)
+  unfolding sourcing
+  runs_source w source = simp (sourcing, parts, runs_before)
+
+  thaws_rest : (w : World) (id : ℕ) (slots : List ℕ) → thawing (fronted front w) id slots ≡ mapped started (thawing w id slots)
+  thaws_rest w id [] = refl
+  thaws_rest w id (slot ∷ slots) = refl
+
+  -- ** steps
+
+  not_counted : (rest : List Task) (n : ℕ) (a b : Answer Started) → a ≡ mapped started b → uncounted rest n a ≡ mapped (fronted_at front) (uncounted rest n b)
+  not_counted rest n a (Ok s) same = ap (uncounted rest n) same
+  not_counted rest n a (Err arm) same = ap (uncounted rest n) same
+
+  is_counted : (rest : List Task) (n : ℕ) (a b : Answer Started) → a ≡ mapped started b → counted rest n a ≡ mapped (fronted_at front) (counted rest n b)
+  is_counted rest n a b same =
+      ap (only_if (nat_lt n most_steps) arms.Steps) (not_counted rest (suc n) a b same)
+      ∙ sym (mapped_if (fronted_at front) (nat_lt n most_steps) arms.Steps (uncounted rest (suc n) b))
+
+  leaves_agenda : (n : ℕ) (a b : Answer Left) → a ≡ mapped remaining b → left n a ≡ mapped (fronted_at front) (left n b)
+  unfolding left
+  leaves_agenda n a (Ok l) same = ap (left n) same
+  leaves_agenda n a (Err arm) same = ap (left n) same
+
+  leaves_counted : (n : ℕ) (a b : Answer Left) → a ≡ mapped remaining b → counted_left n a ≡ mapped (fronted_at front) (counted_left n b)
+  leaves_counted n a b same =
+      ap (only_if (nat_lt n most_steps) arms.Steps) (leaves_agenda (suc n) a b same)
+      ∙ sym (mapped_if (fronted_at front) (nat_lt n most_steps) arms.Steps (left (suc n) b))
+
+  settles_floating : (w : World) (ids : List ℕ) → settling (fronted front w) ids ≡ fronted front (settling w ids)
+  settles_floating w [] = refl
+  settles_floating w (id ∷ ids) = refl
+
+  is_finalised : (w : World) (id : ℕ) → finalising d (fronted front w) id ≡ mapped started (finalising d w id)
+  unfolding finalising
+  is_finalised w id = simp (finalising, parts, finalises, mapped_before)
+
+  acts : (w : World) (reply : Option Reply) (tasks : List Task) (n : ℕ) → act d (fronted front w) reply tasks n ≡ mapped (fronted_at front) (act d w reply tasks n)
+  acts w reply [] n = ap (λ v. Ok (record { world = v; agenda = []; counted = n })) (settles_floating w w.floating)
+  acts w reply (Setting id slot v ∷ rest) n = not_counted rest n (setting d (fronted front w) id slot v) (setting d w id slot v) (sets_one w id slot v)
+  acts w reply (Notifying id slot ∷ rest) n = is_counted rest n (notifying d (fronted front w) id slot) (notifying d w id slot) (notifies w id slot)
+  acts w reply (Beginning e ∷ rest) n = is_counted rest n (beginning_emission d (fronted front w) e) (beginning_emission d w e) (begins_emission w e)
+  acts w reply (Emitting e [] ∷ rest) n = leaves_agenda n (ending d (fronted front w) e rest) (ending d w e rest) (ends_emission w e rest)
+  acts w reply (Emitting e (t ∷ ts) ∷ rest) n = not_counted rest n (taking d (fronted front w) e ts t) (taking d w e ts t) (takes w e ts t)
+  acts w reply (Transferring number back ∷ rest) n = is_counted rest n (transferring d (fronted front w) number back) (transferring d w number back) (carries_by w back (binding_of number w.bindings))
+  acts w reply (Unsetting number ∷ rest) n = refl
+  acts w reply (Thawing id slots ∷ rest) n = not_counted rest n (thawing (fronted front w) id slots) (thawing w id slots) (thaws_rest w id slots)
+  acts w reply (Running f ∷ rest) n = leaves_counted n (running d (fronted front w) rest f) (running d w rest f) (runs_on w rest f)
+  acts w reply (Answering source ∷ rest) n = refl
+  acts w reply (Calling c ∷ rest) n = leaves_agenda n (calling_on d (fronted front w) c rest reply) (calling_on d w c rest reply) (calls_on w c rest reply)
+  acts w reply (Constructing id steps held ∷ rest) n = not_counted rest n (constructing d (fronted front w) id steps held) (constructing d w id steps held) (constructs w id steps held)
+  acts w reply (Building items ∷ rest) n = not_counted rest n (building d (fronted front w) items) (building d w items) (builds w items)
+  acts w reply (Carrying r ∷ rest) n = not_counted rest n (carrying d (fronted front w) r) (carrying d w r) (carries_request w r)
+  acts w reply (Due source ∷ rest) n = not_counted rest n (sourcing d (fronted front w) source) (sourcing d w source) (runs_source w source)
+
+  steps_first : (reply : Option Reply) (c : Config) (id : Option ℕ) → first_of d reply (fronted_at front c) id ≡ mapped (fronted_at front) (first_of d reply c id)
+  steps_first reply c None = acts c.world reply c.agenda c.counted
+  steps_first reply c (Some id) = is_counted c.agenda c.counted (finalising d (fronted front c.world) id) (finalising d c.world id) (is_finalised c.world id)
+
+  asks_first : (w : World) (tasks : List Task) → asked_first (fronted front w) tasks ≡ asked_first w tasks
+  asks_first w [] = refl
+  asks_first w (Setting object slot v ∷ rest) = refl
+  asks_first w (Notifying object slot ∷ rest) = refl
+  asks_first w (Beginning emission ∷ rest) = refl
+  asks_first w (Emitting emission turns ∷ rest) = refl
+  asks_first w (Transferring number back ∷ rest) = refl
+  asks_first w (Unsetting number ∷ rest) = refl
+  asks_first w (Thawing object slots ∷ rest) = refl
+  asks_first w (Running frame ∷ rest) = refl
+  asks_first w (Answering source ∷ rest) = refl
+  asks_first w (Calling call ∷ rest) = refl
+  asks_first w (Constructing object steps held ∷ rest) = refl
+  asks_first w (Building items ∷ rest) = refl
+  asks_first w (Carrying request ∷ rest) = refl
+  asks_first w (Due source ∷ rest) = refl
+
+  asks_after : (c : Config) (id : Option ℕ) → asked_after (fronted_at front c) id ≡ asked_after c id
+  asks_after c None = asks_first c.world c.agenda
+  asks_after c (Some id) = refl
+
+pub step_appends : StepAppends
+step_appends front d reply c = steps_first front d reply c (next_unheld (mentions d c) c.world.objects)
+
+pub question_stays : QuestionStays
+question_stays front d c = asks_after front d c (next_unheld (mentions d c) c.world.objects)

@@ -1,0 +1,55 @@
+-- The builder would connect to the notification of a property that is not there.
+use Rattle.std.specs.Prelude.{◌≡◌, pos, negsuc, false, List, [], ◌∷◌, codes, None, Some, Err}
+use Rattle.ui_machine.specs.declared.arm.Arm.TheVariants as arms
+use Rattle.ui_machine.specs.Kinds as kinds
+use Rattle.ui_machine.specs.Values as values
+use Rattle.ui_machine.specs.Types.{plain_class}
+use Rattle.ui_machine.specs.Definition.{Definition, value, named}
+use Rattle.ui_machine.specs.Definition as words
+use Rattle.ui_machine.specs.Config.{Event, Peer}
+use Rattle.machine_rows.specs.Play.{Scripted, shown}
+use Rattle.machine_rows.specs.Words.{class_type, property, signal, notify, class_of, block, program, attached, object}
+
+abbrev pub definition : Definition
+definition = record {
+  types =
+      plain_class (codes "GObject") None []
+      ∷ class_type (codes "GInitiallyUnowned") 0 false false []
+      ∷ class_type (codes "Box") 0 false false []
+      ∷ [];
+  classes =
+      class_of [] (notify ∷ []) [] None None
+      ∷ class_of [] (notify ∷ []) [] None None
+      ∷ class_of (property (codes "n") (kinds.whole kinds.int) 3 (values.whole kinds.int (pos 0)) (negsuc 2147483647) (pos 2147483647) false ∷ []) (notify ∷ signal (codes "go") [] None 2 None ∷ []) [] None None
+      ∷ [];
+  shapes =
+      [];
+  programs =
+      program (codes "f") ((kinds.some 2) ∷ []) 2 None
+      (block ((kinds.some 2) ∷ kinds.unset ∷ []) 1 (words.clear 1 ∷ words.return None ∷ [])
+      ∷ [])
+      ∷ [];
+  places =
+      object (codes "b") 2 None [] [] (attached (codes "notify") (Some (codes "x")) 0 false false None ∷ [])
+      ∷ [];
+  bindings =
+      [];
+  most_objects = 64;
+  most_handlers = 4;
+}
+
+abbrev pub peers : List Peer
+peers =
+    []
+
+abbrev pub events : List Event
+events =
+    []
+
+abbrev pub replies : List Scripted
+replies =
+    []
+
+-- the machine is stuck
+abbrev pub Holds : Type 0
+Holds = shown definition peers events replies ≡ Err arms.Code
