@@ -1,4 +1,4 @@
--- Bindings between properties (GObject manual, GBinding).
+-- Bindings between properties (GObject manual, GBinding: g_object_bind_property, g_binding_unbind).
 use Rattle.std.specs.Prelude.{ℕ, Bool, false, cond, not, ◌&&◌, ◌||◌, nat_eq, List, map, Option, None, Some}
 use Rattle.std.specs.List.{filter, list_any}
 use Rattle.ui_machine.specs.Names.{same_name}

@@ -1,4 +1,4 @@
--- Constructions and the build (GObject manual, object construction; GTK manual, GtkBuilder).
+-- Constructions and the build (GObject manual, g_object_new and `constructed`; GTK manual, gtk_builder_add_from_string).
 use Rattle.std.specs.Prelude.{ℕ, pos, zero, suc, Bool, true, false, cond, nat_eq, nat_le, ◌||◌, not, List, [], ◌∷◌, ◌++◌, map, length, Option, Some, None, Ok, is_some, slice_get}
 use Rattle.std.specs.List.{filter, flat_map, list_all}
 use Rattle.ui_machine.specs.declared.arm.Arm.TheVariants as arms

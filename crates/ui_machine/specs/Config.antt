@@ -1,4 +1,5 @@
--- What the machine stands at: a configuration.
+-- What the machine stands at: a configuration, with the objects (GObject manual, GObject), handlers (g_signal_connect), bindings
+-- (GBinding) and sources (GLib manual, GSource) that stand.
 use Rattle.std.specs.Prelude.{ℕ, ℤ, Bool, List, Option}
 use Rattle.ui_machine.specs.Values.{Value}
 use Rattle.ui_machine.specs.Definition.{Method, Given}

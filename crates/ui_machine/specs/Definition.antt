@@ -1,4 +1,4 @@
--- A definition: what the bytes of an interface's description say.
+-- A definition: what the bytes of an interface's description say (GTK manual, GtkBuilder: UI definitions).
 use Rattle.std.specs.Prelude.{ℕ, ℤ, Bool, List, Option}
 use Rattle.ui_machine.specs.Kinds.{Kind, RegisterKind}
 use Rattle.ui_machine.specs.Values.{Value}

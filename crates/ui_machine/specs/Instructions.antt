@@ -1,4 +1,7 @@
--- What each instruction does. The frame has already gone past it.
+-- What each instruction does that starts something; the frame has already gone past it. Each says which call of the GObject manual it is
+-- (g_object_get_property, g_object_set_property, g_object_notify, g_object_new, g_object_ref_sink, g_object_run_dispose,
+-- g_object_freeze_notify, g_signal_emit, g_signal_connect_data, g_signal_handlers_block_matched, g_binding_unbind) or of the GLib manual
+-- (g_idle_add_full, g_timeout_add_full, g_source_remove).
 use Rattle.std.specs.Prelude.{ℕ, suc, ◌+◌, ℤ, ◌+ℤ◌, ◌-ℤ◌, ◌*ℤ◌, int_lt, int_le, Bool, true, false, cond, not, ◌&&◌, ◌||◌, nat_lt, List, [], ◌∷◌, ◌++◌, length, codes, Option, None, Some, Ok, Err, is_some, slice_get}
 use Rattle.std.specs.Ordering.{int_eq}
 use Rattle.ui_machine.specs.declared.arm.Arm.TheVariants as arms

@@ -1,4 +1,4 @@
--- How a program goes on: its next instruction, stops and returns.
+-- How a program goes on: its next instruction, the passes of its blocks, stops (GObject manual, g_signal_stop_emission) and returns.
 use Rattle.std.specs.Prelude.{ℕ, suc, ◌-◌, Bool, cond, ◌&&◌, nat_eq, nat_lt, List, ◌∷◌, ◌++◌, length, Option, None, Some, Ok, slice_get, codes}
 use Rattle.ui_machine.specs.declared.arm.Arm.TheVariants as arms
 use Rattle.ui_machine.specs.Values.{Value}

@@ -1,4 +1,4 @@
--- The machine: one step from a configuration.
+-- The machine: one step from a configuration. Its order of tasks is this runtime's own; what each does has its manual's section there.
 use Rattle.std.specs.Prelude.{ℕ, suc, nat_lt, Bool, true, List, [], ◌∷◌, ◌++◌, Option, Some, None, Ok, Err}
 use Rattle.ui_machine.specs.declared.arm.Arm.TheVariants as arms
 use Rattle.ui_machine.specs.Values.{Value}
@@ -42,7 +42,8 @@ thawing w id (slot ∷ slots) = starts w (Notifying id slot ∷ Thawing id slots
 abbrev pub constructing : Definition → World → ℕ → List Making → Bool → Answer Started
 constructing d w id [] held = constructed w id held
 constructing d w id (sets slot v ∷ steps) held = making_set d w id slot v (Constructing id steps held ∷ [])
-constructing d w id (runs program ∷ steps) held = program_before d w program (values.object (Some id) ∷ []) (Constructing id steps held ∷ [])
+constructing d w id (runs program ∷ steps) held =
+    program_before d w program (values.object (Some id) ∷ []) (Constructing id steps held ∷ [])
 constructing d w id (thaws ∷ steps) held = thawing_made w id steps held
 
 -- an object of the build is made, with the peer that is its own

@@ -1,4 +1,4 @@
--- What a binding does as an end of it is notified (GObject manual, GBinding).
+-- What a binding does as an end of it is notified (GObject manual, g_object_bind_property).
 use Rattle.std.specs.Prelude.{ℕ, Bool, true, false, cond, not, nat_eq, List, [], ◌∷◌, Option, None, Some}
 use Rattle.std.specs.List.{find}
 use Rattle.ui_machine.specs.declared.arm.Arm.TheVariants as arms
