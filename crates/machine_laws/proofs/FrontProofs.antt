@@ -35,7 +35,7 @@ use Rattle.ui_machine.specs.Connections.{detail_in, is_too_late, has_room_for_ha
 use Rattle.ui_machine.specs.Builds.{given_value, with_object, making, making_set, constructed, thawing_made, held_data, building_child, set_forward, building_forward, building_binding, building_handler, with_signal}
 use Rattle.ui_machine.specs.Instructions.{disposed_once, most_bytes, gives_from, within_bytes, with_source, attached_to, moving, reckoning, comparing, sameness, negating, conjunction, disjunction, joining, converting, slot_at, getting, set_from, assigning, then_goes_on, telling, naming, made_new, creating, sinking, orphaning, disposing, adopting, freezing, unfreezing, signal_in, signal_to_emit, emitting, connecting, on_handlers, attaching, removing, calling, jumping, branching, branching_null, constant, clearing, disconnecting, blocking, unblocking, unbinding, Connect, Attach}
 use Rattle.ui_machine.specs.Running.{returned, returning, in_front, instructed, running}
-use Rattle.ui_machine.specs.Steps.{answered, most_steps, uncounted, counted, counted_left, thawing, constructing, building_object, building, set_given, carrying_set, carrying_get, given_values, carrying_emit, carrying_release, carrying, sourcing, left, settling, act, finalising, first_of, asked_first, asked_after}
+use Rattle.ui_machine.specs.Steps.{with_result, most_steps, uncounted, counted, counted_left, thawing, constructing, building_object, building, set_given, carrying_set, carrying_get, given_values, carrying_emit, carrying_release, carrying, sourcing, left, settling, act, finalising, first_of, asked_first, asked_after}
 use Rattle.machine_laws.specs.FrontLaws.{fronted, fronted_at, mapped, StepAppends, QuestionStays}
 
 mapped_then : {A B C : Type 0} (f : B → C) (a : Answer A) (g : A → Answer B) → mapped f (a >>= g) ≡ (a >>= λ x. mapped f (g x))
@@ -614,8 +614,8 @@ module _ (front : List (List ℕ)) (d : Definition) where
   unfolding carrying_set
   carries_set w place slot given = simp (carrying_set, parts, sets_given)
 
-  says_answer : (w : World) (line : Line) (v : Value) → answered (said d (fronted front w) line) v ≡ fronted front (answered (said d w line) v)
-  says_answer w line v = ap (λ x. answered x v) (said_in_front w line)
+  says_answer : (w : World) (line : Line) (v : Value) → with_result (said d (fronted front w) line) v ≡ fronted front (with_result (said d w line) v)
+  says_answer w line v = ap (λ x. with_result x v) (said_in_front w line)
 
   says_held : (w : World) (line : Line) (place : ℕ) (held : Held) → with_held (said d (fronted front w) line) place held ≡ fronted front (with_held (said d w line) place held)
   says_held w line place held = ap (λ x. with_held x place held) (said_in_front w line)

@@ -62,6 +62,6 @@ bindings_without_end object bindings = filter (λ b. not (is_end object b)) bind
 
 -- ** while one sets
 
--- the bindings where the one of the number is setting or is not
-abbrev pub with_setting : (number : ℕ) → Bool → List Binding → List Binding
-with_setting number setting bindings = map (λ b. cond (nat_eq b.number number) (record b { setting = setting }) b) bindings
+-- the bindings where the one of the number is busy or is not
+abbrev pub with_busy : (number : ℕ) → Bool → List Binding → List Binding
+with_busy number busy bindings = map (λ b. cond (nat_eq b.number number) (record b { busy = busy }) b) bindings

@@ -274,7 +274,7 @@ new_binding number b source target = record {
   target = target;
   target_slot = b.target_slot;
   flags = b.flags;
-  setting = false;
+  busy = false;
 }
 
 -- with SYNC_CREATE the binding sets its target at once

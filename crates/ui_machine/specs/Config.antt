@@ -46,7 +46,7 @@ pub record Binding : Type 0 where
   pub target : ℕ
   pub target_slot : ℕ
   pub flags : ℕ
-  pub setting : Bool
+  pub busy : Bool  -- while what it set goes on
 
 -- an idle has no interval; `due` is looked at in a timeout alone
 pub record Source : Type 0 where

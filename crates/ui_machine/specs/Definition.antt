@@ -77,7 +77,8 @@ pub data Instruction : Type 0 where
   thaw : (object : ℕ) → Instruction
   emit : (into : Option ℕ) (object : ℕ) (signal : List ℕ) (detail : Option (List ℕ)) (args : List ℕ) → Instruction
   notify : (object : ℕ) (property : List ℕ) → Instruction
-  connect : (to object : ℕ) (signal : List ℕ) (detail : Option (List ℕ)) (program : List ℕ) (after swapped : Bool) (with : Option ℕ) → Instruction
+  connect : (to object : ℕ) (signal : List ℕ) (detail : Option (List ℕ)) (program : List ℕ) (after swapped : Bool)
+      (with : Option ℕ) → Instruction
   disconnect : (object : ℕ) (program : List ℕ) → Instruction
   block : (object : ℕ) (program : List ℕ) → Instruction
   unblock : (object : ℕ) (program : List ℕ) → Instruction

@@ -77,8 +77,8 @@ in_front rest answer = do
   s ← answer
   leaves s.world (s.tasks ++ rest)
 
--- What each instruction leads to, with the rest of the agenda. `stop` reaches the emission below (g_signal_stop_emission), and `return` ends
--- the program; each other one starts what goes in front of the rest.
+-- What each instruction leads to, with the rest of the agenda. `stop` reaches the emission below (g_signal_stop_emission), and `return`
+-- ends the program; each other one starts what goes in front of the rest.
 abbrev pub instructed : Definition → World → List Task → Frame → Instruction → Answer Left
 instructed d w rest f (words.const to kind v) = in_front rest (constant w f to v)
 instructed d w rest f (words.move to from) = in_front rest (moving w f to from)
@@ -104,16 +104,35 @@ instructed d w rest f (words.thaw object) = in_front rest (unfreezing w f object
 instructed d w rest f (words.emit into object name detail args) = in_front rest (emitting d w f into object name detail args)
 instructed d w rest f (words.notify object name) = in_front rest (telling d w f object name)
 instructed d w rest f (words.connect to object signal detail program after swapped with) =
-    in_front rest (connecting d w rest f to object (record { signal = signal; detail = detail; program = program; after = after; swapped = swapped; with = with }))
+    in_front rest (connecting d w rest f to object (record {
+      signal = signal;
+      detail = detail;
+      program = program;
+      after = after;
+      swapped = swapped;
+      with = with;
+    }))
 instructed d w rest f (words.disconnect object program) = in_front rest (disconnecting d w f object program)
 instructed d w rest f (words.block object program) = in_front rest (blocking d w f object program)
 instructed d w rest f (words.unblock object program) = in_front rest (unblocking d w f object program)
 instructed d w rest f words.stop = leaves w (Running f ∷ stopped rest)
 instructed d w rest f (words.unbind name) = in_front rest (unbinding d w f name)
 instructed d w rest f (words.idle to program priority with) =
-    in_front rest (attaching d w f to (record { word = codes "idle"; program = program; priority = priority; interval = None; with = with }))
+    in_front rest (attaching d w f to (record {
+      word = codes "idle";
+      program = program;
+      priority = priority;
+      interval = None;
+      with = with;
+    }))
 instructed d w rest f (words.timeout to program priority interval with) =
-    in_front rest (attaching d w f to (record { word = codes "timeout"; program = program; priority = priority; interval = Some interval; with = with }))
+    in_front rest (attaching d w f to (record {
+      word = codes "timeout";
+      program = program;
+      priority = priority;
+      interval = Some interval;
+      with = with;
+    }))
 instructed d w rest f (words.remove program) = in_front rest (removing d w f program)
 instructed d w rest f (words.call to object name args) = in_front rest (calling d w f to object name args)
 instructed d w rest f (words.jump to) = in_front rest (jumping d w f to)

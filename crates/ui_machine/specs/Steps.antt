@@ -79,8 +79,8 @@ carrying_set d w place slot given = do
   if_settable s (set_given w id slot given)
 
 -- the world with a value for the event
-abbrev pub answered : World → Value → World
-answered w v = record w { result = Some v }
+abbrev pub with_result : World → Value → World
+with_result w v = record w { result = Some v }
 
 -- a get by an event
 unfoldable pub carrying_get : Definition → World → ℕ → ℕ → Answer Started
@@ -88,7 +88,7 @@ carrying_get d w place slot = do
   id ← held_object w place
   s ← spec_at d w.objects id slot
   v ← asked w.objects id (value_at slot)
-  only_if (is_readable s) arms.Flags (starts (answered (said d w (lines.get id s.name v)) v) [])
+  only_if (is_readable s) arms.Flags (starts (with_result (said d w (lines.get id s.name v)) v) [])
 
 -- the given values of an emission's arguments
 unfoldable pub given_values : World → List Given → Answer (List Value)
