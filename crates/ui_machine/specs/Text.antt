@@ -95,10 +95,6 @@ text_of_values types (v ∷ w ∷ vs) = text_of_value types v ++ (codes "," ++ t
 
 -- ** lines
 
--- `#1.name`
-abbrev pub member_text : ℕ → List ℕ → List ℕ
-member_text id name = codes "#" ++ (numeral id ++ (codes "." ++ name))
-
 -- a detail, if there is one
 abbrev pub detail_text : Option (List ℕ) → List ℕ
 detail_text None = []
