@@ -12,7 +12,7 @@ use Rattle.ui_machine.specs.Lines as lines
 use Rattle.ui_machine.specs.Config.{thaws, Item, makes, Task, Constructing, Building, World}
 use Rattle.ui_machine.specs.Answers.{Answer, ◌>>=◌, known, only_if}
 use Rattle.ui_machine.specs.Worlds.{Started, starts, said, without}
-use Rattle.ui_machine.specs.Builds.{is_at_construction, construct_sets, constructed_runs, runs_above, run_of, given_sets, construction, new_object, with_object, making, made_items, adopts_if, has_valid_default, first_peer, peer_for}
+use Rattle.ui_machine.specs.Builds.{not_forward, is_at_construction, construct_sets, constructed_runs, runs_above, run_of, given_sets, construction, new_object, with_object, making, made_items, adopts_if, has_valid_default, first_peer, peer_for}
 use Rattle.ui_machine.specs.Calls.{nearest_shape, has_shape}
 use Rattle.ui_machine.specs.Emissions.{or_else, up, most_depth}
 use Rattle.ui_machine.specs.Transform.{same_bool}
@@ -51,11 +51,11 @@ drop_past (x ∷ xs) (suc i) past = drop_past xs i (omega arith)
 not_at_construction : (s : Spec) → IsPlain s → is_at_construction s ≡ false
 not_at_construction s plain = ap (λ f. has_flags 4 f || has_flags 8 f) plain.flags
 
-no_construct_sets : (w : World) (place : ℕ) (given : List GivenProperty) (slot : ℕ) (specs : List Spec) → ((i : ℕ) (s : Spec) → slice_get specs i ≡ Some s → IsPlain s)
-    → construct_sets w place given slot specs ≡ []
-no_construct_sets w place given slot [] plain = refl
-no_construct_sets w place given slot (s ∷ specs) plain =
-    rw (not_at_construction s (plain 0 s refl)) (no_construct_sets w place given (suc slot) specs (λ i t at. plain (suc i) t at))
+no_construct_sets : (w : World) (given : List GivenProperty) (slot : ℕ) (specs : List Spec) → ((i : ℕ) (s : Spec) → slice_get specs i ≡ Some s → IsPlain s)
+    → construct_sets w given slot specs ≡ []
+no_construct_sets w given slot [] plain = refl
+no_construct_sets w given slot (s ∷ specs) plain =
+    rw (not_at_construction s (plain 0 s refl)) (no_construct_sets w given (suc slot) specs (λ i t at. plain (suc i) t at))
 
 each_valid : (d : Definition) (specs : List Spec) → ((i : ℕ) (s : Spec) → slice_get specs i ≡ Some s → IsPlain s) → list_all (has_valid_default d) specs ≡ true
 each_valid d [] plain = refl
@@ -88,10 +88,10 @@ module _ (d : Definition) (basic : IsBasic d) where
   module _ (w : World) (place : ℕ) (p : Place) (at : slice_get d.places place ≡ Some p) where
     only_thaws : construction d w place p ≡ thaws ∷ []
     only_thaws =
-        ap (λ steps. steps ++ (constructed_runs 16 d p.class ++ (given_sets w place (specs_of d p.class) p.given ++ thaws ∷ [])))
-        (no_construct_sets w place p.given 0 (specs_of d p.class) (λ i s has. basic.plain p.class i s has))
-        ∙ ap (λ steps. steps ++ (given_sets w place (specs_of d p.class) p.given ++ thaws ∷ [])) (no_runs 16 p.class)
-        ∙ ap (λ given. given_sets w place (specs_of d p.class) given ++ thaws ∷ []) (basic.given place p at)
+        ap (λ steps. steps ++ (constructed_runs 16 d p.class ++ (given_sets w (specs_of d p.class) (not_forward place p.given) ++ thaws ∷ [])))
+        (no_construct_sets w (not_forward place p.given) 0 (specs_of d p.class) (λ i s has. basic.plain p.class i s has))
+        ∙ ap (λ steps. steps ++ (given_sets w (specs_of d p.class) (not_forward place p.given) ++ thaws ∷ [])) (no_runs 16 p.class)
+        ∙ ap (λ given. given_sets w (specs_of d p.class) (not_forward place given) ++ thaws ∷ []) (basic.given place p at)
 
     valid_defaults : list_all (has_valid_default d) (specs_of d p.class) ≡ true
     valid_defaults = each_valid d (specs_of d p.class) (λ i s has. basic.plain p.class i s has)

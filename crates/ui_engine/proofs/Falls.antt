@@ -19,7 +19,7 @@ use Rattle.ui_machine.specs.Objects.{find, put, class_in, asked, value_at, chang
 use Rattle.ui_machine.specs.Worlds.{Started, starts, said}
 use Rattle.ui_machine.specs.Sets.{spec_at, raising, notifies, kept, written, settled, setting, lives, has_kind}
 use Rattle.ui_machine.specs.Builds.{thawing_made, given_value, held_object}
-use Rattle.ui_machine.specs.Steps.{answered, thawing, carrying_set, carrying_get, set_given}
+use Rattle.ui_machine.specs.Steps.{with_result, thawing, carrying_set, carrying_get, set_given}
 use Rattle.ui_engine.specs.Measure.{weight, waiting_in, waiting}
 use Rattle.ui_engine.proofs.Held.{if_ok_at, bind_ok}
 
@@ -165,4 +165,4 @@ carrying_set_falls d w place slot given = bind_ok (held_object w place) _ (Falls
 pub carrying_get_falls : (d : Definition) (w : World) (place slot : ℕ) → IfOk (carrying_get d w place slot) (Falls d w 4)
 unfolding carrying_get
 carrying_get_falls d w place slot = bind_ok (held_object w place) _ (Falls d w 4) (λ id _. bind_ok (spec_at d w.objects id slot) _ (Falls d w 4) (λ s _. bind_ok (asked w.objects id (value_at slot)) _ (Falls d w 4) (λ v _.
-    only_falls d w 4 (is_readable s) arms.Flags (starts (answered (said d w (lines.get id s.name v)) v) []) (record { less = omega arith }))))
+    only_falls d w 4 (is_readable s) arms.Flags (starts (with_result (said d w (lines.get id s.name v)) v) []) (record { less = omega arith }))))

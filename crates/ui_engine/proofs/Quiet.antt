@@ -18,7 +18,7 @@ use Rattle.ui_machine.specs.Worlds.{Started, starts, said}
 use Rattle.ui_machine.specs.Sets.{spec_at, raising, notifies, kept, written, settled, setting, lives, has_kind}
 use Rattle.ui_machine.specs.Emissions.{notifying, signal_at}
 use Rattle.ui_machine.specs.Builds.{given_value}
-use Rattle.ui_machine.specs.Steps.{answered, thawing, carrying_set, carrying_get, set_given}
+use Rattle.ui_machine.specs.Steps.{with_result, thawing, carrying_set, carrying_get, set_given}
 use Rattle.ui_machine.specs.Builds.{held_object}
 use Rattle.ui_engine.specs.Growing.{Longer}
 use Rattle.ui_engine.proofs.Growing.{longer_same, longer_one}
@@ -107,7 +107,7 @@ carrying_set_calm d w place slot given = bind_ok (held_object w place) _ (Calm w
 pub carrying_get_calm : (d : Definition) (w : World) (place slot : ℕ) → IfOk (carrying_get d w place slot) (Calm w)
 unfolding carrying_get
 carrying_get_calm d w place slot = bind_ok (held_object w place) _ (Calm w) (λ id _. bind_ok (spec_at d w.objects id slot) _ (Calm w) (λ s _. bind_ok (asked w.objects id (value_at slot)) _ (Calm w) (λ v _.
-    only_calm w (is_readable s) arms.Flags (starts (answered (said d w (lines.get id s.name v)) v) []) (record { quiet = still w _ refl refl refl (longer_one w.transcript _); none = λ o. refl }))))
+    only_calm w (is_readable s) arms.Flags (starts (with_result (said d w (lines.get id s.name v)) v) []) (record { quiet = still w _ refl refl refl (longer_one w.transcript _); none = λ o. refl }))))
 
 -- ** thaws
 

@@ -1,4 +1,4 @@
--- Small changes of a world, and what a part of a step answers.
+-- Small changes of a world (GObject manual, g_object_ref_sink), and what a part of a step answers.
 use Rattle.std.specs.Prelude.{ℕ, Bool, true, false, cond, nat_eq, List, [], ◌∷◌, ◌++◌, Ok}
 use Rattle.ui_machine.specs.Seq.{read, write}
 use Rattle.ui_machine.specs.Text.{text_of_line}
