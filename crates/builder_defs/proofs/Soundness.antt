@@ -10,8 +10,7 @@ use Rattle.ui_machine.specs.Kinds as kinds
 use Rattle.ui_machine.specs.Ancestry.{lineage}
 use Rattle.param_specs.specs.declared.error.SpecError.{SpecError}
 use Rattle.param_specs.specs.Table.{own_of, specs_of, install_fault, canonical_spec}
-use Rattle.builder_defs.specs.declared.object_entry.ObjectEntry.{ObjectEntry}
-use Rattle.builder_defs.specs.Meaning.{IsPlain, IsPlainKind, IsSound}
+use Rattle.builder_defs.specs.Meaning.{Entry, IsPlain, IsPlainKind, IsSound}
 use Rattle.builder_defs.specs.Refusals.{Refusal, shape, or_refused}
 use Rattle.builder_defs.specs.Binding.{◌>>=◌}
 use Rattle.builder_defs.specs.Document.{each, under, nth, members_at, text_at, entries_at, nothing_at, only_at}
@@ -139,7 +138,7 @@ classes_plain d =
     on_bind (λ x. Unit {0}) PlainDraft (entries_at [] d (codes "classes")) _ (on_all _) λ list u.
     on_each PlainDraft (class_of (under [] (codes "classes"))) (λ i draft d all. class_plain (nth (under [] (codes "classes")) i) draft d all) 0 first_draft list (λ t. tt)
 
-pub sound : (types : List GType) (table : List (List Spec)) (os : List ObjectEntry) (d : Data) → classes_in d ≡ Ok (draft_of types table) → length os ≤ 64 → IsSound types table os
+pub sound : (types : List GType) (table : List (List Spec)) (os : List Entry) (d : Data) → classes_in d ≡ Ok (draft_of types table) → length os ≤ 64 → IsSound types table os
 sound types table os d read few =
     let all : AllOwn (own_of table) = subst (OnRead PlainDraft) read (classes_plain d) in
     record {

@@ -8,8 +8,7 @@ use Rattle.ui_machine.specs.Definition.{Class, Place}
 use Rattle.ui_machine.specs.Lookups as lookups
 use Rattle.ui_machine.specs.Properties.{Spec}
 use Rattle.param_specs.specs.Table.{specs_of}
-use Rattle.builder_defs.specs.declared.object_entry.ObjectEntry.{ObjectEntry}
-use Rattle.builder_defs.specs.Meaning.{class_with, plain_object, meaning, IsPlain, ArePlain, IsBasic}
+use Rattle.builder_defs.specs.Meaning.{Entry, class_with, plain_object, meaning, IsPlain, ArePlain, IsBasic}
 use Rattle.builder_defs.proofs.Listed.{read-listed}
 
 read-past : {A : Type 0} (d : A) (f : ℕ → A) (n i : ℕ) → n ≤ i → read d (listed f n) i ≡ d
@@ -17,7 +16,7 @@ read-past d f zero i h = refl
 read-past d f (suc n) zero h = absurd (omega arith)
 read-past d f (suc n) (suc i) h = read-past d (λ j. f (suc j)) n i (omega arith)
 
-module _ (types : List GType) (specs : List (List Spec)) (objects : List ObjectEntry) where
+module _ (types : List GType) (specs : List (List Spec)) (objects : List Entry) where
   module _ (class : ℕ) where
     pub known_specs : class < length types → lookups.specs_of (meaning types specs objects) class ≡ specs_of types specs class
     known_specs known = ap (λ (c : Class). c.specs) (read-listed lookups.no_class (λ t. class_with (specs_of types specs t)) (length types) class (λ past. absurd (omega arith)))
@@ -43,18 +42,18 @@ each_class P d f zero i none all = none
 each_class P d f (suc n) zero none all = all 0
 each_class P d f (suc n) (suc i) none all = each_class P d (λ t. f (suc t)) n i none (λ t. all (suc t))
 
-each_object : (P : Place → Type 0) → ((o : ObjectEntry) → P (plain_object o)) → (os : List ObjectEntry) (p : ℕ) (place : Place) → slice_get (map plain_object os) p ≡ Some place → P place
+each_object : (P : Place → Type 0) → ((o : Entry) → P (plain_object o)) → (os : List Entry) (p : ℕ) (place : Place) → slice_get (map plain_object os) p ≡ Some place → P place
 each_object P all [] p place h = cc
 each_object P all (o ∷ os) zero place h = let e : plain_object o ≡ place = cc in subst P e (all o)
 each_object P all (o ∷ os) (suc p) place h = each_object P all os p place h
 
-plain_spec : (types : List GType) (specs : List (List Spec)) (objects : List ObjectEntry) → ArePlain types specs → (t slot : ℕ) (s : Spec) → lookups.spec_of (meaning types specs objects) t slot ≡ Some s → IsPlain s
+plain_spec : (types : List GType) (specs : List (List Spec)) (objects : List Entry) → ArePlain types specs → (t slot : ℕ) (s : Spec) → lookups.spec_of (meaning types specs objects) t slot ≡ Some s → IsPlain s
 plain_spec types specs objects plain t slot s h = elim (cases_lt t (length types)) [
   | inl known ↦ plain.at t slot s (ap (λ (xs : List Spec). slice_get xs slot) (sym (known_specs types specs objects t known)) ∙ h)
   | inr past ↦ let e : slice_get (lookups.specs_of (meaning types specs objects) t) slot ≡ None = ap (λ (xs : List Spec). slice_get xs slot) (unknown_specs types specs objects t past) in absurd (cc)
 ]
 
-pub basic : (types : List GType) (specs : List (List Spec)) (objects : List ObjectEntry) → ArePlain types specs → IsBasic (meaning types specs objects)
+pub basic : (types : List GType) (specs : List (List Spec)) (objects : List Entry) → ArePlain types specs → IsBasic (meaning types specs objects)
 basic types specs objects plain = record {
   handlers = λ t. each_class (λ (c : Class). c.handlers ≡ []) lookups.no_class (λ t. class_with (specs_of types specs t)) (length types) t refl (λ t. refl);
   constructed = λ t. each_class (λ (c : Class). c.constructed ≡ None) lookups.no_class (λ t. class_with (specs_of types specs t)) (length types) t refl (λ t. refl);

@@ -6,18 +6,17 @@ use Rattle.ui_machine.specs.Types.{GType}
 use Rattle.ui_machine.specs.Properties.{Spec}
 use Rattle.ui_machine.specs.Definition.{Definition, Place}
 use Rattle.param_specs.specs.Table.{specs_of}
-use Rattle.builder_defs.specs.declared.object_entry.ObjectEntry.{ObjectEntry}
-use Rattle.builder_defs.specs.Meaning.{meaning, plain_object}
+use Rattle.builder_defs.specs.Meaning.{Entry, meaning, plain_object}
 use Rattle.builder_defs.specs.Binding.{◌>>=◌}
 use Rattle.builder_defs.specs.Refusals.{Refusal}
 use Rattle.builder_defs.specs.Document.{members_at, only_at}
 use Rattle.builder_defs.specs.Denoted.{Draft, draft_of, format_of, classes_in, objects_in, definition_in, definition_with, keys_of_definition}
 
-meant : (types : List GType) (table : List (List Spec)) (os : List ObjectEntry) → definition_with (draft_of types table) (map plain_object os) ≡ meaning types table os
+meant : (types : List GType) (table : List (List Spec)) (os : List Entry) → definition_with (draft_of types table) (map plain_object os) ≡ meaning types table os
 unfolding specs_of
 meant types table os = refl
 
-pub definition_done : (d : Data) (ms : Members) (format : Option ℕ) (types : List GType) (table : List (List Spec)) (os : List ObjectEntry)
+pub definition_done : (d : Data) (ms : Members) (format : Option ℕ) (types : List GType) (table : List (List Spec)) (os : List Entry)
     → members_at [] d ≡ Ok ms → format ≡ option_and_then as_u64 (option_and_then as_number (get (codes "format") d)) → format_of format ≡ Ok tt
     → classes_in d ≡ Ok (draft_of types table) → objects_in types d ≡ Ok (map plain_object os) → only_at [] ms keys_of_definition ≡ Ok tt
     → definition_in d ≡ Ok (meaning types table os)

@@ -22,7 +22,7 @@ use Rattle.param_specs.specs.PropertyName.{is_property_name}
 use Rattle.param_specs.specs.declared.error.SpecError.{SpecError}
 use Rattle.param_specs.specs.declared.error.SpecError.TheVariants.{BadName, Duplicate, FlagsClash, RangeEmpty, DefaultInvalid, Limit, OverrideMissing, OverrideDiffers, OutOfMemory}
 use Rattle.builder_defs.specs.declared.fault.DefinitionLimit.TheVariants.{Types, Properties, Objects}
-use Rattle.builder_defs.specs.Meaning.{class_with, default_objects}
+use Rattle.builder_defs.specs.Meaning.{class_with, default_objects, bare_place}
 use Rattle.builder_defs.specs.Binding.{◌>>=◌}
 use Rattle.builder_defs.specs.Refusals.{Refusal, shape, unknown, duplicate, bad_type, bad_spec, limit, or_refused}
 use Rattle.builder_defs.specs.Document.{under, nth, members_at, text_at, entries_at, nothing_at, only_at, each, document}
@@ -218,10 +218,6 @@ room_for_object places = if nat_le 64 (length places) then Err (limit Objects) e
 abbrev pub new_id : List ℕ → List machine.Place → List ℕ → Result (Unit {0}) Refusal
 new_id path places id =
     if is_id id then (if is_some (place_named (λ (p : machine.Place). p.id) places id) then Err (duplicate path) else Ok tt) else Err (shape path)
-
--- an object without parent, given values, peer and signals
-abbrev pub bare_place : List ℕ → ℕ → machine.Place
-bare_place id class = record { id = id; class = class; is_prototype = false; parent = None; given = []; peers = []; signals = [] }
 
 abbrev pub class_at_key : List ℕ → List GType → Data → Result ℕ Refusal
 class_at_key path types d = do

@@ -7,7 +7,7 @@ use Rattle.serde_json.specs.Find.{get, as_str, as_array, as_object}
 use Rattle.serde_json.specs.Read.{read}
 use Rattle.builder_defs.specs.Binding.{◌>>=◌}
 use Rattle.builder_defs.specs.Refusals.{Refusal, shape, too_long, not_utf8, not_json, or_refused, refused_if}
-use Rattle.builder_defs.specs.declared.document.TheConstants.{MAX_BYTES}
+use Rattle.ui_machine.specs.Limits.{most_definition_bytes}
 
 -- the path of a member
 abbrev pub under : List ℕ → List ℕ → List ℕ
@@ -81,4 +81,4 @@ each step i s (item d ds) = do
 
 -- the JSON value that bytes hold
 unfoldable pub document : List ℕ → Result Data Refusal
-document bytes = if nat_lt MAX_BYTES (length bytes) then Err too_long else (if is_utf8 bytes then or_refused not_json (read bytes) else Err not_utf8)
+document bytes = if nat_lt most_definition_bytes (length bytes) then Err too_long else (if is_utf8 bytes then or_refused not_json (read bytes) else Err not_utf8)

@@ -16,7 +16,7 @@ use Rattle.g_values.specs.Reading.{json_value}
 use Rattle.g_values.specs.declared.error.JsonError.{JsonError}
 use Rattle.builder_defs.specs.Meaning.{class_at}
 use Rattle.builder_defs.specs.Binding.{◌>>=◌}
-use Rattle.builder_defs.specs.declared.event_reading.TheConstants.{MAX_LINE_BYTES}
+use Rattle.ui_machine.specs.Limits.{most_line_bytes}
 use Rattle.builder_defs.specs.declared.event_fault.EventFault.{EventFault}
 use Rattle.builder_defs.specs.declared.event_fault.EventFault.TheVariants as faults
 use Rattle.builder_defs.specs.declared.event_fault.EventError.{EventError}
@@ -62,7 +62,7 @@ or_refused refusal (Some x) = Ok x
 
 -- the JSON value that a line holds
 unfoldable pub line_value : List ℕ → Result Data EventRefusal
-line_value bytes = if nat_lt MAX_LINE_BYTES (length bytes) then Err too_long else (if is_utf8 bytes then or_refused not_json (read bytes) else Err not_json)
+line_value bytes = if nat_lt most_line_bytes (length bytes) then Err too_long else (if is_utf8 bytes then or_refused not_json (read bytes) else Err not_json)
 
 abbrev pub is_one_member : Members → Bool
 is_one_member no_members = false

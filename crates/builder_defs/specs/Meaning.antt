@@ -1,5 +1,6 @@
 -- Which definition and event of the machine the code's stand for.
-use Rattle.std.specs.Prelude.{◌≡◌, ℕ, ◌<◌, ◌≤◌, true, false, List, [], ◌∷◌, map, length, Option, None, Some, string_bytes, codes, slice_get}
+use Rattle.std.specs.Prelude.{◌≡◌, ℕ, ◌<◌, ◌≤◌, true, false, List, [], ◌∷◌, map, length, Option, None, Some, String, string_bytes, codes, slice_get}
+use Rattle.std.specs.Global.{Global}
 use Rattle.ui_machine.specs.Seq.{listed}
 use Rattle.ui_machine.specs.Kinds as kinds
 use Rattle.ui_machine.specs.Types.{GType}
@@ -11,7 +12,6 @@ use Rattle.ui_machine.specs.Lookups as lookups
 use Rattle.ui_machine.specs.Config as config
 use Rattle.g_values.specs.View.{value_view}
 use Rattle.param_specs.specs.Table.{specs_of}
-use Rattle.builder_defs.specs.declared.object_entry.ObjectEntry.{ObjectEntry}
 use Rattle.builder_defs.specs.declared.event.Event.{Event}
 use Rattle.builder_defs.specs.declared.event.Event.TheVariants as events
 
@@ -24,15 +24,23 @@ abbrev pub class_with : List Spec → machine.Class
 class_with specs = record { specs = specs; signals = notify_signal ∷ []; handlers = []; constructed = None; shape = None }
 
 -- an object without parent, given values, peer and signals
-abbrev pub plain_object : ObjectEntry → machine.Place
-plain_object o = record { id = string_bytes o.id; class = o.class; is_prototype = false; parent = None; given = []; peers = []; signals = [] }
+abbrev pub bare_place : List ℕ → ℕ → machine.Place
+bare_place id class = record { id = id; class = class; is_prototype = false; parent = None; given = []; peers = []; signals = [] }
+
+-- the id and the class of an object
+abbrev pub Entry : Type 0
+Entry = String Global × ℕ
+
+-- the object of an entry
+abbrev pub plain_object : Entry → machine.Place
+plain_object entry = bare_place (string_bytes entry.0) entry.1
 
 -- how many objects may live where a definition sets no limit
 abbrev pub default_objects : ℕ
 default_objects = 64
 
 -- the definition of these types, specs and objects
-abbrev pub meaning : List GType → List (List Spec) → List ObjectEntry → machine.Definition
+abbrev pub meaning : List GType → List (List Spec) → List Entry → machine.Definition
 meaning types specs objects = record {
   types = types;
   classes = listed (λ t. class_with (specs_of types specs t)) (length types);
@@ -68,7 +76,7 @@ pub record ArePlain (types : List GType) (specs : List (List Spec)) : Type 0 whe
   pub at : (t slot : ℕ) (s : Spec) → slice_get (specs_of types specs t) slot ≡ Some s → IsPlain s
 
 -- what is so of every definition
-pub record IsSound (types : List GType) (specs : List (List Spec)) (objects : List ObjectEntry) : Type 0 where
+pub record IsSound (types : List GType) (specs : List (List Spec)) (objects : List Entry) : Type 0 where
   pub plain : ArePlain types specs
   pub few : length objects ≤ 64
 

@@ -1,12 +1,13 @@
 //! What a definition says.
 
-ghost use Rattle.std.specs.Prelude.{◌≡◌, ◌<◌, ◌≤◌, length, option_map, slice_get, IfSome, map, position, string_bytes};
-ghost use Rattle.std.specs.Str.{bytes_eq};
+ghost use Rattle.std.specs.Prelude.{◌≡◌, ◌<◌, ◌≤◌, length, option_map, slice_get, IfSome, map};
+ghost use Rattle.ui_machine.specs.Names.{place_named};
 ghost use Rattle.ui_machine.specs.Lookups.{place_of, spec_of, specs_of, slot_of, type_of};
 ghost use Rattle.param_specs.specs.View.{spec_view};
-ghost use Rattle.builder_defs.specs.Meaning.{IsBasic, class_at, plain_object};
+ghost use Rattle.builder_defs.specs.Meaning.{IsBasic, bare_place, class_at, plain_object};
 
 use crate::object_entry::ObjectEntry;
+use indexmap::IndexMap;
 use param_specs::{Spec, SpecTable};
 use std::marker::Model;
 use type_tree::{TypeId, TypeTree};
@@ -20,7 +21,7 @@ pub const MOST_OBJECTS: usize = 64;
 pub struct Definition {
     pub(crate) types: TypeTree,
     pub(crate) specs: SpecTable,
-    pub(crate) objects: Vec<ObjectEntry>,
+    pub(crate) objects: IndexMap<String, TypeId>,
 }
 
 impl Model for Definition {
@@ -30,9 +31,9 @@ impl Model for Definition {
 
     ghost use Rattle.builder_defs.specs.Meaning.{meaning, IsSound};
 
-    ghost view = { λ d. meaning d.types d.specs d.objects.items };
+    ghost view = { λ d. meaning d.types d.specs d.objects.entries };
 
-    ghost invariant = { λ d. IsSound d.types d.specs d.objects.items };
+    ghost invariant = { λ d. IsSound d.types d.specs d.objects.entries };
 }
 
 impl Definition {
@@ -44,18 +45,29 @@ impl Definition {
         &self.types
     }
 
-    /// Its objects, by place.
-    pub fn objects(&self) -> &[ObjectEntry]
-        ensures objects { map plain_object result.now ≡ self.now.places }
+    /// How many objects it has.
+    pub fn object_count(&self) -> usize
+        ensures { result ≡ length self.now.places }
     {
-        self.objects.as_slice()
+        self.objects.len()
+    }
+
+    /// The object at a place, if there is one.
+    pub fn object(&self, place: usize) -> Option<ObjectEntry<'_>>
+        ensures { option_map (λ o. bare_place o.id.now o.class) result ≡ slice_get self.now.places place }
+    {
+        let (id, class) = self.objects.get_index(place)?;
+        Some(ObjectEntry {
+            id: id.as_str(),
+            class: *class,
+        })
     }
 
     /// The place of the object of an id.
     pub fn place(&self, id: &str) -> Option<Place>
         ensures { option_map (λ p. p.0) result ≡ place_of self.now id.now }
     {
-        let place = position_of(self.objects.as_slice(), id)?;
+        let place = position_of(&self.objects, id)?;
         Some(Place(place as u16))
     }
 
@@ -63,8 +75,8 @@ impl Definition {
     pub fn class_at(&self, place: Place) -> TypeId
         ensures { result ≡ class_at self.now place.0 }
     {
-        match self.objects.get(usize::from(place.0)) {
-            Some(object) => object.class,
+        match self.objects.get_index(usize::from(place.0)) {
+            Some((_, class)) => *class,
             None => TypeId::new(0),
         }
     }
@@ -113,9 +125,9 @@ impl Definition {
 }
 
 // Where the object of an id stands.
-pub(crate) fn position_of(objects: &[ObjectEntry], id: &str) -> Option<usize>
-    ensures place { result ≡ position (λ o. bytes_eq (string_bytes o.id) id.now) objects.now }
-    ensures within { IfSome result (λ i. i < length objects.now) }
+pub(crate) fn position_of(objects: &IndexMap<String, TypeId>, id: &str) -> Option<usize>
+    ensures place { result ≡ place_named (λ p. p.id) (map plain_object objects.now.entries) id.now }
+    ensures within { IfSome result (λ i. i < length objects.now.entries) }
 {
-    objects.iter().position(|object| object.id.as_str() == id)
+    objects.get_index_of(id)
 }

@@ -3,8 +3,8 @@
 use type_tree::TypeId;
 
 /// An object of a definition: its id and its class.
-#[derive(Debug, Drop)]
-pub struct ObjectEntry {
-    pub id: String,
+#[derive(Clone, Copy)]
+pub struct ObjectEntry<'a> {
+    pub id: &'a str,
     pub class: TypeId,
 }

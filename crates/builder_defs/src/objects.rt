@@ -1,11 +1,11 @@
 //! The objects of a definition.
 
-ghost use Rattle.std.specs.Prelude.{◌≡◌, ◌<◌, ◌≤◌, [], codes, map, length, is_some, IfOk};
+ghost use Rattle.std.specs.Prelude.{◌≡◌, ◌<◌, ◌≤◌, [], codes, map, length, is_some, string_bytes, None, IfOk};
 ghost use Rattle.std.specs.List.{list_all};
 ghost use Rattle.type_tree.specs.TypeName.{is_within};
 ghost use Rattle.serde_json.specs.View.{view, items_view};
 ghost use Rattle.ui_machine.specs.Names.{place_named};
-ghost use Rattle.builder_defs.specs.Meaning.{plain_object};
+ghost use Rattle.builder_defs.specs.Meaning.{bare_place, plain_object};
 ghost use Rattle.builder_defs.specs.Refusals.{Gives};
 ghost use Rattle.builder_defs.specs.Document.{under, each};
 ghost use Rattle.builder_defs.specs.Denoted.{is_id_byte, is_id, room_for_object, new_id, class_at_key, place_at, object_of};
@@ -13,7 +13,7 @@ ghost use Rattle.builder_defs.specs.Denoted.{is_id_byte, is_id, room_for_object,
 use crate::definition::{MOST_OBJECTS, position_of};
 use crate::document::{Entries, Part, bad_shape, path_of_entry, path_under};
 use crate::fault::{DefinitionFault, DefinitionLimit, ReadError};
-use crate::object_entry::ObjectEntry;
+use indexmap::IndexMap;
 use type_tree::{TypeId, TypeTree};
 
 const UNSET_MEMBERS: [&str; 4] = ["peer", "properties", "signals", "children"];
@@ -49,9 +49,9 @@ fn is_id(id: &str) -> bool
 }
 
 // Tests that there is room for a further object.
-fn check_room(objects: &[ObjectEntry]) -> Result<(), ReadError>
-    ensures room { Gives (λ _. tt) result (room_for_object (map plain_object objects.now)) }
-    ensures few { IfOk result (λ _. length objects.now < 64) }
+fn check_room(objects: &IndexMap<String, TypeId>) -> Result<(), ReadError>
+    ensures room { Gives (λ _. tt) result (room_for_object (map plain_object objects.now.entries)) }
+    ensures few { IfOk result (λ _. length objects.now.entries < 64) }
 {
     if objects.len() >= MOST_OBJECTS {
         return Err(ReadError::Refused(DefinitionFault::Limit(DefinitionLimit::Objects)));
@@ -60,15 +60,16 @@ fn check_room(objects: &[ObjectEntry]) -> Result<(), ReadError>
 }
 
 // Whether an object has this id.
-fn has_object(objects: &[ObjectEntry], id: &str) -> bool
-    ensures { result ≡ is_some (place_named (λ p. p.id) (map plain_object objects.now) id.now) }
+fn has_object(objects: &IndexMap<String, TypeId>, id: &str) -> bool
+    ensures { result ≡ is_some (place_named (λ p. p.id) (map plain_object objects.now.entries) id.now) }
 {
     position_of(objects, id).is_some()
 }
 
 // Tests an id beside those of the objects before.
-fn check_id(part: Part<'_>, objects: &[ObjectEntry], id: &str) -> Result<(), ReadError>
-    ensures { Gives (λ _. tt) result (new_id (under part.entry.path.now (codes "id")) (map plain_object objects.now) id.now) }
+fn check_id(part: Part<'_>, objects: &IndexMap<String, TypeId>, id: &str) -> Result<(), ReadError>
+    ensures id { Gives (λ _. tt) result (new_id (under part.entry.path.now (codes "id")) (map plain_object objects.now.entries) id.now) }
+    ensures new { IfOk result (λ _. place_named (λ p. p.id) (map plain_object objects.now.entries) id.now ≡ None) }
 {
     if !is_id(id) {
         return Err(bad_shape(part.alloc, part.path, "id")?);
@@ -98,15 +99,23 @@ fn class_of(part: Part<'_>, types: &TypeTree) -> Result<TypeId, ReadError>
     }
 }
 
+// An object that is not yet among the others.
+#[derive(Drop)]
+struct NewObject {
+    id: String,
+    class: TypeId,
+}
+
 // The object of an entry.
 #[tactic(auto, unfolding(crate::specs::Denoted::place_at))]
 fn read_object(
     part: Part<'_>,
     types: &TypeTree,
-    objects: &[ObjectEntry],
-) -> Result<ObjectEntry, ReadError>
-    ensures object { Gives plain_object result (place_at part.entry.path.now types.now (map plain_object objects.now) (view part.entry.value.now)) }
-    ensures few { IfOk result (λ _. length objects.now < 64) }
+    objects: &IndexMap<String, TypeId>,
+) -> Result<NewObject, ReadError>
+    ensures object { Gives (λ o. bare_place (string_bytes o.id) o.class) result (place_at part.entry.path.now types.now (map plain_object objects.now.entries) (view part.entry.value.now)) }
+    ensures new { IfOk result (λ o. place_named (λ p. p.id) (map plain_object objects.now.entries) (string_bytes o.id) ≡ None) }
+    ensures few { IfOk result (λ _. length objects.now.entries < 64) }
 {
     let members = part.members()?;
     check_room(objects)?;
@@ -116,18 +125,18 @@ fn read_object(
     part.check_nothing(&UNSET_MEMBERS)?;
     part.check_only(members, &MEMBERS)?;
     let id = String::from_str(part.alloc, id)?;
-    Ok(ObjectEntry { id, class })
+    Ok(NewObject { id, class })
 }
 
 // The objects of a list.
 pub(crate) fn read_objects(
     list: Entries<'_>,
     types: &TypeTree,
-) -> Result<Vec<ObjectEntry>, ReadError>
-    ensures objects { Gives (λ v. map plain_object v.items) result (each (object_of list.entry.path.now types.now) 0 [] (items_view list.entry.items.now)) }
-    ensures few { IfOk result (λ v. length v.items ≤ 64) }
+) -> Result<IndexMap<String, TypeId>, ReadError>
+    ensures objects { Gives (λ v. map plain_object v.entries) result (each (object_of list.entry.path.now types.now) 0 [] (items_view list.entry.items.now)) }
+    ensures few { IfOk result (λ v. length v.entries ≤ 64) }
 {
-    let mut objects = Vec::new(list.alloc);
+    let mut objects = IndexMap::new(list.alloc);
     'items: for (index, item) in list.items.iter().enumerate() {
         let path = path_of_entry(list.alloc, list.path, index)?;
         let part = Part {
@@ -135,8 +144,8 @@ pub(crate) fn read_objects(
             path: path.as_str(),
             value: item,
         };
-        let object = read_object(part, types, objects.as_slice())?;
-        objects.push(object)?;
+        let object = read_object(part, types, &objects)?;
+        objects.insert(object.id, object.class)?;
     }
     Ok(objects)
 }

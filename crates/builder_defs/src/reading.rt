@@ -11,12 +11,12 @@ use crate::classes::read_classes;
 use crate::definition::Definition;
 use crate::document::{Entries, Part, parsed, path_under};
 use crate::fault::{DefinitionFault, ReadError};
-use crate::object_entry::ObjectEntry;
 use crate::objects::read_objects;
+use indexmap::IndexMap;
 use param_specs::SpecTable;
 use serde_json::Value;
 use std::alloc::Global;
-use type_tree::TypeTree;
+use type_tree::{TypeId, TypeTree};
 
 const UNSET_BEFORE_CLASSES: [&str; 5] = ["limits", "enums", "flags", "interfaces", "shapes"];
 
@@ -73,10 +73,10 @@ fn read_types(part: Part<'_>, types: &mut TypeTree, specs: &mut SpecTable) -> Re
 
 // The objects of a definition.
 #[tactic(auto, unfolding(crate::specs::Denoted::objects_in))]
-fn objects_of(part: Part<'_>, types: &TypeTree) -> Result<Vec<ObjectEntry>, ReadError>
+fn objects_of(part: Part<'_>, types: &TypeTree) -> Result<IndexMap<String, TypeId>, ReadError>
     requires { part.path.now ≡ [] }
-    ensures objects { Gives (λ v. map plain_object v.items) result (objects_in types.now (view part.entry.value.now)) }
-    ensures few { IfOk result (λ v. length v.items ≤ 64) }
+    ensures objects { Gives (λ v. map plain_object v.entries) result (objects_in types.now (view part.entry.value.now)) }
+    ensures few { IfOk result (λ v. length v.entries ≤ 64) }
 {
     part.check_nothing(&UNSET_BEFORE_OBJECTS)?;
     let items = part.entries("objects")?;

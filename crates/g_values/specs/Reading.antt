@@ -13,7 +13,7 @@ use Rattle.ui_machine.specs.Transform.{least, greatest, is_between, has_number}
 use Rattle.g_values.specs.Naming.{number_called, bits_named}
 use Rattle.g_values.specs.declared.error.JsonError.{JsonError}
 use Rattle.g_values.specs.declared.error.JsonError.TheVariants.{WrongJson, OutOfRange, UnknownMember, TextTooLong, OutOfMemory}
-use Rattle.g_values.specs.declared.reading.TheConstants.{MOST_TEXT_BYTES}
+use Rattle.ui_machine.specs.Limits.{most_text_bytes}
 
 -- ** parts of values
 
@@ -55,7 +55,7 @@ abbrev pub text_or_null : Data → Result (Option (List ℕ)) JsonError
 text_or_null null = Ok None
 text_or_null (boolean b) = Err WrongJson
 text_or_null (number n) = Err WrongJson
-text_or_null (string s) = if nat_lt MOST_TEXT_BYTES (length s) then Err TextTooLong else Ok (Some s)
+text_or_null (string s) = if nat_lt most_text_bytes (length s) then Err TextTooLong else Ok (Some s)
 text_or_null (array ds) = Err WrongJson
 text_or_null (object ms) = Err WrongJson
 

@@ -19,8 +19,7 @@ use Rattle.ui_machine.specs.Transform.{same_bool}
 use Rattle.ui_machine.specs.Steps.{uncounted, building, building_object}
 use Rattle.g_values.specs.declared.value.Value.{Value}
 use Rattle.g_values.specs.View.{value_view}
-use Rattle.builder_defs.specs.declared.object_entry.ObjectEntry.{ObjectEntry}
-use Rattle.builder_defs.specs.Meaning.{IsPlain, IsBasic, plain_object}
+use Rattle.builder_defs.specs.Meaning.{IsPlain, IsBasic}
 use Rattle.ui_engine.specs.TaskView.{build_from}
 
 -- ** lists
@@ -168,19 +167,8 @@ one_default_more specs slot s values v at default before =
 
 -- ** the objects of a definition, by place
 
-pub place_there : (es : List ObjectEntry) (places : List Place) (i : ℕ) (e : ObjectEntry) → map plain_object es ≡ places → slice_get es i ≡ Some e → slice_get places i ≡ Some (plain_object e)
-place_there es places i e same at = ap (λ ps. slice_get ps i) (sym same) ∙ slice_get-map plain_object es i ∙ ap (option_map plain_object) at
-
-pub place_missing : (es : List ObjectEntry) (places : List Place) (i : ℕ) → map plain_object es ≡ places → slice_get es i ≡ None → slice_get places i ≡ None
-place_missing es places i same none = ap (λ ps. slice_get ps i) (sym same) ∙ slice_get-map plain_object es i ∙ ap (option_map plain_object) none
-
--- an entry within the objects
-pub place_within : (es : List ObjectEntry) (places : List Place) (i : ℕ) → map plain_object es ≡ places → i < length es → (p : Place) × (slice_get places i ≡ Some p)
-place_within [] places i same small = absurd (omega arith)
-place_within (e ∷ es) places zero same small = (plain_object e, ap (λ ps. slice_get ps 0) (sym same))
-place_within (e ∷ es) places (suc i) same small =
-    let found = place_within es (map plain_object es) i refl (omega arith) in
-    (found.0, ap (λ ps. slice_get ps (suc i)) (sym same) ∙ found.1)
-
-pub past_places : (es : List ObjectEntry) (places : List Place) (i : ℕ) → map plain_object es ≡ places → length es ≤ i → length places ≤ i
-past_places es places i same past = let long = ap length (sym same) ∙ length-map es plain_object in omega (arith, long, past)
+-- a place within the objects
+pub place_within : (places : List Place) (i : ℕ) → i < length places → (p : Place) × (slice_get places i ≡ Some p)
+place_within [] i small = absurd (omega arith)
+place_within (p ∷ places) zero small = (p, refl)
+place_within (p ∷ places) (suc i) small = place_within places i (omega arith)

@@ -152,7 +152,7 @@ impl Engine {
         ensures quiet { OnErr result ((world_of self.new.world).transcript ≡ (world_of self.old.world).transcript) }
     {
         let types = definition.types();
-        let Some(entry) = definition.objects().get(place) else {
+        let Some(entry) = definition.object(place) else {
             return Err(Halt::Stuck(Arm::Code));
         };
         let class = entry.class;
@@ -181,7 +181,7 @@ impl Engine {
         ensures quiet { OnErr result ((world_of self.new.world).transcript ≡ (world_of self.old.world).transcript) }
     {
         let _types = definition.types();
-        if place >= definition.objects().len() {
+        if place >= definition.object_count() {
             return Ok(());
         }
         self.stack.push(Task::Building { place: place + 1 })?;

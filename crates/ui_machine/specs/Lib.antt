@@ -1,5 +1,6 @@
 pub mod Seq
 pub mod Names
+pub mod Limits
 pub mod Kinds
 pub mod Values
 pub mod Types

@@ -70,7 +70,7 @@ fn tells_objects(rt: HostRuntime) -> Result<(), Fail> {
     let alloc = rt.alloc();
     let definition = read_definition(alloc, BOXES.as_bytes())?;
     assert_eq!(rt; definition.types().len(), 4);
-    assert_eq!(rt; definition.objects().len(), 3);
+    assert_eq!(rt; definition.object_count(), 3);
     for (id, want) in [
         ("b-1", "0 Box 2"),
         ("_", "1 GInitiallyUnowned 0"),

@@ -1,6 +1,5 @@
 use Rattle.std.proofs.Common.{◌∙◌, ap, is_some}
-use Rattle.builder_defs.proofs.Ids.{place_is}
 use Rattle.builder_defs.proofs.objects.has_object.Goals as goal
 
 pub returns : goal.returns
-returns c = c.is_some.ensures ∙ ap is_some (c.position_of.ensures.place ∙ place_is c.args.id.now c.args.objects.now)
+returns c = c.is_some.ensures ∙ ap is_some c.position_of.ensures.place
