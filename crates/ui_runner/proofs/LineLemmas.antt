@@ -8,7 +8,7 @@ use Rattle.std.proofs.KnownBytes.{Consumes-trans}
 use Rattle.std.proofs.lemmas.List.Folds.{list_any-append}
 use Rattle.ui_runner.specs.Lines.{lines_of, onto_first}
 use Rattle.ui_runner.specs.Reading.{WhereKnown, IsOf, Finds}
-use Rattle.ui_runner.specs.declared.TheConstants.{LINE_LIMIT}
+use Rattle.ui_machine.specs.Limits.{most_line_bytes}
 use Rattle.ui_runner.specs.declared.line_reader.Found.{Found}
 use Rattle.ui_runner.specs.declared.line_reader.Found.TheVariants as founds
 
@@ -69,7 +69,7 @@ at_end (Some ys) (Some zs) P (Some xs) bs h e p =
     let x : xs ≡ bs = rw y at h ∙ append-nil bs in
     rw (x, z) p
 
-pub finds_whole : (a b c : Option (List ℕ)) (line : List ℕ) → Consumes a b line → Consumes b c (10 ∷ []) → has_end line ≡ false → length line ≤ LINE_LIMIT
+pub finds_whole : (a b c : Option (List ℕ)) (line : List ℕ) → Consumes a b line → Consumes b c (10 ∷ []) → has_end line ≡ false → length line ≤ most_line_bytes
     → WhereKnown a c (λ xs ys. Finds founds.Whole line xs ys)
 finds_whole a b c line h k e lt = where_consumed a c (line ++ 10 ∷ []) _ (Consumes-trans a b c line (10 ∷ []) h k) (λ xs ys x. record {
   line = line;
@@ -80,7 +80,7 @@ finds_whole a b c line h k e lt = where_consumed a c (line ++ 10 ∷ []) _ (Cons
   goes_on = λ w. refl;
 })
 
-pub finds_last : (a b c : Option (List ℕ)) (line : List ℕ) → Consumes a b line → Keeps b c × IsAtEnd c → has_end line ≡ false → length line ≤ LINE_LIMIT → 0 < length line
+pub finds_last : (a b c : Option (List ℕ)) (line : List ℕ) → Consumes a b line → Keeps b c × IsAtEnd c → has_end line ≡ false → length line ≤ most_line_bytes → 0 < length line
     → WhereKnown a c (λ xs ys. Finds founds.Whole line xs ys)
 finds_last a b c line h k e lt some = at_end b c _ a line h k (record {
   line = line;
@@ -96,7 +96,7 @@ pub finds_none : (a b c : Option (List ℕ)) (line : List ℕ) → Consumes a b 
 finds_none a b c line h k e = at_end b c _ a line h k e
 
 pub finds_begun : (found : Found) (buffer : List ℕ) (a b c : Option (List ℕ)) (line : List ℕ) (x : ℕ) → Consumes a b line → Consumes b c (x ∷ [])
-    → has_end line ≡ false → (x == 10) ≡ false → ((more : List ℕ) → IsOf found buffer ((line ++ x ∷ []) ++ more)) → found ≢ founds.Whole → length line ≤ LINE_LIMIT
+    → has_end line ≡ false → (x == 10) ≡ false → ((more : List ℕ) → IsOf found buffer ((line ++ x ∷ []) ++ more)) → found ≢ founds.Whole → length line ≤ most_line_bytes
     → WhereKnown a c (λ xs ys. Finds found buffer xs ys)
 finds_begun found buffer a b c line x h k e ne is other within = where_consumed a c (line ++ x ∷ []) _ (Consumes-trans a b c line (x ∷ []) h k) (λ xs ys eq.
     let some : 0 < length (line ++ x ∷ []) = rw (length-append line (x ∷ [])) (omega arith) in
@@ -111,7 +111,7 @@ finds_begun found buffer a b c line x h k e ne is other within = where_consumed 
     })
 
 -- a line with a byte too many
-pub longer : (line : List ℕ) (x : ℕ) → LINE_LIMIT ≤ length line → (more : List ℕ) → LINE_LIMIT < length ((line ++ x ∷ []) ++ more)
+pub longer : (line : List ℕ) (x : ℕ) → most_line_bytes ≤ length line → (more : List ℕ) → most_line_bytes < length ((line ++ x ∷ []) ++ more)
 longer line x h more = simp length-append (omega arith)
 
 pub known_further : (a b c : Option (List ℕ)) (P Q R : List ℕ → List ℕ → Type 0) → WhereKnown a b P → WhereKnown b c Q

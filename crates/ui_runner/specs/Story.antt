@@ -3,7 +3,7 @@ use Rattle.std.specs.Prelude.{min, ◌≡◌, ◌≢◌, ℕ, ◌+◌, ◌⊎◌
 use Rattle.std.specs.List.{list_all, list_any}
 use Rattle.ui_machine.specs.declared.arm.Halt.{Halt}
 use Rattle.ui_machine.specs.declared.arm.Halt.TheVariants as halts
-use Rattle.ui_runner.specs.declared.TheConstants.{LINE_LIMIT, MOST_LINES}
+use Rattle.ui_machine.specs.Limits.{most_line_bytes, most_lines}
 use Rattle.ui_runner.specs.declared.refusal.LineRefusal.{LineRefusal}
 use Rattle.ui_runner.specs.declared.refusal.LineRefusal.TheVariants as refusals
 use Rattle.ui_runner.specs.Texts.{lines_text, refused_line, stopped_line}
@@ -55,8 +55,8 @@ pub data Fate : Type 0 where
 
 abbrev pub fate : ℕ → List ℕ → Fate
 fate n line =
-    if nat_lt MOST_LINES n then too_many
-    else (if nat_lt LINE_LIMIT (length line) then too_long
+    if nat_lt most_lines n then too_many
+    else (if nat_lt most_line_bytes (length line) then too_long
     else (if is_blank line then skipped else event))
 
 abbrev pub ends_run : Fate → Bool
@@ -73,7 +73,7 @@ told_lines n (line ∷ lines) = line ∷ (if ends_run (fate n line) then [] else
 -- the bytes of these lines, of each no more than one past the limit
 abbrev pub reach : List (List ℕ) → ℕ
 reach [] = 0
-reach (line ∷ lines) = (min (length line) LINE_LIMIT + 1) + reach lines
+reach (line ∷ lines) = (min (length line) most_line_bytes + 1) + reach lines
 
 -- What a session may answer to an event line, and how it stands then.
 abbrev pub Replies : Type 0 → Type 1

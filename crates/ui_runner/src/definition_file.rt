@@ -1,7 +1,7 @@
 //! The bytes of a definition, out of a feed.
 
 ghost use Rattle.std.specs.Prelude.{◌≡◌, ◌+◌, take, IfOk, IfSome, MatchResult, false};
-ghost use Rattle.builder_defs.specs.declared.document.TheConstants.{MAX_BYTES};
+ghost use Rattle.ui_machine.specs.Limits.{most_definition_bytes};
 ghost use Rattle.ui_runner.specs.Files.{Marks};
 
 use crate::chunk::Chunk;
@@ -54,7 +54,7 @@ impl<T: Drop> From<AllocFailed<T>> for FileFault {
 /// All bytes of a feed, but no more than the limit of a definition and one, by which it is refused.
 pub fn definition_bytes<R: Feed>(alloc: Global, reader: &mut R) -> Result<Vec<u8>, FileFault>
     requires works { R.failed reader.old ≡ false }
-    ensures bytes { IfOk result (λ bytes. IfSome (R.left reader.old) (λ input. bytes.items ≡ take (MAX_BYTES + 1) input)) }
+    ensures bytes { IfOk result (λ bytes. IfSome (R.left reader.old) (λ input. bytes.items ≡ take (most_definition_bytes + 1) input)) }
     ensures marks { MatchResult result (λ _. R.failed reader.new ≡ false) (Marks (R.failed reader.new)) }
 {
     let mut chunk = Chunk::new();

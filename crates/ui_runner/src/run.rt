@@ -4,12 +4,12 @@ ghost use Rattle.std.specs.Prelude.{◌≡◌, ◌≢◌, ◌≤◌, ◌+◌, le
 ghost use Rattle.std.specs.Io.KnownBytes.{Appends};
 ghost use Rattle.builder_defs.specs.Denoted.{denoted};
 ghost use Rattle.ui_runner.specs.Lines.{lines_of};
+ghost use Rattle.ui_runner.specs.Reading.{most_ahead};
 ghost use Rattle.ui_runner.specs.Story.{told_lines, reach};
 ghost use Rattle.ui_runner.specs.Texts.{joined, lines_text, nothing_begun, build_stopped};
 ghost use Rattle.ui_runner.specs.Writing.{Writes, IsMarked};
 ghost use Rattle.ui_runner.specs.Opening.{built, Concludes, Proceeds, Ran};
 
-use crate::chunk::CHUNK_SIZE;
 use crate::opening::{Opening, open};
 use crate::story::tell_lines;
 use crate::writing::{stop_name, write_all, write_lines, write_parts};
@@ -27,7 +27,7 @@ pub fn run<R: Feed, W: Sink>(alloc: Global, definition: &[u8], reader: &mut R, w
         Ran definition.now (lines_of input) result (W.failed writer.new) text × Appends (W.taken writer.old) (W.taken writer.new) text) }
     // It reads no further than the lines up to the first that ends the run, and a chunk.
     ensures near { result ≢ 4 → IfSome (R.left reader.old) (λ input. IfSome (R.left reader.new) (λ rest.
-        length input ≤ length rest + (reach (told_lines 1 (lines_of input)) + CHUNK_SIZE))) }
+        length input ≤ length rest + (reach (told_lines 1 (lines_of input)) + most_ahead))) }
     ensures unread { OnErr (denoted definition.now) (reader.new ≡ reader.old) }
     ensures failed { result ≡ 4 → (R.failed reader.new || W.failed writer.new) ≡ true }
     ensures works { result ≢ 4 → (R.failed reader.new ≡ false) × (W.failed writer.new ≡ false) }
@@ -103,7 +103,7 @@ fn play<R: Feed, W: Sink>(alloc: Global, mut session: Session, reader: &mut R, w
     ensures plays { IfSome (R.left reader.old) (λ input. (text : List ℕ) ×
         Proceeds (built session) (lines_of input) result (W.failed writer.new) text × Appends (W.taken writer.old) (W.taken writer.new) text) }
     ensures near { result ≢ 4 → IfSome (R.left reader.old) (λ input. IfSome (R.left reader.new) (λ rest.
-        length input ≤ length rest + (reach (told_lines 1 (lines_of input)) + CHUNK_SIZE))) }
+        length input ≤ length rest + (reach (told_lines 1 (lines_of input)) + most_ahead))) }
     ensures failed { result ≡ 4 → (R.failed reader.new || W.failed writer.new) ≡ true }
     ensures works { result ≢ 4 → (R.failed reader.new ≡ false) × (W.failed writer.new ≡ false) }
 {

@@ -3,9 +3,10 @@
 ghost use Rattle.std.specs.Prelude.{◌≡◌, ◌≢◌, ◌≤◌, ◌+◌, length, ℕ, List, true, ◌||◌, IfSome, false};
 ghost use Rattle.std.specs.Io.KnownBytes.{Appends};
 ghost use Rattle.ui_runner.specs.Lines.{lines_of};
+ghost use Rattle.ui_runner.specs.Reading.{most_ahead};
 ghost use Rattle.ui_runner.specs.Story.{Story, told_lines, reach};
 
-use crate::chunk::{CHUNK_SIZE, Chunk};
+use crate::chunk::Chunk;
 use crate::line_reader::LineReader;
 use crate::listener::Listener;
 use crate::telling::tell;
@@ -27,7 +28,7 @@ pub fn tell_lines<L: Listener, R: Feed, W: Sink>(
         Story L.replies L.forgotten listener.old (lines_of input) result (W.failed writer.new) text listener.new × Appends (W.taken writer.old) (W.taken writer.new) text) }
     // It reads no further than the lines up to the first that ends the run, and a chunk.
     ensures near { result ≢ 4 → IfSome (R.left reader.old) (λ input. IfSome (R.left reader.new) (λ rest.
-        length input ≤ length rest + (reach (told_lines 1 (lines_of input)) + CHUNK_SIZE))) }
+        length input ≤ length rest + (reach (told_lines 1 (lines_of input)) + most_ahead))) }
     ensures failed { result ≡ 4 → (R.failed reader.new || W.failed writer.new) ≡ true }
     ensures works { result ≢ 4 → (R.failed reader.new ≡ false) × (W.failed writer.new ≡ false) }
 {

@@ -4,6 +4,7 @@ ghost use Rattle.std.specs.Prelude.{◌≡◌, ◌≤◌, ℕ, List, false, leng
 ghost use Rattle.ui_runner.specs.Story.{Tells, ends, status_after, is_blank};
 ghost use Rattle.ui_runner.specs.Telling.{told_of};
 ghost use Rattle.ui_runner.specs.Reading.{IsOf};
+ghost use Rattle.ui_machine.specs.Limits.{most_lines};
 
 use crate::MOST_LINES;
 use crate::line_reader::Found;
@@ -64,7 +65,7 @@ pub fn tell<L: Listener>(
     ensures tells { (line : List ℕ) → IsOf found buffer.now line →
         Tells L.replies listener.old number line (told_of result (drop (length (L.lines listener.old)) (L.lines listener.new))) listener.new }
     ensures grows { length (L.lines listener.old) ≤ length (L.lines listener.new) }
-    ensures goes_on { (said : List (List ℕ)) → ends (told_of result said) ≡ false → (number ≤ MOST_LINES) × (found ≡ Found.Whole) }
+    ensures goes_on { (said : List (List ℕ)) → ends (told_of result said) ≡ false → (number ≤ most_lines) × (found ≡ Found.Whole) }
 {
     if found == Found::NoMemory {
         return Telling::Stopped(Halt::OutOfMemory);

@@ -1,6 +1,6 @@
 use Rattle.std.proofs.Common.{◌≡◌, ◌≢◌, ◌≤◌, ◌+◌, ◌-◌, List, ℕ, false}
 use Rattle.std.specs.Io.KnownBytes.{Appends, prepend_known}
-use Rattle.ui_runner.specs.declared.TheConstants.{MOST_LINES}
+use Rattle.ui_machine.specs.Limits.{most_lines}
 use Rattle.ui_runner.specs.Lines.{lines_of}
 use Rattle.ui_runner.specs.Reading.{WhereKnown}
 use Rattle.ui_runner.proofs.Near.{IsNear}
@@ -16,8 +16,8 @@ invariant-loop-next g l = record {
   writer_works : g.W.Sink.failed l.writer ≡ false;
   near : WhereKnown (g.R.Feed.left l.fn.reader) (prepend_known l.lines.chunk (g.R.Feed.left l.reader)) (λ xs ys. IsNear l.number xs ys);
   works : l.status ≢ 4;
-  within : l.number ≤ MOST_LINES + 1;
+  within : l.number ≤ most_lines + 1;
 }
 
 abbrev pub decreases-loop-next : goal.decreases-loop-next
-decreases-loop-next g l = MOST_LINES + 1 - l.number
+decreases-loop-next g l = most_lines + 1 - l.number
