@@ -1,4 +1,3 @@
-pub mod Mapped
 pub mod Names
 pub mod Numbers
 mod Computed

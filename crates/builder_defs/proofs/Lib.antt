@@ -1,4 +1,3 @@
-pub mod Listed
 pub mod Tables
 pub mod Whole
 pub mod Soundness

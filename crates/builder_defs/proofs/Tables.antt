@@ -9,7 +9,7 @@ use Rattle.ui_machine.specs.Lookups as lookups
 use Rattle.ui_machine.specs.Properties.{Spec}
 use Rattle.param_specs.specs.Table.{specs_of}
 use Rattle.builder_defs.specs.Meaning.{Entry, class_with, plain_object, meaning, IsPlain, ArePlain, IsBasic}
-use Rattle.builder_defs.proofs.Listed.{read-listed}
+use Rattle.ui_machine.proofs.Listed.{read-listed}
 
 read-past : {A : Type 0} (d : A) (f : ℕ → A) (n i : ℕ) → n ≤ i → read d (listed f n) i ≡ d
 read-past d f zero i h = refl

@@ -1,5 +1,4 @@
 pub mod Numbers
-pub mod Numerals
 pub mod Wholes
 pub mod Called
 pub mod Bars

@@ -30,8 +30,8 @@ use Rattle.ui_engine.specs.declared.task.Task.TheVariants as tasks
 use Rattle.ui_engine.specs.declared.task.Task as code
 use Rattle.ui_engine.specs.TaskView.{task_of, name_of, build_from}
 use Rattle.ui_engine.specs.EngineView.{is_counted}
-use Rattle.ui_engine.specs.Growing.{Longer}
-use Rattle.ui_engine.proofs.Growing.{longer_same, longer_one}
+use Rattle.ui_machine.specs.Prefix.{IsPrefix}
+use Rattle.ui_machine.proofs.Prefixes.{prefix_same, prefix_one}
 use Rattle.ui_engine.specs.Holding.{making_of, IsHeld}
 use Rattle.ui_engine.specs.Measure.{weight, waiting_in, waiting}
 use Rattle.ui_engine.proofs.Lists.{total-append}
@@ -46,7 +46,7 @@ pub record Passes (d : Definition) (w : World) (t : Task) (rest : List Task) (n 
   pub falls : is_counted t ≡ false → total (weight d) e.agenda + waiting e.world.objects < total (weight d) (t ∷ rest) + waiting w.objects
   pub stays : is_counted t ≡ false → e.counted ≡ n
   pub counts : is_counted t ≡ true → (n < most_steps) × (e.counted ≡ suc n)
-  pub grows : Longer w.transcript e.world.transcript
+  pub grows : IsPrefix w.transcript e.world.transcript
 
 within_none : {A : Type 0} (xs : List A) (i : ℕ) → slice_get xs i ≡ None → length xs ≤ i
 within_none [] i none = omega arith
@@ -107,7 +107,7 @@ module _ (d : Definition) (w : World) (rest : List Task) (n : ℕ) where
   kept_down (tasks.Building place ∷ ts) v = refl
   kept_down (tasks.Carrying event ∷ ts) v = refl
 
-  ending_at : (e : Emission) (turns : List config.Turn) → IsHeld w (Emitting e turns ∷ rest) → (v : World) → v.objects ≡ w.objects → v.builder ≡ w.builder → v.floating ≡ w.floating → Longer w.transcript v.transcript
+  ending_at : (e : Emission) (turns : List config.Turn) → IsHeld w (Emitting e turns ∷ rest) → (v : World) → v.objects ≡ w.objects → v.builder ≡ w.builder → v.floating ≡ w.floating → IsPrefix w.transcript v.transcript
       → Passes d w (Emitting e turns) rest n (record { world = v; agenda = rest; counted = n })
   ending_at e turns held v objects builder floating grows = record {
     held = keeps_quietly w (Emitting e turns) rest (record { world = v; tasks = [] }) held (record { lives = λ q h. subst (λ (os : Objects). is_some (find os q) ≡ true) objects h; builder = builder; floating = floating; grows = grows }) (λ o. refl);
@@ -119,9 +119,9 @@ module _ (d : Definition) (w : World) (rest : List Task) (n : ℕ) where
 
   ended : (e : Emission) (turns : List config.Turn) → IsHeld w (Emitting e turns ∷ rest) → (v : Option Value) (b : Bool)
       → Passes d w (Emitting e turns) rest n (record { world = told d w b v; agenda = rest; counted = n })
-  ended e turns held None b = ending_at e turns held w refl refl refl (longer_same w.transcript)
-  ended e turns held (Some v) false = ending_at e turns held w refl refl refl (longer_same w.transcript)
-  ended e turns held (Some v) true = ending_at e turns held (told d w true (Some v)) refl refl refl (longer_one w.transcript _)
+  ended e turns held None b = ending_at e turns held w refl refl refl (prefix_same w.transcript)
+  ended e turns held (Some v) false = ending_at e turns held w refl refl refl (prefix_same w.transcript)
+  ended e turns held (Some v) true = ending_at e turns held (told d w true (Some v)) refl refl refl (prefix_one w.transcript _)
 
   left_if : (t : Task) (a : Answer Left) → IfOk a (λ l. Passes d w t rest n (record { world = l.world; agenda = l.agenda; counted = n })) → IfOk (left n a) (Passes d w t rest n)
   unfolding left
@@ -152,7 +152,7 @@ module _ (d : Definition) (w : World) (rest : List Task) (n : ℕ) where
         falls = λ _. omega arith;
         stays = λ _. refl;
         counts = λ yes. cc yes;
-        grows = longer_same w.transcript;
+        grows = prefix_same w.transcript;
       }
       by place false old = tt
 
@@ -179,7 +179,7 @@ module _ (d : Definition) (w : World) (rest : List Task) (n : ℕ) where
 
       by : (b : Bool) → IfOk (only_if b arms.Flags (starts w (Setting id slot v ∷ Constructing id steps true ∷ []))) P
       by true = handing whole held refl (record { world = w; tasks = Setting id slot v ∷ Constructing id steps true ∷ [] })
-          (record { lives = λ q h. h; builder = refl; floating = refl; grows = longer_same w.transcript })
+          (record { lives = λ q h. h; builder = refl; floating = refl; grows = prefix_same w.transcript })
           (λ o. omega arith)
           (record { less = omega arith })
       by false = tt
@@ -210,7 +210,7 @@ module _ (d : Definition) (w : World) (rest : List Task) (n : ℕ) where
       begins : IfOk (beginning_program d w program args) Begins
       begins = bind_ok (known arms.Code (program_at d program)) _ Begins (λ p _.
           only (all_fit (fits_register d w.objects) args p.params) (record { world = said d w (lines.run p.name); tasks = Running (first_frame program p args) ∷ [] })
-          (record { lives = λ q h. h; builder = refl; floating = refl; grows = longer_one w.transcript _ }, (λ o. refl), omega arith, refl))
+          (record { lives = λ q h. h; builder = refl; floating = refl; grows = prefix_one w.transcript _ }, (λ o. refl), omega arith, refl))
 
   thaws_passes : (id : ℕ) (steps : List Making) → IsHeld w (Constructing id (config.thaws ∷ steps) true ∷ rest)
       → IfOk (uncounted rest n (thawing_made w id steps true)) (Passes d w (Constructing id (config.thaws ∷ steps) true) rest n)
@@ -228,7 +228,7 @@ module _ (d : Definition) (w : World) (rest : List Task) (n : ℕ) where
       hands : IfOk (thawing_made w id steps true) Hands
       hands = bind_ok (changed w.objects id frozen_less) _ Hands (λ r e.
           let h = if_ok_at (λ (r : Objects × List ℕ). (q : ℕ) → is_some (find r.0 q) ≡ true → is_some (find w.objects q) ≡ true) (changed w.objects id frozen_less) r (changed_lives w.objects id frozen_less) e in
-          (record { lives = h; builder = refl; floating = refl; grows = longer_same w.transcript }, λ o. omega arith))
+          (record { lives = h; builder = refl; floating = refl; grows = prefix_same w.transcript }, λ o. omega arith))
 
   constructing_passes : (id : ℕ) (steps : List Making) → IsHeld w (Constructing id steps true ∷ rest) → IfOk (act d w None (Constructing id steps true ∷ rest) n) (Passes d w (Constructing id steps true) rest n)
   constructing_passes id [] held = constructed_passes id held
@@ -266,7 +266,7 @@ module _ (d : Definition) (w : World) (rest : List Task) (n : ℕ) where
     falls = λ _. omega (arith, waiting_more w.objects (new_object d place p None) refl);
     stays = λ _. refl;
     counts = λ yes. cc yes;
-    grows = (longer_one w.transcript _);
+    grows = (prefix_one w.transcript _);
   }
 
   module _ (basic : IsBasic d) (place : ℕ) (held : IsHeld w (Building (build_from d place) ∷ rest)) where
@@ -293,7 +293,7 @@ module _ (d : Definition) (w : World) (rest : List Task) (n : ℕ) where
 
     built_past : length d.places ≤ place → IfOk (uncounted rest n (building d w (build_from d place))) P
     built_past past = subst (λ (a : Answer Started). IfOk (uncounted rest n a) P) (sym (builds_nothing d w place past))
-        (steady (Building (build_from d place)) held (λ o. refl) refl (record { world = w; tasks = [] }) (record { quiet = record { lives = λ q h. h; builder = refl; floating = refl; grows = longer_same w.transcript }; none = λ o. refl }) (record { less = omega arith }))
+        (steady (Building (build_from d place)) held (λ o. refl) refl (record { world = w; tasks = [] }) (record { quiet = record { lives = λ q h. h; builder = refl; floating = refl; grows = prefix_same w.transcript }; none = λ o. refl }) (record { less = omega arith }))
 
     building_passes : IfOk (act d w None (Building (build_from d place) ∷ rest) n) P
     building_passes = by (slice_get d.places place) refl

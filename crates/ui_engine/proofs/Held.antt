@@ -11,8 +11,8 @@ use Rattle.ui_machine.specs.Answers.{Answer, ◌>>=◌, known}
 use Rattle.ui_machine.specs.Objects.{find, put, changed, unheld_from, next_unheld}
 use Rattle.ui_machine.specs.Mentions.{same, in_held, in_task, mentions}
 use Rattle.ui_machine.specs.Worlds.{Started, held_at, is_unbuilt, with_held, sunk, without}
-use Rattle.ui_engine.specs.Growing.{Longer}
-use Rattle.ui_engine.proofs.Growing.{longer_on}
+use Rattle.ui_machine.specs.Prefix.{IsPrefix}
+use Rattle.ui_machine.proofs.Prefixes.{prefix_on}
 use Rattle.ui_engine.specs.Holding.{making_of, IsHeld}
 use Rattle.ui_engine.proofs.Lists.{find-beside, find-more, total-append, total-written}
 
@@ -61,14 +61,14 @@ pub record Quietly (w new : World) : Type 0 where
   pub lives : (q : ℕ) → is_some (find new.objects q) ≡ true → is_some (find w.objects q) ≡ true
   pub builder : new.builder ≡ w.builder
   pub floating : new.floating ≡ w.floating
-  pub grows : Longer w.transcript new.transcript
+  pub grows : IsPrefix w.transcript new.transcript
 
 pub quietly_on : {w v new : World} → Quietly w v → Quietly v new → Quietly w new
 quietly_on p q = record {
   lives = λ i h. p.lives i (q.lives i h);
   builder = q.builder ∙ p.builder;
   floating = q.floating ∙ p.floating;
-  grows = longer_on p.grows q.grows;
+  grows = prefix_on p.grows q.grows;
 }
 
 pub if_ok_at : {A : Type 0} (P : A → Type 0) (a : Answer A) (x : A) → IfOk a P → a ≡ Ok x → P x

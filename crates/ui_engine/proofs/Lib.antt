@@ -1,5 +1,3 @@
-pub mod Growing
-pub mod Listed
 pub mod Shown
 pub mod Maps
 pub mod Lists

@@ -20,8 +20,8 @@ use Rattle.ui_machine.specs.Emissions.{notifying, signal_at}
 use Rattle.ui_machine.specs.Builds.{given_value}
 use Rattle.ui_machine.specs.Steps.{with_result, thawing, carrying_set, carrying_get, set_given}
 use Rattle.ui_machine.specs.Builds.{held_object}
-use Rattle.ui_engine.specs.Growing.{Longer}
-use Rattle.ui_engine.proofs.Growing.{longer_same, longer_one}
+use Rattle.ui_machine.specs.Prefix.{IsPrefix}
+use Rattle.ui_machine.proofs.Prefixes.{prefix_same, prefix_one}
 use Rattle.ui_engine.specs.Holding.{making_of}
 use Rattle.ui_engine.proofs.Held.{Quietly, quietly_on, if_ok_at, bind_ok, changed_lives}
 
@@ -31,7 +31,7 @@ pub record Calm (w : World) (s : Started) : Type 0 where
   pub none : (o : ℕ) → total (making_of o) s.tasks ≡ 0
 
 -- a world with other objects, as a change of one left them
-same_lives : {X : Type 0} (w new : World) (id : ℕ) (change : Object → Answer (Object × X)) (os : Objects × X) → changed w.objects id change ≡ Ok os → new.objects ≡ os.0 → new.builder ≡ w.builder → new.floating ≡ w.floating → Longer w.transcript new.transcript → Quietly w new
+same_lives : {X : Type 0} (w new : World) (id : ℕ) (change : Object → Answer (Object × X)) (os : Objects × X) → changed w.objects id change ≡ Ok os → new.objects ≡ os.0 → new.builder ≡ w.builder → new.floating ≡ w.floating → IsPrefix w.transcript new.transcript → Quietly w new
 same_lives {X} w new id change os e objects builder floating grows =
     let h = if_ok_at (λ (r : Objects × X). (q : ℕ) → is_some (find r.0 q) ≡ true → is_some (find w.objects q) ≡ true) (changed w.objects id change) os (changed_lives w.objects id change) e in
     record { lives = λ q s. h q (subst (λ (xs : Objects). is_some (find xs q) ≡ true) objects s); builder = builder; floating = floating; grows = grows }
@@ -45,7 +45,7 @@ none_made false id slot o = refl
 pub raising_calm : (w : World) (id slot : ℕ) → IfOk (raising w id slot) (Calm w)
 unfolding raising
 raising_calm w id slot = bind_ok (changed w.objects id (raised slot)) _ (Calm w) (λ r e. record {
-  quiet = same_lives w (record w { objects = r.0 }) id (raised slot) r e refl refl refl (longer_same w.transcript);
+  quiet = same_lives w (record w { objects = r.0 }) id (raised slot) r e refl refl refl (prefix_same w.transcript);
   none = none_made r.1 id slot;
 })
 
@@ -56,7 +56,7 @@ calm_on w v (Err arm) q h = tt
 pub notifying_calm : (d : Definition) (w : World) (id slot : ℕ) → IfOk (notifying d w id slot) (Calm w)
 unfolding notifying
 notifying_calm d w id slot = bind_ok (object_at w.objects id) _ (Calm w) (λ o _. bind_ok (known arms.Code (spec_of d o.class slot)) _ (Calm w) (λ p _. bind_ok (signal_at d o.class 0) _ (Calm w) (λ s _. record {
-  quiet = record { lives = λ q h. h; builder = refl; floating = refl; grows = (longer_one w.transcript _) };
+  quiet = record { lives = λ q h. h; builder = refl; floating = refl; grows = (prefix_one w.transcript _) };
   none = λ o. refl;
 })))
 
@@ -69,14 +69,14 @@ told_calm false w v id slot q = record { quiet = q; none = λ o. refl }
 pub written_calm : (d : Definition) (w : World) (id slot : ℕ) (s : Spec) (v : Value) → IfOk (written d w id slot s v) (Calm w)
 unfolding written
 written_calm d w id slot s v = bind_ok (changed w.objects id (with_value slot v)) _ (Calm w) (λ r e.
-    told_calm (notifies s r.1 v) w _ id slot (same_lives w _ id (with_value slot v) r e refl refl refl (longer_one w.transcript _)))
+    told_calm (notifies s r.1 v) w _ id slot (same_lives w _ id (with_value slot v) r e refl refl refl (prefix_one w.transcript _)))
 
 settled_calm : (d : Definition) (w : World) (id slot : ℕ) (s : Spec) (v valid : Value) → IfOk (settled d w id slot s v valid) (Calm w)
 settled_calm d w id slot s v valid = by (same_value valid v || is_lax s)
   where
     by : (b : Bool) → IfOk (cond b (written d w id slot s (kept w.objects s valid)) (starts (said d w (lines.refused id s.name v)) [])) (Calm w)
     by true = written_calm d w id slot s (kept w.objects s valid)
-    by false = record { quiet = record { lives = λ q h. h; builder = refl; floating = refl; grows = (longer_one w.transcript _) }; none = λ o. refl }
+    by false = record { quiet = record { lives = λ q h. h; builder = refl; floating = refl; grows = (prefix_one w.transcript _) }; none = λ o. refl }
 
 only_calm : (w : World) (b : Bool) (arm : Arm) (a : Answer Started) → IfOk a (Calm w) → IfOk (only_if b arm a) (Calm w)
 only_calm w true arm a h = h
@@ -88,13 +88,13 @@ setting_calm d w id slot v = bind_ok (spec_at d w.objects id slot) _ (Calm w) (�
 
 -- ** events
 
-still : (w new : World) → new.objects ≡ w.objects → new.builder ≡ w.builder → new.floating ≡ w.floating → Longer w.transcript new.transcript → Quietly w new
+still : (w new : World) → new.objects ≡ w.objects → new.builder ≡ w.builder → new.floating ≡ w.floating → IsPrefix w.transcript new.transcript → Quietly w new
 still w new objects builder floating grows = record { lives = λ q h. subst (λ (xs : Objects). is_some (find xs q) ≡ true) objects h; builder = builder; floating = floating; grows = grows }
 
 set_given_calm : (w : World) (id slot : ℕ) (given : Given) → IfOk (set_given w id slot given) (Calm w)
 unfolding set_given
 set_given_calm w id slot given = bind_ok (known arms.Operand (given_value w given)) _ (Calm w) (λ v _. record {
-  quiet = still w w refl refl refl (longer_same w.transcript);
+  quiet = still w w refl refl refl (prefix_same w.transcript);
   none = λ o. refl;
 })
 
@@ -107,10 +107,10 @@ carrying_set_calm d w place slot given = bind_ok (held_object w place) _ (Calm w
 pub carrying_get_calm : (d : Definition) (w : World) (place slot : ℕ) → IfOk (carrying_get d w place slot) (Calm w)
 unfolding carrying_get
 carrying_get_calm d w place slot = bind_ok (held_object w place) _ (Calm w) (λ id _. bind_ok (spec_at d w.objects id slot) _ (Calm w) (λ s _. bind_ok (asked w.objects id (value_at slot)) _ (Calm w) (λ v _.
-    only_calm w (is_readable s) arms.Flags (starts (with_result (said d w (lines.get id s.name v)) v) []) (record { quiet = still w _ refl refl refl (longer_one w.transcript _); none = λ o. refl }))))
+    only_calm w (is_readable s) arms.Flags (starts (with_result (said d w (lines.get id s.name v)) v) []) (record { quiet = still w _ refl refl refl (prefix_one w.transcript _); none = λ o. refl }))))
 
 -- ** thaws
 
 pub thawing_calm : (w : World) (id : ℕ) (slots : List ℕ) → IfOk (thawing w id slots) (Calm w)
-thawing_calm w id [] = record { quiet = still w w refl refl refl (longer_same w.transcript); none = λ o. refl }
-thawing_calm w id (slot ∷ slots) = record { quiet = still w w refl refl refl (longer_same w.transcript); none = λ o. refl }
+thawing_calm w id [] = record { quiet = still w w refl refl refl (prefix_same w.transcript); none = λ o. refl }
+thawing_calm w id (slot ∷ slots) = record { quiet = still w w refl refl refl (prefix_same w.transcript); none = λ o. refl }

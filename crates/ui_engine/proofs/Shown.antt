@@ -9,7 +9,7 @@ use Rattle.ui_machine.specs.Config.{Object, Objects}
 use Rattle.ui_machine.specs.Answers.{Answer, ◌>>=◌, known, Gives, Follows}
 use Rattle.ui_machine.specs.Objects.{find, put, asked, changed}
 use Rattle.ui_engine.specs.HeapView.{Lookup, objects_of, InRange, Replaces}
-use Rattle.ui_engine.proofs.Listed.{read-listed, listed-same, listed-write, listed-more, length-listed}
+use Rattle.ui_machine.proofs.Listed.{read-listed, listed-same, listed-write, listed-more, length-listed}
 
 -- a look-up past the identities that were given finds nothing
 nothing : (at : Lookup) (made id : ℕ) → InRange at made → ((0 < id) × (id ≤ made) → ⊥) → at id ≡ None

@@ -16,8 +16,8 @@ use Rattle.ui_engine.specs.declared.engine.Made.{Made}
 use Rattle.ui_engine.specs.declared.engine.Made.TheVariants as mades
 use Rattle.ui_engine.specs.TaskView.{task_of, agenda_of}
 use Rattle.ui_engine.specs.EngineView.{IsMade}
-use Rattle.ui_engine.specs.Growing.{Longer}
-use Rattle.ui_engine.proofs.Growing.{longer_by}
+use Rattle.ui_machine.specs.Prefix.{IsPrefix}
+use Rattle.ui_machine.proofs.Prefixes.{prefix_by}
 use Rattle.ui_engine.specs.Holding.{IsHeld}
 use Rattle.ui_engine.specs.Stepping.{Stepped}
 use Rattle.ui_engine.proofs.Held.{none_unmentioned, if_ok_at}
@@ -66,6 +66,6 @@ module _ (d : Definition) (basic : IsBasic d) (c e : Config) (held : IsHeld c.wo
       (record { asks = asks; leads = acts ∙ goes }, p.held, (p.counts made).0, (p.counts made).1)
   first_stepped (Err halt) goes made quiet = (halts_at d c halt asks (subst (Stops halt) (sym acts) goes), quiet)
 
-  pub first_grows : (result : Result Made Halt) → Goes result (act d c.world None (task_of d task ∷ agenda_of d s) c.counted) e → OnErr result (e.world.transcript ≡ c.world.transcript) → Longer c.world.transcript e.world.transcript
+  pub first_grows : (result : Result Made Halt) → Goes result (act d c.world None (task_of d task ∷ agenda_of d s) c.counted) e → OnErr result (e.world.transcript ≡ c.world.transcript) → IsPrefix c.world.transcript e.world.transcript
   first_grows (Ok made) goes quiet = (passes goes).grows
-  first_grows (Err halt) goes quiet = longer_by quiet
+  first_grows (Err halt) goes quiet = prefix_by quiet

@@ -1,4 +1,3 @@
-pub mod Growing
 pub mod ObjectView
 pub mod HeapView
 pub mod Holding

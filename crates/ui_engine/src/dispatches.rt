@@ -7,7 +7,7 @@ ghost use Rattle.ui_machine.specs.Runs.{beginning, first_world};
 ghost use Rattle.ui_engine.specs.View.{world_of};
 ghost use Rattle.ui_engine.specs.TaskView.{task_of};
 ghost use Rattle.ui_engine.specs.EngineView.{config_of};
-ghost use Rattle.ui_engine.specs.Growing.{Longer};
+ghost use Rattle.ui_machine.specs.Prefix.{IsPrefix};
 ghost use Rattle.ui_engine.specs.Holding.{IsHeld};
 ghost use Rattle.ui_engine.specs.Stepping.{Carried};
 
@@ -76,7 +76,7 @@ impl Engine {
     pub(crate) fn dispatch(&mut self, definition: &Definition, task: Task) -> Result<Reply, Halt>
         requires held { IsHeld (world_of self.now.world) [] }
         ensures carried { Carried result definition.now (beginning (world_of self.old.world) (task_of definition.now task)) (world_of self.new.world) }
-        ensures grows { Longer (world_of self.old.world).transcript (world_of self.new.world).transcript }
+        ensures grows { IsPrefix (world_of self.old.world).transcript (world_of self.new.world).transcript }
     {
         self.begin(definition, task)?;
         self.run(definition)?;

@@ -3,7 +3,7 @@
 ghost use Rattle.ui_engine.specs.View.{world_of};
 ghost use Rattle.ui_engine.specs.TaskView.{agenda_of};
 ghost use Rattle.ui_engine.specs.EngineView.{config_of};
-ghost use Rattle.ui_engine.specs.Growing.{Longer};
+ghost use Rattle.ui_machine.specs.Prefix.{IsPrefix};
 ghost use Rattle.ui_engine.specs.Holding.{IsHeld};
 ghost use Rattle.ui_engine.specs.Stepping.{Stepped, Advanced, Ran};
 
@@ -16,7 +16,7 @@ impl Engine {
     fn step(&mut self, definition: &Definition) -> Result<Made, Halt>
         requires held { IsHeld (world_of self.now.world) (agenda_of definition.now self.now.stack) }
         ensures stepped { Stepped result definition.now (config_of definition.now self.old) (config_of definition.now self.new) }
-        ensures grows { Longer (world_of self.old.world).transcript (world_of self.new.world).transcript }
+        ensures grows { IsPrefix (world_of self.old.world).transcript (world_of self.new.world).transcript }
     {
         let _types = definition.types();
         let Some(task) = self.stack.pop() else {
@@ -29,7 +29,7 @@ impl Engine {
     fn advance(&mut self, definition: &Definition) -> Result<bool, Halt>
         requires held { IsHeld (world_of self.now.world) (agenda_of definition.now self.now.stack) }
         ensures advanced { Advanced result definition.now (config_of definition.now self.old) (config_of definition.now self.new) }
-        ensures grows { Longer (world_of self.old.world).transcript (world_of self.new.world).transcript }
+        ensures grows { IsPrefix (world_of self.old.world).transcript (world_of self.new.world).transcript }
     {
         loop {
             match self.step(definition)? {
@@ -44,7 +44,7 @@ impl Engine {
     pub(crate) fn run(&mut self, definition: &Definition) -> Result<(), Halt>
         requires held { IsHeld (world_of self.now.world) (agenda_of definition.now self.now.stack) }
         ensures ran { Ran result definition.now (config_of definition.now self.old) (config_of definition.now self.new) }
-        ensures grows { Longer (world_of self.old.world).transcript (world_of self.new.world).transcript }
+        ensures grows { IsPrefix (world_of self.old.world).transcript (world_of self.new.world).transcript }
     {
         loop {
             if !self.advance(definition)? {

@@ -3,7 +3,7 @@
 ghost use Rattle.std.specs.Prelude.{◌≡◌, [], map, string_bytes, IfOk, IfErr, false};
 ghost use Rattle.ui_machine.specs.Runs.{beginning};
 ghost use Rattle.builder_defs.specs.Meaning.{event_of};
-ghost use Rattle.ui_engine.specs.Growing.{Longer};
+ghost use Rattle.ui_machine.specs.Prefix.{IsPrefix};
 ghost use Rattle.ui_engine.specs.TaskView.{task_of};
 ghost use Rattle.ui_engine.specs.SessionView.{Answers, Comes, building, carrying_out, without_lines};
 
@@ -116,7 +116,7 @@ impl Session {
     pub fn dispatch(&mut self, event: Event) -> Result<Reply, SessionFault>
         ensures answers { Answers self.old.stopped result self.old (event_of event) self.new }
         // It only adds lines.
-        ensures grows { Longer self.old.world.transcript self.new.world.transcript }
+        ensures grows { IsPrefix self.old.world.transcript self.new.world.transcript }
     {
         if self.stopped {
             return Err(SessionFault::Stopped);
@@ -128,7 +128,7 @@ impl Session {
     fn carry_out(&mut self, task: Task) -> Result<Reply, SessionFault>
         requires goes_on { self.now.stopped ≡ false }
         ensures comes { Comes result (carrying_out self.old.definition (beginning self.old.world (task_of self.old.definition task))) self.old.definition self.new }
-        ensures grows { Longer self.old.world.transcript self.new.world.transcript }
+        ensures grows { IsPrefix self.old.world.transcript self.new.world.transcript }
     {
         match self.engine.dispatch(&self.definition, task) {
             Ok(reply) => return Ok(reply),

@@ -1,1 +1,4 @@
 pub mod Numerals
+pub mod Mapped
+pub mod Listed
+pub mod Prefixes

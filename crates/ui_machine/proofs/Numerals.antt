@@ -1,8 +1,11 @@
 -- The machine's numerals are std's.
 use Rattle.std.proofs.Common.{◌≡◌, ℕ, zero, suc, ◌+◌, ◌/◌, ◌%◌, ◌<◌, ◌≤◌, ◌^◌, List, [], ◌∷◌, ◌++◌, cond, nat_lt, refl, sym, ap, ◌∙◌, arith, append_assoc, append-nil, decimal, false, ℤ, pos, negsuc}
+use Rattle.std.specs.Int.{w64}
+use Rattle.std.specs.Int.RustNames.{FitsSigned}
 use Rattle.std.specs.Fmt.{signed_decimal}
 use Rattle.std.proofs.lemmas.Fmt.{decimal_by_steps}
 use Rattle.std.proofs.lemmas.Bool.Decides.{nat_tests}
+use Rattle.std.proofs.lemmas.Int.{ints}
 use Rattle.ui_machine.specs.Text.{digits_before, numeral, signed_numeral}
 
 -- so many digits as stand in `ds` are put before the rest
@@ -22,12 +25,6 @@ one_more m ds h spells (suc k) rest small =
 pub numeral_decimal : (n : ℕ) → n < 2 ^ 64 → numeral n ≡ decimal n
 numeral_decimal n small = decimal_by_steps Spells last one_more n small 19 [] (omega arith) ∙ rw append-nil refl
 
--- a number of at most 64 bits on its side of zero
-abbrev pub IsSmall : ℤ → Type 0
-IsSmall (pos n) = n < 2 ^ 64
-IsSmall (negsuc n) = suc n < 2 ^ 64
-
--- the same with a sign
-pub signed_numeral_decimal : (n : ℤ) → IsSmall n → signed_numeral n ≡ signed_decimal n
-signed_numeral_decimal (pos n) small = numeral_decimal n small
-signed_numeral_decimal (negsuc n) small = ap (λ (s : List ℕ). 45 ∷ s) (numeral_decimal (suc n) small)
+pub signed_numeral_decimal : (z : ℤ) → FitsSigned w64 z → signed_numeral z ≡ signed_decimal z
+signed_numeral_decimal (pos n) h = numeral_decimal n (omega (arith, ints, h))
+signed_numeral_decimal (negsuc n) h = ap (λ l. 45 ∷ l) (numeral_decimal (suc n) (omega (arith, ints, h)))

@@ -1,4 +1,5 @@
 pub mod Seq
+pub mod Prefix
 pub mod Names
 pub mod Limits
 pub mod Kinds

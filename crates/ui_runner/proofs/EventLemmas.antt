@@ -4,7 +4,7 @@ use Rattle.ui_machine.specs.Config.{Event}
 use Rattle.builder_defs.specs.EventMeaning.{event_refusal, event_denoted, Fails}
 use Rattle.builder_defs.specs.declared.event_fault.EventError.{EventError}
 use Rattle.builder_defs.specs.declared.event_fault.EventError.TheVariants as errors
-use Rattle.ui_engine.specs.Growing.{Longer}
+use Rattle.ui_machine.specs.Prefix.{IsPrefix}
 use Rattle.ui_engine.specs.declared.dispatches.Reply.{Reply}
 use Rattle.ui_engine.specs.declared.session.SessionFault.{SessionFault}
 use Rattle.ui_engine.specs.declared.session.SessionFault.TheVariants as ends
@@ -21,7 +21,7 @@ drop_all [] = refl
 drop_all (x ∷ xs) = drop_all xs
 
 -- what grew is what it was and the rest
-pub grown : {A : Type 0} (xs ys : List A) → Longer xs ys → ys ≡ xs ++ drop (length xs) ys
+pub grown : {A : Type 0} (xs ys : List A) → IsPrefix xs ys → ys ≡ xs ++ drop (length xs) ys
 grown xs ys longer =
     longer.whole ∙ ap (λ more. xs ++ more) (sym (ap (drop (length xs)) longer.whole ∙ drop_front xs longer.more))
 
@@ -34,7 +34,7 @@ module _ (old : SessionState) (line : List ℕ) where
   unread errors.OutOfMemory fails = inr (refl, drop_all old.world.transcript, refl)
   unread (errors.Refused fault) fails = (record { refusal = event_refusal fault; denotes = fails }, refl, refl)
 
-  module _ (event : Event) (denotes : event_denoted old.definition line ≡ Ok event) (new : SessionState) (longer : Longer old.world.transcript new.world.transcript) where
+  module _ (event : Event) (denotes : event_denoted old.definition line ≡ Ok event) (new : SessionState) (longer : IsPrefix old.world.transcript new.world.transcript) where
     pub said_event : (reply : Reply) → Answers old.stopped (Ok reply) old event new → Says old line (since old new) new
     said_event reply answers = by old.stopped answers
       where

@@ -68,7 +68,7 @@ some_always (Some x) P h = h x
 module _ (a b c : Option (List ℕ)) (s : SessionState) (torn : Bool) where
   -- the build's lines broke off
   pub breaks_off : (lines : List (List ℕ)) → torn ≡ true → AppendsPart a c (lines_text s.world.transcript) → (text : List ℕ) × Proceeds (built s) lines 4 torn text × Appends a c text
-  breaks_off lines failed p = (p.part, inl (refl, failed, (p.more, p.split)), p.appends)
+  breaks_off lines failed p = (p.part, inl (refl, failed, record { more = p.more; whole = p.split }), p.appends)
 
   -- they were written, and then the events told
   pub plays : (lines : List (List ℕ)) (status : ℕ) (new : SessionState) → Appends a b (lines_text s.world.transcript)

@@ -73,7 +73,7 @@ module _ {S : Type 0} (replies : Replies S) (forgotten : S → S) where
   whole_story c over = record {
     outcomes = c.outcomes;
     told = c.told;
-    broke = λ _. ([], sym c.writes ∙ sym (append-nil _));
+    broke = λ _. record { more = []; whole = sym c.writes ∙ sym (append-nil _) };
     whole = λ _. c.writes;
     over = λ _. over;
     answer = λ _. c.answers;
@@ -93,7 +93,7 @@ module _ {S : Type 0} (replies : Replies S) (forgotten : S → S) where
   cut_story c = record {
     outcomes = c.outcomes;
     told = c.told;
-    broke = λ _. ([], sym c.writes ∙ sym (append-nil _));
+    broke = λ _. record { more = []; whole = sym c.writes ∙ sym (append-nil _) };
     whole = λ _. c.writes;
     over = λ ne. absurd (ne refl);
     answer = λ ne. absurd (ne refl);
@@ -105,7 +105,7 @@ module _ {S : Type 0} (replies : Replies S) (forgotten : S → S) where
   broken_story part more failed c e = record {
     outcomes = c.outcomes;
     told = c.told;
-    broke = λ _. (more, sym c.writes ∙ e);
+    broke = λ _. record { more = more; whole = sym c.writes ∙ e };
     whole = λ fine. cc (failed, fine);
     over = λ ne. absurd (ne refl);
     answer = λ ne. absurd (ne refl);

@@ -1,12 +1,13 @@
 -- How a run opens, before it tells the event lines, and the whole run.
 use Rattle.std.specs.Prelude.{◌≡◌, ◌⊎◌, ℕ, Bool, true, false, List, [], ◌++◌, Ok, Err}
 use Rattle.ui_machine.specs.declared.arm.Halt.{Halt}
+use Rattle.ui_machine.specs.Prefix.{IsPrefix}
 use Rattle.ui_machine.specs.Runs.{Tally, Carries, Halts, of_build}
 use Rattle.builder_defs.specs.Refusals.{Refusal}
 use Rattle.builder_defs.specs.Denoted.{denoted}
 use Rattle.ui_engine.specs.SessionView.{SessionState, without_lines}
 use Rattle.ui_runner.specs.Texts.{lines_text, definition_refused, nothing_begun, build_stopped}
-use Rattle.ui_runner.specs.Story.{IsFrontOf, Story}
+use Rattle.ui_runner.specs.Story.{Story}
 use Rattle.ui_runner.specs.Events.{event_replies}
 use Rattle.ui_runner.specs.RunOver.{RunsOver}
 
@@ -44,7 +45,7 @@ Opens bytes (built s) = (denoted bytes ≡ Ok s.definition) × IsBuilt s
 -- the text was written and the status answered, or the writer failed within the text
 abbrev pub Concludes : List ℕ → ℕ → ℕ → Bool → List ℕ → Type 0
 Concludes whole answer status torn text =
-    ((status ≡ 4) × (torn ≡ true) × IsFrontOf text whole) ⊎ ((status ≡ answer) × (torn ≡ false) × (text ≡ whole))
+    ((status ≡ 4) × (torn ≡ true) × IsPrefix text whole) ⊎ ((status ≡ answer) × (torn ≡ false) × (text ≡ whole))
 
 -- the lines of the build were written, and then the event lines told
 pub record Plays (s : SessionState) (lines : List (List ℕ)) (status : ℕ) (torn : Bool) (text : List ℕ) : Type 0 where
@@ -61,7 +62,7 @@ Proceeds (refused refusal) lines status torn text = Concludes (definition_refuse
 Proceeds unbegun lines status torn text = Concludes nothing_begun 3 status torn text
 Proceeds (stopped s halt) lines status torn text = Concludes (lines_text s.world.transcript ++ build_stopped halt) 3 status torn text
 Proceeds (built s) lines status torn text =
-    ((status ≡ 4) × (torn ≡ true) × IsFrontOf text (lines_text s.world.transcript)) ⊎ Plays s lines status torn text
+    ((status ≡ 4) × (torn ≡ true) × IsPrefix text (lines_text s.world.transcript)) ⊎ Plays s lines status torn text
 
 -- a run with these bytes of a definition and these event lines, whose writer failed or not
 pub record Ran (bytes : List ℕ) (lines : List (List ℕ)) (status : ℕ) (torn : Bool) (text : List ℕ) : Type 0 where

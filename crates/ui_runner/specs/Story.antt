@@ -4,6 +4,7 @@ use Rattle.std.specs.List.{list_all, list_any}
 use Rattle.ui_machine.specs.declared.arm.Halt.{Halt}
 use Rattle.ui_machine.specs.declared.arm.Halt.TheVariants as halts
 use Rattle.ui_machine.specs.Limits.{most_line_bytes, most_lines}
+use Rattle.ui_machine.specs.Prefix.{IsPrefix}
 use Rattle.ui_runner.specs.declared.refusal.LineRefusal.{LineRefusal}
 use Rattle.ui_runner.specs.declared.refusal.LineRefusal.TheVariants as refusals
 use Rattle.ui_runner.specs.Texts.{lines_text, refused_line, stopped_line}
@@ -102,15 +103,12 @@ Tale {S} replies forgotten old n (line ∷ lines) (outcome ∷ outcomes) new =
 abbrev pub IsOver : List (List ℕ) → List Outcome → Type 0
 IsOver lines outcomes = (length outcomes ≡ length lines) ⊎ (list_any ends outcomes ≡ true)
 
-abbrev pub IsFrontOf : List ℕ → List ℕ → Type 0
-IsFrontOf text whole = (more : List ℕ) × (whole ≡ text ++ more)
-
 -- a run over these lines that ended in this status, where the writer failed or not: their outcomes, and what it wrote
 pub record Story {S : Type 0} (replies : Replies S) (forgotten : S → S) (old : S) (lines : List (List ℕ)) (status : ℕ) (torn : Bool) (text : List ℕ) (new : S) : Type 0 where
   pub outcomes : List Outcome
   pub told : Tale replies forgotten old 1 lines outcomes new
   -- the writer failed: the text broke off
-  pub broke : torn ≡ true → IsFrontOf text (text_from 1 outcomes)
+  pub broke : torn ≡ true → IsPrefix text (text_from 1 outcomes)
   -- it did not: the whole text of the outcomes so far, also where the reader failed
   pub whole : torn ≡ false → text ≡ text_from 1 outcomes
   -- no device failed: there are no more outcomes, by the end of the lines or of the run

@@ -3,7 +3,7 @@ use Rattle.std.specs.Fmt.{signed_decimal}
 use Rattle.std.specs.Int.{w64}
 use Rattle.std.specs.Rc.{rc_str_bytes}
 use Rattle.std.proofs.lemmas.Int.{to_z-of_z}
-use Rattle.g_values.proofs.Numerals.{signed_numeral_decimal}
+use Rattle.ui_machine.proofs.Numerals.{signed_numeral_decimal}
 use Rattle.g_values.proofs.whole.signed_text.Goals as goal
 
 pub returns : goal.returns

@@ -1,7 +1,7 @@
 use Rattle.std.proofs.Common.{◌≡◌, ℕ, true, false, cond, refl, arith}
 use Rattle.ui_machine.specs.Config.{Source}
 use Rattle.ui_machine.specs.Sources.{has_number, due_after}
-use Rattle.main_context.proofs.Mapped.{mapped_written}
+use Rattle.ui_machine.proofs.Mapped.{mapped_written}
 use Rattle.main_context.proofs.sources.reschedule.Goals as goal
 use Rattle.main_context.proofs.sources.reschedule.Goals.{then-has_number, else-has_number}
 

@@ -6,7 +6,7 @@ use Rattle.ui_engine.specs.View.{world_of}
 use Rattle.ui_engine.specs.TaskView.{task_of}
 use Rattle.ui_engine.specs.EngineView.{config_of}
 use Rattle.ui_engine.specs.Holding.{IsHeld}
-use Rattle.ui_engine.proofs.Growing.{longer_by, longer_on}
+use Rattle.ui_machine.proofs.Prefixes.{prefix_by, prefix_on}
 use Rattle.ui_engine.proofs.Reaching.{reaches_here}
 use Rattle.ui_engine.proofs.engine.Engine.dispatch.Goals as goal
 
@@ -35,4 +35,4 @@ pub returns-clause-grows : goal.returns-clause-grows
 returns-clause-grows c =
     let begun = ap (λ (e : Config). e.world.transcript) c.in_ok-begin.ensures.ok in
     let said = ap (λ (w : World). w.transcript) c.in_ok-say.ensures.ok in
-    longer_on (longer_by begun) (longer_on c.in_ok-run.ensures.grows (record { more = _; whole = said }))
+    prefix_on (prefix_by begun) (prefix_on c.in_ok-run.ensures.grows (record { more = _; whole = said }))

@@ -5,7 +5,7 @@ use Rattle.ui_engine.specs.View.{world_of}
 use Rattle.ui_engine.specs.EngineView.{config_of}
 use Rattle.ui_engine.specs.Holding.{IsHeld}
 use Rattle.ui_engine.specs.Stepping.{Advanced}
-use Rattle.ui_engine.proofs.Growing.{longer_on}
+use Rattle.ui_machine.proofs.Prefixes.{prefix_on}
 use Rattle.ui_engine.proofs.Reaching.{reaches_on, halts_on}
 use Rattle.ui_engine.proofs.Held.{none_unmentioned, none_floats}
 use Rattle.ui_engine.proofs.engine.Engine.run.Goals as goal
@@ -27,4 +27,4 @@ pub loop-preserved : goal.loop-preserved
 loop-preserved c =
     let d = c.args.definition.now in
     let a = subst (λ (more : Bool). Advanced (Ok more) d (config_of d c.loop.self) (config_of d c.advance.new.self)) c.if-not-branch.false c.in_ok-advance.ensures.advanced in
-    record { reached = reaches_on d c.loop.invariant.reached a.0; held = a.1; grows = longer_on c.loop.invariant.grows c.in_ok-advance.ensures.grows }
+    record { reached = reaches_on d c.loop.invariant.reached a.0; held = a.1; grows = prefix_on c.loop.invariant.grows c.in_ok-advance.ensures.grows }
