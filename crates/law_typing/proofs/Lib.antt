@@ -15,5 +15,7 @@ pub mod PairProofs
 pub mod SettlesProofs
 pub mod SettlesTables
 pub mod ExactProofs
-pub mod KnobsBeginProofs
+pub mod Numbered
+pub mod BuildBegins
+pub mod WorkedBegins
 pub mod CycleProofs

@@ -3,7 +3,7 @@
 
 ghost use Rattle.law_typing.specs.Laws.{RanksRise, EdgesLeadToNodes, RankedIsAcyclic, UnrankedHasCycle, JudgedIsAccepted, AcceptedIsJudged, CycleIsReal, NamesDoNotCount};
 ghost use Rattle.law_typing.specs.CostLaws.{CostsSolved, DepthsSolved, EmissionsCover, PairsCover, StartsCover, CodeCovers, BlocksCover, SetsCover, EmitsCover, DepthsCover};
-ghost use Rattle.law_typing.specs.KnobsBegin.{KnobsBegin};
+ghost use Rattle.law_typing.specs.Beginnings.{WorkedBegin};
 ghost use Rattle.law_typing.specs.OneSolution.{OneRanking, OneCost, OneDepth, AcceptedIsPaired, AcceptedOnce};
 ghost use Rattle.law_typing.specs.ChainLaw.{ChainsDouble, ThreeLinks};
 ghost use Rattle.law_typing.specs.NamesLaw.{OneGraph};
@@ -76,9 +76,9 @@ pub fn judgement()
     ensures one { Accepted knobs_case.definition }
 {}
 
-/// What each step is to keep holds as the build of that definition begins.
+/// What each step is to keep holds as the build of each accepted definition begins, within the bound and the depth of its report.
 pub fn beginning()
-    ensures holds { KnobsBegin }
+    ensures holds { WorkedBegin }
 {}
 
 /// A rank rises along each edge to a node, and in the graph of a definition each edge leads to one. Where there are ranks there is no
