@@ -16,6 +16,9 @@ pub mod SettlesProofs
 pub mod SettlesTables
 pub mod ExactProofs
 pub mod Numbered
+pub mod ReadTests
 pub mod BuildBegins
+pub mod WellReadProofs
+pub mod WorkedReadProofs
 pub mod WorkedBegins
 pub mod CycleProofs

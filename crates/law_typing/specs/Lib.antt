@@ -61,3 +61,4 @@ pub mod RuleWords
 pub mod ClassHandlers
 pub mod OneSolution
 pub mod Beginnings
+pub mod WorkedRead

@@ -4,6 +4,7 @@
 ghost use Rattle.law_typing.specs.Laws.{RanksRise, EdgesLeadToNodes, RankedIsAcyclic, UnrankedHasCycle, JudgedIsAccepted, AcceptedIsJudged, CycleIsReal, NamesDoNotCount};
 ghost use Rattle.law_typing.specs.CostLaws.{CostsSolved, DepthsSolved, EmissionsCover, PairsCover, StartsCover, CodeCovers, BlocksCover, SetsCover, EmitsCover, DepthsCover};
 ghost use Rattle.law_typing.specs.Beginnings.{WorkedBegin};
+ghost use Rattle.law_typing.specs.WorkedRead.{WorkedRead};
 ghost use Rattle.law_typing.specs.OneSolution.{OneRanking, OneCost, OneDepth, AcceptedIsPaired, AcceptedOnce};
 ghost use Rattle.law_typing.specs.ChainLaw.{ChainsDouble, ThreeLinks};
 ghost use Rattle.law_typing.specs.NamesLaw.{OneGraph};
@@ -74,6 +75,11 @@ pub fn judgement()
     ensures judged { AcceptedIsJudged }
     ensures cycle { CycleIsReal }
     ensures one { Accepted knobs_case.definition }
+{}
+
+/// Each accepted definition that is worked here is well read.
+pub fn reading()
+    ensures worked { WorkedRead }
 {}
 
 /// What each step is to keep holds as the build of each accepted definition begins, within the bound and the depth of its report.
