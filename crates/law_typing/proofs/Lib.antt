@@ -21,4 +21,6 @@ pub mod BuildBegins
 pub mod WellReadProofs
 pub mod WorkedReadProofs
 pub mod WorkedBegins
+pub mod MidRunReached
+pub mod MidRunGood
 pub mod CycleProofs

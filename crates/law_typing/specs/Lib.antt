@@ -61,4 +61,5 @@ pub mod RuleWords
 pub mod ClassHandlers
 pub mod OneSolution
 pub mod Beginnings
+pub mod MidRun
 pub mod WorkedRead

@@ -4,6 +4,7 @@
 ghost use Rattle.law_typing.specs.Laws.{RanksRise, EdgesLeadToNodes, RankedIsAcyclic, UnrankedHasCycle, JudgedIsAccepted, AcceptedIsJudged, CycleIsReal, NamesDoNotCount};
 ghost use Rattle.law_typing.specs.CostLaws.{CostsSolved, DepthsSolved, EmissionsCover, PairsCover, StartsCover, CodeCovers, BlocksCover, SetsCover, EmitsCover, DepthsCover};
 ghost use Rattle.law_typing.specs.Beginnings.{WorkedBegin};
+ghost use Rattle.law_typing.specs.MidRun.{MidRun};
 ghost use Rattle.law_typing.specs.WorkedRead.{WorkedRead};
 ghost use Rattle.law_typing.specs.OneSolution.{OneRanking, OneCost, OneDepth, AcceptedIsPaired, AcceptedOnce};
 ghost use Rattle.law_typing.specs.ChainLaw.{ChainsDouble, ThreeLinks};
@@ -85,6 +86,11 @@ pub fn reading()
 /// What each step is to keep holds as the build of each accepted definition begins, within the bound and the depth of its report.
 pub fn beginning()
     ensures holds { WorkedBegin }
+{}
+
+/// It holds at two configurations in the middle of a run as well, which the machine reaches.
+pub fn amid()
+    ensures holds { MidRun }
 {}
 
 /// A rank rises along each edge to a node, and in the graph of a definition each edge leads to one. Where there are ranks there is no
