@@ -20,6 +20,7 @@ pub mod ReadTests
 pub mod BuildBegins
 pub mod WellReadProofs
 pub mod WorkedReadProofs
+pub mod RestProofs
 pub mod WorkedBegins
 pub mod MidRunReached
 pub mod MidRunGood

@@ -4,6 +4,7 @@
 ghost use Rattle.law_typing.specs.Laws.{RanksRise, EdgesLeadToNodes, RankedIsAcyclic, UnrankedHasCycle, JudgedIsAccepted, AcceptedIsJudged, CycleIsReal, NamesDoNotCount};
 ghost use Rattle.law_typing.specs.CostLaws.{CostsSolved, DepthsSolved, EmissionsCover, PairsCover, StartsCover, CodeCovers, BlocksCover, SetsCover, EmitsCover, DepthsCover};
 ghost use Rattle.law_typing.specs.Beginnings.{WorkedBegin};
+ghost use Rattle.law_typing.specs.StepsKeepGood.{GoodIsWithin, EndsRest, TurnsRest};
 ghost use Rattle.law_typing.specs.MidRun.{MidRun};
 ghost use Rattle.law_typing.specs.WorkedRead.{WorkedRead};
 ghost use Rattle.law_typing.specs.OneSolution.{OneRanking, OneCost, OneDepth, AcceptedIsPaired, AcceptedOnce};
@@ -91,6 +92,13 @@ pub fn beginning()
 /// It holds at two configurations in the middle of a run as well, which the machine reaches.
 pub fn amid()
     ensures holds { MidRun }
+{}
+
+/// What is good is within its bound and its depth, a dispatch that has ended leaves a world at rest, and so does a turn that begins.
+pub fn rest()
+    ensures within { GoodIsWithin }
+    ensures ends { EndsRest }
+    ensures turns { TurnsRest }
 {}
 
 /// A rank rises along each edge to a node, and in the graph of a definition each edge leads to one. Where there are ranks there is no
