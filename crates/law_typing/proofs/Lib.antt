@@ -21,6 +21,7 @@ pub mod BuildBegins
 pub mod WellReadProofs
 pub mod WorkedReadProofs
 pub mod RestProofs
+pub mod NotGoodProofs
 pub mod WorkedBegins
 pub mod MidRunReached
 pub mod MidRunGood

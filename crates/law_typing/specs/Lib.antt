@@ -62,4 +62,5 @@ pub mod ClassHandlers
 pub mod OneSolution
 pub mod Beginnings
 pub mod MidRun
+pub mod NotGood
 pub mod WorkedRead

@@ -6,6 +6,7 @@ ghost use Rattle.law_typing.specs.CostLaws.{CostsSolved, DepthsSolved, Emissions
 ghost use Rattle.law_typing.specs.Beginnings.{WorkedBegin};
 ghost use Rattle.law_typing.specs.StepsKeepGood.{GoodIsWithin, EndsRest, TurnsRest};
 ghost use Rattle.law_typing.specs.MidRun.{MidRun};
+ghost use Rattle.law_typing.specs.NotGood.{NotGood};
 ghost use Rattle.law_typing.specs.WorkedRead.{WorkedRead};
 ghost use Rattle.law_typing.specs.OneSolution.{OneRanking, OneCost, OneDepth, AcceptedIsPaired, AcceptedOnce};
 ghost use Rattle.law_typing.specs.ChainLaw.{ChainsDouble, ThreeLinks};
@@ -89,9 +90,10 @@ pub fn beginning()
     ensures holds { WorkedBegin }
 {}
 
-/// It holds at two configurations in the middle of a run as well, which the machine reaches.
+/// It holds at two configurations in the middle of a run as well, which the machine reaches, and does not at two that a run must not come to.
 pub fn amid()
     ensures holds { MidRun }
+    ensures fails { NotGood }
 {}
 
 /// What is good is within its bound and its depth, a dispatch that has ended leaves a world at rest, and so does a turn that begins.

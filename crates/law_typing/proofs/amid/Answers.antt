@@ -1,5 +1,6 @@
 use Rattle.law_typing.proofs.MidRunReached.{notification_reached, freeze_reached}
 use Rattle.law_typing.proofs.MidRunGood.{first_run_good, freezes_good}
+use Rattle.law_typing.proofs.NotGoodProofs.{not_good}
 use Rattle.law_typing.proofs.amid.Goals as goal
 
 pub returns : goal.returns
@@ -10,4 +11,5 @@ returns c = record {
     freeze_reached = freeze_reached;
     freeze_good = freezes_good;
   };
+  fails = not_good;
 }
