@@ -24,5 +24,12 @@ PlanCosts =
     r.channel ≡ signal place number →
     r.class_handler ≡ listed_if (class_handler_of d class sig.name) →
     r.stages ≡ stages_of (Some sig) →
-    1 + total (turn_cost d costs (view w) below) (plan w (class_handler_of d class sig.name) sig.flags [] id number detail)
+    1 + total (turn_cost d costs (view w) below) (plan w (record {
+      object = id;
+      signal = number;
+      detail = detail;
+      flags = sig.flags;
+      class_program = class_handler_of d class sig.name;
+      transfers = [];
+    }))
     ≤ emission_cost (graph d) costs r
