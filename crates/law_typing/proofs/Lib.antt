@@ -15,5 +15,14 @@ pub mod PairProofs
 pub mod SettlesProofs
 pub mod SettlesTables
 pub mod ExactProofs
-pub mod KnobsBeginProofs
+pub mod Numbered
+pub mod ReadTests
+pub mod BuildBegins
+pub mod WellReadProofs
+pub mod WorkedReadProofs
+pub mod RestProofs
+pub mod NotGoodProofs
+pub mod WorkedBegins
+pub mod MidRunReached
+pub mod MidRunGood
 pub mod CycleProofs

@@ -3,7 +3,11 @@
 
 ghost use Rattle.law_typing.specs.Laws.{RanksRise, EdgesLeadToNodes, RankedIsAcyclic, UnrankedHasCycle, JudgedIsAccepted, AcceptedIsJudged, CycleIsReal, NamesDoNotCount};
 ghost use Rattle.law_typing.specs.CostLaws.{CostsSolved, DepthsSolved, EmissionsCover, PairsCover, StartsCover, CodeCovers, BlocksCover, SetsCover, EmitsCover, DepthsCover};
-ghost use Rattle.law_typing.specs.KnobsBegin.{KnobsBegin};
+ghost use Rattle.law_typing.specs.Beginnings.{WorkedBegin};
+ghost use Rattle.law_typing.specs.StepsKeepGood.{GoodIsWithin, EndsRest, TurnsRest};
+ghost use Rattle.law_typing.specs.MidRun.{MidRun};
+ghost use Rattle.law_typing.specs.NotGood.{NotGood};
+ghost use Rattle.law_typing.specs.WorkedRead.{WorkedRead};
 ghost use Rattle.law_typing.specs.OneSolution.{OneRanking, OneCost, OneDepth, AcceptedIsPaired, AcceptedOnce};
 ghost use Rattle.law_typing.specs.ChainLaw.{ChainsDouble, ThreeLinks};
 ghost use Rattle.law_typing.specs.NamesLaw.{OneGraph};
@@ -76,9 +80,27 @@ pub fn judgement()
     ensures one { Accepted knobs_case.definition }
 {}
 
-/// What each step is to keep holds as the build of that definition begins.
+/// Each accepted definition that is worked here is well read.
+pub fn reading()
+    ensures worked { WorkedRead }
+{}
+
+/// What each step is to keep holds as the build of each accepted definition begins, within the bound and the depth of its report.
 pub fn beginning()
-    ensures holds { KnobsBegin }
+    ensures holds { WorkedBegin }
+{}
+
+/// It holds at two configurations in the middle of a run as well, which the machine reaches, and does not at two that a run must not come to.
+pub fn amid()
+    ensures holds { MidRun }
+    ensures fails { NotGood }
+{}
+
+/// What is good is within its bound and its depth, a dispatch that has ended leaves a world at rest, and so does a turn that begins.
+pub fn rest()
+    ensures within { GoodIsWithin }
+    ensures ends { EndsRest }
+    ensures turns { TurnsRest }
 {}
 
 /// A rank rises along each edge to a node, and in the graph of a definition each edge leads to one. Where there are ranks there is no

@@ -1,5 +1,5 @@
-use Rattle.law_typing.proofs.KnobsBeginProofs.{knobs_begin}
+use Rattle.law_typing.proofs.WorkedBegins.{worked_begin}
 use Rattle.law_typing.proofs.beginning.Goals as goal
 
 pub returns : goal.returns
-returns c = record { holds = knobs_begin }
+returns c = record { holds = worked_begin }

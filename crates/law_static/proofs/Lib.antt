@@ -1,0 +1,2 @@
+pub mod RisingProofs
+pub mod PlanCostProofs

@@ -1,0 +1,35 @@
+-- What the turns of an emission cost as it begins.
+use Rattle.std.specs.Prelude.{◌≡◌, ℕ, ◌+◌, ◌≤◌, List, [], Option, Some}
+use Rattle.ui_machine.specs.Seq.{total}
+use Rattle.ui_machine.specs.Definition.{Definition, Signal}
+use Rattle.ui_machine.specs.Config.{Task, World}
+use Rattle.ui_machine.specs.Emissions.{plan, class_handler_of}
+use Rattle.law_typing.specs.Channels.{signal}
+use Rattle.law_typing.specs.Graph.{Raised, graph, listed_if, stages_of}
+use Rattle.law_typing.specs.Tables.{Tables}
+use Rattle.law_typing.specs.Costs.{emission_cost}
+use Rattle.law_typing.specs.Laws.{IsIn}
+use Rattle.law_typing.specs.Standing.{standing, view}
+use Rattle.law_typing.specs.HandlersGood.{HandlersGood}
+use Rattle.law_typing.specs.DueCosts.{turn_cost}
+
+-- the counted step of a beginning, and the turns that it takes, are within the channel's cost
+abbrev pub PlanCosts : Type 0
+PlanCosts =
+    (d : Definition) (costs depths : Tables) (w : World) (agenda below : List Task) (r : Raised) (id place number class : ℕ) (sig : Signal)
+    (detail : Option (List ℕ)) →
+    HandlersGood d costs depths (standing w.objects) agenda w.last_handler w.handlers →
+    standing w.objects id ≡ Some place →
+    IsIn r (graph d).raised →
+    r.channel ≡ signal place number →
+    r.class_handler ≡ listed_if (class_handler_of d class sig.name) →
+    r.stages ≡ stages_of (Some sig) →
+    1 + total (turn_cost d costs (view w) below) (plan w (record {
+      object = id;
+      signal = number;
+      detail = detail;
+      flags = sig.flags;
+      class_program = class_handler_of d class sig.name;
+      transfers = [];
+    }))
+    ≤ emission_cost (graph d) costs r

@@ -1,0 +1,180 @@
+-- Tests of whether a definition is well read. They compute, so that each worked definition is found to be.
+use Rattle.std.specs.Prelude.{◌≡◌, ℕ, suc, ◌^◌, Bool, true, false, cond, not, ◌&&◌, ◌||◌, nat_eq, nat_lt, nat_le, List, [], ◌∷◌, length, drop, map, codes, Option, None, Some, slice_get, is_none}
+use Rattle.std.specs.List.{list_any, list_all, flat_map}
+use Rattle.ui_machine.specs.Names.{same_name}
+use Rattle.ui_machine.specs.Kinds.{Kind, RegisterKind}
+use Rattle.ui_machine.specs.Kinds as kinds
+use Rattle.ui_machine.specs.Types as sorts
+use Rattle.ui_machine.specs.Types.{Sort, GType}
+use Rattle.ui_machine.specs.Text.{no_type}
+use Rattle.ui_machine.specs.Transform.{same_kind, kind_fits}
+use Rattle.ui_machine.specs.Ancestry.{is_a, lineage, implemented_by}
+use Rattle.ui_machine.specs.Clamp.{is_valid}
+use Rattle.ui_machine.specs.Properties.{Spec, is_writable, is_construct, is_construct_only}
+use Rattle.ui_machine.specs.Definition.{Definition, Class, Signal, Instruction, Block, Program, Given, value, named, GivenProperty, Attached, Place, Bind}
+use Rattle.ui_machine.specs.Definition as words
+use Rattle.ui_machine.specs.Lookups.{type_of, spec_of, place_at}
+use Rattle.ui_machine.specs.Emissions.{signal_of}
+use Rattle.ui_machine.specs.Builds.{is_forward}
+use Rattle.ui_machine.specs.Calls.{has_shape}
+use Rattle.law_typing.specs.RegisterKinds.{Kinds}
+use Rattle.law_typing.specs.Brackets.{written, is_empty}
+use Rattle.law_typing.specs.Graph.{next_of}
+use Rattle.law_typing.specs.Inherits.{inherits}
+use Rattle.law_typing.specs.WellRead.{no_class_of, no_two, is_range, has_values, result_has_values, ends, is_plain, objects_of}
+use Rattle.law_typing.proofs.Numbered.{all_from}
+
+-- b holds wherever a does
+abbrev pub implies : Bool → Bool → Bool
+implies a b = cond a b true
+
+-- ** types
+
+abbrev pub is_class : Sort → Bool
+is_class sorts.class = true
+is_class _ = false
+
+abbrev pub is_below : Option ℕ → ℕ → Bool
+is_below None n = true
+is_below (Some m) n = nat_lt m n
+
+-- what a type is: its ancestors, and what they implement
+abbrev pub above : List GType → ℕ → List ℕ
+above types t = flat_map (λ s. s ∷ implemented_by types s) (lineage types t)
+
+abbrev pub is_transitive_at : List GType → ℕ → Bool
+is_transitive_at types a = list_all (λ b. list_all (is_a types a) (above types b)) (above types a)
+
+abbrev pub is_notify : Option Signal → Bool
+is_notify None = false
+is_notify (Some s) = same_name s.name (codes "notify") && (nat_eq s.flags 17 && (is_empty s.params && is_none s.result))
+
+abbrev pub is_spec_read : Definition → Spec → Bool
+is_spec_read d s =
+    is_valid no_class_of d.types s s.default
+    && (implies (is_construct s) (is_writable s)
+    && (implies (is_construct_only s) (is_writable s)
+    && (is_range s.kind s.low s.high
+    && (nat_lt s.flags (2 ^ 32)
+    && has_values d s.kind))))
+
+abbrev pub has_notify_at : Definition → ℕ → Bool
+has_notify_at d class = implies (is_class (type_of d class).sort) (is_notify (signal_of d class 0))
+
+abbrev pub are_types_read : Definition → Bool
+are_types_read d =
+    nat_eq (length d.classes) (length d.types)
+    && (all_from (λ t (x : GType). is_below x.parent t) 0 d.types
+    && (all_from (λ t (x : GType). is_transitive_at d.types t) 0 d.types
+    && (inherits d
+    && (all_from (λ t (x : GType). has_notify_at d t) 0 d.types
+    && (all_from (λ t (c : Class). list_all (is_spec_read d) c.specs) 0 d.classes
+    && (list_all (λ (c : Class). no_two same_name (map (λ (s : Spec). s.name) c.specs)) d.classes
+    && list_all (λ (c : Class). list_all (result_has_values d) c.signals) d.classes))))))
+
+-- ** programs
+
+abbrev pub same_register_kind : RegisterKind → RegisterKind → Bool
+same_register_kind kinds.unset kinds.unset = true
+same_register_kind (kinds.plain k) (kinds.plain l) = same_kind k l
+same_register_kind (kinds.some t) (kinds.some u) = nat_eq t u
+same_register_kind (kinds.at p) (kinds.at q) = nat_eq p q
+same_register_kind (kinds.at_or_null p) (kinds.at_or_null q) = nat_eq p q
+same_register_kind k l = false
+
+-- whether the kinds begin with these, and the others are unset
+abbrev pub begins_with : Kinds → Kinds → Bool
+begins_with [] ks = list_all (same_register_kind kinds.unset) ks
+begins_with (p ∷ params) [] = false
+begins_with (p ∷ params) (k ∷ ks) = same_register_kind p k && begins_with params ks
+
+abbrev pub is_ended : List Instruction → Bool
+is_ended [] = false
+is_ended (i ∷ []) = ends i
+is_ended (i ∷ j ∷ rest) = not (ends i) && is_ended (j ∷ rest)
+
+abbrev pub is_constant_fit : Definition → Instruction → Bool
+is_constant_fit d (words.const to kind v) = kind_fits no_class_of d.types v kind
+is_constant_fit d i = true
+
+abbrev pub is_within : ℕ → Option ℕ → Bool
+is_within registers None = true
+is_within registers (Some r) = nat_lt r registers
+
+abbrev pub is_block_read : Definition → Program → ℕ → Block → Bool
+is_block_read d p number b =
+    nat_eq (length b.entry) p.registers
+    && (nat_eq b.passes 1
+    && (is_ended b.code
+    && (list_all (is_constant_fit d) b.code
+    && (list_all (λ i. is_within p.registers (written i)) b.code
+    && list_all (λ i. list_all (λ to. nat_lt number to && nat_lt to (length p.blocks)) (next_of i)) b.code))))
+
+abbrev pub begins_first : Kinds → Option Block → Bool
+begins_first params None = false
+begins_first params (Some b) = begins_with params b.entry
+
+abbrev pub is_program_read : Definition → Program → Bool
+is_program_read d p =
+    nat_le (length p.params) p.registers && (begins_first p.params (slice_get p.blocks 0) && all_from (is_block_read d p) 0 p.blocks)
+
+-- ** places
+
+abbrev pub is_object_if : Option Place → Bool
+is_object_if None = false
+is_object_if (Some p) = not p.is_prototype
+
+abbrev pub is_place_of : Definition → ℕ → Option Place → Bool
+is_place_of d type None = false
+is_place_of d type (Some p) = not p.is_prototype && is_a d.types p.class type
+
+abbrev pub is_given_fit : Definition → Kind → Given → Bool
+is_given_fit d kind (value v) = kind_fits no_class_of d.types v kind
+is_given_fit d (kinds.object type) (named to) = is_place_of d type (place_at d to)
+is_given_fit d kind (named to) = false
+
+abbrev pub is_given_to : Definition → ℕ → Given → Option Spec → Bool
+is_given_to d place g None = false
+is_given_to d place g (Some s) = is_writable s && (is_given_fit d s.kind g && implies (is_forward place g) (not (is_construct_only s)))
+
+abbrev pub is_given_read : Definition → ℕ → Place → GivenProperty → Bool
+is_given_read d place p g = is_given_to d place g.given (spec_of d p.class g.slot)
+
+abbrev pub is_parent_read : Definition → ℕ → Option ℕ → Bool
+is_parent_read d place None = true
+is_parent_read d place (Some above) = nat_lt above place && is_object_if (place_at d above)
+
+abbrev pub is_data_read : Definition → Option ℕ → Bool
+is_data_read d None = true
+is_data_read d (Some place) = is_object_if (place_at d place)
+
+abbrev pub is_place_read : Definition → ℕ → Place → Bool
+is_place_read d place p =
+    nat_lt p.class (length d.types)
+    && (is_class (type_of d p.class).sort
+    && (not (type_of d p.class).is_abstract
+    && (is_parent_read d place p.parent
+    && (list_all (is_given_read d place p) p.given
+    && (no_two nat_eq (map (λ (g : GivenProperty). g.slot) p.given)
+    && (implies p.is_prototype (list_all is_plain p.given)
+    && (implies p.is_prototype (is_empty p.signals)
+    && (implies (not p.is_prototype) (nat_eq (length p.peers) (cond (has_shape d p.class) 1 0))
+    && list_all (λ (a : Attached). is_data_read d a.with) p.signals))))))))
+
+-- ** the whole
+
+abbrev pub is_in_order : List Place → Bool
+is_in_order places =
+    all_from (λ a (p : Place). all_from (λ b (q : Place). implies p.is_prototype (implies (not q.is_prototype) (nat_lt b a))) 0 places) 0 places
+
+abbrev pub is_well_read : Definition → Bool
+is_well_read d =
+    are_types_read d
+    && (all_from (λ n (p : Program). is_program_read d p) 0 d.programs
+    && (all_from (is_place_read d) 0 d.places
+    && (is_in_order d.places
+    && (no_two same_name (flat_map (λ (p : Place). p.peers) d.places)
+    && (list_all (λ (b : Bind). is_object_if (place_at d b.source) && is_object_if (place_at d b.target)) d.bindings
+    && (nat_le (objects_of d) d.most_objects
+    && (nat_le d.most_objects 4096
+    && nat_le d.most_handlers 16)))))))
