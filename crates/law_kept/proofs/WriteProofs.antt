@@ -1,5 +1,5 @@
 -- A write keeps the rest: what is found afterwards is the new object, or what was found before.
-use Rattle.std.proofs.Common.{◌≡◌, inl, inr, ◌⊎◌, refl, sym, ap, subst, ◌∙◌, ℕ, zero, suc, ◌+◌, ◌<◌, Bool, true, false, cond, List, [], ◌∷◌, Option, None, Some, slice_get, arith}
+use Rattle.std.proofs.Common.{◌≡◌, inl, inr, ◌⊎◌, refl, sym, ap, subst, ◌∙◌, ℕ, zero, suc, ◌<◌, Bool, true, false, List, [], ◌∷◌, Option, None, Some, slice_get, arith}
 use Rattle.std.specs.Prelude.{nat_eq, option_map}
 use Rattle.std.proofs.Math.Path.{fun_ext}
 use Rattle.std.proofs.lemmas.Bool.{eqb-true, eqb-false}
@@ -16,7 +16,7 @@ use Rattle.law_typing.specs.Tables.{Tables}
 use Rattle.law_typing.specs.Accepted.{Each}
 use Rattle.law_typing.specs.Laws.{IsIn}
 use Rattle.law_typing.specs.Brackets.{has_pair}
-use Rattle.law_typing.specs.Standing.{Standing, standing, view, View, Lives}
+use Rattle.law_typing.specs.Standing.{Standing, standing, view, Lives}
 use Rattle.law_typing.specs.ObjectsGood.{ValueGood, FamilyGood, PeerGood, ObjectGood, ObjectsGood}
 use Rattle.law_typing.specs.HandlersGood.{HandlersGood}
 use Rattle.law_typing.specs.BindingsGood.{BindingGood, BindingsGood, SourceGood, HeldGood}
@@ -118,7 +118,9 @@ module _ (d : Definition) (w : World) (id : ℕ) (o new : Object) (is : find w.o
   -- an object that was good and stands there still
   other_good : (i : ℕ) (x : Object) → ObjectGood d w (standing w.objects) i x → ObjectGood d next (standing os) i x
   other_good i x g = record {
-    place = g.place; is = g.is; class = g.class;
+    place = g.place;
+    is = g.is;
+    class = g.class;
     values = λ slot spec e. subst (λ s. ValueGood d s spec (slice_get x.values slot)) (sym same) (g.values slot spec e);
     children = subst (λ s. Each (Lives s) x.children) (sym same) g.children;
     parent = family_put w.objects id o new is like.children i x.parent g.parent;
@@ -153,7 +155,9 @@ module _ (d : Definition) (w : World) (id : ℕ) (o new : Object) (is : find w.o
 
   binding_good : (agenda : List Task) (b : Binding) → BindingGood d (standing w.objects) agenda w.objects b → BindingGood d (standing os) agenda os b
   binding_good agenda b g = record {
-    bind = g.bind; is = g.is; slots = g.slots;
+    bind = g.bind;
+    is = g.is;
+    slots = g.slots;
     source = ap (λ s. s b.source) same ∙ g.source;
     target = ap (λ s. s b.target) same ∙ g.target;
     setting = g.setting;

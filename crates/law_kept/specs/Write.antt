@@ -1,5 +1,5 @@
 -- One object is written over by another of the same place, class, family, count and peer: what is kept of the whole.
-use Rattle.std.specs.Prelude.{◌≡◌, ℕ, List, Option, Some, true, slice_get}
+use Rattle.std.specs.Prelude.{◌≡◌, ℕ, List, Some, true, slice_get}
 use Rattle.ui_machine.specs.Properties.{Spec, is_readable}
 use Rattle.ui_machine.specs.Definition.{Definition}
 use Rattle.ui_machine.specs.Lookups.{spec_of}
