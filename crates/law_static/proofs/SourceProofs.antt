@@ -1,13 +1,11 @@
 -- A due source begins well from any world at rest.
-use Rattle.std.proofs.Common.{◌≡◌, refl, sym, subst, ap, ◌∙◌, ℕ, zero, suc, ◌+◌, ◌≤◌, ◌<◌, max, Bool, true, List, [], ◌∷◌, length, Option, None, Some, arith}
+use Rattle.std.proofs.Common.{◌≡◌, refl, sym, subst, ap, ℕ, zero, suc, ◌+◌, ◌≤◌, List, [], ◌∷◌, length, Option, None, Some, arith}
 use Rattle.ui_machine.specs.Seq.{read, total}
 use Rattle.ui_machine.specs.Definition.{Definition}
-use Rattle.ui_machine.specs.Config.{Object, Objects, Binding, Source, Task, Due, World}
-use Rattle.ui_machine.specs.Objects.{find}
-use Rattle.law_typing.specs.Graph.{Raised, graph, place_of_channel}
+use Rattle.ui_machine.specs.Config.{Object, Objects, Binding, Task, Due, World}
+use Rattle.law_typing.specs.Graph.{Raised, graph}
 use Rattle.law_typing.specs.Tables.{Tables, of_program, greatest}
-use Rattle.law_typing.specs.Depths.{depth}
-use Rattle.law_typing.specs.Accepted.{Each, Accepted}
+use Rattle.law_typing.specs.Accepted.{Each}
 use Rattle.law_typing.specs.Standing.{standing, Lives}
 use Rattle.law_typing.specs.ObjectsGood.{PeersGood}
 use Rattle.law_typing.specs.HandlersGood.{ChannelGood, HandlersGood}
@@ -47,7 +45,10 @@ module _ (d : Definition) (costs depths : Tables) (w : World) (r : Resting d cos
 
   handlers : HandlersGood d costs depths (standing w.objects) agenda w.last_handler w.handlers
   handlers = record {
-    each = r.handlers.each; rising = r.handlers.rising; numbered = r.handlers.numbered; few = r.handlers.few;
+    each = r.handlers.each;
+    rising = r.handlers.rising;
+    numbered = r.handlers.numbered;
+    few = r.handlers.few;
     channels = λ id place e. each_to _ _ (graph d).raised (λ x f same. channel id x (f same)) (r.handlers.channels id place e);
   }
 
@@ -69,7 +70,14 @@ sources_begin d well a w r number s is =
     let none = none_carried d costs w.objects (none_queued d costs depths w r number) in
     record {
       objects = λ id o e. (let g = r.objects id o e in record {
-        place = g.place; is = g.is; class = g.class; values = g.values; children = g.children; parent = g.parent; queue = g.queue; peer = g.peer;
+        place = g.place;
+        is = g.is;
+        class = g.class;
+        values = g.values;
+        children = g.children;
+        parent = g.parent;
+        queue = g.queue;
+        peer = g.peer;
       });
       handlers = handlers d costs depths w r number;
       bindings = bindings d costs depths w r number;
@@ -86,12 +94,19 @@ sources_begin d well a w r number s is =
       };
       budget = of_program costs s.program;
       agenda = (
-        of_program costs s.program, of_program depths s.program, 0,
+        of_program costs s.program,
+        of_program depths s.program,
+        0,
         (tt, refl, (s, is, omega arith, omega arith)),
-        omega (arith, deep), omega arith, tt,
+        omega (arith, deep),
+        omega arith,
+        tt,
       );
       queues = λ id o e. (let none = r.thawed id o e in record {
-        count = none.0; few = (let zero = none.0 in omega (arith, zero)); none = λ h. none.1; deep = subst (Each _) (sym none.1) tt;
+        count = none.0;
+        few = (let zero = none.0 in omega (arith, zero));
+        none = λ h. none.1;
+        deep = subst (Each _) (sym none.1) tt;
       });
       few = omega (arith, few);
       spent = omega (arith, few, none);
