@@ -1,2 +1,3 @@
 pub mod RisingProofs
 pub mod PlanCostProofs
+pub mod SourceProofs

@@ -1,21 +1,21 @@
 -- What the turns of an emission cost as it begins is what runs at its channel.
-use Rattle.std.proofs.Common.{◌≡◌, refl, sym, ap, subst, ◌∙◌, ℕ, zero, suc, ◌+◌, ◌*◌, ◌≤◌, Bool, true, false, cond, List, [], ◌∷◌, ◌++◌, length, map, Option, None, Some, arith}
+use Rattle.std.proofs.Common.{◌≡◌, refl, ap, subst, ◌∙◌, ℕ, ◌+◌, ◌*◌, ◌≤◌, Bool, true, false, cond, List, [], ◌∷◌, ◌++◌, length, map, Option, None, Some, arith}
 use Rattle.std.specs.Prelude.{not, ◌&&◌, nat_eq}
 use Rattle.std.specs.List.{filter}
 use Rattle.ui_machine.specs.Seq.{total}
 use Rattle.ui_machine.specs.Properties.{has_flags}
-use Rattle.ui_machine.specs.Definition.{Definition, Signal}
+use Rattle.ui_machine.specs.Definition.{Definition}
 use Rattle.ui_machine.specs.Config.{Handler, handler, Turn, Task, World}
-use Rattle.ui_machine.specs.Emissions.{fits_detail, at_stage, handlers_for, runs_for, plan, class_handler_of}
+use Rattle.ui_machine.specs.Emissions.{fits_detail, at_stage, handlers_for, runs_for, class_handler_of}
 use Rattle.ui_machine.specs.Turns.{handler_of}
 use Rattle.law_typing.specs.Channels.{signal}
-use Rattle.law_typing.specs.Graph.{Raised, graph, place_of_channel, listed_if, stages_of}
+use Rattle.law_typing.specs.Graph.{graph, place_of_channel, listed_if}
 use Rattle.law_typing.specs.Tables.{Tables, of_program, greatest}
-use Rattle.law_typing.specs.Costs.{programs_cost, targets_cost, emission_cost}
+use Rattle.law_typing.specs.Costs.{programs_cost}
 use Rattle.law_typing.specs.Accepted.{Each}
 use Rattle.ui_machine.specs.Builds.{of_items}
 use Rattle.law_typing.specs.Standing.{view}
-use Rattle.law_typing.specs.HandlersGood.{ChannelGood, connecting_cost, is_connected, running_for}
+use Rattle.law_typing.specs.HandlersGood.{connecting_cost, is_connected, running_for}
 use Rattle.law_typing.specs.DueCosts.{turn_cost}
 use Rattle.law_typing.proofs.Lists.{each_in}
 use Rattle.law_static.specs.PlanCost.{PlanCosts}
@@ -140,7 +140,7 @@ plan_costs d costs depths w agenda below r id place number class sig detail hand
     let sum = three (cond (has_flags 1 sig.flags) 1 0) (cond (has_flags 2 sig.flags) 1 0) (cond (has_flags 4 sig.flags) 1 0) p in
     let stages : r.stages ≡ cond (has_flags 1 sig.flags) 1 0 + (cond (has_flags 2 sig.flags) 1 0 + (cond (has_flags 4 sig.flags) 1 0 + 0)) = staged ∙ omega (arith, n1, n2, n4) in
     let whole : r.stages * programs_cost costs r.class_handler ≡ (cond (has_flags 1 sig.flags) 1 0 + (cond (has_flags 2 sig.flags) 1 0 + (cond (has_flags 4 sig.flags) 1 0 + 0))) * p =
-      ap (λ n. n * programs_cost costs r.class_handler) stages ∙ ap (λ q. (cond (has_flags 1 sig.flags) 1 0 + (cond (has_flags 2 sig.flags) 1 0 + (cond (has_flags 4 sig.flags) 1 0 + 0))) * programs_cost costs q) by_class in
+    ap (λ n. n * programs_cost costs r.class_handler) stages ∙ ap (λ q. (cond (has_flags 1 sig.flags) 1 0 + (cond (has_flags 2 sig.flags) 1 0 + (cond (has_flags 4 sig.flags) 1 0 + 0))) * programs_cost costs q) by_class in
     let l1 = at_stage (has_flags 1 sig.flags) false o in
     let l2 = handlers_for hs id number detail false in
     let l3 = at_stage (has_flags 2 sig.flags) false o in

@@ -1,5 +1,5 @@
 -- What rises is found, and costs no more than what it is of.
-use Rattle.std.proofs.Common.{◌≡◌, refl, sym, ap, subst, ◌∙◌, ℕ, zero, suc, ◌+◌, ◌-◌, ◌≤◌, Bool, true, false, List, [], ◌∷◌, Option, None, Some, slice_get, arith}
+use Rattle.std.proofs.Common.{◌≡◌, refl, sym, ap, subst, ◌∙◌, ℕ, suc, ◌-◌, ◌≤◌, Bool, true, false, List, [], ◌∷◌, Some, slice_get, arith}
 use Rattle.std.specs.Prelude.{nat_eq}
 use Rattle.std.proofs.lemmas.Bool.{eqb-true, eqb-false, eq-eqb}
 use Rattle.ui_machine.specs.Seq.{total}
@@ -8,7 +8,7 @@ use Rattle.ui_machine.specs.Config.{Handler, Binding}
 use Rattle.ui_machine.specs.Turns.{handler_of}
 use Rattle.law_typing.specs.Accepted.{Each}
 use Rattle.law_typing.specs.Standing.{Rising}
-use Rattle.law_static.specs.Rising.{Found, Priced, RisingAreFound, RisingCosts}
+use Rattle.law_static.specs.Rising.{Priced, RisingAreFound, RisingCosts}
 
 abbrev number : Binding → ℕ
 number b = b.number

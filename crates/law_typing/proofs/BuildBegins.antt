@@ -1,12 +1,11 @@
 -- A build begins well where its items' costs, depths and number are within the bound, the depth and the limit, and its pool is ready.
-use Rattle.std.proofs.Common.{◌≡◌, refl, sym, subst, ap, ℕ, zero, suc, ◌+◌, ◌≤◌, Bool, true, List, [], ◌∷◌, Option, None, Some, arith}
-use Rattle.std.specs.Prelude.{◌&&◌, nat_le, leb}
+use Rattle.std.proofs.Common.{◌≡◌, refl, ℕ, zero, suc, ◌+◌, Bool, true, List, [], ◌∷◌, Some, arith}
+use Rattle.std.specs.Prelude.{nat_le}
 use Rattle.std.specs.List.{list_all}
 use Rattle.std.proofs.lemmas.Bool.{and_parts, leb-true}
 use Rattle.ui_machine.specs.Seq.{read, total}
 use Rattle.ui_machine.specs.Definition.{Definition, Place}
-use Rattle.ui_machine.specs.Lookups.{place_at}
-use Rattle.ui_machine.specs.Config.{Object, Peer, Item, built, unbuilt}
+use Rattle.ui_machine.specs.Config.{Object, Peer, built, unbuilt}
 use Rattle.ui_machine.specs.Objects as heap
 use Rattle.ui_machine.specs.Builds.{build_items, is_making}
 use Rattle.ui_machine.specs.Runs.{of_build}
@@ -38,11 +37,21 @@ each_all test P f (x ∷ xs) e = let both = and_parts (test x) (list_all test xs
 ready : (d : Definition) (peers : List Peer) (place : ℕ) (p : Place) (names : List (List ℕ)) → Each (PeerReady d peers p) names → Each (PoolGood d peers 0 place p) names
 ready d peers place p [] all = tt
 ready d peers place p (name ∷ names) all =
-    let r = all.0 in
-    (record {
-      number = r.number; peer = r.peer; shape = r.shape; methods = r.methods; is = r.is; has = r.has; of_class = r.of_class; shaped = r.shaped;
-      is_open = λ e. r.is_open; left = λ e h. r.free;
-    }, ready d peers place p names all.1)
+    let r = all.0 in (
+      record {
+        number = r.number;
+        peer = r.peer;
+        shape = r.shape;
+        methods = r.methods;
+        is = r.is;
+        has = r.has;
+        of_class = r.of_class;
+        shaped = r.shaped;
+        is_open = λ e. r.is_open;
+        left = λ e h. r.free;
+      },
+      ready d peers place p names all.1,
+    )
 
 -- what is reckoned of a build
 pub record Reckoned (d : Definition) (costs depths : Tables) (most_counted most : ℕ) : Type 0 where
@@ -68,9 +77,13 @@ begins d costs depths most_counted most peers pool r =
       pairs = record { frozen = λ id o e paired h. nothing_lives id o e; before = λ h. absurd (omega (arith, h)); one = omega arith };
       budget = total (item_cost d costs) (build_items d);
       agenda = (
-        total (item_cost d costs) (build_items d), most, 0,
+        total (item_cost d costs) (build_items d),
+        most,
+        0,
         (tt, refl, omega arith, each_all _ _ (λ item e. leb-true _ most e) (build_items d) r.shallow),
-        omega arith, omega arith, tt,
+        omega arith,
+        omega arith,
+        tt,
       );
       queues = λ id o e. nothing_lives id o e;
       few = omega (arith, few);

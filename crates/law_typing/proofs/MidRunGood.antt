@@ -1,5 +1,5 @@
 -- What each step is to keep holds at both.
-use Rattle.std.proofs.Common.{◌≡◌, refl, sym, subst, ap, ℕ, zero, suc, Bool, true, List, [], ◌∷◌, Option, None, Some, slice_get, arith}
+use Rattle.std.proofs.Common.{◌≡◌, refl, sym, subst, ℕ, zero, suc, true, List, [], ◌∷◌, Option, None, Some, slice_get, arith}
 use Rattle.std.specs.Prelude.{⊤}
 use Rattle.std.proofs.lemmas.Bool.{leb-true}
 use Rattle.ui_machine.specs.Values.{Value}
@@ -7,7 +7,7 @@ use Rattle.ui_machine.specs.Kinds as kinds
 use Rattle.ui_machine.specs.Properties.{Spec}
 use Rattle.ui_machine.specs.Definition.{Definition, Place}
 use Rattle.ui_machine.specs.Config.{Object, Objects, Held, built, Peer}
-use Rattle.ui_machine.specs.Lookups.{place_at, spec_of}
+use Rattle.ui_machine.specs.Lookups.{spec_of}
 use Rattle.ui_machine.specs.Objects as heap
 use Rattle.law_typing.specs.Typing.{data_in, passing, two_numbers, two_passing, moving, reckoning, comparing, sameness, negating, combining, joining, converting, property_of, getting, changing_none, assigning, place_for, naming, adopting, arguments, emitting, program_named, connecting, on_handlers, attaching, methods_for, method_named, calling, entering, branching, branching_null, returning}
 use Rattle.law_typing.specs.Brackets.{is_empty}
@@ -156,15 +156,48 @@ freezes_good = record {
   pairs = record { frozen = λ id o e paired h. absurd (cc); before = λ h. absurd (omega (arith, h)); one = omega arith };
   budget = 8;
   agenda = (
-    8, 2, 0, (tt, record {
-      p = _; is = refl; b = _; in_block = refl; inside = leb-true 4 9 refl; once = refl; counted = refl;
-      ks = kinds.some 2 ∷ kinds.plain (kinds.whole kinds.int) ∷ []; fit = registers_fit; comes = tt; kept = refl; at_site = refl;
-      typed = refl; bracketed = refl; cheap = leb-true _ 8 refl; shallow = leb-true _ 2 refl;
-    }), leb-true 3 3 refl, leb-true 8 8 refl,
-    (0, 1, 0, record {
-      fits = record { place = 0; class = 2; sig = _; is = refl; of_class = refl; has = refl; args = refl; value = λ v e. absurd (cc) };
-      suits = refl; turns_fit = tt; cheap = leb-true 0 0 refl; shallow = tt; one = leb-true 1 1 refl;
-    }, leb-true 1 3 refl, leb-true 0 0 refl, tt),
+    8,
+    2,
+    0,
+    (
+      tt,
+      record {
+        p = _;
+        is = refl;
+        b = _;
+        in_block = refl;
+        inside = leb-true 4 9 refl;
+        once = refl;
+        counted = refl;
+        ks = kinds.some 2 ∷ kinds.plain (kinds.whole kinds.int) ∷ [];
+        fit = registers_fit;
+        comes = tt;
+        kept = refl;
+        at_site = refl;
+        typed = refl;
+        bracketed = refl;
+        cheap = leb-true _ 8 refl;
+        shallow = leb-true _ 2 refl;
+      },
+    ),
+    leb-true 3 3 refl,
+    leb-true 8 8 refl,
+    (
+      0,
+      1,
+      0,
+      record {
+        fits = record { place = 0; class = 2; sig = _; is = refl; of_class = refl; has = refl; args = refl; value = λ v e. absurd (cc) };
+        suits = refl;
+        turns_fit = tt;
+        cheap = leb-true 0 0 refl;
+        shallow = tt;
+        one = leb-true 1 1 refl;
+      },
+      leb-true 1 3 refl,
+      leb-true 0 0 refl,
+      tt,
+    ),
   );
   queues = λ id x e. (let o = freezes_only id x e in
       subst (λ i. QueueGood freezes.definition (depths_of freezes.definition) 3 case.at_freeze.agenda case.at_freeze.counted i x) (sym o.0)

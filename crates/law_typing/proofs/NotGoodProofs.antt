@@ -1,8 +1,8 @@
 -- Neither is good.
-use Rattle.std.proofs.Common.{◌≡◌, refl, sym, subst, ap, ◌∙◌, ℕ, zero, suc, Bool, true, false, List, [], ◌∷◌, length, Option, None, Some, slice_get}
+use Rattle.std.proofs.Common.{◌≡◌, sym, subst, ap, ◌∙◌, ℕ, zero, true, List, [], ◌∷◌, Option, None, Some, slice_get}
 use Rattle.ui_machine.specs.Kinds as kinds
 use Rattle.ui_machine.specs.Values as values
-use Rattle.ui_machine.specs.Definition.{Definition, Block, Program}
+use Rattle.ui_machine.specs.Definition.{Block, Program}
 use Rattle.law_typing.specs.RegisterKinds.{Kinds, kind_in}
 use Rattle.law_typing.specs.Standing.{standing, holds}
 use Rattle.law_typing.specs.NotGood.{definition, two, NotGood}

@@ -1,12 +1,11 @@
 -- Tests of whether a definition is well read. They compute, so that each worked definition is found to be.
-use Rattle.std.specs.Prelude.{◌≡◌, ℕ, suc, ◌^◌, Bool, true, false, cond, not, ◌&&◌, ◌||◌, nat_eq, nat_lt, nat_le, List, [], ◌∷◌, length, drop, map, codes, Option, None, Some, slice_get, is_none}
-use Rattle.std.specs.List.{list_any, list_all, flat_map}
+use Rattle.std.specs.Prelude.{ℕ, ◌^◌, Bool, true, false, cond, not, ◌&&◌, nat_eq, nat_lt, nat_le, List, [], ◌∷◌, length, map, codes, Option, None, Some, slice_get, is_none}
+use Rattle.std.specs.List.{list_all, flat_map}
 use Rattle.ui_machine.specs.Names.{same_name}
 use Rattle.ui_machine.specs.Kinds.{Kind, RegisterKind}
 use Rattle.ui_machine.specs.Kinds as kinds
 use Rattle.ui_machine.specs.Types as sorts
 use Rattle.ui_machine.specs.Types.{Sort, GType}
-use Rattle.ui_machine.specs.Text.{no_type}
 use Rattle.ui_machine.specs.Transform.{same_kind, kind_fits}
 use Rattle.ui_machine.specs.Ancestry.{is_a, lineage, implemented_by}
 use Rattle.ui_machine.specs.Clamp.{is_valid}

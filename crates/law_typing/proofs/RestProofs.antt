@@ -1,9 +1,9 @@
 -- What is good is within the bound and the depth, a dispatch that has ended is at rest, and a turn leaves that as it is.
-use Rattle.std.proofs.Common.{◌≡◌, refl, sym, subst, ap, ℕ, zero, suc, ◌+◌, ◌≤◌, List, [], ◌∷◌, length, Option, None, Some, arith}
+use Rattle.std.proofs.Common.{◌≡◌, subst, ℕ, ◌+◌, ◌≤◌, List, [], ◌∷◌, length, Option, None, arith}
 use Rattle.ui_machine.specs.Values.{Value}
 use Rattle.ui_machine.specs.Seq.{total}
 use Rattle.ui_machine.specs.Definition.{Definition}
-use Rattle.ui_machine.specs.Config.{Task, Emitting, Running, Constructing, Peer, World, Config}
+use Rattle.ui_machine.specs.Config.{Task, Emitting, Running, Constructing, World, Config}
 use Rattle.ui_machine.specs.Builds.{to_make}
 use Rattle.ui_machine.specs.Objects.{live}
 use Rattle.ui_machine.specs.Runs.{HasEnded}
@@ -48,7 +48,14 @@ resting_as : (d : Definition) (costs depths : Tables) (w : World) (moment : ℕ)
     Resting d costs depths w → Resting d costs depths (record w { moment = moment; transcript = transcript; result = result })
 resting_as d costs depths w moment transcript result r = record {
   objects = λ id o e. (let g = r.objects id o e in record {
-    place = g.place; is = g.is; class = g.class; values = g.values; children = g.children; parent = g.parent; queue = g.queue; peer = g.peer;
+    place = g.place;
+    is = g.is;
+    class = g.class;
+    values = g.values;
+    children = g.children;
+    parent = g.parent;
+    queue = g.queue;
+    peer = g.peer;
   });
   handlers = r.handlers;
   bindings = r.bindings;

@@ -1,8 +1,8 @@
 -- What the tests find is so, and they find it of each worked definition.
-use Rattle.std.proofs.Common.{◌≡◌, inl, inr, ◌⊎◌, refl, sym, subst, ap, ◌∙◌, ℕ, zero, suc, ◌+◌, ◌<◌, ◌≤◌, Bool, true, false, cond, List, [], ◌∷◌, ◌++◌, length, Option, None, Some, slice_get, arith}
-use Rattle.std.specs.Prelude.{not, ◌&&◌, nat_eq, nat_lt, nat_le, is_none, codes}
+use Rattle.std.proofs.Common.{◌≡◌, inl, inr, ◌⊎◌, refl, sym, subst, ap, ◌∙◌, ℕ, zero, suc, ◌<◌, Bool, true, false, cond, List, [], ◌∷◌, ◌++◌, length, Option, None, Some, slice_get}
+use Rattle.std.specs.Prelude.{not, ◌&&◌, nat_eq, nat_lt, is_none, codes}
 use Rattle.std.specs.List.{list_any, list_all, flat_map}
-use Rattle.std.proofs.lemmas.Bool.{and_from, leb-true, ltb-true, eqb-true, cases_Bool, false≢true}
+use Rattle.std.proofs.lemmas.Bool.{and_from, leb-true, ltb-true, eqb-true}
 use Rattle.ui_machine.specs.Seq.{read}
 use Rattle.ui_machine.specs.Names.{same_name}
 use Rattle.ui_machine.specs.Kinds.{Whole, int, uint, int64, uint64, Kind, RegisterKind}
@@ -12,19 +12,18 @@ use Rattle.ui_machine.specs.Types.{Sort, GType}
 use Rattle.ui_machine.specs.Text.{no_type}
 use Rattle.ui_machine.specs.Transform.{same_whole, same_kind}
 use Rattle.ui_machine.specs.Ancestry.{is_a, lineage, line_from, implemented_by, implemented, is_or_implements, parent_of}
-use Rattle.ui_machine.specs.Properties.{Spec, is_writable, is_construct_only}
+use Rattle.ui_machine.specs.Properties.{Spec, is_construct_only}
 use Rattle.ui_machine.specs.Definition.{Definition, Class, Signal, Instruction, Block, Program, Given, value, named, GivenProperty, Attached, Place, Bind}
 use Rattle.ui_machine.specs.Definition as words
-use Rattle.ui_machine.specs.Lookups.{no_class, class_of, type_of, spec_of, place_at, program_at}
+use Rattle.ui_machine.specs.Lookups.{no_class, class_of, type_of, spec_of, place_at}
 use Rattle.ui_machine.specs.Emissions.{signal_of}
 use Rattle.ui_machine.specs.Builds.{is_forward}
 use Rattle.law_typing.specs.RegisterKinds.{Kinds}
 use Rattle.law_typing.specs.Brackets.{written, is_empty}
 use Rattle.law_typing.specs.Graph.{next_of}
 use Rattle.law_typing.specs.Accepted.{Each}
-use Rattle.law_typing.specs.Laws.{IsIn}
 use Rattle.law_typing.specs.WellRead.{SpecRead, HasNotify, TypesRead, Ends, ends, Within, ConstantFits, BlockRead, ProgramRead, GivenFits, GivenRead, IsObject, IsObjectIf, PlaceRead, WellRead}
-use Rattle.law_typing.proofs.Lists.{both_parts, either_part, any_in, each_in}
+use Rattle.law_typing.proofs.Lists.{both_parts, either_part}
 use Rattle.law_typing.proofs.Numbered.{all_from, all_from_get, all_from_read, all_from_below, all_get}
 use Rattle.law_typing.proofs.BuildBegins.{each_all}
 use Rattle.law_typing.proofs.ReadTests as tests
@@ -314,7 +313,10 @@ given_read d place p g e = go (spec_of d p.class g.slot) refl e
         let a = both_parts _ _ h in
         let b = both_parts _ _ a.1 in
         record {
-          spec = s; is = is; writable = a.0; fits = given_fits d s.kind g.given b.0;
+          spec = s;
+          is = is;
+          writable = a.0;
+          fits = given_fits d s.kind g.given b.0;
           forward = λ f. not_true (is_construct_only s) (implied (is_forward place g.given) (not (is_construct_only s)) b.1 f);
         }
 

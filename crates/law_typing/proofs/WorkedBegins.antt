@@ -1,7 +1,6 @@
 -- Each worked definition's build begins well.
-use Rattle.std.proofs.Common.{◌≡◌, refl, sym, subst, ap, ℕ, zero, suc, Bool, true, List, [], ◌∷◌, Option, None, Some}
+use Rattle.std.proofs.Common.{◌≡◌, refl, subst, ℕ, zero, suc, true, List, [], ◌∷◌, Option, None, Some}
 use Rattle.std.specs.Prelude.{⊤}
-use Rattle.std.specs.List.{list_all}
 use Rattle.ui_machine.specs.Definition.{Definition, Place}
 use Rattle.law_typing.specs.Typing.{data_in, passing, two_numbers, two_passing, moving, reckoning, comparing, sameness, negating, combining, joining, converting, property_of, getting, changing_none, assigning, place_for, naming, adopting, arguments, emitting, program_named, connecting, on_handlers, attaching, methods_for, method_named, calling, entering, branching, branching_null, returning}
 use Rattle.law_typing.specs.Brackets.{is_empty}
@@ -27,9 +26,21 @@ TallyReady (Some p) = Each (PeerReady last_reference.definition (tally ∷ []) p
 
 tally_ready : PoolReady last_reference.definition (tally ∷ [])
 tally_ready zero p e = subst TallyReady e tt
-tally_ready (suc zero) p e = subst TallyReady e (record {
-  number = 0; peer = tally; shape = 0; methods = _; is = refl; has = refl; of_class = refl; shaped = (refl, refl); is_open = refl; free = refl;
-}, tt)
+tally_ready (suc zero) p e = subst TallyReady e (
+  record {
+    number = 0;
+    peer = tally;
+    shape = 0;
+    methods = _;
+    is = refl;
+    has = refl;
+    of_class = refl;
+    shaped = (refl, refl);
+    is_open = refl;
+    free = refl;
+  },
+  tt,
+)
 tally_ready (suc (suc n)) p e = absurd (cc)
 
 pub worked_begin : WorkedBegin

@@ -13,7 +13,6 @@ use Rattle.law_typing.specs.Tables.{Tables, entry}
 use Rattle.law_typing.specs.Accepted.{Each}
 use Rattle.ui_machine.specs.Mentions.{mentions}
 use Rattle.law_typing.specs.DueCosts.{queued_cost}
-use Rattle.law_typing.specs.ComingDown.{none}
 use Rattle.law_typing.specs.ProgramsGood.{code_left}
 use Rattle.law_typing.specs.BuildsGood.{is_for_builder}
 use Rattle.law_typing.specs.AgendaGood.{frames}

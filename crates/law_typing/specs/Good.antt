@@ -3,7 +3,7 @@
 use Rattle.std.specs.Prelude.{◌≡◌, ℕ, ◌+◌, ◌≤◌, [], length, Some}
 use Rattle.ui_machine.specs.Seq.{total}
 use Rattle.ui_machine.specs.Definition.{Definition}
-use Rattle.ui_machine.specs.Config.{Object, sets, World, Config}
+use Rattle.ui_machine.specs.Config.{Object, World, Config}
 use Rattle.ui_machine.specs.Objects.{live}
 use Rattle.ui_machine.specs.Objects as heap
 use Rattle.ui_machine.specs.Builds.{to_make}

@@ -7,7 +7,7 @@ use Rattle.ui_machine.specs.Values as values
 use Rattle.ui_machine.specs.Types.{plain_class}
 use Rattle.ui_machine.specs.Definition.{Definition}
 use Rattle.ui_machine.specs.Definition as words
-use Rattle.ui_machine.specs.Config.{Object, Running, Config}
+use Rattle.ui_machine.specs.Config.{Object, built, Running, Config}
 use Rattle.ui_machine.specs.Runs.{first_world}
 use Rattle.law_typing.specs.Tables.{Tables}
 use Rattle.law_typing.specs.Good.{Good}
@@ -51,7 +51,7 @@ two = record {
 -- the program stands at its first instruction, with these registers
 abbrev pub running : List (Option Value) → Config
 running registers = record {
-  world = record (first_world definition []) { objects = Some two ∷ [] };
+  world = record (first_world definition []) { objects = Some two ∷ []; builder = built 1 ∷ [] };
   agenda = Running (record { program = 0; block = 0; at = 0; passes = 1; into = None; registers = registers }) ∷ [];
   counted = 0;
 }

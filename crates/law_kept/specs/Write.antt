@@ -1,0 +1,49 @@
+-- One object is written over by another of the same place, class, family, count and peer: what is kept of the whole.
+use Rattle.std.specs.Prelude.{◌≡◌, ℕ, List, Some, true, slice_get}
+use Rattle.ui_machine.specs.Properties.{Spec, is_readable}
+use Rattle.ui_machine.specs.Definition.{Definition}
+use Rattle.ui_machine.specs.Lookups.{spec_of}
+use Rattle.ui_machine.specs.Config.{Object, Task, World}
+use Rattle.ui_machine.specs.Objects.{find, put, live}
+use Rattle.ui_machine.specs.Worlds.{with_objects}
+use Rattle.law_typing.specs.Tables.{Tables}
+use Rattle.law_typing.specs.Accepted.{Each}
+use Rattle.law_typing.specs.Standing.{standing, view, Lives}
+use Rattle.law_typing.specs.ObjectsGood.{ValueGood, ObjectsGood}
+use Rattle.law_typing.specs.HandlersGood.{HandlersGood}
+use Rattle.law_typing.specs.BindingsGood.{BindingsGood, SourceGood, HeldGood}
+use Rattle.law_typing.specs.FreezesGood.{PairsGood}
+
+-- the object that is written is like the one that stood there
+pub record Like (d : Definition) (w : World) (o new : Object) : Type 0 where
+  pub place : new.place ≡ o.place
+  pub class : new.class ≡ o.class
+  pub children : new.children ≡ o.children
+  pub parent : new.parent ≡ o.parent
+  pub freezes : new.freezes ≡ o.freezes
+  pub disposed : new.disposed ≡ o.disposed
+  pub peer : new.peer ≡ o.peer
+  -- its values are valid, and only readable properties are queued
+  pub values : (slot : ℕ) (spec : Spec) → spec_of d o.class slot ≡ Some spec → ValueGood d (standing w.objects) spec (slice_get new.values slot)
+  pub queue : Each (λ slot. (spec : Spec) × (spec_of d o.class slot ≡ Some spec) × (is_readable spec ≡ true)) new.queue
+
+-- the parts of what is good that are not the agenda and the queues
+pub record Whole (d : Definition) (costs depths : Tables) (agenda : List Task) (w : World) : Type 0 where
+  pub objects : ObjectsGood d w
+  pub handlers : HandlersGood d costs depths (standing w.objects) agenda w.last_handler w.handlers
+  pub bindings : BindingsGood d (standing w.objects) agenda w.objects w.bindings
+  pub sources : Each (SourceGood d (standing w.objects)) w.sources
+  pub held : HeldGood (standing w.objects) w.builder
+  pub floating : Each (Lives (standing w.objects)) w.floating
+  pub pairs : PairsGood d agenda w.objects w.bindings
+
+-- they stay; as many objects live as before, each where it stood, so that the agenda reads the same
+pub record Kept (d : Definition) (costs depths : Tables) (agenda : List Task) (w new : World) : Type 0 where
+  pub alive : live new.objects ≡ live w.objects
+  pub seen : view new ≡ view w
+  pub whole : Whole d costs depths agenda new
+
+abbrev pub WriteKeeps : Type 0
+WriteKeeps =
+    (d : Definition) (costs depths : Tables) (agenda : List Task) (w : World) (id : ℕ) (o new : Object) → find w.objects id ≡ Some o → Like d w o new →
+    Whole d costs depths agenda w → Kept d costs depths agenda w (with_objects w (put w.objects id (Some new)))

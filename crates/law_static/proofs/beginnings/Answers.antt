@@ -1,0 +1,5 @@
+use Rattle.law_static.proofs.SourceProofs.{sources_begin}
+use Rattle.law_static.proofs.beginnings.Goals as goal
+
+pub returns : goal.returns
+returns c = record { sources = sources_begin }
