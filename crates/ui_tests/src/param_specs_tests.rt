@@ -2,7 +2,7 @@
 
 use crate::fixtures::{marks_kind, mode_kind, number_of, tree_of_members, value_of};
 use g_values::{Kind, Value, is_known};
-use param_specs::{MOST_PROPERTIES, PropertyFlags, Spec, SpecError, SpecTable, takes, validate};
+use param_specs::{PropertyFlags, Spec, SpecError, SpecTable, takes, validate};
 use std::alloc::Global;
 use std::test::Fail;
 use type_tree::{TypeFlags, TypeId, TypeTree};
@@ -223,36 +223,6 @@ fn tests_flags(rt: HostRuntime) -> Result<(), Fail> {
         let fault = install(&mut table, &tree, TypeId::new(4), spec).err();
         assert_eq!(rt; fault == Some(SpecError::FlagsClash), is_clash, "{bits}");
     }
-    Ok(())
-}
-
-#[test]
-fn has_room_for_64(rt: HostRuntime) -> Result<(), Fail> {
-    let alloc = rt.alloc();
-    let tree = tree_of_classes(alloc)?;
-    let (base, derived) = (TypeId::new(4), TypeId::new(5));
-    let mut table = SpecTable::new(alloc);
-    for number in 0..MOST_PROPERTIES {
-        let name = format!(in alloc; "p{number}")?;
-        let slot = install(
-            &mut table,
-            &tree,
-            base,
-            number_spec(alloc, name.as_str(), (0, 9))?,
-        )?;
-        assert_eq!(rt; usize::from(slot), number);
-    }
-    for (name, want) in [("more", SpecError::Limit), ("p63", SpecError::Duplicate)] {
-        let fault = install(
-            &mut table,
-            &tree,
-            derived,
-            number_spec(alloc, name, (0, 9))?,
-        )
-        .err();
-        assert_eq!(rt; fault, Some(want), "{name}");
-    }
-    assert_eq!(rt; table.slots_of(&tree, derived), MOST_PROPERTIES);
     Ok(())
 }
 

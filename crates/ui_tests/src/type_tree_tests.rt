@@ -4,7 +4,7 @@ use crate::fixtures::tree_of_members;
 use std::alloc::Global;
 use std::test::Fail;
 use type_tree::{
-    MOST_DEPTH, MOST_TYPES, TypeError, TypeFlags, TypeId, TypeLimit, TypeSort, TypeTree,
+    MOST_DEPTH, TypeError, TypeFlags, TypeId, TypeLimit, TypeSort, TypeTree,
 };
 
 const SEALED: TypeFlags = TypeFlags {
@@ -138,24 +138,3 @@ fn has_room_for_16_levels(rt: HostRuntime) -> Result<(), Fail> {
     Ok(())
 }
 
-#[test]
-fn has_room_for_256_types(rt: HostRuntime) -> Result<(), Fail> {
-    let alloc = rt.alloc();
-    let mut tree = TypeTree::new(alloc)?;
-    for number in 2..MOST_TYPES {
-        let name = format!(in alloc; "Type{number}")?;
-        let _ = tree.add_interface(name.as_str(), &[])?;
-    }
-    assert_eq!(rt; tree.len(), MOST_TYPES);
-    for (name, want) in [
-        ("More", TypeError::Limit(TypeLimit::Types)),
-        ("Type2", TypeError::Duplicate),
-    ] {
-        let want = Err(want);
-        assert_eq!(rt; tree.add_interface(name, &[]), want, "{name}");
-        assert_eq!(rt; tree.add_enum(name, Vec::new(alloc)), want, "{name}");
-        assert_eq!(rt; tree.add_flags(name, Vec::new(alloc)), want, "{name}");
-        assert_eq!(rt; add(&mut tree, name, "GObject", ""), want, "{name}");
-    }
-    Ok(())
-}
