@@ -3,7 +3,7 @@ use Rattle.std.proofs.Common.{◌≡◌, refl, List, [], ◌∷◌, true, false,
 use Rattle.std.specs.Prelude.{codes}
 use Rattle.ui_machine.specs.Config.{Binding}
 use Rattle.ui_machine.specs.Config as config
-use Rattle.ui_machine.specs.Bindings.{transfers, bindings_without, bindings_without_end, with_setting}
+use Rattle.ui_machine.specs.Bindings.{transfers, bindings_without, bindings_without_end, with_busy}
 
 abbrev pair : Binding
 pair = record {
@@ -14,7 +14,7 @@ pair = record {
   target = 2;
   target_slot = 0;
   flags = 7;
-  setting = false;
+  busy = false;
 }
 
 abbrev one_way : Binding
@@ -26,7 +26,7 @@ one_way = record {
   target = 3;
   target_slot = 0;
   flags = 0;
-  setting = false;
+  busy = false;
 }
 
 abbrev both : List Binding
@@ -47,5 +47,5 @@ ends_by_its_name = refl
 ends_with_an_end : bindings_without_end 3 both ≡ pair ∷ []
 ends_with_an_end = refl
 
-marks_one : with_setting 1 true both ≡ pair ∷ record one_way { setting = true } ∷ []
+marks_one : with_busy 1 true both ≡ pair ∷ record one_way { busy = true } ∷ []
 marks_one = refl

@@ -22,7 +22,7 @@ binding_of number setting b = record {
   target = b.target.0;
   target_slot = b.target_slot;
   flags = b.flags.0;
-  setting = setting;
+  busy = setting;
 }
 
 abbrev pub identity : ℕ → ObjectId
@@ -60,7 +60,7 @@ AreNumbered bindings next = All (λ b. b.number < next) bindings × (next < 2 ^ 
 
 -- whether the binding may be the next to act on a notification
 abbrev pub is_next : (object slot from : ℕ) → config.Binding → Bool
-is_next object slot from b = nat_le from b.number && listens object slot b && not b.setting
+is_next object slot from b = nat_le from b.number && listens object slot b && not b.busy
 
 -- the list with one binding more, that does not set
 abbrev pub with_binding : Made → Binding → Made

@@ -54,13 +54,13 @@ impl Bound {
     }
 
     pub(crate) fn is_setting(&self) -> bool
-        ensures { result ≡ self.now.setting }
+        ensures { result ≡ self.now.busy }
     {
         self.setting
     }
 
     pub(crate) fn mark(&mut self, setting: bool)
-        ensures { self.new ≡ record self.old { setting = setting } }
+        ensures { self.new ≡ record self.old { busy = setting } }
     {
         self.setting = setting;
     }

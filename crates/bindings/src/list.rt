@@ -2,7 +2,7 @@
 
 ghost use Rattle.std.specs.Prelude.{◌≡◌, ◌+◌, ◌-◌, ◌^◌, ◌<◌, ◌↔◌, [], OnOk, OnErr, IfOk, IfSome, option_map, count_by};
 ghost use Rattle.std.specs.List.{find, list_any};
-ghost use Rattle.ui_machine.specs.Bindings.{is_called, is_end, bindings_without, bindings_without_end, with_setting};
+ghost use Rattle.ui_machine.specs.Bindings.{is_called, is_end, bindings_without, bindings_without_end, with_busy};
 
 use crate::binding::{Binding, Transfer};
 use crate::bound::Bound;
@@ -117,7 +117,7 @@ impl Bindings {
     /// Marks the binding of a number as setting or not. Where it has ended, nothing happens.
     pub fn setting(&mut self, number: u64, setting: bool)
         ensures { self.new
-            ≡ record self.old { bindings = with_setting number setting self.old.bindings } }
+            ≡ record self.old { bindings = with_busy number setting self.old.bindings } }
     {
         mark(&mut self.bound, number, setting);
     }
@@ -139,7 +139,7 @@ fn end_at(bound: &mut Vec<Bound>, object: ObjectId)
 
 // The binding of the number is setting or not.
 fn mark(bound: &mut [Bound], number: u64, setting: bool)
-    ensures { bound.new ≡ with_setting number setting bound.old }
+    ensures { bound.new ≡ with_busy number setting bound.old }
 {
     for one in bound.iter_mut() {
         if one.has_number(number) {

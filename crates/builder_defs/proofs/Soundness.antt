@@ -61,9 +61,9 @@ PlainKind types k = (name : List ℕ) → IsPlain (property_spec types name k)
 
 named_plain : (r : Refusal) (types : List GType) (x y z : Bool)
     → OnRead (PlainKind types) (or_refused r (if x then Some kinds.bool else (if y then Some (kinds.whole kinds.int) else (if z then Some kinds.text else None))))
-named_plain r types true y z = λ name. record { kind = tt; flags = refl; strong = refl }
-named_plain r types false true z = λ name. record { kind = (refl, refl); flags = refl; strong = refl }
-named_plain r types false false true = λ name. record { kind = tt; flags = refl; strong = refl }
+named_plain r types true y z = λ name. record { kind = tt; flags = refl; strong = refl; default = λ all. refl }
+named_plain r types false true z = λ name. record { kind = (refl, refl); flags = refl; strong = refl; default = λ all. refl }
+named_plain r types false false true = λ name. record { kind = tt; flags = refl; strong = refl; default = λ all. refl }
 named_plain r types false false false = tt
 
 kind_plain : (path : List ℕ) (d : Data) (types : List GType) → OnRead (PlainKind types) (kind_at path d)
@@ -111,7 +111,7 @@ property_plain : (path : List ℕ) (types : List GType) (t : ℕ) (own : ℕ →
 unfolding property_at
 property_plain path types t own d all =
     on_bind IsPlain AllOwn (spec_at path types (specs_by types own t) d) (λ spec. installed path types t own spec) (spec_plain path types (specs_by types own t) d)
-    λ spec plain. installed_plain path (install_fault types (specs_by types own t) spec) (add_own own t (canonical_spec spec)) (added_plain own t (canonical_spec spec) all (record { kind = canonical_kind spec.kind spec plain.kind; flags = plain.flags; strong = plain.strong }))
+    λ spec plain. installed_plain path (install_fault types (specs_by types own t) spec) (add_own own t (canonical_spec spec)) (added_plain own t (canonical_spec spec) all (record { kind = canonical_kind spec.kind spec plain.kind; flags = plain.flags; strong = plain.strong; default = plain.default }))
 
 properties_plain : (path : List ℕ) (types : List GType) (t : ℕ) (own : ℕ → List Spec) (d : Data) → AllOwn own → OnRead AllOwn (properties_at path types t own d)
 unfolding properties_at

@@ -58,6 +58,7 @@ pub basic : (types : List GType) (specs : List (List Spec)) (objects : List Obje
 basic types specs objects plain = record {
   handlers = λ t. each_class (λ (c : Class). c.handlers ≡ []) lookups.no_class (λ t. class_with (specs_of types specs t)) (length types) t refl (λ t. refl);
   constructed = λ t. each_class (λ (c : Class). c.constructed ≡ None) lookups.no_class (λ t. class_with (specs_of types specs t)) (length types) t refl (λ t. refl);
+  shapes = λ t. each_class (λ (c : Class). c.shape ≡ None) lookups.no_class (λ t. class_with (specs_of types specs t)) (length types) t refl (λ t. refl);
   plain = plain_spec types specs objects plain;
   parents = each_object (λ (p : Place). p.parent ≡ None) (λ o. refl) objects;
   given = each_object (λ (p : Place). p.given ≡ []) (λ o. refl) objects;

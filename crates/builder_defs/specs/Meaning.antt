@@ -1,10 +1,11 @@
 -- Which definition and event of the machine the code's stand for.
-use Rattle.std.specs.Prelude.{◌≡◌, ℕ, ◌<◌, ◌≤◌, false, List, [], ◌∷◌, map, length, Option, None, Some, string_bytes, codes, slice_get}
+use Rattle.std.specs.Prelude.{◌≡◌, ℕ, ◌<◌, ◌≤◌, true, false, List, [], ◌∷◌, map, length, Option, None, Some, string_bytes, codes, slice_get}
 use Rattle.ui_machine.specs.Seq.{listed}
 use Rattle.ui_machine.specs.Kinds as kinds
 use Rattle.ui_machine.specs.Types.{GType}
 use Rattle.ui_machine.specs.Transform.{least, greatest}
 use Rattle.ui_machine.specs.Properties.{Spec}
+use Rattle.ui_machine.specs.Clamp.{is_valid}
 use Rattle.ui_machine.specs.Definition as machine
 use Rattle.ui_machine.specs.Lookups as lookups
 use Rattle.ui_machine.specs.Config as config
@@ -55,11 +56,12 @@ IsPlainKind (kinds.enum t) s = ⊥
 IsPlainKind (kinds.flags t) s = ⊥
 IsPlainKind (kinds.object t) s = ⊥
 
--- and with the default flags, readable and writable
+-- and with the default flags, readable and writable, and a valid default
 pub record IsPlain (s : Spec) : Type 0 where
   pub kind : IsPlainKind s.kind s
   pub flags : s.flags ≡ 3
   pub strong : s.weak ≡ false
+  pub default : (types : List GType) → is_valid (λ id. None) types s s.default ≡ true
 
 -- all properties of all types are plain
 pub record ArePlain (types : List GType) (specs : List (List Spec)) : Type 0 where
@@ -78,10 +80,11 @@ class_of_place (Some place) = place.class
 abbrev pub class_at : machine.Definition → ℕ → ℕ
 class_at d place = class_of_place (lookups.place_at d place)
 
--- what a definition does not have so far: handlers, programs, bindings, and objects but plain ones
+-- what a definition does not have so far: handlers, programs, shapes, bindings, and objects but plain ones
 pub record IsBasic (d : machine.Definition) : Type 0 where
   pub handlers : (t : ℕ) → (lookups.class_of d t).handlers ≡ []
   pub constructed : (t : ℕ) → (lookups.class_of d t).constructed ≡ None
+  pub shapes : (t : ℕ) → (lookups.class_of d t).shape ≡ None
   pub plain : (t slot : ℕ) (s : Spec) → lookups.spec_of d t slot ≡ Some s → IsPlain s
   pub parents : (p : ℕ) (place : machine.Place) → slice_get d.places p ≡ Some place → place.parent ≡ None
   pub given : (p : ℕ) (place : machine.Place) → slice_get d.places p ≡ Some place → place.given ≡ []

@@ -49,7 +49,7 @@ GoesBack d number back = back ≡ true → (b : Bind) → slice_get d.bindings n
 
 -- a due transfer: its binding does not set
 pub record TransferringGood (d : Definition) (costs depths : Tables) (w : View) (below : List Task) (number : ℕ) (back : Bool) (steps frames : ℕ) : Type 0 where
-  pub still : (b : Binding) → binding_of number w.bindings ≡ Some b → b.setting ≡ false
+  pub still : (b : Binding) → binding_of number w.bindings ≡ Some b → b.busy ≡ false
   pub goes_back : GoesBack d number back
   pub cheap : transfer_cost d costs below back (slice_get d.bindings number) ≤ steps
   pub shallow : transfer_depth d depths below back (slice_get d.bindings number) ≤ frames

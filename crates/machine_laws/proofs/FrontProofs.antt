@@ -31,11 +31,11 @@ use Rattle.ui_machine.specs.Disposal.{no_peer, closed_peer, closed_if_open, clos
 use Rattle.ui_machine.specs.Registers.{tells, operand_in, data_in, written_to}
 use Rattle.ui_machine.specs.Results.{Left, kept_source, untaken, told, down_to_emission, down_to_source, given_down, ending}
 use Rattle.ui_machine.specs.Calls.{with_peer_state, call_line, replied, with_method, left_with, called, uncalled, calling_on}
-use Rattle.ui_machine.specs.Connections.{detail_in, is_too_late, has_room_for_handler, with_handler, connected, disconnected, blocked, unblocked, with_handlers_on}
-use Rattle.ui_machine.specs.Builds.{given_value, with_object, making, making_set, constructed, thawing_made, held_data, building_child, set_forward, building_forward, building_binding, building_handler}
-use Rattle.ui_machine.specs.Instructions.{disposed_once, most_bytes, gives_from, within_bytes, with_source, attached_to, moving, reckoning, comparing, sameness, negating, conjunction, disjunction, joining, converting, slot_at, getting, set_from, assigning, then_goes_on, telling, naming, made_new, creating, sinking, orphaning, disposing, adopting, freezing, unfreezing, signal_in, signal_to_emit, emitting, connecting, on_handlers, attaching, removing, calling, jumping, branching, branching_null, instruction}
+use Rattle.ui_machine.specs.Connections.{detail_in, is_too_late, has_room_for_handler, with_handler, connected, disconnected, blocked, unblocked, with_handlers_on, Connection}
+use Rattle.ui_machine.specs.Builds.{given_value, with_object, making, making_set, constructed, thawing_made, held_data, building_child, set_forward, building_forward, building_binding, building_handler, with_signal}
+use Rattle.ui_machine.specs.Instructions.{disposed_once, most_bytes, gives_from, within_bytes, with_source, attached_to, moving, reckoning, comparing, sameness, negating, conjunction, disjunction, joining, converting, slot_at, getting, set_from, assigning, then_goes_on, telling, naming, made_new, creating, sinking, orphaning, disposing, adopting, freezing, unfreezing, signal_in, signal_to_emit, emitting, connecting, on_handlers, attaching, removing, calling, jumping, branching, branching_null, constant, clearing, disconnecting, blocking, unblocking, unbinding, Connect, Attach}
 use Rattle.ui_machine.specs.Running.{returned, returning, in_front, instructed, running}
-use Rattle.ui_machine.specs.Steps.{answered, most_steps, uncounted, counted, counted_left, thawing, constructing, building_object, building, set_given, carrying_set, carrying_get, given_values, carrying_emit, carrying_release, carrying, sourcing, left, settling, act, finalising, first_of, asked_first, asked_after}
+use Rattle.ui_machine.specs.Steps.{with_result, most_steps, uncounted, counted, counted_left, thawing, constructing, building_object, building, set_given, carrying_set, carrying_get, given_values, carrying_emit, carrying_release, carrying, sourcing, left, settling, act, finalising, first_of, asked_first, asked_after}
 use Rattle.machine_laws.specs.FrontLaws.{fronted, fronted_at, mapped, StepAppends, QuestionStays}
 
 mapped_then : {A B C : Type 0} (f : B → C) (a : Answer A) (g : A → Answer B) → mapped f (a >>= g) ≡ (a >>= λ x. mapped f (g x))
@@ -330,19 +330,19 @@ module _ (front : List (List ℕ)) (d : Definition) where
   tells_done w v to f true line = writes_register v to (Some (values.bool true)) f
   tells_done w v to f false line = simp (parts, writes_register)
 
-  connects_one : (w : World) (to_come to : ℕ) (f : Frame) (h : Handler) → tells (connected d (fronted front w) to_come h) to f ≡ mapped started (tells (connected d w to_come h) to f)
-  connects_one w to_come to f h = by_late (is_too_late w.objects h.object h.arg)
+  connects_one : (w : World) (to_come to : ℕ) (f : Frame) (c : Connection) → tells (connected d (fronted front w) to_come c) to f ≡ mapped started (tells (connected d w to_come c) to f)
+  connects_one w to_come to f c = by_late (is_too_late w.objects c.object c.arg)
     where
       by_late : (late : Bool) →
           tells (cond late (fronted front w, false)
-          (cond (has_room_for_handler d w to_come h.object h.signal) (fronted front (with_handler w h), true) (said d (fronted front w) (lines.limit (codes "connect")), false))) to f
-          ≡ mapped started (tells (cond late (w, false) (cond (has_room_for_handler d w to_come h.object h.signal) (with_handler w h, true) (said d w (lines.limit (codes "connect")), false))) to f)
+          (cond (has_room_for_handler d w to_come c.object c.signal) (fronted front (with_handler w c), true) (said d (fronted front w) (lines.limit (codes "connect")), false))) to f
+          ≡ mapped started (tells (cond late (w, false) (cond (has_room_for_handler d w to_come c.object c.signal) (with_handler w c, true) (said d w (lines.limit (codes "connect")), false))) to f)
       by_late true = writes_register w to (Some (values.bool false)) f
-      by_late false = tells_done w (with_handler w h) to f (has_room_for_handler d w to_come h.object h.signal) (lines.limit (codes "connect"))
+      by_late false = tells_done w (with_handler w c) to f (has_room_for_handler d w to_come c.object c.signal) (lines.limit (codes "connect"))
 
-  connects_of : (w : World) (rest : List Task) (f : Frame) (to object : ℕ) (name : List ℕ) (detail : Option (List ℕ)) (program : List ℕ) (after swapped : Bool) (with : Option ℕ) → connecting d (fronted front w) rest f to object name detail program after swapped with ≡ mapped started (connecting d w rest f to object name detail program after swapped with)
+  connects_of : (w : World) (rest : List Task) (f : Frame) (to object : ℕ) (c : Connect) → connecting d (fronted front w) rest f to object c ≡ mapped started (connecting d w rest f to object c)
   unfolding connecting
-  connects_of w rest f to object name detail program after swapped with = simp (connecting, mapped_then, reads_operand, reads_data, finds_signal, finds_detail, connects_one)
+  connects_of w rest f to object c = simp (connecting, mapped_then, reads_operand, reads_data, finds_signal, finds_detail, connects_one)
 
   disconnects : (w : World) (f : Frame) (object : ℕ) (program : List ℕ) → on_handlers d (fronted front w) f object program disconnected ≡ mapped started (on_handlers d w f object program disconnected)
   unfolding on_handlers
@@ -356,14 +356,13 @@ module _ (front : List (List ℕ)) (d : Definition) where
   unfolding on_handlers
   unblocks_of w f object program = simp (on_handlers, parts, writes_register, reads_operand, reads_data)
 
-  attaches_one : (w : World) (word : List ℕ) (program : ℕ) (priority : ℤ) (interval arg : Option ℕ) (to : ℕ) (f : Frame) →
-      tells (attached_to d (fronted front w) word program priority interval arg) to f ≡ mapped started (tells (attached_to d w word program priority interval arg) to f)
-  attaches_one w word program priority interval arg to f =
-      tells_done w (with_source w program priority interval arg) to f (sources.has_room w.sources w.last_source) (lines.limit word)
+  attaches_one : (w : World) (a : Attach) (program : ℕ) (arg : Option ℕ) (to : ℕ) (f : Frame) →
+      tells (attached_to d (fronted front w) a program arg) to f ≡ mapped started (tells (attached_to d w a program arg) to f)
+  attaches_one w a program arg to f = tells_done w (with_source w a program arg) to f (sources.has_room w.sources w.last_source) (lines.limit a.word)
 
-  attaches : (w : World) (f : Frame) (word : List ℕ) (to : ℕ) (program : List ℕ) (priority : ℤ) (interval with : Option ℕ) → attaching d (fronted front w) f word to program priority interval with ≡ mapped started (attaching d w f word to program priority interval with)
+  attaches : (w : World) (f : Frame) (to : ℕ) (a : Attach) → attaching d (fronted front w) f to a ≡ mapped started (attaching d w f to a)
   unfolding attaching
-  attaches w f word to program priority interval with = simp (attaching, mapped_then, reads_data, attaches_one)
+  attaches w f to a = simp (attaching, mapped_then, reads_data, attaches_one)
 
   removes : (w : World) (f : Frame) (program : List ℕ) → removing d (fronted front w) f program ≡ mapped started (removing d w f program)
   unfolding removing
@@ -385,44 +384,8 @@ module _ (front : List (List ℕ)) (d : Definition) where
   unfolding branching_null
   branches_null w f on then_to else_to = simp (branching_null, parts, writes_register, reads_operand, reads_data, jumps)
 
-  instructs : (w : World) (rest : List Task) (f : Frame) (i : Instruction) → instruction d (fronted front w) rest f i ≡ mapped started (instruction d w rest f i)
-  instructs w rest f (words.const to kind v) = writes_register w to (Some v) f
-  instructs w rest f (words.move to from) = moves w f to from
-  instructs w rest f (words.clear to) = writes_register w to None f
-  instructs w rest f (words.arithmetic op to a b) = reckons w f op to a b
-  instructs w rest f (words.compare op to a b) = compares w f op to a b
-  instructs w rest f (words.same to a b) = tells_same w f to a b
-  instructs w rest f (words.negate to a) = negates w f to a
-  instructs w rest f (words.both to a b) = joins_both w f to a b
-  instructs w rest f (words.either to a b) = joins_either w f to a b
-  instructs w rest f (words.join to a b) = joins w f to a b
-  instructs w rest f (words.convert to a kind) = converts w f to a kind
-  instructs w rest f (words.get to object name) = gets w f to object name
-  instructs w rest f (words.set object name from) = assigns w f object name from
-  instructs w rest f (words.object to id) = names w f to id
-  instructs w rest f (words.new to id) = creates w rest f to id
-  instructs w rest f (words.sink object) = sinks w f object
-  instructs w rest f (words.orphan object) = orphans_of w f object
-  instructs w rest f (words.dispose object) = disposes_of w f object
-  instructs w rest f (words.adopt to parent child) = adopts_of w f to parent child
-  instructs w rest f (words.freeze object) = freezes w f object
-  instructs w rest f (words.thaw object) = unfreezes w f object
-  instructs w rest f (words.emit into object name detail args) = emits w f into object name detail args
-  instructs w rest f (words.notify object name) = tells_of w f object name
-  instructs w rest f (words.connect to object name detail program after swapped with) = connects_of w rest f to object name detail program after swapped with
-  instructs w rest f (words.disconnect object program) = disconnects w f object program
-  instructs w rest f (words.block object program) = blocks_of w f object program
-  instructs w rest f (words.unblock object program) = unblocks_of w f object program
-  instructs w rest f words.stop = refl
-  instructs w rest f (words.unbind name) = simp parts
-  instructs w rest f (words.idle to program priority with) = attaches w f (codes "idle") to program priority None with
-  instructs w rest f (words.timeout to program priority interval with) = attaches w f (codes "timeout") to program priority (Some interval) with
-  instructs w rest f (words.remove program) = removes w f program
-  instructs w rest f (words.call to object name args) = calls_of w f to object name args
-  instructs w rest f (words.jump to) = jumps w f to
-  instructs w rest f (words.branch on then_to else_to) = branches w f on then_to else_to
-  instructs w rest f (words.branch_null on then_to else_to) = branches_null w f on then_to else_to
-  instructs w rest f (words.return from) = refl
+  unbinds : (w : World) (f : Frame) (name : List ℕ) → unbinding d (fronted front w) f name ≡ mapped started (unbinding d w f name)
+  unbinds w f name = simp parts
 
   -- ** what comes down
 
@@ -486,46 +449,46 @@ module _ (front : List (List ℕ)) (d : Definition) where
   puts_in_front rest (Ok s) = refl
   puts_in_front rest (Err arm) = refl
 
-  begins_in_front : (w : World) (rest : List Task) (f : Frame) (i : Instruction) → in_front rest (instruction d (fronted front w) rest f i) ≡ mapped remaining (in_front rest (instruction d w rest f i))
-  begins_in_front w rest f i = ap (in_front rest) (instructs w rest f i) ∙ puts_in_front rest (instruction d w rest f i)
+  begins : (w : World) (rest : List Task) (a b : Answer Started) → a ≡ mapped started b → in_front rest a ≡ mapped remaining (in_front rest b)
+  begins w rest a b same = ap (in_front rest) same ∙ puts_in_front rest b
 
   instructs_all : (w : World) (rest : List Task) (f : Frame) (i : Instruction) → instructed d (fronted front w) rest f i ≡ mapped remaining (instructed d w rest f i)
-  instructs_all w rest f (words.const to kind v) = begins_in_front w rest f (words.const to kind v)
-  instructs_all w rest f (words.move to from) = begins_in_front w rest f (words.move to from)
-  instructs_all w rest f (words.clear to) = begins_in_front w rest f (words.clear to)
-  instructs_all w rest f (words.arithmetic op to a b) = begins_in_front w rest f (words.arithmetic op to a b)
-  instructs_all w rest f (words.compare op to a b) = begins_in_front w rest f (words.compare op to a b)
-  instructs_all w rest f (words.same to a b) = begins_in_front w rest f (words.same to a b)
-  instructs_all w rest f (words.negate to a) = begins_in_front w rest f (words.negate to a)
-  instructs_all w rest f (words.both to a b) = begins_in_front w rest f (words.both to a b)
-  instructs_all w rest f (words.either to a b) = begins_in_front w rest f (words.either to a b)
-  instructs_all w rest f (words.join to a b) = begins_in_front w rest f (words.join to a b)
-  instructs_all w rest f (words.convert to a kind) = begins_in_front w rest f (words.convert to a kind)
-  instructs_all w rest f (words.get to object name) = begins_in_front w rest f (words.get to object name)
-  instructs_all w rest f (words.set object name from) = begins_in_front w rest f (words.set object name from)
-  instructs_all w rest f (words.object to id) = begins_in_front w rest f (words.object to id)
-  instructs_all w rest f (words.new to id) = begins_in_front w rest f (words.new to id)
-  instructs_all w rest f (words.sink object) = begins_in_front w rest f (words.sink object)
-  instructs_all w rest f (words.orphan object) = begins_in_front w rest f (words.orphan object)
-  instructs_all w rest f (words.dispose object) = begins_in_front w rest f (words.dispose object)
-  instructs_all w rest f (words.adopt to parent child) = begins_in_front w rest f (words.adopt to parent child)
-  instructs_all w rest f (words.freeze object) = begins_in_front w rest f (words.freeze object)
-  instructs_all w rest f (words.thaw object) = begins_in_front w rest f (words.thaw object)
-  instructs_all w rest f (words.emit into object name detail args) = begins_in_front w rest f (words.emit into object name detail args)
-  instructs_all w rest f (words.notify object name) = begins_in_front w rest f (words.notify object name)
-  instructs_all w rest f (words.connect to object name detail program after swapped with) = begins_in_front w rest f (words.connect to object name detail program after swapped with)
-  instructs_all w rest f (words.disconnect object program) = begins_in_front w rest f (words.disconnect object program)
-  instructs_all w rest f (words.block object program) = begins_in_front w rest f (words.block object program)
-  instructs_all w rest f (words.unblock object program) = begins_in_front w rest f (words.unblock object program)
+  instructs_all w rest f (words.const to kind v) = begins w rest (constant (fronted front w) f to v) (constant w f to v) (writes_register w to (Some v) f)
+  instructs_all w rest f (words.move to from) = begins w rest (moving (fronted front w) f to from) (moving w f to from) (moves w f to from)
+  instructs_all w rest f (words.clear to) = begins w rest (clearing (fronted front w) f to) (clearing w f to) (writes_register w to None f)
+  instructs_all w rest f (words.arithmetic operation to a b) = begins w rest (reckoning (fronted front w) f operation to a b) (reckoning w f operation to a b) (reckons w f operation to a b)
+  instructs_all w rest f (words.compare comparison to a b) = begins w rest (comparing (fronted front w) f comparison to a b) (comparing w f comparison to a b) (compares w f comparison to a b)
+  instructs_all w rest f (words.same to a b) = begins w rest (sameness (fronted front w) f to a b) (sameness w f to a b) (tells_same w f to a b)
+  instructs_all w rest f (words.negate to a) = begins w rest (negating (fronted front w) f to a) (negating w f to a) (negates w f to a)
+  instructs_all w rest f (words.both to a b) = begins w rest (conjunction (fronted front w) f to a b) (conjunction w f to a b) (joins_both w f to a b)
+  instructs_all w rest f (words.either to a b) = begins w rest (disjunction (fronted front w) f to a b) (disjunction w f to a b) (joins_either w f to a b)
+  instructs_all w rest f (words.join to a b) = begins w rest (joining d (fronted front w) f to a b) (joining d w f to a b) (joins w f to a b)
+  instructs_all w rest f (words.convert to a kind) = begins w rest (converting d (fronted front w) f to a kind) (converting d w f to a kind) (converts w f to a kind)
+  instructs_all w rest f (words.get to object name) = begins w rest (getting d (fronted front w) f to object name) (getting d w f to object name) (gets w f to object name)
+  instructs_all w rest f (words.set object name from) = begins w rest (assigning d (fronted front w) f object name from) (assigning d w f object name from) (assigns w f object name from)
+  instructs_all w rest f (words.object to id) = begins w rest (naming d (fronted front w) f to id) (naming d w f to id) (names w f to id)
+  instructs_all w rest f (words.new to id) = begins w rest (creating d (fronted front w) rest f to id) (creating d w rest f to id) (creates w rest f to id)
+  instructs_all w rest f (words.sink object) = begins w rest (sinking (fronted front w) f object) (sinking w f object) (sinks w f object)
+  instructs_all w rest f (words.orphan object) = begins w rest (orphaning d (fronted front w) f object) (orphaning d w f object) (orphans_of w f object)
+  instructs_all w rest f (words.dispose object) = begins w rest (disposing d (fronted front w) f object) (disposing d w f object) (disposes_of w f object)
+  instructs_all w rest f (words.adopt to parent child) = begins w rest (adopting d (fronted front w) f to parent child) (adopting d w f to parent child) (adopts_of w f to parent child)
+  instructs_all w rest f (words.freeze object) = begins w rest (freezing (fronted front w) f object) (freezing w f object) (freezes w f object)
+  instructs_all w rest f (words.thaw object) = begins w rest (unfreezing (fronted front w) f object) (unfreezing w f object) (unfreezes w f object)
+  instructs_all w rest f (words.emit into object name detail args) = begins w rest (emitting d (fronted front w) f into object name detail args) (emitting d w f into object name detail args) (emits w f into object name detail args)
+  instructs_all w rest f (words.notify object name) = begins w rest (telling d (fronted front w) f object name) (telling d w f object name) (tells_of w f object name)
+  instructs_all w rest f (words.connect to object signal detail program after swapped with) = begins w rest (connecting d (fronted front w) rest f to object (record { signal = signal; detail = detail; program = program; after = after; swapped = swapped; with = with })) (connecting d w rest f to object (record { signal = signal; detail = detail; program = program; after = after; swapped = swapped; with = with })) (connects_of w rest f to object (record { signal = signal; detail = detail; program = program; after = after; swapped = swapped; with = with }))
+  instructs_all w rest f (words.disconnect object program) = begins w rest (disconnecting d (fronted front w) f object program) (disconnecting d w f object program) (disconnects w f object program)
+  instructs_all w rest f (words.block object program) = begins w rest (blocking d (fronted front w) f object program) (blocking d w f object program) (blocks_of w f object program)
+  instructs_all w rest f (words.unblock object program) = begins w rest (unblocking d (fronted front w) f object program) (unblocking d w f object program) (unblocks_of w f object program)
   instructs_all w rest f words.stop = refl
-  instructs_all w rest f (words.unbind name) = begins_in_front w rest f (words.unbind name)
-  instructs_all w rest f (words.idle to program priority with) = begins_in_front w rest f (words.idle to program priority with)
-  instructs_all w rest f (words.timeout to program priority interval with) = begins_in_front w rest f (words.timeout to program priority interval with)
-  instructs_all w rest f (words.remove program) = begins_in_front w rest f (words.remove program)
-  instructs_all w rest f (words.call to object name args) = begins_in_front w rest f (words.call to object name args)
-  instructs_all w rest f (words.jump to) = begins_in_front w rest f (words.jump to)
-  instructs_all w rest f (words.branch on then_to else_to) = begins_in_front w rest f (words.branch on then_to else_to)
-  instructs_all w rest f (words.branch_null on then_to else_to) = begins_in_front w rest f (words.branch_null on then_to else_to)
+  instructs_all w rest f (words.unbind name) = begins w rest (unbinding d (fronted front w) f name) (unbinding d w f name) (unbinds w f name)
+  instructs_all w rest f (words.idle to program priority with) = begins w rest (attaching d (fronted front w) f to (record { word = codes "idle"; program = program; priority = priority; interval = None; with = with })) (attaching d w f to (record { word = codes "idle"; program = program; priority = priority; interval = None; with = with })) (attaches w f to (record { word = codes "idle"; program = program; priority = priority; interval = None; with = with }))
+  instructs_all w rest f (words.timeout to program priority interval with) = begins w rest (attaching d (fronted front w) f to (record { word = codes "timeout"; program = program; priority = priority; interval = Some interval; with = with })) (attaching d w f to (record { word = codes "timeout"; program = program; priority = priority; interval = Some interval; with = with })) (attaches w f to (record { word = codes "timeout"; program = program; priority = priority; interval = Some interval; with = with }))
+  instructs_all w rest f (words.remove program) = begins w rest (removing d (fronted front w) f program) (removing d w f program) (removes w f program)
+  instructs_all w rest f (words.call to object name args) = begins w rest (calling d (fronted front w) f to object name args) (calling d w f to object name args) (calls_of w f to object name args)
+  instructs_all w rest f (words.jump to) = begins w rest (jumping d (fronted front w) f to) (jumping d w f to) (jumps w f to)
+  instructs_all w rest f (words.branch on then_to else_to) = begins w rest (branching d (fronted front w) f on then_to else_to) (branching d w f on then_to else_to) (branches w f on then_to else_to)
+  instructs_all w rest f (words.branch_null on then_to else_to) = begins w rest (branching_null d (fronted front w) f on then_to else_to) (branching_null d w f on then_to else_to) (branches_null w f on then_to else_to)
   instructs_all w rest f (words.return from) = returns w f rest from
 
   runs_on : (w : World) (rest : List Task) (f : Frame) → running d (fronted front w) rest f ≡ mapped remaining (running d w rest f)
@@ -613,9 +576,16 @@ module _ (front : List (List ℕ)) (d : Definition) where
   finds_data w None = refl
   finds_data w (Some place) = refl
 
+  connects_signal : (w : World) (c : Connection) → with_signal (fronted front w) c ≡ fronted front (with_signal w c)
+  connects_signal w c = by_late (is_too_late w.objects c.object c.arg)
+    where
+      by_late : (late : Bool) → cond late (fronted front w) (fronted front (with_handler w c)) ≡ fronted front (cond late w (with_handler w c))
+      by_late true = refl
+      by_late false = refl
+
   builds_handler : (w : World) (place number : ℕ) (items : List Item) → building_handler d (fronted front w) place number items ≡ mapped started (building_handler d w place number items)
   unfolding building_handler
-  builds_handler w place number items = simp (building_handler, parts, finds_data)
+  builds_handler w place number items = simp (building_handler, parts, finds_data, connects_signal)
 
   builds : (w : World) (items : List Item) → building d (fronted front w) items ≡ mapped started (building d w items)
   builds w [] = refl
@@ -644,8 +614,8 @@ module _ (front : List (List ℕ)) (d : Definition) where
   unfolding carrying_set
   carries_set w place slot given = simp (carrying_set, parts, sets_given)
 
-  says_answer : (w : World) (line : Line) (v : Value) → answered (said d (fronted front w) line) v ≡ fronted front (answered (said d w line) v)
-  says_answer w line v = ap (λ x. answered x v) (said_in_front w line)
+  says_answer : (w : World) (line : Line) (v : Value) → with_result (said d (fronted front w) line) v ≡ fronted front (with_result (said d w line) v)
+  says_answer w line v = ap (λ x. with_result x v) (said_in_front w line)
 
   says_held : (w : World) (line : Line) (place : ℕ) (held : Held) → with_held (said d (fronted front w) line) place held ≡ fronted front (with_held (said d w line) place held)
   says_held w line place held = ap (λ x. with_held x place held) (said_in_front w line)

@@ -1,5 +1,5 @@
 -- The plan of an emission.
-use Rattle.std.proofs.Common.{◌≡◌, inl, inr, refl, ℕ, ◌+◌, ◌≤◌, Bool, true, false, cond, List, [], ◌∷◌, ◌++◌, Option, None, Some, arith}
+use Rattle.std.proofs.Common.{ap, ◌≡◌, inl, inr, refl, ℕ, ◌+◌, ◌≤◌, Bool, true, false, cond, List, [], ◌∷◌, ◌++◌, Option, None, Some, arith}
 use Rattle.std.specs.Prelude.{map, not, ◌&&◌}
 use Rattle.std.specs.List.{filter}
 use Rattle.ui_machine.specs.Mentions.{same}
@@ -41,7 +41,7 @@ both_stages number test (h ∷ hs) =
     (turns_of number (turns_by test false hs)) (turns_of number (turns_by test true hs)) (stands number hs) refl refl (both_stages number test hs)
 
 planned_once : (w : World) (class : Option ℕ) (flags id signal : ℕ) (moved : List Turn) (detail : Option (List ℕ)) (number : ℕ) → turns_of number moved ≡ 0 →
-    turns_of number (plan w class flags moved id signal detail) ≤ stands number w.handlers
+    turns_of number (plan w (record { object = id; signal = signal; detail = detail; flags = flags; class_program = class; transfers = moved })) ≤ stands number w.handlers
 planned_once w class flags id signal moved detail number none =
     let first = at_stage (has_flags 1 flags) false class in
     let last = at_stage (has_flags 2 flags) false class in
@@ -61,7 +61,7 @@ planned_once w class flags id signal moved detail number none =
 
 pub handlers_run_once : HandlersRunOnce
 handlers_run_once = (
-  λ w class flags id signal detail number. planned_once w class flags id signal [] detail number refl,
+  λ w p number none. planned_once w p.class_program p.flags p.object p.signal p.transfers p.detail number (ap (turns_of number) none),
   λ d w s class id slot name number. planned_once w (class_handler_of d class s.name) s.flags id 0 (transfers id slot w.bindings) (Some name) number
       (no_transfer_turn number id slot (filter (listens id slot) w.bindings)),
 )

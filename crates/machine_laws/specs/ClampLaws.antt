@@ -27,7 +27,8 @@ HasFewBits _ = Unit {0}
 -- a validated value is valid
 abbrev pub ClampsToValid : Type 0
 ClampsToValid =
-    (class_of : ℕ → Option ℕ) (types : List GType) (s : Spec) (v : Value) → IsSound types s s.kind → has_kind v s.kind ≡ true → HasFewBits v →
+    (class_of : ℕ → Option ℕ) (types : List GType) (s : Spec) (v : Value) →
+    IsSound types s s.kind → has_kind v s.kind ≡ true → HasFewBits v →
     is_valid class_of types s (clamp class_of types s v) ≡ true
 
 -- and validation leaves it as it is

@@ -5,7 +5,7 @@ use Rattle.ui_machine.specs.Mentions.{same}
 use Rattle.ui_machine.specs.Definition.{Definition, Signal}
 use Rattle.ui_machine.specs.Config.{Handler, Turn, class_handler, handler, World}
 use Rattle.ui_machine.specs.Config as config
-use Rattle.ui_machine.specs.Emissions.{handlers_for, plan, notify_plan}
+use Rattle.ui_machine.specs.Emissions.{handlers_for, Planned, plan, notify_plan}
 
 -- 1 where a turn is the handler's
 abbrev pub is_turn_of : ℕ → Turn → ℕ
@@ -24,8 +24,7 @@ stands number hs = total (λ (h : Handler). same number h.number) hs
 -- a handler that stands once has one turn at most, and one that does not stand has none
 abbrev pub HandlersRunOnce : Type 0
 HandlersRunOnce =
-    ((w : World) (class : Option ℕ) (flags id signal : ℕ) (detail : Option (List ℕ)) (number : ℕ) →
-    turns_of number (plan w class flags [] id signal detail) ≤ stands number w.handlers)
+    ((w : World) (p : Planned) (number : ℕ) → p.transfers ≡ [] → turns_of number (plan w p) ≤ stands number w.handlers)
     × ((d : Definition) (w : World) (s : Signal) (class id slot : ℕ) (name : List ℕ) (number : ℕ) →
     turns_of number (notify_plan d w s class id slot name) ≤ stands number w.handlers)
 
@@ -53,7 +52,7 @@ InOrder =
 abbrev pub StagesInOrder : Type 0
 StagesInOrder =
     (w : World) (program : ℕ) (moved : List Turn) (id signal : ℕ) (detail : Option (List ℕ)) →
-    plan w (Some program) 7 moved id signal detail
+    plan w (record { object = id; signal = signal; detail = detail; flags = 7; class_program = Some program; transfers = moved })
     ≡ class_handler program false
     ∷ (moved
     ++ (handlers_for w.handlers id signal detail false
@@ -65,5 +64,6 @@ StagesInOrder =
 abbrev pub NotifyStages : Type 0
 NotifyStages =
     (w : World) (program : ℕ) (moved : List Turn) (id : ℕ) (detail : Option (List ℕ)) →
-    plan w (Some program) 17 moved id 0 detail
-    ≡ class_handler program false ∷ (moved ++ (handlers_for w.handlers id 0 detail false ++ (handlers_for w.handlers id 0 detail true ++ [])))
+    plan w (record { object = id; signal = 0; detail = detail; flags = 17; class_program = Some program; transfers = moved })
+    ≡ class_handler program false
+    ∷ (moved ++ (handlers_for w.handlers id 0 detail false ++ (handlers_for w.handlers id 0 detail true ++ [])))

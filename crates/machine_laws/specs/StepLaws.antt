@@ -33,4 +33,5 @@ FittingLives =
 -- what was finalised fits no type
 abbrev pub FinalisedFitsNothing : Type 0
 FinalisedFitsNothing =
-    (os : Objects) (types : List GType) (id t : ℕ) → kind_fits (class_in (put os id None)) types (values.object (Some id)) (kinds.object t) ≡ false
+    (os : Objects) (types : List GType) (id t : ℕ) →
+    kind_fits (class_in (put os id None)) types (values.object (Some id)) (kinds.object t) ≡ false

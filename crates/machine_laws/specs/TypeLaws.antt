@@ -7,7 +7,8 @@ use Rattle.ui_machine.specs.Ancestry.{parent_of, implemented_by, is_a}
 -- a parent stands before its children, and an interface is only itself
 pub record IsTree (types : List GType) : Type 0 where
   pub earlier : (t parent : ℕ) → parent_of types t ≡ Some parent → parent < t
-  pub alone : (t interface : ℕ) → list_any (nat_eq interface) (implemented_by types t) ≡ true → (parent_of types interface ≡ None) × (implemented_by types interface ≡ [])
+  pub alone : (t interface : ℕ) → list_any (nat_eq interface) (implemented_by types t) ≡ true →
+      (parent_of types interface ≡ None) × (implemented_by types interface ≡ [])
 
 abbrev pub IsAReflexive : Type 0
 IsAReflexive = (types : List GType) (a : ℕ) → is_a types a a ≡ true

@@ -7,7 +7,7 @@ use Rattle.ui_machine.specs.Definition as words
 use Rattle.ui_machine.specs.Config.{Event, Peer}
 use Rattle.ui_machine.specs.Config as config
 use Rattle.machine_rows.specs.Play.{Scripted, shown}
-use Rattle.machine_rows.specs.Words.{class_type, notify, class_of, block, program, object}
+use Rattle.machine_rows.specs.Words.{class_type, notify, class_with, block, program, object}
 
 abbrev pub definition : Definition
 definition = record {
@@ -18,10 +18,10 @@ definition = record {
       ∷ class_type (codes "Kid") 1 false false []
       ∷ [];
   classes =
-      class_of [] (notify ∷ []) [] None None
-      ∷ class_of [] (notify ∷ []) [] None None
-      ∷ class_of [] (notify ∷ []) [] None None
-      ∷ class_of [] (notify ∷ []) [] (Some 0) None
+      class_with [] (notify ∷ []) [] None None
+      ∷ class_with [] (notify ∷ []) [] None None
+      ∷ class_with [] (notify ∷ []) [] None None
+      ∷ class_with [] (notify ∷ []) [] (Some 0) None
       ∷ [];
   shapes =
       [];

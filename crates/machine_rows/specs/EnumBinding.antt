@@ -7,7 +7,7 @@ use Rattle.ui_machine.specs.Definition.{Definition, value}
 use Rattle.ui_machine.specs.Config.{Event, Peer}
 use Rattle.ui_machine.specs.Config as config
 use Rattle.machine_rows.specs.Play.{Scripted, shown}
-use Rattle.machine_rows.specs.Words.{member, enum_type, class_type, property, notify, class_of, bare, object, bind}
+use Rattle.machine_rows.specs.Words.{member, enum_type, class_type, property, notify, class_with, bare, object, bind}
 
 abbrev pub definition : Definition
 definition = record {
@@ -18,10 +18,10 @@ definition = record {
       ∷ class_type (codes "Box") 0 false false []
       ∷ [];
   classes =
-      class_of [] (notify ∷ []) [] None None
-      ∷ class_of [] (notify ∷ []) [] None None
+      class_with [] (notify ∷ []) [] None None
+      ∷ class_with [] (notify ∷ []) [] None None
       ∷ bare
-      ∷ class_of (property (codes "n") (kinds.whole kinds.int) 3 (values.whole kinds.int (pos 0)) (negsuc 2147483647) (pos 2147483647) false ∷ property (codes "e") (kinds.enum 2) 3 (values.enum 2 (pos 0)) (pos 0) (pos 0) false ∷ []) (notify ∷ []) [] None None
+      ∷ class_with (property (codes "n") (kinds.whole kinds.int) 3 (values.whole kinds.int (pos 0)) (negsuc 2147483647) (pos 2147483647) false ∷ property (codes "e") (kinds.enum 2) 3 (values.enum 2 (pos 0)) (pos 0) (pos 0) false ∷ []) (notify ∷ []) [] None None
       ∷ [];
   shapes =
       [];

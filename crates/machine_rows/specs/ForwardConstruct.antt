@@ -6,7 +6,7 @@ use Rattle.ui_machine.specs.Types.{plain_class}
 use Rattle.ui_machine.specs.Definition.{Definition, named}
 use Rattle.ui_machine.specs.Config.{Event, Peer}
 use Rattle.machine_rows.specs.Play.{Scripted, shown}
-use Rattle.machine_rows.specs.Words.{class_type, property, notify, class_of, gives, object}
+use Rattle.machine_rows.specs.Words.{class_type, property, notify, class_with, gives, object}
 
 abbrev pub definition : Definition
 definition = record {
@@ -16,9 +16,9 @@ definition = record {
       ∷ class_type (codes "Box") 0 false false []
       ∷ [];
   classes =
-      class_of [] (notify ∷ []) [] None None
-      ∷ class_of [] (notify ∷ []) [] None None
-      ∷ class_of (property (codes "to") (kinds.object 2) 7 (values.object None) (pos 0) (pos 0) false ∷ []) (notify ∷ []) [] None None
+      class_with [] (notify ∷ []) [] None None
+      ∷ class_with [] (notify ∷ []) [] None None
+      ∷ class_with (property (codes "to") (kinds.object 2) 7 (values.object None) (pos 0) (pos 0) false ∷ []) (notify ∷ []) [] None None
       ∷ [];
   shapes =
       [];

@@ -8,7 +8,7 @@ use Rattle.ui_machine.specs.Definition as words
 use Rattle.ui_machine.specs.Config.{Event, Peer}
 use Rattle.ui_machine.specs.Config as config
 use Rattle.machine_rows.specs.Play.{Scripted, shown}
-use Rattle.machine_rows.specs.Words.{class_type, property, signal, notify, class_of, method, shape, block, program, attached, object, prototype, peer, scripted}
+use Rattle.machine_rows.specs.Words.{class_type, property, signal, notify, class_with, method, shape, block, program, attached, object, prototype, peer, scripted}
 
 abbrev pub definition : Definition
 definition = record {
@@ -19,10 +19,10 @@ definition = record {
       ∷ class_type (codes "Hold") 0 false false []
       ∷ [];
   classes =
-      class_of [] (notify ∷ []) [] None None
-      ∷ class_of [] (notify ∷ []) [] None None
-      ∷ class_of [] (notify ∷ signal (codes "s") [] None 2 None ∷ []) [] None (Some 0)
-      ∷ class_of (property (codes "cur") (kinds.object 2) 3 (values.object None) (pos 0) (pos 0) false ∷ property (codes "w") (kinds.object 2) 3 (values.object None) (pos 0) (pos 0) true ∷ []) (notify ∷ signal (codes "go") [] None 2 None ∷ signal (codes "fire") [] None 2 None ∷ []) [] None None
+      class_with [] (notify ∷ []) [] None None
+      ∷ class_with [] (notify ∷ []) [] None None
+      ∷ class_with [] (notify ∷ signal (codes "s") [] None 2 None ∷ []) [] None (Some 0)
+      ∷ class_with (property (codes "cur") (kinds.object 2) 3 (values.object None) (pos 0) (pos 0) false ∷ property (codes "w") (kinds.object 2) 3 (values.object None) (pos 0) (pos 0) true ∷ []) (notify ∷ signal (codes "go") [] None 2 None ∷ signal (codes "fire") [] None 2 None ∷ []) [] None None
       ∷ [];
   shapes =
       shape (codes "Tally") (method (codes "add") ((kinds.whole kinds.int64) ∷ []) (kinds.whole kinds.int64) ∷ method (codes "read") [] (kinds.whole kinds.int64) ∷ [])

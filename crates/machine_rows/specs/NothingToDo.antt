@@ -4,7 +4,7 @@ use Rattle.ui_machine.specs.Types.{plain_class}
 use Rattle.ui_machine.specs.Definition.{Definition}
 use Rattle.ui_machine.specs.Config.{Event, Peer}
 use Rattle.machine_rows.specs.Play.{Scripted, shown}
-use Rattle.machine_rows.specs.Words.{class_type, notify, class_of}
+use Rattle.machine_rows.specs.Words.{class_type, notify, class_with}
 
 abbrev pub definition : Definition
 definition = record {
@@ -13,8 +13,8 @@ definition = record {
       ∷ class_type (codes "GInitiallyUnowned") 0 false false []
       ∷ [];
   classes =
-      class_of [] (notify ∷ []) [] None None
-      ∷ class_of [] (notify ∷ []) [] None None
+      class_with [] (notify ∷ []) [] None None
+      ∷ class_with [] (notify ∷ []) [] None None
       ∷ [];
   shapes =
       [];

@@ -8,7 +8,7 @@ use Rattle.ui_machine.specs.Definition as words
 use Rattle.ui_machine.specs.Config.{Event, Peer}
 use Rattle.ui_machine.specs.Config as config
 use Rattle.machine_rows.specs.Play.{Scripted, shown}
-use Rattle.machine_rows.specs.Words.{class_type, property, notify, class_handler, class_of, block, program, object}
+use Rattle.machine_rows.specs.Words.{class_type, property, notify, class_handler, class_with, block, program, object}
 
 abbrev pub definition : Definition
 definition = record {
@@ -18,9 +18,9 @@ definition = record {
       ∷ class_type (codes "Box") 0 false false []
       ∷ [];
   classes =
-      class_of [] (notify ∷ []) [] None None
-      ∷ class_of [] (notify ∷ []) [] None None
-      ∷ class_of (property (codes "n") (kinds.whole kinds.int) 7 (values.whole kinds.int (pos 0)) (negsuc 2147483647) (pos 2147483647) false ∷ []) (notify ∷ []) (class_handler (codes "notify") 0 ∷ []) (Some 0) None
+      class_with [] (notify ∷ []) [] None None
+      ∷ class_with [] (notify ∷ []) [] None None
+      ∷ class_with (property (codes "n") (kinds.whole kinds.int) 7 (values.whole kinds.int (pos 0)) (negsuc 2147483647) (pos 2147483647) false ∷ []) (notify ∷ []) (class_handler (codes "notify") 0 ∷ []) (Some 0) None
       ∷ [];
   shapes =
       [];

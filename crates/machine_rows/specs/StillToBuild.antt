@@ -6,7 +6,7 @@ use Rattle.ui_machine.specs.Definition.{Definition}
 use Rattle.ui_machine.specs.Definition as words
 use Rattle.ui_machine.specs.Config.{Event, Peer}
 use Rattle.machine_rows.specs.Play.{Scripted, shown}
-use Rattle.machine_rows.specs.Words.{class_type, notify, class_of, block, program, object, prototype}
+use Rattle.machine_rows.specs.Words.{class_type, notify, class_with, block, program, object, prototype}
 
 abbrev pub definition : Definition
 definition = record {
@@ -16,9 +16,9 @@ definition = record {
       ∷ class_type (codes "Box") 0 false false []
       ∷ [];
   classes =
-      class_of [] (notify ∷ []) [] None None
-      ∷ class_of [] (notify ∷ []) [] None None
-      ∷ class_of [] (notify ∷ []) [] (Some 0) None
+      class_with [] (notify ∷ []) [] None None
+      ∷ class_with [] (notify ∷ []) [] None None
+      ∷ class_with [] (notify ∷ []) [] (Some 0) None
       ∷ [];
   shapes =
       [];

@@ -8,7 +8,7 @@ use Rattle.ui_machine.specs.Definition as words
 use Rattle.ui_machine.specs.Config.{Event, Peer}
 use Rattle.ui_machine.specs.Config as config
 use Rattle.machine_rows.specs.Play.{Scripted, shown}
-use Rattle.machine_rows.specs.Words.{class_type, signal, notify, class_of, block, program, attached, object}
+use Rattle.machine_rows.specs.Words.{class_type, signal, notify, class_with, block, program, attached, object}
 
 abbrev pub definition : Definition
 definition = record {
@@ -18,9 +18,9 @@ definition = record {
       ∷ class_type (codes "Box") 0 false false []
       ∷ [];
   classes =
-      class_of [] (notify ∷ []) [] None None
-      ∷ class_of [] (notify ∷ []) [] None None
-      ∷ class_of [] (notify ∷ signal (codes "q") [] (Some kinds.bool) 2 (Some words.true_handled) ∷ []) [] None None
+      class_with [] (notify ∷ []) [] None None
+      ∷ class_with [] (notify ∷ []) [] None None
+      ∷ class_with [] (notify ∷ signal (codes "q") [] (Some kinds.bool) 2 (Some words.true_handled) ∷ []) [] None None
       ∷ [];
   shapes =
       [];

@@ -7,7 +7,7 @@ use Rattle.ui_machine.specs.Definition.{Definition, value}
 use Rattle.ui_machine.specs.Config.{Event, Peer}
 use Rattle.ui_machine.specs.Config as config
 use Rattle.machine_rows.specs.Play.{Scripted, shown}
-use Rattle.machine_rows.specs.Words.{member, flags_type, class_type, property, signal, notify, class_of, bare, object}
+use Rattle.machine_rows.specs.Words.{member, flags_type, class_type, property, signal, notify, class_with, bare, object}
 
 abbrev pub definition : Definition
 definition = record {
@@ -18,10 +18,10 @@ definition = record {
       ∷ class_type (codes "Box") 0 false false []
       ∷ [];
   classes =
-      class_of [] (notify ∷ []) [] None None
-      ∷ class_of [] (notify ∷ []) [] None None
+      class_with [] (notify ∷ []) [] None None
+      ∷ class_with [] (notify ∷ []) [] None None
       ∷ bare
-      ∷ class_of (property (codes "f") (kinds.flags 2) 3 (values.flags 2 0) (pos 0) (pos 0) false ∷ property (codes "g") (kinds.flags 2) 19 (values.flags 2 0) (pos 0) (pos 0) false ∷ []) (notify ∷ signal (codes "s") ((kinds.flags 2) ∷ []) None 2 None ∷ []) [] None None
+      ∷ class_with (property (codes "f") (kinds.flags 2) 3 (values.flags 2 0) (pos 0) (pos 0) false ∷ property (codes "g") (kinds.flags 2) 19 (values.flags 2 0) (pos 0) (pos 0) false ∷ []) (notify ∷ signal (codes "s") ((kinds.flags 2) ∷ []) None 2 None ∷ []) [] None None
       ∷ [];
   shapes =
       [];

@@ -7,7 +7,7 @@ use Rattle.ui_machine.specs.Types.{plain_class}
 use Rattle.ui_machine.specs.Definition.{Definition, named}
 use Rattle.ui_machine.specs.Config.{Event, Peer}
 use Rattle.machine_rows.specs.Play.{Scripted, shown}
-use Rattle.machine_rows.specs.Words.{class_type, property, signal, notify, class_of, gives, object}
+use Rattle.machine_rows.specs.Words.{class_type, property, signal, notify, class_with, gives, object}
 
 abbrev pub definition : Definition
 definition = record {
@@ -17,9 +17,9 @@ definition = record {
       ∷ class_type (codes "Box") 0 false false []
       ∷ [];
   classes =
-      class_of [] (notify ∷ []) [] None None
-      ∷ class_of [] (notify ∷ []) [] None None
-      ∷ class_of (property (codes "o") (kinds.object 2) 1 (values.object None) (pos 0) (pos 0) false ∷ []) (notify ∷ signal (codes "go") [] None 2 None ∷ []) [] None None
+      class_with [] (notify ∷ []) [] None None
+      ∷ class_with [] (notify ∷ []) [] None None
+      ∷ class_with (property (codes "o") (kinds.object 2) 1 (values.object None) (pos 0) (pos 0) false ∷ []) (notify ∷ signal (codes "go") [] None 2 None ∷ []) [] None None
       ∷ [];
   shapes =
       [];

@@ -44,13 +44,13 @@ notify = signal (codes "notify") [] None 17 None
 abbrev pub class_handler : List ℕ → ℕ → ClassHandler
 class_handler signal program = record { signal = signal; program = program }
 
-abbrev pub class_of : List Spec → List Signal → List ClassHandler → Option ℕ → Option ℕ → Class
-class_of specs signals handlers constructed shape =
+abbrev pub class_with : List Spec → List Signal → List ClassHandler → Option ℕ → Option ℕ → Class
+class_with specs signals handlers constructed shape =
     record { specs = specs; signals = signals; handlers = handlers; constructed = constructed; shape = shape }
 
 -- a type without properties and signals of its own
 abbrev pub bare : Class
-bare = class_of [] (notify ∷ []) [] None None
+bare = class_with [] (notify ∷ []) [] None None
 
 -- ** shapes and programs
 

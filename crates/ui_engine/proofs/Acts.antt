@@ -2,6 +2,7 @@
 use Rattle.std.proofs.Common.{◌≡◌, ℕ, zero, suc, ◌+◌, ◌*◌, ◌<◌, ◌≤◌, Bool, true, false, nat_lt, List, [], ◌∷◌, ◌++◌, length, map, Option, Some, None, is_some, Ok, Err, slice_get, refl, sym, ap, subst, ◌∙◌, arith}
 use Rattle.std.specs.Prelude.{IfOk}
 use Rattle.std.proofs.lemmas.Bool.Decides.{nat_tests}
+use Rattle.ui_machine.specs.Properties.{is_writable}
 use Rattle.ui_machine.specs.declared.arm.Arm.TheVariants as arms
 use Rattle.ui_machine.specs.Seq.{total}
 use Rattle.ui_machine.specs.Values.{Value}
@@ -10,16 +11,16 @@ use Rattle.ui_machine.specs.Ancestry.{is_a}
 use Rattle.ui_machine.specs.Lines as lines
 use Rattle.ui_machine.specs.Lookups.{type_of, program_at}
 use Rattle.ui_machine.specs.Config as config
-use Rattle.ui_machine.specs.Config.{Object, Objects, Making, Item, makes, Emission, Task, Setting, Notifying, Beginning, Emitting, Transferring, Unsetting, Thawing, Running, Answering, Calling, Constructing, Building, Carrying, Due, World, Config}
+use Rattle.ui_machine.specs.Config.{Object, Objects, Making, Item, makes, Emission, Task, Setting, Notifying, Beginning, Emitting, Transferring, Unsetting, Thawing, Running, Answering, Calling, Constructing, Building, Carrying, Due, World, Config, built}
 use Rattle.ui_machine.specs.Answers.{Answer, known, only_if}
-use Rattle.ui_machine.specs.Objects.{find, changed, frozen_less}
-use Rattle.ui_machine.specs.Worlds.{Started, starts, said}
+use Rattle.ui_machine.specs.Objects.{find, changed, frozen_less, object_at}
+use Rattle.ui_machine.specs.Worlds.{Started, starts, said, held_at, is_unbuilt, with_held, sunk}
 use Rattle.ui_machine.specs.Programs.{first_frame, all_fit, fits_register, beginning_program, program_before}
 use Rattle.ui_machine.specs.Emissions.{notifying, notification}
 use Rattle.ui_machine.specs.Turns.{resulting}
 use Rattle.ui_machine.specs.Results.{Left, passed_down, told, ending}
-use Rattle.ui_machine.specs.Builds.{initially_unowned, making, with_object, new_object, thawing_made, constructed}
-use Rattle.ui_machine.specs.Sets.{setting}
+use Rattle.ui_machine.specs.Builds.{initially_unowned, making, with_object, new_object, thawing_made, constructed, making_set}
+use Rattle.ui_machine.specs.Sets.{setting, spec_at}
 use Rattle.ui_machine.specs.Steps.{most_steps, before, uncounted, left, act, thawing, building, carrying_set, carrying_get}
 use Rattle.g_values.specs.View.{value_view}
 use Rattle.builder_defs.specs.declared.event.Event.{Event}
@@ -140,13 +141,20 @@ module _ (d : Definition) (w : World) (rest : List Task) (n : ℕ) where
 
   constructed_passes : (id : ℕ) → IsHeld w (Constructing id [] true ∷ rest) → IfOk (uncounted rest n (constructed w id true)) (Passes d w (Constructing id [] true) rest n)
   unfolding constructed
-  constructed_passes id held = record {
-    held = ended_held w id rest held;
-    falls = λ _. omega arith;
-    stays = λ _. refl;
-    counts = λ yes. cc yes;
-    grows = longer_same w.transcript;
-  }
+  constructed_passes id held = uncounted_if (Constructing id [] true) (constructed w id true) (bind_ok (object_at w.objects id) _ P (λ o _. by o.place (is_unbuilt (held_at w o.place)) refl))
+    where
+      P : Started → Type 0
+      P = λ s. Passes d w (Constructing id [] true) rest n (before rest n s)
+
+      by : (place : ℕ) (b : Bool) → is_unbuilt (held_at w place) ≡ b → IfOk (only_if b arms.Code (starts (sunk (with_held w place (built id)) id) [])) P
+      by place true new = record {
+        held = ended_held w id place rest new held;
+        falls = λ _. omega arith;
+        stays = λ _. refl;
+        counts = λ yes. cc yes;
+        grows = longer_same w.transcript;
+      }
+      by place false old = tt
 
   -- a step that hands its part of a construction on
   handing : (t : Task) → IsHeld w (t ∷ rest) → is_counted t ≡ false → (s : Started) → Quietly w s.world → ((o : ℕ) → total (making_of o) s.tasks ≡ making_of o t) → Falls d w (weight d t) s → Passes d w t rest n (before rest n s)
@@ -159,11 +167,22 @@ module _ (d : Definition) (w : World) (rest : List Task) (n : ℕ) where
   }
 
   sets_passes : (id slot : ℕ) (v : Value) (steps : List Making) → IsHeld w (Constructing id (config.sets slot v ∷ steps) true ∷ rest)
-      → IfOk (uncounted rest n (starts w (Setting id slot v ∷ Constructing id steps true ∷ []))) (Passes d w (Constructing id (config.sets slot v ∷ steps) true) rest n)
-  sets_passes id slot v steps held = handing (Constructing id (config.sets slot v ∷ steps) true) held refl (record { world = w; tasks = Setting id slot v ∷ Constructing id steps true ∷ [] })
-      (record { lives = λ q h. h; builder = refl; floating = refl; grows = longer_same w.transcript })
-      (λ o. omega arith)
-      (record { less = omega arith })
+      → IfOk (uncounted rest n (making_set d w id slot v (Constructing id steps true ∷ []))) (Passes d w (Constructing id (config.sets slot v ∷ steps) true) rest n)
+  unfolding making_set
+  sets_passes id slot v steps held = uncounted_if whole (making_set d w id slot v (Constructing id steps true ∷ [])) (bind_ok (spec_at d w.objects id slot) _ P (λ s _. by (is_writable s)))
+    where
+      whole : Task
+      whole = Constructing id (config.sets slot v ∷ steps) true
+
+      P : Started → Type 0
+      P = λ s. Passes d w whole rest n (before rest n s)
+
+      by : (b : Bool) → IfOk (only_if b arms.Flags (starts w (Setting id slot v ∷ Constructing id steps true ∷ []))) P
+      by true = handing whole held refl (record { world = w; tasks = Setting id slot v ∷ Constructing id steps true ∷ [] })
+          (record { lives = λ q h. h; builder = refl; floating = refl; grows = longer_same w.transcript })
+          (λ o. omega arith)
+          (record { less = omega arith })
+      by false = tt
 
   runs_passes : (id program : ℕ) (steps : List Making) → IsHeld w (Constructing id (config.runs program ∷ steps) true ∷ rest) → (args : List Value)
       → IfOk (uncounted rest n (program_before d w program args (Constructing id steps true ∷ []))) (Passes d w (Constructing id (config.runs program ∷ steps) true) rest n)
@@ -226,7 +245,7 @@ module _ (d : Definition) (w : World) (rest : List Task) (n : ℕ) where
   setting_passes id slot v held = steadily (Setting id slot v) held (λ o. refl) refl (setting d w id slot v) (setting_calm d w id slot v) (setting_falls d w id slot v)
 
   carrying_passes : (event : Event) → IsHeld w (Carrying (request_of event) ∷ rest) → IfOk (act d w None (Carrying (request_of event) ∷ rest) n) (Passes d w (Carrying (request_of event)) rest n)
-  carrying_passes (events.Set place slot v) held = steadily (Carrying (request_of (events.Set place slot v))) held (λ o. refl) refl (carrying_set w place.0 slot (value (value_view v))) (carrying_set_calm w place.0 slot (value (value_view v))) (carrying_set_falls d w place.0 slot (value (value_view v)))
+  carrying_passes (events.Set place slot v) held = steadily (Carrying (request_of (events.Set place slot v))) held (λ o. refl) refl (carrying_set d w place.0 slot (value (value_view v))) (carrying_set_calm d w place.0 slot (value (value_view v))) (carrying_set_falls d w place.0 slot (value (value_view v)))
   carrying_passes (events.Get place slot) held = steadily (Carrying (request_of (events.Get place slot))) held (λ o. refl) refl (carrying_get d w place.0 slot) (carrying_get_calm d w place.0 slot) (carrying_get_falls d w place.0 slot)
 
   -- ** the build

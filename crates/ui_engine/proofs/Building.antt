@@ -1,6 +1,6 @@
 -- The build of a basic definition: what each step of it starts.
-use Rattle.std.proofs.Common.{◌≡◌, ℕ, zero, suc, ◌<◌, ◌≤◌, Bool, true, false, cond, ◌||◌, not, nat_eq, List, [], ◌∷◌, ◌++◌, length, map, take, drop, Option, Some, None, option_map, Ok, Err, slice_get, refl, sym, ap, ◌∙◌, arith}
-use Rattle.std.specs.List.{filter}
+use Rattle.std.proofs.Common.{◌≡◌, ℕ, zero, suc, ◌<◌, ◌≤◌, Bool, true, false, cond, ◌||◌, not, nat_eq, List, [], ◌∷◌, ◌++◌, length, map, take, drop, Option, Some, None, is_some, option_map, Ok, Err, slice_get, refl, sym, ap, ◌∙◌, arith}
+use Rattle.std.specs.List.{filter, list_all}
 use Rattle.std.proofs.lemmas.Option.{slice_get_within, get_or_from_slice_get, slice_get-map}
 use Rattle.std.proofs.lemmas.List.{length-map}
 use Rattle.std.proofs.Math.Seq.{drop-cons}
@@ -10,9 +10,12 @@ use Rattle.ui_machine.specs.Definition.{Definition, Place, GivenProperty}
 use Rattle.ui_machine.specs.Lookups.{type_of, specs_of}
 use Rattle.ui_machine.specs.Lines as lines
 use Rattle.ui_machine.specs.Config.{thaws, Item, makes, Task, Constructing, Building, World}
-use Rattle.ui_machine.specs.Answers.{Answer, ◌>>=◌}
+use Rattle.ui_machine.specs.Answers.{Answer, ◌>>=◌, known, only_if}
 use Rattle.ui_machine.specs.Worlds.{Started, starts, said, without}
-use Rattle.ui_machine.specs.Builds.{is_at_construction, construct_sets, constructed_runs, runs_above, run_of, given_sets, construction, new_object, with_object, making, made_items, adopts_if, first_peer, peers_of, peer_for}
+use Rattle.ui_machine.specs.Builds.{not_forward, is_at_construction, construct_sets, constructed_runs, runs_above, run_of, given_sets, construction, new_object, with_object, making, made_items, adopts_if, has_valid_default, first_peer, peer_for}
+use Rattle.ui_machine.specs.Calls.{nearest_shape, has_shape}
+use Rattle.ui_machine.specs.Emissions.{or_else, up, most_depth}
+use Rattle.ui_machine.specs.Transform.{same_bool}
 use Rattle.ui_machine.specs.Steps.{uncounted, building, building_object}
 use Rattle.g_values.specs.declared.value.Value.{Value}
 use Rattle.g_values.specs.View.{value_view}
@@ -48,11 +51,28 @@ drop_past (x ∷ xs) (suc i) past = drop_past xs i (omega arith)
 not_at_construction : (s : Spec) → IsPlain s → is_at_construction s ≡ false
 not_at_construction s plain = ap (λ f. has_flags 4 f || has_flags 8 f) plain.flags
 
-no_construct_sets : (w : World) (place : ℕ) (given : List GivenProperty) (slot : ℕ) (specs : List Spec) → ((i : ℕ) (s : Spec) → slice_get specs i ≡ Some s → IsPlain s)
-    → construct_sets w place given slot specs ≡ []
-no_construct_sets w place given slot [] plain = refl
-no_construct_sets w place given slot (s ∷ specs) plain =
-    rw (not_at_construction s (plain 0 s refl)) (no_construct_sets w place given (suc slot) specs (λ i t at. plain (suc i) t at))
+no_construct_sets : (w : World) (given : List GivenProperty) (slot : ℕ) (specs : List Spec) → ((i : ℕ) (s : Spec) → slice_get specs i ≡ Some s → IsPlain s)
+    → construct_sets w given slot specs ≡ []
+no_construct_sets w given slot [] plain = refl
+no_construct_sets w given slot (s ∷ specs) plain =
+    rw (not_at_construction s (plain 0 s refl)) (no_construct_sets w given (suc slot) specs (λ i t at. plain (suc i) t at))
+
+each_valid : (d : Definition) (specs : List Spec) → ((i : ℕ) (s : Spec) → slice_get specs i ≡ Some s → IsPlain s) → list_all (has_valid_default d) specs ≡ true
+each_valid d [] plain = refl
+each_valid d (s ∷ specs) plain = rw (let e = (plain 0 s refl).default d.types in e) (each_valid d specs (λ i t at. plain (suc i) t at))
+
+none_above : (f : ℕ → Option ℕ) → ((class : ℕ) → f class ≡ None) → (above : Option ℕ) → up f above ≡ None
+none_above f none None = refl
+none_above f none (Some class) = none class
+
+none_shaped : (d : Definition) → IsBasic d → (n class : ℕ) → nearest_shape n d class ≡ None
+none_shaped d basic zero class = refl
+none_shaped d basic (suc n) class =
+    ap (λ shape. or_else shape (up (nearest_shape n d) (type_of d class).parent)) (basic.shapes class)
+    ∙ none_above (nearest_shape n d) (none_shaped d basic n) (type_of d class).parent
+
+no_shape : (d : Definition) → IsBasic d → (class : ℕ) → has_shape d class ≡ false
+no_shape d basic class = ap is_some (none_shaped d basic most_depth class)
 
 module _ (d : Definition) (basic : IsBasic d) where
   no_runs_above : (n : ℕ) → ((class : ℕ) → constructed_runs n d class ≡ []) → (above : Option ℕ) → runs_above (constructed_runs n d) above ≡ []
@@ -68,16 +88,19 @@ module _ (d : Definition) (basic : IsBasic d) where
   module _ (w : World) (place : ℕ) (p : Place) (at : slice_get d.places place ≡ Some p) where
     only_thaws : construction d w place p ≡ thaws ∷ []
     only_thaws =
-        ap (λ steps. steps ++ (constructed_runs 16 d p.class ++ (given_sets w place (specs_of d p.class) p.given ++ thaws ∷ [])))
-        (no_construct_sets w place p.given 0 (specs_of d p.class) (λ i s has. basic.plain p.class i s has))
-        ∙ ap (λ steps. steps ++ (given_sets w place (specs_of d p.class) p.given ++ thaws ∷ [])) (no_runs 16 p.class)
-        ∙ ap (λ given. given_sets w place (specs_of d p.class) given ++ thaws ∷ []) (basic.given place p at)
+        ap (λ steps. steps ++ (constructed_runs 16 d p.class ++ (given_sets w (specs_of d p.class) (not_forward place p.given) ++ thaws ∷ [])))
+        (no_construct_sets w (not_forward place p.given) 0 (specs_of d p.class) (λ i s has. basic.plain p.class i s has))
+        ∙ ap (λ steps. steps ++ (given_sets w (specs_of d p.class) (not_forward place p.given) ++ thaws ∷ [])) (no_runs 16 p.class)
+        ∙ ap (λ given. given_sets w (specs_of d p.class) (not_forward place given) ++ thaws ∷ []) (basic.given place p at)
+
+    valid_defaults : list_all (has_valid_default d) (specs_of d p.class) ≡ true
+    valid_defaults = each_valid d (specs_of d p.class) (λ i s has. basic.plain p.class i s has)
 
     pub made_there : (type_of d p.class).is_abstract ≡ false
         → making d w place None true ≡ starts (said d (with_object d w (new_object d place p None)) (lines.construct (suc (length w.objects)) (type_of d p.class).name)) (Constructing (suc (length w.objects)) (thaws ∷ []) true ∷ [])
     unfolding making
     made_there concrete =
-        rw (at, concrete)
+        rw (at, concrete, valid_defaults)
         (ap (λ steps. starts (said d (with_object d w (new_object d place p None)) (lines.construct (suc (length w.objects)) (type_of d p.class).name)) (Constructing (suc (length w.objects)) steps true ∷ [])) only_thaws)
 
     pub abstract_there : (type_of d p.class).is_abstract ≡ true → making d w place None true ≡ Err arms.Abstract
@@ -90,8 +113,10 @@ module _ (d : Definition) (basic : IsBasic d) where
         ∙ ap (λ b. cond b [] (makes place ∷ adopts_if place p.parent) ++ build_from d (suc place)) (basic.prototypes place p at)
         ∙ ap (λ above. (makes place ∷ adopts_if place above) ++ build_from d (suc place)) (basic.parents place p at)
 
-    without_peer : peer_for d w place ≡ None
-    without_peer = ap (λ found. first_peer w.peers (peers_of found)) at ∙ ap (first_peer w.peers) (basic.peers place p at)
+    without_peer : peer_for d w p ≡ Ok None
+    without_peer =
+        ap (λ names. only_if (same_bool (has_shape d p.class) (is_some (first_peer w.peers names))) arms.Code (Ok (first_peer w.peers names))) (basic.peers place p at)
+        ∙ ap (λ shaped. only_if (same_bool shaped false) arms.Code (Ok None)) (no_shape d basic p.class)
 
     -- an item that waits below what making starts
     below : (rest : List Task) (n : ℕ) (items : List Item) (a : Answer Started)
@@ -104,7 +129,8 @@ module _ (d : Definition) (basic : IsBasic d) where
     unfolding building_object
     builds_next rest n =
         ap (λ items. uncounted rest n (building d w items)) next_made
-        ∙ ap (λ peer. uncounted rest n (making d w place peer true >>= λ m. starts m.world (m.tasks ++ Building (build_from d (suc place)) ∷ []))) without_peer
+        ∙ ap (λ (found : Option Place). uncounted rest n (known arms.Code found >>= λ q. peer_for d w q >>= λ peer. making d w place peer true >>= λ m. starts m.world (m.tasks ++ Building (build_from d (suc place)) ∷ []))) at
+        ∙ ap (λ (taken : Answer (Option ℕ)). uncounted rest n (taken >>= λ peer. making d w place peer true >>= λ m. starts m.world (m.tasks ++ Building (build_from d (suc place)) ∷ []))) without_peer
         ∙ sym (below rest n (build_from d (suc place)) (making d w place None true))
 
 pub no_place : (d : Definition) (w : World) (place : ℕ) → slice_get d.places place ≡ None → making d w place None true ≡ Err arms.Code

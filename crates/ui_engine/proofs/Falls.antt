@@ -1,5 +1,5 @@
 -- Uncounted steps make the work less.
-use Rattle.std.proofs.Common.{◌≡◌, ℕ, zero, suc, ◌+◌, ◌-◌, ◌*◌, ◌<◌, ◌≤◌, Bool, true, false, cond, nat_eq, nat_lt, ◌&&◌, ◌||◌, List, [], ◌∷◌, ◌++◌, length, Option, Some, None, Ok, Err, refl, ap, arith, length-append}
+use Rattle.std.proofs.Common.{not, ◌≡◌, ℕ, zero, suc, ◌+◌, ◌-◌, ◌*◌, ◌<◌, ◌≤◌, Bool, true, false, cond, nat_eq, nat_lt, ◌&&◌, ◌||◌, List, [], ◌∷◌, ◌++◌, length, Option, Some, None, Ok, Err, refl, ap, arith, length-append}
 use Rattle.std.specs.Prelude.{IfOk}
 use Rattle.std.specs.List.{list_any}
 use Rattle.std.proofs.lemmas.List.{length-reverse}
@@ -10,7 +10,7 @@ use Rattle.ui_machine.specs.Values.{Value}
 use Rattle.ui_machine.specs.Lines as lines
 use Rattle.ui_machine.specs.Transform.{same_value}
 use Rattle.ui_machine.specs.Clamp.{clamp}
-use Rattle.ui_machine.specs.Properties.{Spec, is_lax, is_readable}
+use Rattle.ui_machine.specs.Properties.{Spec, is_lax, is_readable, is_writable, is_construct_only}
 use Rattle.ui_machine.specs.Definition.{Definition, Given}
 use Rattle.ui_machine.specs.Queue.{queued, thawed}
 use Rattle.ui_machine.specs.Config.{Object, Objects, Making, Notifying, World}
@@ -19,7 +19,7 @@ use Rattle.ui_machine.specs.Objects.{find, put, class_in, asked, value_at, chang
 use Rattle.ui_machine.specs.Worlds.{Started, starts, said}
 use Rattle.ui_machine.specs.Sets.{spec_at, raising, notifies, kept, written, settled, setting, lives, has_kind}
 use Rattle.ui_machine.specs.Builds.{thawing_made, given_value, held_object}
-use Rattle.ui_machine.specs.Steps.{answered, thawing, carrying_set, carrying_get}
+use Rattle.ui_machine.specs.Steps.{with_result, thawing, carrying_set, carrying_get, set_given}
 use Rattle.ui_engine.specs.Measure.{weight, waiting_in, waiting}
 use Rattle.ui_engine.proofs.Held.{if_ok_at, bind_ok}
 
@@ -152,11 +152,17 @@ thawing_made_falls d w id steps held = bind_ok (changed w.objects id frozen_less
     let a = if_ok_at (λ (r : Objects × List ℕ). waiting r.0 + 2 * length r.1 ≤ waiting w.objects + 0) (changed w.objects id frozen_less) r (changed_waiting twice_length 0 w.objects id frozen_less thawed_adds) e in
     record { less = omega (arith, a) })
 
-pub carrying_set_falls : (d : Definition) (w : World) (place slot : ℕ) (given : Given) → IfOk (carrying_set w place slot given) (Falls d w 4)
+set_given_falls : (d : Definition) (w : World) (id slot : ℕ) (given : Given) → IfOk (set_given w id slot given) (Falls d w 4)
+unfolding set_given
+set_given_falls d w id slot given = bind_ok (known arms.Operand (given_value w given)) _ (Falls d w 4) (λ v _. record { less = omega arith })
+
+pub carrying_set_falls : (d : Definition) (w : World) (place slot : ℕ) (given : Given) → IfOk (carrying_set d w place slot given) (Falls d w 4)
 unfolding carrying_set
-carrying_set_falls d w place slot given = bind_ok (held_object w place) _ (Falls d w 4) (λ id _. bind_ok (known arms.Operand (given_value w given)) _ (Falls d w 4) (λ v _. record { less = omega arith }))
+carrying_set_falls d w place slot given = bind_ok (held_object w place) _ (Falls d w 4) (λ id _. bind_ok (spec_at d w.objects id slot) _ (Falls d w 4) (λ s _.
+    only_falls d w 4 (is_writable s) arms.Flags (only_if (not (is_construct_only s)) arms.ConstructOnly (set_given w id slot given))
+    (only_falls d w 4 (not (is_construct_only s)) arms.ConstructOnly (set_given w id slot given) (set_given_falls d w id slot given))))
 
 pub carrying_get_falls : (d : Definition) (w : World) (place slot : ℕ) → IfOk (carrying_get d w place slot) (Falls d w 4)
 unfolding carrying_get
 carrying_get_falls d w place slot = bind_ok (held_object w place) _ (Falls d w 4) (λ id _. bind_ok (spec_at d w.objects id slot) _ (Falls d w 4) (λ s _. bind_ok (asked w.objects id (value_at slot)) _ (Falls d w 4) (λ v _.
-    only_falls d w 4 (is_readable s) arms.Flags (starts (answered (said d w (lines.get id s.name v)) v) []) (record { less = omega arith }))))
+    only_falls d w 4 (is_readable s) arms.Flags (starts (with_result (said d w (lines.get id s.name v)) v) []) (record { less = omega arith }))))

@@ -4,17 +4,17 @@ use Rattle.std.specs.Prelude.{IfOk}
 use Rattle.std.proofs.lemmas.Bool.{cases_eq}
 use Rattle.std.proofs.lemmas.Bool.Decides.{nat_tests}
 use Rattle.ui_machine.specs.declared.arm.Arm.TheVariants as arms
-use Rattle.ui_machine.specs.Seq.{read, total}
+use Rattle.ui_machine.specs.Seq.{read, write, total}
 use Rattle.ui_machine.specs.Definition.{Definition}
-use Rattle.ui_machine.specs.Config.{Object, Objects, built, Making, Task, Setting, Notifying, Beginning, Emitting, Transferring, Unsetting, Thawing, Running, Answering, Calling, Constructing, Building, Carrying, Due, World, Config}
+use Rattle.ui_machine.specs.Config.{Object, Objects, Held, unbuilt, built, released, Making, Task, Setting, Notifying, Beginning, Emitting, Transferring, Unsetting, Thawing, Running, Answering, Calling, Constructing, Building, Carrying, Due, World, Config}
 use Rattle.ui_machine.specs.Answers.{Answer, ◌>>=◌, known}
 use Rattle.ui_machine.specs.Objects.{find, put, changed, unheld_from, next_unheld}
 use Rattle.ui_machine.specs.Mentions.{same, in_held, in_task, mentions}
-use Rattle.ui_machine.specs.Worlds.{Started, holding, sunk, without}
+use Rattle.ui_machine.specs.Worlds.{Started, held_at, is_unbuilt, with_held, sunk, without}
 use Rattle.ui_engine.specs.Growing.{Longer}
 use Rattle.ui_engine.proofs.Growing.{longer_on}
 use Rattle.ui_engine.specs.Holding.{making_of, IsHeld}
-use Rattle.ui_engine.proofs.Lists.{find-beside, find-more, total-append}
+use Rattle.ui_engine.proofs.Lists.{find-beside, find-more, total-append, total-written}
 
 -- ** no object is without a mention
 
@@ -160,9 +160,19 @@ without_less : (id q : ℕ) (fl : List ℕ) → total (same q) (without id fl) �
 without_less id q [] = omega arith
 without_less id q (i ∷ fl) = less_with q i (without id fl) fl (nat_eq i id) (without_less id q fl)
 
-pub ended_held : (w : World) (id : ℕ) (rest : List Task) → IsHeld w (Constructing id [] true ∷ rest) → IsHeld (sunk (holding w id) id) rest
-ended_held w id rest held = record {
-  lives = λ q some. let h = held.lives q some in omega (arith, h, total-append (in_held q) w.builder (built id ∷ []));
+-- a place that the builder has not come to holds nothing
+holds_nothing : (q : ℕ) (h : Held) → is_unbuilt h ≡ true → in_held q h ≡ 0
+holds_nothing q unbuilt e = refl
+holds_nothing q (built id) e = absurd (cc)
+holds_nothing q released e = refl
+
+pub ended_held : (w : World) (id place : ℕ) (rest : List Task) → is_unbuilt (held_at w place) ≡ true → IsHeld w (Constructing id [] true ∷ rest)
+    → IsHeld (sunk (with_held w place (built id)) id) rest
+ended_held w id place rest new held = record {
+  lives = λ q some.
+      let h = held.lives q some in
+      let more : total (in_held q) (write unbuilt w.builder place (built id)) ≡ total (in_held q) w.builder + same q id = total-written (in_held q) unbuilt w.builder place (built id) refl (holds_nothing q (held_at w place) new) in
+      omega (arith, h, more);
   floats = λ q some. elim (cases_eq q id) as (λ _. 0 < total (making_of q) rest) [
     | inl is ↦ let z : total (same q) (without id w.floating) ≡ 0 = subst (λ j. total (same j) (without id w.floating) ≡ 0) (sym is) (without_none id w.floating) in absurd (omega arith)
     | inr ne ↦

@@ -9,6 +9,7 @@ pub mod Strings
 pub mod Values
 pub mod Falls
 pub mod SpecAt
+pub mod Settable
 pub mod PlainSets
 pub mod Left
 pub mod Notified

@@ -36,6 +36,13 @@ pub total-append : {A : Type 0} (f : A → ℕ) (xs ys : List A) → total f (xs
 total-append f [] ys = omega arith
 total-append f (x ∷ xs) ys = omega (arith, total-append f xs ys)
 
+-- a write where nothing is counted adds what is written
+pub total-written : {A : Type 0} (f : A → ℕ) (d : A) (xs : List A) (i : ℕ) (y : A) → f d ≡ 0 → f (read d xs i) ≡ 0 → total f (write d xs i y) ≡ total f xs + f y
+total-written f d [] zero y none there = omega arith
+total-written f d [] (suc i) y none there = omega (arith, none, total-written f d [] i y none none)
+total-written f d (x ∷ xs) zero y none there = omega (arith, there)
+total-written f d (x ∷ xs) (suc i) y none there = omega (arith, total-written f d xs i y none there)
+
 -- one more object: the others are found as before
 read-more : (os : Objects) (x : Option Object) (i : ℕ) → is_some (read None (os ++ x ∷ []) i) ≡ true → i ≢ length os → is_some (read None os i) ≡ true
 read-more [] x zero h ne = absurd (ne refl)

@@ -1,5 +1,5 @@
 -- Notifications to which nobody listens.
-use Rattle.std.proofs.Common.{◌≡◌, ℕ, zero, suc, ◌<◌, ◌≤◌, true, false, List, [], ◌∷◌, ◌++◌, length, map, codes, reverse, Option, Some, None, Ok, Err, slice_get, refl, sym, ap, ◌∙◌, nat_lt, arith}
+use Rattle.std.proofs.Common.{◌≡◌, ℕ, zero, suc, ◌<◌, ◌≤◌, true, false, List, [], ◌∷◌, ◌++◌, length, map, reverse, Option, Some, None, Ok, Err, slice_get, refl, sym, ap, ◌∙◌, nat_lt, arith}
 use Rattle.std.proofs.lemmas.Bool.Decides.{nat_tests}
 use Rattle.std.proofs.lemmas.List.{reverse-append, map-append}
 use Rattle.ui_machine.specs.declared.arm.Arm.{Arm}
@@ -17,7 +17,7 @@ use Rattle.ui_machine.specs.Emissions.{notifying, notification, notify_plan, nea
 use Rattle.ui_machine.specs.Values.{Value}
 use Rattle.ui_machine.specs.Turns.{resulting, result_of}
 use Rattle.ui_machine.specs.Results.{ending, leaves, passed_down, told}
-use Rattle.builder_defs.specs.Meaning.{IsBasic}
+use Rattle.builder_defs.specs.Meaning.{notify_signal, IsBasic}
 use Rattle.ui_engine.specs.TaskView.{name_of, name_in, task_of, agenda_of}
 use Rattle.ui_engine.specs.declared.task.Stack.{Stack}
 use Rattle.ui_engine.specs.declared.task.Task as code
@@ -38,23 +38,25 @@ none_nearest : (d : Definition) → IsBasic d → (name : List ℕ) (n class : �
 none_nearest d basic name zero class = refl
 none_nearest d basic name (suc n) class = ap (λ (hs : List ClassHandler). or_else (handler_in hs name) (up (nearest_handler n d name) (type_of d class).parent)) (basic.handlers class) ∙ none_up (nearest_handler n d name) (none_nearest d basic name n) (type_of d class).parent
 
-pub none_planned : (d : Definition) → IsBasic d → (w : World) → w.handlers ≡ [] → w.bindings ≡ [] → (class id slot : ℕ) (name : List ℕ) → notify_plan d w class id slot name ≡ []
-none_planned d basic w handlers bindings class id slot name =
-    let e : class_handler_of d class (codes "notify") ≡ None = none_nearest d basic (codes "notify") most_depth class in
+pub none_planned : (d : Definition) → IsBasic d → (w : World) → w.handlers ≡ [] → w.bindings ≡ [] → (s : Signal) (class id slot : ℕ) (name : List ℕ) → notify_plan d w s class id slot name ≡ []
+none_planned d basic w handlers bindings s class id slot name =
+    let e : class_handler_of d class s.name ≡ None = none_nearest d basic s.name most_depth class in
     rw (e, handlers, bindings) refl
 
 -- ** by the class of the object
 
 module _ (d : Definition) (w : World) (id slot : ℕ) where
-  by_class : (r : Answer ℕ) → asked w.objects id (λ o. Ok o.class) ≡ r
-      → notifying d w id slot ≡ (r >>= λ class. known arms.Code (spec_of d class slot) >>= λ s. starts (said d w (lines.notify id s.name)) (Emitting (notification id s.name) (notify_plan d w class id slot s.name) ∷ []))
-  unfolding asked notifying
-  by_class r h = by (find w.objects id) ∙ ap (λ (a : Answer ℕ). a >>= on) h
-    where
-      on : ℕ → Answer Started
-      on class = known arms.Code (spec_of d class slot) >>= λ s. starts (said d w (lines.notify id s.name)) (Emitting (notification id s.name) (notify_plan d w class id slot s.name) ∷ [])
+  begin : ℕ → Spec → Signal → Answer Started
+  begin class p s = starts (said d w (lines.notify id p.name)) (Emitting (notification id p.name) (notify_plan d w s class id slot p.name) ∷ [])
 
-      by : (o : Option Object) → (known arms.Operand o >>= λ x. on x.class) ≡ ((known arms.Operand o >>= λ x. Ok x.class) >>= on)
+  on_class : ℕ → Answer Started
+  on_class class = known arms.Code (spec_of d class slot) >>= λ p. signal_at d class 0 >>= λ s. begin class p s
+
+  by_class : (r : Answer ℕ) → asked w.objects id (λ o. Ok o.class) ≡ r → notifying d w id slot ≡ (r >>= on_class)
+  unfolding asked notifying on_class begin
+  by_class r h = by (find w.objects id) ∙ ap (λ (a : Answer ℕ). a >>= on_class) h
+    where
+      by : (o : Option Object) → (known arms.Operand o >>= λ x. on_class x.class) ≡ ((known arms.Operand o >>= λ x. Ok x.class) >>= on_class)
       by None = refl
       by (Some x) = refl
 
@@ -63,15 +65,25 @@ module _ (d : Definition) (w : World) (id slot : ℕ) where
 
   module _ (class : ℕ) (of : asked w.objects id (λ o. Ok o.class) ≡ Ok class) where
     pub unnamed : spec_of d class slot ≡ None → notifying d w id slot ≡ Err arms.Code
-    unnamed none = by_class (Ok class) of ∙ ap (λ (s : Option Spec). known arms.Code s >>= λ s. starts (said d w (lines.notify id s.name)) (Emitting (notification id s.name) (notify_plan d w class id slot s.name) ∷ [])) none
+    unfolding on_class
+    unnamed none = by_class (Ok class) of ∙ ap (λ (p : Option Spec). known arms.Code p >>= λ p. signal_at d class 0 >>= λ s. begin class p s) none
 
-    pub begun : IsBasic d → w.handlers ≡ [] → w.bindings ≡ [] → (s : Spec) → spec_of d class slot ≡ Some s
-        → notifying d w id slot ≡ starts (said d w (lines.notify id s.name)) (Emitting (notification id (name_of d class slot)) [] ∷ [])
-    begun basic handlers bindings s some =
+    pub unknown : (p : Spec) → spec_of d class slot ≡ Some p → IsBasic d → length d.types ≤ class → notifying d w id slot ≡ Err arms.Code
+    unfolding on_class signal_at
+    unknown p some basic past =
         by_class (Ok class) of
-        ∙ ap (λ (s : Option Spec). known arms.Code s >>= λ s. starts (said d w (lines.notify id s.name)) (Emitting (notification id s.name) (notify_plan d w class id slot s.name) ∷ [])) some
-        ∙ ap (λ plan. starts (said d w (lines.notify id s.name)) (Emitting (notification id s.name) plan ∷ [])) (none_planned d basic w handlers bindings class id slot s.name)
-        ∙ ap (λ (found : Option Spec). starts (said d w (lines.notify id s.name)) (Emitting (notification id (name_in found)) [] ∷ [])) (sym some)
+        ∙ ap (λ (p : Option Spec). known arms.Code p >>= λ p. signal_at d class 0 >>= λ s. begin class p s) some
+        ∙ ap (λ (ss : List Signal). known arms.Code (slice_get ss 0) >>= λ s. begin class p s) (basic.unknown_signals class past)
+
+    pub begun : IsBasic d → class < length d.types → w.handlers ≡ [] → w.bindings ≡ [] → (p : Spec) → spec_of d class slot ≡ Some p
+        → notifying d w id slot ≡ starts (said d w (lines.notify id p.name)) (Emitting (notification id (name_of d class slot)) [] ∷ [])
+    unfolding on_class begin signal_at
+    begun basic known_class handlers bindings p some =
+        by_class (Ok class) of
+        ∙ ap (λ (p : Option Spec). known arms.Code p >>= λ p. signal_at d class 0 >>= λ s. begin class p s) some
+        ∙ ap (λ (ss : List Signal). known arms.Code (slice_get ss 0) >>= λ s. begin class p s) (basic.known_signals class known_class)
+        ∙ ap (λ plan. starts (said d w (lines.notify id p.name)) (Emitting (notification id p.name) plan ∷ [])) (none_planned d basic w handlers bindings notify_signal class id slot p.name)
+        ∙ ap (λ (found : Option Spec). starts (said d w (lines.notify id p.name)) (Emitting (notification id (name_in found)) [] ∷ [])) (sym some)
 
 -- ** the end of a notification
 

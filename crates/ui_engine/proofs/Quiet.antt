@@ -1,5 +1,5 @@
 -- What sets, notifications and gets leave of what holds the objects.
-use Rattle.std.proofs.Common.{◌≡◌, ℕ, Bool, true, false, cond, ◌&&◌, ◌||◌, List, [], ◌∷◌, is_some, Ok, Err, refl, subst}
+use Rattle.std.proofs.Common.{not, ◌≡◌, ℕ, Bool, true, false, cond, ◌&&◌, ◌||◌, List, [], ◌∷◌, is_some, Ok, Err, refl, subst}
 use Rattle.std.specs.Prelude.{IfOk}
 use Rattle.ui_machine.specs.declared.arm.Arm.{Arm}
 use Rattle.ui_machine.specs.declared.arm.Arm.TheVariants as arms
@@ -8,7 +8,7 @@ use Rattle.ui_machine.specs.Values.{Value}
 use Rattle.ui_machine.specs.Lines as lines
 use Rattle.ui_machine.specs.Transform.{same_value}
 use Rattle.ui_machine.specs.Clamp.{clamp}
-use Rattle.ui_machine.specs.Properties.{Spec, is_lax, is_readable}
+use Rattle.ui_machine.specs.Properties.{Spec, is_lax, is_readable, is_writable, is_construct_only}
 use Rattle.ui_machine.specs.Lookups.{spec_of}
 use Rattle.ui_machine.specs.Definition.{Definition, Given}
 use Rattle.ui_machine.specs.Config.{Object, Objects, Notifying, World}
@@ -16,9 +16,9 @@ use Rattle.ui_machine.specs.Answers.{Answer, known, only_if}
 use Rattle.ui_machine.specs.Objects.{find, class_in, object_at, asked, value_at, changed, with_value, raised}
 use Rattle.ui_machine.specs.Worlds.{Started, starts, said}
 use Rattle.ui_machine.specs.Sets.{spec_at, raising, notifies, kept, written, settled, setting, lives, has_kind}
-use Rattle.ui_machine.specs.Emissions.{notifying}
+use Rattle.ui_machine.specs.Emissions.{notifying, signal_at}
 use Rattle.ui_machine.specs.Builds.{given_value}
-use Rattle.ui_machine.specs.Steps.{answered, thawing, carrying_set, carrying_get}
+use Rattle.ui_machine.specs.Steps.{with_result, thawing, carrying_set, carrying_get, set_given}
 use Rattle.ui_machine.specs.Builds.{held_object}
 use Rattle.ui_engine.specs.Growing.{Longer}
 use Rattle.ui_engine.proofs.Growing.{longer_same, longer_one}
@@ -55,10 +55,10 @@ calm_on w v (Err arm) q h = tt
 
 pub notifying_calm : (d : Definition) (w : World) (id slot : ℕ) → IfOk (notifying d w id slot) (Calm w)
 unfolding notifying
-notifying_calm d w id slot = bind_ok (object_at w.objects id) _ (Calm w) (λ o _. bind_ok (known arms.Code (spec_of d o.class slot)) _ (Calm w) (λ s _. record {
+notifying_calm d w id slot = bind_ok (object_at w.objects id) _ (Calm w) (λ o _. bind_ok (known arms.Code (spec_of d o.class slot)) _ (Calm w) (λ p _. bind_ok (signal_at d o.class 0) _ (Calm w) (λ s _. record {
   quiet = record { lives = λ q h. h; builder = refl; floating = refl; grows = (longer_one w.transcript _) };
   none = λ o. refl;
-}))
+})))
 
 -- ** sets
 
@@ -91,17 +91,23 @@ setting_calm d w id slot v = bind_ok (spec_at d w.objects id slot) _ (Calm w) (�
 still : (w new : World) → new.objects ≡ w.objects → new.builder ≡ w.builder → new.floating ≡ w.floating → Longer w.transcript new.transcript → Quietly w new
 still w new objects builder floating grows = record { lives = λ q h. subst (λ (xs : Objects). is_some (find xs q) ≡ true) objects h; builder = builder; floating = floating; grows = grows }
 
-pub carrying_set_calm : (w : World) (place slot : ℕ) (given : Given) → IfOk (carrying_set w place slot given) (Calm w)
-unfolding carrying_set
-carrying_set_calm w place slot given = bind_ok (held_object w place) _ (Calm w) (λ id _. bind_ok (known arms.Operand (given_value w given)) _ (Calm w) (λ v _. record {
+set_given_calm : (w : World) (id slot : ℕ) (given : Given) → IfOk (set_given w id slot given) (Calm w)
+unfolding set_given
+set_given_calm w id slot given = bind_ok (known arms.Operand (given_value w given)) _ (Calm w) (λ v _. record {
   quiet = still w w refl refl refl (longer_same w.transcript);
   none = λ o. refl;
-}))
+})
+
+pub carrying_set_calm : (d : Definition) (w : World) (place slot : ℕ) (given : Given) → IfOk (carrying_set d w place slot given) (Calm w)
+unfolding carrying_set
+carrying_set_calm d w place slot given = bind_ok (held_object w place) _ (Calm w) (λ id _. bind_ok (spec_at d w.objects id slot) _ (Calm w) (λ s _.
+    only_calm w (is_writable s) arms.Flags (only_if (not (is_construct_only s)) arms.ConstructOnly (set_given w id slot given))
+    (only_calm w (not (is_construct_only s)) arms.ConstructOnly (set_given w id slot given) (set_given_calm w id slot given))))
 
 pub carrying_get_calm : (d : Definition) (w : World) (place slot : ℕ) → IfOk (carrying_get d w place slot) (Calm w)
 unfolding carrying_get
 carrying_get_calm d w place slot = bind_ok (held_object w place) _ (Calm w) (λ id _. bind_ok (spec_at d w.objects id slot) _ (Calm w) (λ s _. bind_ok (asked w.objects id (value_at slot)) _ (Calm w) (λ v _.
-    only_calm w (is_readable s) arms.Flags (starts (answered (said d w (lines.get id s.name v)) v) []) (record { quiet = still w _ refl refl refl (longer_one w.transcript _); none = λ o. refl }))))
+    only_calm w (is_readable s) arms.Flags (starts (with_result (said d w (lines.get id s.name v)) v) []) (record { quiet = still w _ refl refl refl (longer_one w.transcript _); none = λ o. refl }))))
 
 -- ** thaws
 

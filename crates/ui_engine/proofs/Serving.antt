@@ -1,10 +1,9 @@
 -- An event that names no released object is served by one dispatch.
 use Rattle.std.proofs.Common.{◌≡◌, ℕ, zero, suc, Bool, true, false, List, [], ◌∷◌, map, Option, Some, None, Result, Ok, Err, refl, sym, ap, subst, ◌∙◌}
-use Rattle.ui_machine.specs.declared.arm.Halt.{Halt}
 use Rattle.ui_machine.specs.Seq.{read}
 use Rattle.ui_machine.specs.Definition.{Definition}
 use Rattle.ui_machine.specs.Config as config
-use Rattle.ui_machine.specs.Config.{Held, built, unbuilt, Carrying, Request, Event, World}
+use Rattle.ui_machine.specs.Config.{Held, unbuilt, Carrying, Request, Event, World}
 use Rattle.ui_machine.specs.Worlds.{held_at}
 use Rattle.ui_machine.specs.Runs as runs
 use Rattle.ui_machine.specs.Runs.{is_released, names_released, Refusal, gone, refusal, beginning}
@@ -14,18 +13,20 @@ use Rattle.builder_defs.specs.Meaning.{request_of}
 use Rattle.ui_engine.specs.declared.dispatches.Reply.{Reply}
 use Rattle.ui_engine.specs.declared.session.SessionFault.{SessionFault}
 use Rattle.ui_engine.specs.declared.session.SessionFault.TheVariants as faults
+use Rattle.ui_engine.specs.View.{held_of}
 use Rattle.ui_engine.specs.SessionView.{SessionState, tally_of, serving, carrying_out, Comes, Answers}
 
 -- what was only built is not released
-built_stays : (ids : List ℕ) (place : ℕ) → is_released (read unbuilt (map built ids) place) ≡ false
+built_stays : (ids : List (Option ℕ)) (place : ℕ) → is_released (read unbuilt (map held_of ids) place) ≡ false
 built_stays [] place = refl
-built_stays (id ∷ ids) zero = refl
+built_stays (None ∷ ids) zero = refl
+built_stays (Some id ∷ ids) zero = refl
 built_stays (id ∷ ids) (suc place) = built_stays ids place
 
-stays : (w : World) (ids : List ℕ) (place : ℕ) → w.builder ≡ map built ids → is_released (held_at w place) ≡ false
+stays : (w : World) (ids : List (Option ℕ)) (place : ℕ) → w.builder ≡ map held_of ids → is_released (held_at w place) ≡ false
 stays w ids place same = ap (λ (held : List Held). is_released (read unbuilt held place)) same ∙ built_stays ids place
 
-names_none : (w : World) (ids : List ℕ) (event : code.Event) → w.builder ≡ map built ids → names_released w (request_of event) ≡ false
+names_none : (w : World) (ids : List (Option ℕ)) (event : code.Event) → w.builder ≡ map held_of ids → names_released w (request_of event) ≡ false
 names_none w ids (events.Set place slot v) same = rw (stays w ids place.0 same) refl
 names_none w ids (events.Get place slot) same = stays w ids place.0 same
 
@@ -45,8 +46,8 @@ module _ (d : Definition) (w : World) (r : Request) (none : names_released w r �
   serves (Err faults.Stopped) new never = absurd never
 
 -- a session that has not stopped answers so
-pub answers : (old : SessionState) (ids : List ℕ) (event : code.Event) (result : Result Reply SessionFault) (new : SessionState)
-    → old.world.builder ≡ map built ids → old.stopped ≡ false
+pub answers : (old : SessionState) (ids : List (Option ℕ)) (event : code.Event) (result : Result Reply SessionFault) (new : SessionState)
+    → old.world.builder ≡ map held_of ids → old.stopped ≡ false
     → Comes result (carrying_out old.definition (beginning old.world (Carrying (request_of event)))) old.definition new
     → Answers old.stopped result old (config.request (request_of event)) new
 answers old ids event result new same goes comes =

@@ -1,5 +1,5 @@
 -- What the steps of the engine come to, beside the machine's.
-use Rattle.std.specs.Prelude.{◌≡◌, suc, ◌<◌, Bool, true, false, [], Option, None, option_map, Result, Ok, Err}
+use Rattle.std.specs.Prelude.{◌≡◌, suc, ◌<◌, Bool, true, false, [], None, option_map, Result, Ok, Err}
 use Rattle.ui_machine.specs.declared.arm.Halt.{Halt}
 use Rattle.ui_machine.specs.Definition.{Definition}
 use Rattle.ui_machine.specs.Config.{World, Config}

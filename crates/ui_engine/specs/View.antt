@@ -1,8 +1,13 @@
 -- What the engine's types stand for in the machine.
-use Rattle.std.specs.Prelude.{[], map, option_map, string_bytes}
+use Rattle.std.specs.Prelude.{ℕ, [], map, Option, Some, None, option_map, string_bytes}
 use Rattle.ui_machine.specs.Config as config
 use Rattle.g_values.specs.View.{value_view}
 use Rattle.ui_engine.specs.declared.world.World.{World}
+
+-- what the builder has of a place, as the machine says it
+abbrev pub held_of : Option ℕ → config.Held
+held_of None = config.unbuilt
+held_of (Some id) = config.built id
 
 abbrev pub world_of : World → config.World
 world_of w = record {
@@ -13,7 +18,7 @@ world_of w = record {
   sources = [];
   last_source = 0;
   floating = w.floating.items;
-  builder = map config.built w.builder.items;
+  builder = map held_of w.builder.items;
   peers = [];
   moment = 0;
   transcript = map string_bytes w.transcript.items;

@@ -5,7 +5,8 @@ ghost use Rattle.ui_machine.specs.Answers.{Goes};
 ghost use Rattle.ui_machine.specs.Properties.{Spec};
 ghost use Rattle.ui_machine.specs.Lookups.{specs_of};
 ghost use Rattle.ui_engine.specs.ObjectView.{made_object};
-ghost use Rattle.ui_machine.specs.Builds.{with_object, constructed, thawing_made, making};
+ghost use Rattle.ui_machine.specs.Builds.{with_object, constructed, thawing_made, making, making_set};
+ghost use Rattle.ui_machine.specs.Config.{Constructing};
 ghost use Rattle.ui_machine.specs.Steps.{uncounted, constructing, building};
 ghost use Rattle.g_values.specs.View.{value_view};
 ghost use Rattle.ui_engine.specs.View.{world_of};
@@ -16,6 +17,7 @@ use crate::engine::Engine;
 use crate::object::Object;
 use crate::task::{Making, Makings, Slots, Task};
 use crate::texts::construct_line;
+use crate::world::hold;
 use builder_defs::Definition;
 use g_values::Value;
 use std::alloc::{AllocError, Global};
@@ -35,7 +37,11 @@ impl Engine {
         ensures quiet { OnErr result ((world_of self.new.world).transcript ≡ (world_of self.old.world).transcript) }
     {
         let _ = definition;
-        self.world.builder.push(object)?;
+        let place = self.world.heap.place_of(object)?;
+        if self.world.built(place).is_some() {
+            return Err(Halt::Stuck(Arm::Code));
+        }
+        hold(&mut self.world.builder, place, object)?;
         self.world.floating.retain(|id| *id != object);
         Ok(())
     }
@@ -63,6 +69,31 @@ impl Engine {
         Ok(())
     }
 
+    // A set of a construction. Each property so far is writable.
+    #[tactic(auto, unfolding(ui_machine::specs::Builds::making_set))]
+    fn making_set(
+        &mut self,
+        definition: &Definition,
+        object: u64,
+        slot: u16,
+        value: Value,
+        steps: Makings,
+    ) -> Result<(), Halt>
+        ensures step { Goes result
+            (uncounted (agenda_of definition.now self.old.stack) self.old.counted (making_set definition.now (world_of self.old.world) object slot (value_view value) (Constructing object steps true ∷ [])))
+            (config_of definition.now self.new) }
+        ensures quiet { OnErr result ((world_of self.new.world).transcript ≡ (world_of self.old.world).transcript) }
+    {
+        self.spec_of(definition, object, slot)?;
+        self.stack.push(Task::Constructing { object, steps })?;
+        self.stack.push(Task::Setting {
+            object,
+            slot,
+            value,
+        })?;
+        Ok(())
+    }
+
     // The next step of a construction.
     pub(crate) fn constructing(
         &mut self,
@@ -80,12 +111,7 @@ impl Engine {
         };
         match step {
             Making::Set { slot, value } => {
-                self.stack.push(Task::Constructing { object, steps })?;
-                self.stack.push(Task::Setting {
-                    object,
-                    slot,
-                    value,
-                })?;
+                self.making_set(definition, object, slot, value, steps)?;
                 return Ok(());
             }
             Making::Thaw => {

@@ -27,8 +27,8 @@ impl Engine {
         self.world.built(usize::from(place.0)).ok_or(Arm::Operand)
     }
 
-    // A set by an event.
-    #[tactic(auto, unfolding(ui_machine::specs::Steps::carrying_set))]
+    // A set by an event. Each property so far may be set.
+    #[tactic(auto, unfolding(ui_machine::specs::Steps::carrying_set, ui_machine::specs::Steps::set_given))]
     fn carrying_set(
         &mut self,
         definition: &Definition,
@@ -37,12 +37,12 @@ impl Engine {
         value: Value,
     ) -> Result<(), Halt>
         ensures step { Goes result
-            (uncounted (agenda_of definition.now self.old.stack) self.old.counted (carrying_set (world_of self.old.world) place.0 slot (machine.value (value_view value))))
+            (uncounted (agenda_of definition.now self.old.stack) self.old.counted (carrying_set definition.now (world_of self.old.world) place.0 slot (machine.value (value_view value))))
             (config_of definition.now self.new) }
         ensures quiet { OnErr result ((world_of self.new.world).transcript ≡ (world_of self.old.world).transcript) }
     {
-        let _ = definition;
         let object = self.built(place)?;
+        self.spec_of(definition, object, slot)?;
         self.stack.push(Task::Setting {
             object,
             slot,

@@ -69,6 +69,16 @@ impl Heap {
         Ok(object.class())
     }
 
+    /// The place of an object.
+    pub fn place_of(&self, id: u64) -> Result<usize, Arm>
+        ensures { Shows (λ place. place) result (asked self.now id (λ o. Ok o.place)) }
+    {
+        let Some(object) = self.objects.get(&id) else {
+            return Err(Arm::Operand);
+        };
+        Ok(object.place())
+    }
+
     /// The value of a property.
     pub fn value(&self, id: u64, slot: u16) -> Result<&Value, Arm>
         ensures { Shows (λ v. value_view v.now) result (asked self.now id (value_at slot)) }

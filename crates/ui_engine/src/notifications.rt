@@ -32,11 +32,15 @@ impl Engine {
         ensures counts { OnOk result ((self.old.counted < most_steps) × (self.new.counted ≡ suc self.old.counted)) }
     {
         self.count()?;
-        let _types = definition.types();
+        let types = definition.types();
         let class = self.world.heap.class_of(object)?;
         let Some(spec) = definition.spec(class, slot) else {
             return Err(Halt::Stuck(Arm::Code));
         };
+        let count = types.len();
+        if class.index() >= count {
+            return Err(Halt::Stuck(Arm::Code));
+        }
         let line = notify_line(self.alloc, object, spec.name.as_str())?;
         self.stack.push(Task::Emitting {
             object,

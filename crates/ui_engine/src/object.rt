@@ -66,6 +66,13 @@ impl Object {
         self.class
     }
 
+    /// Its place.
+    pub fn place(&self) -> usize
+        ensures { result ≡ self.now.place }
+    {
+        self.place
+    }
+
     /// The value of a property.
     pub fn value(&self, slot: u16) -> Result<&Value, Arm>
         ensures { Shows (λ v. value_view v.now) result (value_at slot self.now) }

@@ -1,7 +1,11 @@
 //! All but the tasks.
 
 ghost use Rattle.std.specs.Prelude.{◌≡◌, ◌∷◌, [], ◌++◌, OnOk, OnErr, map, slice_get, string_bytes};
-ghost use Rattle.ui_engine.specs.View.{world_of};
+ghost use Rattle.ui_machine.specs.Seq.{write};
+ghost use Rattle.ui_machine.specs.Config.{built, unbuilt};
+ghost use Rattle.ui_machine.specs.Worlds.{held_at};
+ghost use Rattle.ui_machine.specs.Builds.{identity_held};
+ghost use Rattle.ui_engine.specs.View.{held_of, world_of};
 
 use crate::heap::Heap;
 use g_values::Value;
@@ -11,8 +15,8 @@ use std::alloc::AllocError;
 #[derive(Drop)]
 pub struct World {
     pub heap: Heap,
-    /// The identity of what was built, by place.
-    pub builder: Vec<u64>,
+    /// The identity of what was built, by place, if it was.
+    pub builder: Vec<Option<u64>>,
     pub floating: Vec<u64>,
     pub transcript: Vec<String>,
     pub result: Option<Value>,
@@ -28,10 +32,31 @@ impl World {
         Ok(())
     }
 
-    /// The identity of what was built at a place.
-    pub fn built(&self, place: usize) -> Option<u64>
+    // What stands at a place of the builder.
+    fn entry(&self, place: usize) -> Option<Option<u64>>
         ensures { result ≡ slice_get self.now.builder.items place }
     {
         self.builder.get(place).copied()
     }
+
+    /// The identity of what was built at a place.
+    pub fn built(&self, place: usize) -> Option<u64>
+        ensures { result ≡ identity_held (held_at (world_of self.now) place) }
+    {
+        match self.entry(place) {
+            Some(held) => held,
+            None => None,
+        }
+    }
+}
+
+/// What was built at a place is held from now on. A place that the builder has not come to yet has nothing.
+pub fn hold(builder: &mut Vec<Option<u64>>, place: usize, object: u64) -> Result<(), AllocError>
+    ensures { OnOk result (map held_of builder.new.items ≡ write unbuilt (map held_of builder.old.items) place (built object)) }
+{
+    'growing: while builder.len() <= place {
+        builder.push(None)?;
+    }
+    builder[place] = Some(object);
+    Ok(())
 }

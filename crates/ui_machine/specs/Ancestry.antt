@@ -1,4 +1,4 @@
--- What is what: ancestors and implemented interfaces (GObject manual, type system).
+-- What is what: ancestors and implemented interfaces (GObject manual, GType: g_type_is_a, g_type_parent, g_type_depth).
 use Rattle.std.specs.Prelude.{ℕ, zero, suc, Bool, ◌||◌, nat_eq, List, [], ◌∷◌, length, Option, None, Some}
 use Rattle.std.specs.List.{list_any}
 use Rattle.ui_machine.specs.Seq.{read}

@@ -40,11 +40,6 @@ abbrev pub Follows : {S X Y : Type 0} → (X → Y) → Result X Halt → Answer
 Follows view (Ok x) answer new = answer ≡ Ok (new, view x)
 Follows view (Err halt) answer new = Stops halt answer
 
--- code that changes nothing
-abbrev pub Offers : {X Y : Type 0} → (X → Y) → Result X Halt → Answer Y → Type 0
-Offers view (Ok x) answer = answer ≡ Ok (view x)
-Offers view (Err halt) answer = Stops halt answer
-
 -- code that answers nothing but what it leaves
 abbrev pub Goes : {S X : Type 0} → Result X Halt → Answer S → S → Type 0
 Goes (Ok x) answer new = answer ≡ Ok new

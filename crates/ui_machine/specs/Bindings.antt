@@ -1,4 +1,4 @@
--- Bindings between properties (GObject manual, GBinding).
+-- Bindings between properties (GObject manual, GBinding: g_object_bind_property, g_binding_unbind).
 use Rattle.std.specs.Prelude.{ℕ, Bool, false, cond, not, ◌&&◌, ◌||◌, nat_eq, List, map, Option, None, Some}
 use Rattle.std.specs.List.{filter, list_any}
 use Rattle.ui_machine.specs.Names.{same_name}
@@ -62,6 +62,6 @@ bindings_without_end object bindings = filter (λ b. not (is_end object b)) bind
 
 -- ** while one sets
 
--- the bindings where the one of the number is setting or is not
-abbrev pub with_setting : (number : ℕ) → Bool → List Binding → List Binding
-with_setting number setting bindings = map (λ b. cond (nat_eq b.number number) (record b { setting = setting }) b) bindings
+-- the bindings where the one of the number is busy or is not
+abbrev pub with_busy : (number : ℕ) → Bool → List Binding → List Binding
+with_busy number busy bindings = map (λ b. cond (nat_eq b.number number) (record b { busy = busy }) b) bindings

@@ -1,6 +1,6 @@
--- Constructions and the build (GObject manual, object construction; GTK manual, GtkBuilder).
+-- Constructions and the build (GObject manual, g_object_new and `constructed`; GTK manual, gtk_builder_add_from_string).
 use Rattle.std.specs.Prelude.{ℕ, pos, zero, suc, Bool, true, false, cond, nat_eq, nat_le, ◌||◌, not, List, [], ◌∷◌, ◌++◌, map, length, Option, Some, None, Ok, is_some, slice_get}
-use Rattle.std.specs.List.{flat_map, list_all}
+use Rattle.std.specs.List.{filter, flat_map, list_all}
 use Rattle.ui_machine.specs.declared.arm.Arm.TheVariants as arms
 use Rattle.ui_machine.specs.Seq.{read, write, total}
 use Rattle.ui_machine.specs.Kinds as kinds
@@ -13,15 +13,15 @@ use Rattle.ui_machine.specs.Properties.{Spec, has_flags, is_writable, is_constru
 use Rattle.ui_machine.specs.Definition.{Definition, Given, value, named, GivenProperty, Attached, Place, Bind}
 use Rattle.ui_machine.specs.Lookups.{type_of, class_of, specs_of, place_at}
 use Rattle.ui_machine.specs.Lines as lines
-use Rattle.ui_machine.specs.Config.{Object, Handler, Binding, Peer, Held, unbuilt, built, released, Making, sets, runs, thaws, Item, makes, adopts, forwards, binds, connects, Setting, Transferring, Thawing, Constructing, Building, Task, World}
+use Rattle.ui_machine.specs.Config.{Object, Binding, Peer, Held, unbuilt, built, released, Making, sets, runs, thaws, Item, makes, adopts, forwards, binds, connects, Setting, Transferring, Thawing, Constructing, Building, Task, World}
 use Rattle.ui_machine.specs.Answers.{Answer, ◌>>=◌, known, only_if}
 use Rattle.ui_machine.specs.Objects.{find, object_at, changed, frozen_less}
 use Rattle.ui_machine.specs.Sets.{is_disposed, spec_at, if_settable}
 use Rattle.ui_machine.specs.Disposal.{no_peer}
 use Rattle.ui_machine.specs.Calls.{peer_number, has_shape}
 use Rattle.ui_machine.specs.Families.{adopted}
-use Rattle.ui_machine.specs.Connections.{signal_number, detail_at, is_too_late, with_handler}
-use Rattle.ui_machine.specs.Worlds.{Started, starts, said, with_objects, held_at, with_held, sunk}
+use Rattle.ui_machine.specs.Connections.{Connection, signal_number, detail_at, is_too_late, with_handler}
+use Rattle.ui_machine.specs.Worlds.{Started, starts, said, with_objects, held_at, is_unbuilt, with_held, sunk}
 
 -- ** given values
 
@@ -41,10 +41,14 @@ abbrev pub given_value : World → Given → Option Value
 given_value w (value v) = Some v
 given_value w (named to) = object_held (held_at w to)
 
--- the given value of a slot, if there is one that is not forward
-abbrev pub given_at : World → ℕ → List GivenProperty → ℕ → Option Value
-given_at w place [] slot = None
-given_at w place (g ∷ gs) slot = cond (nat_eq g.slot slot) (cond (is_forward place g.given) None (given_value w g.given)) (given_at w place gs slot)
+-- what is given without a forward name
+abbrev pub not_forward : ℕ → List GivenProperty → List GivenProperty
+not_forward place given = filter (λ (g : GivenProperty). not (is_forward place g.given)) given
+
+-- the given value of a slot, if there is one
+abbrev pub given_at : World → List GivenProperty → ℕ → Option Value
+given_at w [] slot = None
+given_at w (g ∷ gs) slot = cond (nat_eq g.slot slot) (given_value w g.given) (given_at w gs slot)
 
 -- ** constructions
 
@@ -58,10 +62,11 @@ or_default None v = v
 or_default (Some given) v = given
 
 -- the construct properties from this slot on, each with the given value or the default
-abbrev pub construct_sets : World → ℕ → List GivenProperty → ℕ → List Spec → List Making
-construct_sets w place given slot [] = []
-construct_sets w place given slot (s ∷ specs) =
-    cond (is_at_construction s) (sets slot (or_default (given_at w place given slot) s.default) ∷ []) [] ++ construct_sets w place given (suc slot) specs
+abbrev pub construct_sets : World → List GivenProperty → ℕ → List Spec → List Making
+construct_sets w given slot [] = []
+construct_sets w given slot (s ∷ specs) =
+    cond (is_at_construction s) (sets slot (or_default (given_at w given slot) s.default) ∷ []) []
+    ++ construct_sets w given (suc slot) specs
 
 -- a set of a value, if there is one
 abbrev pub set_of : Option Value → ℕ → List Making
@@ -73,10 +78,10 @@ abbrev pub no_spec : Spec
 no_spec = record { name = []; kind = kinds.bool; flags = 0; default = values.bool false; low = pos 0; high = pos 0; weak = false }
 
 -- the other given properties, in the given order
-abbrev pub given_sets : World → ℕ → List Spec → List GivenProperty → List Making
-given_sets w place specs [] = []
-given_sets w place specs (g ∷ gs) =
-    cond (is_at_construction (read no_spec specs g.slot) || is_forward place g.given) [] (set_of (given_value w g.given) g.slot) ++ given_sets w place specs gs
+abbrev pub given_sets : World → List Spec → List GivenProperty → List Making
+given_sets w specs [] = []
+given_sets w specs (g ∷ gs) =
+    cond (is_at_construction (read no_spec specs g.slot)) [] (set_of (given_value w g.given) g.slot) ++ given_sets w specs gs
 
 -- a run of a program, if there is one
 abbrev pub run_of : Option ℕ → List Making
@@ -93,12 +98,12 @@ abbrev pub constructed_runs : ℕ → Definition → ℕ → List Making
 constructed_runs zero d class = []
 constructed_runs (suc n) d class = runs_above (constructed_runs n d) (type_of d class).parent ++ run_of (class_of d class).constructed
 
--- what a construction does after its object was made
+-- what a construction does after its object was made: the construct properties by slot, the programs, the other given properties, the thaw
 abbrev pub construction : Definition → World → ℕ → Place → List Making
 construction d w place p =
-    construct_sets w place p.given 0 (specs_of d p.class)
+    construct_sets w (not_forward place p.given) 0 (specs_of d p.class)
     ++ (constructed_runs 16 d p.class
-    ++ (given_sets w place (specs_of d p.class) p.given
+    ++ (given_sets w (specs_of d p.class) (not_forward place p.given)
     ++ thaws ∷ []))
 
 -- whether a default is valid; it names no object
@@ -161,7 +166,7 @@ unfoldable pub constructed : World → ℕ → Bool → Answer Started
 constructed w id false = starts w []
 constructed w id true = do
   o ← object_at w.objects id
-  starts (sunk (with_held w o.place (built id)) id) []
+  only_if (is_unbuilt (held_at w o.place)) arms.Code (starts (sunk (with_held w o.place (built id)) id) [])
 
 -- the thaw that ends a construction
 unfoldable pub thawing_made : World → ℕ → List Making → Bool → Answer Started
@@ -269,7 +274,7 @@ new_binding number b source target = record {
   target = target;
   target_slot = b.target_slot;
   flags = b.flags;
-  setting = false;
+  busy = false;
 }
 
 -- with SYNC_CREATE the binding sets its target at once
@@ -290,10 +295,9 @@ building_binding d w number items = do
       (starts w (Building items ∷ []))
       (starts (with_binding w (new_binding number b source target)) (first_transfer number b ++ Building items ∷ []))
 
--- a signal of the definition, as a handler on an object
-abbrev pub new_handler : World → (id signal : ℕ) → Option (List ℕ) → Attached → Option ℕ → Handler
-new_handler w id signal detail a arg = record {
-  number = suc w.last_handler;
+-- how a signal of the definition is connected
+abbrev pub connection : (id signal : ℕ) → Option (List ℕ) → Attached → Option ℕ → Connection
+connection id signal detail a arg = record {
   object = id;
   signal = signal;
   detail = detail;
@@ -301,11 +305,14 @@ new_handler w id signal detail a arg = record {
   after = a.after;
   swapped = a.swapped;
   arg = arg;
-  blocks = 0;
   by_code = false;
 }
 
--- a signal is connected, unless one of its objects is disposed
+-- the world with a signal connected, unless one of its objects is disposed
+abbrev pub with_signal : World → Connection → World
+with_signal w c = cond (is_too_late w.objects c.object c.arg) w (with_handler w c)
+
+-- a signal is connected
 unfoldable pub building_handler : Definition → World → ℕ → ℕ → List Item → Answer Started
 building_handler d w place number items = do
   p ← known arms.Code (place_at d place)
@@ -314,7 +321,7 @@ building_handler d w place number items = do
   arg ← held_data w a.with
   signal ← known arms.Code (signal_number d p.class a.signal)
   detail ← detail_at d p.class signal a.detail
-  cond (is_too_late w.objects id arg) (starts w (Building items ∷ [])) (starts (with_handler w (new_handler w id signal detail a arg)) (Building items ∷ []))
+  starts (with_signal w (connection id signal detail a arg)) (Building items ∷ [])
 
 -- ** what the builder has still to do
 

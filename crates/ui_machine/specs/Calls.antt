@@ -1,4 +1,4 @@
--- Peers: which one an object gets, and what its calls lead to.
+-- Peers: which one an object gets, and what its calls lead to. No manual has them; they are this runtime's own.
 use Rattle.std.specs.Prelude.{ℕ, zero, suc, Bool, false, cond, List, [], ◌∷◌, Option, None, Some, Ok, Err, is_none, is_some, slice_get}
 use Rattle.ui_machine.specs.declared.arm.Arm.TheVariants as arms
 use Rattle.ui_machine.specs.Seq.{read, write}
@@ -87,7 +87,8 @@ left_with w rest to v = do
 unfoldable pub called : Definition → World → Call → List Task → Reply → Answer Left
 called d w call rest reply =
     with_method w call.peer call.method (λ p m.
-    left_with (said d (with_peer_state w call.peer p reply.state) (call_line p m call.args reply.answer)) rest call.to (or_zero d m.result reply.answer))
+    left_with (said d (with_peer_state w call.peer p reply.state) (call_line p m call.args reply.answer)) rest call.to
+    (or_zero d m.result reply.answer))
 
 -- a peer that is closed is not called, and the program is given the zero value
 unfoldable pub uncalled : Definition → World → Call → List Task → Answer Left
@@ -115,4 +116,5 @@ calling_on d w call rest reply = cond (is_asked w call.peer) (replied d w call r
 -- what a due call asks, if it asks
 abbrev pub question_of : World → Call → Option Question
 question_of w call =
-    cond (is_asked w call.peer) (Some (record { peer = call.peer; state = peer_state w call.peer; method = call.method; args = call.args })) None
+    cond (is_asked w call.peer)
+    (Some (record { peer = call.peer; state = peer_state w call.peer; method = call.method; args = call.args })) None

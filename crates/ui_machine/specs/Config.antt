@@ -1,4 +1,5 @@
--- What the machine stands at: a configuration.
+-- What the machine stands at: a configuration, with the objects (GObject manual, GObject), handlers (g_signal_connect), bindings
+-- (GBinding) and sources (GLib manual, GSource) that stand.
 use Rattle.std.specs.Prelude.{ℕ, ℤ, Bool, List, Option}
 use Rattle.ui_machine.specs.Values.{Value}
 use Rattle.ui_machine.specs.Definition.{Method, Given}
@@ -45,7 +46,7 @@ pub record Binding : Type 0 where
   pub target : ℕ
   pub target_slot : ℕ
   pub flags : ℕ
-  pub setting : Bool
+  pub busy : Bool  -- while what it set goes on
 
 -- an idle has no interval; `due` is looked at in a timeout alone
 pub record Source : Type 0 where

@@ -44,8 +44,8 @@ detail_in d w id number detail = do
 -- ** connecting
 
 -- the greatest number of a handler
-abbrev pub most_handlers : ℕ
-most_handlers = 18446744073709551615
+abbrev pub greatest_handler : ℕ
+greatest_handler = 18446744073709551615
 
 -- whether the data object is disposed
 abbrev pub is_disposed_data : Objects → Option ℕ → Bool
@@ -56,9 +56,35 @@ is_disposed_data os (Some id) = is_disposed (find os id)
 abbrev pub is_too_late : Objects → ℕ → Option ℕ → Bool
 is_too_late os id arg = is_disposed (find os id) || is_disposed_data os arg
 
+-- what a handler is connected with: an object and its signal by number, the detail as it stands there, and the data object
+pub record Connection : Type 0 where
+  pub object : ℕ
+  pub signal : ℕ
+  pub detail : Option (List ℕ)
+  pub program : ℕ
+  pub after : Bool
+  pub swapped : Bool
+  pub arg : Option ℕ
+  pub by_code : Bool
+
+-- the handler of a connection, which nothing blocks
+abbrev pub new_handler : ℕ → Connection → Handler
+new_handler number c = record {
+  number = number;
+  object = c.object;
+  signal = c.signal;
+  detail = c.detail;
+  program = c.program;
+  after = c.after;
+  swapped = c.swapped;
+  arg = c.arg;
+  blocks = 0;
+  by_code = c.by_code;
+}
+
 -- the world with one more handler, under the next number
-abbrev pub with_handler : World → Handler → World
-with_handler w h = record w { handlers = w.handlers ++ h ∷ []; last_handler = suc w.last_handler }
+abbrev pub with_handler : World → Connection → World
+with_handler w c = record w { handlers = w.handlers ++ new_handler (suc w.last_handler) c ∷ []; last_handler = suc w.last_handler }
 
 -- the handlers that bytecode connected to a signal of an object
 abbrev pub by_code_to : ℕ → ℕ → Handler → Bool
@@ -67,13 +93,13 @@ by_code_to id signal h = h.by_code && (nat_eq h.object id && nat_eq h.signal sig
 -- whether one more may be connected, where so many are still to be connected by the builder
 abbrev pub has_room_for_handler : Definition → World → ℕ → ℕ → ℕ → Bool
 has_room_for_handler d w to_come id signal =
-    nat_lt (length (filter (by_code_to id signal) w.handlers)) d.most_handlers && nat_lt (w.last_handler + to_come) most_handlers
+    nat_lt (length (filter (by_code_to id signal) w.handlers)) d.most_handlers && nat_lt (w.last_handler + to_come) greatest_handler
 
 -- a connection by bytecode: on a disposed object none, past the limit none with its line
-abbrev pub connected : Definition → World → ℕ → Handler → World × Bool
-connected d w to_come h =
-    cond (is_too_late w.objects h.object h.arg) (w, false)
-    (cond (has_room_for_handler d w to_come h.object h.signal) (with_handler w h, true) (said d w (lines.limit (codes "connect")), false))
+abbrev pub connected : Definition → World → ℕ → Connection → World × Bool
+connected d w to_come c =
+    cond (is_too_late w.objects c.object c.arg) (w, false)
+    (cond (has_room_for_handler d w to_come c.object c.signal) (with_handler w c, true) (said d w (lines.limit (codes "connect")), false))
 
 -- ** all handlers of a program on an object
 

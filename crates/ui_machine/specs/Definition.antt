@@ -1,4 +1,4 @@
--- A definition: what the bytes of an interface's description say.
+-- A definition: what the bytes of an interface's description say (GTK manual, GtkBuilder: UI definitions).
 use Rattle.std.specs.Prelude.{ℕ, ℤ, Bool, List, Option}
 use Rattle.ui_machine.specs.Kinds.{Kind, RegisterKind}
 use Rattle.ui_machine.specs.Values.{Value}
@@ -77,7 +77,8 @@ pub data Instruction : Type 0 where
   thaw : (object : ℕ) → Instruction
   emit : (into : Option ℕ) (object : ℕ) (signal : List ℕ) (detail : Option (List ℕ)) (args : List ℕ) → Instruction
   notify : (object : ℕ) (property : List ℕ) → Instruction
-  connect : (to object : ℕ) (signal : List ℕ) (detail : Option (List ℕ)) (program : List ℕ) (after swapped : Bool) (with : Option ℕ) → Instruction
+  connect : (to object : ℕ) (signal : List ℕ) (detail : Option (List ℕ)) (program : List ℕ) (after swapped : Bool)
+      (with : Option ℕ) → Instruction
   disconnect : (object : ℕ) (program : List ℕ) → Instruction
   block : (object : ℕ) (program : List ℕ) → Instruction
   unblock : (object : ℕ) (program : List ℕ) → Instruction

@@ -61,7 +61,7 @@ abbrev pub orphans : List ℕ → Objects → Objects
 orphans [] os = os
 orphans (id ∷ ids) os = orphans ids (put os id (option_map without_parent (find os id)))
 
--- the handlers on an object, or with it as data
+-- whether an identity, if there is one, is the object's
 abbrev pub is_identity : ℕ → Option ℕ → Bool
 is_identity id None = false
 is_identity id (Some i) = nat_eq i id
@@ -114,10 +114,17 @@ abbrev pub peer_of : Option Object → Option ℕ
 peer_of None = None
 peer_of (Some o) = o.peer
 
--- the objects after one was disposed
+-- first all objects forget one
+abbrev pub all_forget : Definition → ℕ → Objects → Objects
+all_forget d id os = map (option_map (forgets d id)) os
+
+-- then it lets go of what it holds
+abbrev pub one_lets_go : Definition → ℕ → Objects → Objects
+one_lets_go d id os = put os id (option_map (lets_go d) (find os id))
+
+-- the objects after one was disposed: at last the children that it had have no parent
 abbrev pub objects_disposed : Definition → ℕ → Objects → Objects
-objects_disposed d id os =
-    orphans (children_of (find os id)) (put (map (option_map (forgets d id)) os) id (option_map (lets_go d) (find (map (option_map (forgets d id)) os) id)))
+objects_disposed d id os = orphans (children_of (find os id)) (one_lets_go d id (all_forget d id os))
 
 -- the world where an object has let go of what it held, and is forgotten by weak properties, handlers and bindings
 abbrev pub without_object : Definition → World → ℕ → World
@@ -129,7 +136,8 @@ without_object d w id = record w {
 
 -- the world after an object was disposed
 abbrev pub disposed : Definition → World → ℕ → Answer World
-disposed d w id = closing d (peer_of (find w.objects id)) (said_if d (is_first (find w.objects id)) (without_object d w id) (lines.dispose id))
+disposed d w id =
+    closing d (peer_of (find w.objects id)) (said_if d (is_first (find w.objects id)) (without_object d w id) (lines.dispose id))
 
 -- the world after an object was finalised: disposed, again if it was, and taken out
 unfoldable pub finalised : Definition → World → ℕ → Answer World

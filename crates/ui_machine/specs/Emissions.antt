@@ -1,4 +1,4 @@
--- Emissions: what runs in them, and in which order (GObject manual, signals).
+-- Emissions: what runs in them, and in which order (GObject manual, signals: g_signal_new, g_signal_emit).
 use Rattle.std.specs.Prelude.{ℕ, zero, suc, Bool, true, false, cond, nat_eq, ◌&&◌, not, List, [], ◌∷◌, ◌++◌, map, Option, Some, None, slice_get}
 use Rattle.std.specs.List.{filter}
 use Rattle.ui_machine.specs.declared.arm.Arm.TheVariants as arms
@@ -43,7 +43,8 @@ up f (Some class) = f class
 -- the program that the nearest class gives for a signal, at most so many classes up
 abbrev pub nearest_handler : ℕ → Definition → List ℕ → ℕ → Option ℕ
 nearest_handler zero d name class = None
-nearest_handler (suc n) d name class = or_else (handler_in (class_of d class).handlers name) (up (nearest_handler n d name) (type_of d class).parent)
+nearest_handler (suc n) d name class =
+    or_else (handler_in (class_of d class).handlers name) (up (nearest_handler n d name) (type_of d class).parent)
 
 -- the most classes from a class up to the root
 abbrev pub most_depth : ℕ
@@ -75,16 +76,25 @@ abbrev pub handlers_for : List Handler → ℕ → ℕ → Option (List ℕ) →
 handlers_for hs id signal detail after =
     map (λ (h : Handler). handler h.number) (filter (λ (h : Handler). runs_for id signal detail h && cond after h.after (not h.after)) hs)
 
+-- what an emission's turns are taken from
+pub record Planned : Type 0 where
+  pub object : ℕ
+  pub signal : ℕ
+  pub detail : Option (List ℕ)
+  pub flags : ℕ  -- of the signal
+  pub class_program : Option ℕ  -- that the class runs for it
+  pub transfers : List Turn  -- of a notification
+
 -- the turns of an emission, taken as it begins: the class handler if RUN_FIRST; a notification's transfers; the handlers; the class
 -- handler if RUN_LAST; the handlers connected after; the class handler if RUN_CLEANUP
-abbrev pub plan : World → Option ℕ → ℕ → List Turn → ℕ → ℕ → Option (List ℕ) → List Turn
-plan w class flags moved id signal detail =
-    at_stage (has_flags 1 flags) false class
-    ++ (moved
-    ++ (handlers_for w.handlers id signal detail false
-    ++ (at_stage (has_flags 2 flags) false class
-    ++ (handlers_for w.handlers id signal detail true
-    ++ at_stage (has_flags 4 flags) true class))))
+abbrev pub plan : World → Planned → List Turn
+plan w p =
+    at_stage (has_flags 1 p.flags) false p.class_program
+    ++ (p.transfers
+    ++ (handlers_for w.handlers p.object p.signal p.detail false
+    ++ (at_stage (has_flags 2 p.flags) false p.class_program
+    ++ (handlers_for w.handlers p.object p.signal p.detail true
+    ++ at_stage (has_flags 4 p.flags) true p.class_program))))
 
 -- ** notifications
 
@@ -94,7 +104,14 @@ notification id name = record { object = id; signal = 0; detail = Some name; arg
 
 -- the turns of a notification, by the signal `notify` of the class
 abbrev pub notify_plan : Definition → World → Signal → (class id slot : ℕ) → List ℕ → List Turn
-notify_plan d w s class id slot name = plan w (class_handler_of d class s.name) s.flags (transfers id slot w.bindings) id 0 (Some name)
+notify_plan d w s class id slot name = plan w (record {
+  object = id;
+  signal = 0;
+  detail = Some name;
+  flags = s.flags;
+  class_program = class_handler_of d class s.name;
+  transfers = transfers id slot w.bindings;
+})
 
 -- a due notification begins
 unfoldable pub notifying : Definition → World → ℕ → ℕ → Answer Started
@@ -106,11 +123,21 @@ notifying d w id slot = do
 
 -- ** other emissions
 
+-- its turns, by its signal; it makes no transfers
+abbrev pub emission_plan : Definition → World → Signal → (class : ℕ) → Emission → List Turn
+emission_plan d w s class e = plan w (record {
+  object = e.object;
+  signal = e.signal;
+  detail = e.detail;
+  flags = s.flags;
+  class_program = class_handler_of d class s.name;
+  transfers = [];
+})
+
 -- an emission that is due begins: its arguments fit, its line is said, and its turns are taken
 unfoldable pub beginning_emission : Definition → World → Emission → Answer Started
 beginning_emission d w e = do
   o ← object_at w.objects e.object
   s ← signal_at d o.class e.signal
   only_if (all_fit (kind_fits (class_in w.objects) d.types) e.args s.params) arms.Argument
-      (starts (said d w (lines.emit e.object s.name e.detail e.args))
-      (Emitting e (plan w (class_handler_of d o.class s.name) s.flags [] e.object e.signal e.detail) ∷ []))
+      (starts (said d w (lines.emit e.object s.name e.detail e.args)) (Emitting e (emission_plan d w s o.class e) ∷ []))

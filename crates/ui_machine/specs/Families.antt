@@ -1,4 +1,4 @@
--- Parents and children (GTK manual, GtkBuilder: child objects).
+-- Parents and children (GTK manual, GtkBuilder: child objects; GtkWidget: gtk_widget_set_parent, gtk_widget_unparent).
 use Rattle.std.specs.Prelude.{ℕ, Bool, true, false, cond, ◌||◌, nat_eq, nat_le, [], ◌∷◌, ◌++◌, length, Option, None, Some, Ok, is_some, option_map}
 use Rattle.ui_machine.specs.Definition.{Definition}
 use Rattle.std.specs.Prelude.{codes}

@@ -1,4 +1,7 @@
--- What each instruction does. The frame has already gone past it.
+-- What each instruction does that starts something; the frame has already gone past it. Each says which call of the GObject manual it is
+-- (g_object_get_property, g_object_set_property, g_object_notify, g_object_new, g_object_ref_sink, g_object_run_dispose,
+-- g_object_freeze_notify, g_signal_emit, g_signal_connect_data, g_signal_handlers_block_matched, g_binding_unbind) or of the GLib manual
+-- (g_idle_add_full, g_timeout_add_full, g_source_remove).
 use Rattle.std.specs.Prelude.{ℕ, suc, ◌+◌, ℤ, ◌+ℤ◌, ◌-ℤ◌, ◌*ℤ◌, int_lt, int_le, Bool, true, false, cond, not, ◌&&◌, ◌||◌, nat_lt, List, [], ◌∷◌, ◌++◌, length, codes, Option, None, Some, Ok, Err, is_some, slice_get}
 use Rattle.std.specs.Ordering.{int_eq}
 use Rattle.ui_machine.specs.declared.arm.Arm.TheVariants as arms
@@ -13,7 +16,7 @@ use Rattle.ui_machine.specs.Definition as words
 use Rattle.ui_machine.specs.Lookups.{slot_of, program_at, program_of, place_at, place_of}
 use Rattle.ui_machine.specs.Lines as lines
 use Rattle.ui_machine.specs.Sources as sources
-use Rattle.ui_machine.specs.Config.{Emission, Handler, Frame, Setting, Beginning, Thawing, Calling, Task, World}
+use Rattle.ui_machine.specs.Config.{Emission, Frame, Setting, Beginning, Thawing, Calling, Task, World}
 use Rattle.ui_machine.specs.Answers.{Answer, ◌>>=◌, known, only_if}
 use Rattle.ui_machine.specs.Objects.{find, live, object_at, asked, changed, value_at, class_in, frozen_more, frozen_less, most_identities}
 use Rattle.ui_machine.specs.Bindings.{is_binding, bindings_without}
@@ -22,7 +25,7 @@ use Rattle.ui_machine.specs.Registers.{value_in, values_in, truth_in, text_in, w
 use Rattle.ui_machine.specs.Programs.{all_fit}
 use Rattle.ui_machine.specs.Turns.{or_zero}
 use Rattle.ui_machine.specs.Families.{adopted, orphaned}
-use Rattle.ui_machine.specs.Connections.{signal_number, detail_in, connected, disconnected, blocked, unblocked, with_handlers_on}
+use Rattle.ui_machine.specs.Connections.{Connection, signal_number, detail_in, connected, disconnected, blocked, unblocked, with_handlers_on}
 use Rattle.ui_machine.specs.Calls.{peer_at, first_left, has_shape, method_of, method_number}
 use Rattle.ui_machine.specs.Builds.{object_held, making, to_make, to_connect}
 use Rattle.ui_machine.specs.Disposal.{disposed}
@@ -239,7 +242,8 @@ made_new d w f to place p = do
 -- an object of a prototype is made, or past the limit its line said
 abbrev pub made_if_room : Definition → World → (to_come : ℕ) → Frame → (to place : ℕ) → Place → Answer Started
 made_if_room d w to_come f to place p =
-    cond (has_room_for_object d w to_come p) (made_new d w f to place p) (gives (said d w (lines.limit (codes "new"))) to (values.object None) f)
+    cond (has_room_for_object d w to_come p) (made_new d w f to place p)
+    (gives (said d w (lines.limit (codes "new"))) to (values.object None) f)
 
 -- `new d c`, of a prototype
 unfoldable pub creating : Definition → World → List Task → Frame → ℕ → List ℕ → Answer Started
@@ -322,30 +326,37 @@ emitting d w f into object name detail args = do
   given ← values_in f args
   goes_on w (Beginning (new_emission id signal stands given false) ∷ []) (record f { into = into })
 
--- a handler that bytecode connects
-abbrev pub handler_by_code : World → (id signal : ℕ) → Option (List ℕ) → ℕ → (after swapped : Bool) → Option ℕ → Handler
-handler_by_code w id signal detail program after swapped arg = record {
-  number = suc w.last_handler;
+-- what `connect` says beside the object and the register that it writes
+pub record Connect : Type 0 where
+  pub signal : List ℕ
+  pub detail : Option (List ℕ)
+  pub program : List ℕ
+  pub after : Bool
+  pub swapped : Bool
+  pub with : Option ℕ
+
+-- how bytecode connects a handler
+abbrev pub connection_by_code : (id signal : ℕ) → Option (List ℕ) → (program : ℕ) → Option ℕ → Connect → Connection
+connection_by_code id signal detail program arg c = record {
   object = id;
   signal = signal;
   detail = detail;
   program = program;
-  after = after;
-  swapped = swapped;
+  after = c.after;
+  swapped = c.swapped;
   arg = arg;
-  blocks = 0;
   by_code = true;
 }
 
 -- `connect d o s D p [options] z`
-unfoldable pub connecting : Definition → World → List Task → Frame → (to object : ℕ) → List ℕ → Option (List ℕ) → List ℕ → (after swapped : Bool) → Option ℕ → Answer Started
-connecting d w rest f to object name detail program after swapped with = do
+unfoldable pub connecting : Definition → World → List Task → Frame → (to object : ℕ) → Connect → Answer Started
+connecting d w rest f to object c = do
   id ← operand_in w f object
-  signal ← signal_in d w id name
-  stands ← detail_in d w id signal detail
-  number ← known arms.Code (program_of d program)
-  arg ← data_in w f with
-  tells (connected d w (to_connect rest) (handler_by_code w id signal stands number after swapped arg)) to f
+  signal ← signal_in d w id c.signal
+  detail ← detail_in d w id signal c.detail
+  program ← known arms.Code (program_of d c.program)
+  arg ← data_in w f c.with
+  tells (connected d w (to_connect rest) (connection_by_code id signal detail program arg c)) to f
 
 -- a change of an object's handlers of a program
 unfoldable pub on_handlers : Definition → World → Frame → ℕ → List ℕ → (World → ℕ → ℕ → World) → Answer Started
@@ -372,32 +383,32 @@ unbinding d w f name = only_if (is_binding d name) arms.Code (goes_on (record w 
 
 -- ** sources
 
+-- what `idle` and `timeout` say beside the register that they write; an idle has no interval
+pub record Attach : Type 0 where
+  pub word : List ℕ  -- of the line where there is no room
+  pub program : List ℕ
+  pub priority : ℤ
+  pub interval : Option ℕ
+  pub with : Option ℕ
+
 -- the world with one more source
-abbrev pub with_source : World → ℕ → ℤ → Option ℕ → Option ℕ → World
-with_source w program priority interval arg = record w {
-  sources = sources.attached w.sources (sources.new_source (suc w.last_source) w.moment program priority interval arg);
+abbrev pub with_source : World → Attach → (program : ℕ) → Option ℕ → World
+with_source w a program arg = record w {
+  sources = sources.attached w.sources (sources.new_source (suc w.last_source) w.moment program a.priority a.interval arg);
   last_source = suc w.last_source;
 }
 
 -- a source is attached, or past the limit its line said
-abbrev pub attached_to : Definition → World → List ℕ → ℕ → ℤ → Option ℕ → Option ℕ → World × Bool
-attached_to d w word program priority interval arg =
-    cond (sources.has_room w.sources w.last_source) (with_source w program priority interval arg, true) (said d w (lines.limit word), false)
+abbrev pub attached_to : Definition → World → Attach → (program : ℕ) → Option ℕ → World × Bool
+attached_to d w a program arg =
+    cond (sources.has_room w.sources w.last_source) (with_source w a program arg, true) (said d w (lines.limit a.word), false)
 
--- a source of either sort is attached
-unfoldable pub attaching : Definition → World → Frame → List ℕ → ℕ → List ℕ → ℤ → Option ℕ → Option ℕ → Answer Started
-attaching d w f word to program priority interval with = do
-  number ← known arms.Code (program_of d program)
-  arg ← data_in w f with
-  tells (attached_to d w word number priority interval arg) to f
-
--- `idle d p n z`
-abbrev pub idling : Definition → World → Frame → ℕ → List ℕ → ℤ → Option ℕ → Answer Started
-idling d w f to program priority with = attaching d w f (codes "idle") to program priority None with
-
--- `timeout d p n i z`
-abbrev pub timing : Definition → World → Frame → ℕ → List ℕ → ℤ → ℕ → Option ℕ → Answer Started
-timing d w f to program priority interval with = attaching d w f (codes "timeout") to program priority (Some interval) with
+-- `idle d p n z`, `timeout d p n i z`
+unfoldable pub attaching : Definition → World → Frame → ℕ → Attach → Answer Started
+attaching d w f to a = do
+  program ← known arms.Code (program_of d a.program)
+  arg ← data_in w f a.with
+  tells (attached_to d w a program arg) to f
 
 -- `remove p`
 unfoldable pub removing : Definition → World → Frame → List ℕ → Answer Started
@@ -450,45 +461,3 @@ branching_null d w f on then_to else_to = do
   v ← value_in f on
   p ← null_of v
   jumping d w f (cond p then_to else_to)
-
--- ** all of them
-
--- what an instruction does that neither stops nor returns; the rest of the agenda tells what the builder has still to do
-abbrev pub instruction : Definition → World → List Task → Frame → Instruction → Answer Started
-instruction d w rest f (words.const to kind v) = constant w f to v
-instruction d w rest f (words.move to from) = moving w f to from
-instruction d w rest f (words.clear to) = clearing w f to
-instruction d w rest f (words.arithmetic operation to a b) = reckoning w f operation to a b
-instruction d w rest f (words.compare comparison to a b) = comparing w f comparison to a b
-instruction d w rest f (words.same to a b) = sameness w f to a b
-instruction d w rest f (words.negate to a) = negating w f to a
-instruction d w rest f (words.both to a b) = conjunction w f to a b
-instruction d w rest f (words.either to a b) = disjunction w f to a b
-instruction d w rest f (words.join to a b) = joining d w f to a b
-instruction d w rest f (words.convert to a kind) = converting d w f to a kind
-instruction d w rest f (words.get to object name) = getting d w f to object name
-instruction d w rest f (words.set object name from) = assigning d w f object name from
-instruction d w rest f (words.object to id) = naming d w f to id
-instruction d w rest f (words.new to id) = creating d w rest f to id
-instruction d w rest f (words.sink object) = sinking w f object
-instruction d w rest f (words.orphan object) = orphaning d w f object
-instruction d w rest f (words.dispose object) = disposing d w f object
-instruction d w rest f (words.adopt to parent child) = adopting d w f to parent child
-instruction d w rest f (words.freeze object) = freezing w f object
-instruction d w rest f (words.thaw object) = unfreezing w f object
-instruction d w rest f (words.emit into object name detail args) = emitting d w f into object name detail args
-instruction d w rest f (words.notify object name) = telling d w f object name
-instruction d w rest f (words.connect to object name detail program after swapped with) = connecting d w rest f to object name detail program after swapped with
-instruction d w rest f (words.disconnect object program) = disconnecting d w f object program
-instruction d w rest f (words.block object program) = blocking d w f object program
-instruction d w rest f (words.unblock object program) = unblocking d w f object program
-instruction d w rest f words.stop = goes_on w [] f
-instruction d w rest f (words.unbind name) = unbinding d w f name
-instruction d w rest f (words.idle to program priority with) = idling d w f to program priority with
-instruction d w rest f (words.timeout to program priority interval with) = timing d w f to program priority interval with
-instruction d w rest f (words.remove program) = removing d w f program
-instruction d w rest f (words.call to object name args) = calling d w f to object name args
-instruction d w rest f (words.jump to) = jumping d w f to
-instruction d w rest f (words.branch on then_to else_to) = branching d w f on then_to else_to
-instruction d w rest f (words.branch_null on then_to else_to) = branching_null d w f on then_to else_to
-instruction d w rest f (words.return from) = starts w []

@@ -1,4 +1,4 @@
--- The lines of a transcript, as data.
+-- The lines of a transcript, as data. They are this runtime's own.
 use Rattle.std.specs.Prelude.{ℕ, List, Option}
 use Rattle.ui_machine.specs.Values.{Value}
 

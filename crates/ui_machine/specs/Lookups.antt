@@ -1,4 +1,5 @@
--- What a definition has where: classes, specs, programs and places by their numbers.
+-- What a definition has where: classes, specs, programs and places by their numbers (GObject manual, g_type_class_ref,
+-- g_object_class_find_property; GTK manual, gtk_builder_get_object).
 use Rattle.std.specs.Prelude.{ℕ, List, [], Option, None, slice_get}
 use Rattle.ui_machine.specs.Seq.{read}
 use Rattle.ui_machine.specs.Names.{canonical, place_named}

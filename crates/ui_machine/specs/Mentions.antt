@@ -1,4 +1,4 @@
--- What holds an object strongly. No count is stored in a configuration: it is a sum over it.
+-- What holds an object strongly (GObject manual, g_object_ref). No count is stored in a configuration: it is a sum over it.
 use Rattle.std.specs.Prelude.{ℕ, ◌+◌, cond, nat_eq, List, [], ◌∷◌, Option, Some, None}
 use Rattle.ui_machine.specs.Seq.{total}
 use Rattle.ui_machine.specs.Values.{Value}

@@ -1,4 +1,4 @@
--- Names, as lists of bytes.
+-- Names, as lists of bytes (GObject manual, GParamSpec: canonical parameter names).
 use Rattle.std.specs.Prelude.{ℕ, suc, Bool, true, false, cond, nat_eq, List, [], ◌∷◌, Option, Some, None}
 
 -- whether two names are one, byte by byte

@@ -1,4 +1,4 @@
--- The objects, and what may be done to one of them.
+-- The objects, and what may be done to one of them (GObject manual, g_object_get_property, g_object_freeze_notify).
 use Rattle.std.specs.Prelude.{ℕ, zero, suc, ◌-◌, Bool, true, false, cond, nat_eq, nat_lt, List, [], ◌∷◌, Option, Some, None, Ok, option_map, slice_get, slice_set}
 use Rattle.ui_machine.specs.declared.arm.Arm.TheVariants as arms
 use Rattle.ui_machine.specs.Seq.{read, write, total}

@@ -1,4 +1,4 @@
--- Programs: how they begin.
+-- Programs: how they begin (GObject manual, g_closure_invoke).
 use Rattle.std.specs.Prelude.{ℕ, ◌-◌, Bool, true, false, ◌&&◌, nat_eq, List, [], ◌∷◌, ◌++◌, length, replicate, Option, None, Some, option_map, slice_get}
 use Rattle.ui_machine.specs.declared.arm.Arm.TheVariants as arms
 use Rattle.ui_machine.specs.Kinds.{Kind, RegisterKind}
@@ -63,8 +63,14 @@ passes_of (Some b) = b.passes
 
 -- a program at its first instruction
 abbrev pub first_frame : ℕ → Program → List Value → Frame
-first_frame number p args =
-    record { program = number; block = 0; at = 0; passes = passes_of (slice_get p.blocks 0); into = None; registers = first_registers p args }
+first_frame number p args = record {
+  program = number;
+  block = 0;
+  at = 0;
+  passes = passes_of (slice_get p.blocks 0);
+  into = None;
+  registers = first_registers p args;
+}
 
 -- a program begins
 unfoldable pub beginning_program : Definition → World → ℕ → List Value → Answer Started

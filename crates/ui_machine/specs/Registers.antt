@@ -1,4 +1,4 @@
--- The registers of a program that runs, and what its instructions read in them.
+-- The registers of a program that runs, and what its instructions read in them. They are this runtime's own.
 use Rattle.std.specs.Prelude.{ℕ, ℤ, Bool, List, [], ◌∷◌, ◌++◌, nat_lt, length, Option, None, Some, Ok, Err, is_some}
 use Rattle.ui_machine.specs.declared.arm.Arm.TheVariants as arms
 use Rattle.ui_machine.specs.Seq.{read, write}

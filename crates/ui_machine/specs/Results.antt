@@ -1,5 +1,5 @@
--- What comes down from a task to the one below it: a program's result to its emission or source, an emission's or a peer's to the program
--- that waits for it.
+-- What comes down from a task to the one below it: a program's result to its emission (GObject manual, GSignalAccumulator) or source (GLib
+-- manual, GSourceFunc), an emission's or a peer's to the program that waits for it.
 use Rattle.std.specs.Prelude.{ℕ, Bool, true, false, List, [], ◌∷◌, Option, None, Some, Ok, Err}
 use Rattle.ui_machine.specs.declared.arm.Arm.TheVariants as arms
 use Rattle.ui_machine.specs.Values.{Value}

@@ -1,4 +1,5 @@
--- Runs of the machine: the build, and then the events, over what the peers reply.
+-- Runs of the machine, over what the peers reply: the build (GTK manual, gtk_builder_add_from_string), and then the events
+-- (GLib manual, g_main_context_iteration).
 use Rattle.std.specs.Prelude.{◌≡◌, ℕ, zero, suc, ◌+◌, ◌%◌, ◌^◌, ◌≤◌, nat_lt, Bool, true, false, ◌||◌, List, [], ◌∷◌, ◌++◌, map, length, Option, None, Some, option_map, slice_get, Ok, Err, IsTrue, IsSome}
 use Rattle.std.specs.List.{list_any}
 use Rattle.ui_machine.specs.declared.arm.Arm.{Arm}

@@ -83,12 +83,14 @@ kept os s v = cond s.weak (unless_disposed os v) v
 unfoldable pub written : Definition → World → ℕ → ℕ → Spec → Value → Answer Started
 written d w id slot s v = do
   new ← changed w.objects id (with_value slot v)
-  cond (notifies s new.1 v) (raising (said d (with_objects w new.0) (lines.set id s.name v)) id slot) (starts (said d (with_objects w new.0) (lines.set id s.name v)) [])
+  cond (notifies s new.1 v) (raising (said d (with_objects w new.0) (lines.set id s.name v)) id slot)
+      (starts (said d (with_objects w new.0) (lines.set id s.name v)) [])
 
 -- a set whose value validation would change is refused, unless the property is lax
 abbrev pub settled : Definition → World → ℕ → ℕ → Spec → Value → Value → Answer Started
 settled d w id slot s v valid =
-    cond (same_value valid v || is_lax s) (written d w id slot s (kept w.objects s valid)) (starts (said d w (lines.refused id s.name v)) [])
+    cond (same_value valid v || is_lax s) (written d w id slot s (kept w.objects s valid))
+    (starts (said d w (lines.refused id s.name v)) [])
 
 -- a due set
 unfoldable pub setting : Definition → World → ℕ → ℕ → Value → Answer Started

@@ -1,4 +1,4 @@
--- The machine: one step from a configuration.
+-- The machine: one step from a configuration. Its order of tasks is this runtime's own; what each does has its manual's section there.
 use Rattle.std.specs.Prelude.{ℕ, suc, nat_lt, Bool, true, List, [], ◌∷◌, ◌++◌, Option, Some, None, Ok, Err}
 use Rattle.ui_machine.specs.declared.arm.Arm.TheVariants as arms
 use Rattle.ui_machine.specs.Values.{Value}
@@ -42,7 +42,8 @@ thawing w id (slot ∷ slots) = starts w (Notifying id slot ∷ Thawing id slots
 abbrev pub constructing : Definition → World → ℕ → List Making → Bool → Answer Started
 constructing d w id [] held = constructed w id held
 constructing d w id (sets slot v ∷ steps) held = making_set d w id slot v (Constructing id steps held ∷ [])
-constructing d w id (runs program ∷ steps) held = program_before d w program (values.object (Some id) ∷ []) (Constructing id steps held ∷ [])
+constructing d w id (runs program ∷ steps) held =
+    program_before d w program (values.object (Some id) ∷ []) (Constructing id steps held ∷ [])
 constructing d w id (thaws ∷ steps) held = thawing_made w id steps held
 
 -- an object of the build is made, with the peer that is its own
@@ -78,8 +79,8 @@ carrying_set d w place slot given = do
   if_settable s (set_given w id slot given)
 
 -- the world with a value for the event
-abbrev pub answered : World → Value → World
-answered w v = record w { result = Some v }
+abbrev pub with_result : World → Value → World
+with_result w v = record w { result = Some v }
 
 -- a get by an event
 unfoldable pub carrying_get : Definition → World → ℕ → ℕ → Answer Started
@@ -87,7 +88,7 @@ carrying_get d w place slot = do
   id ← held_object w place
   s ← spec_at d w.objects id slot
   v ← asked w.objects id (value_at slot)
-  only_if (is_readable s) arms.Flags (starts (answered (said d w (lines.get id s.name v)) v) [])
+  only_if (is_readable s) arms.Flags (starts (with_result (said d w (lines.get id s.name v)) v) [])
 
 -- the given values of an emission's arguments
 unfoldable pub given_values : World → List Given → Answer (List Value)

@@ -1,4 +1,4 @@
--- How values and lines are printed, as lists of bytes.
+-- How values and lines are printed, as lists of bytes (a flags or enum value as GObject manual, GEnumValue).
 use Rattle.std.specs.Prelude.{ℕ, ℤ, pos, negsuc, zero, suc, ◌+◌, ◌/◌, ◌%◌, true, false, cond, ◌||◌, nat_eq, nat_lt, List, [], ◌∷◌, ◌++◌, codes, Option, Some, None}
 use Rattle.std.specs.Ordering.{int_eq}
 use Rattle.ui_machine.specs.Seq.{read}
@@ -33,7 +33,13 @@ hex_digit d = cond (nat_lt d 10) (48 + d) (87 + d)
 
 -- the letter of a byte's short escape, or 0 where it has none
 abbrev pub short_escape : ℕ → ℕ
-short_escape x = cond (nat_eq x 34 || nat_eq x 92) x (cond (nat_eq x 8) 98 (cond (nat_eq x 12) 102 (cond (nat_eq x 10) 110 (cond (nat_eq x 13) 114 (cond (nat_eq x 9) 116 0)))))
+short_escape x =
+    cond (nat_eq x 34 || nat_eq x 92) x
+    (cond (nat_eq x 8) 98
+    (cond (nat_eq x 12) 102
+    (cond (nat_eq x 10) 110
+    (cond (nat_eq x 13) 114
+    (cond (nat_eq x 9) 116 0)))))
 
 -- what stands for a byte in a JSON string
 abbrev pub escaped_byte : ℕ → List ℕ
@@ -89,10 +95,6 @@ text_of_values types (v ∷ w ∷ vs) = text_of_value types v ++ (codes "," ++ t
 
 -- ** lines
 
--- `#1.name`
-abbrev pub member_text : ℕ → List ℕ → List ℕ
-member_text id name = codes "#" ++ (numeral id ++ (codes "." ++ name))
-
 -- a detail, if there is one
 abbrev pub detail_text : Option (List ℕ) → List ℕ
 detail_text None = []
@@ -107,12 +109,15 @@ abbrev pub text_of_line : List GType → Line → List ℕ
 text_of_line types lines.build = codes "build"
 text_of_line types (lines.construct id class) = codes "construct #" ++ (numeral id ++ (codes " " ++ class))
 text_of_line types (lines.set id name v) = codes "set #" ++ (numeral id ++ (codes "." ++ (name ++ (codes " " ++ text_of_value types v))))
-text_of_line types (lines.refused id name v) = codes "refused #" ++ (numeral id ++ (codes "." ++ (name ++ (codes " " ++ text_of_value types v))))
+text_of_line types (lines.refused id name v) =
+    codes "refused #" ++ (numeral id ++ (codes "." ++ (name ++ (codes " " ++ text_of_value types v))))
 text_of_line types (lines.notify id name) = codes "notify #" ++ (numeral id ++ (codes "." ++ name))
 text_of_line types (lines.emit id name detail args) =
-    codes "emit #" ++ (numeral id ++ (codes "." ++ (name ++ (detail_text detail ++ (codes "(" ++ (text_of_values types args ++ codes ")"))))))
+    codes "emit #" ++
+    (numeral id ++ (codes "." ++ (name ++ (detail_text detail ++ (codes "(" ++ (text_of_values types args ++ codes ")"))))))
 text_of_line types (lines.run program) = codes "run " ++ program
-text_of_line types (lines.call peer method args answer) = codes "call " ++ (call_text types peer method args ++ (codes " = " ++ text_of_value types answer))
+text_of_line types (lines.call peer method args answer) =
+    codes "call " ++ (call_text types peer method args ++ (codes " = " ++ text_of_value types answer))
 text_of_line types (lines.fault peer method args) = codes "fault " ++ call_text types peer method args
 text_of_line types (lines.closed peer method args) = codes "closed " ++ call_text types peer method args
 text_of_line types (lines.limit word) = codes "limit " ++ word

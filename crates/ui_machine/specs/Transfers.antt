@@ -1,4 +1,4 @@
--- What a binding does as an end of it is notified (GObject manual, GBinding).
+-- What a binding does as an end of it is notified (GObject manual, g_object_bind_property).
 use Rattle.std.specs.Prelude.{ℕ, Bool, true, false, cond, not, nat_eq, List, [], ◌∷◌, Option, None, Some}
 use Rattle.std.specs.List.{find}
 use Rattle.ui_machine.specs.declared.arm.Arm.TheVariants as arms
@@ -10,7 +10,7 @@ use Rattle.ui_machine.specs.Definition.{Definition}
 use Rattle.ui_machine.specs.Config.{Binding, Task, Setting, Transferring, Unsetting, World}
 use Rattle.ui_machine.specs.Answers.{Answer, ◌>>=◌, only_if}
 use Rattle.ui_machine.specs.Objects.{asked, value_at}
-use Rattle.ui_machine.specs.Bindings.{with_setting}
+use Rattle.ui_machine.specs.Bindings.{with_busy}
 use Rattle.ui_machine.specs.Sets.{spec_at}
 use Rattle.ui_machine.specs.Worlds.{Started, starts}
 
@@ -21,7 +21,7 @@ binding_of number bindings = find (λ b. nat_eq b.number number) bindings
 -- a transfer that is due in an emission: none where the binding has ended, or sets
 abbrev pub transfer_for : Option Binding → ℕ → Bool → List Task
 transfer_for None number back = []
-transfer_for (Some b) number back = cond b.setting [] (Transferring number back ∷ [])
+transfer_for (Some b) number back = cond b.busy [] (Transferring number back ∷ [])
 
 -- ** what is set
 
@@ -44,7 +44,7 @@ inverted true (Some v) = opposite v
 abbrev pub set_by : World → ℕ → ℕ → ℕ → Option Value → Answer Started
 set_by w number target slot None = starts w []
 set_by w number target slot (Some v) =
-    starts (record w { bindings = with_setting number true w.bindings }) (Setting target slot v ∷ Unsetting number ∷ [])
+    starts (record w { bindings = with_busy number true w.bindings }) (Setting target slot v ∷ Unsetting number ∷ [])
 
 -- the value of one end is transformed, inverted and set at the other
 unfoldable pub carried : Definition → World → Binding → (source source_slot target target_slot : ℕ) → Answer Started
@@ -69,4 +69,4 @@ transferring d w number back = carried_by d w back (binding_of number w.bindings
 
 -- the binding no longer sets
 abbrev pub unsetting : World → ℕ → Answer Started
-unsetting w number = starts (record w { bindings = with_setting number false w.bindings }) []
+unsetting w number = starts (record w { bindings = with_busy number false w.bindings }) []

@@ -1,4 +1,4 @@
--- Types (GObject manual, GType).
+-- Types (GObject manual, GType: g_type_register_static).
 use Rattle.std.specs.Prelude.{ℕ, ℤ, Bool, false, List, [], ◌∷◌, Option, Some, None, codes}
 
 pub data Sort : Type 0 where

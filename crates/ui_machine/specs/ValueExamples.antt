@@ -70,10 +70,14 @@ wrapped-half64 = refl
 wrapped-low_bits : wrapped uint (negsuc 4294967296) ≡ pos 4294967295
 wrapped-low_bits = refl
 
-int_to_uint64 : transformed examples (kinds.whole int) (kinds.whole uint64) (values.whole int (negsuc 0)) ≡ Some (values.whole uint64 (pos 18446744073709551615))
+int_to_uint64 :
+    transformed examples (kinds.whole int) (kinds.whole uint64) (values.whole int (negsuc 0))
+    ≡ Some (values.whole uint64 (pos 18446744073709551615))
 int_to_uint64 = refl
 
-int64_to_int : transformed examples (kinds.whole int64) (kinds.whole int) (values.whole int64 (pos 4294967296)) ≡ Some (values.whole int (pos 0))
+int64_to_int :
+    transformed examples (kinds.whole int64) (kinds.whole int) (values.whole int64 (pos 4294967296))
+    ≡ Some (values.whole int (pos 0))
 int64_to_int = refl
 
 int64_to_bool : transformed examples (kinds.whole int64) kinds.bool (values.whole int64 (pos 4294967296)) ≡ Some (values.bool true)
@@ -106,13 +110,37 @@ abbrev one_player : ℕ → Option ℕ
 one_player n = Some 6
 
 abbrev marks : Spec
-marks = record { name = codes "marks"; kind = kinds.flags 3; flags = 3; default = values.flags 3 0; low = pos 0; high = pos 0; weak = false }
+marks = record {
+  name = codes "marks";
+  kind = kinds.flags 3;
+  flags = 3;
+  default = values.flags 3 0;
+  low = pos 0;
+  high = pos 0;
+  weak = false;
+}
 
 abbrev count : Spec
-count = record { name = codes "count"; kind = kinds.whole int; flags = 3; default = values.whole int (pos 0); low = negsuc 2; high = pos 9; weak = false }
+count = record {
+  name = codes "count";
+  kind = kinds.whole int;
+  flags = 3;
+  default = values.whole int (pos 0);
+  low = negsuc 2;
+  high = pos 9;
+  weak = false;
+}
 
 abbrev player : Spec
-player = record { name = codes "player"; kind = kinds.object 4; flags = 3; default = values.object None; low = pos 0; high = pos 0; weak = false }
+player = record {
+  name = codes "player";
+  kind = kinds.object 4;
+  flags = 3;
+  default = values.object None;
+  low = pos 0;
+  high = pos 0;
+  weak = false;
+}
 
 clears_bits : clamp one_player examples marks (values.flags 3 5) ≡ values.flags 3 1
 clears_bits = refl

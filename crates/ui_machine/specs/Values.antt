@@ -1,4 +1,4 @@
--- Values.
+-- Values (GObject manual, GValue).
 use Rattle.std.specs.Prelude.{ℕ, ℤ, Bool, List, Option}
 use Rattle.ui_machine.specs.Kinds.{Whole}
 

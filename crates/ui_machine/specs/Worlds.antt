@@ -1,10 +1,10 @@
--- Small changes of a world, and what a part of a step answers.
-use Rattle.std.specs.Prelude.{ℕ, cond, nat_eq, List, [], ◌∷◌, ◌++◌, Ok}
+-- Small changes of a world (GObject manual, g_object_ref_sink), and what a part of a step answers.
+use Rattle.std.specs.Prelude.{ℕ, Bool, true, false, cond, nat_eq, List, [], ◌∷◌, ◌++◌, Ok}
 use Rattle.ui_machine.specs.Seq.{read, write}
 use Rattle.ui_machine.specs.Text.{text_of_line}
 use Rattle.ui_machine.specs.Lines.{Line}
 use Rattle.ui_machine.specs.Definition.{Definition}
-use Rattle.ui_machine.specs.Config.{Objects, Held, unbuilt, Task, World}
+use Rattle.ui_machine.specs.Config.{Objects, Held, unbuilt, built, released, Task, World}
 use Rattle.ui_machine.specs.Answers.{Answer}
 
 -- the world with a line said
@@ -18,6 +18,12 @@ with_objects w os = record w { objects = os }
 -- what the builder has of a place
 abbrev pub held_at : World → ℕ → Held
 held_at w place = read unbuilt w.builder place
+
+-- whether the builder has not come to a place yet
+abbrev pub is_unbuilt : Held → Bool
+is_unbuilt unbuilt = true
+is_unbuilt (built id) = false
+is_unbuilt released = false
 
 -- the builder has this of a place
 abbrev pub with_held : World → ℕ → Held → World

@@ -5,7 +5,7 @@ ghost use Rattle.ui_machine.specs.declared.arm.Halt.TheVariants.{OutOfMemory, St
 
 use std::alloc::{AllocError, AllocFailed};
 
-/// Why the first task of the machine can't act. No run of an accepted definition meets one.
+/// Why the first task of the machine can't act. That no run of an accepted definition meets one is not proved yet.
 #[derive(Clone, Copy, Debug, PartialEq, Eq)]
 pub enum Arm {
     /// A register is unset or of another kind.

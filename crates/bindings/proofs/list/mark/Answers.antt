@@ -5,9 +5,9 @@ use Rattle.bindings.proofs.list.mark.Goals as goal
 use Rattle.bindings.proofs.list.mark.Goals.{then-has_number, else-has_number}
 
 abbrev marked : ℕ → Bool → Binding → Binding
-marked number setting b = cond (nat_eq b.number number) (record b { setting = setting }) b
+marked number setting b = cond (nat_eq b.number number) (record b { busy = setting }) b
 
-marked_one : (number : ℕ) (setting : Bool) (b : Binding) → nat_eq b.number number ≡ true → marked number setting b ≡ record b { setting = setting }
+marked_one : (number : ℕ) (setting : Bool) (b : Binding) → nat_eq b.number number ≡ true → marked number setting b ≡ record b { busy = setting }
 marked_one number setting b e = rw e refl
 
 kept_one : (number : ℕ) (setting : Bool) (b : Binding) → nat_eq b.number number ≡ false → marked number setting b ≡ b

@@ -1,11 +1,11 @@
-use Rattle.std.proofs.Common.{suc, sym, ap, refl, rules, Bor, option_map, ◌∙◌}
+use Rattle.std.proofs.Common.{◌<◌, ◌≤◌, length, suc, sym, ap, refl, rules, Bor, option_map, ◌∙◌}
 use Rattle.std.proofs.lemmas.Result.{err_from_is_err_and}
 use Rattle.ui_machine.specs.Steps.{uncounted}
 use Rattle.param_specs.specs.declared.spec.Spec.{Spec}
 use Rattle.param_specs.specs.View.{spec_view}
 use Rattle.ui_engine.specs.View.{world_of}
 use Rattle.ui_engine.specs.TaskView.{agenda_of}
-use Rattle.ui_engine.proofs.Notified.{counted_on, unheard, unnamed, begun}
+use Rattle.ui_engine.proofs.Notified.{counted_on, unheard, unnamed, unknown, begun}
 use Rattle.ui_engine.proofs.engine.Engine.notifying.Goals as goal
 
 pub returns-in_err-class-clause-step : goal.returns-in_err-class-clause-step
@@ -24,6 +24,16 @@ returns-in_default-clause-step c =
     ∙ ap (uncounted rest (suc n)) (unnamed c.args.definition.now (world_of c.args.self.now.world) c.args.object c.args.slot _ (rw c.in_ok-count.ensures.ok.1 at c.in_ok-class.ensures)
     (sym c.spec.ensures ∙ ap (option_map (λ (s : Bor Spec). spec_view s.now)) c.in_default.is))
 
+pub returns-then-index-count-clause-step : goal.returns-then-index-count-clause-step
+returns-then-index-count-clause-step c =
+    let d = c.args.definition.now in
+    let rest = agenda_of d c.args.self.now.stack in
+    let n = c.args.self.now.counted in
+    let some = sym c.spec.ensures ∙ ap (option_map (λ (s : Bor Spec). spec_view s.now)) c.in-Some.is in
+    let past : length d.types ≤ c.in_ok-class.class = rw (c.len-count.ensures, c.index.ensures, c.types-types.ensures.types) at c.if-index-count.true in
+    counted_on rest n _ c.in_ok-count.ensures.ok.0
+    ∙ ap (uncounted rest (suc n)) (unknown d (world_of c.args.self.now.world) c.args.object c.args.slot _ (rw c.in_ok-count.ensures.ok.1 at c.in_ok-class.ensures) _ some c.types-types.ensures.basic past)
+
 pub returns-clause-step : goal.returns-clause-step
 returns-clause-step c =
     let d = c.args.definition.now in
@@ -31,6 +41,7 @@ returns-clause-step c =
     let n = c.args.self.now.counted in
     let some = sym c.spec.ensures ∙ ap (option_map (λ (s : Bor Spec). spec_view s.now)) c.in-Some.is in
     let pushed = c.in_ok-push.ensures d in
+    let known : c.in_ok-class.class < length d.types = rw (c.len-count.ensures, c.index.ensures, c.types-types.ensures.types) at c.if-index-count.false in
     counted_on rest n _ c.in_ok-count.ensures.ok.0
-    ∙ ap (uncounted rest (suc n)) (begun d (world_of c.args.self.now.world) c.args.object c.args.slot _ (rw c.in_ok-count.ensures.ok.1 at c.in_ok-class.ensures) c.types-types.ensures.basic refl refl _ some)
+    ∙ ap (uncounted rest (suc n)) (begun d (world_of c.args.self.now.world) c.args.object c.args.slot _ (rw c.in_ok-count.ensures.ok.1 at c.in_ok-class.ensures) c.types-types.ensures.basic known refl refl _ some)
     ∙ rw pushed (search rules)
