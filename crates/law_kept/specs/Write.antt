@@ -24,7 +24,8 @@ pub record Like (d : Definition) (w : World) (o new : Object) : Type 0 where
   pub disposed : new.disposed ≡ o.disposed
   pub peer : new.peer ≡ o.peer
   -- its values are valid, and only readable properties are queued
-  pub values : (slot : ℕ) (spec : Spec) → spec_of d o.class slot ≡ Some spec → ValueGood d (standing w.objects) spec (slice_get new.values slot)
+  pub values : (slot : ℕ) (spec : Spec) → spec_of d o.class slot ≡ Some spec →
+      ValueGood d (standing w.objects) spec (slice_get new.values slot)
   pub queue : Each (λ slot. (spec : Spec) × (spec_of d o.class slot ≡ Some spec) × (is_readable spec ≡ true)) new.queue
 
 -- the parts of what is good that are not the agenda and the queues
@@ -45,5 +46,6 @@ pub record Kept (d : Definition) (costs depths : Tables) (agenda : List Task) (w
 
 abbrev pub WriteKeeps : Type 0
 WriteKeeps =
-    (d : Definition) (costs depths : Tables) (agenda : List Task) (w : World) (id : ℕ) (o new : Object) → find w.objects id ≡ Some o → Like d w o new →
+    (d : Definition) (costs depths : Tables) (agenda : List Task) (w : World) (id : ℕ) (o new : Object) → find w.objects id ≡ Some o →
+        Like d w o new →
     Whole d costs depths agenda w → Kept d costs depths agenda w (with_objects w (put w.objects id (Some new)))

@@ -3,7 +3,7 @@ use Rattle.std.specs.Prelude.{◌≡◌, ℕ, ◌+◌, ◌≤◌, List, [], Opti
 use Rattle.ui_machine.specs.Seq.{total}
 use Rattle.ui_machine.specs.Definition.{Definition, Signal}
 use Rattle.ui_machine.specs.Config.{Task, World}
-use Rattle.ui_machine.specs.Emissions.{plan, class_handler_of}
+use Rattle.ui_machine.specs.Emissions.{Planned, plan, class_handler_of}
 use Rattle.law_typing.specs.Channels.{signal}
 use Rattle.law_typing.specs.Graph.{Raised, graph, listed_if, stages_of}
 use Rattle.law_typing.specs.Tables.{Tables}
@@ -12,6 +12,17 @@ use Rattle.law_typing.specs.Laws.{IsIn}
 use Rattle.law_typing.specs.Standing.{standing, view}
 use Rattle.law_typing.specs.HandlersGood.{HandlersGood}
 use Rattle.law_typing.specs.DueCosts.{turn_cost}
+
+-- the plan of a signal's emission, which a class begins
+abbrev pub planned : Definition → (class id number : ℕ) → Signal → Option (List ℕ) → Planned
+planned d class id number sig detail = record {
+  object = id;
+  signal = number;
+  detail = detail;
+  flags = sig.flags;
+  class_program = class_handler_of d class sig.name;
+  transfers = [];
+}
 
 -- the counted step of a beginning, and the turns that it takes, are within the channel's cost
 abbrev pub PlanCosts : Type 0
@@ -24,12 +35,4 @@ PlanCosts =
     r.channel ≡ signal place number →
     r.class_handler ≡ listed_if (class_handler_of d class sig.name) →
     r.stages ≡ stages_of (Some sig) →
-    1 + total (turn_cost d costs (view w) below) (plan w (record {
-      object = id;
-      signal = number;
-      detail = detail;
-      flags = sig.flags;
-      class_program = class_handler_of d class sig.name;
-      transfers = [];
-    }))
-    ≤ emission_cost (graph d) costs r
+    1 + total (turn_cost d costs (view w) below) (plan w (planned d class id number sig detail)) ≤ emission_cost (graph d) costs r

@@ -16,8 +16,10 @@ use Rattle.ui_machine.specs.Sources as sources
 
 -- Each task, above these, with what comes down to it. Nothing stands below the build, a request or a due source.
 abbrev pub TaskGood : Definition → Tables → Tables → View → Down → List Task → Task → ℕ → ℕ → Type 0
-TaskGood d costs depths w up below (Setting id slot v) steps frames = TakesNone up × SettingGood d costs depths (w.stands) below id slot v steps frames
-TaskGood d costs depths w up below (Notifying id slot) steps frames = TakesNone up × NotifyingGood d costs depths w.stands below id slot steps frames
+TaskGood d costs depths w up below (Setting id slot v) steps frames = TakesNone up
+    × SettingGood d costs depths (w.stands) below id slot v steps frames
+TaskGood d costs depths w up below (Notifying id slot) steps frames = TakesNone up
+    × NotifyingGood d costs depths w.stands below id slot steps frames
 TaskGood d costs depths w up below (Beginning e) steps frames = TakesNone up × BeginningGood d costs depths (w.stands) e steps frames
 TaskGood d costs depths w up below (Emitting e turns) steps frames = EmittingGood d costs depths w up below e turns steps frames
 TaskGood d costs depths w up below (Transferring number back) steps frames =
@@ -36,7 +38,8 @@ TaskGood d costs depths w up below (Building items) steps frames =
 TaskGood d costs depths w up below (Carrying request) steps frames =
     TakesNone up × (below ≡ []) × CarryingGood d costs depths w request steps frames
 TaskGood d costs depths w up below (Due source) steps frames =
-    TakesNone up × (below ≡ []) × ((s : Source) × (sources.source_of source w.sources ≡ Some s) × (of_program costs s.program ≤ steps) × (of_program depths s.program ≤ frames))
+    TakesNone up × (below ≡ []) × ((s : Source) × (sources.source_of source w.sources ≡ Some s) × (of_program costs s.program ≤ steps)
+        × (of_program depths s.program ≤ frames))
 
 -- a frame is the rest of a program, an emission or a construction
 abbrev pub is_frame : Task → ℕ

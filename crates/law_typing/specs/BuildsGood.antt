@@ -28,7 +28,8 @@ HeldIf builder v = ⊤
 
 -- a step of a construction, what it may cost and how deep it is; a notification of it waits in the queue and is paid there
 abbrev pub MakingGood : Definition → Standing → List Held → (place : ℕ) → Making → Type 0
-MakingGood d s builder place (sets slot v) = (spec : Spec) × (spec_at d place slot ≡ Some spec) × (has_kind v spec.kind ≡ true) × (lives_by s v ≡ true) × HeldIf builder v
+MakingGood d s builder place (sets slot v) = (spec : Spec) × (spec_at d place slot ≡ Some spec) × (has_kind v spec.kind ≡ true)
+    × (lives_by s v ≡ true) × HeldIf builder v
 MakingGood d s builder place (runs program) = is_taken_by d (program_at d program) (kinds.at place ∷ []) None ≡ true
 MakingGood d s builder place thaws = ⊤
 

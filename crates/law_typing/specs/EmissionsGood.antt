@@ -69,7 +69,8 @@ pub record EmissionFits (d : Definition) (s : Standing) (e : Emission) : Type 0 
 -- listens to the property, and only a pair's goes back
 abbrev pub TurnGood : Definition → View → Emission → Turn → Type 0
 TurnGood d w e (class_handler program cleanup) = Stands (w.stands) e.object (λ place. Takes d place e.signal program false None)
-TurnGood d w e (handler number) = (number ≤ w.last_handler) × ((h : Handler) → handler_of number w.handlers ≡ Some h → (h.object ≡ e.object) × (h.signal ≡ e.signal))
+TurnGood d w e (handler number) = (number ≤ w.last_handler) × ((h : Handler) → handler_of number w.handlers ≡ Some h →
+    (h.object ≡ e.object) × (h.signal ≡ e.signal))
 TurnGood d w e (config.transfer number back) =
     GoesBack d number back × ((b : Binding) → binding_of number w.bindings ≡ Some b → (slot : ℕ) × (listens e.object slot b ≡ true))
 
@@ -95,4 +96,5 @@ ThawingGood d costs depths s below id [] steps frames = ⊤
 ThawingGood d costs depths s below id (slot ∷ slots) steps frames =
     (place : ℕ) × (s id ≡ Some place)
     × (total (λ slot. due_cost d costs below (property place slot)) (slot ∷ slots) ≤ steps)
-    × Each (λ slot. (due_depth d depths below (property place slot) ≤ frames) × (spec : Spec) × (spec_at d place slot ≡ Some spec) × (is_readable spec ≡ true)) (slot ∷ slots)
+    × Each (λ slot. (due_depth d depths below (property place slot) ≤ frames) × (spec : Spec) × (spec_at d place slot ≡ Some spec)
+        × (is_readable spec ≡ true)) (slot ∷ slots)

@@ -71,7 +71,8 @@ is_carrying_over task = 0
 
 pub record PairsGood (d : Definition) (agenda : List Task) (os : Objects) (bs : List Binding) : Type 0 where
   -- an object with a paired property is frozen only while the builder makes it
-  pub frozen : (id : ℕ) (o : Object) → heap.find os id ≡ Some o → has_pair d o.place ≡ true → 0 < o.freezes → 0 < total (constructs_held id) agenda
+  pub frozen : (id : ℕ) (o : Object) → heap.find os id ≡ Some o → has_pair d o.place ≡ true → 0 < o.freezes →
+      0 < total (constructs_held id) agenda
   -- while the builder makes one there is no binding, and no transfer is under way
   pub before : 0 < total is_for_builder agenda → (bs ≡ []) × (total is_carrying_over agenda ≡ 0)
   -- it makes one at a time

@@ -62,7 +62,8 @@ connecting_cost d costs c (connects place number) =
 connecting_cost d costs c item = 0
 
 -- The handlers of an object that run at a channel of its place. Those of the definition, with those that the build has still to connect
--- there, cost together no more than the channel's part for them: said as a sum, so that it survives each disconnection. Those of bytecode are no more than the limit, and each costs no more than
+-- there, cost together no more than the channel's part for them: said as a sum, so that it survives each disconnection. Those of bytecode
+-- are no more than the limit, and each costs no more than
 -- the costliest connectable one. None is deeper than what the channel's depth counts.
 pub record ChannelGood (d : Definition) (costs depths : Tables) (agenda : List Task) (id : ℕ) (hs : List Handler) (r : Raised) : Type 0 where
   pub own :

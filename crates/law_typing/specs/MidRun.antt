@@ -1,4 +1,5 @@
--- Two configurations in the middle of a run, each reached by the machine: what each step is to keep holds there, within the bound and the depth
+-- Two configurations in the middle of a run, each reached by the machine: what each step is to keep holds there, within the bound and the
+-- depth
 -- of the report.
 use Rattle.std.specs.Prelude.{◌≡◌, ℕ, zero, suc, pos, true, false, List, [], ◌∷◌, codes, None, Some, Ok}
 use Rattle.ui_machine.specs.Kinds as kinds

@@ -1,4 +1,5 @@
--- Two configurations that a run must not come to: a program with fewer registers than it writes, and one whose registers are not of the kinds
+-- Two configurations that a run must not come to: a program with fewer registers than it writes, and one whose registers are not of the
+-- kinds
 -- of its place in the code. Neither is good.
 use Rattle.std.specs.Prelude.{ℕ, pos, false, List, [], ◌∷◌, codes, Option, None, Some}
 use Rattle.ui_machine.specs.Kinds as kinds

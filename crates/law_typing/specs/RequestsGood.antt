@@ -35,7 +35,8 @@ entry_depth depths entries.plain = 0
 -- what reading says of a request: it is of an object of the document
 abbrev pub RequestRead : Definition → Request → Type 0
 RequestRead d (config.set place slot g) =
-    IsObject d place × (spec : Spec) × (spec_at d place slot ≡ Some spec) × (is_writable spec ≡ true) × (is_construct_only spec ≡ false) × GivenFits d spec.kind g
+    IsObject d place × (spec : Spec) × (spec_at d place slot ≡ Some spec) × (is_writable spec ≡ true) × (is_construct_only spec ≡ false)
+        × GivenFits d spec.kind g
 RequestRead d (config.get place slot) = IsObject d place × (spec : Spec) × (spec_at d place slot ≡ Some spec) × (is_readable spec ≡ true)
 RequestRead d (config.emit place number args detail) =
     IsObject d place × (class : ℕ) × (sig : Signal) × (class_at d place ≡ Some class) × (signal_of d class number ≡ Some sig) × (0 < number)

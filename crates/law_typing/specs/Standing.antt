@@ -1,4 +1,5 @@
--- Who stands where, and which values and registers are good where they stand. Of the objects this reads only which place each living identity
+-- Who stands where, and which values and registers are good where they stand. Of the objects this reads only which place each living
+-- identity
 -- has: a write, a freeze or a dispose leaves that as it is, a construction extends it, and a finalisation takes one identity out.
 use Rattle.std.specs.Prelude.{◌≡◌, ℕ, suc, ◌≤◌, ⊤, Bool, true, false, List, [], ◌∷◌, Option, None, Some, is_some}
 use Rattle.ui_machine.specs.Seq.{read}

@@ -67,18 +67,21 @@ BuildBegins =
 -- so does a request from any world at rest, if it names no object that was released
 abbrev pub RequestsBegin : Type 0
 RequestsBegin =
-    (d : Definition) → WellRead d → (a : Accepted d) → (w : World) → IsResting d a w → (r : Request) → RequestRead d r → names_released w r ≡ false →
+    (d : Definition) → WellRead d → (a : Accepted d) → (w : World) → IsResting d a w → (r : Request) → RequestRead d r →
+        names_released w r ≡ false →
     IsGood d a (bound_of d a (entry_of d r)) (of_request w r)
 
 -- and a source that stands
 abbrev pub SourcesBegin : Type 0
 SourcesBegin =
-    (d : Definition) → WellRead d → (a : Accepted d) → (w : World) → IsResting d a w → (number : ℕ) (s : Source) → source_of number w.sources ≡ Some s →
+    (d : Definition) → WellRead d → (a : Accepted d) → (w : World) → IsResting d a w → (number : ℕ) (s : Source) →
+        source_of number w.sources ≡ Some s →
     IsGood d a (bound_of d a (entries.source s.program)) (beginning w (Due number))
 
 -- a turn of the main loop leaves a world at rest as it is
 abbrev pub TurnsRest : Type 0
-TurnsRest = (d : Definition) (costs depths : Tables) (w : World) (moment : ℕ) → Resting d costs depths w → Resting d costs depths (turned d w moment)
+TurnsRest = (d : Definition) (costs depths : Tables) (w : World) (moment : ℕ) → Resting d costs depths w →
+    Resting d costs depths (turned d w moment)
 
 -- ** steps
 

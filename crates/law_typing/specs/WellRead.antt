@@ -145,7 +145,8 @@ pub record ProgramRead (d : Definition) (p : Program) : Type 0 where
 abbrev pub GivenFits : Definition → Kind → Given → Type 0
 GivenFits d kind (value v) = kind_fits no_class_of d.types v kind ≡ true
 GivenFits d kind (named to) =
-    (p : Place) × (type : ℕ) × (place_at d to ≡ Some p) × (p.is_prototype ≡ false) × (kind ≡ kinds.object type) × (is_a d.types p.class type ≡ true)
+    (p : Place) × (type : ℕ) × (place_at d to ≡ Some p) × (p.is_prototype ≡ false) × (kind ≡ kinds.object type)
+        × (is_a d.types p.class type ≡ true)
 
 -- what is given to a property: it is there and writable, and a forward name is not for a construct-only one
 pub record GivenRead (d : Definition) (place : ℕ) (p : Place) (g : GivenProperty) : Type 0 where
@@ -203,7 +204,8 @@ pub record WellRead (d : Definition) : Type 0 where
   pub programs : (number : ℕ) (p : Program) → program_at d number ≡ Some p → ProgramRead d p
   pub places : (number : ℕ) (p : Place) → place_at d number ≡ Some p → PlaceRead d number p
   -- objects stand before prototypes
-  pub order : (a b : ℕ) (p q : Place) → place_at d a ≡ Some p → place_at d b ≡ Some q → p.is_prototype ≡ true → q.is_prototype ≡ false → b < a
+  pub order : (a b : ℕ) (p q : Place) → place_at d a ≡ Some p → place_at d b ≡ Some q → p.is_prototype ≡ true → q.is_prototype ≡ false →
+      b < a
   -- no peer is named twice
   pub peers : no_two same_name (flat_map (λ (p : Place). p.peers) d.places) ≡ true
   -- a binding is between two objects
