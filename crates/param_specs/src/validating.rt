@@ -1,6 +1,6 @@
 //! Validation: how a value is brought into its property's spec (GObject manual, g_param_value_validate).
 
-ghost use Rattle.std.specs.Prelude.{◌≡◌, ◌↔◌, IsTrue, ◌≤ℤ◌, ℤ, ℕ, pos, cond, not, nat_eq, bit_and, List, Option, None, Some};
+ghost use Rattle.std.specs.Prelude.{◌≡◌, ◌↔◌, IsTrue, ◌≤ℤ◌, ℤ, ℕ, pos, cond, not, nat_eq, bit_and, List, Option, None, Some, IfSome};
 ghost use Rattle.std.specs.Ordering.{int_eq};
 ghost use Rattle.ui_machine.specs.Values as values;
 ghost use Rattle.ui_machine.specs.Kinds as kinds;
@@ -20,12 +20,14 @@ use type_tree::{TypeId, TypeTree};
 use ui_machine::ObjectId;
 
 /// A value as the property takes it, and whether it was changed: a number goes to the nearer end of the range, one that is no member becomes the
-/// default, unknown bits are cleared, and an object of another type becomes null. An object's value has to name the object's own class.
+/// default, unknown bits are cleared, and an object of another type becomes null. An object's value has to name the object's own class. The value
+/// keeps its kind, so an object's value its declared type.
 #[tactic(auto, using(crate::proofs::Same::same_value_refl))]
 pub fn validate(tree: &TypeTree, spec: &Spec, value: Value) -> (Value, bool)
     requires { Takes tree.now spec.now value }
     ensures value { (class_of : ℕ → Option ℕ) → KnowsClass class_of value
         → value_view result.0 ≡ clamp class_of tree.now (spec_view spec.now) (value_view value) }
+    ensures kind { value_kind result.0 ≡ value_kind value }
     ensures changed { (class_of : ℕ → Option ℕ) → KnowsClass class_of value
         → result.1 ≡ not (same_value (clamp class_of tree.now (spec_view spec.now) (value_view value)) (value_view value)) }
 {
@@ -99,7 +101,8 @@ fn lies_within(number: i128, low: i128, high: i128) -> bool
 // What takes the value's place, if it is not valid.
 fn corrected(tree: &TypeTree, spec: &Spec, value: &Value) -> Option<Value>
     requires { Takes tree.now spec.now value.now }
-    ensures { (class_of : ℕ → Option ℕ) → KnowsClass class_of value.now
+    ensures kind { IfSome result (λ w. value_kind w ≡ value_kind value.now) }
+    ensures value { (class_of : ℕ → Option ℕ) → KnowsClass class_of value.now
         → Corrects result (clamp class_of tree.now (spec_view spec.now) (value_view value.now)) (value_view value.now) }
 {
     match value {
@@ -133,7 +136,8 @@ fn nearest(spec: &Spec, number: i128) -> i128
 
 fn corrected_int(spec: &Spec, number: i32) -> Option<Value>
     requires { IsWithin int spec.now }
-    ensures { Corrects result (values.whole int (limited spec.now.min spec.now.max number)) (values.whole int number) }
+    ensures kind { IfSome result (λ w. value_kind w ≡ kinds.whole int) }
+    ensures value { Corrects result (values.whole int (limited spec.now.min spec.now.max number)) (values.whole int number) }
 {
     let nearest = nearest(spec, i128::from(number));
     if nearest == i128::from(number) {
@@ -144,7 +148,8 @@ fn corrected_int(spec: &Spec, number: i32) -> Option<Value>
 
 fn corrected_uint(spec: &Spec, number: u32) -> Option<Value>
     requires { IsWithin uint spec.now }
-    ensures { Corrects result (values.whole uint (limited spec.now.min spec.now.max (pos number))) (values.whole uint (pos number)) }
+    ensures kind { IfSome result (λ w. value_kind w ≡ kinds.whole uint) }
+    ensures value { Corrects result (values.whole uint (limited spec.now.min spec.now.max (pos number))) (values.whole uint (pos number)) }
 {
     let nearest = nearest(spec, i128::from(number));
     if nearest == i128::from(number) {
@@ -155,7 +160,8 @@ fn corrected_uint(spec: &Spec, number: u32) -> Option<Value>
 
 fn corrected_int64(spec: &Spec, number: i64) -> Option<Value>
     requires { IsWithin int64 spec.now }
-    ensures { Corrects result (values.whole int64 (limited spec.now.min spec.now.max number)) (values.whole int64 number) }
+    ensures kind { IfSome result (λ w. value_kind w ≡ kinds.whole int64) }
+    ensures value { Corrects result (values.whole int64 (limited spec.now.min spec.now.max number)) (values.whole int64 number) }
 {
     let nearest = nearest(spec, i128::from(number));
     if nearest == i128::from(number) {
@@ -166,7 +172,8 @@ fn corrected_int64(spec: &Spec, number: i64) -> Option<Value>
 
 fn corrected_uint64(spec: &Spec, number: u64) -> Option<Value>
     requires { IsWithin uint64 spec.now }
-    ensures { Corrects result (values.whole uint64 (limited spec.now.min spec.now.max (pos number))) (values.whole uint64 (pos number)) }
+    ensures kind { IfSome result (λ w. value_kind w ≡ kinds.whole uint64) }
+    ensures value { Corrects result (values.whole uint64 (limited spec.now.min spec.now.max (pos number))) (values.whole uint64 (pos number)) }
 {
     let nearest = nearest(spec, i128::from(number));
     if nearest == i128::from(number) {
@@ -178,7 +185,8 @@ fn corrected_uint64(spec: &Spec, number: u64) -> Option<Value>
 fn corrected_enum(tree: &TypeTree, spec: &Spec, t: TypeId, number: i32) -> Option<Value>
     requires sort { sort_of tree.now t ≡ enum }
     requires default { value_kind spec.now.default ≡ kinds.enum t }
-    ensures { Corrects result (cond (has_number (members_of tree.now t) number) (values.enum t number) (value_view spec.now.default)) (values.enum t number) }
+    ensures kind { IfSome result (λ w. value_kind w ≡ kinds.enum t) }
+    ensures value { Corrects result (cond (has_number (members_of tree.now t) number) (values.enum t number) (value_view spec.now.default)) (values.enum t number) }
 {
     if has_number(tree.enum_members(t), i128::from(number)) {
         return None;
@@ -196,7 +204,8 @@ fn corrected_enum(tree: &TypeTree, spec: &Spec, t: TypeId, number: i32) -> Optio
 
 fn corrected_flags(tree: &TypeTree, t: TypeId, bits: u32) -> Option<Value>
     requires { sort_of tree.now t ≡ flags }
-    ensures { Corrects result (values.flags t (bit_and bits (known_bits (members_of tree.now t)))) (values.flags t bits) }
+    ensures kind { IfSome result (λ w. value_kind w ≡ kinds.flags t) }
+    ensures value { Corrects result (values.flags t (bit_and bits (known_bits (members_of tree.now t)))) (values.flags t bits) }
 {
     let known = bits & known_bits(tree.flags_members(t));
     if known == bits {
@@ -206,7 +215,8 @@ fn corrected_flags(tree: &TypeTree, t: TypeId, bits: u32) -> Option<Value>
 }
 
 fn corrected_object(tree: &TypeTree, spec: &Spec, t: TypeId, id: ObjectId) -> Option<Value>
-    ensures { (class_of : ℕ → Option ℕ) → class_of id.0 ≡ Some t
+    ensures kind { IfSome result (λ w. value_kind w ≡ kinds.object t) }
+    ensures value { (class_of : ℕ → Option ℕ) → class_of id.0 ≡ Some t
         → Corrects result (clamp class_of tree.now (spec_view spec.now) (values.object (Some id.0))) (values.object (Some id.0)) }
 {
     match spec.kind {
