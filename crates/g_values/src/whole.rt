@@ -38,7 +38,7 @@ pub fn wrapped_int64(number: i128) -> i64
 }
 
 /// A number of 64 bits in decimal.
-#[tactic(auto, using(crate::proofs::Numerals::numeral_decimal))]
+#[tactic(auto, using(ui_machine::proofs::Numerals::numeral_decimal))]
 fn unsigned_text(alloc: Global, number: u64) -> Result<RcStr, AllocError>
     ensures { IfOk result (λ s. rc_str_bytes s ≡ numeral number) }
 {
@@ -47,7 +47,7 @@ fn unsigned_text(alloc: Global, number: u64) -> Result<RcStr, AllocError>
 }
 
 /// A number of 64 bits with a sign in decimal.
-#[tactic(auto, using(crate::proofs::Numerals::signed_numeral_decimal))]
+#[tactic(auto, using(ui_machine::proofs::Numerals::signed_numeral_decimal))]
 fn signed_text(alloc: Global, number: i64) -> Result<RcStr, AllocError>
     ensures { IfOk result (λ s. rc_str_bytes s ≡ signed_numeral number) }
 {
