@@ -15,8 +15,8 @@ use Rattle.ui_machine.specs.Properties.{Spec, is_readable, is_writable, is_const
 use Rattle.ui_machine.specs.Definition.{Definition, Signal, Method, Shape, Instruction, Block, Program, Place, Bind, Given, GivenProperty}
 use Rattle.ui_machine.specs.Definition as words
 use Rattle.ui_machine.specs.Lookups.{spec_of, place_at, program_at}
-use Rattle.ui_machine.specs.Emissions.{signal_of, most_depth, fits_detail}
-use Rattle.ui_machine.specs.Config.{Object, Objects, Handler, Binding, Source, Peer, Held, unbuilt, built, released, Turn, class_handler, handler, Emission, Making, sets, runs, thaws, Item, makes, adopts, forwards, binds, connects, Request, Reply, Registers, Frame, Call, Task, Setting, Notifying, Beginning, Emitting, Transferring, Unsetting, Thawing, Running, Answering, Calling, Constructing, Building, Carrying, Due, World, Config}
+use Rattle.ui_machine.specs.Emissions.{signal_of, fits_detail}
+use Rattle.ui_machine.specs.Config.{Object, Objects, Handler, Binding, Source, Peer, Held, unbuilt, built, released, PlanEntry, class_handler, handler, Emission, Making, sets, runs, thaws, Item, makes, adopts, forwards, binds, connects, Request, Reply, Registers, Frame, Call, Task, Setting, Notifying, Beginning, Emitting, Transferring, Unsetting, Thawing, Running, Answering, Calling, Constructing, Building, Carrying, Due, World, Config}
 use Rattle.ui_machine.specs.Config as config
 use Rattle.ui_machine.specs.Objects.{live}
 use Rattle.ui_machine.specs.Objects as heap
@@ -111,7 +111,7 @@ pub record ValueGood (d : Definition) (s : Standing) (spec : Spec) (v : Option V
 
 -- the peer of an object: none where its class has no shape; else one that it alone holds, of that shape, and open until it is disposed
 abbrev pub PeerGood : Definition → List Peer → ℕ → Object → Type 0
-PeerGood d peers id o = by (nearest_shape most_depth d o.class)
+PeerGood d peers id o = by (nearest_shape d o.class)
   where
     methods_of : Option Shape → List Method
     methods_of None = []
@@ -126,7 +126,7 @@ PeerGood d peers id o = by (nearest_shape most_depth d o.class)
 -- the parent of an object lives, and has it among its children
 abbrev pub FamilyGood : Objects → ℕ → Option ℕ → Type 0
 FamilyGood os id None = ⊤
-FamilyGood os id (Some above) = (p : Object) × (heap.find os above ≡ Some p) × IsIn id p.children
+FamilyGood os id (Some above) = (p : Object) × (heap.living os above ≡ Some p) × IsIn id p.children
 
 pub record ObjectGood (d : Definition) (w : World) (s : Standing) (id : ℕ) (o : Object) : Type 0 where
   -- it is of its place's class
@@ -145,7 +145,7 @@ pub record ObjectGood (d : Definition) (w : World) (s : Standing) (id : ℕ) (o 
 
 -- each living object is as it should be
 abbrev pub ObjectsGood : Definition → World → Type 0
-ObjectsGood d w = (id : ℕ) (o : Object) → heap.find w.objects id ≡ Some o → ObjectGood d w (standing w.objects) id o
+ObjectsGood d w = (id : ℕ) (o : Object) → heap.living w.objects id ≡ Some o → ObjectGood d w (standing w.objects) id o
 
 -- A peer that a place names is in the pool, of the shape of the place's class, and open while no object has got it. What the builder has
 -- still to make, after so many objects, finds its own there.
@@ -156,7 +156,7 @@ pub record PoolGood (d : Definition) (w : World) (made place : ℕ) (p : Place) 
   pub methods : Shape
   pub is : peer_number w.peers name ≡ Some number
   pub has : slice_get w.peers number ≡ Some peer
-  pub of_class : nearest_shape most_depth d p.class ≡ Some shape
+  pub of_class : nearest_shape d p.class ≡ Some shape
   pub shaped : (slice_get d.shapes shape ≡ Some methods) × (peer.state.shape ≡ methods.methods)
   pub is_open : peer.holder ≡ None → peer.state.is_open ≡ true
   pub left : p.is_prototype ≡ false → made ≤ place → peer.holder ≡ None
@@ -225,7 +225,7 @@ pub record BindingGood (d : Definition) (s : Standing) (agenda : List Task) (os 
   pub source : s b.source ≡ Some bind.source
   pub target : s b.target ≡ Some bind.target
   pub setting : total (unsets b.number) agenda ≡ cond b.busy 1 0
-  pub thawed : is_pair bind ≡ true → (o : Object) → (heap.find os b.source ≡ Some o) ⊎ (heap.find os b.target ≡ Some o) → o.freezes ≡ 0
+  pub thawed : is_pair bind ≡ true → (o : Object) → (heap.living os b.source ≡ Some o) ⊎ (heap.living os b.target ≡ Some o) → o.freezes ≡ 0
 
 -- a source: its data lives, and its program takes it and says whether the source stays
 pub record SourceGood (d : Definition) (s : Standing) (source : Source) : Type 0 where
@@ -281,7 +281,7 @@ transfer_depth d depths below back (Some b) =
     (entry depths.channels (target_of b))
 
 -- what a turn of an emission may cost; a handler that is gone costs nothing
-abbrev pub turn_cost : Definition → Tables → World → List Task → Turn → ℕ
+abbrev pub turn_cost : Definition → Tables → World → List Task → PlanEntry → ℕ
 turn_cost d costs w below (class_handler program cleanup) = of_program costs program
 turn_cost d costs w below (handler number) = of (handler_of number w.handlers)
   where
@@ -400,13 +400,13 @@ pub record EmissionFits (d : Definition) (s : Standing) (e : Emission) : Type 0 
 
 -- a turn: a class handler takes what it is given, a handler that stands is of the emission's object and signal, a transfer's binding
 -- listens to the property
-abbrev pub TurnGood : Definition → World → Emission → Turn → Type 0
+abbrev pub TurnGood : Definition → World → Emission → PlanEntry → Type 0
 TurnGood d w e (class_handler program cleanup) = Stands (standing w.objects) e.object (λ place. Takes d place e.signal program false None)
 TurnGood d w e (handler number) = (number ≤ w.last_handler) × ((h : Handler) → handler_of number w.handlers ≡ Some h → (h.object ≡ e.object) × (h.signal ≡ e.signal))
 TurnGood d w e (config.transfer number back) = (b : Binding) → binding_of number w.bindings ≡ Some b → (slot : ℕ) × (listens e.object slot b ≡ true)
 
 -- how deep a turn is: a program's frames, or those of what a transfer sets
-abbrev pub turn_depth : Definition → Tables → World → List Task → Turn → ℕ
+abbrev pub turn_depth : Definition → Tables → World → List Task → PlanEntry → ℕ
 turn_depth d depths w below (class_handler program cleanup) = of_program depths program
 turn_depth d depths w below (handler number) = of (handler_of number w.handlers)
   where
@@ -416,7 +416,7 @@ turn_depth d depths w below (handler number) = of (handler_of number w.handlers)
 turn_depth d depths w below (config.transfer number back) = transfer_depth d depths below back (slice_get d.bindings number)
 
 -- the rest of an emission; its program's result, if one comes down, is what the signal wants
-pub record EmittingGood (d : Definition) (costs depths : Tables) (w : World) (up : Down) (below : List Task) (e : Emission) (turns : List Turn) (steps frames : ℕ) : Type 0 where
+pub record EmittingGood (d : Definition) (costs depths : Tables) (w : World) (up : Down) (below : List Task) (e : Emission) (turns : List PlanEntry) (steps frames : ℕ) : Type 0 where
   pub fits : EmissionFits d (standing w.objects) e
   pub suits : Suits d fits.sig.result up
   pub turns_fit : Each (TurnGood d w e) turns
@@ -634,7 +634,7 @@ pub record QueueGood (d : Definition) (depths : Tables) (most : ℕ) (agenda : L
   pub deep : Each (λ slot. suc (below_lowest d id agenda) + entry depths.channels (property o.place slot) ≤ most) o.queue
 
 abbrev pub QueuesGood : Definition → Tables → ℕ → List Task → ℕ → Objects → Type 0
-QueuesGood d depths most agenda counted os = (id : ℕ) (o : Object) → heap.find os id ≡ Some o → QueueGood d depths most agenda counted id o
+QueuesGood d depths most agenda counted os = (id : ℕ) (o : Object) → heap.living os id ≡ Some o → QueueGood d depths most agenda counted id o
 
 -- what the queued notifications of an object may still cost; they carry their node
 abbrev pub carried : Definition → Tables → Option Object → ℕ
@@ -679,7 +679,7 @@ pub record Resting (d : Definition) (costs depths : Tables) (w : World) : Type 0
   pub peers : PeersGood d w (length w.builder)
   pub held : HeldGood (standing w.objects) w.builder
   pub floating : w.floating ≡ []
-  pub thawed : (id : ℕ) (o : Object) → heap.find w.objects id ≡ Some o → (o.freezes ≡ 0) × (o.queue ≡ [])
+  pub thawed : (id : ℕ) (o : Object) → heap.living w.objects id ≡ Some o → (o.freezes ≡ 0) × (o.queue ≡ [])
   pub few : live w.objects ≤ d.most_objects
 
 -- ** what is to be proved

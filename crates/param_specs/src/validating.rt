@@ -24,10 +24,10 @@ use ui_machine::ObjectId;
 #[tactic(auto, using(crate::proofs::Same::same_value_refl))]
 pub fn validate(tree: &TypeTree, spec: &Spec, value: Value) -> (Value, bool)
     requires { Takes tree.now spec.now value }
-    ensures value { (class_of : ℕ → Option ℕ) → KnowsClass class_of value
-        → value_view result.0 ≡ clamp class_of tree.now (spec_view spec.now) (value_view value) }
-    ensures changed { (class_of : ℕ → Option ℕ) → KnowsClass class_of value
-        → result.1 ≡ not (same_value (clamp class_of tree.now (spec_view spec.now) (value_view value)) (value_view value)) }
+    ensures value { (living_class : ℕ → Option ℕ) → KnowsClass living_class value
+        → value_view result.0 ≡ clamp living_class tree.now (spec_view spec.now) (value_view value) }
+    ensures changed { (living_class : ℕ → Option ℕ) → KnowsClass living_class value
+        → result.1 ≡ not (same_value (clamp living_class tree.now (spec_view spec.now) (value_view value)) (value_view value)) }
 {
     match corrected(tree, spec, &value) {
         Some(corrected) => (corrected, true),
@@ -99,8 +99,8 @@ fn lies_within(number: i128, low: i128, high: i128) -> bool
 // What takes the value's place, if it is not valid.
 fn corrected(tree: &TypeTree, spec: &Spec, value: &Value) -> Option<Value>
     requires { Takes tree.now spec.now value.now }
-    ensures { (class_of : ℕ → Option ℕ) → KnowsClass class_of value.now
-        → Corrects result (clamp class_of tree.now (spec_view spec.now) (value_view value.now)) (value_view value.now) }
+    ensures { (living_class : ℕ → Option ℕ) → KnowsClass living_class value.now
+        → Corrects result (clamp living_class tree.now (spec_view spec.now) (value_view value.now)) (value_view value.now) }
 {
     match value {
         Value::Bool(_) => None,
@@ -206,8 +206,8 @@ fn corrected_flags(tree: &TypeTree, t: TypeId, bits: u32) -> Option<Value>
 }
 
 fn corrected_object(tree: &TypeTree, spec: &Spec, t: TypeId, id: ObjectId) -> Option<Value>
-    ensures { (class_of : ℕ → Option ℕ) → class_of id.0 ≡ Some t
-        → Corrects result (clamp class_of tree.now (spec_view spec.now) (values.object (Some id.0))) (values.object (Some id.0)) }
+    ensures { (living_class : ℕ → Option ℕ) → living_class id.0 ≡ Some t
+        → Corrects result (clamp living_class tree.now (spec_view spec.now) (values.object (Some id.0))) (values.object (Some id.0)) }
 {
     match spec.kind {
         Kind::Object(u) => {
