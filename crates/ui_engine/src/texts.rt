@@ -106,7 +106,7 @@ fn unsigned_text(alloc: Global, number: u64) -> Result<String, AllocError>
     format!(in alloc; "{number}")
 }
 
-#[tactic(auto, using(crate::proofs::Strings::signed_text_is))]
+#[tactic(auto, using(ui_machine::proofs::Numerals::signed_numeral_decimal))]
 fn signed_text(alloc: Global, number: i64) -> Result<String, AllocError>
     ensures { IfOk result (λ text. string_bytes text ≡ signed_numeral number) }
 {
