@@ -18,7 +18,7 @@ use Rattle.law_typing.specs.Good.{Good}
 use Rattle.law_typing.specs.StepsKeepGood.{PeerReady, PoolReady}
 
 -- nothing lives yet
-nothing_lives : {A : Type 0} (id : ℕ) (o : Object) → heap.find [] id ≡ Some o → A
+nothing_lives : {A : Type 0} (id : ℕ) (o : Object) → heap.living [] id ≡ Some o → A
 nothing_lives zero o e = absurd (cc)
 nothing_lives (suc i) o e = absurd (cc)
 

@@ -7,7 +7,6 @@ use Rattle.ui_machine.specs.Seq.{read}
 use Rattle.ui_machine.specs.Properties.{Spec, is_readable}
 use Rattle.ui_machine.specs.Definition.{Definition, Signal, Instruction, Block, Program, Place}
 use Rattle.ui_machine.specs.Definition as words
-use Rattle.ui_machine.specs.Emissions.{most_depth}
 use Rattle.ui_machine.specs.Builds.{constructed_runs}
 use Rattle.ui_machine.specs.Lookups.{class_of, specs_of, place_at, place_of, slot_of}
 use Rattle.ui_machine.specs.Connections.{signal_number}
@@ -76,7 +75,7 @@ module _ (d : Definition) (place : ℕ) where
   numbered class e = listed_in (λ place. place) (length d.places) place (place_below d place class (place_at d place) refl e)
 
   constructed_in : (o : Option ℕ) → class_at d place ≡ o → is_filled (constructed_at d place) ≡ true → IsIn (constructed place) (channels d)
-  constructed_in None e r = absurd (let n = ap (λ o. is_filled (of_class (λ class. causes.programs_of (constructed_runs most_depth d class)) o)) e in cc)
+  constructed_in None e r = absurd (let n = ap (λ o. is_filled (of_class (λ class. causes.programs_of (constructed_runs d class)) o)) e in cc)
   constructed_in (Some class) e r =
       flat_in (channels_at d) (place_numbers d) place (constructed place) (numbered class e)
       (append_left (cond (is_filled (constructed_at d place)) (constructed place ∷ []) [])

@@ -48,7 +48,7 @@ no_peers d peers made e place p is = none p.peers (all_from_get (λ n (p : Place
 abbrev first_run_os : Objects
 first_run_os = case.at_notification.world.objects
 
-first_run_only : (id : ℕ) (x : Object) → heap.find first_run_os id ≡ Some x → (id ≡ 1) × (case.box (case.int 5 ∷ []) 0 [] ≡ x)
+first_run_only : (id : ℕ) (x : Object) → heap.living first_run_os id ≡ Some x → (id ≡ 1) × (case.box (case.int 5 ∷ []) 0 [] ≡ x)
 first_run_only zero x e = absurd (cc)
 first_run_only (suc zero) x e = (refl, (cc))
 first_run_only (suc (suc n)) x e = absurd (cc)
@@ -105,7 +105,7 @@ first_run_good = record {
 abbrev freezes_os : Objects
 freezes_os = case.at_freeze.world.objects
 
-freezes_only : (id : ℕ) (x : Object) → heap.find freezes_os id ≡ Some x → (id ≡ 1) × (case.box (case.int 1 ∷ case.int 0 ∷ []) 1 (0 ∷ []) ≡ x)
+freezes_only : (id : ℕ) (x : Object) → heap.living freezes_os id ≡ Some x → (id ≡ 1) × (case.box (case.int 1 ∷ case.int 0 ∷ []) 1 (0 ∷ []) ≡ x)
 freezes_only zero x e = absurd (cc)
 freezes_only (suc zero) x e = (refl, (cc))
 freezes_only (suc (suc n)) x e = absurd (cc)

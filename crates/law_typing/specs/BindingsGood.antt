@@ -26,7 +26,7 @@ pub record BindingGood (d : Definition) (s : Standing) (agenda : List Task) (os 
   pub source : s b.source ≡ Some bind.source
   pub target : s b.target ≡ Some bind.target
   pub setting : total (unsets b.number) agenda ≡ cond b.busy 1 0
-  pub thawed : is_pair bind ≡ true → (o : Object) → (heap.find os b.source ≡ Some o) ⊎ (heap.find os b.target ≡ Some o) → o.freezes ≡ 0
+  pub thawed : is_pair bind ≡ true → (o : Object) → (heap.living os b.source ≡ Some o) ⊎ (heap.living os b.target ≡ Some o) → o.freezes ≡ 0
 
 -- 1 where an item makes a binding
 abbrev pub is_binding : Item → ℕ

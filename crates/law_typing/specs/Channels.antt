@@ -5,7 +5,6 @@ use Rattle.std.specs.List.{flat_map, filter}
 use Rattle.ui_machine.specs.Properties.{Spec, has_flags, is_readable}
 use Rattle.ui_machine.specs.Definition.{Definition, Signal, Bind}
 use Rattle.ui_machine.specs.Lookups.{class_of, specs_of, spec_of}
-use Rattle.ui_machine.specs.Emissions.{most_depth}
 use Rattle.ui_machine.specs.Config.{Making, sets, runs, thaws}
 use Rattle.ui_machine.specs.Builds.{constructed_runs}
 use Rattle.law_typing.specs.RegisterKinds.{class_at, place_numbers}
@@ -55,7 +54,7 @@ of_class f (Some class) = f class
 
 -- the `constructed` programs of a place's class, from the root on
 abbrev pub constructed_at : Definition → ℕ → List ℕ
-constructed_at d place = of_class (λ class. programs_of (constructed_runs most_depth d class)) (class_at d place)
+constructed_at d place = of_class (λ class. programs_of (constructed_runs d class)) (class_at d place)
 
 -- whether something is there and readable
 abbrev pub is_readable_one : Option Spec → Bool

@@ -49,7 +49,7 @@ pub record QueueGood (d : Definition) (depths : Tables) (most : ℕ) (agenda : L
   pub deep : Each (λ slot. suc (below_lowest d id agenda) + entry depths.channels (property o.place slot) ≤ most) o.queue
 
 abbrev pub QueuesGood : Definition → Tables → ℕ → List Task → ℕ → Objects → Type 0
-QueuesGood d depths most agenda counted os = (id : ℕ) (o : Object) → heap.find os id ≡ Some o → QueueGood d depths most agenda counted id o
+QueuesGood d depths most agenda counted os = (id : ℕ) (o : Object) → heap.living os id ≡ Some o → QueueGood d depths most agenda counted id o
 
 -- what the queued notifications of an object may still cost
 abbrev pub carried : Definition → Tables → Option Object → ℕ
@@ -71,7 +71,7 @@ is_carrying_over task = 0
 
 pub record PairsGood (d : Definition) (agenda : List Task) (os : Objects) (bs : List Binding) : Type 0 where
   -- an object with a paired property is frozen only while the builder makes it
-  pub frozen : (id : ℕ) (o : Object) → heap.find os id ≡ Some o → has_pair d o.place ≡ true → 0 < o.freezes →
+  pub frozen : (id : ℕ) (o : Object) → heap.living os id ≡ Some o → has_pair d o.place ≡ true → 0 < o.freezes →
       0 < total (constructs_held id) agenda
   -- while the builder makes one there is no binding, and no transfer is under way
   pub before : 0 < total is_for_builder agenda → (bs ≡ []) × (total is_carrying_over agenda ≡ 0)

@@ -64,6 +64,6 @@ pub record Resting (d : Definition) (costs depths : Tables) (w : World) : Type 0
   pub held : HeldGood (standing w.objects) w.builder
   -- nothing floats, is frozen or waits in a queue
   pub floating : w.floating ≡ []
-  pub thawed : (id : ℕ) (o : Object) → heap.find w.objects id ≡ Some o → (o.freezes ≡ 0) × (o.queue ≡ [])
+  pub thawed : (id : ℕ) (o : Object) → heap.living w.objects id ≡ Some o → (o.freezes ≡ 0) × (o.queue ≡ [])
   -- no more live than may
   pub few : live w.objects ≤ d.most_objects

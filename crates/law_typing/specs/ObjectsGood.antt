@@ -38,7 +38,7 @@ PeerGood d peers id o = by (nearest_shape most_depth d o.class)
 -- the parent of an object lives, and has it among its children
 abbrev pub FamilyGood : Objects → ℕ → Option ℕ → Type 0
 FamilyGood os id None = ⊤
-FamilyGood os id (Some above) = (p : Object) × (heap.find os above ≡ Some p) × IsIn id p.children
+FamilyGood os id (Some above) = (p : Object) × (heap.living os above ≡ Some p) × IsIn id p.children
 
 pub record ObjectGood (d : Definition) (w : World) (s : Standing) (id : ℕ) (o : Object) : Type 0 where
   -- it is of its place's class
@@ -57,7 +57,7 @@ pub record ObjectGood (d : Definition) (w : World) (s : Standing) (id : ℕ) (o 
 
 -- each living object is as it should be
 abbrev pub ObjectsGood : Definition → World → Type 0
-ObjectsGood d w = (id : ℕ) (o : Object) → heap.find w.objects id ≡ Some o → ObjectGood d w (standing w.objects) id o
+ObjectsGood d w = (id : ℕ) (o : Object) → heap.living w.objects id ≡ Some o → ObjectGood d w (standing w.objects) id o
 
 -- ** peers
 

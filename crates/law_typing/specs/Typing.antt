@@ -11,7 +11,7 @@ use Rattle.ui_machine.specs.Properties.{Spec, is_readable, is_writable, is_const
 use Rattle.ui_machine.specs.Definition.{Definition, Signal, Method, Shape, Instruction, Block, Program, Place, Bind}
 use Rattle.ui_machine.specs.Definition as words
 use Rattle.ui_machine.specs.Lookups.{slot_of, spec_of, program_at, program_of, place_at, place_of}
-use Rattle.ui_machine.specs.Emissions.{signal_of, most_depth}
+use Rattle.ui_machine.specs.Emissions.{signal_of}
 use Rattle.ui_machine.specs.Connections.{signal_number}
 use Rattle.ui_machine.specs.Calls.{nearest_shape}
 use Rattle.ui_machine.specs.Instructions.{is_convertible}
@@ -302,7 +302,7 @@ methods_of (Some s) = s.methods
 -- the methods that objects of a class are called with
 unfoldable pub methods_for : Definition → ℕ → Typing (List Method)
 methods_for d class = do
-  shape ← known rules.unknown (nearest_shape most_depth d class)
+  shape ← known rules.unknown (nearest_shape d class)
   Ok (methods_of (slice_get d.shapes shape))
 
 -- the method of a name among these

@@ -74,9 +74,9 @@ limited_between bottom low high top n p q r = by_low (int_lt n low) refl
 
 -- ** once
 
-module _ (class_of : ℕ → Option ℕ) (types : List GType) (s : Spec) where
+module _ (living_class : ℕ → Option ℕ) (types : List GType) (s : Spec) where
   -- a default that is a member stays
-  default_stays : (u : ℕ) (v : Value) → s.default ≡ v → kind_fits (λ id. None) types v (kinds.enum u) ≡ true → clamp class_of types s v ≡ v
+  default_stays : (u : ℕ) (v : Value) → s.default ≡ v → kind_fits (λ id. None) types v (kinds.enum u) ≡ true → clamp living_class types s v ≡ v
   default_stays u (values.bool b) e f = absurd (cc)
   default_stays u (values.whole k n) e f = absurd (cc)
   default_stays u (values.text t) e f = absurd (cc)
@@ -85,17 +85,17 @@ module _ (class_of : ℕ → Option ℕ) (types : List GType) (s : Spec) where
   default_stays u (values.object None) e f = absurd (cc)
   default_stays u (values.object (Some i)) e f = absurd (cc)
 
-  enum_once : (t n-kind : ℕ) (n : ℤ) (is : Bool) → has_number (members_of types t) n ≡ is → clamp class_of types s s.default ≡ s.default →
-      clamp class_of types s (cond is (values.enum t n) s.default) ≡ cond is (values.enum t n) s.default
+  enum_once : (t n-kind : ℕ) (n : ℤ) (is : Bool) → has_number (members_of types t) n ≡ is → clamp living_class types s s.default ≡ s.default →
+      clamp living_class types s (cond is (values.enum t n) s.default) ≡ cond is (values.enum t n) s.default
   enum_once t u n true e f = ap (λ b. cond b (values.enum t n) s.default) e
   enum_once t u n false e f = f
 
-  object_once : (o : Option ℕ) (is : Bool) → kind_fits class_of types (values.object o) s.kind ≡ is →
-      clamp class_of types s (cond is (values.object o) (values.object None)) ≡ cond is (values.object o) (values.object None)
+  object_once : (o : Option ℕ) (is : Bool) → kind_fits living_class types (values.object o) s.kind ≡ is →
+      clamp living_class types s (cond is (values.object o) (values.object None)) ≡ cond is (values.object o) (values.object None)
   object_once o true e = ap (λ b. cond b (values.object o) (values.object None)) e
-  object_once o false e = either_way (kind_fits class_of types (values.object None) s.kind) (values.object None)
+  object_once o false e = either_way (kind_fits living_class types (values.object None) s.kind) (values.object None)
 
-  once_at : (kind : Kind) (v : Value) → s.kind ≡ kind → IsSound types s kind → has_kind v kind ≡ true → clamp class_of types s (clamp class_of types s v) ≡ clamp class_of types s v
+  once_at : (kind : Kind) (v : Value) → s.kind ≡ kind → IsSound types s kind → has_kind v kind ≡ true → clamp living_class types s (clamp living_class types s v) ≡ clamp living_class types s v
   once_at kind (values.bool b) k h f = refl
   once_at kinds.bool (values.whole l n) k h f = absurd (cc)
   once_at (kinds.whole m) (values.whole l n) k h f = ap (values.whole l) (limited_once s.low s.high n h.0)
@@ -113,10 +113,10 @@ module _ (class_of : ℕ → Option ℕ) (types : List GType) (s : Spec) where
   once_at kind (values.flags t bits) k h f =
       let known = known_bits (members_of types t) in
       ap (values.flags t) (and_assoc known bits known ∙ ap (bit_and bits) (and_self known))
-  once_at kind (values.object o) k h f = object_once o (kind_fits class_of types (values.object o) s.kind) refl
+  once_at kind (values.object o) k h f = object_once o (kind_fits living_class types (values.object o) s.kind) refl
 
 pub clamps_once : ClampsOnce
-clamps_once class_of types s v h f = once_at class_of types s s.kind v refl h f
+clamps_once living_class types s v h f = once_at living_class types s s.kind v refl h f
 
 -- ** valid
 
@@ -156,14 +156,14 @@ same_value_itself (values.object o) = same_object_itself o
 less_bits : (bits known : ℕ) → bits < 2 ^ 32 → nat_lt (bit_and bits known) (2 ^ 32) ≡ true
 less_bits bits known h = let l = and_le_l bits known in lt-ltb (bit_and bits known) (2 ^ 32) (omega (arith, l, h))
 
-module _ (class_of : ℕ → Option ℕ) (types : List GType) (s : Spec) where
+module _ (living_class : ℕ → Option ℕ) (types : List GType) (s : Spec) where
   member_fits : (u t : ℕ) (n : ℤ) (is : Bool) → t ≡ u → has_number (members_of types t) n ≡ is → kind_fits (λ id. None) types s.default (kinds.enum u) ≡ true →
-      kind_fits class_of types (cond is (values.enum t n) s.default) (kinds.enum u) ≡ true
+      kind_fits living_class types (cond is (values.enum t n) s.default) (kinds.enum u) ≡ true
   member_fits u t n true e f h =
       both_true (nat_eq t u) (has_number (members_of types u) n) (eq-eqb t u e) (subst (λ x. has_number (members_of types x) n ≡ true) e f)
   member_fits u t n false e f h = default_fits s.default h
     where
-      default_fits : (v : Value) → kind_fits (λ id. None) types v (kinds.enum u) ≡ true → kind_fits class_of types v (kinds.enum u) ≡ true
+      default_fits : (v : Value) → kind_fits (λ id. None) types v (kinds.enum u) ≡ true → kind_fits living_class types v (kinds.enum u) ≡ true
       default_fits (values.bool b) g = absurd (cc)
       default_fits (values.whole k n) g = absurd (cc)
       default_fits (values.text t) g = absurd (cc)
@@ -172,12 +172,12 @@ module _ (class_of : ℕ → Option ℕ) (types : List GType) (s : Spec) where
       default_fits (values.object None) g = absurd (cc)
       default_fits (values.object (Some i)) g = absurd (cc)
 
-  object_fits : (t : ℕ) (o : Option ℕ) (is : Bool) → kind_fits class_of types (values.object o) (kinds.object t) ≡ is →
-      kind_fits class_of types (cond is (values.object o) (values.object None)) (kinds.object t) ≡ true
+  object_fits : (t : ℕ) (o : Option ℕ) (is : Bool) → kind_fits living_class types (values.object o) (kinds.object t) ≡ is →
+      kind_fits living_class types (cond is (values.object o) (values.object None)) (kinds.object t) ≡ true
   object_fits t o true e = e
   object_fits t o false e = refl
 
-  fits_at : (kind : Kind) (v : Value) → s.kind ≡ kind → IsSound types s kind → has_kind v kind ≡ true → HasFewBits v → kind_fits class_of types (clamp class_of types s v) kind ≡ true
+  fits_at : (kind : Kind) (v : Value) → s.kind ≡ kind → IsSound types s kind → has_kind v kind ≡ true → HasFewBits v → kind_fits living_class types (clamp living_class types s v) kind ≡ true
   fits_at kinds.bool (values.bool b) k h f l = refl
   fits_at kinds.bool (values.whole m n) k h f l = absurd (cc)
   fits_at kinds.bool (values.text t) k h f l = absurd (cc)
@@ -216,11 +216,11 @@ module _ (class_of : ℕ → Option ℕ) (types : List GType) (s : Spec) where
   fits_at (kinds.object t) (values.enum u n) k h f l = absurd (cc)
   fits_at (kinds.object t) (values.flags u bits) k h f l = absurd (cc)
   fits_at (kinds.object t) (values.object o) k h f l =
-      subst (λ (x : Kind). kind_fits class_of types (cond (kind_fits class_of types (values.object o) x) (values.object o) (values.object None)) (kinds.object t) ≡ true) (sym k)
-      (object_fits t o (kind_fits class_of types (values.object o) (kinds.object t)) refl)
+      subst (λ (x : Kind). kind_fits living_class types (cond (kind_fits living_class types (values.object o) x) (values.object o) (values.object None)) (kinds.object t) ≡ true) (sym k)
+      (object_fits t o (kind_fits living_class types (values.object o) (kinds.object t)) refl)
 
 pub clamps_to_valid : ClampsToValid
-clamps_to_valid class_of types s v h f l =
-    both_true (kind_fits class_of types (clamp class_of types s v) s.kind) (same_value (clamp class_of types s (clamp class_of types s v)) (clamp class_of types s v))
-    (fits_at class_of types s s.kind v refl h f l)
-    (ap (λ w. same_value w (clamp class_of types s v)) (clamps_once class_of types s v h f) ∙ same_value_itself (clamp class_of types s v))
+clamps_to_valid living_class types s v h f l =
+    both_true (kind_fits living_class types (clamp living_class types s v) s.kind) (same_value (clamp living_class types s (clamp living_class types s v)) (clamp living_class types s v))
+    (fits_at living_class types s s.kind v refl h f l)
+    (ap (λ w. same_value w (clamp living_class types s v)) (clamps_once living_class types s v h f) ∙ same_value_itself (clamp living_class types s v))

@@ -16,16 +16,16 @@ use Rattle.ui_machine.specs.Seq.{write}
 use Rattle.ui_machine.specs.Transform.{zero_value}
 use Rattle.ui_machine.specs.Text.{text_of_line}
 use Rattle.ui_machine.specs.Config as config
-use Rattle.ui_machine.specs.Config.{Object, Objects, Peer, World, Config, Setting, Notifying, Beginning, Emitting, Transferring, Unsetting, Thawing, Running, Answering, Calling, Constructing, Building, Carrying, Due, Task, Emission, Turn, class_handler, handler, Binding, Handler, Frame, Call, Reply, Question, Held, Making, sets, runs, thaws, Item, makes, adopts, forwards, binds, connects, Request}
+use Rattle.ui_machine.specs.Config.{Object, Objects, Peer, World, Config, Setting, Notifying, Beginning, Emitting, Transferring, Unsetting, Thawing, Running, Answering, Calling, Constructing, Building, Carrying, Due, Task, Emission, PlanEntry, class_handler, handler, Binding, Handler, Frame, Call, Reply, Question, Held, Making, sets, runs, thaws, Item, makes, adopts, forwards, binds, connects, Request}
 use Rattle.ui_machine.specs.Answers.{Answer, ◌>>=◌, only_if}
-use Rattle.ui_machine.specs.Objects.{find, next_unheld}
+use Rattle.ui_machine.specs.Objects.{living, next_unheld}
 use Rattle.ui_machine.specs.Mentions.{mentions}
 use Rattle.ui_machine.specs.Worlds.{Started, said, with_objects, with_held, sunk}
 use Rattle.ui_machine.specs.Sets.{raising, written, setting}
 use Rattle.ui_machine.specs.Emissions.{notifying, beginning_emission}
 use Rattle.ui_machine.specs.Programs.{beginning_program, program_before}
-use Rattle.ui_machine.specs.Transfers.{binding_of, set_by, carried, carried_by, transferring}
-use Rattle.ui_machine.specs.Turns.{or_zero, handler_of, turn_of, taking, collecting, resulting}
+use Rattle.ui_machine.specs.Transfers.{End, source_end, target_end, binding_of, set_by, carried, carried_by, transferring}
+use Rattle.ui_machine.specs.Turns.{or_zero, handler_of, running_handler, taking_entry, collecting, resulting}
 use Rattle.ui_machine.specs.Families.{updated, with_parent, with_child, with_family, adopted, orphaned}
 use Rattle.ui_machine.specs.Disposal.{no_peer, closed_peer, closed_if_open, closing, said_if, is_first, peer_of, without_object, disposed, finalised}
 use Rattle.ui_machine.specs.Registers.{tells, operand_in, data_in, written_to}
@@ -33,7 +33,7 @@ use Rattle.ui_machine.specs.Results.{Left, kept_source, untaken, told, down_to_e
 use Rattle.ui_machine.specs.Calls.{with_peer_state, call_line, replied, with_method, left_with, called, uncalled, calling_on}
 use Rattle.ui_machine.specs.Connections.{detail_in, is_too_late, has_room_for_handler, with_handler, connected, disconnected, blocked, unblocked, with_handlers_on, Connection}
 use Rattle.ui_machine.specs.Builds.{given_value, with_object, making, making_set, constructed, thawing_made, held_data, building_child, set_forward, building_forward, building_binding, building_handler, with_signal}
-use Rattle.ui_machine.specs.Instructions.{disposed_once, most_bytes, gives_from, within_bytes, with_source, attached_to, moving, reckoning, comparing, sameness, negating, conjunction, disjunction, joining, converting, slot_at, getting, set_from, assigning, then_goes_on, telling, naming, made_new, creating, sinking, orphaning, disposing, adopting, freezing, unfreezing, signal_in, signal_to_emit, emitting, connecting, on_handlers, attaching, removing, calling, jumping, branching, branching_null, constant, clearing, disconnecting, blocking, unblocking, unbinding, Connect, Attach}
+use Rattle.ui_machine.specs.Instructions.{Emit, disposed_once, most_bytes, gives_from, within_bytes, with_source, attached_to, moving, reckoning, comparing, sameness, negating, conjunction, disjunction, joining, converting, slot_at, getting, set_from, assigning, then_goes_on, telling, naming, made_new, creating, sinking, orphaning, disposing, adopting, freezing, unfreezing, signal_in, signal_to_emit, emitting, connecting, on_handlers, attaching, removing, calling, jumping, branching, branching_null, constant, clearing, disconnecting, blocking, unblocking, unbinding, Connect, Attach}
 use Rattle.ui_machine.specs.Running.{returned, returning, in_front, instructed, running}
 use Rattle.ui_machine.specs.Steps.{with_result, most_steps, uncounted, counted, counted_left, thawing, constructing, building_object, building, set_given, carrying_set, carrying_get, given_values, carrying_emit, carrying_release, carrying, sourcing, left, settling, act, finalising, first_of, asked_first, asked_after}
 use Rattle.machine_laws.specs.FrontLaws.{fronted, fronted_at, mapped, StepAppends, QuestionStays}
@@ -102,16 +102,16 @@ module _ (front : List (List ℕ)) (d : Definition) where
   unfolding program_before
   runs_before w number args tasks = simp (program_before, parts, mapped_before, begins_program)
 
-  turns : (w : World) (e : Emission) (ts : List Turn) (h : Option Handler) → turn_of d (fronted front w) e ts h ≡ mapped started (turn_of d w e ts h)
+  turns : (w : World) (e : Emission) (ts : List PlanEntry) (h : Option Handler) → running_handler d (fronted front w) e ts h ≡ mapped started (running_handler d w e ts h)
   turns w e ts None = refl
   turns w e ts (Some h) = simp (parts, runs_before)
 
-  takes : (w : World) (e : Emission) (ts : List Turn) (t : Turn) → taking d (fronted front w) e ts t ≡ mapped started (taking d w e ts t)
+  takes : (w : World) (e : Emission) (ts : List PlanEntry) (t : PlanEntry) → taking_entry d (fronted front w) e ts t ≡ mapped started (taking_entry d w e ts t)
   takes w e ts (class_handler program cleanup) = simp (parts, runs_before)
   takes w e ts (handler number) = turns w e ts (handler_of number w.handlers)
   takes w e ts (config.transfer number back) = refl
 
-  collects : (w : World) (e : Emission) (ts : List Turn) (given : Option Value) → collecting d (fronted front w) e ts given ≡ collecting d w e ts given
+  collects : (w : World) (e : Emission) (ts : List PlanEntry) (given : Option Value) → collecting d (fronted front w) e ts given ≡ collecting d w e ts given
   unfolding collecting
   collects w e ts given = refl
 
@@ -121,18 +121,18 @@ module _ (front : List (List ℕ)) (d : Definition) where
 
   -- ** transfers, families, disposal
 
-  sets_by : (w : World) (number target slot : ℕ) (v : Option Value) → set_by (fronted front w) number target slot v ≡ mapped started (set_by w number target slot v)
-  sets_by w number target slot None = refl
-  sets_by w number target slot (Some v) = refl
+  sets_by : (w : World) (number : ℕ) (end : End) (v : Option Value) → set_by (fronted front w) number end v ≡ mapped started (set_by w number end v)
+  sets_by w number end None = refl
+  sets_by w number end (Some v) = refl
 
-  carries : (w : World) (b : Binding) (source source_slot target target_slot : ℕ) → carried d (fronted front w) b source source_slot target target_slot ≡ mapped started (carried d w b source source_slot target target_slot)
+  carries : (w : World) (b : Binding) (source target : End) → carried d (fronted front w) b source target ≡ mapped started (carried d w b source target)
   unfolding carried
-  carries w b source source_slot target target_slot = simp (carried, parts, sets_by)
+  carries w b source target = simp (carried, parts, sets_by)
 
   carries_by : (w : World) (back : Bool) (b : Option Binding) → carried_by d (fronted front w) back b ≡ mapped started (carried_by d w back b)
   carries_by w back None = refl
-  carries_by w false (Some b) = carries w b b.source b.source_slot b.target b.target_slot
-  carries_by w true (Some b) = carries w b b.target b.target_slot b.source b.source_slot
+  carries_by w false (Some b) = carries w b (source_end b) (target_end b)
+  carries_by w true (Some b) = carries w b (target_end b) (source_end b)
 
   adopts_if_room : (w : World) (parent child : ℕ) (refused : Bool) →
       ◌≡◌ {A = World × Bool} (cond refused (said d (fronted front w) (lines.limit (codes "adopt")), false) (with_family d (fronted front w) parent child, true))
@@ -167,8 +167,8 @@ module _ (front : List (List ℕ)) (d : Definition) where
 
   disposes : (w : World) (id : ℕ) → disposed d (fronted front w) id ≡ mapped (fronted front) (disposed d w id)
   disposes w id =
-      ap (closing d (peer_of (find w.objects id))) (says_if (without_object d w id) (is_first (find w.objects id)) (lines.dispose id))
-      ∙ closes (said_if d (is_first (find w.objects id)) (without_object d w id) (lines.dispose id)) (peer_of (find w.objects id))
+      ap (closing d (peer_of (living w.objects id))) (says_if (without_object d w id) (is_first (living w.objects id)) (lines.dispose id))
+      ∙ closes (said_if d (is_first (living w.objects id)) (without_object d w id) (lines.dispose id)) (peer_of (living w.objects id))
 
   finalises : (w : World) (id : ℕ) → finalised d (fronted front w) id ≡ mapped (fronted front) (finalised d w id)
   unfolding finalised
@@ -321,9 +321,9 @@ module _ (front : List (List ℕ)) (d : Definition) where
   unfolding detail_in
   finds_detail w id number detail = refl
 
-  emits : (w : World) (f : Frame) (into : Option ℕ) (object : ℕ) (name : List ℕ) (detail : Option (List ℕ)) (args : List ℕ) → emitting d (fronted front w) f into object name detail args ≡ mapped started (emitting d w f into object name detail args)
+  emits : (w : World) (f : Frame) (object : ℕ) (e : Emit) → emitting d (fronted front w) f object e ≡ mapped started (emitting d w f object e)
   unfolding emitting
-  emits w f into object name detail args = simp (emitting, parts, writes_register, reads_operand, reads_data, finds_emitted, finds_detail)
+  emits w f object e = simp (emitting, parts, writes_register, reads_operand, reads_data, finds_emitted, finds_detail)
 
   tells_done : (w v : World) (to : ℕ) (f : Frame) (b : Bool) (line : Line) →
       tells (cond b (fronted front v, true) (said d (fronted front w) line, false)) to f ≡ mapped started (tells (cond b (v, true) (said d w line, false)) to f)
@@ -389,7 +389,7 @@ module _ (front : List (List ℕ)) (d : Definition) where
 
   -- ** what comes down
 
-  gives_emission : (w : World) (e : Emission) (ts : List Turn) (rest : List Task) (given : Option Value) → down_to_emission d (fronted front w) e ts rest given ≡ mapped remaining (down_to_emission d w e ts rest given)
+  gives_emission : (w : World) (e : Emission) (ts : List PlanEntry) (rest : List Task) (given : Option Value) → down_to_emission d (fronted front w) e ts rest given ≡ mapped remaining (down_to_emission d w e ts rest given)
   unfolding down_to_emission
   gives_emission w e ts rest given = simp (down_to_emission, parts, collects)
 
@@ -474,7 +474,7 @@ module _ (front : List (List ℕ)) (d : Definition) where
   instructs_all w rest f (words.adopt to parent child) = begins w rest (adopting d (fronted front w) f to parent child) (adopting d w f to parent child) (adopts_of w f to parent child)
   instructs_all w rest f (words.freeze object) = begins w rest (freezing (fronted front w) f object) (freezing w f object) (freezes w f object)
   instructs_all w rest f (words.thaw object) = begins w rest (unfreezing (fronted front w) f object) (unfreezing w f object) (unfreezes w f object)
-  instructs_all w rest f (words.emit into object name detail args) = begins w rest (emitting d (fronted front w) f into object name detail args) (emitting d w f into object name detail args) (emits w f into object name detail args)
+  instructs_all w rest f (words.emit into object name detail args) = begins w rest (emitting d (fronted front w) f object (record { into = into; signal = name; detail = detail; args = args })) (emitting d w f object (record { into = into; signal = name; detail = detail; args = args })) (emits w f object (record { into = into; signal = name; detail = detail; args = args }))
   instructs_all w rest f (words.notify object name) = begins w rest (telling d (fronted front w) f object name) (telling d w f object name) (tells_of w f object name)
   instructs_all w rest f (words.connect to object signal detail program after swapped with) = begins w rest (connecting d (fronted front w) rest f to object (record { signal = signal; detail = detail; program = program; after = after; swapped = swapped; with = with })) (connecting d w rest f to object (record { signal = signal; detail = detail; program = program; after = after; swapped = swapped; with = with })) (connects_of w rest f to object (record { signal = signal; detail = detail; program = program; after = after; swapped = swapped; with = with }))
   instructs_all w rest f (words.disconnect object program) = begins w rest (disconnecting d (fronted front w) f object program) (disconnecting d w f object program) (disconnects w f object program)
@@ -681,7 +681,7 @@ module _ (front : List (List ℕ)) (d : Definition) where
   acts w reply (Notifying id slot ∷ rest) n = is_counted rest n (notifying d (fronted front w) id slot) (notifying d w id slot) (notifies w id slot)
   acts w reply (Beginning e ∷ rest) n = is_counted rest n (beginning_emission d (fronted front w) e) (beginning_emission d w e) (begins_emission w e)
   acts w reply (Emitting e [] ∷ rest) n = leaves_agenda n (ending d (fronted front w) e rest) (ending d w e rest) (ends_emission w e rest)
-  acts w reply (Emitting e (t ∷ ts) ∷ rest) n = not_counted rest n (taking d (fronted front w) e ts t) (taking d w e ts t) (takes w e ts t)
+  acts w reply (Emitting e (t ∷ ts) ∷ rest) n = not_counted rest n (taking_entry d (fronted front w) e ts t) (taking_entry d w e ts t) (takes w e ts t)
   acts w reply (Transferring number back ∷ rest) n = is_counted rest n (transferring d (fronted front w) number back) (transferring d w number back) (carries_by w back (binding_of number w.bindings))
   acts w reply (Unsetting number ∷ rest) n = refl
   acts w reply (Thawing id slots ∷ rest) n = not_counted rest n (thawing (fronted front w) id slots) (thawing w id slots) (thaws_rest w id slots)

@@ -6,7 +6,7 @@ use Rattle.ui_machine.specs.Ancestry.{is_a}
 use Rattle.ui_machine.specs.Transform.{is_one}
 use Rattle.ui_machine.specs.Seq.{read, write}
 use Rattle.ui_machine.specs.Config.{Object, Objects, Task}
-use Rattle.ui_machine.specs.Objects.{find, put}
+use Rattle.ui_machine.specs.Objects.{living, put}
 use Rattle.ui_machine.specs.Steps.{settling, act, first_of}
 use Rattle.machine_laws.specs.StepLaws.{HeldAtRest, EndsStay, FittingLives, FinalisedFitsNothing}
 
@@ -25,7 +25,7 @@ fitting types t None e = absurd (cc)
 fitting types t (Some x) e = (x, refl, e)
 
 pub fitting_lives : FittingLives
-fitting_lives os types id t e = fitting types t (find os id) e
+fitting_lives os types id t e = fitting types t (living os id) e
 
 -- what was taken out is not there
 taken_out : (os : Objects) (i : ℕ) → read None (write None os i None) i ≡ None
@@ -34,7 +34,7 @@ taken_out [] (suc i) = taken_out [] i
 taken_out (o ∷ os) zero = refl
 taken_out (o ∷ os) (suc i) = taken_out os i
 
-finalised : (os : Objects) (id : ℕ) → find (put os id None) id ≡ None
+finalised : (os : Objects) (id : ℕ) → living (put os id None) id ≡ None
 finalised os zero = refl
 finalised os (suc i) = taken_out os i
 

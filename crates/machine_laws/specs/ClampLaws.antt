@@ -27,12 +27,12 @@ HasFewBits _ = Unit {0}
 -- a validated value is valid
 abbrev pub ClampsToValid : Type 0
 ClampsToValid =
-    (class_of : ℕ → Option ℕ) (types : List GType) (s : Spec) (v : Value) →
+    (living_class : ℕ → Option ℕ) (types : List GType) (s : Spec) (v : Value) →
     IsSound types s s.kind → has_kind v s.kind ≡ true → HasFewBits v →
-    is_valid class_of types s (clamp class_of types s v) ≡ true
+    is_valid living_class types s (clamp living_class types s v) ≡ true
 
 -- and validation leaves it as it is
 abbrev pub ClampsOnce : Type 0
 ClampsOnce =
-    (class_of : ℕ → Option ℕ) (types : List GType) (s : Spec) (v : Value) → IsSound types s s.kind → has_kind v s.kind ≡ true →
-    clamp class_of types s (clamp class_of types s v) ≡ clamp class_of types s v
+    (living_class : ℕ → Option ℕ) (types : List GType) (s : Spec) (v : Value) → IsSound types s s.kind → has_kind v s.kind ≡ true →
+    clamp living_class types s (clamp living_class types s v) ≡ clamp living_class types s v

@@ -3,30 +3,30 @@ use Rattle.std.specs.Prelude.{◌≡◌, ◌⊎◌, ℕ, ◌≤◌, Bool, true, 
 use Rattle.ui_machine.specs.Seq.{total}
 use Rattle.ui_machine.specs.Mentions.{same}
 use Rattle.ui_machine.specs.Definition.{Definition, Signal}
-use Rattle.ui_machine.specs.Config.{Handler, Turn, class_handler, handler, World}
+use Rattle.ui_machine.specs.Config.{Handler, PlanEntry, class_handler, handler, World}
 use Rattle.ui_machine.specs.Config as config
 use Rattle.ui_machine.specs.Emissions.{handlers_for, Planned, plan, notify_plan}
 
--- 1 where a turn is the handler's
-abbrev pub is_turn_of : ℕ → Turn → ℕ
-is_turn_of number (class_handler program cleanup) = 0
-is_turn_of number (handler n) = same number n
-is_turn_of number (config.transfer n back) = 0
+-- 1 where an entry is the handler's
+abbrev pub is_entry_of : ℕ → PlanEntry → ℕ
+is_entry_of number (class_handler program cleanup) = 0
+is_entry_of number (handler n) = same number n
+is_entry_of number (config.transfer n back) = 0
 
--- how often a handler has a turn
-abbrev pub turns_of : ℕ → List Turn → ℕ
-turns_of number turns = total (is_turn_of number) turns
+-- how often a handler has an entry
+abbrev pub entries_of : ℕ → List PlanEntry → ℕ
+entries_of number entries = total (is_entry_of number) entries
 
 -- how often a handler stands
 abbrev pub stands : ℕ → List Handler → ℕ
 stands number hs = total (λ (h : Handler). same number h.number) hs
 
--- a handler that stands once has one turn at most, and one that does not stand has none
+-- a handler that stands once has one entry at most, and one that does not stand has none
 abbrev pub HandlersRunOnce : Type 0
 HandlersRunOnce =
-    ((w : World) (p : Planned) (number : ℕ) → p.transfers ≡ [] → turns_of number (plan w p) ≤ stands number w.handlers)
+    ((w : World) (p : Planned) (number : ℕ) → p.transfers ≡ [] → entries_of number (plan w p) ≤ stands number w.handlers)
     × ((d : Definition) (w : World) (s : Signal) (class id slot : ℕ) (name : List ℕ) (number : ℕ) →
-    turns_of number (notify_plan d w s class id slot name) ≤ stands number w.handlers)
+    entries_of number (notify_plan d w s class id slot name) ≤ stands number w.handlers)
 
 -- a list that is another with some left out
 abbrev pub IsPart : List ℕ → List ℕ → Type 0
@@ -34,14 +34,14 @@ IsPart xs [] = xs ≡ []
 IsPart [] (y ∷ ys) = Unit {0}
 IsPart (x ∷ xs) (y ∷ ys) = ((x ≡ y) × IsPart xs ys) ⊎ IsPart (x ∷ xs) ys
 
--- the numbers of the handlers that have turns
-abbrev pub numbers : List Turn → List ℕ
+-- the numbers of the handlers that have entries
+abbrev pub numbers : List PlanEntry → List ℕ
 numbers [] = []
-numbers (class_handler program cleanup ∷ turns) = numbers turns
-numbers (handler n ∷ turns) = n ∷ numbers turns
-numbers (config.transfer n back ∷ turns) = numbers turns
+numbers (class_handler program cleanup ∷ entries) = numbers entries
+numbers (handler n ∷ entries) = n ∷ numbers entries
+numbers (config.transfer n back ∷ entries) = numbers entries
 
--- the handlers of a stage have their turns in the order of their connection
+-- the handlers of a stage have their entries in the order of their connection
 abbrev pub InOrder : Type 0
 InOrder =
     (hs : List Handler) (id signal : ℕ) (detail : Option (List ℕ)) (after : Bool) →
@@ -51,7 +51,7 @@ InOrder =
 -- class handler in cleanup
 abbrev pub StagesInOrder : Type 0
 StagesInOrder =
-    (w : World) (program : ℕ) (moved : List Turn) (id signal : ℕ) (detail : Option (List ℕ)) →
+    (w : World) (program : ℕ) (moved : List PlanEntry) (id signal : ℕ) (detail : Option (List ℕ)) →
     plan w (record { object = id; signal = signal; detail = detail; flags = 7; class_program = Some program; transfers = moved })
     ≡ class_handler program false
     ∷ (moved
@@ -63,7 +63,7 @@ StagesInOrder =
 -- `notify` has its class handler first
 abbrev pub NotifyStages : Type 0
 NotifyStages =
-    (w : World) (program : ℕ) (moved : List Turn) (id : ℕ) (detail : Option (List ℕ)) →
+    (w : World) (program : ℕ) (moved : List PlanEntry) (id : ℕ) (detail : Option (List ℕ)) →
     plan w (record { object = id; signal = 0; detail = detail; flags = 17; class_program = Some program; transfers = moved })
     ≡ class_handler program false
     ∷ (moved ++ (handlers_for w.handlers id 0 detail false ++ (handlers_for w.handlers id 0 detail true ++ [])))

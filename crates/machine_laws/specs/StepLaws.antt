@@ -8,7 +8,7 @@ use Rattle.ui_machine.specs.Ancestry.{is_a}
 use Rattle.ui_machine.specs.Transform.{kind_fits}
 use Rattle.ui_machine.specs.Definition.{Definition}
 use Rattle.ui_machine.specs.Config.{Reply, Object, Objects, World, Config}
-use Rattle.ui_machine.specs.Objects.{find, put, class_in}
+use Rattle.ui_machine.specs.Objects.{living, put, class_in}
 use Rattle.ui_machine.specs.Mentions.{same, in_object, in_held, in_source, mentions}
 use Rattle.ui_machine.specs.Steps.{step}
 use Rattle.ui_machine.specs.Runs.{HasEnded}
@@ -28,7 +28,7 @@ EndsStay = (d : Definition) (reply : Option Reply) (c : Config) → HasEnded d c
 abbrev pub FittingLives : Type 0
 FittingLives =
     (os : Objects) (types : List GType) (id t : ℕ) → kind_fits (class_in os) types (values.object (Some id)) (kinds.object t) ≡ true →
-    (o : Object) × (find os id ≡ Some o) × (is_a types o.class t ≡ true)
+    (o : Object) × (living os id ≡ Some o) × (is_a types o.class t ≡ true)
 
 -- what was finalised fits no type
 abbrev pub FinalisedFitsNothing : Type 0

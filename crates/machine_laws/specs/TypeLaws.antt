@@ -15,4 +15,5 @@ IsAReflexive = (types : List GType) (a : ℕ) → is_a types a a ≡ true
 
 abbrev pub IsATransitive : Type 0
 IsATransitive =
-    (types : List GType) (a b c : ℕ) → IsTree types → a < length types → is_a types a b ≡ true → is_a types b c ≡ true → is_a types a c ≡ true
+    (types : List GType) (a b c : ℕ) → IsTree types → a < length types →
+    is_a types a b ≡ true → is_a types b c ≡ true → is_a types a c ≡ true

@@ -1,7 +1,7 @@
 //! One source.
 
 ghost use Rattle.std.specs.Prelude.{◌≡◌};
-ghost use Rattle.ui_machine.specs.Sources.{is_ready, has_number, runs_program, due_after, new_source};
+ghost use Rattle.ui_machine.specs.Sources.{is_ready, is_numbered, runs_program, due_after, new_source};
 
 use std::marker::Model;
 use ui_machine::ObjectId;
@@ -79,7 +79,7 @@ impl Source {
     }
 
     pub fn has_number(&self, number: u64) -> bool
-        ensures { result ≡ has_number number self.now }
+        ensures { result ≡ is_numbered number self.now }
     {
         self.number == number
     }

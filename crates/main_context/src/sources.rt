@@ -2,7 +2,7 @@
 
 ghost use Rattle.std.specs.Prelude.{◌≡◌, option_map};
 ghost use Rattle.std.specs.List.{find, position};
-ghost use Rattle.ui_machine.specs.Sources.{has_number, runs_program, source_of, without_first, without_source, rescheduled};
+ghost use Rattle.ui_machine.specs.Sources.{is_numbered, runs_program, source_of, without_first, without_source, rescheduled};
 ghost use Rattle.main_context.specs.Dues.{due_of};
 
 use crate::source::{Due, Source};
@@ -46,7 +46,7 @@ pub(crate) fn reschedule(sources: &mut [Source], number: u64, moment: u64)
 
 // Where the source of the number stands.
 fn index_of(sources: &[Source], number: u64) -> Option<usize>
-    ensures { result ≡ position (has_number number) sources.now }
+    ensures { result ≡ position (is_numbered number) sources.now }
 {
     sources.iter().position(|source| source.has_number(number))
 }

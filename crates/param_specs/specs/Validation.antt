@@ -32,16 +32,16 @@ Takes types s (Object t id) = Unit {0}
 
 -- an object's value names the class that the object has
 abbrev pub KnowsClass : (ℕ → Option ℕ) → Value → Type 0
-KnowsClass class_of (Bool b) = Unit {0}
-KnowsClass class_of (Int n) = Unit {0}
-KnowsClass class_of (UInt n) = Unit {0}
-KnowsClass class_of (Int64 n) = Unit {0}
-KnowsClass class_of (UInt64 n) = Unit {0}
-KnowsClass class_of (Text t) = Unit {0}
-KnowsClass class_of (Enum t n) = Unit {0}
-KnowsClass class_of (Flags t bits) = Unit {0}
-KnowsClass class_of (Object t None) = Unit {0}
-KnowsClass class_of (Object t (Some id)) = class_of id.0 ≡ Some t
+KnowsClass living_class (Bool b) = Unit {0}
+KnowsClass living_class (Int n) = Unit {0}
+KnowsClass living_class (UInt n) = Unit {0}
+KnowsClass living_class (Int64 n) = Unit {0}
+KnowsClass living_class (UInt64 n) = Unit {0}
+KnowsClass living_class (Text t) = Unit {0}
+KnowsClass living_class (Enum t n) = Unit {0}
+KnowsClass living_class (Flags t bits) = Unit {0}
+KnowsClass living_class (Object t None) = Unit {0}
+KnowsClass living_class (Object t (Some id)) = living_class id.0 ≡ Some t
 
 -- what takes a value's place, where validation gives another one
 abbrev pub Corrects : Option Value → values.Value → values.Value → Type 0

@@ -25,11 +25,11 @@ use ui_machine::ObjectId;
 #[tactic(auto, using(crate::proofs::Same::same_value_refl))]
 pub fn validate(tree: &TypeTree, spec: &Spec, value: Value) -> (Value, bool)
     requires { Takes tree.now spec.now value }
-    ensures value { (class_of : ℕ → Option ℕ) → KnowsClass class_of value
-        → value_view result.0 ≡ clamp class_of tree.now (spec_view spec.now) (value_view value) }
+    ensures value { (living_class : ℕ → Option ℕ) → KnowsClass living_class value
+        → value_view result.0 ≡ clamp living_class tree.now (spec_view spec.now) (value_view value) }
     ensures kind { value_kind result.0 ≡ value_kind value }
-    ensures changed { (class_of : ℕ → Option ℕ) → KnowsClass class_of value
-        → result.1 ≡ not (same_value (clamp class_of tree.now (spec_view spec.now) (value_view value)) (value_view value)) }
+    ensures changed { (living_class : ℕ → Option ℕ) → KnowsClass living_class value
+        → result.1 ≡ not (same_value (clamp living_class tree.now (spec_view spec.now) (value_view value)) (value_view value)) }
 {
     match corrected(tree, spec, &value) {
         Some(corrected) => (corrected, true),
@@ -102,8 +102,8 @@ fn lies_within(number: i128, low: i128, high: i128) -> bool
 fn corrected(tree: &TypeTree, spec: &Spec, value: &Value) -> Option<Value>
     requires { Takes tree.now spec.now value.now }
     ensures kind { IfSome result (λ w. value_kind w ≡ value_kind value.now) }
-    ensures value { (class_of : ℕ → Option ℕ) → KnowsClass class_of value.now
-        → Corrects result (clamp class_of tree.now (spec_view spec.now) (value_view value.now)) (value_view value.now) }
+    ensures value { (living_class : ℕ → Option ℕ) → KnowsClass living_class value.now
+        → Corrects result (clamp living_class tree.now (spec_view spec.now) (value_view value.now)) (value_view value.now) }
 {
     match value {
         Value::Bool(_) => None,
@@ -216,8 +216,8 @@ fn corrected_flags(tree: &TypeTree, t: TypeId, bits: u32) -> Option<Value>
 
 fn corrected_object(tree: &TypeTree, spec: &Spec, t: TypeId, id: ObjectId) -> Option<Value>
     ensures kind { IfSome result (λ w. value_kind w ≡ kinds.object t) }
-    ensures value { (class_of : ℕ → Option ℕ) → class_of id.0 ≡ Some t
-        → Corrects result (clamp class_of tree.now (spec_view spec.now) (values.object (Some id.0))) (values.object (Some id.0)) }
+    ensures value { (living_class : ℕ → Option ℕ) → living_class id.0 ≡ Some t
+        → Corrects result (clamp living_class tree.now (spec_view spec.now) (values.object (Some id.0))) (values.object (Some id.0)) }
 {
     match spec.kind {
         Kind::Object(u) => {

@@ -13,7 +13,7 @@ use Rattle.ui_machine.specs.Lookups.{type_of, program_at}
 use Rattle.ui_machine.specs.Config as config
 use Rattle.ui_machine.specs.Config.{Object, Objects, Making, Item, makes, Emission, Task, Setting, Notifying, Beginning, Emitting, Transferring, Unsetting, Thawing, Running, Answering, Calling, Constructing, Building, Carrying, Due, World, Config, built}
 use Rattle.ui_machine.specs.Answers.{Answer, known, only_if}
-use Rattle.ui_machine.specs.Objects.{find, changed, frozen_less, object_at}
+use Rattle.ui_machine.specs.Objects.{living, changed, frozen_less, object_at}
 use Rattle.ui_machine.specs.Worlds.{Started, starts, said, held_at, is_unbuilt, with_held, sunk}
 use Rattle.ui_machine.specs.Programs.{first_frame, all_fit, fits_register, beginning_program, program_before}
 use Rattle.ui_machine.specs.Emissions.{notifying, notification}
@@ -107,17 +107,17 @@ module _ (d : Definition) (w : World) (rest : List Task) (n : ℕ) where
   kept_down (tasks.Building place ∷ ts) v = refl
   kept_down (tasks.Carrying event ∷ ts) v = refl
 
-  ending_at : (e : Emission) (turns : List config.Turn) → IsHeld w (Emitting e turns ∷ rest) → (v : World) → v.objects ≡ w.objects → v.builder ≡ w.builder → v.floating ≡ w.floating → IsPrefix w.transcript v.transcript
+  ending_at : (e : Emission) (turns : List config.PlanEntry) → IsHeld w (Emitting e turns ∷ rest) → (v : World) → v.objects ≡ w.objects → v.builder ≡ w.builder → v.floating ≡ w.floating → IsPrefix w.transcript v.transcript
       → Passes d w (Emitting e turns) rest n (record { world = v; agenda = rest; counted = n })
   ending_at e turns held v objects builder floating grows = record {
-    held = keeps_quietly w (Emitting e turns) rest (record { world = v; tasks = [] }) held (record { lives = λ q h. subst (λ (os : Objects). is_some (find os q) ≡ true) objects h; builder = builder; floating = floating; grows = grows }) (λ o. refl);
+    held = keeps_quietly w (Emitting e turns) rest (record { world = v; tasks = [] }) held (record { lives = λ q h. subst (λ (os : Objects). is_some (living os q) ≡ true) objects h; builder = builder; floating = floating; grows = grows }) (λ o. refl);
     falls = λ _. let same = ap waiting objects in omega (arith, same);
     stays = λ _. refl;
     counts = λ yes. cc yes;
     grows = grows;
   }
 
-  ended : (e : Emission) (turns : List config.Turn) → IsHeld w (Emitting e turns ∷ rest) → (v : Option Value) (b : Bool)
+  ended : (e : Emission) (turns : List config.PlanEntry) → IsHeld w (Emitting e turns ∷ rest) → (v : Option Value) (b : Bool)
       → Passes d w (Emitting e turns) rest n (record { world = told d w b v; agenda = rest; counted = n })
   ended e turns held None b = ending_at e turns held w refl refl refl (prefix_same w.transcript)
   ended e turns held (Some v) false = ending_at e turns held w refl refl refl (prefix_same w.transcript)
@@ -227,7 +227,7 @@ module _ (d : Definition) (w : World) (rest : List Task) (n : ℕ) where
 
       hands : IfOk (thawing_made w id steps true) Hands
       hands = bind_ok (changed w.objects id frozen_less) _ Hands (λ r e.
-          let h = if_ok_at (λ (r : Objects × List ℕ). (q : ℕ) → is_some (find r.0 q) ≡ true → is_some (find w.objects q) ≡ true) (changed w.objects id frozen_less) r (changed_lives w.objects id frozen_less) e in
+          let h = if_ok_at (λ (r : Objects × List ℕ). (q : ℕ) → is_some (living r.0 q) ≡ true → is_some (living w.objects q) ≡ true) (changed w.objects id frozen_less) r (changed_lives w.objects id frozen_less) e in
           (record { lives = h; builder = refl; floating = refl; grows = prefix_same w.transcript }, λ o. omega arith))
 
   constructing_passes : (id : ℕ) (steps : List Making) → IsHeld w (Constructing id steps true ∷ rest) → IfOk (act d w None (Constructing id steps true ∷ rest) n) (Passes d w (Constructing id steps true) rest n)

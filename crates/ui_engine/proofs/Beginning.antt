@@ -5,16 +5,16 @@ use Rattle.std.specs.List.{flat_map}
 use Rattle.ui_machine.specs.Seq.{total}
 use Rattle.ui_machine.specs.Definition.{Definition, Place, Attached, Bind}
 use Rattle.ui_machine.specs.Config.{Objects, Item, binds, connects, World}
-use Rattle.ui_machine.specs.Objects.{find}
+use Rattle.ui_machine.specs.Objects.{living}
 use Rattle.ui_machine.specs.Mentions.{same}
 use Rattle.ui_machine.specs.Builds.{made_items, forward_of, forward_items, numbered, connected_items, build_items}
 use Rattle.builder_defs.specs.Meaning.{IsBasic}
 use Rattle.ui_engine.specs.Holding.{IsHeld}
 use Rattle.ui_engine.specs.TaskView.{build_from}
 
-nothing_lives : (os : Objects) (id : ℕ) → os ≡ [] → is_some (find os id) ≡ true → ⊥
-nothing_lives os zero none h = let e : is_some (find [] 0) ≡ true = subst (λ (xs : Objects). is_some (find xs 0) ≡ true) none h in cc e
-nothing_lives os (suc i) none h = let e : is_some (find [] (suc i)) ≡ true = subst (λ (xs : Objects). is_some (find xs (suc i)) ≡ true) none h in cc e
+nothing_lives : (os : Objects) (id : ℕ) → os ≡ [] → is_some (living os id) ≡ true → ⊥
+nothing_lives os zero none h = let e : is_some (living [] 0) ≡ true = subst (λ (xs : Objects). is_some (living xs 0) ≡ true) none h in cc e
+nothing_lives os (suc i) none h = let e : is_some (living [] (suc i)) ≡ true = subst (λ (xs : Objects). is_some (living xs (suc i)) ≡ true) none h in cc e
 
 pub none_held : (w : World) → w.objects ≡ [] → w.floating ≡ [] → IsHeld w []
 none_held w objects floating = record {

@@ -1,26 +1,27 @@
 -- The build of a basic definition: what each step of it starts.
-use Rattle.std.proofs.Common.{◌≡◌, ℕ, zero, suc, ◌<◌, ◌≤◌, Bool, true, false, cond, ◌||◌, not, nat_eq, List, [], ◌∷◌, ◌++◌, length, map, take, drop, Option, Some, None, is_some, option_map, Ok, Err, slice_get, refl, sym, ap, ◌∙◌, arith}
-use Rattle.std.specs.List.{filter, list_all}
+use Rattle.std.proofs.Common.{◌≡◌, ℕ, zero, suc, ◌<◌, ◌≤◌, Bool, true, false, cond, ◌||◌, not, nat_eq, List, [], ◌∷◌, ◌++◌, length, map, reverse, take, drop, Option, Some, None, is_some, option_map, Ok, Err, slice_get, refl, sym, ap, ◌∙◌, arith}
+use Rattle.std.specs.List.{filter, flat_map, list_all}
 use Rattle.std.proofs.lemmas.Option.{slice_get_within, get_or_from_slice_get, slice_get-map}
 use Rattle.std.proofs.lemmas.List.{length-map}
 use Rattle.std.proofs.Math.Seq.{drop-cons}
 use Rattle.ui_machine.specs.declared.arm.Arm.TheVariants as arms
 use Rattle.ui_machine.specs.Properties.{Spec, has_flags}
 use Rattle.ui_machine.specs.Definition.{Definition, Place, GivenProperty}
-use Rattle.ui_machine.specs.Lookups.{type_of, specs_of}
+use Rattle.ui_machine.specs.Lookups.{type_of, class_of, specs_of}
 use Rattle.ui_machine.specs.Lines as lines
 use Rattle.ui_machine.specs.Config.{thaws, Item, makes, Task, Constructing, Building, World}
 use Rattle.ui_machine.specs.Answers.{Answer, ◌>>=◌, known, only_if}
 use Rattle.ui_machine.specs.Worlds.{Started, starts, said, without}
-use Rattle.ui_machine.specs.Builds.{not_forward, is_at_construction, construct_sets, constructed_runs, runs_above, run_of, given_sets, construction, new_object, with_object, making, made_items, adopts_if, has_valid_default, first_peer, peer_for}
-use Rattle.ui_machine.specs.Calls.{nearest_shape, has_shape}
-use Rattle.ui_machine.specs.Emissions.{or_else, up, most_depth}
+use Rattle.ui_machine.specs.Builds.{not_forward, is_at_construction, construct_sets, constructed_runs, run_of, given_sets, construction, new_object, with_object, making, made_items, adopts_if, has_valid_default, first_peer, peer_for}
+use Rattle.ui_machine.specs.Calls.{has_shape}
+use Rattle.ui_machine.specs.Ancestry.{lineage}
 use Rattle.ui_machine.specs.Transform.{same_bool}
 use Rattle.ui_machine.specs.Steps.{uncounted, building, building_object}
 use Rattle.g_values.specs.declared.value.Value.{Value}
 use Rattle.g_values.specs.View.{value_view}
 use Rattle.builder_defs.specs.Meaning.{IsPlain, IsBasic}
 use Rattle.ui_engine.specs.TaskView.{build_from}
+use Rattle.ui_engine.proofs.Notified.{none_given}
 
 -- ** lists
 
@@ -60,36 +61,24 @@ each_valid : (d : Definition) (specs : List Spec) → ((i : ℕ) (s : Spec) → 
 each_valid d [] plain = refl
 each_valid d (s ∷ specs) plain = rw (let e = (plain 0 s refl).default d.types in e) (each_valid d specs (λ i t at. plain (suc i) t at))
 
-none_above : (f : ℕ → Option ℕ) → ((class : ℕ) → f class ≡ None) → (above : Option ℕ) → up f above ≡ None
-none_above f none None = refl
-none_above f none (Some class) = none class
-
-none_shaped : (d : Definition) → IsBasic d → (n class : ℕ) → nearest_shape n d class ≡ None
-none_shaped d basic zero class = refl
-none_shaped d basic (suc n) class =
-    ap (λ shape. or_else shape (up (nearest_shape n d) (type_of d class).parent)) (basic.shapes class)
-    ∙ none_above (nearest_shape n d) (none_shaped d basic n) (type_of d class).parent
-
 no_shape : (d : Definition) → IsBasic d → (class : ℕ) → has_shape d class ≡ false
-no_shape d basic class = ap is_some (none_shaped d basic most_depth class)
+no_shape d basic class = ap is_some (none_given (λ c. (class_of d c).shape) basic.shapes (lineage d.types class))
 
 module _ (d : Definition) (basic : IsBasic d) where
-  no_runs_above : (n : ℕ) → ((class : ℕ) → constructed_runs n d class ≡ []) → (above : Option ℕ) → runs_above (constructed_runs n d) above ≡ []
-  no_runs_above n none None = refl
-  no_runs_above n none (Some class) = none class
+  no_runs_in : (classes : List ℕ) → flat_map (λ (c : ℕ). run_of (class_of d c).constructed) classes ≡ []
+  no_runs_in [] = refl
+  no_runs_in (c ∷ cs) =
+      ap (λ (o : Option ℕ). run_of o ++ flat_map (λ (a : ℕ). run_of (class_of d a).constructed) cs) (basic.constructed c) ∙ no_runs_in cs
 
-  no_runs : (n class : ℕ) → constructed_runs n d class ≡ []
-  no_runs zero class = refl
-  no_runs (suc n) class =
-      ap (λ program. runs_above (constructed_runs n d) (type_of d class).parent ++ run_of program) (basic.constructed class)
-      ∙ ap (λ above. above ++ []) (no_runs_above n (no_runs n) (type_of d class).parent)
+  no_runs : (class : ℕ) → constructed_runs d class ≡ []
+  no_runs class = no_runs_in (reverse (lineage d.types class))
 
   module _ (w : World) (place : ℕ) (p : Place) (at : slice_get d.places place ≡ Some p) where
     only_thaws : construction d w place p ≡ thaws ∷ []
     only_thaws =
-        ap (λ steps. steps ++ (constructed_runs 16 d p.class ++ (given_sets w (specs_of d p.class) (not_forward place p.given) ++ thaws ∷ [])))
+        ap (λ steps. steps ++ (constructed_runs d p.class ++ (given_sets w (specs_of d p.class) (not_forward place p.given) ++ thaws ∷ [])))
         (no_construct_sets w (not_forward place p.given) 0 (specs_of d p.class) (λ i s has. basic.plain p.class i s has))
-        ∙ ap (λ steps. steps ++ (given_sets w (specs_of d p.class) (not_forward place p.given) ++ thaws ∷ [])) (no_runs 16 p.class)
+        ∙ ap (λ steps. steps ++ (given_sets w (specs_of d p.class) (not_forward place p.given) ++ thaws ∷ [])) (no_runs p.class)
         ∙ ap (λ given. given_sets w (specs_of d p.class) (not_forward place given) ++ thaws ∷ []) (basic.given place p at)
 
     valid_defaults : list_all (has_valid_default d) (specs_of d p.class) ≡ true

@@ -5,7 +5,7 @@ use Rattle.ui_machine.specs.declared.arm.Arm.TheVariants as arms
 use Rattle.ui_machine.specs.Seq.{read, write}
 use Rattle.ui_machine.specs.Config.{Object, Held, unbuilt, built, World}
 use Rattle.ui_machine.specs.Answers.{Answer, ◌>>=◌, known, only_if}
-use Rattle.ui_machine.specs.Objects.{find, asked}
+use Rattle.ui_machine.specs.Objects.{living, asked}
 use Rattle.ui_machine.specs.Worlds.{Started, starts, held_at, is_unbuilt, with_held, sunk}
 use Rattle.ui_machine.specs.Builds.{identity_held, constructed}
 use Rattle.ui_engine.specs.View.{held_of}
@@ -59,7 +59,7 @@ module _ (w : World) (id : ℕ) where
 
   by_place : (r : Answer ℕ) → asked w.objects id (λ o. Ok o.place) ≡ r → constructed w id true ≡ (r >>= hold_at)
   unfolding asked constructed hold_at
-  by_place r h = by (find w.objects id) ∙ ap (λ (a : Answer ℕ). a >>= hold_at) h
+  by_place r h = by (living w.objects id) ∙ ap (λ (a : Answer ℕ). a >>= hold_at) h
     where
       by : (o : Option Object) → (known arms.Operand o >>= λ x. hold_at x.place) ≡ ((known arms.Operand o >>= λ x. Ok x.place) >>= hold_at)
       by None = refl

@@ -15,7 +15,7 @@ use Rattle.ui_machine.specs.Definition.{Definition, Given}
 use Rattle.ui_machine.specs.Queue.{queued, thawed}
 use Rattle.ui_machine.specs.Config.{Object, Objects, Making, Notifying, World}
 use Rattle.ui_machine.specs.Answers.{Answer, ◌>>=◌, known, only_if}
-use Rattle.ui_machine.specs.Objects.{find, put, class_in, asked, value_at, changed, with_value, raised, frozen_less, less_frozen}
+use Rattle.ui_machine.specs.Objects.{living, put, class_in, asked, value_at, changed, with_value, raised, frozen_less, less_frozen}
 use Rattle.ui_machine.specs.Worlds.{Started, starts, said}
 use Rattle.ui_machine.specs.Sets.{spec_at, raising, notifies, kept, written, settled, setting, lives, has_kind}
 use Rattle.ui_machine.specs.Builds.{thawing_made, given_value, held_object}
@@ -30,7 +30,7 @@ waiting-write [] i o x h = cc
 waiting-write (y ∷ os) zero o x h = let e : waiting_in y ≡ waiting_in (Some o) = ap waiting_in h in omega (arith, e)
 waiting-write (y ∷ os) (suc i) o x h = omega (arith, waiting-write os i o x h)
 
-waiting-put : (os : Objects) (id : ℕ) (o x : Object) → find os id ≡ Some o → waiting (put os id (Some x)) + waiting_in (Some o) ≡ waiting os + waiting_in (Some x)
+waiting-put : (os : Objects) (id : ℕ) (o x : Object) → living os id ≡ Some o → waiting (put os id (Some x)) + waiting_in (Some o) ≡ waiting os + waiting_in (Some x)
 waiting-put os zero o x h = cc
 waiting-put os (suc i) o x h = waiting-write os i o x h
 
@@ -41,12 +41,12 @@ Adds {X} gives most change = (o : Object) → IfOk (change o) (λ r. waiting_in 
 changed_waiting : {X : Type 0} (gives : X → ℕ) (most : ℕ) (os : Objects) (id : ℕ) (change : Object → Answer (Object × X)) → Adds gives most change
     → IfOk (changed os id change) (λ r. waiting r.0 + gives r.1 ≤ waiting os + most)
 unfolding changed
-changed_waiting {X} gives most os id change adds = by (find os id) refl
+changed_waiting {X} gives most os id change adds = by (living os id) refl
   where
     P : Objects × X → Type 0
     P = λ r. waiting r.0 + gives r.1 ≤ waiting os + most
 
-    by : (o : Option Object) → find os id ≡ o → IfOk (known arms.Operand o >>= λ x. change x >>= λ new. Ok (put os id (Some new.0), new.1)) P
+    by : (o : Option Object) → living os id ≡ o → IfOk (known arms.Operand o >>= λ x. change x >>= λ new. Ok (put os id (Some new.0), new.1)) P
     by None e = tt
     by (Some x) e = bind_ok (change x) (λ new. Ok (put os id (Some new.0), new.1)) P (λ new is.
         let a = if_ok_at (λ (r : Object × X). waiting_in (Some r.0) + gives r.1 ≤ waiting_in (Some x) + most) (change x) new (adds x) is in

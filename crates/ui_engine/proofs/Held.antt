@@ -8,13 +8,13 @@ use Rattle.ui_machine.specs.Seq.{read, write, total}
 use Rattle.ui_machine.specs.Definition.{Definition}
 use Rattle.ui_machine.specs.Config.{Object, Objects, Held, unbuilt, built, released, Making, Task, Setting, Notifying, Beginning, Emitting, Transferring, Unsetting, Thawing, Running, Answering, Calling, Constructing, Building, Carrying, Due, World, Config}
 use Rattle.ui_machine.specs.Answers.{Answer, ◌>>=◌, known}
-use Rattle.ui_machine.specs.Objects.{find, put, changed, unheld_from, next_unheld}
+use Rattle.ui_machine.specs.Objects.{living, put, changed, unheld_from, next_unheld}
 use Rattle.ui_machine.specs.Mentions.{same, in_held, in_task, mentions}
 use Rattle.ui_machine.specs.Worlds.{Started, held_at, is_unbuilt, with_held, sunk, without}
 use Rattle.ui_machine.specs.Prefix.{IsPrefix}
 use Rattle.ui_machine.proofs.Prefixes.{prefix_on}
 use Rattle.ui_engine.specs.Holding.{making_of, IsHeld}
-use Rattle.ui_engine.proofs.Lists.{find-beside, find-more, total-append, total-written}
+use Rattle.ui_engine.proofs.Lists.{living-beside, living-more, total-append, total-written}
 
 -- ** no object is without a mention
 
@@ -58,7 +58,7 @@ none_unmentioned d c held = none_unheld (mentions d c) 1 c.world.objects (λ k s
 -- ** steps that keep what lives and what holds it
 
 pub record Quietly (w new : World) : Type 0 where
-  pub lives : (q : ℕ) → is_some (find new.objects q) ≡ true → is_some (find w.objects q) ≡ true
+  pub lives : (q : ℕ) → is_some (living new.objects q) ≡ true → is_some (living w.objects q) ≡ true
   pub builder : new.builder ≡ w.builder
   pub floating : new.floating ≡ w.floating
   pub grows : IsPrefix w.transcript new.transcript
@@ -78,18 +78,18 @@ pub bind_ok : {A B : Type 0} (a : Answer A) (f : A → Answer B) (P : B → Type
 bind_ok (Ok x) f P h = h x refl
 bind_ok (Err arm) f P h = tt
 
-pub changed_lives : {X : Type 0} (os : Objects) (id : ℕ) (change : Object → Answer (Object × X)) → IfOk (changed os id change) (λ r. (q : ℕ) → is_some (find r.0 q) ≡ true → is_some (find os q) ≡ true)
+pub changed_lives : {X : Type 0} (os : Objects) (id : ℕ) (change : Object → Answer (Object × X)) → IfOk (changed os id change) (λ r. (q : ℕ) → is_some (living r.0 q) ≡ true → is_some (living os q) ≡ true)
 unfolding changed
-changed_lives {X} os id change = by (find os id) refl
+changed_lives {X} os id change = by (living os id) refl
   where
     P : Objects × X → Type 0
-    P = λ r. (q : ℕ) → is_some (find r.0 q) ≡ true → is_some (find os q) ≡ true
+    P = λ r. (q : ℕ) → is_some (living r.0 q) ≡ true → is_some (living os q) ≡ true
 
-    by : (o : Option Object) → find os id ≡ o → IfOk (known arms.Operand o >>= λ x. change x >>= λ new. Ok (put os id (Some new.0), new.1)) P
+    by : (o : Option Object) → living os id ≡ o → IfOk (known arms.Operand o >>= λ x. change x >>= λ new. Ok (put os id (Some new.0), new.1)) P
     by None e = tt
     by (Some x) e = bind_ok (change x) (λ new. Ok (put os id (Some new.0), new.1)) P (λ new _ q h. elim (cases_eq q id) [
-      | inl is ↦ ap (λ j. is_some (find os j)) is ∙ ap is_some e
-      | inr ne ↦ ap is_some (sym (find-beside os id q (Some new.0) ne)) ∙ h
+      | inl is ↦ ap (λ j. is_some (living os j)) is ∙ ap is_some e
+      | inr ne ↦ ap is_some (sym (living-beside os id q (Some new.0) ne)) ∙ h
     ])
 
 -- a step that keeps them and hands on its part of the constructions
@@ -124,7 +124,7 @@ made_held w new t rest o b steps items held none os builder floating = record {
   lives = λ id some. elim (cases_eq id (suc (length w.objects))) as (λ _. 0 < total (in_held id) new.builder + (same id (suc (length w.objects)) + (making_of id items + total (making_of id) rest))) [
     | inl is ↦ let e : same id (suc (length w.objects)) ≡ 1 = ap (same id) (sym is) ∙ same_self id in omega arith
     | inr ne ↦
-        let some' : is_some (find w.objects id) ≡ true = find-more w.objects (Some o) id (ap (λ (xs : Objects). is_some (find xs id)) (sym os) ∙ some) ne in
+        let some' : is_some (living w.objects id) ≡ true = living-more w.objects (Some o) id (ap (λ (xs : Objects). is_some (living xs id)) (sym os) ∙ some) ne in
         let h = held.lives id some' in
         let z = none id in
         let e : total (in_held id) new.builder ≡ total (in_held id) w.builder = ap (total (in_held id)) builder in

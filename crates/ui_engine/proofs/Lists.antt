@@ -2,7 +2,7 @@
 use Rattle.std.proofs.Common.{◌≡◌, ◌≢◌, ℕ, zero, suc, ◌+◌, ◌<◌, List, [], ◌∷◌, ◌++◌, length, Option, None, is_some, refl, ap, arith, true}
 use Rattle.ui_machine.specs.Seq.{read, write, total}
 use Rattle.ui_machine.specs.Config.{Object, Objects}
-use Rattle.ui_machine.specs.Objects.{find, put}
+use Rattle.ui_machine.specs.Objects.{living, put}
 
 read-written : {A : Type 0} (d : A) (xs : List A) (i : ℕ) (y : A) → read d (write d xs i y) i ≡ y
 read-written d [] zero y = refl
@@ -23,14 +23,14 @@ read-beside d (x ∷ xs) zero (suc j) y ne = refl
 read-beside d (x ∷ xs) (suc i) zero y ne = refl
 read-beside d (x ∷ xs) (suc i) (suc j) y ne = read-beside d xs i j y (λ e. ne (ap suc e))
 
-pub find-put : (os : Objects) (id : ℕ) (x : Option Object) → 0 < id → find (put os id x) id ≡ x
-find-put os zero x h = absurd (omega arith)
-find-put os (suc i) x h = read-written None os i x
+pub living-put : (os : Objects) (id : ℕ) (x : Option Object) → 0 < id → living (put os id x) id ≡ x
+living-put os zero x h = absurd (omega arith)
+living-put os (suc i) x h = read-written None os i x
 
-pub find-beside : (os : Objects) (id q : ℕ) (x : Option Object) → q ≢ id → find (put os id x) q ≡ find os q
-find-beside os zero q x ne = refl
-find-beside os (suc i) zero x ne = refl
-find-beside os (suc i) (suc j) x ne = read-beside None os i j x (λ e. ne (ap suc e))
+pub living-beside : (os : Objects) (id q : ℕ) (x : Option Object) → q ≢ id → living (put os id x) q ≡ living os q
+living-beside os zero q x ne = refl
+living-beside os (suc i) zero x ne = refl
+living-beside os (suc i) (suc j) x ne = read-beside None os i j x (λ e. ne (ap suc e))
 
 pub total-append : {A : Type 0} (f : A → ℕ) (xs ys : List A) → total f (xs ++ ys) ≡ total f xs + total f ys
 total-append f [] ys = omega arith
@@ -50,6 +50,6 @@ read-more [] x (suc i) h ne = h
 read-more (o ∷ os) x zero h ne = h
 read-more (o ∷ os) x (suc i) h ne = read-more os x i h (λ e. ne (ap suc e))
 
-pub find-more : (os : Objects) (x : Option Object) (id : ℕ) → is_some (find (os ++ x ∷ []) id) ≡ true → id ≢ suc (length os) → is_some (find os id) ≡ true
-find-more os x zero h ne = h
-find-more os x (suc i) h ne = read-more os x i h (λ e. ne (ap suc e))
+pub living-more : (os : Objects) (x : Option Object) (id : ℕ) → is_some (living (os ++ x ∷ []) id) ≡ true → id ≢ suc (length os) → is_some (living os id) ≡ true
+living-more os x zero h ne = h
+living-more os x (suc i) h ne = read-more os x i h (λ e. ne (ap suc e))

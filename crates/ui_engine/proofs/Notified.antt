@@ -6,14 +6,15 @@ use Rattle.ui_machine.specs.declared.arm.Arm.{Arm}
 use Rattle.ui_machine.specs.declared.arm.Arm.TheVariants as arms
 use Rattle.ui_machine.specs.Properties.{Spec}
 use Rattle.ui_machine.specs.Definition.{Definition, ClassHandler, Signal}
-use Rattle.ui_machine.specs.Lookups.{type_of, spec_of}
+use Rattle.ui_machine.specs.Ancestry.{lineage}
+use Rattle.ui_machine.specs.Lookups.{class_of, spec_of}
 use Rattle.ui_machine.specs.Lines as lines
 use Rattle.ui_machine.specs.Config.{Object, Task, Emitting, World}
 use Rattle.ui_machine.specs.Answers.{Answer, ◌>>=◌, known}
-use Rattle.ui_machine.specs.Objects.{find, asked}
+use Rattle.ui_machine.specs.Objects.{living, asked}
 use Rattle.ui_machine.specs.Worlds.{Started, starts, said}
 use Rattle.ui_machine.specs.Steps.{counted, uncounted, most_steps}
-use Rattle.ui_machine.specs.Emissions.{notifying, notification, notify_plan, nearest_handler, or_else, up, handler_in, class_handler_of, most_depth, signal_at}
+use Rattle.ui_machine.specs.Emissions.{notifying, notification, notify_plan, first_given, or_else, handler_in, class_handler_of, signal_at}
 use Rattle.ui_machine.specs.Values.{Value}
 use Rattle.ui_machine.specs.Turns.{resulting, result_of}
 use Rattle.ui_machine.specs.Results.{ending, leaves, passed_down, told}
@@ -30,17 +31,18 @@ counted_on rest n a h = let t : nat_lt n most_steps ≡ true = grind (arith, nat
 
 -- ** what a notification runs
 
-none_up : (f : ℕ → Option ℕ) → ((c : ℕ) → f c ≡ None) → (p : Option ℕ) → up f p ≡ None
-none_up f none None = refl
-none_up f none (Some c) = none c
+pub none_given : (f : ℕ → Option ℕ) → ((c : ℕ) → f c ≡ None) → (classes : List ℕ) → first_given f classes ≡ None
+none_given f none [] = refl
+none_given f none (c ∷ cs) = ap (λ (o : Option ℕ). or_else o (first_given f cs)) (none c) ∙ none_given f none cs
 
-none_nearest : (d : Definition) → IsBasic d → (name : List ℕ) (n class : ℕ) → nearest_handler n d name class ≡ None
-none_nearest d basic name zero class = refl
-none_nearest d basic name (suc n) class = ap (λ (hs : List ClassHandler). or_else (handler_in hs name) (up (nearest_handler n d name) (type_of d class).parent)) (basic.handlers class) ∙ none_up (nearest_handler n d name) (none_nearest d basic name n) (type_of d class).parent
+none_handled : (d : Definition) → IsBasic d → (name : List ℕ) (class : ℕ) → class_handler_of d class name ≡ None
+none_handled d basic name class =
+    none_given (λ c. handler_in (class_of d c).handlers name)
+    (λ c. ap (λ (hs : List ClassHandler). handler_in hs name) (basic.handlers c)) (lineage d.types class)
 
 pub none_planned : (d : Definition) → IsBasic d → (w : World) → w.handlers ≡ [] → w.bindings ≡ [] → (s : Signal) (class id slot : ℕ) (name : List ℕ) → notify_plan d w s class id slot name ≡ []
 none_planned d basic w handlers bindings s class id slot name =
-    let e : class_handler_of d class s.name ≡ None = none_nearest d basic s.name most_depth class in
+    let e : class_handler_of d class s.name ≡ None = none_handled d basic s.name class in
     rw (e, handlers, bindings) refl
 
 -- ** by the class of the object
@@ -54,7 +56,7 @@ module _ (d : Definition) (w : World) (id slot : ℕ) where
 
   by_class : (r : Answer ℕ) → asked w.objects id (λ o. Ok o.class) ≡ r → notifying d w id slot ≡ (r >>= on_class)
   unfolding asked notifying on_class begin
-  by_class r h = by (find w.objects id) ∙ ap (λ (a : Answer ℕ). a >>= on_class) h
+  by_class r h = by (living w.objects id) ∙ ap (λ (a : Answer ℕ). a >>= on_class) h
     where
       by : (o : Option Object) → (known arms.Operand o >>= λ x. on_class x.class) ≡ ((known arms.Operand o >>= λ x. Ok x.class) >>= on_class)
       by None = refl
@@ -103,7 +105,7 @@ module _ (d : Definition) (w : World) (id : ℕ) (name : List ℕ) (rest : List 
 
   result_by_class : (r : Answer ℕ) → asked w.objects id (λ o. Ok o.class) ≡ r → resulting d w (notification id name) ≡ (r >>= gives)
   unfolding asked resulting gives
-  result_by_class r h = by (find w.objects id) ∙ ap (λ (a : Answer ℕ). a >>= gives) h
+  result_by_class r h = by (living w.objects id) ∙ ap (λ (a : Answer ℕ). a >>= gives) h
     where
       by : (o : Option Object) → (known arms.Operand o >>= λ x. gives x.class) ≡ ((known arms.Operand o >>= λ x. Ok x.class) >>= gives)
       by None = refl

@@ -41,7 +41,7 @@ lives_plain os (values.object o) (kinds.enum t) s p h = cc
 lives_plain os (values.object o) (kinds.flags t) s p h = cc
 lives_plain os (values.object o) (kinds.object t) s p h = absurd p
 
-pub knows_class : (class_of : ℕ → Option ℕ) (v : coded.Value) (k : kinds.Kind) (s : Spec) → IsPlainKind k s → has_kind (value_view v) k ≡ true → KnowsClass class_of v
+pub knows_class : (living_class : ℕ → Option ℕ) (v : coded.Value) (k : kinds.Kind) (s : Spec) → IsPlainKind k s → has_kind (value_view v) k ≡ true → KnowsClass living_class v
 knows_class f (of_value.Bool b) k s p h = tt
 knows_class f (of_value.Int n) k s p h = tt
 knows_class f (of_value.UInt n) k s p h = tt

@@ -13,7 +13,7 @@ use Rattle.ui_machine.specs.Lookups.{spec_of}
 use Rattle.ui_machine.specs.Definition.{Definition, Given}
 use Rattle.ui_machine.specs.Config.{Object, Objects, Notifying, World}
 use Rattle.ui_machine.specs.Answers.{Answer, known, only_if}
-use Rattle.ui_machine.specs.Objects.{find, class_in, object_at, asked, value_at, changed, with_value, raised}
+use Rattle.ui_machine.specs.Objects.{living, class_in, object_at, asked, value_at, changed, with_value, raised}
 use Rattle.ui_machine.specs.Worlds.{Started, starts, said}
 use Rattle.ui_machine.specs.Sets.{spec_at, raising, notifies, kept, written, settled, setting, lives, has_kind}
 use Rattle.ui_machine.specs.Emissions.{notifying, signal_at}
@@ -33,8 +33,8 @@ pub record Calm (w : World) (s : Started) : Type 0 where
 -- a world with other objects, as a change of one left them
 same_lives : {X : Type 0} (w new : World) (id : ℕ) (change : Object → Answer (Object × X)) (os : Objects × X) → changed w.objects id change ≡ Ok os → new.objects ≡ os.0 → new.builder ≡ w.builder → new.floating ≡ w.floating → IsPrefix w.transcript new.transcript → Quietly w new
 same_lives {X} w new id change os e objects builder floating grows =
-    let h = if_ok_at (λ (r : Objects × X). (q : ℕ) → is_some (find r.0 q) ≡ true → is_some (find w.objects q) ≡ true) (changed w.objects id change) os (changed_lives w.objects id change) e in
-    record { lives = λ q s. h q (subst (λ (xs : Objects). is_some (find xs q) ≡ true) objects s); builder = builder; floating = floating; grows = grows }
+    let h = if_ok_at (λ (r : Objects × X). (q : ℕ) → is_some (living r.0 q) ≡ true → is_some (living w.objects q) ≡ true) (changed w.objects id change) os (changed_lives w.objects id change) e in
+    record { lives = λ q s. h q (subst (λ (xs : Objects). is_some (living xs q) ≡ true) objects s); builder = builder; floating = floating; grows = grows }
 
 -- ** notifications
 
@@ -89,7 +89,7 @@ setting_calm d w id slot v = bind_ok (spec_at d w.objects id slot) _ (Calm w) (�
 -- ** events
 
 still : (w new : World) → new.objects ≡ w.objects → new.builder ≡ w.builder → new.floating ≡ w.floating → IsPrefix w.transcript new.transcript → Quietly w new
-still w new objects builder floating grows = record { lives = λ q h. subst (λ (xs : Objects). is_some (find xs q) ≡ true) objects h; builder = builder; floating = floating; grows = grows }
+still w new objects builder floating grows = record { lives = λ q h. subst (λ (xs : Objects). is_some (living xs q) ≡ true) objects h; builder = builder; floating = floating; grows = grows }
 
 set_given_calm : (w : World) (id slot : ℕ) (given : Given) → IfOk (set_given w id slot given) (Calm w)
 unfolding set_given

@@ -14,7 +14,7 @@ use Rattle.ui_engine.specs.declared.dispatches.Reply.{Reply}
 use Rattle.ui_engine.specs.declared.session.SessionFault.{SessionFault}
 use Rattle.ui_engine.specs.declared.session.SessionFault.TheVariants as faults
 use Rattle.ui_engine.specs.View.{held_of}
-use Rattle.ui_engine.specs.SessionView.{SessionState, tally_of, serving, carrying_out, Comes, Answers}
+use Rattle.ui_engine.specs.SessionView.{SessionState, tally_of, serving, carrying_out, Comes, AnswersEvent}
 
 -- what was only built is not released
 built_stays : (ids : List (Option ℕ)) (place : ℕ) → is_released (read unbuilt (map held_of ids) place) ≡ false
@@ -49,7 +49,7 @@ module _ (d : Definition) (w : World) (r : Request) (none : names_released w r �
 pub answers : (old : SessionState) (ids : List (Option ℕ)) (event : code.Event) (result : Result Reply SessionFault) (new : SessionState)
     → old.world.builder ≡ map held_of ids → old.stopped ≡ false
     → Comes result (carrying_out old.definition (beginning old.world (Carrying (request_of event)))) old.definition new
-    → Answers old.stopped result old (config.request (request_of event)) new
+    → AnswersEvent old.stopped result old (config.request (request_of event)) new
 answers old ids event result new same goes comes =
-    subst (λ (b : Bool). Answers b result old (config.request (request_of event)) new) (sym goes)
+    subst (λ (b : Bool). AnswersEvent b result old (config.request (request_of event)) new) (sym goes)
     (serves old.definition old.world (request_of event) (names_none old.world ids event same) result new comes)

@@ -7,7 +7,7 @@ use Rattle.ui_machine.specs.declared.arm.Halt.TheVariants as halts
 use Rattle.ui_machine.specs.Seq.{listed}
 use Rattle.ui_machine.specs.Config.{Object, Objects}
 use Rattle.ui_machine.specs.Answers.{Answer, ◌>>=◌, known, Gives, Follows}
-use Rattle.ui_machine.specs.Objects.{find, put, asked, changed}
+use Rattle.ui_machine.specs.Objects.{living, put, asked, changed}
 use Rattle.ui_engine.specs.HeapView.{Lookup, objects_of, InRange, Replaces}
 use Rattle.ui_machine.proofs.Listed.{read-listed, listed-same, listed-write, listed-more, length-listed}
 
@@ -19,7 +19,7 @@ nothing at made id range out = by (at id) refl
     by None e = e
     by (Some x) e = absurd (out (range id (ap is_some e)))
 
-pub found : (at : Lookup) (made id : ℕ) → InRange at made → find (objects_of at made) id ≡ at id
+pub found : (at : Lookup) (made id : ℕ) → InRange at made → living (objects_of at made) id ≡ at id
 found at made zero range = sym (nothing at made 0 range (λ h. omega (arith, h.0)))
 found at made (suc i) range = read-listed None (λ j. at (suc j)) made i (λ le. nothing at made (suc i) range (λ h. omega (arith, h.1, le)))
 
@@ -32,8 +32,8 @@ put_back at new made (suc i) y given r =
     listed-write None (λ j. at (suc j)) (λ j. new (suc j)) made i y (omega (arith, given.1)) r.changed
     (λ j ne. r.others (suc j) (λ e. ne (omega arith)))
 
-found_in : (at : Lookup) (made id : ℕ) (old : Objects) → InRange at made → objects_of at made ≡ old → find old id ≡ at id
-found_in at made id old range is = ap (λ (os : Objects). find os id) (sym is) ∙ found at made id range
+found_in : (at : Lookup) (made id : ℕ) (old : Objects) → InRange at made → objects_of at made ≡ old → living old id ≡ at id
+found_in at made id old range is = ap (λ (os : Objects). living os id) (sym is) ∙ found at made id range
 
 pub absent_asked : {X : Type 0} (at : Lookup) (made id : ℕ) (old : Objects) (question : Object → Answer X) → InRange at made → objects_of at made ≡ old → at id ≡ None → asked old id question ≡ Err arms.Operand
 unfolding asked

@@ -7,12 +7,12 @@ use Rattle.ui_machine.specs.Definition.{Definition}
 use Rattle.ui_machine.specs.Lookups.{spec_of}
 use Rattle.ui_machine.specs.Config.{Object, Objects}
 use Rattle.ui_machine.specs.Answers.{Answer, ◌>>=◌, known}
-use Rattle.ui_machine.specs.Objects.{find, asked}
+use Rattle.ui_machine.specs.Objects.{living, asked}
 use Rattle.ui_machine.specs.Sets.{spec_at}
 
 spec_by_class : (d : Definition) (os : Objects) (id slot : ℕ) (r : Answer ℕ) → asked os id (λ o. Ok o.class) ≡ r → spec_at d os id slot ≡ (r >>= λ class. known arms.Code (spec_of d class slot))
 unfolding asked spec_at
-spec_by_class d os id slot r h = by (find os id) ∙ ap (λ (a : Answer ℕ). a >>= λ class. known arms.Code (spec_of d class slot)) h
+spec_by_class d os id slot r h = by (living os id) ∙ ap (λ (a : Answer ℕ). a >>= λ class. known arms.Code (spec_of d class slot)) h
   where
     by : (o : Option Object) → (known arms.Operand o >>= λ x. known arms.Code (spec_of d x.class slot)) ≡ ((known arms.Operand o >>= λ x. Ok x.class) >>= λ class. known arms.Code (spec_of d class slot))
     by None = refl

@@ -2,7 +2,7 @@
 use Rattle.std.specs.Prelude.{ℕ, ◌+◌, ◌<◌, true, false, List, IsSome}
 use Rattle.ui_machine.specs.Seq.{total}
 use Rattle.ui_machine.specs.Config.{Task, Setting, Notifying, Beginning, Emitting, Transferring, Unsetting, Thawing, Running, Answering, Calling, Constructing, Building, Carrying, Due, World}
-use Rattle.ui_machine.specs.Objects.{find}
+use Rattle.ui_machine.specs.Objects.{living}
 use Rattle.ui_machine.specs.Mentions.{same, in_held}
 
 -- 1 for the construction of the object that the builder will hold
@@ -25,5 +25,5 @@ making_of o (Due source) = 0
 
 -- each living object is held, and what floats is under construction
 pub record IsHeld (w : World) (agenda : List Task) : Type 0 where
-  pub lives : (id : ℕ) → IsSome (find w.objects id) → 0 < total (in_held id) w.builder + total (making_of id) agenda
+  pub lives : (id : ℕ) → IsSome (living w.objects id) → 0 < total (in_held id) w.builder + total (making_of id) agenda
   pub floats : (id : ℕ) → 0 < total (same id) w.floating → 0 < total (making_of id) agenda

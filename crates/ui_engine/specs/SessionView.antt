@@ -67,6 +67,6 @@ Comes (Err (faults.Stuck arm)) ways d new = Breaks (halts.Stuck arm) ways d new
 Comes (Err faults.Stopped) ways d new = ⊥
 
 -- an event: a session that has stopped answers that, and changes nothing
-abbrev pub Answers : Bool → Result Reply SessionFault → SessionState → Event → SessionState → Type 0
-Answers true result old event new = (result ≡ Err faults.Stopped) × (new ≡ old)
-Answers false result old event new = Comes result (serving old.definition old.world event) old.definition new
+abbrev pub AnswersEvent : Bool → Result Reply SessionFault → SessionState → Event → SessionState → Type 0
+AnswersEvent true result old event new = (result ≡ Err faults.Stopped) × (new ≡ old)
+AnswersEvent false result old event new = Comes result (serving old.definition old.world event) old.definition new

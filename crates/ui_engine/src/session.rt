@@ -5,7 +5,7 @@ ghost use Rattle.ui_machine.specs.Runs.{beginning};
 ghost use Rattle.builder_defs.specs.Meaning.{event_of};
 ghost use Rattle.ui_machine.specs.Prefix.{IsPrefix};
 ghost use Rattle.ui_engine.specs.TaskView.{task_of};
-ghost use Rattle.ui_engine.specs.SessionView.{Answers, Comes, building, carrying_out, without_lines};
+ghost use Rattle.ui_engine.specs.SessionView.{AnswersEvent, Comes, building, carrying_out, without_lines};
 
 use crate::dispatches::Reply;
 use crate::engine::Engine;
@@ -114,7 +114,7 @@ impl Session {
 
     /// Carries out an event with all that it leads to.
     pub fn dispatch(&mut self, event: Event) -> Result<Reply, SessionFault>
-        ensures answers { Answers self.old.stopped result self.old (event_of event) self.new }
+        ensures answers { AnswersEvent self.old.stopped result self.old (event_of event) self.new }
         // It only adds lines.
         ensures grows { IsPrefix self.old.world.transcript self.new.world.transcript }
     {

@@ -4,7 +4,7 @@ use Rattle.std.specs.List.{filter, list_any}
 use Rattle.ui_machine.specs.Names.{same_name}
 use Rattle.ui_machine.specs.Properties.{has_flags}
 use Rattle.ui_machine.specs.Definition.{Definition, Bind}
-use Rattle.ui_machine.specs.Config.{Binding, Turn}
+use Rattle.ui_machine.specs.Config.{Binding, PlanEntry}
 use Rattle.ui_machine.specs.Config as config
 
 -- ** who listens
@@ -30,7 +30,7 @@ abbrev pub goes_back : (object slot : ℕ) → Binding → Bool
 goes_back object slot b = not (is_source object slot b)
 
 -- the transfers that a notification of the property is to make, in document order
-abbrev pub transfers : (object slot : ℕ) → List Binding → List Turn
+abbrev pub transfers : (object slot : ℕ) → List Binding → List PlanEntry
 transfers object slot bindings = map (λ b. config.transfer b.number (goes_back object slot b)) (filter (listens object slot) bindings)
 
 -- ** how they end

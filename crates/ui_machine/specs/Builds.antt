@@ -1,12 +1,12 @@
 -- Constructions and the build (GObject manual, g_object_new and `constructed`; GTK manual, gtk_builder_add_from_string).
-use Rattle.std.specs.Prelude.{ℕ, pos, zero, suc, Bool, true, false, cond, nat_eq, nat_le, ◌||◌, not, List, [], ◌∷◌, ◌++◌, map, length, Option, Some, None, Ok, is_some, slice_get}
+use Rattle.std.specs.Prelude.{ℕ, pos, zero, suc, Bool, true, false, cond, nat_eq, nat_le, ◌||◌, not, List, [], ◌∷◌, ◌++◌, map, length, reverse, Option, Some, None, Ok, is_some, slice_get}
 use Rattle.std.specs.List.{filter, flat_map, list_all}
 use Rattle.ui_machine.specs.declared.arm.Arm.TheVariants as arms
 use Rattle.ui_machine.specs.Seq.{read, write, total}
 use Rattle.ui_machine.specs.Kinds as kinds
 use Rattle.ui_machine.specs.Values.{Value}
 use Rattle.ui_machine.specs.Values as values
-use Rattle.ui_machine.specs.Ancestry.{is_a}
+use Rattle.ui_machine.specs.Ancestry.{lineage, is_a}
 use Rattle.ui_machine.specs.Transform.{same_bool}
 use Rattle.ui_machine.specs.Clamp.{is_valid}
 use Rattle.ui_machine.specs.Properties.{Spec, has_flags, is_writable, is_construct, is_construct_only}
@@ -15,7 +15,7 @@ use Rattle.ui_machine.specs.Lookups.{type_of, class_of, specs_of, place_at}
 use Rattle.ui_machine.specs.Lines as lines
 use Rattle.ui_machine.specs.Config.{Object, Binding, Peer, Held, unbuilt, built, released, Making, sets, runs, thaws, Item, makes, adopts, forwards, binds, connects, Setting, Transferring, Thawing, Constructing, Building, Task, World}
 use Rattle.ui_machine.specs.Answers.{Answer, ◌>>=◌, known, only_if}
-use Rattle.ui_machine.specs.Objects.{find, object_at, changed, frozen_less}
+use Rattle.ui_machine.specs.Objects.{living, object_at, changed, frozen_less}
 use Rattle.ui_machine.specs.Sets.{is_disposed, spec_at, if_settable}
 use Rattle.ui_machine.specs.Disposal.{no_peer}
 use Rattle.ui_machine.specs.Calls.{peer_number, has_shape}
@@ -88,21 +88,15 @@ abbrev pub run_of : Option ℕ → List Making
 run_of None = []
 run_of (Some program) = runs program ∷ []
 
--- the runs of the class above, if there is one
-abbrev pub runs_above : (ℕ → List Making) → Option ℕ → List Making
-runs_above f None = []
-runs_above f (Some class) = f class
-
--- the `constructed` programs from the root to the class, at most so many classes
-abbrev pub constructed_runs : ℕ → Definition → ℕ → List Making
-constructed_runs zero d class = []
-constructed_runs (suc n) d class = runs_above (constructed_runs n d) (type_of d class).parent ++ run_of (class_of d class).constructed
+-- the runs of the `constructed` programs of a class and its ancestors, the root's first
+abbrev pub constructed_runs : Definition → ℕ → List Making
+constructed_runs d class = flat_map (λ c. run_of (class_of d c).constructed) (reverse (lineage d.types class))
 
 -- what a construction does after its object was made: the construct properties by slot, the programs, the other given properties, the thaw
 abbrev pub construction : Definition → World → ℕ → Place → List Making
 construction d w place p =
     construct_sets w (not_forward place p.given) 0 (specs_of d p.class)
-    ++ (constructed_runs 16 d p.class
+    ++ (constructed_runs d p.class
     ++ (given_sets w (specs_of d p.class) (not_forward place p.given)
     ++ thaws ∷ []))
 
@@ -291,7 +285,7 @@ building_binding d w number items = do
   b ← known arms.Code (slice_get d.bindings number)
   source ← held_object w b.source
   target ← held_object w b.target
-  cond (is_disposed (find w.objects source) || is_disposed (find w.objects target))
+  cond (is_disposed (living w.objects source) || is_disposed (living w.objects target))
       (starts w (Building items ∷ []))
       (starts (with_binding w (new_binding number b source target)) (first_transfer number b ++ Building items ∷ []))
 

@@ -1,17 +1,18 @@
 -- Peers: which one an object gets, and what its calls lead to. No manual has them; they are this runtime's own.
-use Rattle.std.specs.Prelude.{ℕ, zero, suc, Bool, false, cond, List, [], ◌∷◌, Option, None, Some, Ok, Err, is_none, is_some, slice_get}
+use Rattle.std.specs.Prelude.{ℕ, Bool, false, cond, List, [], ◌∷◌, Option, None, Some, Ok, Err, is_none, is_some, slice_get}
 use Rattle.ui_machine.specs.declared.arm.Arm.TheVariants as arms
 use Rattle.ui_machine.specs.Seq.{read, write}
 use Rattle.ui_machine.specs.Names.{place_named}
 use Rattle.ui_machine.specs.Values.{Value}
 use Rattle.ui_machine.specs.Transform.{zero_value}
 use Rattle.ui_machine.specs.Definition.{Definition, Method}
-use Rattle.ui_machine.specs.Lookups.{type_of, class_of}
+use Rattle.ui_machine.specs.Ancestry.{lineage}
+use Rattle.ui_machine.specs.Lookups.{class_of}
 use Rattle.ui_machine.specs.Lines.{Line}
 use Rattle.ui_machine.specs.Lines as lines
 use Rattle.ui_machine.specs.Config.{Peer, PeerState, Question, Reply, Call, Task, World}
 use Rattle.ui_machine.specs.Answers.{Answer, ◌>>=◌, known}
-use Rattle.ui_machine.specs.Emissions.{or_else, up, most_depth}
+use Rattle.ui_machine.specs.Emissions.{first_given}
 use Rattle.ui_machine.specs.Turns.{or_zero}
 use Rattle.ui_machine.specs.Results.{Left, received}
 use Rattle.ui_machine.specs.Disposal.{no_peer}
@@ -42,14 +43,13 @@ abbrev pub first_left : List Peer → List (List ℕ) → Option ℕ
 first_left peers [] = None
 first_left peers (name ∷ names) = if_left peers (peer_number peers name) (first_left peers names)
 
--- the shape of a class: the nearest one up the tree, at most so many classes up
-abbrev pub nearest_shape : ℕ → Definition → ℕ → Option ℕ
-nearest_shape zero d class = None
-nearest_shape (suc n) d class = or_else (class_of d class).shape (up (nearest_shape n d) (type_of d class).parent)
+-- the shape of a class, or else of its nearest ancestor that has one
+abbrev pub nearest_shape : Definition → ℕ → Option ℕ
+nearest_shape d class = first_given (λ c. (class_of d c).shape) (lineage d.types class)
 
 -- whether an object of the class has a peer
 abbrev pub has_shape : Definition → ℕ → Bool
-has_shape d class = is_some (nearest_shape most_depth d class)
+has_shape d class = is_some (nearest_shape d class)
 
 -- ** calls
 

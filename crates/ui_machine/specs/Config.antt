@@ -93,10 +93,10 @@ pub data Held : Type 0 where
 -- ** tasks
 
 -- an entry of an emission's plan
-pub data Turn : Type 0 where
-  class_handler : (program : ℕ) (cleanup : Bool) → Turn
-  handler : (number : ℕ) → Turn
-  transfer : (number : ℕ) (back : Bool) → Turn
+pub data PlanEntry : Type 0 where
+  class_handler : (program : ℕ) (cleanup : Bool) → PlanEntry
+  handler : (number : ℕ) → PlanEntry
+  transfer : (number : ℕ) (back : Bool) → PlanEntry
 
 -- an emission, from before its beginning to its end
 pub record Emission : Type 0 where
@@ -163,7 +163,7 @@ pub data Task : Type 0 where
   Setting : (object slot : ℕ) (value : Value) → Task
   Notifying : (object slot : ℕ) → Task  -- a notification is to begin
   Beginning : (emission : Emission) → Task  -- an emission is to begin
-  Emitting : (emission : Emission) (turns : List Turn) → Task  -- the rest of an emission
+  Emitting : (emission : Emission) (entries : List PlanEntry) → Task  -- the rest of an emission
   Transferring : (number : ℕ) (back : Bool) → Task
   Unsetting : (number : ℕ) → Task  -- the binding stops setting
   Thawing : (object : ℕ) (slots : List ℕ) → Task  -- the notifications that are left of a thaw

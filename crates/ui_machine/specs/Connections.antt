@@ -9,7 +9,7 @@ use Rattle.ui_machine.specs.Lookups.{class_of, slot_of}
 use Rattle.ui_machine.specs.Lines as lines
 use Rattle.ui_machine.specs.Config.{Objects, Handler, World}
 use Rattle.ui_machine.specs.Answers.{Answer, ◌>>=◌, only_if}
-use Rattle.ui_machine.specs.Objects.{find, object_at}
+use Rattle.ui_machine.specs.Objects.{living, object_at}
 use Rattle.ui_machine.specs.Emissions.{signal_at}
 use Rattle.ui_machine.specs.Sets.{is_disposed}
 use Rattle.ui_machine.specs.Worlds.{said}
@@ -50,11 +50,11 @@ greatest_handler = 18446744073709551615
 -- whether the data object is disposed
 abbrev pub is_disposed_data : Objects → Option ℕ → Bool
 is_disposed_data os None = false
-is_disposed_data os (Some id) = is_disposed (find os id)
+is_disposed_data os (Some id) = is_disposed (living os id)
 
 -- whether a connection would be to, or with data of, a disposed object
 abbrev pub is_too_late : Objects → ℕ → Option ℕ → Bool
-is_too_late os id arg = is_disposed (find os id) || is_disposed_data os arg
+is_too_late os id arg = is_disposed (living os id) || is_disposed_data os arg
 
 -- what a handler is connected with: an object and its signal by number, the detail as it stands there, and the data object
 pub record Connection : Type 0 where

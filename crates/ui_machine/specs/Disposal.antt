@@ -12,7 +12,7 @@ use Rattle.ui_machine.specs.Lines.{Line}
 use Rattle.ui_machine.specs.Lines as lines
 use Rattle.ui_machine.specs.Config.{Object, Objects, Handler, Peer, World}
 use Rattle.ui_machine.specs.Answers.{Answer, ◌>>=◌, known}
-use Rattle.ui_machine.specs.Objects.{find, put}
+use Rattle.ui_machine.specs.Objects.{living, put}
 use Rattle.ui_machine.specs.Bindings.{bindings_without_end}
 use Rattle.ui_machine.specs.Worlds.{said, with_objects}
 
@@ -59,7 +59,7 @@ without_parent o = record o { parent = None }
 -- these objects have no parent
 abbrev pub orphans : List ℕ → Objects → Objects
 orphans [] os = os
-orphans (id ∷ ids) os = orphans ids (put os id (option_map without_parent (find os id)))
+orphans (id ∷ ids) os = orphans ids (put os id (option_map without_parent (living os id)))
 
 -- whether an identity, if there is one, is the object's
 abbrev pub is_identity : ℕ → Option ℕ → Bool
@@ -120,11 +120,11 @@ all_forget d id os = map (option_map (forgets d id)) os
 
 -- then it lets go of what it holds
 abbrev pub one_lets_go : Definition → ℕ → Objects → Objects
-one_lets_go d id os = put os id (option_map (lets_go d) (find os id))
+one_lets_go d id os = put os id (option_map (lets_go d) (living os id))
 
 -- the objects after one was disposed: at last the children that it had have no parent
 abbrev pub objects_disposed : Definition → ℕ → Objects → Objects
-objects_disposed d id os = orphans (children_of (find os id)) (one_lets_go d id (all_forget d id os))
+objects_disposed d id os = orphans (children_of (living os id)) (one_lets_go d id (all_forget d id os))
 
 -- the world where an object has let go of what it held, and is forgotten by weak properties, handlers and bindings
 abbrev pub without_object : Definition → World → ℕ → World
@@ -137,7 +137,7 @@ without_object d w id = record w {
 -- the world after an object was disposed
 abbrev pub disposed : Definition → World → ℕ → Answer World
 disposed d w id =
-    closing d (peer_of (find w.objects id)) (said_if d (is_first (find w.objects id)) (without_object d w id) (lines.dispose id))
+    closing d (peer_of (living w.objects id)) (said_if d (is_first (living w.objects id)) (without_object d w id) (lines.dispose id))
 
 -- the world after an object was finalised: disposed, again if it was, and taken out
 unfoldable pub finalised : Definition → World → ℕ → Answer World

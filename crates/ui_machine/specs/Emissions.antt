@@ -1,13 +1,14 @@
 -- Emissions: what runs in them, and in which order (GObject manual, signals: g_signal_new, g_signal_emit).
-use Rattle.std.specs.Prelude.{ℕ, zero, suc, Bool, true, false, cond, nat_eq, ◌&&◌, not, List, [], ◌∷◌, ◌++◌, map, Option, Some, None, slice_get}
+use Rattle.std.specs.Prelude.{ℕ, Bool, true, false, cond, nat_eq, ◌&&◌, not, List, [], ◌∷◌, ◌++◌, map, Option, Some, None, slice_get}
 use Rattle.std.specs.List.{filter}
 use Rattle.ui_machine.specs.declared.arm.Arm.TheVariants as arms
 use Rattle.ui_machine.specs.Names.{same_name}
 use Rattle.ui_machine.specs.Properties.{has_flags}
 use Rattle.ui_machine.specs.Definition.{Definition, Signal, ClassHandler}
-use Rattle.ui_machine.specs.Lookups.{type_of, class_of, spec_of}
+use Rattle.ui_machine.specs.Ancestry.{lineage}
+use Rattle.ui_machine.specs.Lookups.{class_of, spec_of}
 use Rattle.ui_machine.specs.Lines as lines
-use Rattle.ui_machine.specs.Config.{Handler, Turn, class_handler, handler, Emission, Emitting, World}
+use Rattle.ui_machine.specs.Config.{Handler, PlanEntry, class_handler, handler, Emission, Emitting, World}
 use Rattle.ui_machine.specs.Answers.{Answer, ◌>>=◌, known, only_if}
 use Rattle.ui_machine.specs.Objects.{object_at, class_in}
 use Rattle.ui_machine.specs.Transform.{kind_fits}
@@ -35,24 +36,14 @@ abbrev pub or_else : Option ℕ → Option ℕ → Option ℕ
 or_else None other = other
 or_else (Some p) other = Some p
 
--- what the class above gives, if there is one
-abbrev pub up : (ℕ → Option ℕ) → Option ℕ → Option ℕ
-up f None = None
-up f (Some class) = f class
+-- what the first of some classes gives that gives something
+abbrev pub first_given : (ℕ → Option ℕ) → List ℕ → Option ℕ
+first_given f [] = None
+first_given f (class ∷ above) = or_else (f class) (first_given f above)
 
--- the program that the nearest class gives for a signal, at most so many classes up
-abbrev pub nearest_handler : ℕ → Definition → List ℕ → ℕ → Option ℕ
-nearest_handler zero d name class = None
-nearest_handler (suc n) d name class =
-    or_else (handler_in (class_of d class).handlers name) (up (nearest_handler n d name) (type_of d class).parent)
-
--- the most classes from a class up to the root
-abbrev pub most_depth : ℕ
-most_depth = 16
-
--- the program of the nearest class
+-- the program that a class or else its nearest ancestor names for a signal
 abbrev pub class_handler_of : Definition → ℕ → List ℕ → Option ℕ
-class_handler_of d class name = nearest_handler most_depth d name class
+class_handler_of d class name = first_given (λ c. handler_in (class_of d c).handlers name) (lineage d.types class)
 
 -- ** the plan
 
@@ -66,28 +57,28 @@ fits_detail (Some mine) (Some detail) = same_name mine detail
 abbrev pub runs_for : ℕ → ℕ → Option (List ℕ) → Handler → Bool
 runs_for id signal detail h = (nat_eq h.object id && nat_eq h.signal signal) && fits_detail h.detail detail
 
--- the class handler's turn, if it runs at this stage
-abbrev pub at_stage : Bool → Bool → Option ℕ → List Turn
+-- the class handler's entry, if it runs at this stage
+abbrev pub at_stage : Bool → Bool → Option ℕ → List PlanEntry
 at_stage runs cleanup None = []
 at_stage runs cleanup (Some program) = cond runs (class_handler program cleanup ∷ []) []
 
--- the turns of the handlers, before or after the class handler
-abbrev pub handlers_for : List Handler → ℕ → ℕ → Option (List ℕ) → Bool → List Turn
+-- the entries of the handlers, before or after the class handler
+abbrev pub handlers_for : List Handler → ℕ → ℕ → Option (List ℕ) → Bool → List PlanEntry
 handlers_for hs id signal detail after =
     map (λ (h : Handler). handler h.number) (filter (λ (h : Handler). runs_for id signal detail h && cond after h.after (not h.after)) hs)
 
--- what an emission's turns are taken from
+-- what an emission's entries are taken from
 pub record Planned : Type 0 where
   pub object : ℕ
   pub signal : ℕ
   pub detail : Option (List ℕ)
   pub flags : ℕ  -- of the signal
   pub class_program : Option ℕ  -- that the class runs for it
-  pub transfers : List Turn  -- of a notification
+  pub transfers : List PlanEntry  -- of a notification
 
--- the turns of an emission, taken as it begins: the class handler if RUN_FIRST; a notification's transfers; the handlers; the class
+-- the entries of an emission, taken as it begins: the class handler if RUN_FIRST; a notification's transfers; the handlers; the class
 -- handler if RUN_LAST; the handlers connected after; the class handler if RUN_CLEANUP
-abbrev pub plan : World → Planned → List Turn
+abbrev pub plan : World → Planned → List PlanEntry
 plan w p =
     at_stage (has_flags 1 p.flags) false p.class_program
     ++ (p.transfers
@@ -102,8 +93,8 @@ plan w p =
 abbrev pub notification : ℕ → List ℕ → Emission
 notification id name = record { object = id; signal = 0; detail = Some name; args = []; by_event = false; value = None; cleanup = false }
 
--- the turns of a notification, by the signal `notify` of the class
-abbrev pub notify_plan : Definition → World → Signal → (class id slot : ℕ) → List ℕ → List Turn
+-- the entries of a notification, by the signal `notify` of the class
+abbrev pub notify_plan : Definition → World → Signal → (class id slot : ℕ) → List ℕ → List PlanEntry
 notify_plan d w s class id slot name = plan w (record {
   object = id;
   signal = 0;
@@ -123,8 +114,8 @@ notifying d w id slot = do
 
 -- ** other emissions
 
--- its turns, by its signal; it makes no transfers
-abbrev pub emission_plan : Definition → World → Signal → (class : ℕ) → Emission → List Turn
+-- its entries, by its signal; it makes no transfers
+abbrev pub emission_plan : Definition → World → Signal → (class : ℕ) → Emission → List PlanEntry
 emission_plan d w s class e = plan w (record {
   object = e.object;
   signal = e.signal;
@@ -134,7 +125,7 @@ emission_plan d w s class e = plan w (record {
   transfers = [];
 })
 
--- an emission that is due begins: its arguments fit, its line is said, and its turns are taken
+-- an emission that is due begins: its arguments fit, its line is said, and its entries are taken
 unfoldable pub beginning_emission : Definition → World → Emission → Answer Started
 beginning_emission d w e = do
   o ← object_at w.objects e.object

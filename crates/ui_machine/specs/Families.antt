@@ -5,7 +5,7 @@ use Rattle.std.specs.Prelude.{codes}
 use Rattle.ui_machine.specs.Lines as lines
 use Rattle.ui_machine.specs.Config.{Object, Objects, World}
 use Rattle.ui_machine.specs.Answers.{Answer, ◌>>=◌}
-use Rattle.ui_machine.specs.Objects.{find, put, object_at}
+use Rattle.ui_machine.specs.Objects.{living, put, object_at}
 use Rattle.ui_machine.specs.Worlds.{said, with_objects, sunk, without}
 
 -- the most children of an object
@@ -30,7 +30,7 @@ without_child child o = record o { children = without child o.children }
 
 -- the objects with one changed, where it lives
 abbrev pub updated : (Object → Object) → ℕ → Objects → Objects
-updated change id os = put os id (option_map change (find os id))
+updated change id os = put os id (option_map change (living os id))
 
 -- the world after an object became a child, and no longer floats
 abbrev pub with_family : Definition → World → ℕ → ℕ → World

@@ -18,7 +18,7 @@ use Rattle.ui_machine.specs.Lines as lines
 use Rattle.ui_machine.specs.Sources as sources
 use Rattle.ui_machine.specs.Config.{Emission, Frame, Setting, Beginning, Thawing, Calling, Task, World}
 use Rattle.ui_machine.specs.Answers.{Answer, ◌>>=◌, known, only_if}
-use Rattle.ui_machine.specs.Objects.{find, live, object_at, asked, changed, value_at, class_in, frozen_more, frozen_less, most_identities}
+use Rattle.ui_machine.specs.Objects.{living, live, object_at, asked, changed, value_at, class_in, frozen_more, frozen_less, most_identities}
 use Rattle.ui_machine.specs.Bindings.{is_binding, bindings_without}
 use Rattle.ui_machine.specs.Sets.{has_kind, spec_at, if_settable, raising, is_disposed}
 use Rattle.ui_machine.specs.Registers.{value_in, values_in, truth_in, text_in, whole_in, operand_in, data_in, with_register, goes_on, written_to, gives, tells}
@@ -267,7 +267,7 @@ orphaning d w f object = do
 
 -- the world after an object was disposed, unless it was before
 abbrev pub disposed_once : Definition → World → ℕ → Answer World
-disposed_once d w id = cond (is_disposed (find w.objects id)) (Ok w) (disposed d w id)
+disposed_once d w id = cond (is_disposed (living w.objects id)) (Ok w) (disposed d w id)
 
 -- `dispose o`: once
 unfoldable pub disposing : Definition → World → Frame → ℕ → Answer Started
@@ -317,14 +317,21 @@ signal_to_emit d w id name = do
   signal ← signal_in d w id name
   only_if (nat_lt 0 signal) arms.Code (Ok signal)
 
+-- what `emit` says beside the object
+pub record Emit : Type 0 where
+  pub into : Option ℕ
+  pub signal : List ℕ
+  pub detail : Option (List ℕ)
+  pub args : List ℕ
+
 -- `emit z o s D [a..]`: the program waits for the result, if it takes it
-unfoldable pub emitting : Definition → World → Frame → Option ℕ → ℕ → List ℕ → Option (List ℕ) → List ℕ → Answer Started
-emitting d w f into object name detail args = do
+unfoldable pub emitting : Definition → World → Frame → (object : ℕ) → Emit → Answer Started
+emitting d w f object e = do
   id ← operand_in w f object
-  signal ← signal_to_emit d w id name
-  stands ← detail_in d w id signal detail
-  given ← values_in f args
-  goes_on w (Beginning (new_emission id signal stands given false) ∷ []) (record f { into = into })
+  signal ← signal_to_emit d w id e.signal
+  detail ← detail_in d w id signal e.detail
+  given ← values_in f e.args
+  goes_on w (Beginning (new_emission id signal detail given false) ∷ []) (record f { into = e.into })
 
 -- what `connect` says beside the object and the register that it writes
 pub record Connect : Type 0 where

@@ -51,7 +51,7 @@ abbrev pub in_task : ℕ → Task → ℕ
 in_task o (Setting object slot v) = same o object
 in_task o (Notifying object slot) = same o object
 in_task o (Beginning emission) = in_emission o emission
-in_task o (Emitting emission turns) = in_emission o emission
+in_task o (Emitting emission entries) = in_emission o emission
 in_task o (Transferring number back) = 0
 in_task o (Unsetting number) = 0
 in_task o (Thawing object slots) = same o object

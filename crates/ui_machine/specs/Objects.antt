@@ -8,9 +8,9 @@ use Rattle.ui_machine.specs.Config.{Object, Objects}
 use Rattle.ui_machine.specs.Answers.{Answer, ◌>>=◌, known, only_if}
 
 -- the object of an identity, while it lives
-abbrev pub find : Objects → ℕ → Option Object
-find os zero = None
-find os (suc i) = read None os i
+abbrev pub living : Objects → ℕ → Option Object
+living os zero = None
+living os (suc i) = read None os i
 
 -- the objects with this one, or none, under an identity
 abbrev pub put : Objects → ℕ → Option Object → Objects
@@ -28,11 +28,11 @@ live os = total one_if os
 
 -- the class of a living identity
 abbrev pub class_in : Objects → ℕ → Option ℕ
-class_in os id = option_map (λ (o : Object). o.class) (find os id)
+class_in os id = option_map (λ (o : Object). o.class) (living os id)
 
 -- that object, as an operand
 abbrev pub object_at : Objects → ℕ → Answer Object
-object_at os id = known arms.Operand (find os id)
+object_at os id = known arms.Operand (living os id)
 
 -- what one object answers
 unfoldable pub asked : {X : Type 0} → Objects → ℕ → (Object → Answer X) → Answer X

@@ -11,14 +11,14 @@ use Rattle.ui_machine.specs.Lookups.{program_at}
 use Rattle.ui_machine.specs.Lines as lines
 use Rattle.ui_machine.specs.Config.{Object, Objects, Registers, Frame, Running, Task, World}
 use Rattle.ui_machine.specs.Answers.{Answer, ◌>>=◌, known, only_if}
-use Rattle.ui_machine.specs.Objects.{find, class_in}
+use Rattle.ui_machine.specs.Objects.{living, class_in}
 use Rattle.ui_machine.specs.Worlds.{Started, starts, said}
 
 -- ** what fits a parameter
 
 -- the place of a living object
 abbrev pub place_in : Objects → ℕ → Option ℕ
-place_in os id = option_map (λ (o : Object). o.place) (find os id)
+place_in os id = option_map (λ (o : Object). o.place) (living os id)
 
 -- whether it is there and is n
 abbrev pub is_number : ℕ → Option ℕ → Bool

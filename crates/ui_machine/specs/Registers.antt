@@ -7,7 +7,7 @@ use Rattle.ui_machine.specs.Values.{Value}
 use Rattle.ui_machine.specs.Values as values
 use Rattle.ui_machine.specs.Config.{Registers, Frame, Task, Running, World}
 use Rattle.ui_machine.specs.Answers.{Answer, ◌>>=◌, known, only_if}
-use Rattle.ui_machine.specs.Objects.{find}
+use Rattle.ui_machine.specs.Objects.{living}
 use Rattle.ui_machine.specs.Worlds.{Started, starts}
 
 -- ** reading
@@ -68,7 +68,7 @@ unfoldable pub operand_in : World → Frame → ℕ → Answer ℕ
 operand_in w f from = do
   v ← value_in f from
   i ← identity_of v
-  only_if (is_some (find w.objects i)) arms.Operand (Ok i)
+  only_if (is_some (living w.objects i)) arms.Operand (Ok i)
 
 -- the same of an operand that may be left out
 unfoldable pub data_in : World → Frame → Option ℕ → Answer (Option ℕ)

@@ -7,7 +7,7 @@ use Rattle.ui_machine.specs.Values as values
 use Rattle.ui_machine.specs.Definition.{Definition}
 use Rattle.ui_machine.specs.Lines as lines
 use Rattle.ui_machine.specs.Sources as sources
-use Rattle.ui_machine.specs.Config.{Turn, Emission, Emitting, Frame, Running, Answering, Task, World}
+use Rattle.ui_machine.specs.Config.{PlanEntry, Emission, Emitting, Frame, Running, Answering, Task, World}
 use Rattle.ui_machine.specs.Answers.{Answer, ◌>>=◌}
 use Rattle.ui_machine.specs.Registers.{with_register}
 use Rattle.ui_machine.specs.Turns.{collecting, resulting}
@@ -35,9 +35,9 @@ untaken w rest None = leaves w rest
 untaken w rest (Some v) = Err arms.Result
 
 -- to an emission
-unfoldable pub down_to_emission : Definition → World → Emission → List Turn → List Task → Option Value → Answer Left
-down_to_emission d w e turns rest given = do
-  task ← collecting d w e turns given
+unfoldable pub down_to_emission : Definition → World → Emission → List PlanEntry → List Task → Option Value → Answer Left
+down_to_emission d w e entries rest given = do
+  task ← collecting d w e entries given
   leaves w (task ∷ rest)
 
 -- to a source
@@ -49,7 +49,7 @@ down_to_source w source rest given = do
 -- a program's result, or none, goes to its emission or source
 abbrev pub given_down : Definition → World → List Task → Option Value → Answer Left
 given_down d w [] given = untaken w [] given
-given_down d w (Emitting e turns ∷ rest) given = down_to_emission d w e turns rest given
+given_down d w (Emitting e entries ∷ rest) given = down_to_emission d w e entries rest given
 given_down d w (Answering source ∷ rest) given = down_to_source w source rest given
 given_down d w (task ∷ rest) given = untaken w (task ∷ rest) given
 

@@ -101,7 +101,8 @@ instructed d w rest f (words.dispose object) = in_front rest (disposing d w f ob
 instructed d w rest f (words.adopt to parent child) = in_front rest (adopting d w f to parent child)
 instructed d w rest f (words.freeze object) = in_front rest (freezing w f object)
 instructed d w rest f (words.thaw object) = in_front rest (unfreezing w f object)
-instructed d w rest f (words.emit into object name detail args) = in_front rest (emitting d w f into object name detail args)
+instructed d w rest f (words.emit into object name detail args) =
+    in_front rest (emitting d w f object (record { into = into; signal = name; detail = detail; args = args }))
 instructed d w rest f (words.notify object name) = in_front rest (telling d w f object name)
 instructed d w rest f (words.connect to object signal detail program after swapped with) =
     in_front rest (connecting d w rest f to object (record {

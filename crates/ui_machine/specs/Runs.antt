@@ -212,7 +212,8 @@ abbrev pub tallied : Tally → Tally → Tally
 tallied first later = record { dispatches = first.dispatches + later.dispatches; steps = first.steps + later.steps }
 
 -- two parts, one after the other
-pub record Then (First Later : List Reply → World → Tally → World → Type 0) (replies : List Reply) (w : World) (tally : Tally) (new : World) : Type 0 where
+pub record Then (First Later : List Reply → World → Tally → World → Type 0)
+    (replies : List Reply) (w : World) (tally : Tally) (new : World) : Type 0 where
   pub first : List Reply
   pub later : List Reply
   pub mid : World

@@ -13,7 +13,7 @@ use Rattle.ui_machine.specs.Lookups.{spec_of}
 use Rattle.ui_machine.specs.Lines as lines
 use Rattle.ui_machine.specs.Config.{Object, Objects, Notifying, World}
 use Rattle.ui_machine.specs.Answers.{Answer, ◌>>=◌, known, only_if}
-use Rattle.ui_machine.specs.Objects.{find, class_in, object_at, changed, with_value, raised}
+use Rattle.ui_machine.specs.Objects.{living, class_in, object_at, changed, with_value, raised}
 use Rattle.ui_machine.specs.Worlds.{Started, starts, said, with_objects}
 
 -- the spec of a living object's property
@@ -40,7 +40,7 @@ lives os (values.text s) = true
 lives os (values.enum type n) = true
 lives os (values.flags type bits) = true
 lives os (values.object None) = true
-lives os (values.object (Some i)) = is_some (find os i)
+lives os (values.object (Some i)) = is_some (living os i)
 
 -- ** notifications
 
@@ -73,7 +73,7 @@ unless_disposed os (values.text s) = values.text s
 unless_disposed os (values.enum type n) = values.enum type n
 unless_disposed os (values.flags type bits) = values.flags type bits
 unless_disposed os (values.object None) = values.object None
-unless_disposed os (values.object (Some i)) = values.object (cond (is_disposed (find os i)) None (Some i))
+unless_disposed os (values.object (Some i)) = values.object (cond (is_disposed (living os i)) None (Some i))
 
 -- the value that is written: a weak property takes no disposed object
 abbrev pub kept : Objects → Spec → Value → Value

@@ -59,8 +59,8 @@ without_first p [] = []
 without_first p (x ∷ xs) = cond (p x) xs (x ∷ without_first p xs)
 
 -- whether this is the source of the number
-abbrev pub has_number : ℕ → Source → Bool
-has_number number s = nat_eq s.number number
+abbrev pub is_numbered : ℕ → Source → Bool
+is_numbered number s = nat_eq s.number number
 
 -- whether the source runs the program
 abbrev pub runs_program : ℕ → Source → Bool
@@ -68,11 +68,11 @@ runs_program program s = nat_eq s.program program
 
 -- the source of the number, if it is attached
 abbrev pub source_of : ℕ → List Source → Option Source
-source_of number sources = find (has_number number) sources
+source_of number sources = find (is_numbered number) sources
 
 -- the sources without the one of the number
 abbrev pub without_source : ℕ → List Source → List Source
-without_source number sources = without_first (has_number number) sources
+without_source number sources = without_first (is_numbered number) sources
 
 -- the sources without those of the program
 abbrev pub without_program : ℕ → List Source → List Source
@@ -80,7 +80,7 @@ without_program program sources = filter (λ s. not (runs_program program s)) so
 
 -- the sources where the one of the number is due one interval after the moment
 abbrev pub rescheduled : (moment number : ℕ) → List Source → List Source
-rescheduled moment number sources = map (λ s. cond (has_number number s) (record s { due = due_after moment s.interval }) s) sources
+rescheduled moment number sources = map (λ s. cond (is_numbered number s) (record s { due = due_after moment s.interval }) s) sources
 
 -- the sources after the program of one has answered: FALSE removes it, TRUE keeps it
 abbrev pub answered : (moment number : ℕ) → Bool → List Source → List Source

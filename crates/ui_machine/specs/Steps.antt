@@ -18,7 +18,7 @@ use Rattle.ui_machine.specs.Sets.{setting, spec_at, if_settable}
 use Rattle.ui_machine.specs.Programs.{program_before}
 use Rattle.ui_machine.specs.Emissions.{notifying, beginning_emission}
 use Rattle.ui_machine.specs.Transfers.{transferring, unsetting}
-use Rattle.ui_machine.specs.Turns.{taking}
+use Rattle.ui_machine.specs.Turns.{taking_entry}
 use Rattle.ui_machine.specs.Results.{Left, ending}
 use Rattle.ui_machine.specs.Calls.{calling_on, question_of}
 use Rattle.ui_machine.specs.Builds.{making, making_set, constructed, thawing_made, given_value, held_object, peer_for, building_child, building_forward, building_binding, building_handler}
@@ -169,7 +169,7 @@ act d w reply (Setting id slot v ∷ rest) n = uncounted rest n (setting d w id 
 act d w reply (Notifying id slot ∷ rest) n = counted rest n (notifying d w id slot)
 act d w reply (Beginning emission ∷ rest) n = counted rest n (beginning_emission d w emission)
 act d w reply (Emitting emission [] ∷ rest) n = left n (ending d w emission rest)
-act d w reply (Emitting emission (turn ∷ turns) ∷ rest) n = uncounted rest n (taking d w emission turns turn)
+act d w reply (Emitting emission (entry ∷ entries) ∷ rest) n = uncounted rest n (taking_entry d w emission entries entry)
 act d w reply (Transferring number back ∷ rest) n = counted rest n (transferring d w number back)
 act d w reply (Unsetting number ∷ rest) n = uncounted rest n (unsetting w number)
 act d w reply (Thawing id slots ∷ rest) n = uncounted rest n (thawing w id slots)
@@ -204,7 +204,7 @@ asked_first w [] = None
 asked_first w (Setting id slot v ∷ rest) = None
 asked_first w (Notifying id slot ∷ rest) = None
 asked_first w (Beginning emission ∷ rest) = None
-asked_first w (Emitting emission turns ∷ rest) = None
+asked_first w (Emitting emission entries ∷ rest) = None
 asked_first w (Transferring number back ∷ rest) = None
 asked_first w (Unsetting number ∷ rest) = None
 asked_first w (Thawing id slots ∷ rest) = None

@@ -40,28 +40,39 @@ inverted false v = v
 inverted true None = None
 inverted true (Some v) = opposite v
 
--- a value is set, and the binding sets until all that this raises has ended; without a value nothing is set
-abbrev pub set_by : World → ℕ → ℕ → ℕ → Option Value → Answer Started
-set_by w number target slot None = starts w []
-set_by w number target slot (Some v) =
-    starts (record w { bindings = with_busy number true w.bindings }) (Setting target slot v ∷ Unsetting number ∷ [])
+-- an end of a binding
+pub record End : Type 0 where
+  pub object : ℕ
+  pub slot : ℕ
+
+abbrev pub source_end : Binding → End
+source_end b = record { object = b.source; slot = b.source_slot }
+
+abbrev pub target_end : Binding → End
+target_end b = record { object = b.target; slot = b.target_slot }
+
+-- a value is set at an end, and the binding sets until all that this raises has ended; without a value nothing is set
+abbrev pub set_by : World → ℕ → End → Option Value → Answer Started
+set_by w number end None = starts w []
+set_by w number end (Some v) =
+    starts (record w { bindings = with_busy number true w.bindings }) (Setting end.object end.slot v ∷ Unsetting number ∷ [])
 
 -- the value of one end is transformed, inverted and set at the other
-unfoldable pub carried : Definition → World → Binding → (source source_slot target target_slot : ℕ) → Answer Started
-carried d w b source source_slot target target_slot = do
-  from ← spec_at d w.objects source source_slot
-  to ← spec_at d w.objects target target_slot
-  v ← asked w.objects source (value_at source_slot)
+unfoldable pub carried : Definition → World → Binding → (source target : End) → Answer Started
+carried d w b source target = do
+  from ← spec_at d w.objects source.object source.slot
+  to ← spec_at d w.objects target.object target.slot
+  v ← asked w.objects source.object (value_at source.slot)
   only_if (is_readable from) arms.Flags
       (only_if (is_writable to) arms.Flags
       (only_if (not (is_construct_only to)) arms.ConstructOnly
-      (set_by w b.number target target_slot (inverted (inverts b) (transformed d.types from.kind to.kind v)))))
+      (set_by w b.number target (inverted (inverts b) (transformed d.types from.kind to.kind v)))))
 
 -- in one of the two directions
 abbrev pub carried_by : Definition → World → Bool → Option Binding → Answer Started
 carried_by d w back None = starts w []
-carried_by d w false (Some b) = carried d w b b.source b.source_slot b.target b.target_slot
-carried_by d w true (Some b) = carried d w b b.target b.target_slot b.source b.source_slot
+carried_by d w false (Some b) = carried d w b (source_end b) (target_end b)
+carried_by d w true (Some b) = carried d w b (target_end b) (source_end b)
 
 -- a due transfer
 abbrev pub transferring : Definition → World → ℕ → Bool → Answer Started

@@ -93,16 +93,16 @@ abbrev pub is_one : List GType → ℕ → Option ℕ → Bool
 is_one types t None = false
 is_one types t (Some c) = is_a types c t
 
--- whether a value is one of the kind, where class_of gives the class of a living identity
+-- whether a value is one of the kind, where living_class gives the class of a living identity
 abbrev pub kind_fits : (ℕ → Option ℕ) → List GType → Value → Kind → Bool
-kind_fits class_of types (values.bool b) kinds.bool = true
-kind_fits class_of types (values.whole k n) (kinds.whole l) = same_whole k l && is_between (least l) (greatest l) n
-kind_fits class_of types (values.text s) kinds.text = true
-kind_fits class_of types (values.enum t n) (kinds.enum u) = nat_eq t u && has_number (members_of types u) n
-kind_fits class_of types (values.flags t bits) (kinds.flags u) = nat_eq t u && nat_lt bits (2 ^ 32)
-kind_fits class_of types (values.object None) (kinds.object t) = true
-kind_fits class_of types (values.object (Some id)) (kinds.object t) = is_one types t (class_of id)
-kind_fits class_of types _ _ = false
+kind_fits living_class types (values.bool b) kinds.bool = true
+kind_fits living_class types (values.whole k n) (kinds.whole l) = same_whole k l && is_between (least l) (greatest l) n
+kind_fits living_class types (values.text s) kinds.text = true
+kind_fits living_class types (values.enum t n) (kinds.enum u) = nat_eq t u && has_number (members_of types u) n
+kind_fits living_class types (values.flags t bits) (kinds.flags u) = nat_eq t u && nat_lt bits (2 ^ 32)
+kind_fits living_class types (values.object None) (kinds.object t) = true
+kind_fits living_class types (values.object (Some id)) (kinds.object t) = is_one types t (living_class id)
+kind_fits living_class types _ _ = false
 
 -- ** transformations
 

@@ -1,4 +1,5 @@
--- The turns of an emission, how it is stopped, and what it results in (GObject manual, signals: accumulators, g_signal_stop_emission).
+-- The entries of an emission's plan, how it is stopped, and what it results in (GObject manual, signals: accumulators,
+-- g_signal_stop_emission).
 use Rattle.std.specs.Prelude.{ℕ, Bool, true, false, cond, ◌||◌, nat_eq, nat_lt, List, [], ◌∷◌, ◌++◌, Option, None, Some, Ok}
 use Rattle.std.specs.List.{filter, find}
 use Rattle.ui_machine.specs.declared.arm.Arm.TheVariants as arms
@@ -8,7 +9,7 @@ use Rattle.ui_machine.specs.Values as values
 use Rattle.ui_machine.specs.Transform.{zero_value, kind_fits}
 use Rattle.ui_machine.specs.Definition.{Definition, Signal, Accumulator, true_handled, first_wins}
 use Rattle.ui_machine.specs.Config as config
-use Rattle.ui_machine.specs.Config.{Handler, Turn, class_handler, handler, Emission, Emitting, Task, World}
+use Rattle.ui_machine.specs.Config.{Handler, PlanEntry, class_handler, handler, Emission, Emitting, Task, World}
 use Rattle.ui_machine.specs.Answers.{Answer, ◌>>=◌, only_if}
 use Rattle.ui_machine.specs.Objects.{object_at, class_in}
 use Rattle.ui_machine.specs.Programs.{program_before}
@@ -16,7 +17,7 @@ use Rattle.ui_machine.specs.Transfers.{binding_of, transfer_for}
 use Rattle.ui_machine.specs.Emissions.{signal_at}
 use Rattle.ui_machine.specs.Worlds.{Started, starts}
 
--- ** turns
+-- ** entries
 
 -- the object that emits
 abbrev pub instance_of : Emission → Value
@@ -42,36 +43,36 @@ handler_of number hs = find (λ h. nat_eq h.number number) hs
 abbrev pub in_stage : Bool → Emission → Emission
 in_stage cleanup e = record e { cleanup = e.cleanup || cleanup }
 
--- a handler's turn: passed over where it is gone or blocked
-abbrev pub turn_of : Definition → World → Emission → List Turn → Option Handler → Answer Started
-turn_of d w e turns None = starts w (Emitting e turns ∷ [])
-turn_of d w e turns (Some h) =
-    cond (nat_lt 0 h.blocks) (starts w (Emitting e turns ∷ [])) (program_before d w h.program (given_to e h) (Emitting e turns ∷ []))
+-- a handler's entry: passed over where it is gone or blocked
+abbrev pub running_handler : Definition → World → Emission → List PlanEntry → Option Handler → Answer Started
+running_handler d w e entries None = starts w (Emitting e entries ∷ [])
+running_handler d w e entries (Some h) =
+    cond (nat_lt 0 h.blocks) (starts w (Emitting e entries ∷ [])) (program_before d w h.program (given_to e h) (Emitting e entries ∷ []))
 
--- an emission takes its next turn
-abbrev pub taking : Definition → World → Emission → List Turn → Turn → Answer Started
-taking d w e turns (class_handler program cleanup) =
-    program_before d w program (instance_of e ∷ e.args) (Emitting (in_stage cleanup e) turns ∷ [])
-taking d w e turns (handler number) = turn_of d w e turns (handler_of number w.handlers)
-taking d w e turns (config.transfer number back) =
-    starts w (transfer_for (binding_of number w.bindings) number back ++ Emitting e turns ∷ [])
+-- an emission takes its next entry
+abbrev pub taking_entry : Definition → World → Emission → List PlanEntry → PlanEntry → Answer Started
+taking_entry d w e entries (class_handler program cleanup) =
+    program_before d w program (instance_of e ∷ e.args) (Emitting (in_stage cleanup e) entries ∷ [])
+taking_entry d w e entries (handler number) = running_handler d w e entries (handler_of number w.handlers)
+taking_entry d w e entries (config.transfer number back) =
+    starts w (transfer_for (binding_of number w.bindings) number back ++ Emitting e entries ∷ [])
 
 -- ** stops
 
--- whether a turn is of the cleanup stage
-abbrev pub is_of_cleanup : Turn → Bool
+-- whether an entry is of the cleanup stage
+abbrev pub is_of_cleanup : PlanEntry → Bool
 is_of_cleanup (class_handler program cleanup) = cleanup
 is_of_cleanup (handler number) = false
 is_of_cleanup (config.transfer number back) = false
 
--- the turns that are left after a stop: those of the cleanup stage; in it a stop does nothing
-abbrev pub left_by_stop : Emission → List Turn → List Turn
-left_by_stop e turns = cond e.cleanup turns (filter is_of_cleanup turns)
+-- the entries that are left after a stop: those of the cleanup stage; in it a stop does nothing
+abbrev pub left_by_stop : Emission → List PlanEntry → List PlanEntry
+left_by_stop e entries = cond e.cleanup entries (filter is_of_cleanup entries)
 
 -- a stop reaches the emission that runs the program
 abbrev pub stopped : List Task → List Task
 stopped [] = []
-stopped (Emitting e turns ∷ rest) = Emitting e (left_by_stop e turns) ∷ rest
+stopped (Emitting e entries ∷ rest) = Emitting e (left_by_stop e entries) ∷ rest
 stopped (task ∷ rest) = task ∷ rest
 
 -- ** what an emission accumulates
@@ -87,15 +88,15 @@ is_last None v = false
 is_last (Some true_handled) v = is_true v
 is_last (Some first_wins) v = true
 
--- the turns that are left, perhaps after a stop
-abbrev pub turns_after : Bool → Emission → List Turn → List Turn
-turns_after false e turns = turns
-turns_after true e turns = left_by_stop e turns
+-- the entries that are left, perhaps after a stop
+abbrev pub entries_after : Bool → Emission → List PlanEntry → List PlanEntry
+entries_after false e entries = entries
+entries_after true e entries = left_by_stop e entries
 
 -- the emission after one of its programs gave a value; in the cleanup stage it takes none
-abbrev pub accumulated : Signal → Emission → List Turn → Value → Task
-accumulated s e turns v =
-    cond e.cleanup (Emitting e turns) (Emitting (record e { value = Some v }) (turns_after (is_last s.accumulator v) e turns))
+abbrev pub accumulated : Signal → Emission → List PlanEntry → Value → Task
+accumulated s e entries v =
+    cond e.cleanup (Emitting e entries) (Emitting (record e { value = Some v }) (entries_after (is_last s.accumulator v) e entries))
 
 -- whether what a program gave is what the signal wants
 abbrev pub suits : (Value → Kind → Bool) → Option Value → Option Kind → Bool
@@ -105,16 +106,16 @@ suits fits (Some v) None = false
 suits fits (Some v) (Some kind) = fits v kind
 
 -- the same, where a program may give none
-abbrev pub collected : Signal → Emission → List Turn → Option Value → Task
-collected s e turns None = Emitting e turns
-collected s e turns (Some v) = accumulated s e turns v
+abbrev pub collected : Signal → Emission → List PlanEntry → Option Value → Task
+collected s e entries None = Emitting e entries
+collected s e entries (Some v) = accumulated s e entries v
 
 -- the emission takes what its program gave
-unfoldable pub collecting : Definition → World → Emission → List Turn → Option Value → Answer Task
-collecting d w e turns given = do
+unfoldable pub collecting : Definition → World → Emission → List PlanEntry → Option Value → Answer Task
+collecting d w e entries given = do
   o ← object_at w.objects e.object
   s ← signal_at d o.class e.signal
-  only_if (suits (kind_fits (class_in w.objects) d.types) given s.result) arms.Result (Ok (collected s e turns given))
+  only_if (suits (kind_fits (class_in w.objects) d.types) given s.result) arms.Result (Ok (collected s e entries given))
 
 -- ** results
 

@@ -1,15 +1,15 @@
 use Rattle.std.proofs.Common.{option_map, sym, ◌∙◌, ap, refl}
-use Rattle.ui_machine.specs.Sources.{has_number}
+use Rattle.ui_machine.specs.Sources.{is_numbered}
 use Rattle.main_context.specs.Dues.{due_of}
 use Rattle.main_context.proofs.First.{absent, first}
 use Rattle.main_context.proofs.sources.find_due.Goals as goal
 
 pub returns-in_err-index : goal.returns-in_err-index
 returns-in_err-index c =
-    let none = absent (has_number c.args.number) c.args.sources.now (sym c.in_err-index.ensures) in
+    let none = absent (is_numbered c.args.number) c.args.sources.now (sym c.in_err-index.ensures) in
     c.from_residual.ensures ∙ sym (ap (option_map due_of) none.found)
 
 pub returns : goal.returns
 returns c =
-    let here = first (has_number c.args.number) c.args.sources.now c.in_ok-index.index c.index-sources-index.result (sym c.in_ok-index.ensures) c.index-sources-index.is in
+    let here = first (is_numbered c.args.number) c.args.sources.now c.in_ok-index.index c.index-sources-index.result (sym c.in_ok-index.ensures) c.index-sources-index.is in
     rw (c.due.ensures, here.found) refl

@@ -1,17 +1,17 @@
 use Rattle.std.proofs.Common.{◌≡◌, ℕ, true, false, cond, refl, arith}
 use Rattle.ui_machine.specs.Config.{Source}
-use Rattle.ui_machine.specs.Sources.{has_number, due_after}
+use Rattle.ui_machine.specs.Sources.{is_numbered, due_after}
 use Rattle.ui_machine.proofs.Mapped.{mapped_written}
 use Rattle.main_context.proofs.sources.reschedule.Goals as goal
 use Rattle.main_context.proofs.sources.reschedule.Goals.{then-has_number, else-has_number}
 
 abbrev restarted : ℕ → ℕ → Source → Source
-restarted moment number s = cond (has_number number s) (record s { due = due_after moment s.interval }) s
+restarted moment number s = cond (is_numbered number s) (record s { due = due_after moment s.interval }) s
 
-restarted_one : (moment number : ℕ) (s : Source) → has_number number s ≡ true → restarted moment number s ≡ record s { due = due_after moment s.interval }
+restarted_one : (moment number : ℕ) (s : Source) → is_numbered number s ≡ true → restarted moment number s ≡ record s { due = due_after moment s.interval }
 restarted_one moment number s e = rw e refl
 
-kept_one : (moment number : ℕ) (s : Source) → has_number number s ≡ false → restarted moment number s ≡ s
+kept_one : (moment number : ℕ) (s : Source) → is_numbered number s ≡ false → restarted moment number s ≡ s
 kept_one moment number s e = rw e refl
 
 pub loop-source-preserved : goal.loop-source-preserved
