@@ -5,7 +5,7 @@ ghost use Rattle.serde_json.specs.View.{view, items_view};
 ghost use Rattle.param_specs.specs.Table.{own_of};
 ghost use Rattle.builder_defs.specs.Refusals.{Gives, Leads};
 ghost use Rattle.builder_defs.specs.Document.{under, each};
-ghost use Rattle.builder_defs.specs.Denoted.{draft_of, is_further, room_for_type, type_cause_of, with_class, declared_at, properties_at, class_at, class_of};
+ghost use Rattle.builder_defs.specs.Denoted.{draft_of, is_further, room_for_type, with_class, declared_at, properties_at, class_at, class_of};
 
 use crate::document::{Entries, Part, path_of_entry, path_under};
 use crate::fault::{DefinitionFault, DefinitionLimit, ReadError};
@@ -52,21 +52,6 @@ fn is_further(class: Option<TypeId>) -> bool
     }
 }
 
-// The cause of a type's refusal, and nothing for want of memory.
-fn type_cause_of(error: TypeError) -> Option<TypeError>
-    ensures { result ≡ type_cause_of error }
-{
-    match error {
-        TypeError::OutOfMemory => None,
-        TypeError::BadName => Some(TypeError::BadName),
-        TypeError::Duplicate => Some(TypeError::Duplicate),
-        TypeError::UnknownParent => Some(TypeError::UnknownParent),
-        TypeError::FinalParent => Some(TypeError::FinalParent),
-        TypeError::Prerequisite(class) => Some(TypeError::Prerequisite(class)),
-        TypeError::Limit(limit) => Some(TypeError::Limit(limit)),
-    }
-}
-
 // Adds a class of a name, a child of `GObject`.
 fn add_class(part: Part<'_>, types: &mut TypeTree, name: &str) -> Result<TypeId, ReadError>
     ensures types { Leads result (with_class (under part.entry.path.now (codes "name")) types.old name.now) types.new }
@@ -77,16 +62,13 @@ fn add_class(part: Part<'_>, types: &mut TypeTree, name: &str) -> Result<TypeId,
             part.alloc, part.path, "name",
         )?)));
     }
-    let error = match types.add_class(name, "GObject", TypeFlags::NONE, &[]) {
-        Ok(class) => return Ok(class),
-        Err(error) => error,
-    };
-    match type_cause_of(error) {
-        Some(cause) => Err(ReadError::Refused(DefinitionFault::BadType(
+    match types.add_class(name, "GObject", TypeFlags::NONE, &[]) {
+        Ok(class) => Ok(class),
+        Err(TypeError::OutOfMemory) => Err(ReadError::OutOfMemory),
+        Err(TypeError::Refused(cause)) => Err(ReadError::Refused(DefinitionFault::BadType(
             path_under(part.alloc, part.path, "name")?,
             cause,
         ))),
-        None => Err(ReadError::OutOfMemory),
     }
 }
 

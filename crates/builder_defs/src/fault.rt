@@ -3,10 +3,9 @@
 ghost use Rattle.std.specs.Prelude.{◌≡◌};
 ghost use Rattle.builder_defs.specs.declared.fault.ReadError.TheVariants.{OutOfMemory};
 
-use param_specs::SpecError;
+use param_specs::SpecFault;
 use std::alloc::{AllocError, AllocFailed};
-use thiserror::Error;
-use type_tree::TypeError;
+use type_tree::TypeFault;
 
 /// What a definition has too much of.
 #[derive(Clone, Copy, Debug, PartialEq, Eq)]
@@ -21,45 +20,34 @@ pub enum DefinitionLimit {
 
 /// Why bytes denote no definition. A path is a JSON pointer (RFC 6901). The fault is the first one in document order, and at one path the first
 /// one in this order.
-#[derive(Debug, Drop, Error)]
+#[derive(Debug, Drop)]
 pub enum DefinitionFault {
     /// More than 4 MiB.
-    #[error("TooLong")]
     TooLong,
     /// The bytes are not UTF-8.
-    #[error("NotUtf8")]
     NotUtf8,
     /// The text is not JSON, or nests deeper than 127 values.
-    #[error("NotJson")]
     NotJson,
     /// A member is missing, unknown or of the wrong sort.
-    #[error("Shape")]
     Shape(String),
     /// At the path stands a name that nothing has.
-    #[error("Unknown")]
     Unknown(String, String),
     /// An earlier entry of the section has the name.
-    #[error("Duplicate")]
     Duplicate(String),
     /// A type is not added.
-    #[error("BadType")]
-    BadType(String, TypeError),
+    BadType(String, TypeFault),
     /// A property is not installed.
-    #[error("BadSpec")]
-    BadSpec(String, SpecError),
+    BadSpec(String, SpecFault),
     /// There is too much of something.
-    #[error("Limit")]
     Limit(DefinitionLimit),
 }
 
 /// Why a read gave no definition.
-#[derive(Debug, Drop, Error)]
+#[derive(Debug, Drop)]
 pub enum ReadError {
     /// No memory was found.
-    #[error("OutOfMemory")]
     OutOfMemory,
     /// The bytes denote no definition.
-    #[error("{0}")]
     Refused(DefinitionFault),
 }
 

@@ -5,9 +5,9 @@ ghost use Rattle.builder_defs.specs.Refusals.{refusal};
 ghost use Rattle.builder_defs.specs.FaultText.{hex_digit, printed_byte, printed, type_limit_name, type_cause_text, spec_cause_text, limit_name, refusal_text};
 
 use crate::fault::{DefinitionFault, DefinitionLimit};
-use param_specs::SpecError;
+use param_specs::SpecFault;
 use std::alloc::{AllocError, Global};
-use type_tree::{TypeError, TypeLimit};
+use type_tree::{TypeFault, TypeLimit};
 
 impl DefinitionFault {
     /// The fault's name and fields, with one blank between them: what the program writes behind `refused: `. In paths and names each byte
@@ -39,7 +39,7 @@ impl DefinitionFault {
             }
             DefinitionFault::BadSpec(path, cause) => {
                 let path = printed(alloc, path.as_str())?;
-                let cause = spec_cause_text(alloc, *cause)?;
+                let cause = spec_cause_text(*cause);
                 format!(in alloc; "BadSpec {path} {cause}")
             }
             DefinitionFault::Limit(limit) => {
@@ -72,40 +72,36 @@ fn type_limit_name(limit: TypeLimit) -> &'static str
 }
 
 // Why a type is not added: the name of the cause and its own fields. A type is told by its number.
-fn type_cause_text(alloc: Global, cause: TypeError) -> Result<String, AllocError>
+fn type_cause_text(alloc: Global, cause: TypeFault) -> Result<String, AllocError>
     ensures { IfOk result (λ text. string_bytes text ≡ type_cause_text cause) }
 {
     match cause {
-        TypeError::BadName => String::from_str(alloc, "BadName"),
-        TypeError::Duplicate => String::from_str(alloc, "Duplicate"),
-        TypeError::UnknownParent => String::from_str(alloc, "UnknownParent"),
-        TypeError::FinalParent => String::from_str(alloc, "FinalParent"),
-        TypeError::Prerequisite(required) => {
+        TypeFault::BadName => String::from_str(alloc, "BadName"),
+        TypeFault::Duplicate => String::from_str(alloc, "Duplicate"),
+        TypeFault::UnknownParent => String::from_str(alloc, "UnknownParent"),
+        TypeFault::FinalParent => String::from_str(alloc, "FinalParent"),
+        TypeFault::Prerequisite(required) => {
             let number = required.index();
             format!(in alloc; "Prerequisite {number}")
         }
-        TypeError::Limit(limit) => {
+        TypeFault::Limit(limit) => {
             let name = type_limit_name(limit);
             format!(in alloc; "Limit {name}")
         }
-        TypeError::OutOfMemory => String::from_str(alloc, "OutOfMemory"),
     }
 }
 
-// Why a property is not installed: the name of the cause and its own fields. A property is told by its slot.
-fn spec_cause_text(alloc: Global, cause: SpecError) -> Result<String, AllocError>
-    ensures { IfOk result (λ text. string_bytes text ≡ spec_cause_text cause) }
+// Why a property is not installed.
+fn spec_cause_text(cause: SpecFault) -> &'static str
+    ensures { result.now ≡ spec_cause_text cause }
 {
     match cause {
-        SpecError::BadName => String::from_str(alloc, "BadName"),
-        SpecError::Duplicate => String::from_str(alloc, "Duplicate"),
-        SpecError::FlagsClash => String::from_str(alloc, "FlagsClash"),
-        SpecError::RangeEmpty => String::from_str(alloc, "RangeEmpty"),
-        SpecError::DefaultInvalid => String::from_str(alloc, "DefaultInvalid"),
-        SpecError::Limit => String::from_str(alloc, "Limit"),
-        SpecError::OverrideMissing(slot) => format!(in alloc; "OverrideMissing {slot}"),
-        SpecError::OverrideDiffers(slot) => format!(in alloc; "OverrideDiffers {slot}"),
-        SpecError::OutOfMemory => String::from_str(alloc, "OutOfMemory"),
+        SpecFault::BadName => "BadName",
+        SpecFault::Duplicate => "Duplicate",
+        SpecFault::FlagsClash => "FlagsClash",
+        SpecFault::RangeEmpty => "RangeEmpty",
+        SpecFault::DefaultInvalid => "DefaultInvalid",
+        SpecFault::Limit => "Limit",
     }
 }
 

@@ -5,10 +5,10 @@ use builder_defs::{
     Definition, DefinitionFault, EventError, MAX_BYTES, MAX_LINE_BYTES, ReadError, read_definition,
     read_event,
 };
-use param_specs::SpecError;
+use param_specs::SpecFault;
 use std::alloc::Global;
 use std::test::Fail;
-use type_tree::{TypeError, TypeId, TypeLimit};
+use type_tree::{TypeFault, TypeId, TypeLimit};
 use ui_machine::Place;
 
 // A definition of two classes and three objects.
@@ -118,9 +118,9 @@ fn tells_properties(rt: HostRuntime) -> Result<(), Fail> {
 fn tells_the_fields_of_causes(rt: HostRuntime) -> Result<(), Fail> {
     let alloc = rt.alloc();
     for (cause, want) in [
-        (TypeError::Limit(TypeLimit::Depth), "BadType /p Limit depth"),
+        (TypeFault::Limit(TypeLimit::Depth), "BadType /p Limit depth"),
         (
-            TypeError::Prerequisite(TypeId::new(12)),
+            TypeFault::Prerequisite(TypeId::new(12)),
             "BadType /p Prerequisite 12",
         ),
     ] {
@@ -128,11 +128,8 @@ fn tells_the_fields_of_causes(rt: HostRuntime) -> Result<(), Fail> {
         assert_eq!(rt; fault.text(alloc)?.as_str(), want);
     }
     for (cause, want) in [
-        (SpecError::Limit, "BadSpec /p Limit"),
-        (
-            SpecError::OverrideMissing(63),
-            "BadSpec /p OverrideMissing 63",
-        ),
+        (SpecFault::Limit, "BadSpec /p Limit"),
+        (SpecFault::FlagsClash, "BadSpec /p FlagsClash"),
     ] {
         let fault = DefinitionFault::BadSpec(String::from_str(alloc, "/p")?, cause);
         assert_eq!(rt; fault.text(alloc)?.as_str(), want);
