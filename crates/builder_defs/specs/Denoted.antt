@@ -22,6 +22,7 @@ use Rattle.param_specs.specs.declared.error.SpecFault.{SpecFault}
 use Rattle.param_specs.specs.declared.error.SpecFault.TheVariants.{BadName, Duplicate}
 use Rattle.builder_defs.specs.declared.fault.DefinitionLimit.TheVariants.{Types, Properties, Objects}
 use Rattle.builder_defs.specs.Meaning.{class_with, default_objects, bare_place}
+use Rattle.builder_defs.specs.Causes.{named_cause}
 use Rattle.builder_defs.specs.Binding.{◌>>=◌}
 use Rattle.builder_defs.specs.Refusals.{Refusal, shape, unknown, duplicate, bad_type, bad_spec, limit, or_refused}
 use Rattle.builder_defs.specs.Document.{under, nth, members_at, text_at, entries_at, nothing_at, only_at, each, document}
@@ -132,15 +133,15 @@ is_further (Some t) = nat_le 2 t
 abbrev pub room_for_type : List GType → Result (Unit {0}) Refusal
 room_for_type types = if nat_le 256 (length types) then Err (limit Types) else Ok tt
 
-abbrev pub added_or : List ℕ → Option TypeFault → List GType → Result (List GType) Refusal
-added_or path None types = Ok types
-added_or path (Some cause) types = Err (bad_type path cause)
+abbrev pub added_or : List ℕ → List GType → Option TypeFault → List GType → Result (List GType) Refusal
+added_or path old None types = Ok types
+added_or path old (Some fault) types = Err (bad_type path (named_cause old fault))
 
 -- the types with a class of this name, a child of `GObject`
 abbrev pub with_class : List ℕ → List GType → List ℕ → Result (List GType) Refusal
 with_class path types name =
     if is_further (find_type types name) then Err (duplicate path) else
-    added_or path (class_fault types name (codes "GObject") [])
+    added_or path types (class_fault types name (codes "GObject") [])
     (types ++ new_class types name (codes "GObject") (record { is_abstract = false; is_final = false }) [] ∷ [])
 
 abbrev pub unset_before_properties : List (List ℕ)

@@ -3,15 +3,19 @@
 ghost use Rattle.std.specs.Prelude.{◌≡◌, codes, length, IfOk};
 ghost use Rattle.serde_json.specs.View.{view, items_view};
 ghost use Rattle.param_specs.specs.Table.{own_of};
+ghost use Rattle.ui_machine.specs.Seq.{read};
+ghost use Rattle.ui_machine.specs.Text.{no_type};
+ghost use Rattle.builder_defs.specs.Causes.{cause_view, named_cause};
 ghost use Rattle.builder_defs.specs.Refusals.{Gives, Leads};
 ghost use Rattle.builder_defs.specs.Document.{under, each};
 ghost use Rattle.builder_defs.specs.Denoted.{draft_of, is_further, room_for_type, with_class, declared_at, properties_at, class_at, class_of};
 
 use crate::document::{Entries, Part, path_of_entry, path_under};
-use crate::fault::{DefinitionFault, DefinitionLimit, ReadError};
+use crate::fault::{DefinitionFault, DefinitionLimit, ReadError, TypeCause};
 use crate::properties::read_properties;
 use param_specs::SpecTable;
-use type_tree::{MOST_TYPES, TypeError, TypeFlags, TypeId, TypeTree};
+use std::alloc::{AllocError, Global};
+use type_tree::{MOST_TYPES, TypeError, TypeFault, TypeFlags, TypeId, TypeTree};
 
 const PREDECLARED_TYPES: usize = 2;
 
@@ -52,6 +56,33 @@ fn is_further(class: Option<TypeId>) -> bool
     }
 }
 
+// The name of a type, and nothing where there is none.
+pub(crate) fn type_name(types: &TypeTree, t: TypeId) -> &str
+    ensures { result.now ≡ (read no_type types.now t).name }
+{
+    if t.index() >= types.len() {
+        return "";
+    }
+    types.name(t)
+}
+
+// The cause of a fault, with the names of types.
+fn named_cause(alloc: Global, types: &TypeTree, fault: TypeFault) -> Result<TypeCause, AllocError>
+    ensures { IfOk result (λ cause. cause_view cause ≡ named_cause types.now fault) }
+{
+    match fault {
+        TypeFault::BadName => Ok(TypeCause::BadName),
+        TypeFault::Duplicate => Ok(TypeCause::Duplicate),
+        TypeFault::UnknownParent => Ok(TypeCause::UnknownParent),
+        TypeFault::FinalParent => Ok(TypeCause::FinalParent),
+        TypeFault::Prerequisite(required) => {
+            let name = String::from_str(alloc, type_name(types, required))?;
+            Ok(TypeCause::Prerequisite(name))
+        }
+        TypeFault::Limit(limit) => Ok(TypeCause::Limit(limit)),
+    }
+}
+
 // Adds a class of a name, a child of `GObject`.
 fn add_class(part: Part<'_>, types: &mut TypeTree, name: &str) -> Result<TypeId, ReadError>
     ensures types { Leads result (with_class (under part.entry.path.now (codes "name")) types.old name.now) types.new }
@@ -65,10 +96,11 @@ fn add_class(part: Part<'_>, types: &mut TypeTree, name: &str) -> Result<TypeId,
     match types.add_class(name, "GObject", TypeFlags::NONE, &[]) {
         Ok(class) => Ok(class),
         Err(TypeError::OutOfMemory) => Err(ReadError::OutOfMemory),
-        Err(TypeError::Refused(cause)) => Err(ReadError::Refused(DefinitionFault::BadType(
-            path_under(part.alloc, part.path, "name")?,
-            cause,
-        ))),
+        Err(TypeError::Refused(fault)) => {
+            let path = path_under(part.alloc, part.path, "name")?;
+            let cause = named_cause(part.alloc, types, fault)?;
+            Err(ReadError::Refused(DefinitionFault::BadType(path, cause)))
+        }
     }
 }
 

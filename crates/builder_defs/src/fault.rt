@@ -5,7 +5,7 @@ ghost use Rattle.builder_defs.specs.declared.fault.ReadError.TheVariants.{OutOfM
 
 use param_specs::SpecFault;
 use std::alloc::{AllocError, AllocFailed};
-use type_tree::TypeFault;
+use type_tree::TypeLimit;
 
 /// What a definition has too much of.
 #[derive(Clone, Copy, Debug, PartialEq, Eq)]
@@ -16,6 +16,23 @@ pub enum DefinitionLimit {
     Properties,
     /// More than 64 objects.
     Objects,
+}
+
+/// Why a type is not added, in the order in which the tests are made, with the names of types.
+#[derive(Debug, Drop)]
+pub enum TypeCause {
+    /// The name is not one of three characters or more: an ASCII letter or `_`, then letters, digits, `-`, `_` and `+`.
+    BadName,
+    /// A type of that name is there.
+    Duplicate,
+    /// A parent, interface or required type is not there, or is of another sort.
+    UnknownParent,
+    /// The parent is final.
+    FinalParent,
+    /// An interface requires the type of this name, and the class would not be one.
+    Prerequisite(String),
+    /// The tree is full, or the class would stand too deep.
+    Limit(TypeLimit),
 }
 
 /// Why bytes denote no definition. A path is a JSON pointer (RFC 6901). The fault is the first one in document order, and at one path the first
@@ -35,7 +52,7 @@ pub enum DefinitionFault {
     /// An earlier entry of the section has the name.
     Duplicate(String),
     /// A type is not added.
-    BadType(String, TypeFault),
+    BadType(String, TypeCause),
     /// A property is not installed.
     BadSpec(String, SpecFault),
     /// There is too much of something.

@@ -1,13 +1,14 @@
 //! How the refusal of a definition is printed.
 
 ghost use Rattle.std.specs.Prelude.{◌≡◌, ◌<◌, ◌++◌, IfOk, OnOk, string_bytes};
+ghost use Rattle.builder_defs.specs.Causes.{cause_view};
 ghost use Rattle.builder_defs.specs.Refusals.{refusal};
 ghost use Rattle.builder_defs.specs.FaultText.{hex_digit, printed_byte, printed, type_limit_name, type_cause_text, spec_cause_text, limit_name, refusal_text};
 
-use crate::fault::{DefinitionFault, DefinitionLimit};
+use crate::fault::{DefinitionFault, DefinitionLimit, TypeCause};
 use param_specs::SpecFault;
 use std::alloc::{AllocError, Global};
-use type_tree::{TypeFault, TypeLimit};
+use type_tree::TypeLimit;
 
 impl DefinitionFault {
     /// The fault's name and fields, with one blank between them: what the program writes behind `refused: `. In paths and names each byte
@@ -34,7 +35,7 @@ impl DefinitionFault {
             }
             DefinitionFault::BadType(path, cause) => {
                 let path = printed(alloc, path.as_str())?;
-                let cause = type_cause_text(alloc, *cause)?;
+                let cause = type_cause_text(alloc, cause)?;
                 format!(in alloc; "BadType {path} {cause}")
             }
             DefinitionFault::BadSpec(path, cause) => {
@@ -71,21 +72,21 @@ fn type_limit_name(limit: TypeLimit) -> &'static str
     }
 }
 
-// Why a type is not added: the name of the cause and its own fields. A type is told by its number.
-fn type_cause_text(alloc: Global, cause: TypeFault) -> Result<String, AllocError>
-    ensures { IfOk result (λ text. string_bytes text ≡ type_cause_text cause) }
+// Why a type is not added: the name of the cause and its own fields.
+fn type_cause_text(alloc: Global, cause: &TypeCause) -> Result<String, AllocError>
+    ensures { IfOk result (λ text. string_bytes text ≡ type_cause_text (cause_view cause.now)) }
 {
     match cause {
-        TypeFault::BadName => String::from_str(alloc, "BadName"),
-        TypeFault::Duplicate => String::from_str(alloc, "Duplicate"),
-        TypeFault::UnknownParent => String::from_str(alloc, "UnknownParent"),
-        TypeFault::FinalParent => String::from_str(alloc, "FinalParent"),
-        TypeFault::Prerequisite(required) => {
-            let number = required.index();
-            format!(in alloc; "Prerequisite {number}")
+        TypeCause::BadName => String::from_str(alloc, "BadName"),
+        TypeCause::Duplicate => String::from_str(alloc, "Duplicate"),
+        TypeCause::UnknownParent => String::from_str(alloc, "UnknownParent"),
+        TypeCause::FinalParent => String::from_str(alloc, "FinalParent"),
+        TypeCause::Prerequisite(required) => {
+            let name = printed(alloc, required.as_str())?;
+            format!(in alloc; "Prerequisite {name}")
         }
-        TypeFault::Limit(limit) => {
-            let name = type_limit_name(limit);
+        TypeCause::Limit(limit) => {
+            let name = type_limit_name(*limit);
             format!(in alloc; "Limit {name}")
         }
     }

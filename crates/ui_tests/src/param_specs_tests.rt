@@ -3,7 +3,8 @@
 use crate::fixtures::{marks_kind, mode_kind, number_of, tree_of_members, value_of};
 use g_values::{Kind, Value, is_known};
 use param_specs::{
-    MOST_PROPERTIES, OverrideFault, PropertyFlags, Spec, SpecError, SpecFault, SpecTable, takes, validate,
+    MOST_PROPERTIES, OverrideFault, PropertyFlags, Spec, SpecError, SpecFault, SpecTable, takes,
+    validate,
 };
 use std::alloc::Global;
 use std::test::Fail;
@@ -69,10 +70,30 @@ fn installs_inherited_first(rt: HostRuntime) -> Result<(), Fail> {
     for (t, name, range, want) in [
         (base, "first_one", (0, 9), Ok(0)),
         (derived, "second", (-3, 9), Ok(1)),
-        (base, "9", (0, 9), Err(SpecError::Refused(SpecFault::BadName))),
-        (derived, "first-one", (0, 9), Err(SpecError::Refused(SpecFault::Duplicate))),
-        (base, "empty", (9, 0), Err(SpecError::Refused(SpecFault::RangeEmpty))),
-        (base, "invalid", (1, 9), Err(SpecError::Refused(SpecFault::DefaultInvalid))),
+        (
+            base,
+            "9",
+            (0, 9),
+            Err(SpecError::Refused(SpecFault::BadName)),
+        ),
+        (
+            derived,
+            "first-one",
+            (0, 9),
+            Err(SpecError::Refused(SpecFault::Duplicate)),
+        ),
+        (
+            base,
+            "empty",
+            (9, 0),
+            Err(SpecError::Refused(SpecFault::RangeEmpty)),
+        ),
+        (
+            base,
+            "invalid",
+            (1, 9),
+            Err(SpecError::Refused(SpecFault::DefaultInvalid)),
+        ),
     ] {
         let installed = install(&mut table, &tree, t, number_spec(alloc, name, range)?);
         assert_eq!(rt; installed, want, "{name}");
@@ -223,7 +244,11 @@ fn tests_flags(rt: HostRuntime) -> Result<(), Fail> {
         spec.flags = PropertyFlags(bits);
         assert_eq!(rt; PropertyFlags(bits).is_clash(), is_clash, "{bits}");
         let fault = install(&mut table, &tree, TypeId::new(4), spec).err();
-        assert_eq!(rt; fault == Some(SpecError::Refused(SpecFault::FlagsClash)), is_clash, "{bits}");
+        assert_eq!(rt;
+            fault == Some(SpecError::Refused(SpecFault::FlagsClash)),
+            is_clash,
+            "{bits}"
+        );
     }
     Ok(())
 }
@@ -283,7 +308,11 @@ fn table_of_interface(alloc: Global, tree: &TypeTree) -> Result<SpecTable, Fail>
 }
 
 // What is wrong where `Base` has this property `size`, and `Derived` has `label-text` or not.
-fn overrides(alloc: Global, size: Spec, has_label: bool) -> Result<Result<(), OverrideFault>, Fail> {
+fn overrides(
+    alloc: Global,
+    size: Spec,
+    has_label: bool,
+) -> Result<Result<(), OverrideFault>, Fail> {
     let tree = tree_of_interface(alloc)?;
     let mut table = table_of_interface(alloc, &tree)?;
     let _ = install(&mut table, &tree, TypeId::new(2), size)?;

@@ -39,10 +39,30 @@ fn base_tree(alloc: Global) -> Result<TypeTree, Fail> {
 fn adds_classes(rt: HostRuntime) -> Result<(), Fail> {
     let mut tree = base_tree(rt.alloc())?;
     for (name, parent, interface, want) in [
-        ("ab", "GObject", "", Err(TypeError::Refused(TypeFault::BadName))),
-        ("Base", "GObject", "", Err(TypeError::Refused(TypeFault::Duplicate))),
-        ("Child", "Nope", "", Err(TypeError::Refused(TypeFault::UnknownParent))),
-        ("Child", "Sealed", "", Err(TypeError::Refused(TypeFault::FinalParent))),
+        (
+            "ab",
+            "GObject",
+            "",
+            Err(TypeError::Refused(TypeFault::BadName)),
+        ),
+        (
+            "Base",
+            "GObject",
+            "",
+            Err(TypeError::Refused(TypeFault::Duplicate)),
+        ),
+        (
+            "Child",
+            "Nope",
+            "",
+            Err(TypeError::Refused(TypeFault::UnknownParent)),
+        ),
+        (
+            "Child",
+            "Sealed",
+            "",
+            Err(TypeError::Refused(TypeFault::FinalParent)),
+        ),
         (
             "Child",
             "GObject",
