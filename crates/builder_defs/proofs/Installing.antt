@@ -1,14 +1,14 @@
 -- Installing a property, seen as the types' own properties.
 use Rattle.std.proofs.Common.{◌≡◌, ℕ, List, Some, Ok, Err, refl, sym, ap, ◌∙◌}
 use Rattle.std.proofs.Math.Path.{fun_ext}
-use Rattle.std.proofs.lemmas.Option.{none-some}
 use Rattle.ui_machine.specs.Types.{GType}
 use Rattle.ui_machine.specs.Properties.{Spec}
+use Rattle.param_specs.specs.declared.error.SpecFault.{SpecFault}
 use Rattle.param_specs.specs.declared.error.SpecError.{SpecError}
-use Rattle.param_specs.specs.declared.error.SpecError.TheVariants.{BadName, Duplicate, FlagsClash, RangeEmpty, DefaultInvalid, Limit, OverrideMissing, OverrideDiffers, OutOfMemory}
+use Rattle.param_specs.specs.declared.error.SpecError.TheVariants.{OutOfMemory, Refused}
 use Rattle.param_specs.specs.Table.{own_of, specs_of, install_fault, canonical_spec, Installs}
 use Rattle.builder_defs.specs.Refusals.{bad_spec}
-use Rattle.builder_defs.specs.Denoted.{specs_by, cause_of, add_own, installed_or, installed, spec_at, property_at}
+use Rattle.builder_defs.specs.Denoted.{specs_by, add_own, installed_or, installed, spec_at, property_at}
 use Rattle.builder_defs.specs.Binding.{◌>>=◌}
 use Rattle.serde_json.specs.Data.{Data}
 
@@ -23,23 +23,16 @@ module _ (path : List ℕ) (types : List GType) (old new : List (List Spec)) (t 
       ap (λ (specs : List Spec). installed_or path (install_fault types specs spec) (add_own (own_of old) t (canonical_spec spec))) (sym (specs_of-is types old t))
       ∙ ap (λ f. installed_or path f (add_own (own_of old) t (canonical_spec spec))) h.0 ∙ ap (λ (own : ℕ → List Spec). Ok own) (sym (fun_ext h.2))
 
-  cause-is : (e c : SpecError) → Some c ≡ cause_of e → Installs (Err e) (install_fault types (specs_of types old t) spec) (specs_of types old t) t spec old new
-      → install_fault types (specs_of types old t) spec ≡ Some c
-  cause-is OutOfMemory c is h = absurd (none-some c (sym is))
-  cause-is BadName c is h = h.0 ∙ sym is
-  cause-is Duplicate c is h = h.0 ∙ sym is
-  cause-is FlagsClash c is h = h.0 ∙ sym is
-  cause-is RangeEmpty c is h = h.0 ∙ sym is
-  cause-is DefaultInvalid c is h = h.0 ∙ sym is
-  cause-is Limit c is h = h.0 ∙ sym is
-  cause-is (OverrideMissing s) c is h = h.0 ∙ sym is
-  cause-is (OverrideDiffers s) c is h = h.0 ∙ sym is
+  cause-is : (error : SpecError) (cause : SpecFault) → error ≡ Refused cause → Installs (Err error) (install_fault types (specs_of types old t) spec) (specs_of types old t) t spec old new
+      → install_fault types (specs_of types old t) spec ≡ Some cause
+  cause-is OutOfMemory cause is h = absurd (cc)
+  cause-is (Refused other) cause is h = h.0 ∙ let same : other ≡ cause = cc in ap Some same
 
-  pub installs_err : (e c : SpecError) → Some c ≡ cause_of e → Installs (Err e) (install_fault types (specs_of types old t) spec) (specs_of types old t) t spec old new
-      → installed path types t (own_of old) spec ≡ Err (bad_spec path c)
-  installs_err e c is h =
+  pub installs_err : (error : SpecError) (cause : SpecFault) → error ≡ Refused cause → Installs (Err error) (install_fault types (specs_of types old t) spec) (specs_of types old t) t spec old new
+      → installed path types t (own_of old) spec ≡ Err (bad_spec path cause)
+  installs_err error cause is h =
       ap (λ (specs : List Spec). installed_or path (install_fault types specs spec) (add_own (own_of old) t (canonical_spec spec))) (sym (specs_of-is types old t))
-      ∙ ap (λ f. installed_or path f (add_own (own_of old) t (canonical_spec spec))) (cause-is e c is h)
+      ∙ ap (λ f. installed_or path f (add_own (own_of old) t (canonical_spec spec))) (cause-is error cause is h)
 
 -- reading a property beside those of a table
 pub property_at_is : (path : List ℕ) (types : List GType) (t : ℕ) (table : List (List Spec)) (d : Data)

@@ -8,7 +8,7 @@ use Rattle.ui_machine.specs.Properties.{Spec}
 use Rattle.std.specs.Str.{bytes_eq}
 use Rattle.ui_machine.specs.Kinds as kinds
 use Rattle.ui_machine.specs.Ancestry.{lineage}
-use Rattle.param_specs.specs.declared.error.SpecError.{SpecError}
+use Rattle.param_specs.specs.declared.error.SpecFault.{SpecFault}
 use Rattle.param_specs.specs.Table.{own_of, specs_of, install_fault, canonical_spec}
 use Rattle.builder_defs.specs.Meaning.{Entry, IsPlain, IsPlainKind, IsSound}
 use Rattle.builder_defs.specs.Refusals.{Refusal, shape, or_refused}
@@ -91,7 +91,7 @@ added_plain own t s all plain u = by (nat_eq u t)
     by true = plain_append (own u) (s ∷ []) (all u) (plain, tt)
     by false = all u
 
-installed_plain : (path : List ℕ) (fault : Option SpecError) (own : ℕ → List Spec) → AllOwn own → OnRead AllOwn (installed_or path fault own)
+installed_plain : (path : List ℕ) (fault : Option SpecFault) (own : ℕ → List Spec) → AllOwn own → OnRead AllOwn (installed_or path fault own)
 installed_plain path None own all = all
 installed_plain path (Some cause) own all = tt
 

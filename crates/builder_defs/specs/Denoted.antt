@@ -15,14 +15,14 @@ use Rattle.ui_machine.specs.Names.{place_named}
 use Rattle.ui_machine.specs.Definition as machine
 use Rattle.type_tree.specs.Adding.{find_type, class_fault, new_class}
 use Rattle.type_tree.specs.TypeName.{is_within}
-use Rattle.type_tree.specs.declared.error.TypeError.{TypeError}
-use Rattle.type_tree.specs.declared.error.TypeError.TheVariants as errors
+use Rattle.type_tree.specs.declared.error.TypeFault.{TypeFault}
 use Rattle.param_specs.specs.Table.{own_of, slot_named, install_fault, canonical_spec}
 use Rattle.param_specs.specs.PropertyName.{is_property_name}
-use Rattle.param_specs.specs.declared.error.SpecError.{SpecError}
-use Rattle.param_specs.specs.declared.error.SpecError.TheVariants.{BadName, Duplicate, FlagsClash, RangeEmpty, DefaultInvalid, Limit, OverrideMissing, OverrideDiffers, OutOfMemory}
+use Rattle.param_specs.specs.declared.error.SpecFault.{SpecFault}
+use Rattle.param_specs.specs.declared.error.SpecFault.TheVariants.{BadName, Duplicate}
 use Rattle.builder_defs.specs.declared.fault.DefinitionLimit.TheVariants.{Types, Properties, Objects}
 use Rattle.builder_defs.specs.Meaning.{class_with, default_objects, bare_place}
+use Rattle.builder_defs.specs.Causes.{named_cause}
 use Rattle.builder_defs.specs.Binding.{◌>>=◌}
 use Rattle.builder_defs.specs.Refusals.{Refusal, shape, unknown, duplicate, bad_type, bad_spec, limit, or_refused}
 use Rattle.builder_defs.specs.Document.{under, nth, members_at, text_at, entries_at, nothing_at, only_at, each, document}
@@ -93,23 +93,11 @@ spec_at path types specs d = do
   only ← only_at path members keys_of_property
   Ok (property_spec types name kind)
 
--- what an error says beside want of memory
-abbrev pub cause_of : SpecError → Option SpecError
-cause_of OutOfMemory = None
-cause_of BadName = Some BadName
-cause_of Duplicate = Some Duplicate
-cause_of FlagsClash = Some FlagsClash
-cause_of RangeEmpty = Some RangeEmpty
-cause_of DefaultInvalid = Some DefaultInvalid
-cause_of Limit = Some Limit
-cause_of (OverrideMissing slot) = Some (OverrideMissing slot)
-cause_of (OverrideDiffers slot) = Some (OverrideDiffers slot)
-
 -- each type's own properties, with one more
 abbrev pub add_own : (ℕ → List Spec) → ℕ → Spec → ℕ → List Spec
 add_own own t spec u = if nat_eq u t then own u ++ spec ∷ [] else own u
 
-abbrev pub installed_or : List ℕ → Option SpecError → (ℕ → List Spec) → Result (ℕ → List Spec) Refusal
+abbrev pub installed_or : List ℕ → Option SpecFault → (ℕ → List Spec) → Result (ℕ → List Spec) Refusal
 installed_or path None own = Ok own
 installed_or path (Some cause) own = Err (bad_spec path cause)
 
@@ -137,16 +125,6 @@ draft_of types table = record { types = types; own = own_of table }
 abbrev pub first_draft : Draft
 first_draft = record { types = predeclared; own = λ t. [] }
 
--- what an error says beside want of memory
-abbrev pub type_cause_of : TypeError → Option TypeError
-type_cause_of errors.OutOfMemory = None
-type_cause_of errors.BadName = Some errors.BadName
-type_cause_of errors.Duplicate = Some errors.Duplicate
-type_cause_of errors.UnknownParent = Some errors.UnknownParent
-type_cause_of errors.FinalParent = Some errors.FinalParent
-type_cause_of (errors.Prerequisite t) = Some (errors.Prerequisite t)
-type_cause_of (errors.Limit l) = Some (errors.Limit l)
-
 -- whether a place is that of a class of the definition, behind the predeclared ones
 abbrev pub is_further : Option ℕ → Bool
 is_further None = false
@@ -155,15 +133,15 @@ is_further (Some t) = nat_le 2 t
 abbrev pub room_for_type : List GType → Result (Unit {0}) Refusal
 room_for_type types = if nat_le 256 (length types) then Err (limit Types) else Ok tt
 
-abbrev pub added_or : List ℕ → Option TypeError → List GType → Result (List GType) Refusal
-added_or path None types = Ok types
-added_or path (Some cause) types = Err (bad_type path cause)
+abbrev pub added_or : List ℕ → List GType → Option TypeFault → List GType → Result (List GType) Refusal
+added_or path old None types = Ok types
+added_or path old (Some fault) types = Err (bad_type path (named_cause old fault))
 
 -- the types with a class of this name, a child of `GObject`
 abbrev pub with_class : List ℕ → List GType → List ℕ → Result (List GType) Refusal
 with_class path types name =
     if is_further (find_type types name) then Err (duplicate path) else
-    added_or path (class_fault types name (codes "GObject") [])
+    added_or path types (class_fault types name (codes "GObject") [])
     (types ++ new_class types name (codes "GObject") (record { is_abstract = false; is_final = false }) [] ∷ [])
 
 abbrev pub unset_before_properties : List (List ℕ)

@@ -1,13 +1,13 @@
 -- How the refusal of a definition is printed: its name and its fields, with one blank between them.
-use Rattle.std.specs.Prelude.{ℕ, ◌+◌, ◌/◌, ◌%◌, List, [], ◌∷◌, ◌++◌, codes, decimal, nat_lt, if◌then◌else◌}
+use Rattle.std.specs.Prelude.{ℕ, ◌+◌, ◌/◌, ◌%◌, List, [], ◌∷◌, ◌++◌, codes, nat_lt, if◌then◌else◌}
 use Rattle.std.specs.List.{flat_map}
 use Rattle.type_tree.specs.TypeName.{is_within}
 use Rattle.type_tree.specs.declared.error.TypeLimit.{TypeLimit}
 use Rattle.type_tree.specs.declared.error.TypeLimit.TheVariants as limits
-use Rattle.type_tree.specs.declared.error.TypeError.{TypeError}
-use Rattle.type_tree.specs.declared.error.TypeError.TheVariants as types
-use Rattle.param_specs.specs.declared.error.SpecError.{SpecError}
-use Rattle.param_specs.specs.declared.error.SpecError.TheVariants as specs
+use Rattle.builder_defs.specs.Causes.{Cause}
+use Rattle.builder_defs.specs.Causes as causes
+use Rattle.param_specs.specs.declared.error.SpecFault.{SpecFault}
+use Rattle.param_specs.specs.declared.error.SpecFault.TheVariants as specs
 use Rattle.builder_defs.specs.declared.fault.DefinitionLimit.{DefinitionLimit}
 use Rattle.builder_defs.specs.declared.fault.DefinitionLimit.TheVariants.{Types, Properties, Objects}
 use Rattle.builder_defs.specs.Refusals.{Refusal, too_long, not_utf8, not_json, shape, unknown, duplicate, bad_type, bad_spec, limit}
@@ -31,27 +31,23 @@ abbrev pub type_limit_name : TypeLimit → List ℕ
 type_limit_name limits.Types = codes "types"
 type_limit_name limits.Depth = codes "depth"
 
--- a cause and its own fields; a type is told by its number
-abbrev pub type_cause_text : TypeError → List ℕ
-type_cause_text types.BadName = codes "BadName"
-type_cause_text types.Duplicate = codes "Duplicate"
-type_cause_text types.UnknownParent = codes "UnknownParent"
-type_cause_text types.FinalParent = codes "FinalParent"
-type_cause_text (types.Prerequisite t) = codes "Prerequisite " ++ decimal t
-type_cause_text (types.Limit l) = codes "Limit " ++ type_limit_name l
-type_cause_text types.OutOfMemory = codes "OutOfMemory"
+-- a cause and its own fields
+abbrev pub type_cause_text : Cause → List ℕ
+type_cause_text causes.bad_name = codes "BadName"
+type_cause_text causes.duplicate = codes "Duplicate"
+type_cause_text causes.unknown_parent = codes "UnknownParent"
+type_cause_text causes.final_parent = codes "FinalParent"
+type_cause_text (causes.prerequisite name) = codes "Prerequisite " ++ printed name
+type_cause_text (causes.limit l) = codes "Limit " ++ type_limit_name l
 
--- a cause and its own fields; a property is told by its slot
-abbrev pub spec_cause_text : SpecError → List ℕ
+-- why a property is not installed
+abbrev pub spec_cause_text : SpecFault → List ℕ
 spec_cause_text specs.BadName = codes "BadName"
 spec_cause_text specs.Duplicate = codes "Duplicate"
 spec_cause_text specs.FlagsClash = codes "FlagsClash"
 spec_cause_text specs.RangeEmpty = codes "RangeEmpty"
 spec_cause_text specs.DefaultInvalid = codes "DefaultInvalid"
 spec_cause_text specs.Limit = codes "Limit"
-spec_cause_text (specs.OverrideMissing slot) = codes "OverrideMissing " ++ decimal slot
-spec_cause_text (specs.OverrideDiffers slot) = codes "OverrideDiffers " ++ decimal slot
-spec_cause_text specs.OutOfMemory = codes "OutOfMemory"
 
 -- ** refusals
 

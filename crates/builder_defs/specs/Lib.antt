@@ -1,5 +1,6 @@
 pub mod Meaning
 pub mod Binding
+pub mod Causes
 pub mod Refusals
 pub mod FaultText
 pub mod Document

@@ -1,7 +1,7 @@
 -- Why bytes denote no definition.
 use Rattle.std.specs.Prelude.{◌≡◌, ℕ, List, Option, None, Some, Result, Ok, Err, string_bytes}
-use Rattle.type_tree.specs.declared.error.TypeError.{TypeError}
-use Rattle.param_specs.specs.declared.error.SpecError.{SpecError}
+use Rattle.param_specs.specs.declared.error.SpecFault.{SpecFault}
+use Rattle.builder_defs.specs.Causes.{Cause, cause_view}
 use Rattle.builder_defs.specs.declared.fault.DefinitionLimit.{DefinitionLimit}
 use Rattle.builder_defs.specs.declared.fault.DefinitionFault.{DefinitionFault}
 use Rattle.builder_defs.specs.declared.fault.DefinitionFault.TheVariants as faults
@@ -15,8 +15,8 @@ pub data Refusal : Type 0 where
   shape : (path : List ℕ) → Refusal
   unknown : (path name : List ℕ) → Refusal
   duplicate : (path : List ℕ) → Refusal
-  bad_type : (path : List ℕ) (cause : TypeError) → Refusal
-  bad_spec : (path : List ℕ) (cause : SpecError) → Refusal
+  bad_type : (path : List ℕ) (cause : Cause) → Refusal
+  bad_spec : (path : List ℕ) (cause : SpecFault) → Refusal
   limit : DefinitionLimit → Refusal
 
 -- a fault without where its text lies in memory
@@ -27,7 +27,7 @@ refusal faults.NotJson = not_json
 refusal (faults.Shape path) = shape (string_bytes path)
 refusal (faults.Unknown path name) = unknown (string_bytes path) (string_bytes name)
 refusal (faults.Duplicate path) = duplicate (string_bytes path)
-refusal (faults.BadType path cause) = bad_type (string_bytes path) cause
+refusal (faults.BadType path cause) = bad_type (string_bytes path) (cause_view cause)
 refusal (faults.BadSpec path cause) = bad_spec (string_bytes path) cause
 refusal (faults.Limit l) = limit l
 

@@ -3,15 +3,19 @@
 ghost use Rattle.std.specs.Prelude.{◌≡◌, codes, length, IfOk};
 ghost use Rattle.serde_json.specs.View.{view, items_view};
 ghost use Rattle.param_specs.specs.Table.{own_of};
+ghost use Rattle.ui_machine.specs.Seq.{read};
+ghost use Rattle.ui_machine.specs.Text.{no_type};
+ghost use Rattle.builder_defs.specs.Causes.{cause_view, named_cause};
 ghost use Rattle.builder_defs.specs.Refusals.{Gives, Leads};
 ghost use Rattle.builder_defs.specs.Document.{under, each};
-ghost use Rattle.builder_defs.specs.Denoted.{draft_of, is_further, room_for_type, type_cause_of, with_class, declared_at, properties_at, class_at, class_of};
+ghost use Rattle.builder_defs.specs.Denoted.{draft_of, is_further, room_for_type, with_class, declared_at, properties_at, class_at, class_of};
 
 use crate::document::{Entries, Part, path_of_entry, path_under};
-use crate::fault::{DefinitionFault, DefinitionLimit, ReadError};
+use crate::fault::{DefinitionFault, DefinitionLimit, ReadError, TypeCause};
 use crate::properties::read_properties;
 use param_specs::SpecTable;
-use type_tree::{MOST_TYPES, TypeError, TypeFlags, TypeId, TypeTree};
+use std::alloc::{AllocError, Global};
+use type_tree::{MOST_TYPES, TypeError, TypeFault, TypeFlags, TypeId, TypeTree};
 
 const PREDECLARED_TYPES: usize = 2;
 
@@ -52,18 +56,30 @@ fn is_further(class: Option<TypeId>) -> bool
     }
 }
 
-// The cause of a type's refusal, and nothing for want of memory.
-fn type_cause_of(error: TypeError) -> Option<TypeError>
-    ensures { result ≡ type_cause_of error }
+// The name of a type, and nothing where there is none.
+pub(crate) fn type_name(types: &TypeTree, t: TypeId) -> &str
+    ensures { result.now ≡ (read no_type types.now t).name }
 {
-    match error {
-        TypeError::OutOfMemory => None,
-        TypeError::BadName => Some(TypeError::BadName),
-        TypeError::Duplicate => Some(TypeError::Duplicate),
-        TypeError::UnknownParent => Some(TypeError::UnknownParent),
-        TypeError::FinalParent => Some(TypeError::FinalParent),
-        TypeError::Prerequisite(class) => Some(TypeError::Prerequisite(class)),
-        TypeError::Limit(limit) => Some(TypeError::Limit(limit)),
+    if t.index() >= types.len() {
+        return "";
+    }
+    types.name(t)
+}
+
+// The cause of a fault, with the names of types.
+fn named_cause(alloc: Global, types: &TypeTree, fault: TypeFault) -> Result<TypeCause, AllocError>
+    ensures { IfOk result (λ cause. cause_view cause ≡ named_cause types.now fault) }
+{
+    match fault {
+        TypeFault::BadName => Ok(TypeCause::BadName),
+        TypeFault::Duplicate => Ok(TypeCause::Duplicate),
+        TypeFault::UnknownParent => Ok(TypeCause::UnknownParent),
+        TypeFault::FinalParent => Ok(TypeCause::FinalParent),
+        TypeFault::Prerequisite(required) => {
+            let name = String::from_str(alloc, type_name(types, required))?;
+            Ok(TypeCause::Prerequisite(name))
+        }
+        TypeFault::Limit(limit) => Ok(TypeCause::Limit(limit)),
     }
 }
 
@@ -77,16 +93,14 @@ fn add_class(part: Part<'_>, types: &mut TypeTree, name: &str) -> Result<TypeId,
             part.alloc, part.path, "name",
         )?)));
     }
-    let error = match types.add_class(name, "GObject", TypeFlags::NONE, &[]) {
-        Ok(class) => return Ok(class),
-        Err(error) => error,
-    };
-    match type_cause_of(error) {
-        Some(cause) => Err(ReadError::Refused(DefinitionFault::BadType(
-            path_under(part.alloc, part.path, "name")?,
-            cause,
-        ))),
-        None => Err(ReadError::OutOfMemory),
+    match types.add_class(name, "GObject", TypeFlags::NONE, &[]) {
+        Ok(class) => Ok(class),
+        Err(TypeError::OutOfMemory) => Err(ReadError::OutOfMemory),
+        Err(TypeError::Refused(fault)) => {
+            let path = path_under(part.alloc, part.path, "name")?;
+            let cause = named_cause(part.alloc, types, fault)?;
+            Err(ReadError::Refused(DefinitionFault::BadType(path, cause)))
+        }
     }
 }
 

@@ -6,6 +6,7 @@ ghost use Rattle.ui_machine.specs.Lookups.{place_of, spec_of, specs_of, slot_of,
 ghost use Rattle.param_specs.specs.View.{spec_view};
 ghost use Rattle.builder_defs.specs.Meaning.{IsBasic, bare_place, class_at, plain_object};
 
+use crate::classes::type_name;
 use crate::object_entry::ObjectEntry;
 use indexmap::IndexMap;
 use param_specs::{Spec, SpecTable};
@@ -117,10 +118,7 @@ impl Definition {
     pub fn class_name(&self, class: TypeId) -> &str
         ensures { result.now ≡ (type_of self.now class).name }
     {
-        if class.index() >= self.types.len() {
-            return "";
-        }
-        self.types.name(class)
+        type_name(&self.types, class)
     }
 }
 

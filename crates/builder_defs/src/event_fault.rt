@@ -4,45 +4,34 @@ ghost use Rattle.std.specs.Prelude.{◌≡◌};
 ghost use Rattle.builder_defs.specs.declared.event_fault.EventError.TheVariants.{OutOfMemory};
 
 use std::alloc::{AllocError, AllocFailed};
-use thiserror::Error;
 
 /// Why a line of the event file is no event of a definition, in the order in which the tests are made.
-#[derive(Debug, Drop, Error)]
+#[derive(Debug, Drop)]
 pub enum EventFault {
     /// The line has more than 65,536 bytes.
-    #[error("TooLong")]
     TooLong,
     /// The line is not UTF-8, or not JSON.
-    #[error("NotJson")]
     NotJson,
     /// The value is no object of one member, `set` with an id, a name and a value, or `get` with an id and a name.
-    #[error("Shape")]
     Shape,
     /// No object has this id, or the object has no property of this name: the first name from the left that is not known.
-    #[error("Unknown")]
     Unknown(String),
     /// The property that is asked for cannot be read.
-    #[error("NotReadable")]
     NotReadable,
     /// The property that is set cannot be written.
-    #[error("NotWritable")]
     NotWritable,
     /// The property that is set is given at the construction only.
-    #[error("ConstructOnly")]
     ConstructOnly,
     /// The value is none of the property's kind.
-    #[error("ValueFault")]
     ValueFault,
 }
 
 /// Why a read gave no event.
-#[derive(Debug, Drop, Error)]
+#[derive(Debug, Drop)]
 pub enum EventError {
     /// No memory was found.
-    #[error("OutOfMemory")]
     OutOfMemory,
     /// The line is no event.
-    #[error("{0}")]
     Refused(EventFault),
 }
 

@@ -3,10 +3,9 @@
 ghost use Rattle.std.specs.Prelude.{◌≡◌};
 ghost use Rattle.builder_defs.specs.declared.fault.ReadError.TheVariants.{OutOfMemory};
 
-use param_specs::SpecError;
+use param_specs::SpecFault;
 use std::alloc::{AllocError, AllocFailed};
-use thiserror::Error;
-use type_tree::TypeError;
+use type_tree::TypeLimit;
 
 /// What a definition has too much of.
 #[derive(Clone, Copy, Debug, PartialEq, Eq)]
@@ -19,47 +18,53 @@ pub enum DefinitionLimit {
     Objects,
 }
 
+/// Why a type is not added, in the order in which the tests are made, with the names of types.
+#[derive(Debug, Drop)]
+pub enum TypeCause {
+    /// The name is not one of three characters or more: an ASCII letter or `_`, then letters, digits, `-`, `_` and `+`.
+    BadName,
+    /// A type of that name is there.
+    Duplicate,
+    /// A parent, interface or required type is not there, or is of another sort.
+    UnknownParent,
+    /// The parent is final.
+    FinalParent,
+    /// An interface requires the type of this name, and the class would not be one.
+    Prerequisite(String),
+    /// The tree is full, or the class would stand too deep.
+    Limit(TypeLimit),
+}
+
 /// Why bytes denote no definition. A path is a JSON pointer (RFC 6901). The fault is the first one in document order, and at one path the first
 /// one in this order.
-#[derive(Debug, Drop, Error)]
+#[derive(Debug, Drop)]
 pub enum DefinitionFault {
     /// More than 4 MiB.
-    #[error("TooLong")]
     TooLong,
     /// The bytes are not UTF-8.
-    #[error("NotUtf8")]
     NotUtf8,
     /// The text is not JSON, or nests deeper than 127 values.
-    #[error("NotJson")]
     NotJson,
     /// A member is missing, unknown or of the wrong sort.
-    #[error("Shape")]
     Shape(String),
     /// At the path stands a name that nothing has.
-    #[error("Unknown")]
     Unknown(String, String),
     /// An earlier entry of the section has the name.
-    #[error("Duplicate")]
     Duplicate(String),
     /// A type is not added.
-    #[error("BadType")]
-    BadType(String, TypeError),
+    BadType(String, TypeCause),
     /// A property is not installed.
-    #[error("BadSpec")]
-    BadSpec(String, SpecError),
+    BadSpec(String, SpecFault),
     /// There is too much of something.
-    #[error("Limit")]
     Limit(DefinitionLimit),
 }
 
 /// Why a read gave no definition.
-#[derive(Debug, Drop, Error)]
+#[derive(Debug, Drop)]
 pub enum ReadError {
     /// No memory was found.
-    #[error("OutOfMemory")]
     OutOfMemory,
     /// The bytes denote no definition.
-    #[error("{0}")]
     Refused(DefinitionFault),
 }
 

@@ -1,13 +1,14 @@
 //! How the refusal of a definition is printed.
 
 ghost use Rattle.std.specs.Prelude.{◌≡◌, ◌<◌, ◌++◌, IfOk, OnOk, string_bytes};
+ghost use Rattle.builder_defs.specs.Causes.{cause_view};
 ghost use Rattle.builder_defs.specs.Refusals.{refusal};
 ghost use Rattle.builder_defs.specs.FaultText.{hex_digit, printed_byte, printed, type_limit_name, type_cause_text, spec_cause_text, limit_name, refusal_text};
 
-use crate::fault::{DefinitionFault, DefinitionLimit};
-use param_specs::SpecError;
+use crate::fault::{DefinitionFault, DefinitionLimit, TypeCause};
+use param_specs::SpecFault;
 use std::alloc::{AllocError, Global};
-use type_tree::{TypeError, TypeLimit};
+use type_tree::TypeLimit;
 
 impl DefinitionFault {
     /// The fault's name and fields, with one blank between them: what the program writes behind `refused: `. In paths and names each byte
@@ -34,12 +35,12 @@ impl DefinitionFault {
             }
             DefinitionFault::BadType(path, cause) => {
                 let path = printed(alloc, path.as_str())?;
-                let cause = type_cause_text(alloc, *cause)?;
+                let cause = type_cause_text(alloc, cause)?;
                 format!(in alloc; "BadType {path} {cause}")
             }
             DefinitionFault::BadSpec(path, cause) => {
                 let path = printed(alloc, path.as_str())?;
-                let cause = spec_cause_text(alloc, *cause)?;
+                let cause = spec_cause_text(*cause);
                 format!(in alloc; "BadSpec {path} {cause}")
             }
             DefinitionFault::Limit(limit) => {
@@ -71,41 +72,37 @@ fn type_limit_name(limit: TypeLimit) -> &'static str
     }
 }
 
-// Why a type is not added: the name of the cause and its own fields. A type is told by its number.
-fn type_cause_text(alloc: Global, cause: TypeError) -> Result<String, AllocError>
-    ensures { IfOk result (λ text. string_bytes text ≡ type_cause_text cause) }
+// Why a type is not added: the name of the cause and its own fields.
+fn type_cause_text(alloc: Global, cause: &TypeCause) -> Result<String, AllocError>
+    ensures { IfOk result (λ text. string_bytes text ≡ type_cause_text (cause_view cause.now)) }
 {
     match cause {
-        TypeError::BadName => String::from_str(alloc, "BadName"),
-        TypeError::Duplicate => String::from_str(alloc, "Duplicate"),
-        TypeError::UnknownParent => String::from_str(alloc, "UnknownParent"),
-        TypeError::FinalParent => String::from_str(alloc, "FinalParent"),
-        TypeError::Prerequisite(required) => {
-            let number = required.index();
-            format!(in alloc; "Prerequisite {number}")
+        TypeCause::BadName => String::from_str(alloc, "BadName"),
+        TypeCause::Duplicate => String::from_str(alloc, "Duplicate"),
+        TypeCause::UnknownParent => String::from_str(alloc, "UnknownParent"),
+        TypeCause::FinalParent => String::from_str(alloc, "FinalParent"),
+        TypeCause::Prerequisite(required) => {
+            let name = printed(alloc, required.as_str())?;
+            format!(in alloc; "Prerequisite {name}")
         }
-        TypeError::Limit(limit) => {
-            let name = type_limit_name(limit);
+        TypeCause::Limit(limit) => {
+            let name = type_limit_name(*limit);
             format!(in alloc; "Limit {name}")
         }
-        TypeError::OutOfMemory => String::from_str(alloc, "OutOfMemory"),
     }
 }
 
-// Why a property is not installed: the name of the cause and its own fields. A property is told by its slot.
-fn spec_cause_text(alloc: Global, cause: SpecError) -> Result<String, AllocError>
-    ensures { IfOk result (λ text. string_bytes text ≡ spec_cause_text cause) }
+// Why a property is not installed.
+fn spec_cause_text(cause: SpecFault) -> &'static str
+    ensures { result.now ≡ spec_cause_text cause }
 {
     match cause {
-        SpecError::BadName => String::from_str(alloc, "BadName"),
-        SpecError::Duplicate => String::from_str(alloc, "Duplicate"),
-        SpecError::FlagsClash => String::from_str(alloc, "FlagsClash"),
-        SpecError::RangeEmpty => String::from_str(alloc, "RangeEmpty"),
-        SpecError::DefaultInvalid => String::from_str(alloc, "DefaultInvalid"),
-        SpecError::Limit => String::from_str(alloc, "Limit"),
-        SpecError::OverrideMissing(slot) => format!(in alloc; "OverrideMissing {slot}"),
-        SpecError::OverrideDiffers(slot) => format!(in alloc; "OverrideDiffers {slot}"),
-        SpecError::OutOfMemory => String::from_str(alloc, "OutOfMemory"),
+        SpecFault::BadName => "BadName",
+        SpecFault::Duplicate => "Duplicate",
+        SpecFault::FlagsClash => "FlagsClash",
+        SpecFault::RangeEmpty => "RangeEmpty",
+        SpecFault::DefaultInvalid => "DefaultInvalid",
+        SpecFault::Limit => "Limit",
     }
 }
 

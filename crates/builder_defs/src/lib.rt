@@ -21,6 +21,6 @@ pub use document::MAX_BYTES;
 pub use event::Event;
 pub use event_fault::{EventError, EventFault};
 pub use event_reading::{MAX_LINE_BYTES, read_event};
-pub use fault::{DefinitionFault, DefinitionLimit, ReadError};
+pub use fault::{DefinitionFault, DefinitionLimit, ReadError, TypeCause};
 pub use object_entry::ObjectEntry;
 pub use reading::read_definition;

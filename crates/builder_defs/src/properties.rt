@@ -11,12 +11,14 @@ ghost use Rattle.param_specs.specs.View.{spec_view};
 ghost use Rattle.param_specs.specs.Table.{own_of, specs_of};
 ghost use Rattle.builder_defs.specs.Refusals.{Gives, Leads};
 ghost use Rattle.builder_defs.specs.Document.{under, each};
-ghost use Rattle.builder_defs.specs.Denoted.{kind_named, kind_at, lowest, highest, room_for_property, new_property, spec_at, installed, property_at, property_of, cause_of};
+ghost use Rattle.builder_defs.specs.Denoted.{kind_named, kind_at, lowest, highest, room_for_property, new_property, spec_at, installed, property_at, property_of};
 
 use crate::document::{Entries, Part, bad_shape, path_of_entry, path_under};
 use crate::fault::{DefinitionFault, DefinitionLimit, ReadError};
 use g_values::{Kind, zero_of};
-use param_specs::{MOST_PROPERTIES, PropertyFlags, Spec, SpecError, SpecTable, is_property_name};
+use param_specs::{
+    MOST_PROPERTIES, PropertyFlags, Spec, SpecError, SpecFault, SpecTable, is_property_name,
+};
 use serde_json::Value;
 use std::alloc::Global;
 use type_tree::{TypeId, TypeTree};
@@ -130,11 +132,11 @@ fn check_name(
 {
     if !is_property_name(name) {
         let path = path_under(part.alloc, part.path, "name")?;
-        return Err(ReadError::Refused(DefinitionFault::BadSpec(path, SpecError::BadName)));
+        return Err(ReadError::Refused(DefinitionFault::BadSpec(path, SpecFault::BadName)));
     }
     if specs.find(types, class, name).is_some() {
         let path = path_under(part.alloc, part.path, "name")?;
-        return Err(ReadError::Refused(DefinitionFault::BadSpec(path, SpecError::Duplicate)));
+        return Err(ReadError::Refused(DefinitionFault::BadSpec(path, SpecFault::Duplicate)));
     }
     Ok(())
 }
@@ -162,23 +164,6 @@ fn spec_in(
     Ok(property_spec(name, kind, default))
 }
 
-// The cause of a property's refusal, and nothing for want of memory.
-fn cause_of(error: SpecError) -> Option<SpecError>
-    ensures { result ≡ cause_of error }
-{
-    match error {
-        SpecError::OutOfMemory => None,
-        SpecError::BadName => Some(SpecError::BadName),
-        SpecError::Duplicate => Some(SpecError::Duplicate),
-        SpecError::FlagsClash => Some(SpecError::FlagsClash),
-        SpecError::RangeEmpty => Some(SpecError::RangeEmpty),
-        SpecError::DefaultInvalid => Some(SpecError::DefaultInvalid),
-        SpecError::Limit => Some(SpecError::Limit),
-        SpecError::OverrideMissing(slot) => Some(SpecError::OverrideMissing(slot)),
-        SpecError::OverrideDiffers(slot) => Some(SpecError::OverrideDiffers(slot)),
-    }
-}
-
 // Gives a class a property.
 fn install(
     part: Part<'_>,
@@ -190,15 +175,13 @@ fn install(
     requires { IsKnown types.now spec.kind }
     ensures { Leads result (installed part.entry.path.now types.now class (own_of specs.old) (spec_view spec)) (own_of specs.new) }
 {
-    let Err(error) = specs.install(types, class, spec) else {
-        return Ok(());
-    };
-    match cause_of(error) {
-        Some(cause) => Err(ReadError::Refused(DefinitionFault::BadSpec(
+    match specs.install(types, class, spec) {
+        Ok(_) => Ok(()),
+        Err(SpecError::OutOfMemory) => Err(ReadError::OutOfMemory),
+        Err(SpecError::Refused(cause)) => Err(ReadError::Refused(DefinitionFault::BadSpec(
             String::from_str(part.alloc, part.path)?,
             cause,
         ))),
-        None => Err(ReadError::OutOfMemory),
     }
 }
 

@@ -6,8 +6,8 @@ use Rattle.ui_machine.specs.Properties as properties
 use Rattle.param_specs.specs.declared.spec.Spec.{Spec}
 use Rattle.param_specs.specs.View.{spec_view, lists_of}
 use Rattle.param_specs.specs.Table.{AddsSpec, SameSpecs, IsTable, Installs, own_of}
-use Rattle.param_specs.specs.declared.error.SpecError.{SpecError}
-use Rattle.param_specs.specs.declared.error.SpecError.TheVariants.{BadName, Duplicate, FlagsClash, RangeEmpty, DefaultInvalid, Limit, OverrideMissing, OverrideDiffers, OutOfMemory}
+use Rattle.param_specs.specs.declared.error.SpecFault.{SpecFault}
+use Rattle.param_specs.specs.declared.error.SpecError.TheVariants.{Refused}
 
 zero_suc : (i : ℕ) → nat_eq 0 (suc i) ≡ false
 zero_suc i = grind (arith, nat_tests)
@@ -73,14 +73,6 @@ pub SameSpecs-after : (old mid new : List (List properties.Spec)) → SameSpecs 
 SameSpecs-after old mid new a b u = b u ∙ a u
 
 -- a fault refuses
-pub Installs-refused : (e : SpecError) (fault : Option SpecError) (specs : List properties.Spec) (t : ℕ) (s : properties.Spec) (table : List (List properties.Spec))
-    → fault ≡ Some e → (e ≡ OutOfMemory → ⊥) → Installs (Err e) fault specs t s table table
-Installs-refused BadName fault specs t s table h n = (h, λ u. refl)
-Installs-refused Duplicate fault specs t s table h n = (h, λ u. refl)
-Installs-refused FlagsClash fault specs t s table h n = (h, λ u. refl)
-Installs-refused RangeEmpty fault specs t s table h n = (h, λ u. refl)
-Installs-refused DefaultInvalid fault specs t s table h n = (h, λ u. refl)
-Installs-refused Limit fault specs t s table h n = (h, λ u. refl)
-Installs-refused (OverrideMissing slot) fault specs t s table h n = (h, λ u. refl)
-Installs-refused (OverrideDiffers slot) fault specs t s table h n = (h, λ u. refl)
-Installs-refused OutOfMemory fault specs t s table h n = absurd (n refl)
+pub Installs-refused : (cause : SpecFault) (fault : Option SpecFault) (specs : List properties.Spec) (t : ℕ) (s : properties.Spec) (table : List (List properties.Spec))
+    → fault ≡ Some cause → Installs (Err (Refused cause)) fault specs t s table table
+Installs-refused cause fault specs t s table h = (h, λ u. refl)

@@ -4,8 +4,8 @@ use Rattle.std.specs.Ordering.{int_eq}
 use Rattle.ui_machine.specs.Transform.{same_kind, same_value, same_bool}
 use Rattle.ui_machine.specs.Properties.{Spec}
 use Rattle.param_specs.specs.Table.{slot_named, ◌or_else◌}
-use Rattle.param_specs.specs.declared.error.SpecError.{SpecError}
-use Rattle.param_specs.specs.declared.error.SpecError.TheVariants.{OverrideMissing, OverrideDiffers}
+use Rattle.param_specs.specs.declared.error.OverrideFault.{OverrideFault}
+use Rattle.param_specs.specs.declared.error.OverrideFault.TheVariants.{Missing, Differs}
 
 -- one kind and range
 abbrev pub same_range : Spec → Spec → Bool
@@ -35,11 +35,11 @@ abbrev pub differs : List Spec → Spec → Bool
 differs specs wanted = is_another (spec_named specs wanted.name) wanted
 
 -- the first property that is wanted and missing, else the first that differs
-abbrev pub override_fault : List Spec → List Spec → Option SpecError
+abbrev pub override_fault : List Spec → List Spec → Option OverrideFault
 override_fault specs wanted =
-    option_map OverrideMissing (position (is_missing specs) wanted)
-    or_else option_map OverrideDiffers (position (differs specs) wanted)
+    option_map Missing (position (is_missing specs) wanted)
+    or_else option_map Differs (position (differs specs) wanted)
 
-abbrev pub fine_or : Option SpecError → Result (Unit {0}) SpecError
+abbrev pub fine_or : Option OverrideFault → Result (Unit {0}) OverrideFault
 fine_or None = Ok tt
 fine_or (Some fault) = Err fault

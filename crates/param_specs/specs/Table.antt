@@ -7,8 +7,10 @@ use Rattle.ui_machine.specs.Types.{GType}
 use Rattle.ui_machine.specs.Ancestry.{lineage}
 use Rattle.ui_machine.specs.Clamp.{is_valid}
 use Rattle.ui_machine.specs.Properties.{Spec}
+use Rattle.param_specs.specs.declared.error.SpecFault.{SpecFault}
+use Rattle.param_specs.specs.declared.error.SpecFault.TheVariants.{BadName, Duplicate, FlagsClash, RangeEmpty, DefaultInvalid, Limit}
 use Rattle.param_specs.specs.declared.error.SpecError.{SpecError}
-use Rattle.param_specs.specs.declared.error.SpecError.TheVariants.{BadName, Duplicate, FlagsClash, RangeEmpty, DefaultInvalid, Limit, OverrideMissing, OverrideDiffers, OutOfMemory}
+use Rattle.param_specs.specs.declared.error.SpecError.TheVariants.{OutOfMemory, Refused}
 use Rattle.param_specs.specs.Flags.{is_clash}
 use Rattle.param_specs.specs.PropertyName.{is_property_name}
 
@@ -35,17 +37,17 @@ canonical_spec s =
 
 -- ** faults
 
-abbrev pub fault_if : Bool → SpecError → Option SpecError
+abbrev pub fault_if : Bool → SpecFault → Option SpecFault
 fault_if b fault = if b then Some fault else None
 
 infixr 20 ◌or_else◌
 -- the first fault of two
-abbrev pub ◌or_else◌ : Option SpecError → Option SpecError → Option SpecError
+abbrev pub ◌or_else◌ : {A : Type 0} → Option A → Option A → Option A
 (Some fault) or_else next = Some fault
 None or_else next = next
 
 -- what forbids a further spec, where these are there
-abbrev pub install_fault : List GType → List Spec → Spec → Option SpecError
+abbrev pub install_fault : List GType → List Spec → Spec → Option SpecFault
 install_fault types specs spec =
     fault_if (not (is_property_name spec.name)) BadName
     or_else fault_if (is_some (slot_named specs spec.name)) Duplicate
@@ -66,14 +68,7 @@ SameSpecs old new = (u : ℕ) → own_of new u ≡ own_of old u
 
 -- An installed spec stands last and its slot is answered. Without memory nothing is installed, though nothing forbids it; a fault is answered
 -- and nothing is installed.
-abbrev pub Installs : Result ℕ SpecError → Option SpecError → List Spec → ℕ → Spec → List (List Spec) → List (List Spec) → Type 0
+abbrev pub Installs : Result ℕ SpecError → Option SpecFault → List Spec → ℕ → Spec → List (List Spec) → List (List Spec) → Type 0
 Installs (Ok slot) fault specs t spec old new = (fault ≡ None) × (slot ≡ length specs) × AddsSpec old new t (canonical_spec spec)
 Installs (Err OutOfMemory) fault specs t spec old new = (fault ≡ None) × SameSpecs old new
-Installs (Err BadName) fault specs t spec old new = (fault ≡ Some BadName) × SameSpecs old new
-Installs (Err Duplicate) fault specs t spec old new = (fault ≡ Some Duplicate) × SameSpecs old new
-Installs (Err FlagsClash) fault specs t spec old new = (fault ≡ Some FlagsClash) × SameSpecs old new
-Installs (Err RangeEmpty) fault specs t spec old new = (fault ≡ Some RangeEmpty) × SameSpecs old new
-Installs (Err DefaultInvalid) fault specs t spec old new = (fault ≡ Some DefaultInvalid) × SameSpecs old new
-Installs (Err Limit) fault specs t spec old new = (fault ≡ Some Limit) × SameSpecs old new
-Installs (Err (OverrideMissing s)) fault specs t spec old new = (fault ≡ Some (OverrideMissing s)) × SameSpecs old new
-Installs (Err (OverrideDiffers s)) fault specs t spec old new = (fault ≡ Some (OverrideDiffers s)) × SameSpecs old new
+Installs (Err (Refused cause)) fault specs t spec old new = (fault ≡ Some cause) × SameSpecs old new

@@ -12,7 +12,7 @@ mod spec;
 mod table;
 mod validating;
 
-pub use error::SpecError;
+pub use error::{OverrideFault, SpecError, SpecFault};
 pub use flags::PropertyFlags;
 pub use name::is_property_name;
 pub use spec::Spec;

@@ -5,7 +5,7 @@ ghost use Rattle.param_specs.specs.View.{spec_view};
 ghost use Rattle.param_specs.specs.Table.{specs_of};
 ghost use Rattle.param_specs.specs.Overriding.{same_range, same_rest, same_spec, is_missing, differs, override_fault, fine_or};
 
-use crate::error::SpecError;
+use crate::error::OverrideFault;
 use crate::spec::Spec;
 use crate::table::SpecTable;
 use g_values::is_same;
@@ -16,21 +16,21 @@ impl SpecTable {
     ///
     /// # Errors
     ///
-    /// `OverrideMissing` with the interface's slot of the first that the type does not have; else `OverrideDiffers` with that of the first that
+    /// `Missing` with the interface's slot of the first that the type does not have; else `Differs` with that of the first that
     /// it has otherwise.
     pub fn override_from(
         &self,
         tree: &TypeTree,
         t: TypeId,
         interface: TypeId,
-    ) -> Result<(), SpecError>
+    ) -> Result<(), OverrideFault>
         ensures { result ≡ fine_or (override_fault (specs_of tree.now self.now t) (specs_of tree.now self.now interface)) }
     {
         if let Some(slot) = self.first_missing(tree, t, interface) {
-            return Err(SpecError::OverrideMissing(slot as u16));
+            return Err(OverrideFault::Missing(slot as u16));
         }
         if let Some(slot) = self.first_different(tree, t, interface) {
-            return Err(SpecError::OverrideDiffers(slot as u16));
+            return Err(OverrideFault::Differs(slot as u16));
         }
         Ok(())
     }

@@ -7,7 +7,7 @@ ghost use Rattle.g_values.specs.View.{IsKnown};
 ghost use Rattle.param_specs.specs.PropertyName.{is_property_name};
 ghost use Rattle.param_specs.specs.Table.{own_of, specs_of, slot_named, AddsSpec, SameSpecs, Installs, install_fault};
 
-use crate::error::SpecError;
+use crate::error::{SpecError, SpecFault};
 use crate::growing::{add, grow};
 use crate::name::{canonical_name, is_property_name, is_spelling};
 use crate::spec::Spec;
@@ -138,30 +138,29 @@ impl SpecTable {
     }
 
     // Why a property is not installed.
-    fn install_fault(&self, tree: &TypeTree, t: TypeId, spec: &Spec) -> Option<SpecError>
+    fn install_fault(&self, tree: &TypeTree, t: TypeId, spec: &Spec) -> Option<SpecFault>
         requires { IsKnown tree.now spec.now.kind }
         ensures fault { result ≡ install_fault tree.now (specs_of tree.now self.now t) (spec_view spec.now) }
         ensures named { IfNone result (is_property_name (string_bytes spec.now.name) ≡ true) }
         ensures room { IfNone result (length (specs_of tree.now self.now t) < 64) }
-        ensures memory { IfSome result (λ fault. fault ≢ SpecError.OutOfMemory) }
     {
         if !is_property_name(spec.name.as_str()) {
-            return Some(SpecError::BadName);
+            return Some(SpecFault::BadName);
         }
         if self.slot(tree, t, spec.name.as_str()).is_some() {
-            return Some(SpecError::Duplicate);
+            return Some(SpecFault::Duplicate);
         }
         if spec.flags.is_clash() {
-            return Some(SpecError::FlagsClash);
+            return Some(SpecFault::FlagsClash);
         }
         if spec.max < spec.min {
-            return Some(SpecError::RangeEmpty);
+            return Some(SpecFault::RangeEmpty);
         }
         if !is_valid_default(tree, spec) {
-            return Some(SpecError::DefaultInvalid);
+            return Some(SpecFault::DefaultInvalid);
         }
         if self.slots_of(tree, t) >= MOST_PROPERTIES {
-            return Some(SpecError::Limit);
+            return Some(SpecFault::Limit);
         }
         None
     }
@@ -179,7 +178,7 @@ impl SpecTable {
             Installs result (install_fault tree.now specs (spec_view spec)) specs t (spec_view spec) self.old self.new }
     {
         if let Some(fault) = self.install_fault(tree, t, &spec) {
-            return Err(fault);
+            return Err(SpecError::Refused(fault));
         }
         let slot = self.slots_of(tree, t);
         let name = canonical_name(self.allocator(), spec.name.as_str())?;

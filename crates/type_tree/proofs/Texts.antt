@@ -2,6 +2,7 @@
 use Rattle.std.proofs.Common.{◌≡◌, ◌∙◌, ℕ, ◌&&◌, List, [], ◌∷◌, map, Option, None, Result, Bor, is_some, refl, sym, ap, subst}
 use Rattle.ui_machine.specs.Types.{GType}
 use Rattle.ui_machine.specs.Types as sorts
+use Rattle.type_tree.specs.declared.error.TypeFault.{TypeFault}
 use Rattle.type_tree.specs.declared.error.TypeError.{TypeError}
 use Rattle.type_tree.specs.declared.entry.TypeFlags.{TypeFlags}
 use Rattle.type_tree.specs.Entry.{plain_type}
@@ -30,5 +31,5 @@ pub new_interface_is : (types : List GType) (name : List ℕ) (names : List (Bor
     → items ≡ filter_map (λ n. required_named types n.now) names → new_interface types name (map (λ n. n.now) names) ≡ plain_type name sorts.interface items []
 new_interface_is types name names items f = ap (λ l. plain_type name sorts.interface l []) (filter_map_texts (required_named types) names ∙ sym f)
 
-pub Adds-same : (r : Result ℕ TypeError) (f : Option TypeError) (g h : GType) (old new : List GType) → f ≡ None → g ≡ h → Adds r None h old new → Adds r f g old new
+pub Adds-same : (r : Result ℕ TypeError) (f : Option TypeFault) (g h : GType) (old new : List GType) → f ≡ None → g ≡ h → Adds r None h old new → Adds r f g old new
 Adds-same r f g h old new e s a = subst (λ k. Adds r k g old new) (sym e) (subst (λ k. Adds r None k old new) (sym s) a)

@@ -8,8 +8,10 @@ use Rattle.ui_machine.specs.Types.{GType, Member}
 use Rattle.ui_machine.specs.Types as sorts
 use Rattle.ui_machine.specs.Text.{no_type}
 use Rattle.ui_machine.specs.Ancestry.{is_a, depth}
+use Rattle.type_tree.specs.declared.error.TypeFault.{TypeFault}
 use Rattle.type_tree.specs.declared.error.TypeError.{TypeError}
-use Rattle.type_tree.specs.declared.error.TypeError.TheVariants.{BadName, Duplicate, UnknownParent, FinalParent, Prerequisite, Limit, OutOfMemory}
+use Rattle.type_tree.specs.declared.error.TypeFault.TheVariants.{BadName, Duplicate, UnknownParent, FinalParent, Prerequisite, Limit}
+use Rattle.type_tree.specs.declared.error.TypeError.TheVariants.{OutOfMemory, Refused}
 use Rattle.type_tree.specs.declared.error.TypeLimit.TheVariants.{Types, Depth}
 use Rattle.type_tree.specs.declared.entry.TypeFlags.{TypeFlags}
 use Rattle.type_tree.specs.Entry.{plain_type}
@@ -56,17 +58,17 @@ required_named types name = of_sort is_required_sort types (find_type types name
 
 -- ** faults
 
-abbrev pub fault_if : Bool → TypeError → Option TypeError
+abbrev pub fault_if : Bool → TypeFault → Option TypeFault
 fault_if true fault = Some fault
 fault_if false fault = None
 
 infixr 20 ◌or_else◌
 -- the first fault of two
-abbrev pub ◌or_else◌ : Option TypeError → Option TypeError → Option TypeError
+abbrev pub ◌or_else◌ : Option TypeFault → Option TypeFault → Option TypeFault
 (Some fault) or_else next = Some fault
 None or_else next = next
 
-abbrev pub name_fault : List GType → List ℕ → Option TypeError
+abbrev pub name_fault : List GType → List ℕ → Option TypeFault
 name_fault types name = fault_if (not (is_type_name name)) BadName or_else fault_if (is_some (find_type types name)) Duplicate
 
 -- whether each name is of a type that serves
@@ -91,15 +93,15 @@ abbrev pub missing_type : List GType → ℕ → List ℕ → Option ℕ
 missing_type types parent interfaces =
     find (λ t. not (would_be types parent interfaces t)) (flat_map (required_by types) interfaces)
 
-abbrev pub prerequisite_fault : Option ℕ → Option TypeError
+abbrev pub prerequisite_fault : Option ℕ → Option TypeFault
 prerequisite_fault None = None
 prerequisite_fault (Some t) = Some (Prerequisite t)
 
-abbrev pub room_fault : List GType → Option TypeError
+abbrev pub room_fault : List GType → Option TypeFault
 room_fault types = fault_if (nat_le 256 (length types)) (Limit Types)
 
 -- what forbids a child of this parent with these interfaces, all of which are known or not
-abbrev pub child_fault : List GType → ℕ → Bool → List ℕ → Option TypeError
+abbrev pub child_fault : List GType → ℕ → Bool → List ℕ → Option TypeFault
 child_fault types parent known interfaces =
     fault_if (not known) UnknownParent
     or_else fault_if (read no_type types parent).is_final FinalParent
@@ -107,23 +109,23 @@ child_fault types parent known interfaces =
     or_else room_fault types
     or_else fault_if (nat_le 16 (depth types parent)) (Limit Depth)
 
-abbrev pub parent_fault : List GType → Option ℕ → List (List ℕ) → Option TypeError
+abbrev pub parent_fault : List GType → Option ℕ → List (List ℕ) → Option TypeFault
 parent_fault types None interfaces = Some UnknownParent
 parent_fault types (Some parent) interfaces =
     child_fault types parent (are_named (interface_named types) interfaces) (filter_map (interface_named types) interfaces)
 
-abbrev pub class_fault : List GType → List ℕ → List ℕ → List (List ℕ) → Option TypeError
+abbrev pub class_fault : List GType → List ℕ → List ℕ → List (List ℕ) → Option TypeFault
 class_fault types name parent interfaces = name_fault types name or_else parent_fault types (class_named types parent) interfaces
 
 -- what forbids an interface, all whose required types are known or not
-abbrev pub required_fault : List GType → Bool → Option TypeError
+abbrev pub required_fault : List GType → Bool → Option TypeFault
 required_fault types known = fault_if (not known) UnknownParent or_else room_fault types
 
-abbrev pub interface_fault : List GType → List ℕ → List (List ℕ) → Option TypeError
+abbrev pub interface_fault : List GType → List ℕ → List (List ℕ) → Option TypeFault
 interface_fault types name required = name_fault types name or_else required_fault types (are_named (required_named types) required)
 
 -- of an enum or a flags type
-abbrev pub members_fault : List GType → List ℕ → Option TypeError
+abbrev pub members_fault : List GType → List ℕ → Option TypeFault
 members_fault types name = name_fault types name or_else room_fault types
 
 -- ** the types that are added
@@ -151,12 +153,7 @@ new_flags name members = plain_type name sorts.flags [] members
 -- ** what adding does
 
 -- An added type stands last. Without memory nothing is added, though nothing forbids it; a fault is answered and nothing is added.
-abbrev pub Adds : Result ℕ TypeError → Option TypeError → GType → List GType → List GType → Type 0
+abbrev pub Adds : Result ℕ TypeError → Option TypeFault → GType → List GType → List GType → Type 0
 Adds (Ok t) fault added old new = (fault ≡ None) × (t ≡ length old) × (new ≡ old ++ added ∷ [])
 Adds (Err OutOfMemory) fault added old new = (fault ≡ None) × (new ≡ old)
-Adds (Err BadName) fault added old new = (fault ≡ Some BadName) × (new ≡ old)
-Adds (Err Duplicate) fault added old new = (fault ≡ Some Duplicate) × (new ≡ old)
-Adds (Err UnknownParent) fault added old new = (fault ≡ Some UnknownParent) × (new ≡ old)
-Adds (Err FinalParent) fault added old new = (fault ≡ Some FinalParent) × (new ≡ old)
-Adds (Err (Prerequisite t)) fault added old new = (fault ≡ Some (Prerequisite t)) × (new ≡ old)
-Adds (Err (Limit l)) fault added old new = (fault ≡ Some (Limit l)) × (new ≡ old)
+Adds (Err (Refused cause)) fault added old new = (fault ≡ Some cause) × (new ≡ old)

@@ -7,7 +7,7 @@ ghost use Rattle.type_tree.specs.Adding.{Adds, class_named, interface_named, req
 ghost use Rattle.type_tree.specs.Entry.{enum_member, flags_member};
 
 use crate::entry::{ClassEntry, TypeEntry, TypeFlags, TypeSort};
-use crate::error::{TypeError, TypeLimit};
+use crate::error::{TypeError, TypeFault, TypeLimit};
 use crate::member::{EnumMember, FlagsMember};
 use crate::name::is_type_name;
 use crate::tree::{MOST_DEPTH, MOST_TYPES, TypeTree, contains};
@@ -52,24 +52,24 @@ impl TypeTree {
     }
 
     // Why no type of this name is added.
-    fn name_fault(&self, name: &str) -> Option<TypeError>
+    fn name_fault(&self, name: &str) -> Option<TypeFault>
         ensures { result ≡ name_fault self.now name.now }
     {
         if !is_type_name(name) {
-            return Some(TypeError::BadName);
+            return Some(TypeFault::BadName);
         }
         match self.find(name) {
-            Some(_) => Some(TypeError::Duplicate),
+            Some(_) => Some(TypeFault::Duplicate),
             None => None,
         }
     }
 
     // Why no further type is added.
-    fn room_fault(&self) -> Option<TypeError>
+    fn room_fault(&self) -> Option<TypeFault>
         ensures { result ≡ room_fault self.now }
     {
         if self.len() >= MOST_TYPES {
-            return Some(TypeError::Limit(TypeLimit::Types));
+            return Some(TypeFault::Limit(TypeLimit::Types));
         }
         None
     }
@@ -162,32 +162,32 @@ impl TypeTree {
     }
 
     // Why a class of this parent is not added.
-    fn child_fault(&self, parent: TypeId, interfaces: &[&str]) -> Option<TypeError>
+    fn child_fault(&self, parent: TypeId, interfaces: &[&str]) -> Option<TypeFault>
         ensures { result
             ≡ child_fault self.now parent (are_named (λ name. interface_named self.now name.now) interfaces.now)
             (filter_map (λ name. interface_named self.now name.now) interfaces.now) }
     {
         if !self.are_interfaces(interfaces) {
-            return Some(TypeError::UnknownParent);
+            return Some(TypeFault::UnknownParent);
         }
         if self.flags(parent).is_final {
-            return Some(TypeError::FinalParent);
+            return Some(TypeFault::FinalParent);
         }
         if let Some(missing) = self.missing_type(parent, interfaces) {
-            return Some(TypeError::Prerequisite(missing));
+            return Some(TypeFault::Prerequisite(missing));
         }
         if self.len() >= MOST_TYPES {
-            return Some(TypeError::Limit(TypeLimit::Types));
+            return Some(TypeFault::Limit(TypeLimit::Types));
         }
         if self.depth(parent) >= MOST_DEPTH {
-            return Some(TypeError::Limit(TypeLimit::Depth));
+            return Some(TypeFault::Limit(TypeLimit::Depth));
         }
         None
     }
 
     // Why a class is not added.
     #[tactic(auto, using(crate::proofs::Texts::are_named_texts, crate::proofs::Texts::filter_map_texts))]
-    fn class_fault(&self, name: &str, parent: &str, interfaces: &[&str]) -> Option<TypeError>
+    fn class_fault(&self, name: &str, parent: &str, interfaces: &[&str]) -> Option<TypeFault>
         ensures { result ≡ class_fault self.now name.now parent.now (map (λ n. n.now) interfaces.now) }
     {
         if let Some(fault) = self.name_fault(name) {
@@ -195,23 +195,23 @@ impl TypeTree {
         }
         match self.find_class(parent) {
             Some(parent) => self.child_fault(parent, interfaces),
-            None => Some(TypeError::UnknownParent),
+            None => Some(TypeFault::UnknownParent),
         }
     }
 
     // Why an interface is not added, but for its name.
-    fn required_fault(&self, required: &[&str]) -> Option<TypeError>
+    fn required_fault(&self, required: &[&str]) -> Option<TypeFault>
         ensures { result ≡ required_fault self.now (are_named (λ name. required_named self.now name.now) required.now) }
     {
         if !self.are_required(required) {
-            return Some(TypeError::UnknownParent);
+            return Some(TypeFault::UnknownParent);
         }
         self.room_fault()
     }
 
     // Why an interface is not added.
     #[tactic(auto, using(crate::proofs::Texts::are_named_texts))]
-    fn interface_fault(&self, name: &str, required: &[&str]) -> Option<TypeError>
+    fn interface_fault(&self, name: &str, required: &[&str]) -> Option<TypeFault>
         ensures { result ≡ interface_fault self.now name.now (map (λ n. n.now) required.now) }
     {
         if let Some(fault) = self.name_fault(name) {
@@ -221,7 +221,7 @@ impl TypeTree {
     }
 
     // Why an enum or a flags type is not added.
-    fn members_fault(&self, name: &str) -> Option<TypeError>
+    fn members_fault(&self, name: &str) -> Option<TypeFault>
         ensures { result ≡ members_fault self.now name.now }
     {
         if let Some(fault) = self.name_fault(name) {
@@ -243,7 +243,7 @@ impl TypeTree {
             Adds result (class_fault self.old name.now parent.now names) (new_class self.old name.now parent.now flags names) self.old self.new }
     {
         if let Some(fault) = self.class_fault(name, parent, interfaces) {
-            return Err(fault);
+            return Err(TypeError::Refused(fault));
         }
         let parent = self.find_class(parent);
         let interfaces = self.find_interfaces(self.allocator(), interfaces)?;
@@ -264,7 +264,7 @@ impl TypeTree {
             Adds result (interface_fault self.old name.now names) (new_interface self.old name.now names) self.old self.new }
     {
         if let Some(fault) = self.interface_fault(name, required) {
-            return Err(fault);
+            return Err(TypeError::Refused(fault));
         }
         let required = self.find_all_required(self.allocator(), required)?;
         self.append(name, TypeEntry::Interface(required))
@@ -275,7 +275,7 @@ impl TypeTree {
         ensures { Adds result (members_fault self.old name.now) (new_enum name.now (map enum_member members.items)) self.old self.new }
     {
         if let Some(fault) = self.members_fault(name) {
-            return Err(fault);
+            return Err(TypeError::Refused(fault));
         }
         self.append(name, TypeEntry::Enum(members))
     }
@@ -285,7 +285,7 @@ impl TypeTree {
         ensures { Adds result (members_fault self.old name.now) (new_flags name.now (map flags_member members.items)) self.old self.new }
     {
         if let Some(fault) = self.members_fault(name) {
-            return Err(fault);
+            return Err(TypeError::Refused(fault));
         }
         self.append(name, TypeEntry::Flags(members))
     }

@@ -5,7 +5,6 @@ ghost use Rattle.type_tree.specs.declared.error.TypeError.TheVariants.{OutOfMemo
 
 use crate::type_id::TypeId;
 use std::alloc::{AllocError, AllocFailed};
-use thiserror::Error;
 
 /// What a tree has too much of.
 #[derive(Clone, Copy, Debug, PartialEq, Eq)]
@@ -17,29 +16,29 @@ pub enum TypeLimit {
 }
 
 /// Why a type is not added, in the order in which the tests are made.
-#[derive(Clone, Copy, Debug, PartialEq, Eq, Error)]
-pub enum TypeError {
+#[derive(Clone, Copy, Debug, PartialEq, Eq)]
+pub enum TypeFault {
     /// The name is not one of three characters or more: an ASCII letter or `_`, then letters, digits, `-`, `_` and `+`.
-    #[error("BadName")]
     BadName,
     /// A type of that name is there.
-    #[error("Duplicate")]
     Duplicate,
     /// A parent, interface or required type is not there, or is of another sort.
-    #[error("UnknownParent")]
     UnknownParent,
     /// The parent is final.
-    #[error("FinalParent")]
     FinalParent,
     /// An interface requires this type, and the class would not be one.
-    #[error("Prerequisite")]
     Prerequisite(TypeId),
     /// The tree is full, or the class would stand too deep.
-    #[error("Limit")]
     Limit(TypeLimit),
+}
+
+/// Why an addition gave no type.
+#[derive(Clone, Copy, Debug, PartialEq, Eq)]
+pub enum TypeError {
     /// No memory was found.
-    #[error("OutOfMemory")]
     OutOfMemory,
+    /// A test refused the type.
+    Refused(TypeFault),
 }
 
 impl From<AllocError> for TypeError {

@@ -13,7 +13,7 @@ mod tree;
 mod type_id;
 
 pub use entry::{TypeFlags, TypeSort};
-pub use error::{TypeError, TypeLimit};
+pub use error::{TypeError, TypeFault, TypeLimit};
 pub use member::{EnumMember, FlagsMember};
 pub use name::is_type_name;
 pub use tree::{MOST_DEPTH, MOST_TYPES, TypeTree};

@@ -2,13 +2,13 @@
 
 use crate::fixtures::times;
 use builder_defs::{
-    Definition, DefinitionFault, EventError, MAX_BYTES, MAX_LINE_BYTES, ReadError, read_definition,
-    read_event,
+    Definition, DefinitionFault, EventError, MAX_BYTES, MAX_LINE_BYTES, ReadError, TypeCause,
+    read_definition, read_event,
 };
-use param_specs::SpecError;
+use param_specs::SpecFault;
 use std::alloc::Global;
 use std::test::Fail;
-use type_tree::{TypeError, TypeId, TypeLimit};
+use type_tree::TypeLimit;
 use ui_machine::Place;
 
 // A definition of two classes and three objects.
@@ -118,21 +118,18 @@ fn tells_properties(rt: HostRuntime) -> Result<(), Fail> {
 fn tells_the_fields_of_causes(rt: HostRuntime) -> Result<(), Fail> {
     let alloc = rt.alloc();
     for (cause, want) in [
-        (TypeError::Limit(TypeLimit::Depth), "BadType /p Limit depth"),
+        (TypeCause::Limit(TypeLimit::Depth), "BadType /p Limit depth"),
         (
-            TypeError::Prerequisite(TypeId::new(12)),
-            "BadType /p Prerequisite 12",
+            TypeCause::Prerequisite(String::from_str(alloc, "Base")?),
+            "BadType /p Prerequisite Base",
         ),
     ] {
         let fault = DefinitionFault::BadType(String::from_str(alloc, "/p")?, cause);
         assert_eq!(rt; fault.text(alloc)?.as_str(), want);
     }
     for (cause, want) in [
-        (SpecError::Limit, "BadSpec /p Limit"),
-        (
-            SpecError::OverrideMissing(63),
-            "BadSpec /p OverrideMissing 63",
-        ),
+        (SpecFault::Limit, "BadSpec /p Limit"),
+        (SpecFault::FlagsClash, "BadSpec /p FlagsClash"),
     ] {
         let fault = DefinitionFault::BadSpec(String::from_str(alloc, "/p")?, cause);
         assert_eq!(rt; fault.text(alloc)?.as_str(), want);

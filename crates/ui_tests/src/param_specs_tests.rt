@@ -2,7 +2,10 @@
 
 use crate::fixtures::{marks_kind, mode_kind, number_of, tree_of_members, value_of};
 use g_values::{Kind, Value, is_known};
-use param_specs::{PropertyFlags, Spec, SpecError, SpecTable, takes, validate};
+use param_specs::{
+    OverrideFault, PropertyFlags, Spec, SpecError, SpecFault, SpecTable, takes,
+    validate,
+};
 use std::alloc::Global;
 use std::test::Fail;
 use type_tree::{TypeFlags, TypeId, TypeTree};
@@ -67,10 +70,30 @@ fn installs_inherited_first(rt: HostRuntime) -> Result<(), Fail> {
     for (t, name, range, want) in [
         (base, "first_one", (0, 9), Ok(0)),
         (derived, "second", (-3, 9), Ok(1)),
-        (base, "9", (0, 9), Err(SpecError::BadName)),
-        (derived, "first-one", (0, 9), Err(SpecError::Duplicate)),
-        (base, "empty", (9, 0), Err(SpecError::RangeEmpty)),
-        (base, "invalid", (1, 9), Err(SpecError::DefaultInvalid)),
+        (
+            base,
+            "9",
+            (0, 9),
+            Err(SpecError::Refused(SpecFault::BadName)),
+        ),
+        (
+            derived,
+            "first-one",
+            (0, 9),
+            Err(SpecError::Refused(SpecFault::Duplicate)),
+        ),
+        (
+            base,
+            "empty",
+            (9, 0),
+            Err(SpecError::Refused(SpecFault::RangeEmpty)),
+        ),
+        (
+            base,
+            "invalid",
+            (1, 9),
+            Err(SpecError::Refused(SpecFault::DefaultInvalid)),
+        ),
     ] {
         let installed = install(&mut table, &tree, t, number_spec(alloc, name, range)?);
         assert_eq!(rt; installed, want, "{name}");
@@ -221,7 +244,11 @@ fn tests_flags(rt: HostRuntime) -> Result<(), Fail> {
         spec.flags = PropertyFlags(bits);
         assert_eq!(rt; PropertyFlags(bits).is_clash(), is_clash, "{bits}");
         let fault = install(&mut table, &tree, TypeId::new(4), spec).err();
-        assert_eq!(rt; fault == Some(SpecError::FlagsClash), is_clash, "{bits}");
+        assert_eq!(rt;
+            fault == Some(SpecError::Refused(SpecFault::FlagsClash)),
+            is_clash,
+            "{bits}"
+        );
     }
     Ok(())
 }
@@ -251,7 +278,11 @@ fn table_of_interface(alloc: Global, tree: &TypeTree) -> Result<SpecTable, Fail>
 }
 
 // What is wrong where `Base` has this property `size`, and `Derived` has `label-text` or not.
-fn overrides(alloc: Global, size: Spec, has_label: bool) -> Result<Result<(), SpecError>, Fail> {
+fn overrides(
+    alloc: Global,
+    size: Spec,
+    has_label: bool,
+) -> Result<Result<(), OverrideFault>, Fail> {
     let tree = tree_of_interface(alloc)?;
     let mut table = table_of_interface(alloc, &tree)?;
     let _ = install(&mut table, &tree, TypeId::new(2), size)?;
@@ -265,7 +296,7 @@ fn overrides(alloc: Global, size: Spec, has_label: bool) -> Result<Result<(), Sp
 #[test]
 fn has_what_the_interface_has(rt: HostRuntime) -> Result<(), Fail> {
     let alloc = rt.alloc();
-    let differs = Err(SpecError::OverrideDiffers(0));
+    let differs = Err(OverrideFault::Differs(0));
     for (name, kind, range, default, flags, weak, has_label, want) in [
         ("size", Kind::Int, (0, 9), 0, 3, false, true, Ok(())),
         ("size", Kind::Int, (-1, 9), 0, 3, false, true, differs),
@@ -282,7 +313,7 @@ fn has_what_the_interface_has(rt: HostRuntime) -> Result<(), Fail> {
             3,
             false,
             true,
-            Err(SpecError::OverrideMissing(0)),
+            Err(OverrideFault::Missing(0)),
         ),
         (
             "size",
@@ -292,7 +323,7 @@ fn has_what_the_interface_has(rt: HostRuntime) -> Result<(), Fail> {
             3,
             false,
             false,
-            Err(SpecError::OverrideMissing(1)),
+            Err(OverrideFault::Missing(1)),
         ),
     ] {
         let mut size = spec_of(alloc, name, value_of(kind, default), kind, range)?;

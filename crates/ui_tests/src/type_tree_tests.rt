@@ -4,7 +4,7 @@ use crate::fixtures::tree_of_members;
 use std::alloc::Global;
 use std::test::Fail;
 use type_tree::{
-    MOST_DEPTH, TypeError, TypeFlags, TypeId, TypeLimit, TypeSort, TypeTree,
+    MOST_DEPTH, TypeError, TypeFault, TypeFlags, TypeId, TypeLimit, TypeSort, TypeTree,
 };
 
 const SEALED: TypeFlags = TypeFlags {
@@ -39,15 +39,35 @@ fn base_tree(alloc: Global) -> Result<TypeTree, Fail> {
 fn adds_classes(rt: HostRuntime) -> Result<(), Fail> {
     let mut tree = base_tree(rt.alloc())?;
     for (name, parent, interface, want) in [
-        ("ab", "GObject", "", Err(TypeError::BadName)),
-        ("Base", "GObject", "", Err(TypeError::Duplicate)),
-        ("Child", "Nope", "", Err(TypeError::UnknownParent)),
-        ("Child", "Sealed", "", Err(TypeError::FinalParent)),
+        (
+            "ab",
+            "GObject",
+            "",
+            Err(TypeError::Refused(TypeFault::BadName)),
+        ),
+        (
+            "Base",
+            "GObject",
+            "",
+            Err(TypeError::Refused(TypeFault::Duplicate)),
+        ),
+        (
+            "Child",
+            "Nope",
+            "",
+            Err(TypeError::Refused(TypeFault::UnknownParent)),
+        ),
+        (
+            "Child",
+            "Sealed",
+            "",
+            Err(TypeError::Refused(TypeFault::FinalParent)),
+        ),
         (
             "Child",
             "GObject",
             "Playable",
-            Err(TypeError::Prerequisite(TypeId::new(2))),
+            Err(TypeError::Refused(TypeFault::Prerequisite(TypeId::new(2)))),
         ),
         ("Player", "Base", "Playable", Ok(TypeId::new(5))),
         ("Child", "Player", "", Ok(TypeId::new(6))),
@@ -130,7 +150,7 @@ fn has_room_for_16_levels(rt: HostRuntime) -> Result<(), Fail> {
         let want = if level < MOST_DEPTH {
             None
         } else {
-            Some(TypeError::Limit(TypeLimit::Depth))
+            Some(TypeError::Refused(TypeFault::Limit(TypeLimit::Depth)))
         };
         assert_eq!(rt; added.err(), want, "{level}");
         parent = name;

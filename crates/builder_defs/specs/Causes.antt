@@ -1,0 +1,36 @@
+-- Why a type is not added, with the names of types.
+use Rattle.std.specs.Prelude.{ℕ, List, string_bytes}
+use Rattle.ui_machine.specs.Seq.{read}
+use Rattle.ui_machine.specs.Types.{GType}
+use Rattle.ui_machine.specs.Text.{no_type}
+use Rattle.type_tree.specs.declared.error.TypeLimit.{TypeLimit}
+use Rattle.type_tree.specs.declared.error.TypeFault.{TypeFault}
+use Rattle.type_tree.specs.declared.error.TypeFault.TheVariants as faults
+use Rattle.builder_defs.specs.declared.fault.TypeCause.{TypeCause}
+use Rattle.builder_defs.specs.declared.fault.TypeCause.TheVariants as of_cause
+
+pub data Cause : Type 0 where
+  bad_name : Cause
+  duplicate : Cause
+  unknown_parent : Cause
+  final_parent : Cause
+  prerequisite : (name : List ℕ) → Cause
+  limit : TypeLimit → Cause
+
+-- a cause without where its text lies in memory
+abbrev pub cause_view : TypeCause → Cause
+cause_view of_cause.BadName = bad_name
+cause_view of_cause.Duplicate = duplicate
+cause_view of_cause.UnknownParent = unknown_parent
+cause_view of_cause.FinalParent = final_parent
+cause_view (of_cause.Prerequisite name) = prerequisite (string_bytes name)
+cause_view (of_cause.Limit l) = limit l
+
+-- the cause of a fault among these types
+abbrev pub named_cause : List GType → TypeFault → Cause
+named_cause types faults.BadName = bad_name
+named_cause types faults.Duplicate = duplicate
+named_cause types faults.UnknownParent = unknown_parent
+named_cause types faults.FinalParent = final_parent
+named_cause types (faults.Prerequisite t) = prerequisite (read no_type types t).name
+named_cause types (faults.Limit l) = limit l
