@@ -8,7 +8,7 @@ use Rattle.ui_machine.specs.Properties.{Spec, is_readable}
 use Rattle.ui_machine.specs.Definition.{Definition}
 use Rattle.ui_machine.specs.Lookups.{place_at, spec_of}
 use Rattle.ui_machine.specs.Config.{Object, Objects, Task, Binding, World}
-use Rattle.ui_machine.specs.Objects.{find, put, live, one_if}
+use Rattle.ui_machine.specs.Objects.{living, put, live, one_if}
 use Rattle.ui_machine.specs.Programs.{place_in}
 use Rattle.ui_machine.specs.Worlds.{with_objects}
 use Rattle.law_typing.specs.Channels.{is_pair}
@@ -39,11 +39,11 @@ read_apart n (x ∷ xs) zero y (suc j) h = refl
 read_apart n (x ∷ xs) (suc i) y zero h = refl
 read_apart n (x ∷ xs) (suc i) y (suc j) h = read_apart n xs i y j (λ e. h (ap suc e))
 
-find_here : (os : Objects) (id : ℕ) (o new : Object) → find os id ≡ Some o → find (put os id (Some new)) id ≡ Some new
+find_here : (os : Objects) (id : ℕ) (o new : Object) → living os id ≡ Some o → living (put os id (Some new)) id ≡ Some new
 find_here os zero o new e = absurd (cc)
 find_here os (suc i) o new e = read_here None os i (Some new)
 
-find_apart : (os : Objects) (id : ℕ) (new : Object) (other : ℕ) → (id ≡ other → ⊥) → find (put os id (Some new)) other ≡ find os other
+find_apart : (os : Objects) (id : ℕ) (new : Object) (other : ℕ) → (id ≡ other → ⊥) → living (put os id (Some new)) other ≡ living os other
 find_apart os zero new other h = refl
 find_apart os (suc i) new zero h = refl
 find_apart os (suc i) new (suc j) h = read_apart None os i (Some new) j (λ e. h (ap suc e))
@@ -53,51 +53,51 @@ live_write [] i o new e = absurd (cc)
 live_write (x ∷ os) zero o new e = let h = ap one_if e in omega (arith, h)
 live_write (x ∷ os) (suc i) o new e = let h = live_write os i o new e in omega (arith, h)
 
-live_put : (os : Objects) (id : ℕ) (o new : Object) → find os id ≡ Some o → live (put os id (Some new)) ≡ live os
+live_put : (os : Objects) (id : ℕ) (o new : Object) → living os id ≡ Some o → live (put os id (Some new)) ≡ live os
 live_put os zero o new e = absurd (cc)
 live_put os (suc i) o new e = live_write os i o new e
 
 -- what is found afterwards: the new object, or the old one elsewhere
-after : (os : Objects) (id : ℕ) (o new : Object) → find os id ≡ Some o → (other : ℕ) (x : Object) → find (put os id (Some new)) other ≡ Some x →
-    ((id ≡ other) × (x ≡ new)) ⊎ (find os other ≡ Some x)
+after : (os : Objects) (id : ℕ) (o new : Object) → living os id ≡ Some o → (other : ℕ) (x : Object) → living (put os id (Some new)) other ≡ Some x →
+    ((id ≡ other) × (x ≡ new)) ⊎ (living os other ≡ Some x)
 after os id o new is other x e = go (nat_eq id other) refl
   where
-    go : (b : Bool) → nat_eq id other ≡ b → ((id ≡ other) × (x ≡ new)) ⊎ (find os other ≡ Some x)
-    go true t = let s = eqb-true id other t in let f = subst (λ i. find (put os id (Some new)) i ≡ Some new) s (find_here os id o new is) in inl (s, (let g = sym e ∙ f in cc))
+    go : (b : Bool) → nat_eq id other ≡ b → ((id ≡ other) × (x ≡ new)) ⊎ (living os other ≡ Some x)
+    go true t = let s = eqb-true id other t in let f = subst (λ i. living (put os id (Some new)) i ≡ Some new) s (find_here os id o new is) in inl (s, (let g = sym e ∙ f in cc))
     go false t = inr (sym (find_apart os id new other (eqb-false id other t)) ∙ e)
 
 -- what was found before stands there still, or is the old one
-before : (os : Objects) (id : ℕ) (o new : Object) → find os id ≡ Some o → (other : ℕ) (x : Object) → find os other ≡ Some x →
-    ((x ≡ o) × (find (put os id (Some new)) other ≡ Some new)) ⊎ (find (put os id (Some new)) other ≡ Some x)
+before : (os : Objects) (id : ℕ) (o new : Object) → living os id ≡ Some o → (other : ℕ) (x : Object) → living os other ≡ Some x →
+    ((x ≡ o) × (living (put os id (Some new)) other ≡ Some new)) ⊎ (living (put os id (Some new)) other ≡ Some x)
 before os id o new is other x e = go (nat_eq id other) refl
   where
-    go : (b : Bool) → nat_eq id other ≡ b → ((x ≡ o) × (find (put os id (Some new)) other ≡ Some new)) ⊎ (find (put os id (Some new)) other ≡ Some x)
+    go : (b : Bool) → nat_eq id other ≡ b → ((x ≡ o) × (living (put os id (Some new)) other ≡ Some new)) ⊎ (living (put os id (Some new)) other ≡ Some x)
     go true t =
         let s = eqb-true id other t in
-        let f = subst (λ i. find os i ≡ Some o) s is in
-        inl ((let g = sym e ∙ f in cc), subst (λ i. find (put os id (Some new)) i ≡ Some new) s (find_here os id o new is))
+        let f = subst (λ i. living os i ≡ Some o) s is in
+        inl ((let g = sym e ∙ f in cc), subst (λ i. living (put os id (Some new)) i ≡ Some new) s (find_here os id o new is))
     go false t = inr (find_apart os id new other (eqb-false id other t) ∙ e)
 
 -- each identity stands where it stood
-stands_same : (os : Objects) (id : ℕ) (o new : Object) → find os id ≡ Some o → new.place ≡ o.place → (other : ℕ) → place_in (put os id (Some new)) other ≡ place_in os other
+stands_same : (os : Objects) (id : ℕ) (o new : Object) → living os id ≡ Some o → new.place ≡ o.place → (other : ℕ) → place_in (put os id (Some new)) other ≡ place_in os other
 stands_same os id o new is same other = go (nat_eq id other) refl
   where
     place_of : Option Object → Option ℕ
     place_of x = option_map (λ (o : Object). o.place) x
 
-    go : (b : Bool) → nat_eq id other ≡ b → place_of (find (put os id (Some new)) other) ≡ place_of (find os other)
+    go : (b : Bool) → nat_eq id other ≡ b → place_of (living (put os id (Some new)) other) ≡ place_of (living os other)
     go true t =
         let s = eqb-true id other t in
-        let f = subst (λ i. find (put os id (Some new)) i ≡ Some new) s (find_here os id o new is) in
-        let g = subst (λ i. find os i ≡ Some o) s is in
+        let f = subst (λ i. living (put os id (Some new)) i ≡ Some new) s (find_here os id o new is) in
+        let g = subst (λ i. living os i ≡ Some o) s is in
         ap place_of f ∙ (ap Some same ∙ sym (ap place_of g))
     go false t = ap place_of (find_apart os id new other (eqb-false id other t))
 
-family_put : (os : Objects) (id : ℕ) (o new : Object) → find os id ≡ Some o → new.children ≡ o.children → (child : ℕ) (above : Option ℕ) → FamilyGood os child above → FamilyGood (put os id (Some new)) child above
+family_put : (os : Objects) (id : ℕ) (o new : Object) → living os id ≡ Some o → new.children ≡ o.children → (child : ℕ) (above : Option ℕ) → FamilyGood os child above → FamilyGood (put os id (Some new)) child above
 family_put os id o new is same child None f = tt
 family_put os id o new is same child (Some above) f = go (before os id o new is above f.0 f.1)
   where
-    go : ((f.0 ≡ o) × (find (put os id (Some new)) above ≡ Some new)) ⊎ (find (put os id (Some new)) above ≡ Some f.0) → FamilyGood (put os id (Some new)) child (Some above)
+    go : ((f.0 ≡ o) × (living (put os id (Some new)) above ≡ Some new)) ⊎ (living (put os id (Some new)) above ≡ Some f.0) → FamilyGood (put os id (Some new)) child (Some above)
     go (inl h) = (new, h.1, subst (IsIn child) (ap (λ (x : Object). x.children) h.0 ∙ sym same) f.2)
     go (inr h) = (f.0, h, f.2)
 
@@ -105,7 +105,7 @@ each_to : {A : Type 0} (P Q : A → Type 0) (xs : List A) → ((x : A) → P x �
 each_to P Q [] f all = tt
 each_to P Q (x ∷ xs) f all = (f x all.0, each_to P Q xs f all.1)
 
-module _ (d : Definition) (w : World) (id : ℕ) (o new : Object) (is : find w.objects id ≡ Some o) (like : Like d w o new) where
+module _ (d : Definition) (w : World) (id : ℕ) (o new : Object) (is : living w.objects id ≡ Some o) (like : Like d w o new) where
   abbrev os : Objects
   os = put w.objects id (Some new)
 
@@ -149,7 +149,7 @@ module _ (d : Definition) (w : World) (id : ℕ) (o new : Object) (is : find w.o
   objects_good : ObjectsGood d w → ObjectsGood d next
   objects_good all i x e = go (after w.objects id o new is i x e)
     where
-      go : ((id ≡ i) × (x ≡ new)) ⊎ (find w.objects i ≡ Some x) → ObjectGood d next (standing os) i x
+      go : ((id ≡ i) × (x ≡ new)) ⊎ (living w.objects i ≡ Some x) → ObjectGood d next (standing os) i x
       go (inl h) = subst (λ i. ObjectGood d next (standing os) i x) h.0 (subst (ObjectGood d next (standing os) id) (sym h.1) (new_good (all id o is)))
       go (inr h) = other_good i x (all i x h)
 
@@ -164,11 +164,11 @@ module _ (d : Definition) (w : World) (id : ℕ) (o new : Object) (is : find w.o
     thawed = λ pair x there. free pair x there;
   }
     where
-      of : is_pair g.bind ≡ true → (i : ℕ) (x : Object) → ((y : Object) → find w.objects i ≡ Some y → y.freezes ≡ 0) → ((id ≡ i) × (x ≡ new)) ⊎ (find w.objects i ≡ Some x) → x.freezes ≡ 0
-      of pair i x old (inl h) = ap (λ (x : Object). x.freezes) h.1 ∙ (like.freezes ∙ old o (subst (λ i. find w.objects i ≡ Some o) h.0 is))
+      of : is_pair g.bind ≡ true → (i : ℕ) (x : Object) → ((y : Object) → living w.objects i ≡ Some y → y.freezes ≡ 0) → ((id ≡ i) × (x ≡ new)) ⊎ (living w.objects i ≡ Some x) → x.freezes ≡ 0
+      of pair i x old (inl h) = ap (λ (x : Object). x.freezes) h.1 ∙ (like.freezes ∙ old o (subst (λ i. living w.objects i ≡ Some o) h.0 is))
       of pair i x old (inr h) = old x h
 
-      free : is_pair g.bind ≡ true → (x : Object) → (find os b.source ≡ Some x) ⊎ (find os b.target ≡ Some x) → x.freezes ≡ 0
+      free : is_pair g.bind ≡ true → (x : Object) → (living os b.source ≡ Some x) ⊎ (living os b.target ≡ Some x) → x.freezes ≡ 0
       free pair x (inl e) = of pair b.source x (λ y f. g.thawed pair y (inl f)) (after w.objects id o new is b.source x e)
       free pair x (inr e) = of pair b.target x (λ y f. g.thawed pair y (inr f)) (after w.objects id o new is b.target x e)
 
@@ -179,11 +179,11 @@ module _ (d : Definition) (w : World) (id : ℕ) (o new : Object) (is : find w.o
   pairs_good : (agenda : List Task) → PairsGood d agenda w.objects w.bindings → PairsGood d agenda os w.bindings
   pairs_good agenda g = record { frozen = λ i x e pair held. go i x pair held (after w.objects id o new is i x e); before = g.before; one = g.one }
     where
-      go : (i : ℕ) (x : Object) → has_pair d x.place ≡ true → 0 < x.freezes → ((id ≡ i) × (x ≡ new)) ⊎ (find w.objects i ≡ Some x) → 0 < total (constructs_held i) agenda
+      go : (i : ℕ) (x : Object) → has_pair d x.place ≡ true → 0 < x.freezes → ((id ≡ i) × (x ≡ new)) ⊎ (living w.objects i ≡ Some x) → 0 < total (constructs_held i) agenda
       go i x pair held (inl h) =
           let place : x.place ≡ o.place = ap (λ (x : Object). x.place) h.1 ∙ like.place in
           let count : x.freezes ≡ o.freezes = ap (λ (x : Object). x.freezes) h.1 ∙ like.freezes in
-          g.frozen i o (subst (λ i. find w.objects i ≡ Some o) h.0 is) (subst (λ p. has_pair d p ≡ true) place pair) (subst (λ n. 0 < n) count held)
+          g.frozen i o (subst (λ i. living w.objects i ≡ Some o) h.0 is) (subst (λ p. has_pair d p ≡ true) place pair) (subst (λ n. 0 < n) count held)
       go i x pair held (inr h) = g.frozen i x h pair held
 
   -- the agenda reads the same

@@ -4,7 +4,7 @@ use Rattle.ui_machine.specs.Properties.{Spec, is_readable}
 use Rattle.ui_machine.specs.Definition.{Definition}
 use Rattle.ui_machine.specs.Lookups.{spec_of}
 use Rattle.ui_machine.specs.Config.{Object, Task, World}
-use Rattle.ui_machine.specs.Objects.{find, put, live}
+use Rattle.ui_machine.specs.Objects.{living, put, live}
 use Rattle.ui_machine.specs.Worlds.{with_objects}
 use Rattle.law_typing.specs.Tables.{Tables}
 use Rattle.law_typing.specs.Accepted.{Each}
@@ -46,6 +46,6 @@ pub record Kept (d : Definition) (costs depths : Tables) (agenda : List Task) (w
 
 abbrev pub WriteKeeps : Type 0
 WriteKeeps =
-    (d : Definition) (costs depths : Tables) (agenda : List Task) (w : World) (id : ℕ) (o new : Object) → find w.objects id ≡ Some o →
+    (d : Definition) (costs depths : Tables) (agenda : List Task) (w : World) (id : ℕ) (o new : Object) → living w.objects id ≡ Some o →
         Like d w o new →
     Whole d costs depths agenda w → Kept d costs depths agenda w (with_objects w (put w.objects id (Some new)))

@@ -5,7 +5,7 @@ use Rattle.std.specs.List.{filter}
 use Rattle.ui_machine.specs.Seq.{total}
 use Rattle.ui_machine.specs.Properties.{has_flags}
 use Rattle.ui_machine.specs.Definition.{Definition}
-use Rattle.ui_machine.specs.Config.{Handler, handler, Turn, Task, World}
+use Rattle.ui_machine.specs.Config.{Handler, handler, PlanEntry, Task, World}
 use Rattle.ui_machine.specs.Emissions.{fits_detail, at_stage, handlers_for, runs_for, class_handler_of}
 use Rattle.ui_machine.specs.Turns.{handler_of}
 use Rattle.law_typing.specs.Channels.{signal}
@@ -76,7 +76,7 @@ at_most f most [] all = omega arith
 at_most f most (x ∷ xs) all = let h = at_most f most xs all.1 in let k = all.0 in omega (arith, h, k)
 
 module _ (d : Definition) (costs : Tables) (w : World) (below : List Task) where
-  abbrev tc : Turn → ℕ
+  abbrev tc : PlanEntry → ℕ
   tc t = turn_cost d costs (view w) below t
 
   abbrev cost_of : Handler → ℕ

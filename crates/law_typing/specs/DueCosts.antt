@@ -2,7 +2,7 @@
 use Rattle.std.specs.Prelude.{ℕ, suc, ◌+◌, Bool, true, false, cond, ◌&&◌, nat_eq, List, [], ◌∷◌, Option, None, Some, slice_get}
 use Rattle.ui_machine.specs.Seq.{total}
 use Rattle.ui_machine.specs.Definition.{Definition, Bind}
-use Rattle.ui_machine.specs.Config.{Handler, Turn, class_handler, handler, Task, Unsetting}
+use Rattle.ui_machine.specs.Config.{Handler, PlanEntry, class_handler, handler, Task, Unsetting}
 use Rattle.ui_machine.specs.Config as config
 use Rattle.ui_machine.specs.Turns.{handler_of}
 use Rattle.law_typing.specs.Channels.{Channel, property, same_channel, is_pair, source_of, target_of}
@@ -60,7 +60,7 @@ transfer_depth d depths below back (Some b) =
     (entry depths.channels (target_of b))
 
 -- what a turn of an emission may cost; a handler that is gone costs nothing
-abbrev pub turn_cost : Definition → Tables → View → List Task → Turn → ℕ
+abbrev pub turn_cost : Definition → Tables → View → List Task → PlanEntry → ℕ
 turn_cost d costs w below (class_handler program cleanup) = of_program costs program
 turn_cost d costs w below (handler number) = of (handler_of number w.handlers)
   where
@@ -70,7 +70,7 @@ turn_cost d costs w below (handler number) = of (handler_of number w.handlers)
 turn_cost d costs w below (config.transfer number back) = transfer_cost d costs below back (slice_get d.bindings number)
 
 -- how deep a turn is: a program's frames, or those of what a transfer sets
-abbrev pub turn_depth : Definition → Tables → View → List Task → Turn → ℕ
+abbrev pub turn_depth : Definition → Tables → View → List Task → PlanEntry → ℕ
 turn_depth d depths w below (class_handler program cleanup) = of_program depths program
 turn_depth d depths w below (handler number) = of (handler_of number w.handlers)
   where

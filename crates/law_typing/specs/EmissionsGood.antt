@@ -7,7 +7,7 @@ use Rattle.ui_machine.specs.Transform.{kind_fits}
 use Rattle.ui_machine.specs.Properties.{Spec, is_readable}
 use Rattle.ui_machine.specs.Definition.{Definition, Signal, Bind}
 use Rattle.ui_machine.specs.Emissions.{signal_of}
-use Rattle.ui_machine.specs.Config.{Handler, Binding, Turn, class_handler, handler, Emission, Task}
+use Rattle.ui_machine.specs.Config.{Handler, Binding, PlanEntry, class_handler, handler, Emission, Task}
 use Rattle.ui_machine.specs.Config as config
 use Rattle.ui_machine.specs.Programs.{all_fit}
 use Rattle.ui_machine.specs.Sets.{has_kind}
@@ -67,7 +67,7 @@ pub record EmissionFits (d : Definition) (s : Standing) (e : Emission) : Type 0 
 
 -- a turn: a class handler takes what it is given, a handler that stands is of the emission's object and signal, a transfer's binding
 -- listens to the property, and only a pair's goes back
-abbrev pub TurnGood : Definition → View → Emission → Turn → Type 0
+abbrev pub TurnGood : Definition → View → Emission → PlanEntry → Type 0
 TurnGood d w e (class_handler program cleanup) = Stands (w.stands) e.object (λ place. Takes d place e.signal program false None)
 TurnGood d w e (handler number) = (number ≤ w.last_handler) × ((h : Handler) → handler_of number w.handlers ≡ Some h →
     (h.object ≡ e.object) × (h.signal ≡ e.signal))
@@ -75,7 +75,7 @@ TurnGood d w e (config.transfer number back) =
     GoesBack d number back × ((b : Binding) → binding_of number w.bindings ≡ Some b → (slot : ℕ) × (listens e.object slot b ≡ true))
 
 -- the rest of an emission; its program's result, if one comes down, is what the signal wants
-pub record EmittingGood (d : Definition) (costs depths : Tables) (w : View) (up : Down) (below : List Task) (e : Emission) (turns : List Turn) (steps frames : ℕ) : Type 0 where
+pub record EmittingGood (d : Definition) (costs depths : Tables) (w : View) (up : Down) (below : List Task) (e : Emission) (turns : List PlanEntry) (steps frames : ℕ) : Type 0 where
   pub fits : EmissionFits d (w.stands) e
   pub suits : Suits d fits.sig.result up
   pub turns_fit : Each (TurnGood d w e) turns

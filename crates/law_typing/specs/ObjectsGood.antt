@@ -5,7 +5,7 @@ use Rattle.ui_machine.specs.Clamp.{is_valid}
 use Rattle.ui_machine.specs.Properties.{Spec, is_readable}
 use Rattle.ui_machine.specs.Definition.{Definition, Method, Shape, Place}
 use Rattle.ui_machine.specs.Lookups.{spec_of, place_at}
-use Rattle.ui_machine.specs.Emissions.{most_depth}
+use Rattle.ui_machine.specs.Emissions.{}
 use Rattle.ui_machine.specs.Config.{Object, Objects, Peer, World}
 use Rattle.ui_machine.specs.Objects as heap
 use Rattle.ui_machine.specs.Calls.{nearest_shape, peer_number}
@@ -23,7 +23,7 @@ pub record ValueGood (d : Definition) (s : Standing) (spec : Spec) (v : Option V
 
 -- the peer of an object: none where its class has no shape; else one that it alone holds, of that shape, and open until it is disposed
 abbrev pub PeerGood : Definition → List Peer → ℕ → Object → Type 0
-PeerGood d peers id o = by (nearest_shape most_depth d o.class)
+PeerGood d peers id o = by (nearest_shape d o.class)
   where
     methods_of : Option Shape → List Method
     methods_of None = []
@@ -70,7 +70,7 @@ pub record PoolGood (d : Definition) (peers : List Peer) (made place : ℕ) (p :
   pub methods : Shape
   pub is : peer_number peers name ≡ Some number
   pub has : slice_get peers number ≡ Some peer
-  pub of_class : nearest_shape most_depth d p.class ≡ Some shape
+  pub of_class : nearest_shape d p.class ≡ Some shape
   pub shaped : (slice_get d.shapes shape ≡ Some methods) × (peer.state.shape ≡ methods.methods)
   pub is_open : peer.holder ≡ None → peer.state.is_open ≡ true
   pub left : p.is_prototype ≡ false → made ≤ place → peer.holder ≡ None

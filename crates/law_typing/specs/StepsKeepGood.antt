@@ -3,7 +3,7 @@
 use Rattle.std.specs.Prelude.{◌≡◌, ℕ, ◌≤◌, true, false, List, Option, None, Some, Ok, Err, slice_get, IfSome}
 use Rattle.ui_machine.specs.Definition.{Definition, Shape, Place}
 use Rattle.ui_machine.specs.Lookups.{place_at}
-use Rattle.ui_machine.specs.Emissions.{most_depth}
+use Rattle.ui_machine.specs.Emissions.{}
 use Rattle.ui_machine.specs.Config.{Peer, Source, Request, Reply, Due, World, Config}
 use Rattle.ui_machine.specs.Calls.{nearest_shape, peer_number}
 use Rattle.ui_machine.specs.Sources.{source_of}
@@ -47,7 +47,7 @@ pub record PeerReady (d : Definition) (peers : List Peer) (p : Place) (name : Li
   pub methods : Shape
   pub is : peer_number peers name ≡ Some number
   pub has : slice_get peers number ≡ Some peer
-  pub of_class : nearest_shape most_depth d p.class ≡ Some shape
+  pub of_class : nearest_shape d p.class ≡ Some shape
   pub shaped : (slice_get d.shapes shape ≡ Some methods) × (peer.state.shape ≡ methods.methods)
   pub is_open : peer.state.is_open ≡ true
   pub free : peer.holder ≡ None
