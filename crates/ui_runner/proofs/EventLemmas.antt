@@ -1,6 +1,6 @@
 -- What a session's answers are to the lines that it hears.
 use Rattle.std.proofs.Common.{◌≡◌, ℕ, Bool, true, false, List, [], ◌∷◌, ◌++◌, length, drop, Ok, Err, refl, sym, ap, ◌∙◌, inl, inr}
-use Rattle.ui_machine.specs.Config.{Event}
+use Rattle.ui_machine.specs.State.Tasks.{Event}
 use Rattle.builder_defs.specs.EventMeaning.{event_refusal, event_denoted, Fails}
 use Rattle.builder_defs.specs.declared.event_fault.EventError.{EventError}
 use Rattle.builder_defs.specs.declared.event_fault.EventError.TheVariants as errors
@@ -8,7 +8,7 @@ use Rattle.ui_machine.specs.Prefix.{IsPrefix}
 use Rattle.ui_engine.specs.declared.dispatches.Reply.{Reply}
 use Rattle.ui_engine.specs.declared.session.SessionFault.{SessionFault}
 use Rattle.ui_engine.specs.declared.session.SessionFault.TheVariants as ends
-use Rattle.ui_engine.specs.SessionView.{SessionState, tally_of, Answers}
+use Rattle.ui_engine.specs.SessionView.{SessionState, tally_of, AnswersEvent}
 use Rattle.ui_runner.specs.Telling.{outcome_of, reading_fault, dispatch_fault}
 use Rattle.ui_runner.specs.Events.{Says, event_replies}
 
@@ -35,10 +35,10 @@ module _ (old : SessionState) (line : List ℕ) where
   unread (errors.Refused fault) fails = (record { refusal = event_refusal fault; denotes = fails }, refl, refl)
 
   module _ (event : Event) (denotes : event_denoted old.definition line ≡ Ok event) (new : SessionState) (longer : IsPrefix old.world.transcript new.world.transcript) where
-    pub said_event : (reply : Reply) → Answers old.stopped (Ok reply) old event new → Says old line (since old new) new
+    pub said_event : (reply : Reply) → AnswersEvent old.stopped (Ok reply) old event new → Says old line (since old new) new
     said_event reply answers = by old.stopped answers
       where
-        by : (b : Bool) → Answers b (Ok reply) old event new → Says old line (since old new) new
+        by : (b : Bool) → AnswersEvent b (Ok reply) old event new → Says old line (since old new) new
         by true h = cc h.0
         by false h = record {
           event = event;
@@ -50,13 +50,13 @@ module _ (old : SessionState) (line : List ℕ) where
           goes_on = h.goes_on;
         }
 
-    pub halted : (fault : SessionFault) → Answers old.stopped (Err fault) old event new → event_replies old line (outcome_of {T = Unit {0}} (Err (dispatch_fault fault)) (since old new)) new
+    pub halted : (fault : SessionFault) → AnswersEvent old.stopped (Err fault) old event new → event_replies old line (outcome_of {T = Unit {0}} (Err (dispatch_fault fault)) (since old new)) new
     halted fault answers = by old.stopped fault answers
       where
         shows : new.world.transcript ≡ old.world.transcript ++ since old new
         shows = grown old.world.transcript new.world.transcript longer
 
-        by : (b : Bool) (fault : SessionFault) → Answers b (Err fault) old event new → event_replies old line (outcome_of {T = Unit {0}} (Err (dispatch_fault fault)) (since old new)) new
+        by : (b : Bool) (fault : SessionFault) → AnswersEvent b (Err fault) old event new → event_replies old line (outcome_of {T = Unit {0}} (Err (dispatch_fault fault)) (since old new)) new
         by true ends.Stopped h = inr (refl, ap (since old) h.1 ∙ drop_all old.world.transcript, h.1)
         by true ends.OutOfMemory h = cc h.0
         by true (ends.Stuck arm) h = cc h.0
