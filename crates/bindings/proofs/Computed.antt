@@ -1,9 +1,8 @@
 -- What the definitions compute to.
 use Rattle.std.proofs.Common.{◌≡◌, refl, List, [], ◌∷◌, true, false, Some, None}
 use Rattle.std.specs.Prelude.{codes}
-use Rattle.ui_machine.specs.Config.{Binding}
-use Rattle.ui_machine.specs.Config as config
-use Rattle.ui_machine.specs.Bindings.{transfers, bindings_without, bindings_without_end, with_busy}
+use Rattle.ui_machine.specs.State.Bindings.{Binding, transfers, bindings_without, bindings_without_end, with_busy}
+use Rattle.ui_machine.specs.State.Tasks as config
 
 abbrev pair : Binding
 pair = record {

@@ -1,7 +1,7 @@
 -- Names that are compared.
 use Rattle.std.proofs.Common.{◌≡◌, ℕ, Bool, true, false, cond, ◌&&◌, List, [], ◌∷◌, refl, nat_eq}
 use Rattle.std.specs.Cmp.Lexicographic.{pointwise}
-use Rattle.ui_machine.specs.Names.{same_name}
+use Rattle.ui_machine.specs.Definition.Names.{same_name}
 
 and_is_cond : (a b : Bool) → (a && b) ≡ cond a b false
 and_is_cond true b = refl

@@ -2,8 +2,7 @@
 use Rattle.std.proofs.Common.{◌≡◌, ℕ, ◌<◌, Bool, true, false, cond, nat_eq, List}
 use Rattle.std.specs.List.{All, filter}
 use Rattle.std.proofs.lemmas.List.Elements.{All-filter, All-map, All-weaker}
-use Rattle.ui_machine.specs.Config.{Binding}
-use Rattle.ui_machine.specs.Bindings.{with_busy}
+use Rattle.ui_machine.specs.State.Bindings.{Binding, with_busy}
 
 pub left_below : (p : Binding → Bool) (xs ys : List Binding) (next : ℕ) → All (λ b. b.number < next) xs → ys ≡ filter p xs → All (λ b. b.number < next) ys
 left_below p xs ys next h e = rw e (All-filter p (λ b. b.number < next) xs h)

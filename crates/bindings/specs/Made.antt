@@ -1,8 +1,8 @@
 -- What a list of bindings stands for.
 use Rattle.std.specs.Prelude.{ℕ, ◌+◌, ◌^◌, ◌<◌, All, Bool, false, cond, not, ◌&&◌, nat_le, List, [], ◌∷◌, ◌++◌, option_map, string_bytes}
-use Rattle.ui_machine.specs.Properties.{has_flags}
-use Rattle.ui_machine.specs.Bindings.{listens, goes_back}
-use Rattle.ui_machine.specs.Config as config
+use Rattle.ui_machine.specs.Definition.Properties.{has_flags}
+use Rattle.ui_machine.specs.State.Bindings.{listens, goes_back}
+use Rattle.ui_machine.specs.State.Bindings as config
 use Rattle.ui_machine.specs.declared.ids.ObjectId.{ObjectId}
 use Rattle.bindings.specs.declared.binding.Binding.{Binding}
 use Rattle.bindings.specs.declared.binding.Transfer.{Transfer}

@@ -1,7 +1,7 @@
 //! A binding that stands.
 
 ghost use Rattle.std.specs.Prelude.{◌≡◌, false, nat_eq};
-ghost use Rattle.ui_machine.specs.Bindings.{listens, is_source, is_called, is_end};
+ghost use Rattle.ui_machine.specs.State.Bindings.{listens, is_source, is_called, is_end};
 
 use crate::binding::{Binding, Transfer};
 use crate::flags::BindingFlags;
@@ -18,7 +18,7 @@ pub(crate) struct Bound {
 }
 
 impl Model for Bound {
-    ghost use Rattle.ui_machine.specs.Config as config;
+    ghost use Rattle.ui_machine.specs.State.Bindings as config;
 
     ghost Value = { config.Binding };
 

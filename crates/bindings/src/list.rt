@@ -2,7 +2,7 @@
 
 ghost use Rattle.std.specs.Prelude.{◌≡◌, ◌+◌, ◌-◌, ◌^◌, ◌<◌, ◌↔◌, [], OnOk, OnErr, IfOk, IfSome, option_map, count_by};
 ghost use Rattle.std.specs.List.{find, list_any};
-ghost use Rattle.ui_machine.specs.Bindings.{is_called, is_end, bindings_without, bindings_without_end, with_busy};
+ghost use Rattle.ui_machine.specs.State.Bindings.{is_called, is_end, bindings_without, bindings_without_end, with_busy};
 
 use crate::binding::{Binding, Transfer};
 use crate::bound::Bound;

@@ -1,12 +1,12 @@
 -- One reading after the other, where one fails.
 use Rattle.std.proofs.Common.{◌≡◌, ℕ, List, length, Result, Ok, sym, ap, ◌∙◌}
 use Rattle.serde_json.specs.Data.{Data, Members}
-use Rattle.ui_machine.specs.Types.{GType}
-use Rattle.ui_machine.specs.Properties.{Spec}
+use Rattle.ui_machine.specs.Definition.Types.{GType}
+use Rattle.ui_machine.specs.Definition.Properties.{Spec}
 use Rattle.param_specs.specs.Table.{own_of, specs_of}
 use Rattle.builder_defs.specs.declared.fault.ReadError.{ReadError}
 use Rattle.builder_defs.specs.declared.fault.ReadError.TheVariants as errors
-use Rattle.builder_defs.specs.Binding.{◌>>=◌}
+use Rattle.ui_machine.specs.Outcome.{◌>>=◌}
 use Rattle.builder_defs.specs.Refusals.{Refusal, Fails}
 use Rattle.builder_defs.specs.Document.{members_at, nothing_at, only_at}
 use Rattle.builder_defs.specs.Denoted.{Draft, draft_of, spec_at, installed, property_at, declared_at, properties_at, class_at, unset_after_properties, keys_of_class}

@@ -7,7 +7,7 @@ use Rattle.serde_json.specs.Data.{Data, item}
 use Rattle.serde_json.specs.View.{view, items_view}
 use Rattle.builder_defs.specs.declared.fault.ReadError.{ReadError}
 use Rattle.builder_defs.specs.declared.fault.ReadError.TheVariants as errors
-use Rattle.builder_defs.specs.Binding.{◌>>=◌}
+use Rattle.ui_machine.specs.Outcome.{◌>>=◌}
 use Rattle.builder_defs.specs.Refusals.{Refusal, Fails}
 use Rattle.builder_defs.specs.Document.{each}
 

@@ -7,11 +7,12 @@ use Rattle.std.proofs.lemmas.Bool.Decides.{nat_tests}
 use Rattle.std.proofs.lemmas.Option.{none-some}
 use Rattle.std.proofs.lemmas.Iterator.Adapters.{position_from-zero}
 use Rattle.indexmap.specs.IndexMap.{insert_entry}
-use Rattle.ui_machine.specs.Names.{same_name, place_from, place_named}
-use Rattle.ui_machine.specs.Definition.{Definition, Place}
-use Rattle.ui_machine.specs.Types.{GType}
-use Rattle.ui_machine.specs.Properties.{Spec}
-use Rattle.ui_machine.specs.Lookups.{place_of}
+use Rattle.ui_machine.specs.Definition.Names.{same_name, place_from, place_named}
+use Rattle.ui_machine.specs.Definition.{Definition}
+use Rattle.ui_machine.specs.Definition.Places.{Place}
+use Rattle.ui_machine.specs.Definition.Types.{GType}
+use Rattle.ui_machine.specs.Definition.Properties.{Spec}
+use Rattle.ui_machine.specs.Definition.Lookups.{place_of}
 use Rattle.builder_defs.specs.Meaning.{Entry, plain_object, meaning}
 
 nat_eq-comm : (x y : ℕ) → nat_eq x y ≡ nat_eq y x

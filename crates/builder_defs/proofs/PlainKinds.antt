@@ -1,7 +1,7 @@
 -- The kinds of plain properties are known: none of them names a type.
 use Rattle.std.proofs.Common.{List}
-use Rattle.ui_machine.specs.Types.{GType}
-use Rattle.ui_machine.specs.Properties.{Spec}
+use Rattle.ui_machine.specs.Definition.Types.{GType}
+use Rattle.ui_machine.specs.Definition.Properties.{Spec}
 use Rattle.g_values.specs.declared.kind.Kind.{Kind}
 use Rattle.g_values.specs.declared.kind.Kind.TheVariants as code
 use Rattle.g_values.specs.View.{kind_view, IsKnown}

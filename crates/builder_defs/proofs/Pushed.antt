@@ -2,11 +2,11 @@
 use Rattle.std.proofs.Common.{◌≡◌, ℕ, List, [], ◌∷◌, ◌++◌, map, Result, Ok, sym, ap, ◌∙◌}
 use Rattle.std.proofs.lemmas.List.{map_push}
 use Rattle.serde_json.specs.Data.{Data}
-use Rattle.ui_machine.specs.Types.{GType}
-use Rattle.ui_machine.specs.Definition.{Place}
+use Rattle.ui_machine.specs.Definition.Types.{GType}
+use Rattle.ui_machine.specs.Definition.Places.{Place}
 use Rattle.builder_defs.specs.declared.fault.ReadError.{ReadError}
 use Rattle.builder_defs.specs.Meaning.{Entry, plain_object}
-use Rattle.builder_defs.specs.Binding.{◌>>=◌}
+use Rattle.ui_machine.specs.Outcome.{◌>>=◌}
 use Rattle.builder_defs.specs.Refusals.{Refusal, Fails}
 use Rattle.builder_defs.specs.Document.{nth}
 use Rattle.builder_defs.specs.Denoted.{place_at, object_of}

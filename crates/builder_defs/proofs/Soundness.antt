@@ -2,17 +2,17 @@
 use Rattle.std.proofs.Common.{◌≡◌, ◌≤◌, ℕ, codes, zero, suc, ◌+◌, Bool, true, false, nat_eq, if◌then◌else◌, List, [], ◌∷◌, ◌++◌, length, reverse, slice_get, Option, Some, None, Result, Ok, Err, refl, sym, subst}
 use Rattle.std.specs.List.{flat_map}
 use Rattle.serde_json.specs.Data.{Data, Items, no_items, item}
-use Rattle.ui_machine.specs.Types.{GType}
-use Rattle.ui_machine.specs.Kinds.{Kind}
-use Rattle.ui_machine.specs.Properties.{Spec}
+use Rattle.ui_machine.specs.Definition.Types.{GType}
+use Rattle.ui_machine.specs.Definition.Kinds.{Kind}
+use Rattle.ui_machine.specs.Definition.Properties.{Spec}
 use Rattle.std.specs.Str.{bytes_eq}
-use Rattle.ui_machine.specs.Kinds as kinds
-use Rattle.ui_machine.specs.Ancestry.{lineage}
+use Rattle.ui_machine.specs.Definition.Kinds as kinds
+use Rattle.ui_machine.specs.Rules.Ancestry.{lineage}
 use Rattle.param_specs.specs.declared.error.SpecFault.{SpecFault}
 use Rattle.param_specs.specs.Table.{own_of, specs_of, install_fault, canonical_spec}
 use Rattle.builder_defs.specs.Meaning.{Entry, IsPlain, IsPlainKind, IsSound}
 use Rattle.builder_defs.specs.Refusals.{Refusal, shape, or_refused}
-use Rattle.builder_defs.specs.Binding.{◌>>=◌}
+use Rattle.ui_machine.specs.Outcome.{◌>>=◌}
 use Rattle.builder_defs.specs.Document.{each, under, nth, members_at, text_at, entries_at, nothing_at, only_at}
 use Rattle.builder_defs.specs.Denoted.{Draft, draft_of, first_draft, specs_by, kind_named, kind_at, property_spec, room_for_property, new_property, unset_of_property, keys_of_property, spec_at, add_own, installed_or, installed, property_at, property_of, unset_before_properties, unset_after_properties, keys_of_class, declared_at, properties_at, class_at, class_of, unset_before_classes, classes_in}
 use Rattle.builder_defs.proofs.Installing.{specs_of-is}

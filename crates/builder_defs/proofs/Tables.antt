@@ -2,11 +2,12 @@
 use Rattle.std.proofs.Common.{◌≡◌, ℕ, zero, suc, ◌<◌, ◌≤◌, false, List, [], ◌∷◌, length, map, Some, None, slice_get, refl, sym, ap, subst, ◌∙◌, arith, inl, inr}
 use Rattle.std.proofs.lemmas.Bool.{cases_lt}
 use Rattle.ui_machine.specs.Seq.{read, listed}
-use Rattle.ui_machine.specs.Types.{GType}
-use Rattle.ui_machine.specs.Text.{no_type}
-use Rattle.ui_machine.specs.Definition.{Class, Place}
-use Rattle.ui_machine.specs.Lookups as lookups
-use Rattle.ui_machine.specs.Properties.{Spec}
+use Rattle.ui_machine.specs.Definition.Types.{GType}
+use Rattle.ui_machine.specs.Output.Text.{no_type}
+use Rattle.ui_machine.specs.Definition.{Class}
+use Rattle.ui_machine.specs.Definition.Places.{Place}
+use Rattle.ui_machine.specs.Definition.Lookups as lookups
+use Rattle.ui_machine.specs.Definition.Properties.{Spec}
 use Rattle.param_specs.specs.Table.{specs_of}
 use Rattle.builder_defs.specs.Meaning.{Entry, class_with, plain_object, meaning, IsPlain, ArePlain, IsBasic}
 use Rattle.ui_machine.proofs.Listed.{read-listed}

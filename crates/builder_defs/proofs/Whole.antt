@@ -2,12 +2,13 @@
 use Rattle.std.proofs.Common.{◌≡◌, ℕ, List, [], map, codes, Result, Ok, Option, option_and_then, sym, ap, ◌∙◌, refl}
 use Rattle.serde_json.specs.Data.{Data, Members}
 use Rattle.serde_json.specs.Find.{get, as_number, as_u64}
-use Rattle.ui_machine.specs.Types.{GType}
-use Rattle.ui_machine.specs.Properties.{Spec}
-use Rattle.ui_machine.specs.Definition.{Definition, Place}
+use Rattle.ui_machine.specs.Definition.Types.{GType}
+use Rattle.ui_machine.specs.Definition.Properties.{Spec}
+use Rattle.ui_machine.specs.Definition.{Definition}
+use Rattle.ui_machine.specs.Definition.Places.{Place}
 use Rattle.param_specs.specs.Table.{specs_of}
 use Rattle.builder_defs.specs.Meaning.{Entry, meaning, plain_object}
-use Rattle.builder_defs.specs.Binding.{◌>>=◌}
+use Rattle.ui_machine.specs.Outcome.{◌>>=◌}
 use Rattle.builder_defs.specs.Refusals.{Refusal}
 use Rattle.builder_defs.specs.Document.{members_at, only_at}
 use Rattle.builder_defs.specs.Denoted.{Draft, draft_of, format_of, classes_in, objects_in, definition_in, definition_with, keys_of_definition}

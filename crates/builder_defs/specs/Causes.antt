@@ -1,8 +1,8 @@
 -- Why a type is not added, with the names of types.
 use Rattle.std.specs.Prelude.{ℕ, List, string_bytes}
 use Rattle.ui_machine.specs.Seq.{read}
-use Rattle.ui_machine.specs.Types.{GType}
-use Rattle.ui_machine.specs.Text.{no_type}
+use Rattle.ui_machine.specs.Definition.Types.{GType}
+use Rattle.ui_machine.specs.Output.Text.{no_type}
 use Rattle.type_tree.specs.declared.error.TypeLimit.{TypeLimit}
 use Rattle.type_tree.specs.declared.error.TypeFault.{TypeFault}
 use Rattle.type_tree.specs.declared.error.TypeFault.TheVariants as faults

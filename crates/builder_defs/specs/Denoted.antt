@@ -5,14 +5,15 @@ use Rattle.std.specs.Str.{bytes_eq}
 use Rattle.serde_json.specs.Data.{Data}
 use Rattle.serde_json.specs.Find.{get, as_number, as_u64}
 use Rattle.ui_machine.specs.Seq.{listed}
-use Rattle.ui_machine.specs.Kinds.{Kind}
-use Rattle.ui_machine.specs.Kinds as kinds
-use Rattle.ui_machine.specs.Types.{GType, predeclared}
-use Rattle.ui_machine.specs.Ancestry.{lineage}
-use Rattle.ui_machine.specs.Transform.{least, greatest, zero_value}
-use Rattle.ui_machine.specs.Properties.{Spec}
-use Rattle.ui_machine.specs.Names.{place_named}
-use Rattle.ui_machine.specs.Definition as machine
+use Rattle.ui_machine.specs.Definition.Kinds.{Kind}
+use Rattle.ui_machine.specs.Definition.Kinds as kinds
+use Rattle.ui_machine.specs.Definition.Types.{GType, predeclared}
+use Rattle.ui_machine.specs.Rules.Ancestry.{lineage}
+use Rattle.ui_machine.specs.Rules.Transform.{least, greatest, zero_value}
+use Rattle.ui_machine.specs.Definition.Properties.{Spec}
+use Rattle.ui_machine.specs.Definition.Names.{place_named}
+use Rattle.ui_machine.specs.Definition.Places as machine
+use Rattle.ui_machine.specs.Definition as definition
 use Rattle.type_tree.specs.Adding.{find_type, class_fault, new_class}
 use Rattle.type_tree.specs.TypeName.{is_within}
 use Rattle.type_tree.specs.declared.error.TypeFault.{TypeFault}
@@ -23,7 +24,7 @@ use Rattle.param_specs.specs.declared.error.SpecFault.TheVariants.{BadName, Dupl
 use Rattle.builder_defs.specs.declared.fault.DefinitionLimit.TheVariants.{Types, Properties, Objects}
 use Rattle.builder_defs.specs.Meaning.{class_with, default_objects, bare_place}
 use Rattle.builder_defs.specs.Causes.{named_cause}
-use Rattle.builder_defs.specs.Binding.{◌>>=◌}
+use Rattle.ui_machine.specs.Outcome.{◌>>=◌}
 use Rattle.builder_defs.specs.Refusals.{Refusal, shape, unknown, duplicate, bad_type, bad_spec, limit, or_refused}
 use Rattle.builder_defs.specs.Document.{under, nth, members_at, text_at, entries_at, nothing_at, only_at, each, document}
 
@@ -242,7 +243,7 @@ abbrev pub keys_of_definition : List (List ℕ)
 keys_of_definition = codes "format" ∷ codes "limits" ∷ codes "enums" ∷ codes "flags" ∷ codes "interfaces" ∷ codes "shapes" ∷ codes "classes" ∷ codes "programs" ∷ codes "prototypes" ∷ codes "objects" ∷ []
 
 -- the definition of these classes and objects
-abbrev pub definition_with : Draft → List machine.Place → machine.Definition
+abbrev pub definition_with : Draft → List machine.Place → definition.Definition
 definition_with draft places = record {
   types = draft.types;
   classes = listed (λ t. class_with (specs_by draft.types draft.own t)) (length draft.types);
@@ -266,7 +267,7 @@ objects_in types d = do
   list ← entries_at [] d (codes "objects")
   each (object_of (under [] (codes "objects")) types) 0 [] list
 
-unfoldable pub definition_in : Data → Result machine.Definition Refusal
+unfoldable pub definition_in : Data → Result definition.Definition Refusal
 definition_in d = do
   members ← members_at [] d
   format ← format_of (option_and_then as_u64 (option_and_then as_number (get (codes "format") d)))
@@ -276,7 +277,7 @@ definition_in d = do
   Ok (definition_with draft places)
 
 -- the definition that bytes denote
-unfoldable pub denoted : List ℕ → Result machine.Definition Refusal
+unfoldable pub denoted : List ℕ → Result definition.Definition Refusal
 denoted bytes = do
   value ← document bytes
   definition_in value

@@ -4,18 +4,19 @@ use Rattle.std.specs.Str.{is_utf8}
 use Rattle.serde_json.specs.Data.{Data, null, boolean, number, string, array, object, Items, no_items, item, Members, no_members, member}
 use Rattle.serde_json.specs.Find.{get, as_bool, as_str, as_array, as_number, as_i64}
 use Rattle.serde_json.specs.Read.{read}
-use Rattle.ui_machine.specs.Kinds as kinds
-use Rattle.ui_machine.specs.Values.{Value}
-use Rattle.ui_machine.specs.Values as values
-use Rattle.ui_machine.specs.Transform.{least, greatest}
-use Rattle.ui_machine.specs.Properties.{Spec, is_readable, is_writable, is_construct_only}
+use Rattle.ui_machine.specs.Definition.Kinds as kinds
+use Rattle.ui_machine.specs.Definition.Values.{Value}
+use Rattle.ui_machine.specs.Definition.Values as values
+use Rattle.ui_machine.specs.Rules.Transform.{least, greatest}
+use Rattle.ui_machine.specs.Definition.Properties.{Spec, is_readable, is_writable, is_construct_only}
 use Rattle.ui_machine.specs.Definition as machine
-use Rattle.ui_machine.specs.Lookups.{place_of, slot_of, spec_of}
-use Rattle.ui_machine.specs.Config as config
+use Rattle.ui_machine.specs.Definition.Places as places
+use Rattle.ui_machine.specs.Definition.Lookups.{place_of, slot_of, spec_of}
+use Rattle.ui_machine.specs.State.Tasks as config
 use Rattle.g_values.specs.Reading.{json_value}
 use Rattle.g_values.specs.declared.error.JsonError.{JsonError}
 use Rattle.builder_defs.specs.Meaning.{class_at}
-use Rattle.builder_defs.specs.Binding.{◌>>=◌}
+use Rattle.ui_machine.specs.Outcome.{◌>>=◌}
 use Rattle.ui_machine.specs.Limits.{most_line_bytes}
 use Rattle.builder_defs.specs.declared.event_fault.EventFault.{EventFault}
 use Rattle.builder_defs.specs.declared.event_fault.EventFault.TheVariants as faults
@@ -141,7 +142,7 @@ set_event d words = do
   found ← target d said.0 said.1
   may ← writable found.spec
   value ← or_value_fault (json_value d.types found.spec.kind said.2)
-  Ok (config.request (config.set found.place found.slot (machine.value value)))
+  Ok (config.request (config.set found.place found.slot (places.value value)))
 
 unfoldable pub get_event : machine.Definition → Data → Result config.Event EventRefusal
 get_event d words = do

@@ -1,5 +1,4 @@
 pub mod Meaning
-pub mod Binding
 pub mod Causes
 pub mod Refusals
 pub mod FaultText

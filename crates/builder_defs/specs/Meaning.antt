@@ -2,25 +2,27 @@
 use Rattle.std.specs.Prelude.{◌≡◌, ℕ, ◌<◌, ◌≤◌, true, false, List, [], ◌∷◌, map, length, Option, None, Some, String, string_bytes, codes, slice_get}
 use Rattle.std.specs.Global.{Global}
 use Rattle.ui_machine.specs.Seq.{listed}
-use Rattle.ui_machine.specs.Kinds as kinds
-use Rattle.ui_machine.specs.Types.{GType}
-use Rattle.ui_machine.specs.Transform.{least, greatest}
-use Rattle.ui_machine.specs.Properties.{Spec}
-use Rattle.ui_machine.specs.Clamp.{is_valid}
-use Rattle.ui_machine.specs.Definition as machine
-use Rattle.ui_machine.specs.Lookups as lookups
-use Rattle.ui_machine.specs.Config as config
+use Rattle.ui_machine.specs.Definition.Kinds as kinds
+use Rattle.ui_machine.specs.Definition.Types.{GType}
+use Rattle.ui_machine.specs.Rules.Transform.{least, greatest}
+use Rattle.ui_machine.specs.Definition.Properties.{Spec}
+use Rattle.ui_machine.specs.Rules.Validation.{is_valid}
+use Rattle.ui_machine.specs.Definition.Places as machine
+use Rattle.ui_machine.specs.Definition as definition
+use Rattle.ui_machine.specs.Definition.Signals as machine_signals
+use Rattle.ui_machine.specs.Definition.Lookups as lookups
+use Rattle.ui_machine.specs.State.Tasks as config
 use Rattle.g_values.specs.View.{value_view}
 use Rattle.param_specs.specs.Table.{specs_of}
 use Rattle.builder_defs.specs.declared.event.Event.{Event}
 use Rattle.builder_defs.specs.declared.event.Event.TheVariants as events
 
 -- the signal that every object has
-abbrev pub notify_signal : machine.Signal
+abbrev pub notify_signal : machine_signals.Signal
 notify_signal = record { name = codes "notify"; params = []; result = None; flags = 17; accumulator = None }
 
 -- a type with these properties, and nothing else
-abbrev pub class_with : List Spec → machine.Class
+abbrev pub class_with : List Spec → definition.Class
 class_with specs = record { specs = specs; signals = notify_signal ∷ []; handlers = []; constructed = None; shape = None }
 
 -- an object without parent, given values, peer and signals
@@ -40,7 +42,7 @@ abbrev pub default_objects : ℕ
 default_objects = 64
 
 -- the definition of these types, specs and objects
-abbrev pub meaning : List GType → List (List Spec) → List Entry → machine.Definition
+abbrev pub meaning : List GType → List (List Spec) → List Entry → definition.Definition
 meaning types specs objects = record {
   types = types;
   classes = listed (λ t. class_with (specs_of types specs t)) (length types);
@@ -85,11 +87,11 @@ class_of_place None = 0
 class_of_place (Some place) = place.class
 
 -- the class of the object at a place, and the first class where there is none
-abbrev pub class_at : machine.Definition → ℕ → ℕ
+abbrev pub class_at : definition.Definition → ℕ → ℕ
 class_at d place = class_of_place (lookups.place_at d place)
 
 -- what a definition does not have so far: handlers, programs, shapes, bindings, and objects but plain ones
-pub record IsBasic (d : machine.Definition) : Type 0 where
+pub record IsBasic (d : definition.Definition) : Type 0 where
   pub handlers : (t : ℕ) → (lookups.class_of d t).handlers ≡ []
   pub constructed : (t : ℕ) → (lookups.class_of d t).constructed ≡ None
   pub shapes : (t : ℕ) → (lookups.class_of d t).shape ≡ None

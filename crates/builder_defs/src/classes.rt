@@ -4,7 +4,7 @@ ghost use Rattle.std.specs.Prelude.{◌≡◌, codes, length, IfOk};
 ghost use Rattle.serde_json.specs.View.{view, items_view};
 ghost use Rattle.param_specs.specs.Table.{own_of};
 ghost use Rattle.ui_machine.specs.Seq.{read};
-ghost use Rattle.ui_machine.specs.Text.{no_type};
+ghost use Rattle.ui_machine.specs.Output.Text.{no_type};
 ghost use Rattle.builder_defs.specs.Causes.{cause_view, named_cause};
 ghost use Rattle.builder_defs.specs.Refusals.{Gives, Leads};
 ghost use Rattle.builder_defs.specs.Document.{under, each};

@@ -1,8 +1,8 @@
 //! What a definition says.
 
 ghost use Rattle.std.specs.Prelude.{◌≡◌, ◌<◌, ◌≤◌, length, option_map, slice_get, IfSome, map};
-ghost use Rattle.ui_machine.specs.Names.{place_named};
-ghost use Rattle.ui_machine.specs.Lookups.{place_of, spec_of, specs_of, slot_of, type_of};
+ghost use Rattle.ui_machine.specs.Definition.Names.{place_named};
+ghost use Rattle.ui_machine.specs.Definition.Lookups.{place_of, spec_of, specs_of, slot_of, type_of};
 ghost use Rattle.param_specs.specs.View.{spec_view};
 ghost use Rattle.builder_defs.specs.Meaning.{IsBasic, bare_place, class_at, plain_object};
 

@@ -4,7 +4,7 @@ ghost use Rattle.std.specs.Prelude.{◌≡◌, Some, option_map, IfOk};
 ghost use Rattle.serde_json.specs.View.{view, items_view};
 ghost use Rattle.g_values.specs.View.{kind_view, value_view, IsKnown};
 ghost use Rattle.g_values.specs.Reading.{json_value};
-ghost use Rattle.ui_machine.specs.Lookups.{spec_of};
+ghost use Rattle.ui_machine.specs.Definition.Lookups.{spec_of};
 ghost use Rattle.builder_defs.specs.Meaning.{event_of, class_at};
 ghost use Rattle.param_specs.specs.View.{spec_view};
 ghost use Rattle.builder_defs.specs.EventMeaning.{Gives, event_denoted, event_meant, line_value, has_one_member, words_of_set, words_of_get, set_event, get_event, target, readable, writable, or_value_fault};

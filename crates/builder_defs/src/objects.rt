@@ -4,7 +4,7 @@ ghost use Rattle.std.specs.Prelude.{◌≡◌, ◌<◌, ◌≤◌, [], codes, ma
 ghost use Rattle.std.specs.List.{list_all};
 ghost use Rattle.type_tree.specs.TypeName.{is_within};
 ghost use Rattle.serde_json.specs.View.{view, items_view};
-ghost use Rattle.ui_machine.specs.Names.{place_named};
+ghost use Rattle.ui_machine.specs.Definition.Names.{place_named};
 ghost use Rattle.builder_defs.specs.Meaning.{bare_place, plain_object};
 ghost use Rattle.builder_defs.specs.Refusals.{Gives};
 ghost use Rattle.builder_defs.specs.Document.{under, each};

@@ -3,10 +3,10 @@
 ghost use Rattle.std.specs.Prelude.{◌≡◌, false, codes, List, option_map, string_bytes, IfOk, IfSome};
 ghost use Rattle.serde_json.specs.View.{view, items_view};
 ghost use Rattle.g_values.specs.View.{kind_view, value_view, IsKnown};
-ghost use Rattle.ui_machine.specs.Transform.{zero_value};
+ghost use Rattle.ui_machine.specs.Rules.Transform.{zero_value};
 ghost use Rattle.type_tree.specs.Adding.{find_type};
-ghost use Rattle.ui_machine.specs.Types.{GType};
-ghost use Rattle.ui_machine.specs.Properties as properties;
+ghost use Rattle.ui_machine.specs.Definition.Types.{GType};
+ghost use Rattle.ui_machine.specs.Definition.Properties as properties;
 ghost use Rattle.param_specs.specs.View.{spec_view};
 ghost use Rattle.param_specs.specs.Table.{own_of, specs_of};
 ghost use Rattle.builder_defs.specs.Refusals.{Gives, Leads};

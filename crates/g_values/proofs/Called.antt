@@ -2,7 +2,7 @@
 use Rattle.std.proofs.Common.{◌≡◌, ◌∙◌, List, [], ◌∷◌, map, option_map, Some, None, Option, cond, true, false, Bool, ℕ, pos, bytes_eq, string_bytes, refl, ap}
 use Rattle.std.specs.List.{find}
 use Rattle.std.specs.Option.{option_or}
-use Rattle.ui_machine.specs.Types.{Member}
+use Rattle.ui_machine.specs.Definition.Types.{Member}
 use Rattle.type_tree.specs.declared.member.EnumMember.{EnumMember}
 use Rattle.type_tree.specs.declared.member.FlagsMember.{FlagsMember}
 use Rattle.type_tree.specs.Entry.{enum_member, flags_member}

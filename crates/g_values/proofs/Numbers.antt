@@ -2,7 +2,7 @@
 use Rattle.std.proofs.Common.{◌≡◌, ℤ, ◌||◌, List, [], ◌∷◌, map, refl, ap}
 use Rattle.std.specs.List.{list_any}
 use Rattle.std.specs.Ordering.{int_eq}
-use Rattle.ui_machine.specs.Transform.{has_number}
+use Rattle.ui_machine.specs.Rules.Transform.{has_number}
 use Rattle.type_tree.specs.declared.member.EnumMember.{EnumMember}
 use Rattle.type_tree.specs.Entry.{enum_member}
 

@@ -1,6 +1,6 @@
 -- Texts, byte by byte.
 use Rattle.std.proofs.Common.{◌≡◌, ◌∙◌, Bool, true, false, cond, ◌&&◌, nat_eq, List, [], ◌∷◌, ℕ, bytes_eq, refl}
-use Rattle.ui_machine.specs.Names.{same_name}
+use Rattle.ui_machine.specs.Definition.Names.{same_name}
 
 cond-and : (b c : Bool) → cond b c false ≡ (b && c)
 cond-and true c = refl

@@ -1,11 +1,11 @@
 -- A number that stands for a value.
 use Rattle.std.proofs.Common.{◌≡◌, ◌∙◌, ℤ, List, Option, Result, sym, ap, subst}
 use Rattle.std.specs.declared.alloc.AllocError.{AllocError}
-use Rattle.ui_machine.specs.Kinds.{Whole}
-use Rattle.ui_machine.specs.Kinds as kinds
-use Rattle.ui_machine.specs.Values as values
-use Rattle.ui_machine.specs.Types.{GType}
-use Rattle.ui_machine.specs.Transform.{converted}
+use Rattle.ui_machine.specs.Definition.Kinds.{Whole}
+use Rattle.ui_machine.specs.Definition.Kinds as kinds
+use Rattle.ui_machine.specs.Definition.Values as values
+use Rattle.ui_machine.specs.Definition.Types.{GType}
+use Rattle.ui_machine.specs.Rules.Transform.{converted}
 use Rattle.g_values.specs.declared.value.Value.{Value}
 use Rattle.g_values.specs.View.{Yields}
 

@@ -1,11 +1,11 @@
 -- Sums, differences, products and comparisons of two numbers of one kind.
 use Rattle.std.specs.Prelude.{ℤ, pos, Bool, if◌then◌else◌, Option, None, Some, option_map}
-use Rattle.ui_machine.specs.Kinds.{Whole, int, uint, int64, uint64}
-use Rattle.ui_machine.specs.Values.{Value}
-use Rattle.ui_machine.specs.Values as values
-use Rattle.ui_machine.specs.Transform.{same_whole, wrapped}
-use Rattle.ui_machine.specs.Definition.{Arithmetic, Comparison}
-use Rattle.ui_machine.specs.Instructions.{reckoned, holds}
+use Rattle.ui_machine.specs.Definition.Kinds.{Whole, int, uint, int64, uint64}
+use Rattle.ui_machine.specs.Definition.Values.{Value}
+use Rattle.ui_machine.specs.Definition.Values as values
+use Rattle.ui_machine.specs.Rules.Transform.{same_whole, wrapped}
+use Rattle.ui_machine.specs.Definition.Programs.{Arithmetic, Comparison}
+use Rattle.ui_machine.specs.Instructions.Arithmetic.{reckoned, holds}
 use Rattle.g_values.specs.declared.arithmetic.Numbers.{Numbers}
 use Rattle.g_values.specs.declared.arithmetic.Numbers.TheVariants.{Int, UInt, Int64, UInt64}
 

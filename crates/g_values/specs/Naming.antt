@@ -2,7 +2,7 @@
 use Rattle.std.specs.Prelude.{ℕ, ◌-◌, ◌==◌, ◌||◌, ℤ, unsigned_abs, bit_or, Bool, not, List, [], ◌∷◌, length, take, drop, reverse, bytes_eq, if◌then◌else◌, Option, Some, option_map, option_and_then}
 use Rattle.std.specs.Option.{option_or}
 use Rattle.std.specs.List.{find, position_or_len, slice_split}
-use Rattle.ui_machine.specs.Types.{Member}
+use Rattle.ui_machine.specs.Definition.Types.{Member}
 
 -- the number of the first member of which the text is this word
 abbrev pub number_by : (Member → List ℕ) → List Member → List ℕ → Option ℤ

@@ -3,13 +3,13 @@ use Rattle.std.specs.Prelude.{◌≡◌, ℕ, ℤ, pos, unsigned_abs, List, leng
 use Rattle.std.specs.Result.{IsOk}
 use Rattle.serde_json.specs.Data.{Data, null, boolean, number, string, array, object}
 use Rattle.serde_json.specs.Find.{as_null, as_bool, as_str, as_number, as_integer}
-use Rattle.ui_machine.specs.Kinds.{Kind, int, uint}
-use Rattle.ui_machine.specs.Kinds as kinds
-use Rattle.ui_machine.specs.Values.{Value}
-use Rattle.ui_machine.specs.Values as values
-use Rattle.ui_machine.specs.Types.{GType, Member}
-use Rattle.ui_machine.specs.Text.{members_of}
-use Rattle.ui_machine.specs.Transform.{least, greatest, is_between, has_number}
+use Rattle.ui_machine.specs.Definition.Kinds.{Kind, int, uint}
+use Rattle.ui_machine.specs.Definition.Kinds as kinds
+use Rattle.ui_machine.specs.Definition.Values.{Value}
+use Rattle.ui_machine.specs.Definition.Values as values
+use Rattle.ui_machine.specs.Definition.Types.{GType, Member}
+use Rattle.ui_machine.specs.Output.Text.{members_of}
+use Rattle.ui_machine.specs.Rules.Transform.{least, greatest, is_between, has_number}
 use Rattle.g_values.specs.Naming.{number_called, bits_named}
 use Rattle.g_values.specs.declared.error.JsonError.{JsonError}
 use Rattle.g_values.specs.declared.error.JsonError.TheVariants.{WrongJson, OutOfRange, UnknownMember, TextTooLong, OutOfMemory}

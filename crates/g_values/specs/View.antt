@@ -2,13 +2,13 @@
 use Rattle.std.specs.Prelude.{◌≡◌, pos, Bool, true, false, List, Option, None, Some, option_map, IsSome, ℤ, Result, Ok, Err}
 use Rattle.std.specs.declared.alloc.AllocError.{AllocError}
 use Rattle.std.specs.Rc.{rc_str_bytes}
-use Rattle.ui_machine.specs.Kinds.{int, uint, int64, uint64}
-use Rattle.ui_machine.specs.Kinds as kinds
-use Rattle.ui_machine.specs.Values as values
-use Rattle.ui_machine.specs.Transform.{wrapped, is_transformable, transformed}
+use Rattle.ui_machine.specs.Definition.Kinds.{int, uint, int64, uint64}
+use Rattle.ui_machine.specs.Definition.Kinds as kinds
+use Rattle.ui_machine.specs.Definition.Values as values
+use Rattle.ui_machine.specs.Rules.Transform.{wrapped, is_transformable, transformed}
 use Rattle.g_values.specs.declared.error.TransformError.{TransformError}
 use Rattle.g_values.specs.declared.error.TransformError.TheVariants.{NoTransform, NotAMember, OutOfMemory}
-use Rattle.ui_machine.specs.Types.{GType, enum, flags}
+use Rattle.ui_machine.specs.Definition.Types.{GType, enum, flags}
 use Rattle.type_tree.specs.Adding.{sort_of}
 use Rattle.g_values.specs.declared.kind.Kind.{Kind}
 use Rattle.g_values.specs.declared.kind.Kind.TheVariants as of_kind

@@ -1,7 +1,7 @@
 //! Sums, differences, products and comparisons of two numbers of one kind.
 
 ghost use Rattle.std.specs.Prelude.{◌≡◌, option_map};
-ghost use Rattle.ui_machine.specs.Definition.{add, sub, mul, eq, lt, le};
+ghost use Rattle.ui_machine.specs.Definition.Programs.{add, sub, mul, eq, lt, le};
 ghost use Rattle.g_values.specs.View.{value_view};
 ghost use Rattle.g_values.specs.Arithmetic.{pair_view, pair_of, calculated, compared};
 

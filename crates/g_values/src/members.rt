@@ -3,7 +3,7 @@
 ghost use Rattle.std.specs.Prelude.{◌≡◌, map, true, false, MatchOption, Some, None, if◌then◌else◌, unsigned_abs};
 ghost use Rattle.std.specs.List.{list_any};
 ghost use Rattle.std.specs.Ordering.{int_eq};
-ghost use Rattle.ui_machine.specs.Transform.{has_number, known_bits, first_number, is_known};
+ghost use Rattle.ui_machine.specs.Rules.Transform.{has_number, known_bits, first_number, is_known};
 ghost use Rattle.type_tree.specs.Entry.{enum_member, flags_member};
 
 use type_tree::{EnumMember, FlagsMember};

@@ -2,8 +2,8 @@
 
 ghost use Rattle.std.specs.Prelude.{◌≡◌, option_map};
 ghost use Rattle.std.specs.Rc.{rc_str_bytes};
-ghost use Rattle.ui_machine.specs.Names.{same_name};
-ghost use Rattle.ui_machine.specs.Transform.{same_value, same_text};
+ghost use Rattle.ui_machine.specs.Definition.Names.{same_name};
+ghost use Rattle.ui_machine.specs.Rules.Transform.{same_value, same_text};
 ghost use Rattle.g_values.specs.View.{value_view};
 
 use crate::value::Value;

@@ -2,13 +2,13 @@
 
 ghost use Rattle.std.specs.Prelude.{◌≡◌, pos, ◌<ℤ◌, ◌≤ℤ◌, neg_ℤ, List, true, unsigned_abs, Option, option_map};
 ghost use Rattle.std.specs.Rc.{rc_str_bytes};
-ghost use Rattle.ui_machine.specs.Kinds.{Whole};
-ghost use Rattle.ui_machine.specs.Kinds as kinds;
-ghost use Rattle.ui_machine.specs.Values as values;
-ghost use Rattle.ui_machine.specs.Types.{GType, enum, flags};
-ghost use Rattle.ui_machine.specs.Text.{members_of};
+ghost use Rattle.ui_machine.specs.Definition.Kinds.{Whole};
+ghost use Rattle.ui_machine.specs.Definition.Kinds as kinds;
+ghost use Rattle.ui_machine.specs.Definition.Values as values;
+ghost use Rattle.ui_machine.specs.Definition.Types.{GType, enum, flags};
+ghost use Rattle.ui_machine.specs.Output.Text.{members_of};
 ghost use Rattle.type_tree.specs.Adding.{sort_of};
-ghost use Rattle.ui_machine.specs.Transform.{is_transformable, converted, transformed, has_number, is_known, if_so};
+ghost use Rattle.ui_machine.specs.Rules.Transform.{is_transformable, converted, transformed, has_number, is_known, if_so};
 ghost use Rattle.g_values.specs.View.{kind_view, value_view, value_kind, is_whole_kind, IsKnown, Becomes, BecomesWhole, Yields, Transforms};
 
 use crate::error::TransformError;

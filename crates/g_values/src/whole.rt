@@ -2,9 +2,9 @@
 
 ghost use Rattle.std.specs.Prelude.{◌≡◌, pos, ◌^◌, ◌<ℤ◌, ◌≤ℤ◌, neg_ℤ, IfOk};
 ghost use Rattle.std.specs.Rc.{rc_str_bytes};
-ghost use Rattle.ui_machine.specs.Kinds.{int, uint, int64, uint64};
-ghost use Rattle.ui_machine.specs.Transform.{wrapped};
-ghost use Rattle.ui_machine.specs.Text.{numeral, signed_numeral};
+ghost use Rattle.ui_machine.specs.Definition.Kinds.{int, uint, int64, uint64};
+ghost use Rattle.ui_machine.specs.Rules.Transform.{wrapped};
+ghost use Rattle.ui_machine.specs.Output.Text.{numeral, signed_numeral};
 
 use std::alloc::{AllocError, Global};
 use std::rc::RcStr;

@@ -1,7 +1,7 @@
 //! Zero values.
 
 ghost use Rattle.std.specs.Prelude.{◌≡◌};
-ghost use Rattle.ui_machine.specs.Transform.{zero_value};
+ghost use Rattle.ui_machine.specs.Rules.Transform.{zero_value};
 ghost use Rattle.g_values.specs.View.{kind_view, value_view, value_kind, IsKnown};
 
 use crate::kind::Kind;

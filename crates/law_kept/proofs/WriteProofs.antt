@@ -4,23 +4,24 @@ use Rattle.std.specs.Prelude.{nat_eq, option_map}
 use Rattle.std.proofs.Math.Path.{fun_ext}
 use Rattle.std.proofs.lemmas.Bool.{eqb-true, eqb-false}
 use Rattle.ui_machine.specs.Seq.{read, write, total}
-use Rattle.ui_machine.specs.Properties.{Spec, is_readable}
+use Rattle.ui_machine.specs.Definition.Properties.{Spec, is_readable}
 use Rattle.ui_machine.specs.Definition.{Definition}
-use Rattle.ui_machine.specs.Lookups.{place_at, spec_of}
-use Rattle.ui_machine.specs.Config.{Object, Objects, Task, Binding, World}
-use Rattle.ui_machine.specs.Objects.{living, put, live, one_if}
-use Rattle.ui_machine.specs.Programs.{place_in}
-use Rattle.ui_machine.specs.Worlds.{with_objects}
-use Rattle.law_typing.specs.Channels.{is_pair}
-use Rattle.law_typing.specs.Tables.{Tables}
-use Rattle.law_typing.specs.Accepted.{Each}
+use Rattle.ui_machine.specs.Definition.Lookups.{place_at, spec_of}
+use Rattle.ui_machine.specs.State.Objects.{Object, Objects, living, put, live, one_if}
+use Rattle.ui_machine.specs.State.Tasks.{Task}
+use Rattle.ui_machine.specs.State.Bindings.{Binding}
+use Rattle.ui_machine.specs.State.Config.{World, with_objects}
+use Rattle.ui_machine.specs.Rules.Programs.{place_in}
+use Rattle.law_typing.specs.Graph.Channels.{is_pair}
+use Rattle.law_typing.specs.Graph.Tables.{Tables}
+use Rattle.law_typing.specs.Verdict.Accepted.{Each}
 use Rattle.law_typing.specs.Laws.{IsIn}
-use Rattle.law_typing.specs.Brackets.{has_pair}
-use Rattle.law_typing.specs.Standing.{Standing, standing, view, Lives}
-use Rattle.law_typing.specs.ObjectsGood.{ValueGood, FamilyGood, PeerGood, ObjectGood, ObjectsGood}
-use Rattle.law_typing.specs.HandlersGood.{HandlersGood}
-use Rattle.law_typing.specs.BindingsGood.{BindingGood, BindingsGood, SourceGood, HeldGood}
-use Rattle.law_typing.specs.FreezesGood.{PairsGood, constructs_held}
+use Rattle.law_typing.specs.Rules.Brackets.{has_pair}
+use Rattle.law_typing.specs.Good.Standing.{Standing, standing, view, Lives}
+use Rattle.law_typing.specs.Good.Objects.{ValueGood, FamilyGood, PeerGood, ObjectGood, ObjectsGood}
+use Rattle.law_typing.specs.Good.Handlers.{HandlersGood}
+use Rattle.law_typing.specs.Good.Bindings.{BindingGood, BindingsGood, SourceGood, HeldGood}
+use Rattle.law_typing.specs.Good.Freezes.{PairsGood, constructs_held}
 use Rattle.law_kept.specs.Write.{Like, Whole, WriteKeeps}
 
 read_here : {A : Type 0} (n : A) (xs : List A) (i : ℕ) (y : A) → read n (write n xs i y) i ≡ y

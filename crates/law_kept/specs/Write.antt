@@ -1,18 +1,18 @@
 -- One object is written over by another of the same place, class, family, count and peer: what is kept of the whole.
 use Rattle.std.specs.Prelude.{◌≡◌, ℕ, List, Some, true, slice_get}
-use Rattle.ui_machine.specs.Properties.{Spec, is_readable}
+use Rattle.ui_machine.specs.Definition.Properties.{Spec, is_readable}
 use Rattle.ui_machine.specs.Definition.{Definition}
-use Rattle.ui_machine.specs.Lookups.{spec_of}
-use Rattle.ui_machine.specs.Config.{Object, Task, World}
-use Rattle.ui_machine.specs.Objects.{living, put, live}
-use Rattle.ui_machine.specs.Worlds.{with_objects}
-use Rattle.law_typing.specs.Tables.{Tables}
-use Rattle.law_typing.specs.Accepted.{Each}
-use Rattle.law_typing.specs.Standing.{standing, view, Lives}
-use Rattle.law_typing.specs.ObjectsGood.{ValueGood, ObjectsGood}
-use Rattle.law_typing.specs.HandlersGood.{HandlersGood}
-use Rattle.law_typing.specs.BindingsGood.{BindingsGood, SourceGood, HeldGood}
-use Rattle.law_typing.specs.FreezesGood.{PairsGood}
+use Rattle.ui_machine.specs.Definition.Lookups.{spec_of}
+use Rattle.ui_machine.specs.State.Objects.{Object, living, put, live}
+use Rattle.ui_machine.specs.State.Tasks.{Task}
+use Rattle.ui_machine.specs.State.Config.{World, with_objects}
+use Rattle.law_typing.specs.Graph.Tables.{Tables}
+use Rattle.law_typing.specs.Verdict.Accepted.{Each}
+use Rattle.law_typing.specs.Good.Standing.{standing, view, Lives}
+use Rattle.law_typing.specs.Good.Objects.{ValueGood, ObjectsGood}
+use Rattle.law_typing.specs.Good.Handlers.{HandlersGood}
+use Rattle.law_typing.specs.Good.Bindings.{BindingsGood, SourceGood, HeldGood}
+use Rattle.law_typing.specs.Good.Freezes.{PairsGood}
 
 -- the object that is written is like the one that stood there
 pub record Like (d : Definition) (w : World) (o new : Object) : Type 0 where
@@ -47,5 +47,5 @@ pub record Kept (d : Definition) (costs depths : Tables) (agenda : List Task) (w
 abbrev pub WriteKeeps : Type 0
 WriteKeeps =
     (d : Definition) (costs depths : Tables) (agenda : List Task) (w : World) (id : ℕ) (o new : Object) → living w.objects id ≡ Some o →
-        Like d w o new →
+    Like d w o new →
     Whole d costs depths agenda w → Kept d costs depths agenda w (with_objects w (put w.objects id (Some new)))

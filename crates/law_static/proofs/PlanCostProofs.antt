@@ -3,20 +3,21 @@ use Rattle.std.proofs.Common.{◌≡◌, refl, ap, subst, ◌∙◌, ℕ, ◌+�
 use Rattle.std.specs.Prelude.{not, ◌&&◌, nat_eq}
 use Rattle.std.specs.List.{filter}
 use Rattle.ui_machine.specs.Seq.{total}
-use Rattle.ui_machine.specs.Properties.{has_flags}
+use Rattle.ui_machine.specs.Definition.Properties.{has_flags}
 use Rattle.ui_machine.specs.Definition.{Definition}
-use Rattle.ui_machine.specs.Config.{Handler, handler, PlanEntry, Task, World}
-use Rattle.ui_machine.specs.Emissions.{fits_detail, at_stage, handlers_for, runs_for, class_handler_of}
-use Rattle.ui_machine.specs.Turns.{handler_of}
-use Rattle.law_typing.specs.Channels.{signal}
+use Rattle.ui_machine.specs.State.Handlers.{Handler, handler_of}
+use Rattle.ui_machine.specs.State.Tasks.{handler, PlanEntry, Task}
+use Rattle.ui_machine.specs.State.Config.{World}
+use Rattle.ui_machine.specs.Rules.EmissionPlan.{fits_detail, at_stage, handlers_for, runs_for, class_handler_of}
+use Rattle.law_typing.specs.Graph.Channels.{signal}
 use Rattle.law_typing.specs.Graph.{graph, place_of_channel, listed_if}
-use Rattle.law_typing.specs.Tables.{Tables, of_program, greatest}
-use Rattle.law_typing.specs.Costs.{programs_cost}
-use Rattle.law_typing.specs.Accepted.{Each}
-use Rattle.ui_machine.specs.Builds.{of_items}
-use Rattle.law_typing.specs.Standing.{view}
-use Rattle.law_typing.specs.HandlersGood.{connecting_cost, is_connected, running_for}
-use Rattle.law_typing.specs.DueCosts.{turn_cost}
+use Rattle.law_typing.specs.Graph.Tables.{Tables, of_program, greatest}
+use Rattle.law_typing.specs.Graph.Costs.{programs_cost}
+use Rattle.law_typing.specs.Verdict.Accepted.{Each}
+use Rattle.ui_machine.specs.Rules.Build.{of_items}
+use Rattle.law_typing.specs.Good.Standing.{view}
+use Rattle.law_typing.specs.Good.Handlers.{connecting_cost, is_connected, running_for}
+use Rattle.law_typing.specs.Good.DueCosts.{turn_cost}
 use Rattle.law_typing.proofs.Lists.{each_in}
 use Rattle.law_static.specs.PlanCost.{PlanCosts}
 use Rattle.law_static.proofs.RisingProofs.{rising_are_found}

@@ -3,11 +3,11 @@ use Rattle.std.proofs.Common.{◌≡◌, refl, sym, ap, subst, ◌∙◌, ℕ, s
 use Rattle.std.specs.Prelude.{nat_eq}
 use Rattle.std.proofs.lemmas.Bool.{eqb-true, eqb-false, eq-eqb}
 use Rattle.ui_machine.specs.Seq.{total}
-use Rattle.ui_machine.specs.Definition.{Bind}
-use Rattle.ui_machine.specs.Config.{Handler, Binding}
-use Rattle.ui_machine.specs.Turns.{handler_of}
-use Rattle.law_typing.specs.Accepted.{Each}
-use Rattle.law_typing.specs.Standing.{Rising}
+use Rattle.ui_machine.specs.Definition.Places.{Bind}
+use Rattle.ui_machine.specs.State.Handlers.{Handler, handler_of}
+use Rattle.ui_machine.specs.State.Bindings.{Binding}
+use Rattle.law_typing.specs.Verdict.Accepted.{Each}
+use Rattle.law_typing.specs.Good.Standing.{Rising}
 use Rattle.law_static.specs.Rising.{Priced, RisingAreFound, RisingCosts}
 
 abbrev number : Binding → ℕ

@@ -2,17 +2,20 @@
 use Rattle.std.proofs.Common.{◌≡◌, refl, sym, subst, ap, ℕ, zero, suc, ◌+◌, ◌≤◌, List, [], ◌∷◌, length, Option, None, Some, arith}
 use Rattle.ui_machine.specs.Seq.{read, total}
 use Rattle.ui_machine.specs.Definition.{Definition}
-use Rattle.ui_machine.specs.Config.{Object, Objects, Binding, Task, Due, World}
+use Rattle.ui_machine.specs.State.Objects.{Object, Objects}
+use Rattle.ui_machine.specs.State.Bindings.{Binding}
+use Rattle.ui_machine.specs.State.Tasks.{Task, Due}
+use Rattle.ui_machine.specs.State.Config.{World}
 use Rattle.law_typing.specs.Graph.{Raised, graph}
-use Rattle.law_typing.specs.Tables.{Tables, of_program, greatest}
-use Rattle.law_typing.specs.Accepted.{Each}
-use Rattle.law_typing.specs.Standing.{standing, Lives}
-use Rattle.law_typing.specs.ObjectsGood.{PeersGood}
-use Rattle.law_typing.specs.HandlersGood.{ChannelGood, HandlersGood}
-use Rattle.law_typing.specs.BindingsGood.{BindingGood, BindingsGood}
-use Rattle.law_typing.specs.FreezesGood.{carried}
+use Rattle.law_typing.specs.Graph.Tables.{Tables, of_program, greatest}
+use Rattle.law_typing.specs.Verdict.Accepted.{Each}
+use Rattle.law_typing.specs.Good.Standing.{standing, Lives}
+use Rattle.law_typing.specs.Good.Objects.{PeersGood}
+use Rattle.law_typing.specs.Good.Handlers.{ChannelGood, HandlersGood}
+use Rattle.law_typing.specs.Good.Bindings.{BindingGood, BindingsGood}
+use Rattle.law_typing.specs.Good.Freezes.{carried}
 use Rattle.law_typing.specs.Good.{Resting}
-use Rattle.law_typing.specs.StepsKeepGood.{SourcesBegin}
+use Rattle.law_typing.specs.Laws.StepsKeepGood.{SourcesBegin}
 
 -- an entry of a table is at most the greatest
 read_at_most : (xs : List ℕ) (i : ℕ) → read 0 xs i ≤ greatest (λ n. n) xs

@@ -1,17 +1,19 @@
 -- What the turns of an emission cost as it begins.
 use Rattle.std.specs.Prelude.{◌≡◌, ℕ, ◌+◌, ◌≤◌, List, [], Option, Some}
 use Rattle.ui_machine.specs.Seq.{total}
-use Rattle.ui_machine.specs.Definition.{Definition, Signal}
-use Rattle.ui_machine.specs.Config.{Task, World}
-use Rattle.ui_machine.specs.Emissions.{Planned, plan, class_handler_of}
-use Rattle.law_typing.specs.Channels.{signal}
+use Rattle.ui_machine.specs.Definition.{Definition}
+use Rattle.ui_machine.specs.Definition.Signals.{Signal}
+use Rattle.ui_machine.specs.State.Tasks.{Task}
+use Rattle.ui_machine.specs.State.Config.{World}
+use Rattle.ui_machine.specs.Rules.EmissionPlan.{Planned, plan, class_handler_of}
+use Rattle.law_typing.specs.Graph.Channels.{signal}
 use Rattle.law_typing.specs.Graph.{Raised, graph, listed_if, stages_of}
-use Rattle.law_typing.specs.Tables.{Tables}
-use Rattle.law_typing.specs.Costs.{emission_cost}
+use Rattle.law_typing.specs.Graph.Tables.{Tables}
+use Rattle.law_typing.specs.Graph.Costs.{emission_cost}
 use Rattle.law_typing.specs.Laws.{IsIn}
-use Rattle.law_typing.specs.Standing.{standing, view}
-use Rattle.law_typing.specs.HandlersGood.{HandlersGood}
-use Rattle.law_typing.specs.DueCosts.{turn_cost}
+use Rattle.law_typing.specs.Good.Standing.{standing, view}
+use Rattle.law_typing.specs.Good.Handlers.{HandlersGood}
+use Rattle.law_typing.specs.Good.DueCosts.{turn_cost}
 
 -- the plan of a signal's emission, which a class begins
 abbrev pub planned : Definition → (class id number : ℕ) → Signal → Option (List ℕ) → Planned

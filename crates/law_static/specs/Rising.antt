@@ -1,11 +1,11 @@
 -- What stands under rising numbers.
 use Rattle.std.specs.Prelude.{◌≡◌, ℕ, ◌-◌, ◌≤◌, List, Some, slice_get}
 use Rattle.ui_machine.specs.Seq.{total}
-use Rattle.ui_machine.specs.Definition.{Bind}
-use Rattle.ui_machine.specs.Config.{Handler, Binding}
-use Rattle.ui_machine.specs.Turns.{handler_of}
-use Rattle.law_typing.specs.Accepted.{Each}
-use Rattle.law_typing.specs.Standing.{Rising}
+use Rattle.ui_machine.specs.Definition.Places.{Bind}
+use Rattle.ui_machine.specs.State.Handlers.{Handler, handler_of}
+use Rattle.ui_machine.specs.State.Bindings.{Binding}
+use Rattle.law_typing.specs.Verdict.Accepted.{Each}
+use Rattle.law_typing.specs.Good.Standing.{Rising}
 
 -- each handler is the one that is found under its number
 abbrev pub Found : List Handler → Type 0

@@ -3,7 +3,7 @@
 
 ghost use Rattle.law_static.specs.Rising.{RisingAreFound, RisingCosts};
 ghost use Rattle.law_static.specs.PlanCost.{PlanCosts};
-ghost use Rattle.law_typing.specs.StepsKeepGood.{SourcesBegin};
+ghost use Rattle.law_typing.specs.Laws.StepsKeepGood.{SourcesBegin};
 
 /// What stands under rising numbers is found by its number, and bindings that do cost together no more than those of the definition.
 pub fn rising()

@@ -4,18 +4,21 @@ use Rattle.std.specs.Prelude.{nat_le}
 use Rattle.std.specs.List.{list_all}
 use Rattle.std.proofs.lemmas.Bool.{and_parts, leb-true}
 use Rattle.ui_machine.specs.Seq.{read, total}
-use Rattle.ui_machine.specs.Definition.{Definition, Place}
-use Rattle.ui_machine.specs.Config.{Object, Peer, built, unbuilt}
-use Rattle.ui_machine.specs.Objects as heap
-use Rattle.ui_machine.specs.Builds.{build_items, is_making}
+use Rattle.ui_machine.specs.Definition.{Definition}
+use Rattle.ui_machine.specs.Definition.Places.{Place}
+use Rattle.ui_machine.specs.State.Objects.{Object}
+use Rattle.ui_machine.specs.State.Peers.{Peer}
+use Rattle.ui_machine.specs.State.Config.{built, unbuilt}
+use Rattle.ui_machine.specs.State.Objects as heap
+use Rattle.ui_machine.specs.Rules.Build.{build_items, is_making}
 use Rattle.ui_machine.specs.Runs.{of_build}
-use Rattle.law_typing.specs.Tables.{Tables}
-use Rattle.law_typing.specs.Accepted.{Each}
-use Rattle.law_typing.specs.Standing.{standing}
-use Rattle.law_typing.specs.ObjectsGood.{PoolGood}
-use Rattle.law_typing.specs.BuildsGood.{item_cost, item_depth}
+use Rattle.law_typing.specs.Graph.Tables.{Tables}
+use Rattle.law_typing.specs.Verdict.Accepted.{Each}
+use Rattle.law_typing.specs.Good.Standing.{standing}
+use Rattle.law_typing.specs.Good.Objects.{PoolGood}
+use Rattle.law_typing.specs.Good.Builds.{item_cost, item_depth}
 use Rattle.law_typing.specs.Good.{Good}
-use Rattle.law_typing.specs.StepsKeepGood.{PeerReady, PoolReady}
+use Rattle.law_typing.specs.Laws.StepsKeepGood.{PeerReady, PoolReady}
 
 -- nothing lives yet
 nothing_lives : {A : Type 0} (id : ℕ) (o : Object) → heap.living [] id ≡ Some o → A

@@ -1,14 +1,14 @@
 -- The costs of a chain double with each link.
 use Rattle.std.proofs.Common.{◌≡◌, refl, ap, ℕ, zero, suc, ◌+◌, ◌*◌, ◌<◌, [], ◌∷◌, Some, slice_get, arith}
 use Rattle.std.proofs.Math.Nat.{pow-suc}
-use Rattle.law_typing.specs.Typing.{data_in, passing, two_numbers, two_passing, moving, reckoning, comparing, sameness, negating, combining, joining, converting, property_of, getting, changing_none, assigning, place_for, naming, adopting, arguments, emitting, program_named, connecting, on_handlers, attaching, methods_for, method_named, calling, entering, branching, branching_null, returning}
-use Rattle.law_typing.specs.Channels.{property}
+use Rattle.law_typing.specs.Rules.Typing.{data_in, passing, two_numbers, two_passing, moving, reckoning, comparing, sameness, negating, combining, joining, converting, property_of, getting, changing_none, assigning, place_for, naming, adopting, arguments, emitting, program_named, connecting, on_handlers, attaching, methods_for, method_named, calling, entering, branching, branching_null, returning}
+use Rattle.law_typing.specs.Graph.Channels.{property}
 use Rattle.law_typing.specs.Graph.{Graph, graph}
-use Rattle.law_typing.specs.Tables.{entry, Tables}
-use Rattle.law_typing.specs.Costs.{SolvesCosts, other_end_in, node_cost, with_other}
-use Rattle.law_typing.specs.Depths.{raised_of}
-use Rattle.law_typing.specs.Chain as chain
-use Rattle.law_typing.specs.ChainLaw.{at_property, sets_next, IsChain, ChainsDouble, ThreeLinks}
+use Rattle.law_typing.specs.Graph.Tables.{entry, Tables}
+use Rattle.law_typing.specs.Graph.Costs.{SolvesCosts, other_end_in, node_cost, with_other}
+use Rattle.law_typing.specs.Graph.Depths.{raised_of}
+use Rattle.law_typing.specs.Examples.Chain as chain
+use Rattle.law_typing.specs.Laws.Chain.{at_property, sets_next, IsChain, ChainsDouble, ThreeLinks}
 use Rattle.law_typing.proofs.CostProofs.{costs_solved}
 
 no_times : (n : ℕ) → n * 0 ≡ 0

@@ -3,19 +3,20 @@ use Rattle.std.proofs.Common.{◌≡◌, inl, inr, refl, sym, ap, subst, ◌∙�
 use Rattle.std.specs.Prelude.{option_map}
 use Rattle.std.specs.List.{cons_option, filter_map, find}
 use Rattle.ui_machine.specs.Seq.{read, listed}
-use Rattle.ui_machine.specs.Definition.{Definition, Place}
-use Rattle.ui_machine.specs.Lookups.{slot_of, place_at}
-use Rattle.ui_machine.specs.Connections.{signal_number}
-use Rattle.law_typing.specs.RegisterKinds.{Kinds, kind_in, class_at, covers, place_numbers, places}
-use Rattle.law_typing.specs.Channels.{Channel, property, signal, same_channel, is_channel}
+use Rattle.ui_machine.specs.Definition.{Definition}
+use Rattle.ui_machine.specs.Definition.Places.{Place}
+use Rattle.ui_machine.specs.Definition.Lookups.{slot_of, place_at}
+use Rattle.ui_machine.specs.Rules.Connections.{signal_number}
+use Rattle.law_typing.specs.Rules.RegisterKinds.{Kinds, kind_in, class_at, covers, place_numbers, places}
+use Rattle.law_typing.specs.Graph.Channels.{Channel, property, signal, same_channel, is_channel}
 use Rattle.law_typing.specs.Graph.{Graph, Raised, Stretch, number_for, channel_for, channel_over, over}
-use Rattle.law_typing.specs.Tables.{Table, entry, Tables, of_program, greatest}
-use Rattle.law_typing.specs.Ranks.{running_at}
-use Rattle.law_typing.specs.Costs.{other_end, with_other, node_cost, starts_cost, path_costs, program_cost, block_cost, programs_cost, channel_cost}
-use Rattle.law_typing.specs.Depths.{start_depth, depth_within, program_depth, property_depth, depth_at, channel_depth}
-use Rattle.law_typing.specs.Accepted.{Each}
+use Rattle.law_typing.specs.Graph.Tables.{Table, entry, Tables, of_program, greatest}
+use Rattle.law_typing.specs.Graph.Ranks.{running_at}
+use Rattle.law_typing.specs.Graph.Costs.{other_end, with_other, node_cost, starts_cost, path_costs, program_cost, block_cost, programs_cost, channel_cost}
+use Rattle.law_typing.specs.Graph.Depths.{start_depth, depth_within, program_depth, property_depth, depth_at, channel_depth}
+use Rattle.law_typing.specs.Verdict.Accepted.{Each}
 use Rattle.law_typing.specs.Laws.{IsIn}
-use Rattle.law_typing.specs.CostLaws.{CostsSolved, DepthsSolved, EmissionsCover, PairsCover, StartsCover, CodeCovers, BlocksCover, SetsCover, EmitsCover, DepthsCover}
+use Rattle.law_typing.specs.Laws.Costs.{CostsSolved, DepthsSolved, EmissionsCover, PairsCover, StartsCover, CodeCovers, BlocksCover, SetsCover, EmitsCover, DepthsCover}
 use Rattle.law_typing.proofs.Lists.{filter_in, greatest_in, total_in}
 
 -- ** the equations, one by one

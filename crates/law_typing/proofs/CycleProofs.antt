@@ -4,11 +4,11 @@ use Rattle.std.specs.Prelude.{eqb, ◌≢◌, nat_eq, ◌&&◌}
 use Rattle.std.specs.List.{filter}
 use Rattle.std.proofs.lemmas.Bool.{eq-eqb, and_from, and_cases}
 use Rattle.std.proofs.lemmas.Bool.Decides.{eqb_tells}
-use Rattle.law_typing.specs.Channels.{Channel, same_channel, Cause, Link}
-use Rattle.law_typing.specs.Channels as causes
+use Rattle.law_typing.specs.Graph.Channels.{Channel, same_channel, Cause, Link}
+use Rattle.law_typing.specs.Graph.Channels as causes
 use Rattle.law_typing.specs.Graph.{Graph}
-use Rattle.law_typing.specs.Tables.{Table, entry, greatest, same_table, goes_on, settled}
-use Rattle.law_typing.specs.Ranks.{Arrow, arrows, nodes, leads, above, rank_by, ranked, same_cause, is_edge, leads_to, is_cycle_of}
+use Rattle.law_typing.specs.Graph.Tables.{Table, entry, greatest, same_table, goes_on, settled}
+use Rattle.law_typing.specs.Graph.Ranks.{Arrow, arrows, nodes, leads, above, rank_by, ranked, same_cause, is_edge, leads_to, is_cycle_of}
 use Rattle.law_typing.specs.Laws.{IsIn, UnrankedHasCycle}
 use Rattle.law_typing.proofs.Lists.{same_channel_true, same_channel_refl, any_true, filter_in, each_in, entry_of}
 use Rattle.law_typing.proofs.RankProofs.{begins}

@@ -4,20 +4,23 @@ use Rattle.std.specs.Prelude.{◌&&◌, nat_lt}
 use Rattle.std.specs.List.{filter, filter_map, flat_map}
 use Rattle.std.proofs.lemmas.Bool.{ltb-true}
 use Rattle.ui_machine.specs.Seq.{read}
-use Rattle.ui_machine.specs.Properties.{Spec, is_readable}
-use Rattle.ui_machine.specs.Definition.{Definition, Signal, Instruction, Block, Program, Place}
-use Rattle.ui_machine.specs.Definition as words
-use Rattle.ui_machine.specs.Builds.{constructed_runs}
-use Rattle.ui_machine.specs.Lookups.{class_of, specs_of, place_at, place_of, slot_of}
-use Rattle.ui_machine.specs.Connections.{signal_number}
-use Rattle.law_typing.specs.RegisterKinds.{Kinds, kind_in, class_at, place_numbers, places}
-use Rattle.law_typing.specs.Typing.{after}
-use Rattle.law_typing.specs.Channels.{Channel, constructed, property, signal, same_channel, of_class, constructed_at, spec_if, spec_at, is_readable_one, signals_at, readable_from, signals_from, emitted_at, is_filled, channels_at, channels, is_channel, present}
-use Rattle.law_typing.specs.Channels as causes
+use Rattle.ui_machine.specs.Definition.Properties.{Spec, is_readable}
+use Rattle.ui_machine.specs.Definition.{Definition}
+use Rattle.ui_machine.specs.Definition.Signals.{Signal}
+use Rattle.ui_machine.specs.Definition.Programs.{Instruction, Block, Program}
+use Rattle.ui_machine.specs.Definition.Places.{Place}
+use Rattle.ui_machine.specs.Definition.Programs as words
+use Rattle.ui_machine.specs.Rules.Construction.{constructed_runs}
+use Rattle.ui_machine.specs.Definition.Lookups.{class_of, specs_of, place_at, place_of, slot_of}
+use Rattle.ui_machine.specs.Rules.Connections.{signal_number}
+use Rattle.law_typing.specs.Rules.RegisterKinds.{Kinds, kind_in, class_at, place_numbers, places}
+use Rattle.law_typing.specs.Rules.Typing.{after}
+use Rattle.law_typing.specs.Graph.Channels.{Channel, constructed, property, signal, same_channel, of_class, constructed_at, spec_if, spec_at, is_readable_one, signals_at, readable_from, signals_from, emitted_at, is_filled, channels_at, channels, is_channel, present}
+use Rattle.law_typing.specs.Graph.Channels as causes
 use Rattle.law_typing.specs.Graph.{Raised, Stretch, graph, raised_at, set_from, makings_from, making_of, channel_over, over, start_of, starts_of, stretch_of, stretches_of, connections}
-use Rattle.law_typing.specs.Sites.{sites}
-use Rattle.law_typing.specs.Ranks.{Arrow, arrow, arrows, arrows_by, arrows_from, is_raised, node, nodes, running_at, started, started_by}
-use Rattle.law_typing.specs.Accepted.{Each}
+use Rattle.law_typing.specs.Rules.Sites.{sites}
+use Rattle.law_typing.specs.Graph.Ranks.{Arrow, arrow, arrows, arrows_by, arrows_from, is_raised, node, nodes, running_at, started, started_by}
+use Rattle.law_typing.specs.Verdict.Accepted.{Each}
 use Rattle.law_typing.specs.Laws.{IsIn, EdgesLeadToNodes}
 use Rattle.law_typing.proofs.Lists.{both_parts, same_channel_true, same_channel_refl, map_in, any_in, any_true, each_in, each_append, each_flat}
 use Rattle.law_typing.proofs.CostProofs.{listed_in, place_below}

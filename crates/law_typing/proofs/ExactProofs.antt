@@ -4,23 +4,21 @@ use Rattle.std.specs.Prelude.{nat_lt}
 use Rattle.std.specs.List.{find}
 use Rattle.std.proofs.lemmas.Bool.{le-ltb}
 use Rattle.ui_machine.specs.Definition.{Definition}
-use Rattle.law_typing.specs.Channels.{Entry}
-use Rattle.law_typing.specs.Sites.{typing_faults}
-use Rattle.law_typing.specs.Handlers.{handler_faults}
-use Rattle.law_typing.specs.BindingRules.{binding_faults, pair_faults}
-use Rattle.law_typing.specs.Brackets.{freeze_faults, bracket_faults}
+use Rattle.law_typing.specs.Graph.Channels.{Entry, Link}
+use Rattle.law_typing.specs.Rules.Sites.{typing_faults}
+use Rattle.law_typing.specs.Rules.Handlers.{handler_faults}
+use Rattle.law_typing.specs.Rules.BindingRules.{binding_faults, pair_faults}
+use Rattle.law_typing.specs.Rules.Brackets.{freeze_faults, bracket_faults}
 use Rattle.law_typing.specs.Graph.{Graph, graph}
-use Rattle.law_typing.specs.Tables.{Table, Tables}
-use Rattle.law_typing.specs.Ranks.{ranks, IsRanking}
-use Rattle.law_typing.specs.Costs.{SolvesCosts, costs, no_tables, bound, program_cost, channel_cost}
-use Rattle.law_typing.specs.Depths.{SolvesDepths, depths, program_depth, channel_depth}
-use Rattle.law_typing.specs.Report.{report}
+use Rattle.law_typing.specs.Graph.Tables.{Table, Tables}
+use Rattle.law_typing.specs.Graph.Ranks.{ranks, IsRanking, is_cycle}
+use Rattle.law_typing.specs.Graph.Costs.{SolvesCosts, costs, no_tables, bound, program_cost, channel_cost}
+use Rattle.law_typing.specs.Graph.Depths.{SolvesDepths, depths, program_depth, channel_depth}
+use Rattle.law_typing.specs.Verdict.Report.{report}
 use Rattle.law_typing.specs.Verdict.{accepted, local_faults, most_bound, told, too_large, unless_too_large, by_tables, by_ranks, by_graph, by_faults, has_cycle}
-use Rattle.law_typing.specs.Accepted.{Each, Accepted}
-use Rattle.law_typing.specs.OneSolution.{IsPaired}
-use Rattle.law_typing.specs.Faults.{Fault}
-use Rattle.law_typing.specs.Channels.{Link}
-use Rattle.law_typing.specs.Ranks.{is_cycle}
+use Rattle.law_typing.specs.Verdict.Accepted.{Each, Accepted}
+use Rattle.law_typing.specs.Laws.OneSolution.{IsPaired}
+use Rattle.law_typing.specs.Rules.Faults.{Fault}
 use Rattle.law_typing.specs.Laws.{AcceptedIsJudged, CycleIsReal}
 use Rattle.law_typing.proofs.Lists.{both_empty}
 use Rattle.law_typing.proofs.SettledProofs.{ranks_are, costs_are, depths_are}

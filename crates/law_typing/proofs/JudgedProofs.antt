@@ -4,21 +4,21 @@ use Rattle.std.specs.Prelude.{nat_lt}
 use Rattle.std.specs.List.{find}
 use Rattle.std.proofs.lemmas.Bool.{ltb-false}
 use Rattle.ui_machine.specs.Definition.{Definition}
-use Rattle.law_typing.specs.Channels.{Entry}
-use Rattle.law_typing.specs.Faults.{Fault}
-use Rattle.law_typing.specs.Sites.{typing_faults}
-use Rattle.law_typing.specs.Handlers.{handler_faults}
-use Rattle.law_typing.specs.BindingRules.{binding_faults, pair_faults}
-use Rattle.law_typing.specs.Brackets.{freeze_faults, bracket_faults}
+use Rattle.law_typing.specs.Graph.Channels.{Entry}
+use Rattle.law_typing.specs.Rules.Faults.{Fault}
+use Rattle.law_typing.specs.Rules.Sites.{typing_faults}
+use Rattle.law_typing.specs.Rules.Handlers.{handler_faults}
+use Rattle.law_typing.specs.Rules.BindingRules.{binding_faults, pair_faults}
+use Rattle.law_typing.specs.Rules.Brackets.{freeze_faults, bracket_faults}
 use Rattle.law_typing.specs.Graph.{Graph, graph}
-use Rattle.law_typing.specs.Tables.{Table, Tables}
-use Rattle.law_typing.specs.Ranks.{ranks}
-use Rattle.law_typing.specs.Costs.{costs, bound}
-use Rattle.law_typing.specs.Depths.{depths}
-use Rattle.law_typing.specs.Inherits.{inherits}
-use Rattle.law_typing.specs.Report.{report}
+use Rattle.law_typing.specs.Graph.Tables.{Table, Tables}
+use Rattle.law_typing.specs.Graph.Ranks.{ranks}
+use Rattle.law_typing.specs.Graph.Costs.{costs, bound}
+use Rattle.law_typing.specs.Graph.Depths.{depths}
+use Rattle.law_typing.specs.Verdict.Inherits.{inherits}
+use Rattle.law_typing.specs.Verdict.Report.{report}
 use Rattle.law_typing.specs.Verdict.{Verdict, accepted, local_faults, most_bound, told, too_large, unless_too_large, by_tables, by_ranks, by_graph, by_faults}
-use Rattle.law_typing.specs.Accepted.{Each, Weighed}
+use Rattle.law_typing.specs.Verdict.Accepted.{Each, Weighed}
 use Rattle.law_typing.specs.Laws.{JudgedIsAccepted}
 use Rattle.law_typing.proofs.Lists.{both_empty}
 use Rattle.law_typing.proofs.RankProofs.{ranked_is_acyclic}

@@ -1,14 +1,14 @@
 -- The judgements compute.
 use Rattle.std.proofs.Common.{refl}
-use Rattle.law_typing.specs.Typing.{data_in, passing, two_numbers, two_passing, moving, reckoning, comparing, sameness, negating, combining, joining, converting, property_of, getting, changing_none, assigning, place_for, naming, adopting, arguments, emitting, program_named, connecting, on_handlers, attaching, methods_for, method_named, calling, entering, branching, branching_null, returning}
-use Rattle.law_typing.specs.SetConstructOnly as setconstructonly_case
-use Rattle.law_typing.specs.UnfitHandler as unfithandler_case
-use Rattle.law_typing.specs.UnfitBinding as unfitbinding_case
-use Rattle.law_typing.specs.SecondPair as secondpair_case
-use Rattle.law_typing.specs.FrozenPair as frozenpair_case
-use Rattle.law_typing.specs.OpenFreeze as openfreeze_case
-use Rattle.law_typing.specs.LabelCycle as labelcycle_case
-use Rattle.law_typing.specs.TooLarge as toolarge_case
+use Rattle.law_typing.specs.Rules.Typing.{data_in, passing, two_numbers, two_passing, moving, reckoning, comparing, sameness, negating, combining, joining, converting, property_of, getting, changing_none, assigning, place_for, naming, adopting, arguments, emitting, program_named, connecting, on_handlers, attaching, methods_for, method_named, calling, entering, branching, branching_null, returning}
+use Rattle.law_typing.specs.Examples.SetConstructOnly as setconstructonly_case
+use Rattle.law_typing.specs.Examples.UnfitHandler as unfithandler_case
+use Rattle.law_typing.specs.Examples.UnfitBinding as unfitbinding_case
+use Rattle.law_typing.specs.Examples.SecondPair as secondpair_case
+use Rattle.law_typing.specs.Examples.FrozenPair as frozenpair_case
+use Rattle.law_typing.specs.Examples.OpenFreeze as openfreeze_case
+use Rattle.law_typing.specs.Examples.LabelCycle as labelcycle_case
+use Rattle.law_typing.specs.Examples.TooLarge as toolarge_case
 
 pub setconstructonly_holds : setconstructonly_case.Holds
 unfolding data_in passing two_numbers two_passing moving reckoning comparing sameness negating combining joining converting property_of getting changing_none assigning place_for naming adopting arguments emitting program_named connecting on_handlers attaching methods_for method_named calling entering branching branching_null returning

@@ -1,19 +1,19 @@
 -- The judgements compute.
 use Rattle.std.proofs.Common.{refl}
-use Rattle.law_typing.specs.Typing.{data_in, passing, two_numbers, two_passing, moving, reckoning, comparing, sameness, negating, combining, joining, converting, property_of, getting, changing_none, assigning, place_for, naming, adopting, arguments, emitting, program_named, connecting, on_handlers, attaching, methods_for, method_named, calling, entering, branching, branching_null, returning}
-use Rattle.law_typing.specs.FirstRun as firstrun_case
-use Rattle.law_typing.specs.NothingToDo as nothingtodo_case
-use Rattle.law_typing.specs.Freezes as freezes_case
-use Rattle.law_typing.specs.Pair as pair_case
-use Rattle.law_typing.specs.Labels as labels_case
-use Rattle.law_typing.specs.Floating as floating_case
-use Rattle.law_typing.specs.LastReference as lastreference_case
-use Rattle.law_typing.specs.MainLoop as mainloop_case
-use Rattle.law_typing.specs.LabelChain as labelchain_case
-use Rattle.law_typing.specs.Stickers as stickers_case
-use Rattle.law_typing.specs.ClassHandlers as classhandlers_case
-use Rattle.law_typing.specs.Chain as chain_case
-use Rattle.law_typing.specs.Knobs as knobs_case
+use Rattle.law_typing.specs.Rules.Typing.{data_in, passing, two_numbers, two_passing, moving, reckoning, comparing, sameness, negating, combining, joining, converting, property_of, getting, changing_none, assigning, place_for, naming, adopting, arguments, emitting, program_named, connecting, on_handlers, attaching, methods_for, method_named, calling, entering, branching, branching_null, returning}
+use Rattle.law_typing.specs.Examples.FirstRun as firstrun_case
+use Rattle.law_typing.specs.Examples.NothingToDo as nothingtodo_case
+use Rattle.law_typing.specs.Examples.Freezes as freezes_case
+use Rattle.law_typing.specs.Examples.Pair as pair_case
+use Rattle.law_typing.specs.Examples.Labels as labels_case
+use Rattle.law_typing.specs.Examples.Floating as floating_case
+use Rattle.law_typing.specs.Examples.LastReference as lastreference_case
+use Rattle.law_typing.specs.Examples.MainLoop as mainloop_case
+use Rattle.law_typing.specs.Examples.LabelChain as labelchain_case
+use Rattle.law_typing.specs.Examples.LabelsRenamed as stickers_case
+use Rattle.law_typing.specs.Examples.ClassHandlers as classhandlers_case
+use Rattle.law_typing.specs.Examples.Chain as chain_case
+use Rattle.law_typing.specs.Examples.AllParts as knobs_case
 
 pub firstrun_holds : firstrun_case.Holds
 unfolding data_in passing two_numbers two_passing moving reckoning comparing sameness negating combining joining converting property_of getting changing_none assigning place_for naming adopting arguments emitting program_named connecting on_handlers attaching methods_for method_named calling entering branching branching_null returning

@@ -1,7 +1,7 @@
 -- The knobs are accepted.
 use Rattle.std.proofs.Common.{refl}
-use Rattle.law_typing.specs.Accepted.{Accepted}
-use Rattle.law_typing.specs.Knobs.{definition, lines}
+use Rattle.law_typing.specs.Verdict.Accepted.{Accepted}
+use Rattle.law_typing.specs.Examples.AllParts.{definition, lines}
 use Rattle.law_typing.proofs.JudgedRows.{knobs_holds}
 use Rattle.law_typing.proofs.JudgedProofs.{judged_is_accepted}
 

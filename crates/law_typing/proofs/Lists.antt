@@ -4,9 +4,9 @@ use Rattle.std.specs.Prelude.{◌&&◌, ◌||◌, nat_eq}
 use Rattle.std.specs.List.{filter, flat_map, list_any}
 use Rattle.std.proofs.lemmas.Bool.{eqb-true, eq-eqb, or_left, or_right}
 use Rattle.ui_machine.specs.Seq.{total}
-use Rattle.law_typing.specs.Channels.{Channel, constructed, property, signal, same_channel}
-use Rattle.law_typing.specs.Tables.{entry, greatest}
-use Rattle.law_typing.specs.Accepted.{Each}
+use Rattle.law_typing.specs.Graph.Channels.{Channel, constructed, property, signal, same_channel}
+use Rattle.law_typing.specs.Graph.Tables.{entry, greatest}
+use Rattle.law_typing.specs.Verdict.Accepted.{Each}
 use Rattle.law_typing.specs.Laws.{IsIn}
 
 -- ** truth

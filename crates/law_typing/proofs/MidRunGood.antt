@@ -2,27 +2,30 @@
 use Rattle.std.proofs.Common.{◌≡◌, refl, sym, subst, ℕ, zero, suc, true, List, [], ◌∷◌, Option, None, Some, slice_get, arith}
 use Rattle.std.specs.Prelude.{⊤}
 use Rattle.std.proofs.lemmas.Bool.{leb-true}
-use Rattle.ui_machine.specs.Values.{Value}
-use Rattle.ui_machine.specs.Kinds as kinds
-use Rattle.ui_machine.specs.Properties.{Spec}
-use Rattle.ui_machine.specs.Definition.{Definition, Place}
-use Rattle.ui_machine.specs.Config.{Object, Objects, Held, built, Peer}
-use Rattle.ui_machine.specs.Lookups.{spec_of}
-use Rattle.ui_machine.specs.Objects as heap
-use Rattle.law_typing.specs.Typing.{data_in, passing, two_numbers, two_passing, moving, reckoning, comparing, sameness, negating, combining, joining, converting, property_of, getting, changing_none, assigning, place_for, naming, adopting, arguments, emitting, program_named, connecting, on_handlers, attaching, methods_for, method_named, calling, entering, branching, branching_null, returning}
-use Rattle.law_typing.specs.Brackets.{is_empty}
+use Rattle.ui_machine.specs.Definition.Values.{Value}
+use Rattle.ui_machine.specs.Definition.Kinds as kinds
+use Rattle.ui_machine.specs.Definition.Properties.{Spec}
+use Rattle.ui_machine.specs.Definition.{Definition}
+use Rattle.ui_machine.specs.Definition.Places.{Place}
+use Rattle.ui_machine.specs.State.Objects.{Object, Objects}
+use Rattle.ui_machine.specs.State.Config.{Held, built}
+use Rattle.ui_machine.specs.State.Peers.{Peer}
+use Rattle.ui_machine.specs.Definition.Lookups.{spec_of}
+use Rattle.ui_machine.specs.State.Objects as heap
+use Rattle.law_typing.specs.Rules.Typing.{data_in, passing, two_numbers, two_passing, moving, reckoning, comparing, sameness, negating, combining, joining, converting, property_of, getting, changing_none, assigning, place_for, naming, adopting, arguments, emitting, program_named, connecting, on_handlers, attaching, methods_for, method_named, calling, entering, branching, branching_null, returning}
+use Rattle.law_typing.specs.Rules.Brackets.{is_empty}
 use Rattle.law_typing.specs.Graph.{Raised, graph, place_of_channel}
-use Rattle.law_typing.specs.Accepted.{Each}
-use Rattle.law_typing.specs.Standing.{Standing, standing, RegistersFit}
-use Rattle.law_typing.specs.ObjectsGood.{ValueGood, ObjectGood, PoolGood, PeersGood}
-use Rattle.law_typing.specs.HandlersGood.{ChannelGood}
-use Rattle.law_typing.specs.BindingsGood.{HeldGood}
-use Rattle.law_typing.specs.FreezesGood.{QueueGood}
+use Rattle.law_typing.specs.Verdict.Accepted.{Each}
+use Rattle.law_typing.specs.Good.Standing.{Standing, standing, RegistersFit}
+use Rattle.law_typing.specs.Good.Objects.{ValueGood, ObjectGood, PoolGood, PeersGood}
+use Rattle.law_typing.specs.Good.Handlers.{ChannelGood}
+use Rattle.law_typing.specs.Good.Bindings.{HeldGood}
+use Rattle.law_typing.specs.Good.Freezes.{QueueGood}
 use Rattle.law_typing.specs.Good.{Good}
-use Rattle.law_typing.specs.FirstRun as first_run
-use Rattle.law_typing.specs.Freezes as freezes
-use Rattle.law_typing.specs.Beginnings.{costs_of, depths_of}
-use Rattle.law_typing.specs.MidRun as case
+use Rattle.law_typing.specs.Examples.FirstRun as first_run
+use Rattle.law_typing.specs.Examples.Freezes as freezes
+use Rattle.law_typing.specs.Laws.Beginnings.{costs_of, depths_of}
+use Rattle.law_typing.specs.Laws.MidRun as case
 use Rattle.law_typing.proofs.Numbered.{all_from, all_from_get}
 
 -- the value of a slot, if it has a spec

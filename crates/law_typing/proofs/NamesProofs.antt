@@ -1,11 +1,11 @@
 -- Names do not count.
 use Rattle.std.proofs.Common.{refl, ap}
-use Rattle.law_typing.specs.Typing.{data_in, passing, two_numbers, two_passing, moving, reckoning, comparing, sameness, negating, combining, joining, converting, property_of, getting, changing_none, assigning, place_for, naming, adopting, arguments, emitting, program_named, connecting, on_handlers, attaching, methods_for, method_named, calling, entering, branching, branching_null, returning}
-use Rattle.law_typing.specs.Ranks.{ranks}
-use Rattle.law_typing.specs.Costs.{costs, bound}
-use Rattle.law_typing.specs.Depths.{depths}
+use Rattle.law_typing.specs.Rules.Typing.{data_in, passing, two_numbers, two_passing, moving, reckoning, comparing, sameness, negating, combining, joining, converting, property_of, getting, changing_none, assigning, place_for, naming, adopting, arguments, emitting, program_named, connecting, on_handlers, attaching, methods_for, method_named, calling, entering, branching, branching_null, returning}
+use Rattle.law_typing.specs.Graph.Ranks.{ranks}
+use Rattle.law_typing.specs.Graph.Costs.{costs, bound}
+use Rattle.law_typing.specs.Graph.Depths.{depths}
 use Rattle.law_typing.specs.Laws.{NamesDoNotCount}
-use Rattle.law_typing.specs.NamesLaw.{OneGraph}
+use Rattle.law_typing.specs.Laws.Names.{OneGraph}
 
 pub names_do_not_count : NamesDoNotCount
 names_do_not_count d e same = (ap ranks same, ap costs same, ap depths same, λ t at. ap (λ g. bound g t at) same)

@@ -1,11 +1,11 @@
 -- Neither is good.
 use Rattle.std.proofs.Common.{◌≡◌, sym, subst, ap, ◌∙◌, ℕ, zero, true, List, [], ◌∷◌, Option, None, Some, slice_get}
-use Rattle.ui_machine.specs.Kinds as kinds
-use Rattle.ui_machine.specs.Values as values
-use Rattle.ui_machine.specs.Definition.{Block, Program}
-use Rattle.law_typing.specs.RegisterKinds.{Kinds, kind_in}
-use Rattle.law_typing.specs.Standing.{standing, holds}
-use Rattle.law_typing.specs.NotGood.{definition, two, NotGood}
+use Rattle.ui_machine.specs.Definition.Kinds as kinds
+use Rattle.ui_machine.specs.Definition.Values as values
+use Rattle.ui_machine.specs.Definition.Programs.{Block, Program}
+use Rattle.law_typing.specs.Rules.RegisterKinds.{Kinds, kind_in}
+use Rattle.law_typing.specs.Good.Standing.{standing, holds}
+use Rattle.law_typing.specs.Laws.NotGood.{definition, two, NotGood}
 
 abbrev registers_of : Option Program → ℕ
 registers_of None = 0

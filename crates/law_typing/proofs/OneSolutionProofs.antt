@@ -2,15 +2,15 @@
 use Rattle.std.proofs.Common.{◌≡◌, inl, inr, refl, sym, ap, subst, ◌∙◌, ℕ, zero, suc, ◌+◌, ◌-◌, ◌≤◌, ◌<◌, Bool, true, false, cond, List, [], ◌∷◌, ◌++◌, map, Option, None, Some, arith}
 use Rattle.std.specs.List.{filter, flat_map, find}
 use Rattle.ui_machine.specs.Seq.{read, total}
-use Rattle.law_typing.specs.Channels.{Channel, constructed, property, signal, same_channel}
-use Rattle.law_typing.specs.Channels as causes
+use Rattle.law_typing.specs.Graph.Channels.{Channel, constructed, property, signal, same_channel}
+use Rattle.law_typing.specs.Graph.Channels as causes
 use Rattle.law_typing.specs.Graph.{Graph, Raised, Start, nothing, raises, makes, Stretch}
-use Rattle.law_typing.specs.Tables.{Table, entry, Tables, of_program, greatest}
-use Rattle.law_typing.specs.Ranks.{Arrow, arrow, arrows, arrows_by, arrows_from, is_raised, node, nodes, running_at, started, started_by, above, rank_by, IsRanking}
-use Rattle.law_typing.specs.Costs.{other_end, with_other, node_cost, start_cost, starts_cost, path_costs, program_cost, programs_cost, emission_cost, cost_at, channel_cost}
-use Rattle.law_typing.specs.Depths.{deepest, raised_of, start_depth, program_depth, depth_within, depth_within_if, property_depth, depth_at, channel_depth}
+use Rattle.law_typing.specs.Graph.Tables.{Table, entry, Tables, of_program, greatest}
+use Rattle.law_typing.specs.Graph.Ranks.{Arrow, arrow, arrows, arrows_by, arrows_from, is_raised, node, nodes, running_at, started, started_by, above, rank_by, IsRanking}
+use Rattle.law_typing.specs.Graph.Costs.{other_end, with_other, node_cost, start_cost, starts_cost, path_costs, program_cost, programs_cost, emission_cost, cost_at, channel_cost}
+use Rattle.law_typing.specs.Graph.Depths.{deepest, raised_of, start_depth, program_depth, depth_within, depth_within_if, property_depth, depth_at, channel_depth}
 use Rattle.law_typing.specs.Laws.{IsIn}
-use Rattle.law_typing.specs.OneSolution.{IsPaired, OneRanking, OneCost, OneDepth}
+use Rattle.law_typing.specs.Laws.OneSolution.{IsPaired, OneRanking, OneCost, OneDepth}
 use Rattle.law_typing.proofs.Lists.{same_channel_true, same_channel_refl, any_true, map_in, filter_in, each_in, entry_of}
 use Rattle.law_typing.proofs.RankProofs.{ranks_rise, begins}
 use Rattle.law_typing.proofs.EdgeProofs.{append_left, append_right, flat_in}

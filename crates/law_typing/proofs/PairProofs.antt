@@ -3,19 +3,20 @@ use Rattle.std.proofs.Common.{◌≡◌, inl, inr, refl, sym, ap, subst, ◌∙�
 use Rattle.std.specs.Prelude.{not, ◌&&◌, ◌||◌}
 use Rattle.std.specs.List.{filter, list_any}
 use Rattle.std.proofs.lemmas.Bool.{or_parts}
-use Rattle.ui_machine.specs.Properties.{Spec, has_flags, is_readable, is_writable, is_construct_only}
-use Rattle.ui_machine.specs.Transform.{is_transformable}
-use Rattle.ui_machine.specs.Definition.{Definition, Bind}
-use Rattle.law_typing.specs.Channels.{Channel, same_channel, spec_at, is_readable_one, is_channel, is_pair, source_of, target_of}
-use Rattle.law_typing.specs.Faults.{BindingWord, Fault}
-use Rattle.law_typing.specs.Faults as words
-use Rattle.law_typing.specs.BindingRules.{or_word, first_word, is_invertible, word_between, word_of, fault_of, faults_from, shares_end, is_second, second_from, binding_faults, pair_faults}
+use Rattle.ui_machine.specs.Definition.Properties.{Spec, has_flags, is_readable, is_writable, is_construct_only}
+use Rattle.ui_machine.specs.Rules.Transform.{is_transformable}
+use Rattle.ui_machine.specs.Definition.{Definition}
+use Rattle.ui_machine.specs.Definition.Places.{Bind}
+use Rattle.law_typing.specs.Graph.Channels.{Channel, same_channel, spec_at, is_readable_one, is_channel, is_pair, source_of, target_of}
+use Rattle.law_typing.specs.Rules.Faults.{BindingWord, Fault}
+use Rattle.law_typing.specs.Rules.Faults as words
+use Rattle.law_typing.specs.Rules.BindingRules.{or_word, first_word, is_invertible, word_between, word_of, fault_of, faults_from, shares_end, is_second, second_from, binding_faults, pair_faults}
 use Rattle.law_typing.specs.Graph.{graph, is_before, in_order, pairs_of}
-use Rattle.law_typing.specs.Ranks.{node_in}
-use Rattle.law_typing.specs.Costs.{other_end_in}
-use Rattle.law_typing.specs.Accepted.{Each}
+use Rattle.law_typing.specs.Graph.Ranks.{node_in}
+use Rattle.law_typing.specs.Graph.Costs.{other_end_in}
+use Rattle.law_typing.specs.Verdict.Accepted.{Each}
 use Rattle.law_typing.specs.Laws.{IsIn}
-use Rattle.law_typing.specs.OneSolution.{IsPaired, AcceptedIsPaired, AcceptedOnce}
+use Rattle.law_typing.specs.Laws.OneSolution.{IsPaired, AcceptedIsPaired, AcceptedOnce}
 use Rattle.law_typing.proofs.Lists.{same_channel_true, same_channel_refl, both_empty}
 use Rattle.law_typing.proofs.EdgeProofs.{channel_is_raised}
 use Rattle.law_typing.proofs.OneSolutionProofs.{one_ranking, one_cost, one_depth}

@@ -3,12 +3,12 @@ use Rattle.std.proofs.Common.{◌≡◌, sym, ap, subst, ◌∙◌, ◌<◌, tru
 use Rattle.std.specs.Prelude.{◌&&◌}
 use Rattle.std.specs.List.{filter, flat_map}
 use Rattle.std.proofs.lemmas.Bool.{false_from_ne_true}
-use Rattle.law_typing.specs.Channels.{Channel, same_channel, Cause, Link}
-use Rattle.law_typing.specs.Channels as causes
+use Rattle.law_typing.specs.Graph.Channels.{Channel, same_channel, Cause, Link}
+use Rattle.law_typing.specs.Graph.Channels as causes
 use Rattle.law_typing.specs.Graph.{Graph, Raised}
-use Rattle.law_typing.specs.Tables.{Table, entry}
-use Rattle.law_typing.specs.Ranks.{Arrow, arrow, arrows, arrows_by, arrows_from, is_raised, node, nodes, running_at, started_by, above, rank_by, same_cause, is_edge, leads_to, is_cycle, IsRanking}
-use Rattle.law_typing.specs.Accepted.{Each}
+use Rattle.law_typing.specs.Graph.Tables.{Table, entry}
+use Rattle.law_typing.specs.Graph.Ranks.{Arrow, arrow, arrows, arrows_by, arrows_from, is_raised, node, nodes, running_at, started_by, above, rank_by, same_cause, is_edge, leads_to, is_cycle, IsRanking}
+use Rattle.law_typing.specs.Verdict.Accepted.{Each}
 use Rattle.law_typing.specs.Laws.{IsIn, RanksRise, RankedIsAcyclic}
 use Rattle.law_typing.proofs.Lists.{both_parts, same_channel_true, same_channel_refl, map_in, filter_in, any_in, each_in, each_append, each_map, each_flat, greatest_in, entry_of}
 

@@ -1,26 +1,28 @@
 -- Tests of whether a definition is well read. They compute, so that each worked definition is found to be.
 use Rattle.std.specs.Prelude.{ℕ, ◌^◌, Bool, true, false, cond, not, ◌&&◌, nat_eq, nat_lt, nat_le, List, [], ◌∷◌, length, map, codes, Option, None, Some, slice_get, is_none}
 use Rattle.std.specs.List.{list_all, flat_map}
-use Rattle.ui_machine.specs.Names.{same_name}
-use Rattle.ui_machine.specs.Kinds.{Kind, RegisterKind}
-use Rattle.ui_machine.specs.Kinds as kinds
-use Rattle.ui_machine.specs.Types as sorts
-use Rattle.ui_machine.specs.Types.{Sort, GType}
-use Rattle.ui_machine.specs.Transform.{same_kind, kind_fits}
-use Rattle.ui_machine.specs.Ancestry.{is_a, lineage, implemented_by}
-use Rattle.ui_machine.specs.Clamp.{is_valid}
-use Rattle.ui_machine.specs.Properties.{Spec, is_writable, is_construct, is_construct_only}
-use Rattle.ui_machine.specs.Definition.{Definition, Class, Signal, Instruction, Block, Program, Given, value, named, GivenProperty, Attached, Place, Bind}
-use Rattle.ui_machine.specs.Definition as words
-use Rattle.ui_machine.specs.Lookups.{type_of, spec_of, place_at}
-use Rattle.ui_machine.specs.Emissions.{signal_of}
-use Rattle.ui_machine.specs.Builds.{is_forward}
-use Rattle.ui_machine.specs.Calls.{has_shape}
-use Rattle.law_typing.specs.RegisterKinds.{Kinds}
-use Rattle.law_typing.specs.Brackets.{written, is_empty}
+use Rattle.ui_machine.specs.Definition.Names.{same_name}
+use Rattle.ui_machine.specs.Definition.Kinds.{Kind, RegisterKind}
+use Rattle.ui_machine.specs.Definition.Kinds as kinds
+use Rattle.ui_machine.specs.Definition.Types as sorts
+use Rattle.ui_machine.specs.Definition.Types.{Sort, GType}
+use Rattle.ui_machine.specs.Rules.Transform.{same_kind, kind_fits}
+use Rattle.ui_machine.specs.Rules.Ancestry.{is_a, lineage, implemented_by}
+use Rattle.ui_machine.specs.Rules.Validation.{is_valid}
+use Rattle.ui_machine.specs.Definition.Properties.{Spec, is_writable, is_construct, is_construct_only}
+use Rattle.ui_machine.specs.Definition.{Definition, Class}
+use Rattle.ui_machine.specs.Definition.Signals.{Signal}
+use Rattle.ui_machine.specs.Definition.Programs.{Instruction, Block, Program}
+use Rattle.ui_machine.specs.Definition.Places.{Given, value, named, GivenProperty, Attached, Place, Bind}
+use Rattle.ui_machine.specs.Definition.Programs as words
+use Rattle.ui_machine.specs.Definition.Lookups.{type_of, spec_of, place_at}
+use Rattle.ui_machine.specs.Rules.EmissionPlan.{signal_of}
+use Rattle.ui_machine.specs.Rules.Construction.{is_forward, has_shape}
+use Rattle.law_typing.specs.Rules.RegisterKinds.{Kinds}
+use Rattle.law_typing.specs.Rules.Brackets.{written, is_empty}
 use Rattle.law_typing.specs.Graph.{next_of}
-use Rattle.law_typing.specs.Inherits.{inherits}
-use Rattle.law_typing.specs.WellRead.{no_class_of, no_two, is_range, has_values, result_has_values, ends, is_plain, objects_of}
+use Rattle.law_typing.specs.Verdict.Inherits.{inherits}
+use Rattle.law_typing.specs.Laws.WellRead.{no_class_of, no_two, is_range, has_values, result_has_values, ends, is_plain, objects_of}
 use Rattle.law_typing.proofs.Numbered.{all_from}
 
 -- b holds wherever a does

@@ -1,23 +1,24 @@
 -- What is good is within the bound and the depth, a dispatch that has ended is at rest, and a turn leaves that as it is.
 use Rattle.std.proofs.Common.{◌≡◌, subst, ℕ, ◌+◌, ◌≤◌, List, [], ◌∷◌, length, Option, None, arith}
-use Rattle.ui_machine.specs.Values.{Value}
+use Rattle.ui_machine.specs.Definition.Values.{Value}
 use Rattle.ui_machine.specs.Seq.{total}
 use Rattle.ui_machine.specs.Definition.{Definition}
-use Rattle.ui_machine.specs.Config.{Task, Emitting, Running, Constructing, World, Config}
-use Rattle.ui_machine.specs.Builds.{to_make}
-use Rattle.ui_machine.specs.Objects.{live}
+use Rattle.ui_machine.specs.State.Tasks.{Task, Emitting, Running, Constructing}
+use Rattle.ui_machine.specs.State.Config.{World, Config}
+use Rattle.ui_machine.specs.Rules.Build.{to_make}
+use Rattle.ui_machine.specs.State.Objects.{live}
 use Rattle.ui_machine.specs.Runs.{HasEnded}
-use Rattle.law_typing.specs.Tables.{Tables}
-use Rattle.law_typing.specs.Standing.{View, standing}
-use Rattle.law_typing.specs.ObjectsGood.{PeersGood}
-use Rattle.law_typing.specs.HandlersGood.{HandlersGood}
-use Rattle.law_typing.specs.BindingsGood.{BindingsGood}
-use Rattle.law_typing.specs.BuildsGood.{is_for_builder, BuildGood}
-use Rattle.law_typing.specs.ComingDown.{Down}
-use Rattle.law_typing.specs.AgendaGood.{TaskGood, AgendaGood, is_frame, frames}
-use Rattle.law_typing.specs.FreezesGood.{frozen_by}
+use Rattle.law_typing.specs.Graph.Tables.{Tables}
+use Rattle.law_typing.specs.Good.Standing.{View, standing}
+use Rattle.law_typing.specs.Good.Objects.{PeersGood}
+use Rattle.law_typing.specs.Good.Handlers.{HandlersGood}
+use Rattle.law_typing.specs.Good.Bindings.{BindingsGood}
+use Rattle.law_typing.specs.Good.Builds.{is_for_builder, BuildGood}
+use Rattle.law_typing.specs.Good.ComingDown.{Down}
+use Rattle.law_typing.specs.Good.Agenda.{TaskGood, AgendaGood, is_frame, frames}
+use Rattle.law_typing.specs.Good.Freezes.{frozen_by}
 use Rattle.law_typing.specs.Good.{Good, Resting}
-use Rattle.law_typing.specs.StepsKeepGood.{GoodIsWithin, EndsRest, TurnsRest}
+use Rattle.law_typing.specs.Laws.StepsKeepGood.{GoodIsWithin, EndsRest, TurnsRest}
 
 -- ** bounds
 

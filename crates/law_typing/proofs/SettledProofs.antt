@@ -3,12 +3,12 @@ use Rattle.std.proofs.Common.{◌≡◌, refl, sym, ap, subst, ◌∙◌, ℕ, z
 use Rattle.std.specs.Prelude.{nat_eq}
 use Rattle.std.specs.List.{filter}
 use Rattle.std.proofs.lemmas.Bool.{eqb-true}
-use Rattle.law_typing.specs.Channels.{Channel}
+use Rattle.law_typing.specs.Graph.Channels.{Channel}
 use Rattle.law_typing.specs.Graph.{Graph, Raised}
-use Rattle.law_typing.specs.Tables.{Table, Tables, same_numbers, same_table, same_tables, goes_on, settled}
-use Rattle.law_typing.specs.Ranks.{Arrow, arrows, nodes, rank_by, ranked, leads, ranks_by, ranks, IsRanking}
-use Rattle.law_typing.specs.Costs.{SolvesCosts, costs, no_tables, channel_cost, program_cost}
-use Rattle.law_typing.specs.Depths.{SolvesDepths, depths, channel_depth, program_depth}
+use Rattle.law_typing.specs.Graph.Tables.{Table, Tables, same_numbers, same_table, same_tables, goes_on, settled}
+use Rattle.law_typing.specs.Graph.Ranks.{Arrow, arrows, nodes, rank_by, ranked, leads, ranks_by, ranks, IsRanking}
+use Rattle.law_typing.specs.Graph.Costs.{SolvesCosts, costs, no_tables, channel_cost, program_cost}
+use Rattle.law_typing.specs.Graph.Depths.{SolvesDepths, depths, channel_depth, program_depth}
 use Rattle.law_typing.proofs.Lists.{both_parts}
 
 -- ** what is settled

@@ -4,10 +4,10 @@ use Rattle.std.specs.Prelude.{min, eqb, ◌≢◌, nat_eq}
 use Rattle.std.specs.List.{filter}
 use Rattle.std.proofs.lemmas.Bool.{eq-eqb, and_from}
 use Rattle.std.proofs.lemmas.Bool.Decides.{eqb_tells}
-use Rattle.law_typing.specs.Channels.{Channel, same_channel}
+use Rattle.law_typing.specs.Graph.Channels.{Channel, same_channel}
 use Rattle.law_typing.specs.Graph.{Graph}
-use Rattle.law_typing.specs.Tables.{Table, entry, greatest, same_numbers, numbers_of, same_table, goes_on, settled}
-use Rattle.law_typing.specs.Ranks.{Arrow, arrows, nodes, leads, above, rank_by, ranked, ranks, IsRanking}
+use Rattle.law_typing.specs.Graph.Tables.{Table, entry, greatest, same_numbers, numbers_of, same_table, goes_on, settled}
+use Rattle.law_typing.specs.Graph.Ranks.{Arrow, arrows, nodes, leads, above, rank_by, ranked, ranks, IsRanking}
 use Rattle.law_typing.specs.Laws.{IsIn}
 use Rattle.law_typing.proofs.Lists.{same_channel_refl, any_true, filter_in, each_in, entry_of}
 use Rattle.law_typing.proofs.RankProofs.{begins}

@@ -3,14 +3,14 @@ use Rattle.std.proofs.Common.{◌≡◌, inl, inr, refl, sym, ap, subst, ◌∙�
 use Rattle.std.specs.List.{filter, flat_map}
 use Rattle.std.proofs.lemmas.Bool.{and_from}
 use Rattle.ui_machine.specs.Seq.{read}
-use Rattle.law_typing.specs.Channels.{Channel, same_channel}
+use Rattle.law_typing.specs.Graph.Channels.{Channel, same_channel}
 use Rattle.law_typing.specs.Graph.{Graph, Raised, Start, Stretch}
-use Rattle.law_typing.specs.Tables.{Table, entry, Tables, greatest, same_numbers, numbers_of, same_table, same_tables, settled}
-use Rattle.law_typing.specs.Ranks.{arrows, nodes, node, is_raised, leads, rank_by, started, IsRanking}
-use Rattle.law_typing.specs.Costs.{other_end}
-use Rattle.law_typing.specs.Depths.{raised_of}
+use Rattle.law_typing.specs.Graph.Tables.{Table, entry, Tables, greatest, same_numbers, numbers_of, same_table, same_tables, settled}
+use Rattle.law_typing.specs.Graph.Ranks.{arrows, nodes, node, is_raised, leads, rank_by, started, IsRanking}
+use Rattle.law_typing.specs.Graph.Costs.{other_end}
+use Rattle.law_typing.specs.Graph.Depths.{raised_of}
 use Rattle.law_typing.specs.Laws.{IsIn}
-use Rattle.law_typing.specs.OneSolution.{IsPaired}
+use Rattle.law_typing.specs.Laws.OneSolution.{IsPaired}
 use Rattle.law_typing.proofs.Lists.{same_channel_true, same_channel_refl, any_true}
 use Rattle.law_typing.proofs.EdgeProofs.{flat_in}
 use Rattle.law_typing.proofs.OneSolutionProofs.{entry_below, map_same, read_map_same, entry_same, find_in, Same, SameNode, SameParts, Beyond, started_beyond, target_beyond}

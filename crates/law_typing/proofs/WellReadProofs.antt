@@ -4,25 +4,28 @@ use Rattle.std.specs.Prelude.{not, ◌&&◌, nat_eq, nat_lt, is_none, codes}
 use Rattle.std.specs.List.{list_any, list_all, flat_map}
 use Rattle.std.proofs.lemmas.Bool.{and_from, leb-true, ltb-true, eqb-true}
 use Rattle.ui_machine.specs.Seq.{read}
-use Rattle.ui_machine.specs.Names.{same_name}
-use Rattle.ui_machine.specs.Kinds.{Whole, int, uint, int64, uint64, Kind, RegisterKind}
-use Rattle.ui_machine.specs.Kinds as kinds
-use Rattle.ui_machine.specs.Types as sorts
-use Rattle.ui_machine.specs.Types.{Sort, GType}
-use Rattle.ui_machine.specs.Text.{no_type}
-use Rattle.ui_machine.specs.Transform.{same_whole, same_kind}
-use Rattle.ui_machine.specs.Ancestry.{is_a, lineage, line_from, implemented_by, implemented, is_or_implements, parent_of}
-use Rattle.ui_machine.specs.Properties.{Spec, is_construct_only}
-use Rattle.ui_machine.specs.Definition.{Definition, Class, Signal, Instruction, Block, Program, Given, value, named, GivenProperty, Attached, Place, Bind}
-use Rattle.ui_machine.specs.Definition as words
-use Rattle.ui_machine.specs.Lookups.{no_class, class_of, type_of, spec_of, place_at}
-use Rattle.ui_machine.specs.Emissions.{signal_of}
-use Rattle.ui_machine.specs.Builds.{is_forward}
-use Rattle.law_typing.specs.RegisterKinds.{Kinds}
-use Rattle.law_typing.specs.Brackets.{written, is_empty}
+use Rattle.ui_machine.specs.Definition.Names.{same_name}
+use Rattle.ui_machine.specs.Definition.Kinds.{Whole, int, uint, int64, uint64, Kind, RegisterKind}
+use Rattle.ui_machine.specs.Definition.Kinds as kinds
+use Rattle.ui_machine.specs.Definition.Types as sorts
+use Rattle.ui_machine.specs.Definition.Types.{Sort, GType}
+use Rattle.ui_machine.specs.Output.Text.{no_type}
+use Rattle.ui_machine.specs.Rules.Transform.{same_whole, same_kind}
+use Rattle.ui_machine.specs.Rules.Ancestry.{is_a, lineage, line_from, implemented_by, implemented, is_or_implements, parent_of}
+use Rattle.ui_machine.specs.Definition.Properties.{Spec, is_construct_only}
+use Rattle.ui_machine.specs.Definition.{Definition, Class}
+use Rattle.ui_machine.specs.Definition.Signals.{Signal}
+use Rattle.ui_machine.specs.Definition.Programs.{Instruction, Block, Program}
+use Rattle.ui_machine.specs.Definition.Places.{Given, value, named, GivenProperty, Attached, Place, Bind}
+use Rattle.ui_machine.specs.Definition.Programs as words
+use Rattle.ui_machine.specs.Definition.Lookups.{no_class, class_of, type_of, spec_of, place_at}
+use Rattle.ui_machine.specs.Rules.EmissionPlan.{signal_of}
+use Rattle.ui_machine.specs.Rules.Construction.{is_forward}
+use Rattle.law_typing.specs.Rules.RegisterKinds.{Kinds}
+use Rattle.law_typing.specs.Rules.Brackets.{written, is_empty}
 use Rattle.law_typing.specs.Graph.{next_of}
-use Rattle.law_typing.specs.Accepted.{Each}
-use Rattle.law_typing.specs.WellRead.{SpecRead, HasNotify, TypesRead, Ends, ends, Within, ConstantFits, BlockRead, ProgramRead, GivenFits, GivenRead, IsObject, IsObjectIf, PlaceRead, WellRead}
+use Rattle.law_typing.specs.Verdict.Accepted.{Each}
+use Rattle.law_typing.specs.Laws.WellRead.{SpecRead, HasNotify, TypesRead, Ends, ends, Within, ConstantFits, BlockRead, ProgramRead, GivenFits, GivenRead, IsObject, IsObjectIf, PlaceRead, WellRead}
 use Rattle.law_typing.proofs.Lists.{both_parts, either_part}
 use Rattle.law_typing.proofs.Numbered.{all_from, all_from_get, all_from_read, all_from_below, all_get}
 use Rattle.law_typing.proofs.BuildBegins.{each_all}

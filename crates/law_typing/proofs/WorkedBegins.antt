@@ -1,13 +1,14 @@
 -- Each worked definition's build begins well.
 use Rattle.std.proofs.Common.{◌≡◌, refl, subst, ℕ, zero, suc, true, List, [], ◌∷◌, Option, None, Some}
 use Rattle.std.specs.Prelude.{⊤}
-use Rattle.ui_machine.specs.Definition.{Definition, Place}
-use Rattle.law_typing.specs.Typing.{data_in, passing, two_numbers, two_passing, moving, reckoning, comparing, sameness, negating, combining, joining, converting, property_of, getting, changing_none, assigning, place_for, naming, adopting, arguments, emitting, program_named, connecting, on_handlers, attaching, methods_for, method_named, calling, entering, branching, branching_null, returning}
-use Rattle.law_typing.specs.Brackets.{is_empty}
-use Rattle.law_typing.specs.Accepted.{Each}
-use Rattle.law_typing.specs.LastReference as last_reference
-use Rattle.law_typing.specs.StepsKeepGood.{PeerReady, PoolReady}
-use Rattle.law_typing.specs.Beginnings.{tally, costs_of, depths_of, Begins, WorkedBegin}
+use Rattle.ui_machine.specs.Definition.{Definition}
+use Rattle.ui_machine.specs.Definition.Places.{Place}
+use Rattle.law_typing.specs.Rules.Typing.{data_in, passing, two_numbers, two_passing, moving, reckoning, comparing, sameness, negating, combining, joining, converting, property_of, getting, changing_none, assigning, place_for, naming, adopting, arguments, emitting, program_named, connecting, on_handlers, attaching, methods_for, method_named, calling, entering, branching, branching_null, returning}
+use Rattle.law_typing.specs.Rules.Brackets.{is_empty}
+use Rattle.law_typing.specs.Verdict.Accepted.{Each}
+use Rattle.law_typing.specs.Examples.LastReference as last_reference
+use Rattle.law_typing.specs.Laws.StepsKeepGood.{PeerReady, PoolReady}
+use Rattle.law_typing.specs.Laws.Beginnings.{tally, costs_of, depths_of, Begins, WorkedBegin}
 use Rattle.law_typing.proofs.BuildBegins.{begins, Reckoned}
 use Rattle.law_typing.proofs.Numbered.{all_from, all_from_get}
 

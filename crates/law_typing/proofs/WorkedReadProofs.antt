@@ -1,6 +1,6 @@
 -- The tests find each worked definition well read.
 use Rattle.std.proofs.Common.{refl}
-use Rattle.law_typing.specs.WorkedRead.{WorkedRead}
+use Rattle.law_typing.specs.Laws.WorkedRead.{WorkedRead}
 use Rattle.law_typing.proofs.WellReadProofs.{well_read}
 
 pub worked_read : WorkedRead

@@ -1,22 +1,34 @@
 -- What each step of a run of an accepted definition is to keep, whole. It says why no step is stuck, why the counted steps stay within the
 -- bound, and why the frames stay within the depth.
+pub mod Standing
+pub mod Objects
+pub mod DueCosts
+pub mod Handlers
+pub mod Bindings
+pub mod ComingDown
+pub mod Programs
+pub mod Emissions
+pub mod Builds
+pub mod Requests
+pub mod Agenda
+pub mod Freezes
 use Rattle.std.specs.Prelude.{◌≡◌, ℕ, ◌+◌, ◌≤◌, [], length, Some}
 use Rattle.ui_machine.specs.Seq.{total}
 use Rattle.ui_machine.specs.Definition.{Definition}
-use Rattle.ui_machine.specs.Config.{Object, World, Config}
-use Rattle.ui_machine.specs.Objects.{live}
-use Rattle.ui_machine.specs.Objects as heap
-use Rattle.ui_machine.specs.Builds.{to_make}
-use Rattle.law_typing.specs.Tables.{Tables}
-use Rattle.law_typing.specs.Accepted.{Each}
-use Rattle.law_typing.specs.Standing.{standing, Lives, view}
-use Rattle.law_typing.specs.ObjectsGood.{ObjectsGood, PeersGood}
-use Rattle.law_typing.specs.HandlersGood.{HandlersGood}
-use Rattle.law_typing.specs.BindingsGood.{BindingsGood, SourceGood, HeldGood, DocumentGood}
-use Rattle.law_typing.specs.ComingDown.{none}
-use Rattle.law_typing.specs.BuildsGood.{is_for_builder, BuildGood}
-use Rattle.law_typing.specs.AgendaGood.{AgendaGood}
-use Rattle.law_typing.specs.FreezesGood.{QueuesGood, carried, PairsGood, SetsGood}
+use Rattle.ui_machine.specs.State.Objects.{Object, live}
+use Rattle.ui_machine.specs.State.Config.{World, Config}
+use Rattle.ui_machine.specs.State.Objects as heap
+use Rattle.ui_machine.specs.Rules.Build.{to_make}
+use Rattle.law_typing.specs.Graph.Tables.{Tables}
+use Rattle.law_typing.specs.Verdict.Accepted.{Each}
+use Rattle.law_typing.specs.Good.Standing.{standing, Lives, view}
+use Rattle.law_typing.specs.Good.Objects.{ObjectsGood, PeersGood}
+use Rattle.law_typing.specs.Good.Handlers.{HandlersGood}
+use Rattle.law_typing.specs.Good.Bindings.{BindingsGood, SourceGood, HeldGood, DocumentGood}
+use Rattle.law_typing.specs.Good.ComingDown.{none}
+use Rattle.law_typing.specs.Good.Builds.{is_for_builder, BuildGood}
+use Rattle.law_typing.specs.Good.Agenda.{AgendaGood}
+use Rattle.law_typing.specs.Good.Freezes.{QueuesGood, carried, PairsGood, SetsGood}
 
 -- at most `most_counted` steps in this dispatch, and `most` frames
 pub record Good (d : Definition) (costs depths : Tables) (most_counted most : ℕ) (c : Config) : Type 0 where

@@ -1,19 +1,27 @@
 -- The graph of a definition: what runs at each channel, and which channels each program may start. In it everything goes by number.
+pub mod Channels
+pub mod Tables
+pub mod Ranks
+pub mod Costs
+pub mod Depths
 use Rattle.std.specs.Prelude.{ℕ, suc, Bool, true, false, cond, not, ◌&&◌, ◌||◌, nat_eq, nat_lt, List, [], ◌∷◌, ◌++◌, length, map, codes, Option, None, Some}
 use Rattle.std.specs.List.{filter, filter_map, flat_map, list_any}
 use Rattle.ui_machine.specs.Seq.{read}
-use Rattle.ui_machine.specs.Properties.{Spec, has_flags}
-use Rattle.ui_machine.specs.Definition.{Definition, Signal, Attached, Instruction, Block, Program, Place, Bind, GivenProperty}
-use Rattle.ui_machine.specs.Definition as words
-use Rattle.ui_machine.specs.Lookups.{slot_of, specs_of, place_at, place_of, program_of}
-use Rattle.ui_machine.specs.Emissions.{signal_of, class_handler_of}
-use Rattle.ui_machine.specs.Programs.{is_number}
-use Rattle.ui_machine.specs.Connections.{signal_number}
-use Rattle.ui_machine.specs.Builds.{is_at_construction, is_forward}
-use Rattle.law_typing.specs.RegisterKinds.{Kinds, kind_in, class_at, places}
-use Rattle.law_typing.specs.Typing.{after}
-use Rattle.law_typing.specs.Channels.{Channel, constructed, property, signal, same_channel, of_class, constructed_at, channels, present, is_pair, source_of, target_of}
-use Rattle.law_typing.specs.Sites.{Site, sites}
+use Rattle.ui_machine.specs.Definition.Properties.{Spec, has_flags}
+use Rattle.ui_machine.specs.Definition.{Definition}
+use Rattle.ui_machine.specs.Definition.Signals.{Signal}
+use Rattle.ui_machine.specs.Definition.Places.{Attached, Place, Bind, GivenProperty}
+use Rattle.ui_machine.specs.Definition.Programs.{Instruction, Block, Program}
+use Rattle.ui_machine.specs.Definition.Programs as words
+use Rattle.ui_machine.specs.Definition.Lookups.{slot_of, specs_of, place_at, place_of, program_of}
+use Rattle.ui_machine.specs.Rules.EmissionPlan.{signal_of, class_handler_of}
+use Rattle.ui_machine.specs.Rules.Programs.{is_number}
+use Rattle.ui_machine.specs.Rules.Connections.{signal_number}
+use Rattle.ui_machine.specs.Rules.Construction.{is_at_construction, is_forward}
+use Rattle.law_typing.specs.Rules.RegisterKinds.{Kinds, kind_in, class_at, places}
+use Rattle.law_typing.specs.Rules.Typing.{after}
+use Rattle.law_typing.specs.Graph.Channels.{Channel, constructed, property, signal, same_channel, of_class, constructed_at, channels, present, is_pair, source_of, target_of}
+use Rattle.law_typing.specs.Rules.Sites.{Site, sites}
 
 -- what runs at a channel
 pub record Raised : Type 0 where

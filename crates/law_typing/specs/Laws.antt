@@ -1,15 +1,26 @@
 -- Laws of ranks, costs and depths, and of what is judged.
+pub mod Costs
+pub mod Chain
+pub mod Names
+pub mod WellRead
+pub mod StepsKeepGood
+pub mod RuleWords
+pub mod OneSolution
+pub mod Beginnings
+pub mod MidRun
+pub mod NotGood
+pub mod WorkedRead
 use Rattle.std.specs.Prelude.{◌≡◌, ◌⊎◌, ℕ, ◌<◌, true, List, [], ◌∷◌, None}
 use Rattle.ui_machine.specs.Definition.{Definition}
-use Rattle.law_typing.specs.Channels.{Entry, Link}
+use Rattle.law_typing.specs.Graph.Channels.{Entry, Link}
 use Rattle.law_typing.specs.Graph.{Graph, graph}
-use Rattle.law_typing.specs.Tables.{Table, entry, Tables}
-use Rattle.law_typing.specs.Ranks.{Arrow, arrows, nodes, ranks, is_cycle, IsRanking, IsAcyclic}
-use Rattle.law_typing.specs.Costs.{costs, bound}
-use Rattle.law_typing.specs.Depths.{depths}
-use Rattle.law_typing.specs.Inherits.{inherits}
-use Rattle.law_typing.specs.Accepted.{Accepted}
-use Rattle.law_typing.specs.Report.{report}
+use Rattle.law_typing.specs.Graph.Tables.{Table, entry, Tables}
+use Rattle.law_typing.specs.Graph.Ranks.{Arrow, arrows, nodes, ranks, is_cycle, IsRanking, IsAcyclic}
+use Rattle.law_typing.specs.Graph.Costs.{costs, bound}
+use Rattle.law_typing.specs.Graph.Depths.{depths}
+use Rattle.law_typing.specs.Verdict.Inherits.{inherits}
+use Rattle.law_typing.specs.Verdict.Accepted.{Accepted}
+use Rattle.law_typing.specs.Verdict.Report.{report}
 use Rattle.law_typing.specs.Verdict.{verdict, accepted, has_cycle}
 
 -- x is one of the entries

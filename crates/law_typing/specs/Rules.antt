@@ -1,33 +1,10 @@
--- The rules that an instruction may break, and what a rule's test answers.
-use Rattle.std.specs.Prelude.{Bool, true, false, Option, None, Some, Result, Ok, Err}
-
-pub data Rule : Type 0 where
-  unset : Rule  -- a register that is read holds nothing
-  kind : Rule  -- it holds something else, or there are too many or too few arguments
-  null : Rule  -- an object is wanted that may be null
-  unknown : Rule  -- a property, signal, program, id, method or binding that is not there
-  flags : Rule  -- a property that is not readable or not writable
-  construct_only : Rule
-  detail : Rule
-  signature : Rule  -- a program that does not take what it is given
-  result : Rule  -- of an emission that has none, or another result than the program's
-  block : Rule  -- a register that does not fit the next block
-
--- what a test leads to, or the rule that is broken
-abbrev pub Typing : Type 0 → Type 0
-Typing A = Result A Rule
-
-infixl 10 ◌>>=◌
-abbrev pub ◌>>=◌ : {A B : Type 0} → Typing A → (A → Typing B) → Typing B
-(Ok x) >>= f = f x
-(Err rule) >>= f = Err rule
-
--- what is there, or the rule
-abbrev pub known : {A : Type 0} → Rule → Option A → Typing A
-known rule None = Err rule
-known rule (Some x) = Ok x
-
--- the answer if the test holds, or the rule
-abbrev pub only_if : {A : Type 0} → Bool → Rule → Typing A → Typing A
-only_if true rule answer = answer
-only_if false rule answer = Err rule
+-- The rules that programs, handlers and bindings are judged by.
+pub mod RegisterKinds
+pub mod Answers
+pub mod Signatures
+pub mod Typing
+pub mod Faults
+pub mod Sites
+pub mod Handlers
+pub mod BindingRules
+pub mod Brackets

@@ -1,20 +1,23 @@
 -- What a definition is judged to be: accepted with its report, or refused.
+pub mod Report
+pub mod Inherits
+pub mod Accepted
 use Rattle.std.specs.Prelude.{ℕ, nat_lt, List, [], ◌∷◌, ◌++◌, map, Option, None, Some}
 use Rattle.std.specs.List.{find}
 use Rattle.ui_machine.specs.Definition.{Definition}
-use Rattle.law_typing.specs.Channels.{Entry}
-use Rattle.law_typing.specs.Channels as entries
-use Rattle.law_typing.specs.Faults.{Fault, bound_too_large}
-use Rattle.law_typing.specs.Sites.{typing_faults}
-use Rattle.law_typing.specs.Handlers.{handler_faults}
-use Rattle.law_typing.specs.BindingRules.{binding_faults, pair_faults}
-use Rattle.law_typing.specs.Brackets.{freeze_faults, bracket_faults}
+use Rattle.law_typing.specs.Graph.Channels.{Entry}
+use Rattle.law_typing.specs.Graph.Channels as entries
+use Rattle.law_typing.specs.Rules.Faults.{Fault, bound_too_large}
+use Rattle.law_typing.specs.Rules.Sites.{typing_faults}
+use Rattle.law_typing.specs.Rules.Handlers.{handler_faults}
+use Rattle.law_typing.specs.Rules.BindingRules.{binding_faults, pair_faults}
+use Rattle.law_typing.specs.Rules.Brackets.{freeze_faults, bracket_faults}
 use Rattle.law_typing.specs.Graph.{Graph, Raised, graph}
-use Rattle.law_typing.specs.Tables.{Table, Tables}
-use Rattle.law_typing.specs.Ranks.{ranks}
-use Rattle.law_typing.specs.Costs.{costs, bound}
-use Rattle.law_typing.specs.Depths.{depths}
-use Rattle.law_typing.specs.Report.{report}
+use Rattle.law_typing.specs.Graph.Tables.{Table, Tables}
+use Rattle.law_typing.specs.Graph.Ranks.{ranks}
+use Rattle.law_typing.specs.Graph.Costs.{costs, bound}
+use Rattle.law_typing.specs.Graph.Depths.{depths}
+use Rattle.law_typing.specs.Verdict.Report.{report}
 
 pub data Verdict : Type 0 where
   accepted : (report : List (List ℕ)) → Verdict

@@ -1,11 +1,14 @@
 -- Short forms in which definitions are written as data.
 use Rattle.std.specs.Prelude.{ℕ, ℤ, Bool, true, false, List, [], ◌∷◌, codes, Option, None, Some}
-use Rattle.ui_machine.specs.Kinds.{Kind, RegisterKind}
-use Rattle.ui_machine.specs.Values.{Value}
-use Rattle.ui_machine.specs.Types.{GType, Member, plain_class}
-use Rattle.ui_machine.specs.Types as types
-use Rattle.ui_machine.specs.Properties.{Spec}
-use Rattle.ui_machine.specs.Definition.{Accumulator, Signal, Method, Shape, ClassHandler, Class, Instruction, Block, Program, Given, GivenProperty, Attached, Place, Bind}
+use Rattle.ui_machine.specs.Definition.Kinds.{Kind, RegisterKind}
+use Rattle.ui_machine.specs.Definition.Values.{Value}
+use Rattle.ui_machine.specs.Definition.Types.{GType, Member, plain_class}
+use Rattle.ui_machine.specs.Definition.Types as types
+use Rattle.ui_machine.specs.Definition.Properties.{Spec}
+use Rattle.ui_machine.specs.Definition.Signals.{Accumulator, Signal, Method, Shape, ClassHandler}
+use Rattle.ui_machine.specs.Definition.{Class}
+use Rattle.ui_machine.specs.Definition.Programs.{Instruction, Block, Program}
+use Rattle.ui_machine.specs.Definition.Places.{Given, GivenProperty, Attached, Place, Bind}
 
 -- ** types
 

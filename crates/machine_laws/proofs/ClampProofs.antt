@@ -7,17 +7,17 @@ use Rattle.std.specs.Int.Bits.{and_self}
 use Rattle.std.proofs.lemmas.Nat.{and_assoc, and_le_l}
 use Rattle.std.proofs.lemmas.Int.{ints}
 use Rattle.std.proofs.lemmas.Bool.{eqb-true, eq-eqb}
-use Rattle.ui_machine.specs.Kinds.{Whole, int, uint, int64, uint64, Kind}
-use Rattle.ui_machine.specs.Kinds as kinds
-use Rattle.ui_machine.specs.Values.{Value}
-use Rattle.ui_machine.specs.Values as values
-use Rattle.ui_machine.specs.Types.{GType}
-use Rattle.ui_machine.specs.Names.{same_name}
-use Rattle.ui_machine.specs.Text.{members_of}
-use Rattle.ui_machine.specs.Properties.{Spec}
-use Rattle.ui_machine.specs.Transform.{least, greatest, is_between, has_number, known_bits, same_whole, kind_fits, same_bool, same_text, same_object, same_value}
-use Rattle.ui_machine.specs.Clamp.{limited, clamp}
-use Rattle.ui_machine.specs.Sets.{has_kind}
+use Rattle.ui_machine.specs.Definition.Kinds.{Whole, int, uint, int64, uint64, Kind}
+use Rattle.ui_machine.specs.Definition.Kinds as kinds
+use Rattle.ui_machine.specs.Definition.Values.{Value}
+use Rattle.ui_machine.specs.Definition.Values as values
+use Rattle.ui_machine.specs.Definition.Types.{GType}
+use Rattle.ui_machine.specs.Definition.Names.{same_name}
+use Rattle.ui_machine.specs.Output.Text.{members_of}
+use Rattle.ui_machine.specs.Definition.Properties.{Spec}
+use Rattle.ui_machine.specs.Rules.Transform.{least, greatest, is_between, has_number, known_bits, same_whole, kind_fits, same_bool, same_text, same_object, same_value}
+use Rattle.ui_machine.specs.Rules.Validation.{limited, clamp}
+use Rattle.ui_machine.specs.Rules.Sets.{has_kind}
 use Rattle.machine_laws.specs.ClampLaws.{IsSound, HasFewBits, ClampsToValid, ClampsOnce}
 
 -- ** truth

@@ -3,39 +3,54 @@ use Rattle.std.proofs.Common.{◌≡◌, refl, ap, sym, ◌∙◌, ℕ, suc, ℤ
 use Rattle.std.specs.Prelude.{codes, length, nat_lt}
 use Rattle.ui_machine.specs.declared.arm.Arm.{Arm}
 use Rattle.ui_machine.specs.declared.arm.Arm.TheVariants as arms
-use Rattle.ui_machine.specs.Kinds.{Kind}
-use Rattle.ui_machine.specs.Values.{Value}
-use Rattle.ui_machine.specs.Values as values
-use Rattle.ui_machine.specs.Properties.{Spec}
-use Rattle.ui_machine.specs.Definition.{Definition, Given, Place, Method, Instruction, Arithmetic, Comparison}
-use Rattle.ui_machine.specs.Definition as words
-use Rattle.ui_machine.specs.Lines.{Line}
-use Rattle.ui_machine.specs.Lines as lines
-use Rattle.ui_machine.specs.Sources as sources
+use Rattle.ui_machine.specs.Definition.Kinds.{Kind}
+use Rattle.ui_machine.specs.Definition.Values.{Value}
+use Rattle.ui_machine.specs.Definition.Values as values
+use Rattle.ui_machine.specs.Definition.Properties.{Spec}
+use Rattle.ui_machine.specs.Definition.{Definition}
+use Rattle.ui_machine.specs.Definition.Places.{Given, Place}
+use Rattle.ui_machine.specs.Definition.Signals.{Method}
+use Rattle.ui_machine.specs.Definition.Programs.{Instruction, Arithmetic, Comparison}
+use Rattle.ui_machine.specs.Definition.Programs as words
+use Rattle.ui_machine.specs.Definition.Places as places
+use Rattle.ui_machine.specs.Output.Lines.{Line}
+use Rattle.ui_machine.specs.Output.Lines as lines
+use Rattle.ui_machine.specs.State.Sources as sources
 use Rattle.ui_machine.specs.Seq.{write}
-use Rattle.ui_machine.specs.Transform.{zero_value}
-use Rattle.ui_machine.specs.Text.{text_of_line}
-use Rattle.ui_machine.specs.Config as config
-use Rattle.ui_machine.specs.Config.{Object, Objects, Peer, World, Config, Setting, Notifying, Beginning, Emitting, Transferring, Unsetting, Thawing, Running, Answering, Calling, Constructing, Building, Carrying, Due, Task, Emission, PlanEntry, class_handler, handler, Binding, Handler, Frame, Call, Reply, Question, Held, Making, sets, runs, thaws, Item, makes, adopts, forwards, binds, connects, Request}
-use Rattle.ui_machine.specs.Answers.{Answer, ◌>>=◌, only_if}
-use Rattle.ui_machine.specs.Objects.{living, next_unheld}
-use Rattle.ui_machine.specs.Mentions.{mentions}
-use Rattle.ui_machine.specs.Worlds.{Started, said, with_objects, with_held, sunk}
-use Rattle.ui_machine.specs.Sets.{raising, written, setting}
-use Rattle.ui_machine.specs.Emissions.{notifying, beginning_emission}
-use Rattle.ui_machine.specs.Programs.{beginning_program, program_before}
-use Rattle.ui_machine.specs.Transfers.{End, source_end, target_end, binding_of, set_by, carried, carried_by, transferring}
-use Rattle.ui_machine.specs.Turns.{or_zero, handler_of, running_handler, taking_entry, collecting, resulting}
-use Rattle.ui_machine.specs.Families.{updated, with_parent, with_child, with_family, adopted, orphaned}
-use Rattle.ui_machine.specs.Disposal.{no_peer, closed_peer, closed_if_open, closing, said_if, is_first, peer_of, without_object, disposed, finalised}
-use Rattle.ui_machine.specs.Registers.{tells, operand_in, data_in, written_to}
-use Rattle.ui_machine.specs.Results.{Left, kept_source, untaken, told, down_to_emission, down_to_source, given_down, ending}
-use Rattle.ui_machine.specs.Calls.{with_peer_state, call_line, replied, with_method, left_with, called, uncalled, calling_on}
-use Rattle.ui_machine.specs.Connections.{detail_in, is_too_late, has_room_for_handler, with_handler, connected, disconnected, blocked, unblocked, with_handlers_on, Connection}
-use Rattle.ui_machine.specs.Builds.{given_value, with_object, making, making_set, constructed, thawing_made, held_data, building_child, set_forward, building_forward, building_binding, building_handler, with_signal}
-use Rattle.ui_machine.specs.Instructions.{Emit, disposed_once, most_bytes, gives_from, within_bytes, with_source, attached_to, moving, reckoning, comparing, sameness, negating, conjunction, disjunction, joining, converting, slot_at, getting, set_from, assigning, then_goes_on, telling, naming, made_new, creating, sinking, orphaning, disposing, adopting, freezing, unfreezing, signal_in, signal_to_emit, emitting, connecting, on_handlers, attaching, removing, calling, jumping, branching, branching_null, constant, clearing, disconnecting, blocking, unblocking, unbinding, Connect, Attach}
-use Rattle.ui_machine.specs.Running.{returned, returning, in_front, instructed, running}
-use Rattle.ui_machine.specs.Steps.{with_result, most_steps, uncounted, counted, counted_left, thawing, constructing, building_object, building, set_given, carrying_set, carrying_get, given_values, carrying_emit, carrying_release, carrying, sourcing, left, settling, act, finalising, first_of, asked_first, asked_after}
+use Rattle.ui_machine.specs.Rules.Transform.{zero_value}
+use Rattle.ui_machine.specs.Output.Text.{text_of_line}
+use Rattle.ui_machine.specs.State.Tasks as config
+use Rattle.ui_machine.specs.State.Objects.{Object, Objects, living}
+use Rattle.ui_machine.specs.State.Peers.{Peer, Reply, Question, no_peer, closed_peer}
+use Rattle.ui_machine.specs.State.Config.{World, Config, Held, Started, said, with_objects, with_held, sunk, Left, with_peer_state}
+use Rattle.ui_machine.specs.State.Tasks.{Setting, Notifying, Beginning, Emitting, Transferring, Unsetting, Thawing, Running, Answering, Calling, Constructing, Building, Carrying, Due, Task, Emission, PlanEntry, class_handler, handler, Frame, Call, Making, sets, runs, thaws, Item, makes, adopts, forwards, binds, connects, Request}
+use Rattle.ui_machine.specs.State.Bindings.{Binding, binding_of}
+use Rattle.ui_machine.specs.State.Handlers.{Handler, handler_of}
+use Rattle.ui_machine.specs.Outcome.{Answer, ◌>>=◌, only_if}
+use Rattle.ui_machine.specs.State.References.{next_unheld, mentions}
+use Rattle.ui_machine.specs.Rules.Sets.{raising, written, setting}
+use Rattle.ui_machine.specs.Rules.EmissionPlan.{notifying, beginning_emission}
+use Rattle.ui_machine.specs.Rules.Programs.{beginning_program, program_before}
+use Rattle.ui_machine.specs.Rules.Transfers.{End, source_end, target_end, set_by, carried, carried_by, transferring}
+use Rattle.ui_machine.specs.Rules.Accumulation.{or_zero, running_handler, taking_entry, collecting, resulting, untaken, told, down_to_emission, down_to_source, given_down, ending}
+use Rattle.ui_machine.specs.Rules.Children.{updated, with_parent, with_child, with_family, adopted, orphaned}
+use Rattle.ui_machine.specs.Rules.Disposal.{closed_if_open, closing, said_if, is_first, peer_of, without_object, disposed, finalised}
+use Rattle.ui_machine.specs.Instructions.Registers.{tells, operand_in, data_in, written_to, moving, constant, clearing}
+use Rattle.ui_machine.specs.Rules.MainLoop.{kept_source, sourcing}
+use Rattle.ui_machine.specs.Instructions.Peers.{call_line, replied, with_method, left_with, called, uncalled, calling_on, calling}
+use Rattle.ui_machine.specs.Rules.Connections.{detail_in, is_too_late, has_room_for_handler, with_handler, connected, disconnected, blocked, unblocked, with_handlers_on, Connection}
+use Rattle.ui_machine.specs.Rules.Construction.{given_value, with_object, making, making_set, constructed, thawing_made, constructing}
+use Rattle.ui_machine.specs.Rules.Build.{held_data, building_child, set_forward, building_forward, building_binding, building_handler, with_signal, building_object, building}
+use Rattle.ui_machine.specs.Instructions.Signals.{Emit, signal_in, signal_to_emit, emitting, connecting, on_handlers, disconnecting, blocking, unblocking, unbinding, Connect}
+use Rattle.ui_machine.specs.Instructions.Objects.{disposed_once, naming, made_new, creating, sinking, orphaning, disposing, adopting, freezing, unfreezing}
+use Rattle.ui_machine.specs.Instructions.Arithmetic.{most_bytes, gives_from, within_bytes, reckoning, comparing, sameness, negating, conjunction, disjunction, joining, converting}
+use Rattle.ui_machine.specs.Instructions.Sources.{with_source, attached_to, attaching, removing, Attach}
+use Rattle.ui_machine.specs.Instructions.Properties.{slot_at, getting, set_from, assigning, then_goes_on, telling}
+use Rattle.ui_machine.specs.Instructions.Jumps.{jumping, branching, branching_null, returned, returning}
+use Rattle.ui_machine.specs.Instructions.{in_front, instructed, running}
+use Rattle.ui_machine.specs.Rules.Events.{with_result, set_given, carrying_set, carrying_get, given_values, carrying_emit, carrying_release, carrying}
+use Rattle.ui_machine.specs.Steps.{most_steps, uncounted, counted, counted_left, left, settling, act, finalising, first_of, asked_first, asked_after}
+use Rattle.ui_machine.specs.Rules.NotifyQueue.{thawing}
 use Rattle.machine_laws.specs.FrontLaws.{fronted, fronted_at, mapped, StepAppends, QuestionStays}
 
 mapped_then : {A B C : Type 0} (f : B → C) (a : Answer A) (g : A → Answer B) → mapped f (a >>= g) ≡ (a >>= λ x. mapped f (g x))
@@ -598,8 +613,8 @@ module _ (front : List (List ℕ)) (d : Definition) where
   -- ** requests and sources
 
   finds_given : (w : World) (given : Given) → given_value (fronted front w) given ≡ given_value w given
-  finds_given w (words.value v) = refl
-  finds_given w (words.named to) = refl
+  finds_given w (places.value v) = refl
+  finds_given w (places.named to) = refl
 
   finds_givens : (w : World) (given : List Given) → given_values (fronted front w) given ≡ given_values w given
   unfolding given_values

@@ -4,15 +4,19 @@ use Rattle.std.specs.Prelude.{◌||◌}
 use Rattle.std.specs.List.{list_any}
 use Rattle.ui_machine.specs.declared.arm.Halt.{Halt}
 use Rattle.ui_machine.specs.declared.arm.Halt.TheVariants as halts
-use Rattle.ui_machine.specs.Definition.{Definition, Given, value, named}
-use Rattle.ui_machine.specs.Lines.{Line}
-use Rattle.ui_machine.specs.Lines as lines
-use Rattle.ui_machine.specs.Text.{text_of_line}
-use Rattle.ui_machine.specs.Config as config
-use Rattle.ui_machine.specs.Config.{Reply, Source, Due, Event, World, Config}
-use Rattle.ui_machine.specs.Sources.{source_of}
-use Rattle.ui_machine.specs.Worlds.{said, held_at}
-use Rattle.ui_machine.specs.Runs.{Step, Steps, Reaches, HasEnded, HaltsAt, Dispatches, Halts, Tally, Then, Rests, Carries, RunsSource, RunsSources, Refusal, is_released, gives_released, gone, refusal, Does, Comes, Serves, ServesAll, HaltsIn, untold, turned, ready_at, beginning, of_request}
+use Rattle.ui_machine.specs.Definition.{Definition}
+use Rattle.ui_machine.specs.Definition.Places.{Given, value, named}
+use Rattle.ui_machine.specs.Output.Lines.{Line}
+use Rattle.ui_machine.specs.Output.Lines as lines
+use Rattle.ui_machine.specs.Output.Text.{text_of_line}
+use Rattle.ui_machine.specs.State.Tasks as config
+use Rattle.ui_machine.specs.State.Peers.{Reply}
+use Rattle.ui_machine.specs.State.Sources.{Source, source_of}
+use Rattle.ui_machine.specs.State.Tasks.{Due, Event}
+use Rattle.ui_machine.specs.State.Config.{World, Config, said, held_at, untold}
+use Rattle.ui_machine.specs.Runs.{Step, Steps, Reaches, HasEnded, HaltsAt, Dispatches, Halts, Tally, Then, Rests, Carries, RunsSource, RunsSources, Does, Comes, Serves, ServesAll, HaltsIn, beginning, of_request}
+use Rattle.ui_machine.specs.Rules.Events.{Refusal, is_released, gives_released, gone, refusal}
+use Rattle.ui_machine.specs.Rules.MainLoop.{turned, ready_at}
 use Rattle.machine_laws.specs.FrontLaws.{fronted, fronted_at, mapped, StepsAppend, DispatchAppends, HaltAppends, EventAppends, EventsAppend, EventHaltAppends}
 use Rattle.machine_laws.proofs.FrontProofs.{step_appends, question_stays}
 

@@ -2,12 +2,14 @@
 use Rattle.std.proofs.Common.{ap, ◌≡◌, inl, inr, refl, ℕ, ◌+◌, ◌≤◌, Bool, true, false, cond, List, [], ◌∷◌, ◌++◌, Option, None, Some, arith}
 use Rattle.std.specs.Prelude.{map, not, ◌&&◌}
 use Rattle.std.specs.List.{filter}
-use Rattle.ui_machine.specs.Mentions.{same}
-use Rattle.ui_machine.specs.Properties.{has_flags}
-use Rattle.ui_machine.specs.Config.{Handler, Binding, PlanEntry, class_handler, handler, World}
-use Rattle.ui_machine.specs.Config as config
-use Rattle.ui_machine.specs.Bindings.{transfers, listens, goes_back}
-use Rattle.ui_machine.specs.Emissions.{at_stage, runs_for, handlers_for, plan, class_handler_of}
+use Rattle.ui_machine.specs.State.References.{same}
+use Rattle.ui_machine.specs.Definition.Properties.{has_flags}
+use Rattle.ui_machine.specs.State.Handlers.{Handler}
+use Rattle.ui_machine.specs.State.Bindings.{Binding, transfers, listens, goes_back}
+use Rattle.ui_machine.specs.State.Tasks.{PlanEntry, class_handler, handler}
+use Rattle.ui_machine.specs.State.Config.{World}
+use Rattle.ui_machine.specs.State.Tasks as config
+use Rattle.ui_machine.specs.Rules.EmissionPlan.{at_stage, runs_for, handlers_for, plan, class_handler_of}
 use Rattle.machine_laws.specs.PlanLaws.{is_entry_of, entries_of, stands, HandlersRunOnce, IsPart, numbers, InOrder, StagesInOrder, NotifyStages}
 use Rattle.machine_laws.proofs.QueueProofs.{total_append}
 

@@ -5,8 +5,8 @@ use Rattle.std.specs.List.{list_any}
 use Rattle.std.proofs.lemmas.Grind.{reverse_onto}
 use Rattle.std.proofs.lemmas.Bool.{eqb-true}
 use Rattle.ui_machine.specs.Seq.{total}
-use Rattle.ui_machine.specs.Mentions.{same}
-use Rattle.ui_machine.specs.Queue.{thawed}
+use Rattle.ui_machine.specs.State.References.{same}
+use Rattle.ui_machine.specs.Rules.NotifyQueue.{thawed}
 use Rattle.machine_laws.specs.QueueLaws.{times, EachOnce, ThawsInReverse, QueuesOnce}
 
 pub thaws_in_reverse : ThawsInReverse

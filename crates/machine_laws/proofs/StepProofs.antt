@@ -1,12 +1,12 @@
 -- Configurations and steps.
 use Rattle.std.proofs.Common.{◌≡◌, refl, ap, sym, ◌∙◌, ℕ, zero, suc, true, List, [], ◌∷◌, Option, None, Some, Ok, arith}
 use Rattle.std.specs.Option.{option_map}
-use Rattle.ui_machine.specs.Types.{GType}
-use Rattle.ui_machine.specs.Ancestry.{is_a}
-use Rattle.ui_machine.specs.Transform.{is_one}
+use Rattle.ui_machine.specs.Definition.Types.{GType}
+use Rattle.ui_machine.specs.Rules.Ancestry.{is_a}
+use Rattle.ui_machine.specs.Rules.Transform.{is_one}
 use Rattle.ui_machine.specs.Seq.{read, write}
-use Rattle.ui_machine.specs.Config.{Object, Objects, Task}
-use Rattle.ui_machine.specs.Objects.{living, put}
+use Rattle.ui_machine.specs.State.Objects.{Object, Objects, living, put}
+use Rattle.ui_machine.specs.State.Tasks.{Task}
 use Rattle.ui_machine.specs.Steps.{settling, act, first_of}
 use Rattle.machine_laws.specs.StepLaws.{HeldAtRest, EndsStay, FittingLives, FinalisedFitsNothing}
 

@@ -3,8 +3,8 @@ use Rattle.std.proofs.Common.{◌≡◌, refl, ap, sym, subst, ℕ, zero, suc, �
 use Rattle.std.specs.Prelude.{nat_eq, ◌||◌}
 use Rattle.std.specs.List.{list_any}
 use Rattle.std.proofs.lemmas.Bool.{eqb-true, eq-eqb}
-use Rattle.ui_machine.specs.Types.{GType}
-use Rattle.ui_machine.specs.Ancestry.{parent_of, line_from, implemented_by, is_or_implements, is_a}
+use Rattle.ui_machine.specs.Definition.Types.{GType}
+use Rattle.ui_machine.specs.Rules.Ancestry.{parent_of, line_from, implemented_by, is_or_implements, is_a}
 use Rattle.machine_laws.specs.TypeLaws.{IsTree, IsAReflexive, IsATransitive}
 
 -- ** truth

@@ -1,14 +1,14 @@
 -- Laws of validation.
 use Rattle.std.specs.Prelude.{◌≡◌, ℕ, ◌^◌, ◌<◌, int_lt, true, false, List, Option, None}
-use Rattle.ui_machine.specs.Kinds.{Kind}
-use Rattle.ui_machine.specs.Kinds as kinds
-use Rattle.ui_machine.specs.Values.{Value}
-use Rattle.ui_machine.specs.Values as values
-use Rattle.ui_machine.specs.Types.{GType}
-use Rattle.ui_machine.specs.Properties.{Spec}
-use Rattle.ui_machine.specs.Transform.{least, greatest, kind_fits}
-use Rattle.ui_machine.specs.Clamp.{clamp, is_valid}
-use Rattle.ui_machine.specs.Sets.{has_kind}
+use Rattle.ui_machine.specs.Definition.Kinds.{Kind}
+use Rattle.ui_machine.specs.Definition.Kinds as kinds
+use Rattle.ui_machine.specs.Definition.Values.{Value}
+use Rattle.ui_machine.specs.Definition.Values as values
+use Rattle.ui_machine.specs.Definition.Types.{GType}
+use Rattle.ui_machine.specs.Definition.Properties.{Spec}
+use Rattle.ui_machine.specs.Rules.Transform.{least, greatest, kind_fits}
+use Rattle.ui_machine.specs.Rules.Validation.{clamp, is_valid}
+use Rattle.ui_machine.specs.Rules.Sets.{has_kind}
 
 -- what a spec says fits its kind: a range of numbers that the kind has, and a default that is a member
 abbrev pub IsSound : List GType → Spec → Kind → Type 0

@@ -2,8 +2,10 @@
 use Rattle.std.specs.Prelude.{◌≡◌, ℕ, List, ◌++◌, Option, Ok, Err}
 use Rattle.ui_machine.specs.declared.arm.Halt.{Halt}
 use Rattle.ui_machine.specs.Definition.{Definition}
-use Rattle.ui_machine.specs.Config.{Reply, Event, World, Config}
-use Rattle.ui_machine.specs.Answers.{Answer}
+use Rattle.ui_machine.specs.State.Peers.{Reply}
+use Rattle.ui_machine.specs.State.Tasks.{Event}
+use Rattle.ui_machine.specs.State.Config.{World, Config}
+use Rattle.ui_machine.specs.Outcome.{Answer}
 use Rattle.ui_machine.specs.Steps.{step, question}
 use Rattle.ui_machine.specs.Runs.{Steps, Reaches, Dispatches, Halts, Tally, Serves, ServesAll, HaltsIn}
 

@@ -1,11 +1,14 @@
 -- Laws of the plan of an emission.
 use Rattle.std.specs.Prelude.{◌≡◌, ◌⊎◌, ℕ, ◌≤◌, Bool, true, false, List, [], ◌∷◌, ◌++◌, map, Option, Some}
 use Rattle.ui_machine.specs.Seq.{total}
-use Rattle.ui_machine.specs.Mentions.{same}
-use Rattle.ui_machine.specs.Definition.{Definition, Signal}
-use Rattle.ui_machine.specs.Config.{Handler, PlanEntry, class_handler, handler, World}
-use Rattle.ui_machine.specs.Config as config
-use Rattle.ui_machine.specs.Emissions.{handlers_for, Planned, plan, notify_plan}
+use Rattle.ui_machine.specs.State.References.{same}
+use Rattle.ui_machine.specs.Definition.{Definition}
+use Rattle.ui_machine.specs.Definition.Signals.{Signal}
+use Rattle.ui_machine.specs.State.Handlers.{Handler}
+use Rattle.ui_machine.specs.State.Tasks.{PlanEntry, class_handler, handler}
+use Rattle.ui_machine.specs.State.Config.{World}
+use Rattle.ui_machine.specs.State.Tasks as config
+use Rattle.ui_machine.specs.Rules.EmissionPlan.{handlers_for, Planned, plan, notify_plan}
 
 -- 1 where an entry is the handler's
 abbrev pub is_entry_of : ℕ → PlanEntry → ℕ

@@ -1,8 +1,8 @@
 -- Laws of queued notifications.
 use Rattle.std.specs.Prelude.{◌≡◌, ℕ, ◌≤◌, List, reverse}
 use Rattle.ui_machine.specs.Seq.{total}
-use Rattle.ui_machine.specs.Mentions.{same}
-use Rattle.ui_machine.specs.Queue.{queued, thawed}
+use Rattle.ui_machine.specs.State.References.{same}
+use Rattle.ui_machine.specs.Rules.NotifyQueue.{queued, thawed}
 
 -- how often a slot stands in a list
 abbrev pub times : ℕ → List ℕ → ℕ

@@ -1,15 +1,16 @@
 -- Laws of configurations and steps.
 use Rattle.std.specs.Prelude.{◌≡◌, ℕ, ◌+◌, true, false, List, [], Option, None, Some, Ok}
 use Rattle.ui_machine.specs.Seq.{total}
-use Rattle.ui_machine.specs.Kinds as kinds
-use Rattle.ui_machine.specs.Values as values
-use Rattle.ui_machine.specs.Types.{GType}
-use Rattle.ui_machine.specs.Ancestry.{is_a}
-use Rattle.ui_machine.specs.Transform.{kind_fits}
+use Rattle.ui_machine.specs.Definition.Kinds as kinds
+use Rattle.ui_machine.specs.Definition.Values as values
+use Rattle.ui_machine.specs.Definition.Types.{GType}
+use Rattle.ui_machine.specs.Rules.Ancestry.{is_a}
+use Rattle.ui_machine.specs.Rules.Transform.{kind_fits}
 use Rattle.ui_machine.specs.Definition.{Definition}
-use Rattle.ui_machine.specs.Config.{Reply, Object, Objects, World, Config}
-use Rattle.ui_machine.specs.Objects.{living, put, class_in}
-use Rattle.ui_machine.specs.Mentions.{same, in_object, in_held, in_source, mentions}
+use Rattle.ui_machine.specs.State.Peers.{Reply}
+use Rattle.ui_machine.specs.State.Objects.{Object, Objects, living, put, class_in}
+use Rattle.ui_machine.specs.State.Config.{World, Config}
+use Rattle.ui_machine.specs.State.References.{same, in_object, in_held, in_source, mentions}
 use Rattle.ui_machine.specs.Steps.{step}
 use Rattle.ui_machine.specs.Runs.{HasEnded}
 

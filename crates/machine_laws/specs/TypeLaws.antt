@@ -1,8 +1,8 @@
 -- Laws of what is what.
 use Rattle.std.specs.Prelude.{◌≡◌, ℕ, ◌<◌, nat_eq, true, List, [], length, None, Some}
 use Rattle.std.specs.List.{list_any}
-use Rattle.ui_machine.specs.Types.{GType}
-use Rattle.ui_machine.specs.Ancestry.{parent_of, implemented_by, is_a}
+use Rattle.ui_machine.specs.Definition.Types.{GType}
+use Rattle.ui_machine.specs.Rules.Ancestry.{parent_of, implemented_by, is_a}
 
 -- a parent stands before its children, and an interface is only itself
 pub record IsTree (types : List GType) : Type 0 where

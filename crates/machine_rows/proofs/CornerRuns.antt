@@ -1,52 +1,59 @@
 -- The runs compute.
 use Rattle.std.proofs.Common.{refl}
-use Rattle.ui_machine.specs.Builds.{making, making_set, set_forward, constructed, thawing_made, held_data, building_child, building_forward, building_binding, building_handler}
-use Rattle.ui_machine.specs.Calls.{with_method, left_with, called, uncalled}
-use Rattle.ui_machine.specs.Connections.{detail_at, detail_in}
-use Rattle.ui_machine.specs.Disposal.{closing, finalised}
-use Rattle.ui_machine.specs.Emissions.{notifying, signal_at, beginning_emission}
-use Rattle.ui_machine.specs.Families.{adopted}
-use Rattle.ui_machine.specs.Instructions.{moving, reckoning, comparing, sameness, negating, conjunction, disjunction, joining, converting, slot_at, getting, set_from, assigning, then_goes_on, telling, naming, made_new, creating, sinking, orphaning, disposing, adopting, freezing, unfreezing, signal_in, signal_to_emit, emitting, connecting, on_handlers, attaching, removing, calling, jumping, branching, branching_null}
-use Rattle.ui_machine.specs.Objects.{asked, changed, with_value}
-use Rattle.ui_machine.specs.Programs.{beginning_program, program_before}
-use Rattle.ui_machine.specs.Registers.{values_in, truth_in, text_in, whole_in, operand_in, data_in, written_to}
-use Rattle.ui_machine.specs.Results.{down_to_emission, down_to_source, received_by, ending}
-use Rattle.ui_machine.specs.Running.{block_in, given_by, returned, returning, in_front, running}
-use Rattle.ui_machine.specs.Sets.{spec_at, raising, written, setting}
-use Rattle.ui_machine.specs.Steps.{building_object, set_given, finalising, carrying_set, carrying_get, given_values, carrying_emit, carrying_release, sourcing, left}
-use Rattle.ui_machine.specs.Transfers.{carried}
-use Rattle.ui_machine.specs.Turns.{collecting, resulting}
-use Rattle.machine_rows.specs.SourceLimit as sourcelimit_run
-use Rattle.machine_rows.specs.Blocks as blocks_run
-use Rattle.machine_rows.specs.NewIsOneStep as newisonestep_run
-use Rattle.machine_rows.specs.EmitAtItsEnd as emitatitsend_run
-use Rattle.machine_rows.specs.StopInNotify as stopinnotify_run
-use Rattle.machine_rows.specs.ThawAfterDispose as thawafterdispose_run
-use Rattle.machine_rows.specs.DisposedInTheBuild as disposedinthebuild_run
-use Rattle.machine_rows.specs.AdoptedBefore as adoptedbefore_run
-use Rattle.machine_rows.specs.NullUntilBuilt as nulluntilbuilt_run
-use Rattle.machine_rows.specs.EachOthersChildren as eachotherschildren_run
-use Rattle.machine_rows.specs.SourceData as sourcedata_run
-use Rattle.machine_rows.specs.AttachedAnew as attachedanew_run
-use Rattle.machine_rows.specs.NoRoom as noroom_run
-use Rattle.machine_rows.specs.WeakAndDisposed as weakanddisposed_run
-use Rattle.machine_rows.specs.SwappedWithoutData as swappedwithoutdata_run
-use Rattle.machine_rows.specs.CleanupValues as cleanupvalues_run
-use Rattle.machine_rows.specs.StopOutside as stopoutside_run
-use Rattle.machine_rows.specs.LeftOfAThaw as leftofathaw_run
-use Rattle.machine_rows.specs.NotifyOfAnInterface as notifyofaninterface_run
-use Rattle.machine_rows.specs.Spellings as spellings_run
-use Rattle.machine_rows.specs.ForwardConstruct as forwardconstruct_run
-use Rattle.machine_rows.specs.RefusedGiven as refusedgiven_run
-use Rattle.machine_rows.specs.UnknownBits as unknownbits_run
-use Rattle.machine_rows.specs.DisposedAndFinal as disposedandfinal_run
-use Rattle.machine_rows.specs.LimitOfHandlers as limitofhandlers_run
-use Rattle.machine_rows.specs.LateConnection as lateconnection_run
-use Rattle.machine_rows.specs.StillToBuild as stilltobuild_run
-use Rattle.machine_rows.specs.PairAndBinding as pairandbinding_run
-use Rattle.machine_rows.specs.FrozenEnds as frozenends_run
-use Rattle.machine_rows.specs.TurnWithoutSources as turnwithoutsources_run
-use Rattle.machine_rows.specs.TurnAfterAValue as turnafteravalue_run
+use Rattle.ui_machine.specs.Rules.Construction.{making, making_set, constructed, thawing_made}
+use Rattle.ui_machine.specs.Rules.Build.{set_forward, held_data, building_child, building_forward, building_binding, building_handler, building_object}
+use Rattle.ui_machine.specs.Instructions.Peers.{with_method, left_with, called, uncalled, calling}
+use Rattle.ui_machine.specs.Rules.Connections.{detail_at, detail_in}
+use Rattle.ui_machine.specs.Rules.Disposal.{closing, finalised}
+use Rattle.ui_machine.specs.Rules.EmissionPlan.{notifying, signal_at, beginning_emission}
+use Rattle.ui_machine.specs.Rules.Children.{adopted}
+use Rattle.ui_machine.specs.Instructions.Registers.{moving, values_in, truth_in, text_in, whole_in, operand_in, data_in, written_to}
+use Rattle.ui_machine.specs.Instructions.Arithmetic.{reckoning, comparing, sameness, negating, conjunction, disjunction, joining, converting}
+use Rattle.ui_machine.specs.Instructions.Properties.{slot_at, getting, set_from, assigning, then_goes_on, telling}
+use Rattle.ui_machine.specs.Instructions.Objects.{naming, made_new, creating, sinking, orphaning, disposing, adopting, freezing, unfreezing}
+use Rattle.ui_machine.specs.Instructions.Signals.{signal_in, signal_to_emit, emitting, connecting, on_handlers}
+use Rattle.ui_machine.specs.Instructions.Sources.{attaching, removing}
+use Rattle.ui_machine.specs.Instructions.Jumps.{jumping, branching, branching_null, block_in, given_by, returned, returning}
+use Rattle.ui_machine.specs.State.Objects.{asked, changed, with_value}
+use Rattle.ui_machine.specs.Rules.Programs.{beginning_program, program_before}
+use Rattle.ui_machine.specs.Rules.Accumulation.{down_to_emission, down_to_source, received_by, ending, collecting, resulting}
+use Rattle.ui_machine.specs.Instructions.{in_front, running}
+use Rattle.ui_machine.specs.Rules.Sets.{spec_at, raising, written, setting}
+use Rattle.ui_machine.specs.Rules.Events.{set_given, carrying_set, carrying_get, given_values, carrying_emit, carrying_release}
+use Rattle.ui_machine.specs.Steps.{finalising, left}
+use Rattle.ui_machine.specs.Rules.MainLoop.{sourcing}
+use Rattle.ui_machine.specs.Rules.Transfers.{carried}
+use Rattle.machine_rows.specs.Runs.SourceLimit as sourcelimit_run
+use Rattle.machine_rows.specs.Runs.Blocks as blocks_run
+use Rattle.machine_rows.specs.Runs.NewIsOneStep as newisonestep_run
+use Rattle.machine_rows.specs.Runs.EmitAtItsEnd as emitatitsend_run
+use Rattle.machine_rows.specs.Runs.StopInNotify as stopinnotify_run
+use Rattle.machine_rows.specs.Runs.ThawAfterDispose as thawafterdispose_run
+use Rattle.machine_rows.specs.Runs.DisposedInTheBuild as disposedinthebuild_run
+use Rattle.machine_rows.specs.Runs.AdoptedBefore as adoptedbefore_run
+use Rattle.machine_rows.specs.Runs.NullUntilBuilt as nulluntilbuilt_run
+use Rattle.machine_rows.specs.Runs.EachOthersChildren as eachotherschildren_run
+use Rattle.machine_rows.specs.Runs.SourceData as sourcedata_run
+use Rattle.machine_rows.specs.Runs.AttachedAnew as attachedanew_run
+use Rattle.machine_rows.specs.Runs.NoRoom as noroom_run
+use Rattle.machine_rows.specs.Runs.WeakAndDisposed as weakanddisposed_run
+use Rattle.machine_rows.specs.Runs.SwappedWithoutData as swappedwithoutdata_run
+use Rattle.machine_rows.specs.Runs.CleanupValues as cleanupvalues_run
+use Rattle.machine_rows.specs.Runs.StopOutside as stopoutside_run
+use Rattle.machine_rows.specs.Runs.LeftOfAThaw as leftofathaw_run
+use Rattle.machine_rows.specs.Runs.NotifyOfAnInterface as notifyofaninterface_run
+use Rattle.machine_rows.specs.Runs.Spellings as spellings_run
+use Rattle.machine_rows.specs.Runs.ForwardConstruct as forwardconstruct_run
+use Rattle.machine_rows.specs.Runs.RefusedGiven as refusedgiven_run
+use Rattle.machine_rows.specs.Runs.UnknownBits as unknownbits_run
+use Rattle.machine_rows.specs.Runs.DisposedAndFinal as disposedandfinal_run
+use Rattle.machine_rows.specs.Runs.LimitOfHandlers as limitofhandlers_run
+use Rattle.machine_rows.specs.Runs.LateConnection as lateconnection_run
+use Rattle.machine_rows.specs.Runs.StillToBuild as stilltobuild_run
+use Rattle.machine_rows.specs.Runs.PairAndBinding as pairandbinding_run
+use Rattle.machine_rows.specs.Runs.FrozenEnds as frozenends_run
+use Rattle.machine_rows.specs.Runs.TurnWithoutSources as turnwithoutsources_run
+use Rattle.machine_rows.specs.Runs.TurnAfterAValue as turnafteravalue_run
 
 pub sourcelimit_holds : sourcelimit_run.Holds
 unfolding making making_set set_forward closing finalised detail_at detail_in set_given finalising constructed thawing_made held_data building_child building_forward building_binding building_handler with_method left_with called uncalled notifying signal_at beginning_emission adopted moving reckoning comparing sameness negating conjunction disjunction joining converting slot_at getting set_from assigning then_goes_on telling naming made_new creating sinking orphaning disposing adopting freezing unfreezing signal_in signal_to_emit emitting connecting on_handlers attaching removing calling jumping branching branching_null asked changed with_value beginning_program program_before values_in truth_in text_in whole_in operand_in data_in written_to down_to_emission down_to_source received_by ending block_in given_by returned returning in_front running spec_at raising written setting building_object carrying_set carrying_get given_values carrying_emit carrying_release sourcing left carried collecting resulting

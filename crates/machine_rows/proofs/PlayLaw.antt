@@ -5,14 +5,17 @@ use Rattle.std.proofs.lemmas.List.{map-append}
 use Rattle.ui_machine.specs.declared.arm.Arm.{Arm}
 use Rattle.ui_machine.specs.declared.arm.Arm.TheVariants as arms
 use Rattle.ui_machine.specs.Definition.{Definition}
-use Rattle.ui_machine.specs.Config as config
-use Rattle.ui_machine.specs.Config.{Peer, Question, Reply, Source, Due, Event, World, Config}
-use Rattle.ui_machine.specs.Answers.{Answer, ◌>>=◌}
-use Rattle.ui_machine.specs.Objects.{next_unheld}
-use Rattle.ui_machine.specs.Mentions.{mentions}
-use Rattle.ui_machine.specs.Sources.{source_of}
+use Rattle.ui_machine.specs.State.Tasks as config
+use Rattle.ui_machine.specs.State.Peers.{Peer, Question, Reply}
+use Rattle.ui_machine.specs.State.Sources.{Source, source_of}
+use Rattle.ui_machine.specs.State.Tasks.{Due, Event}
+use Rattle.ui_machine.specs.State.Config.{World, Config}
+use Rattle.ui_machine.specs.Outcome.{Answer, ◌>>=◌}
+use Rattle.ui_machine.specs.State.References.{next_unheld, mentions}
 use Rattle.ui_machine.specs.Steps.{step, question}
-use Rattle.ui_machine.specs.Runs.{Step, Steps, listed, HasEnded, Tally, no_dispatch, one_dispatch, tallied, Then, Rests, Carries, RunsSource, RunsSources, Refusal, refusal, Does, Comes, Serves, ServesAll, turned, ready_at, beginning, of_build, of_request, first_world}
+use Rattle.ui_machine.specs.Runs.{Step, Steps, listed, HasEnded, Tally, no_dispatch, one_dispatch, tallied, Then, Rests, Carries, RunsSource, RunsSources, Does, Comes, Serves, ServesAll, beginning, of_build, of_request, first_world}
+use Rattle.ui_machine.specs.Rules.Events.{Refusal, refusal}
+use Rattle.ui_machine.specs.Rules.MainLoop.{turned, ready_at}
 use Rattle.machine_rows.specs.Play.{Scripted, Played, with_script, reply_to, step_with, played_step, is_empty, has_ended, played_out, most_played, ended_world, dispatched, unplayed, source_played, sources_played, done, unless_refused, event_played, events_played, played}
 use Rattle.machine_rows.specs.PlayLaw.{script_of, IsScripted, PlayedIsRun}
 

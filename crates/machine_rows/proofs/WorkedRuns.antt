@@ -1,50 +1,57 @@
 -- The runs compute.
 use Rattle.std.proofs.Common.{refl}
-use Rattle.ui_machine.specs.Builds.{making, making_set, set_forward, constructed, thawing_made, held_data, building_child, building_forward, building_binding, building_handler}
-use Rattle.ui_machine.specs.Calls.{with_method, left_with, called, uncalled}
-use Rattle.ui_machine.specs.Connections.{detail_at, detail_in}
-use Rattle.ui_machine.specs.Disposal.{closing, finalised}
-use Rattle.ui_machine.specs.Emissions.{notifying, signal_at, beginning_emission}
-use Rattle.ui_machine.specs.Families.{adopted}
-use Rattle.ui_machine.specs.Instructions.{moving, reckoning, comparing, sameness, negating, conjunction, disjunction, joining, converting, slot_at, getting, set_from, assigning, then_goes_on, telling, naming, made_new, creating, sinking, orphaning, disposing, adopting, freezing, unfreezing, signal_in, signal_to_emit, emitting, connecting, on_handlers, attaching, removing, calling, jumping, branching, branching_null}
-use Rattle.ui_machine.specs.Objects.{asked, changed, with_value}
-use Rattle.ui_machine.specs.Programs.{beginning_program, program_before}
-use Rattle.ui_machine.specs.Registers.{values_in, truth_in, text_in, whole_in, operand_in, data_in, written_to}
-use Rattle.ui_machine.specs.Results.{down_to_emission, down_to_source, received_by, ending}
-use Rattle.ui_machine.specs.Running.{block_in, given_by, returned, returning, in_front, running}
-use Rattle.ui_machine.specs.Sets.{spec_at, raising, written, setting}
-use Rattle.ui_machine.specs.Steps.{building_object, set_given, finalising, carrying_set, carrying_get, given_values, carrying_emit, carrying_release, sourcing, left}
-use Rattle.ui_machine.specs.Transfers.{carried}
-use Rattle.ui_machine.specs.Turns.{collecting, resulting}
-use Rattle.machine_rows.specs.FirstRun as firstrun_run
-use Rattle.machine_rows.specs.NothingToDo as nothingtodo_run
-use Rattle.machine_rows.specs.Range as range_run
-use Rattle.machine_rows.specs.LaxRange as laxrange_run
-use Rattle.machine_rows.specs.ConstructOnly as constructonly_run
-use Rattle.machine_rows.specs.ForwardReference as forwardreference_run
-use Rattle.machine_rows.specs.Freezes as freezes_run
-use Rattle.machine_rows.specs.Stages as stages_run
-use Rattle.machine_rows.specs.TrueHandled as truehandled_run
-use Rattle.machine_rows.specs.NoHandlers as nohandlers_run
-use Rattle.machine_rows.specs.Connections as connections_run
-use Rattle.machine_rows.specs.Pair as pair_run
-use Rattle.machine_rows.specs.Labels as labels_run
-use Rattle.machine_rows.specs.LastReference as lastreference_run
-use Rattle.machine_rows.specs.MainLoop as mainloop_run
-use Rattle.machine_rows.specs.Floating as floating_run
-use Rattle.machine_rows.specs.FaultingPeer as faultingpeer_run
-use Rattle.machine_rows.specs.Release as release_run
-use Rattle.machine_rows.specs.TextAndTruth as textandtruth_run
-use Rattle.machine_rows.specs.Construction as construction_run
-use Rattle.machine_rows.specs.ExplicitNotify as explicitnotify_run
-use Rattle.machine_rows.specs.Links as links_run
-use Rattle.machine_rows.specs.Children as children_run
-use Rattle.machine_rows.specs.Detail as detail_run
-use Rattle.machine_rows.specs.EnumBinding as enumbinding_run
-use Rattle.machine_rows.specs.DueNotification as duenotification_run
-use Rattle.machine_rows.specs.ScreenPeer as screenpeer_run
-use Rattle.machine_rows.specs.RepeatedBlock as repeatedblock_run
-use Rattle.machine_rows.specs.FrozenPair as frozenpair_run
+use Rattle.ui_machine.specs.Rules.Construction.{making, making_set, constructed, thawing_made}
+use Rattle.ui_machine.specs.Rules.Build.{set_forward, held_data, building_child, building_forward, building_binding, building_handler, building_object}
+use Rattle.ui_machine.specs.Instructions.Peers.{with_method, left_with, called, uncalled, calling}
+use Rattle.ui_machine.specs.Rules.Connections.{detail_at, detail_in}
+use Rattle.ui_machine.specs.Rules.Disposal.{closing, finalised}
+use Rattle.ui_machine.specs.Rules.EmissionPlan.{notifying, signal_at, beginning_emission}
+use Rattle.ui_machine.specs.Rules.Children.{adopted}
+use Rattle.ui_machine.specs.Instructions.Registers.{moving, values_in, truth_in, text_in, whole_in, operand_in, data_in, written_to}
+use Rattle.ui_machine.specs.Instructions.Arithmetic.{reckoning, comparing, sameness, negating, conjunction, disjunction, joining, converting}
+use Rattle.ui_machine.specs.Instructions.Properties.{slot_at, getting, set_from, assigning, then_goes_on, telling}
+use Rattle.ui_machine.specs.Instructions.Objects.{naming, made_new, creating, sinking, orphaning, disposing, adopting, freezing, unfreezing}
+use Rattle.ui_machine.specs.Instructions.Signals.{signal_in, signal_to_emit, emitting, connecting, on_handlers}
+use Rattle.ui_machine.specs.Instructions.Sources.{attaching, removing}
+use Rattle.ui_machine.specs.Instructions.Jumps.{jumping, branching, branching_null, block_in, given_by, returned, returning}
+use Rattle.ui_machine.specs.State.Objects.{asked, changed, with_value}
+use Rattle.ui_machine.specs.Rules.Programs.{beginning_program, program_before}
+use Rattle.ui_machine.specs.Rules.Accumulation.{down_to_emission, down_to_source, received_by, ending, collecting, resulting}
+use Rattle.ui_machine.specs.Instructions.{in_front, running}
+use Rattle.ui_machine.specs.Rules.Sets.{spec_at, raising, written, setting}
+use Rattle.ui_machine.specs.Rules.Events.{set_given, carrying_set, carrying_get, given_values, carrying_emit, carrying_release}
+use Rattle.ui_machine.specs.Steps.{finalising, left}
+use Rattle.ui_machine.specs.Rules.MainLoop.{sourcing}
+use Rattle.ui_machine.specs.Rules.Transfers.{carried}
+use Rattle.machine_rows.specs.Runs.FirstRun as firstrun_run
+use Rattle.machine_rows.specs.Runs.NothingToDo as nothingtodo_run
+use Rattle.machine_rows.specs.Runs.Range as range_run
+use Rattle.machine_rows.specs.Runs.LaxRange as laxrange_run
+use Rattle.machine_rows.specs.Runs.ConstructOnly as constructonly_run
+use Rattle.machine_rows.specs.Runs.ForwardReference as forwardreference_run
+use Rattle.machine_rows.specs.Runs.Freezes as freezes_run
+use Rattle.machine_rows.specs.Runs.Stages as stages_run
+use Rattle.machine_rows.specs.Runs.TrueHandled as truehandled_run
+use Rattle.machine_rows.specs.Runs.NoHandlers as nohandlers_run
+use Rattle.machine_rows.specs.Runs.Connections as connections_run
+use Rattle.machine_rows.specs.Runs.Pair as pair_run
+use Rattle.machine_rows.specs.Runs.Labels as labels_run
+use Rattle.machine_rows.specs.Runs.LastReference as lastreference_run
+use Rattle.machine_rows.specs.Runs.MainLoop as mainloop_run
+use Rattle.machine_rows.specs.Runs.Floating as floating_run
+use Rattle.machine_rows.specs.Runs.FaultingPeer as faultingpeer_run
+use Rattle.machine_rows.specs.Runs.Release as release_run
+use Rattle.machine_rows.specs.Runs.TextAndTruth as textandtruth_run
+use Rattle.machine_rows.specs.Runs.Construction as construction_run
+use Rattle.machine_rows.specs.Runs.ExplicitNotify as explicitnotify_run
+use Rattle.machine_rows.specs.Runs.Links as links_run
+use Rattle.machine_rows.specs.Runs.Children as children_run
+use Rattle.machine_rows.specs.Runs.Detail as detail_run
+use Rattle.machine_rows.specs.Runs.EnumBinding as enumbinding_run
+use Rattle.machine_rows.specs.Runs.DueNotification as duenotification_run
+use Rattle.machine_rows.specs.Runs.ScreenPeer as screenpeer_run
+use Rattle.machine_rows.specs.Runs.RepeatedBlock as repeatedblock_run
+use Rattle.machine_rows.specs.Runs.FrozenPair as frozenpair_run
 
 pub firstrun_holds : firstrun_run.Holds
 unfolding making making_set set_forward closing finalised detail_at detail_in set_given finalising constructed thawing_made held_data building_child building_forward building_binding building_handler with_method left_with called uncalled notifying signal_at beginning_emission adopted moving reckoning comparing sameness negating conjunction disjunction joining converting slot_at getting set_from assigning then_goes_on telling naming made_new creating sinking orphaning disposing adopting freezing unfreezing signal_in signal_to_emit emitting connecting on_handlers attaching removing calling jumping branching branching_null asked changed with_value beginning_program program_before values_in truth_in text_in whole_in operand_in data_in written_to down_to_emission down_to_source received_by ending block_in given_by returned returning in_front running spec_at raising written setting building_object carrying_set carrying_get given_values carrying_emit carrying_release sourcing left carried collecting resulting

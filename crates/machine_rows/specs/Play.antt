@@ -1,18 +1,20 @@
 -- A whole run, computed: the build and a list of events, where the replies of the peers are given as a script.
 use Rattle.std.specs.Prelude.{ℕ, zero, suc, Bool, true, false, ◌&&◌, List, [], ◌∷◌, Option, None, Some, Ok, Err, is_none}
 use Rattle.ui_machine.specs.declared.arm.Arm.TheVariants as arms
-use Rattle.ui_machine.specs.Values.{Value}
+use Rattle.ui_machine.specs.Definition.Values.{Value}
 use Rattle.ui_machine.specs.Definition.{Definition}
-use Rattle.ui_machine.specs.Lines as lines
-use Rattle.ui_machine.specs.Config as config
-use Rattle.ui_machine.specs.Config.{PeerState, Peer, Question, Reply, Source, Due, Event, World, Config}
-use Rattle.ui_machine.specs.Answers.{Answer, ◌>>=◌}
-use Rattle.ui_machine.specs.Objects.{next_unheld}
-use Rattle.ui_machine.specs.Mentions.{mentions}
-use Rattle.ui_machine.specs.Sources.{source_of}
-use Rattle.ui_machine.specs.Worlds.{said}
+use Rattle.ui_machine.specs.Output.Lines as lines
+use Rattle.ui_machine.specs.State.Tasks as config
+use Rattle.ui_machine.specs.State.Peers.{PeerState, Peer, Question, Reply}
+use Rattle.ui_machine.specs.State.Sources.{Source, source_of}
+use Rattle.ui_machine.specs.State.Tasks.{Due, Event}
+use Rattle.ui_machine.specs.State.Config.{World, Config, said}
+use Rattle.ui_machine.specs.Outcome.{Answer, ◌>>=◌}
+use Rattle.ui_machine.specs.State.References.{next_unheld, mentions}
 use Rattle.ui_machine.specs.Steps.{step, question}
-use Rattle.ui_machine.specs.Runs.{one_more, faults_after, Refusal, refusal, turned, ready_at, beginning, of_build, of_request}
+use Rattle.ui_machine.specs.Runs.{one_more, faults_after, beginning, of_build, of_request}
+use Rattle.ui_machine.specs.Rules.Events.{Refusal, refusal}
+use Rattle.ui_machine.specs.Rules.MainLoop.{turned, ready_at}
 
 -- what a peer replies, as a row says it: a value or a fault, and the values of its state from then on
 pub record Scripted : Type 0 where

@@ -1,7 +1,9 @@
 -- What is played is a run of the machine.
 use Rattle.std.specs.Prelude.{◌≡◌, List, ◌++◌, map, Ok}
 use Rattle.ui_machine.specs.Definition.{Definition}
-use Rattle.ui_machine.specs.Config.{Peer, Reply, Event, World}
+use Rattle.ui_machine.specs.State.Peers.{Peer, Reply}
+use Rattle.ui_machine.specs.State.Tasks.{Event}
+use Rattle.ui_machine.specs.State.Config.{World}
 use Rattle.ui_machine.specs.Runs.{Tally, IsRun}
 use Rattle.machine_rows.specs.Play.{Scripted, Played, played}
 

@@ -1,7 +1,7 @@
 -- What the definitions compute to.
 use Rattle.std.proofs.Common.{◌≡◌, refl, List, [], ◌∷◌, true, false, Some, None, pos, negsuc}
-use Rattle.ui_machine.specs.Config.{Source}
-use Rattle.ui_machine.specs.Sources.{ready, new_source, attached, has_room, answered, without_program}
+use Rattle.ui_machine.specs.State.Sources.{Source, new_source, attached, has_room, without_program}
+use Rattle.ui_machine.specs.Rules.MainLoop.{ready, answered}
 
 abbrev tick : Source
 tick = new_source 1 0 7 (pos 0) (Some 100) None

@@ -6,7 +6,7 @@ use Rattle.std.proofs.lemmas.List.Quantifiers.{position-Some}
 use Rattle.std.proofs.lemmas.Option.{slice_get_past}
 use Rattle.std.proofs.lemmas.Grind.{common_steps}
 use Rattle.ui_machine.specs.Seq.{total}
-use Rattle.ui_machine.specs.Sources.{without_first}
+use Rattle.ui_machine.specs.State.Sources.{without_first}
 
 -- ** where none passes
 

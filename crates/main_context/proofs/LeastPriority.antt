@@ -1,8 +1,8 @@
 -- The least priority number of the ready sources, one source after the other.
 use Rattle.std.proofs.Common.{◌≡◌, ℕ, ◌+◌, ◌<◌, ℤ, true, false, List, [], length, get_or, take, Option, None, Some}
 use Rattle.std.specs.List.{filter}
-use Rattle.ui_machine.specs.Config.{Source}
-use Rattle.ui_machine.specs.Sources.{is_ready, is_foremost, ready}
+use Rattle.ui_machine.specs.State.Sources.{Source}
+use Rattle.ui_machine.specs.Rules.MainLoop.{is_ready, is_foremost, ready}
 use Rattle.main_context.specs.Priorities.{IsLeast, is_ready_at, lower}
 use Rattle.main_context.proofs.Least.{none_passed, least_passed, least_first, least_more, filter_least, filter_none}
 

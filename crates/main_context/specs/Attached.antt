@@ -1,8 +1,7 @@
 -- What a context stands for.
 use Rattle.std.specs.Prelude.{ℕ, ◌+◌, ℤ, Bool, List, [], ◌∷◌, Option, None, cond, is_some}
 use Rattle.std.specs.Option.{option_or}
-use Rattle.ui_machine.specs.Config.{Source}
-use Rattle.ui_machine.specs.Sources.{attached, new_source, source_of}
+use Rattle.ui_machine.specs.State.Sources.{Source, attached, new_source, source_of}
 
 -- the sources in order of attachment, the number of the last one attached and the latest moment; each 0 before any
 pub record Attached : Type 0 where

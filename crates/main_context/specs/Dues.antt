@@ -1,6 +1,6 @@
 -- A source as it is given to be run.
 use Rattle.std.specs.Prelude.{ℕ, Option, option_map}
-use Rattle.ui_machine.specs.Config.{Source}
+use Rattle.ui_machine.specs.State.Sources.{Source}
 use Rattle.ui_machine.specs.declared.ids.ObjectId.{ObjectId}
 use Rattle.main_context.specs.declared.source.Due.{Due}
 

@@ -3,8 +3,8 @@ use Rattle.std.specs.Prelude.{◌≡◌, ℕ, ℤ, Bool, true, false, not, ◌&&
 use Rattle.std.specs.Ordering.{int_eq}
 use Rattle.std.specs.Int.{int_min}
 use Rattle.std.specs.List.{list_any, list_all}
-use Rattle.ui_machine.specs.Config.{Source}
-use Rattle.ui_machine.specs.Sources.{is_ready}
+use Rattle.ui_machine.specs.State.Sources.{Source}
+use Rattle.ui_machine.specs.Rules.MainLoop.{is_ready}
 
 -- whether a source is ready and has this priority
 abbrev pub is_ready_at : (moment : ℕ) → ℤ → Source → Bool

@@ -2,7 +2,7 @@
 
 ghost use Rattle.std.specs.Prelude.{◌≡◌, [], ◌∷◌, map, MatchOption, IfOk};
 ghost use Rattle.std.specs.List.{filter};
-ghost use Rattle.ui_machine.specs.Sources.{is_ready, ready};
+ghost use Rattle.ui_machine.specs.Rules.MainLoop.{is_ready, ready};
 ghost use Rattle.main_context.specs.Priorities.{is_ready_at, lower, IsLeast};
 
 use crate::source::Source;

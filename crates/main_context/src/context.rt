@@ -2,7 +2,8 @@
 
 ghost use Rattle.std.specs.Prelude.{◌≡◌, ◌<◌, ◌↔◌, ◌&&◌, not, false, [], None, Some, map, option_map, OnOk, OnErr, IfOk};
 ghost use Rattle.std.specs.List.{find};
-ghost use Rattle.ui_machine.specs.Sources.{ready, has_room, source_of, runs_program, without_first, answered};
+ghost use Rattle.ui_machine.specs.Rules.MainLoop.{ready, answered};
+ghost use Rattle.ui_machine.specs.State.Sources.{has_room, source_of, runs_program, without_first};
 
 use crate::batch::Batch;
 use crate::fault::{AttachError, TurnError};

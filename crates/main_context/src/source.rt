@@ -1,7 +1,8 @@
 //! One source.
 
 ghost use Rattle.std.specs.Prelude.{◌≡◌};
-ghost use Rattle.ui_machine.specs.Sources.{is_ready, is_numbered, runs_program, due_after, new_source};
+ghost use Rattle.ui_machine.specs.Rules.MainLoop.{is_ready};
+ghost use Rattle.ui_machine.specs.State.Sources.{is_numbered, runs_program, due_after, new_source};
 
 use std::marker::Model;
 use ui_machine::ObjectId;
@@ -27,8 +28,8 @@ pub(crate) struct Source {
 
 impl Model for Source {
     ghost use Rattle.std.specs.Prelude.{option_map};
-    ghost use Rattle.ui_machine.specs.Sources.{due_after};
-    ghost use Rattle.ui_machine.specs.Config as config;
+    ghost use Rattle.ui_machine.specs.State.Sources.{due_after};
+    ghost use Rattle.ui_machine.specs.State.Sources as config;
 
     ghost Value = { config.Source };
 

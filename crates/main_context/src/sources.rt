@@ -2,7 +2,8 @@
 
 ghost use Rattle.std.specs.Prelude.{◌≡◌, option_map};
 ghost use Rattle.std.specs.List.{find, position};
-ghost use Rattle.ui_machine.specs.Sources.{is_numbered, runs_program, source_of, without_first, without_source, rescheduled};
+ghost use Rattle.ui_machine.specs.State.Sources.{is_numbered, runs_program, source_of, without_first, without_source};
+ghost use Rattle.ui_machine.specs.Rules.MainLoop.{rescheduled};
 ghost use Rattle.main_context.specs.Dues.{due_of};
 
 use crate::source::{Due, Source};

@@ -1,6 +1,6 @@
 -- What the definitions compute to.
 use Rattle.std.proofs.Common.{◌≡◌, refl, [], ◌∷◌}
-use Rattle.ui_machine.specs.Queue.{queued, thawed}
+use Rattle.ui_machine.specs.Rules.NotifyQueue.{queued, thawed}
 
 queues_each_once : queued (queued (queued [] 1) 2) 1 ≡ 1 ∷ 2 ∷ []
 queues_each_once = refl

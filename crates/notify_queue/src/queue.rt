@@ -1,7 +1,7 @@
 //! A count of freezes and a queue of slots.
 
 ghost use Rattle.std.specs.Prelude.{◌≡◌, ◌+◌, ◌-◌, ◌^◌, ◌<◌, ◌↔◌, [], IsTrue, IsSome, IfSome, IfNone, OnOk, OnErr, reverse};
-ghost use Rattle.ui_machine.specs.Queue.{queued, thawed};
+ghost use Rattle.ui_machine.specs.Rules.NotifyQueue.{queued, thawed};
 
 use std::alloc::{AllocError, Global};
 use std::marker::Model;

@@ -2,7 +2,7 @@
 use Rattle.std.proofs.Common.{◌≡◌, ℕ, zero, suc, ◌+◌, ◌<◌, Bool, true, false, nat_eq, if◌then◌else◌, List, [], ◌∷◌, ◌++◌, length, map, get_or, slice_set, Option, Some, Result, Ok, Err, OnErr, ◌≤◌, subst, length-append, refl, sym, ap, ◌∙◌, arith}
 use Rattle.std.proofs.lemmas.Bool.Decides.{nat_tests}
 use Rattle.std.proofs.lemmas.List.{map-append}
-use Rattle.ui_machine.specs.Properties as properties
+use Rattle.ui_machine.specs.Definition.Properties as properties
 use Rattle.param_specs.specs.declared.spec.Spec.{Spec}
 use Rattle.param_specs.specs.View.{spec_view, lists_of}
 use Rattle.param_specs.specs.Table.{AddsSpec, SameSpecs, IsTable, Installs, own_of}

@@ -2,10 +2,10 @@
 use Rattle.std.proofs.Common.{◌≡◌, ℕ, ℤ, Bool, true, false, cond, nat_eq, ◌&&◌, List, [], ◌∷◌, None, Some, refl, ap, ◌∙◌, arith}
 use Rattle.std.specs.Ordering.{int_eq}
 use Rattle.std.proofs.lemmas.Bool.Decides.{nat_tests, Decides-int_eq}
-use Rattle.ui_machine.specs.Names.{same_name}
-use Rattle.ui_machine.specs.Kinds.{Whole, int, uint, int64, uint64}
-use Rattle.ui_machine.specs.Values.{Value, bool, whole, text, enum, flags, object}
-use Rattle.ui_machine.specs.Transform.{same_value, same_whole}
+use Rattle.ui_machine.specs.Definition.Names.{same_name}
+use Rattle.ui_machine.specs.Definition.Kinds.{Whole, int, uint, int64, uint64}
+use Rattle.ui_machine.specs.Definition.Values.{Value, bool, whole, text, enum, flags, object}
+use Rattle.ui_machine.specs.Rules.Transform.{same_value, same_whole}
 
 nat_same : (n : ℕ) → nat_eq n n ≡ true
 nat_same n = grind (arith, nat_tests)

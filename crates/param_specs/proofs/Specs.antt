@@ -8,12 +8,12 @@ use Rattle.std.specs.List.{position_from}
 use Rattle.std.proofs.lemmas.Iterator.Adapters.{position_from-zero}
 use Rattle.std.proofs.lemmas.Option.{none-some}
 use Rattle.ui_machine.specs.Seq.{read}
-use Rattle.ui_machine.specs.Names.{same_name, canonical, place_from}
+use Rattle.ui_machine.specs.Definition.Names.{same_name, canonical, place_from}
 use Rattle.param_specs.specs.declared.spec.Spec as Entry
 use Rattle.param_specs.specs.View.{spec_view}
-use Rattle.ui_machine.specs.Types.{GType}
-use Rattle.ui_machine.specs.Ancestry.{parent_of, lineage}
-use Rattle.ui_machine.specs.Properties.{Spec}
+use Rattle.ui_machine.specs.Definition.Types.{GType}
+use Rattle.ui_machine.specs.Rules.Ancestry.{parent_of, lineage}
+use Rattle.ui_machine.specs.Definition.Properties.{Spec}
 use Rattle.type_tree.specs.Tree.{IsTree}
 use Rattle.type_tree.proofs.Lines.{line_from-parent, line_from-root}
 use Rattle.param_specs.specs.Table.{own_of, specs_of, slot_named}

@@ -1,8 +1,8 @@
 -- A slot that is found lies within the properties.
 use Rattle.std.proofs.Common.{◌≡◌, ℕ, suc, ◌+◌, ◌<◌, Bool, true, false, cond, List, [], ◌∷◌, length, Some, sym, arith}
 use Rattle.std.proofs.lemmas.Option.{none-some}
-use Rattle.ui_machine.specs.Names.{same_name, canonical, place_from}
-use Rattle.ui_machine.specs.Properties.{Spec}
+use Rattle.ui_machine.specs.Definition.Names.{same_name, canonical, place_from}
+use Rattle.ui_machine.specs.Definition.Properties.{Spec}
 use Rattle.param_specs.specs.Table.{slot_named}
 
 place_within : (i : ℕ) (xs : List Spec) (name : List ℕ) (slot : ℕ) → place_from (λ s. s.name) i xs name ≡ Some slot → slot < i + length xs

@@ -1,6 +1,6 @@
 -- Flags of properties (GObject manual, GParamFlags).
 use Rattle.std.specs.Prelude.{ℕ, Bool, ◌&&◌, ◌||◌, not}
-use Rattle.ui_machine.specs.Properties.{has_flags}
+use Rattle.ui_machine.specs.Definition.Properties.{has_flags}
 
 -- construct with construct-only, either without writable, or neither readable nor writable
 abbrev pub is_clash : ℕ → Bool

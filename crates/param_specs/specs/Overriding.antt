@@ -1,8 +1,8 @@
 -- Whether a type has the properties of an interface as the interface has them.
 use Rattle.std.specs.Prelude.{ℕ, Bool, false, not, ◌&&◌, nat_eq, List, Option, None, Some, is_some, option_map, option_and_then, slice_get, position, Result, Ok, Err}
 use Rattle.std.specs.Ordering.{int_eq}
-use Rattle.ui_machine.specs.Transform.{same_kind, same_value, same_bool}
-use Rattle.ui_machine.specs.Properties.{Spec}
+use Rattle.ui_machine.specs.Rules.Transform.{same_kind, same_value, same_bool}
+use Rattle.ui_machine.specs.Definition.Properties.{Spec}
 use Rattle.param_specs.specs.Table.{slot_named, ◌or_else◌}
 use Rattle.param_specs.specs.declared.error.OverrideFault.{OverrideFault}
 use Rattle.param_specs.specs.declared.error.OverrideFault.TheVariants.{Missing, Differs}

@@ -2,11 +2,11 @@
 use Rattle.std.specs.Prelude.{◌≡◌, ℕ, ◌≤◌, int_lt, Bool, not, nat_eq, nat_le, List, [], ◌∷◌, ◌++◌, length, reverse, if◌then◌else◌, Option, None, Some, is_some, Result, Ok, Err}
 use Rattle.std.specs.List.{flat_map}
 use Rattle.ui_machine.specs.Seq.{read}
-use Rattle.ui_machine.specs.Names.{canonical, place_named}
-use Rattle.ui_machine.specs.Types.{GType}
-use Rattle.ui_machine.specs.Ancestry.{lineage}
-use Rattle.ui_machine.specs.Clamp.{is_valid}
-use Rattle.ui_machine.specs.Properties.{Spec}
+use Rattle.ui_machine.specs.Definition.Names.{canonical, place_named}
+use Rattle.ui_machine.specs.Definition.Types.{GType}
+use Rattle.ui_machine.specs.Rules.Ancestry.{lineage}
+use Rattle.ui_machine.specs.Rules.Validation.{is_valid}
+use Rattle.ui_machine.specs.Definition.Properties.{Spec}
 use Rattle.param_specs.specs.declared.error.SpecFault.{SpecFault}
 use Rattle.param_specs.specs.declared.error.SpecFault.TheVariants.{BadName, Duplicate, FlagsClash, RangeEmpty, DefaultInvalid, Limit}
 use Rattle.param_specs.specs.declared.error.SpecError.{SpecError}

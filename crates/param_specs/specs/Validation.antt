@@ -1,11 +1,11 @@
 -- What validation is asked for.
 use Rattle.std.specs.Prelude.{◌≡◌, ◌≤ℤ◌, ℕ, false, List, Option, None, Some}
-use Rattle.ui_machine.specs.Kinds.{Whole, int, uint, int64, uint64}
-use Rattle.ui_machine.specs.Kinds as kinds
-use Rattle.ui_machine.specs.Types.{GType, enum, flags}
-use Rattle.ui_machine.specs.Transform.{least, greatest, same_value}
+use Rattle.ui_machine.specs.Definition.Kinds.{Whole, int, uint, int64, uint64}
+use Rattle.ui_machine.specs.Definition.Kinds as kinds
+use Rattle.ui_machine.specs.Definition.Types.{GType, enum, flags}
+use Rattle.ui_machine.specs.Rules.Transform.{least, greatest, same_value}
 use Rattle.type_tree.specs.Adding.{sort_of}
-use Rattle.ui_machine.specs.Values as values
+use Rattle.ui_machine.specs.Definition.Values as values
 use Rattle.g_values.specs.View.{value_kind, value_view}
 use Rattle.g_values.specs.declared.value.Value.{Value}
 use Rattle.g_values.specs.declared.value.Value.TheVariants.{Bool, Int, UInt, Int64, UInt64, Text, Enum, Flags, Object}

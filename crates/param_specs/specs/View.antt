@@ -1,6 +1,6 @@
 -- What a spec stands for.
 use Rattle.std.specs.Prelude.{List, map, string_bytes}
-use Rattle.ui_machine.specs.Properties as properties
+use Rattle.ui_machine.specs.Definition.Properties as properties
 use Rattle.g_values.specs.View.{kind_view, value_view}
 use Rattle.param_specs.specs.declared.spec.Spec.{Spec}
 

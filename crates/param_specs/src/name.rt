@@ -1,7 +1,7 @@
 //! Names of properties.
 
 ghost use Rattle.std.specs.Prelude.{◌≡◌, cond, nat_eq, map, true, IfOk, string_bytes};
-ghost use Rattle.ui_machine.specs.Names.{same_name, canonical};
+ghost use Rattle.ui_machine.specs.Definition.Names.{same_name, canonical};
 ghost use Rattle.param_specs.specs.PropertyName.{is_property_name, segments_follow, is_letter, is_letter_or_digit, is_separator};
 
 use std::alloc::{AllocError, Global};

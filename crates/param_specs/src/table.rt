@@ -1,7 +1,7 @@
 //! Which properties the types have.
 
 ghost use Rattle.std.specs.Prelude.{◌≡◌, ◌≢◌, ◌<◌, ◌≤◌, ◌+◌, ◌*◌, List, [], map, length, string_bytes, slice_get, position, Some, IfSome, IfNone, true, OnOk, OnErr};
-ghost use Rattle.ui_machine.specs.Names.{same_name, canonical, place_named};
+ghost use Rattle.ui_machine.specs.Definition.Names.{same_name, canonical, place_named};
 ghost use Rattle.param_specs.specs.View.{spec_view};
 ghost use Rattle.g_values.specs.View.{IsKnown};
 ghost use Rattle.param_specs.specs.PropertyName.{is_property_name};
@@ -28,7 +28,7 @@ pub struct SpecTable {
 
 impl Model for SpecTable {
     ghost use Rattle.std.specs.Prelude.{List, map};
-    ghost use Rattle.ui_machine.specs.Properties as properties;
+    ghost use Rattle.ui_machine.specs.Definition.Properties as properties;
     ghost use Rattle.param_specs.specs.View.{spec_view};
     ghost use Rattle.param_specs.specs.Table.{IsTable};
 

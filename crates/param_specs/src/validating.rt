@@ -2,13 +2,13 @@
 
 ghost use Rattle.std.specs.Prelude.{◌≡◌, ◌↔◌, IsTrue, ◌≤ℤ◌, ℤ, ℕ, pos, cond, not, nat_eq, bit_and, List, Option, None, Some, IfSome};
 ghost use Rattle.std.specs.Ordering.{int_eq};
-ghost use Rattle.ui_machine.specs.Values as values;
-ghost use Rattle.ui_machine.specs.Kinds as kinds;
-ghost use Rattle.ui_machine.specs.Kinds.{int, uint, int64, uint64};
-ghost use Rattle.ui_machine.specs.Types.{GType, enum, flags};
-ghost use Rattle.ui_machine.specs.Text.{members_of};
-ghost use Rattle.ui_machine.specs.Transform.{same_value, least, greatest, has_number, known_bits};
-ghost use Rattle.ui_machine.specs.Clamp.{clamp, limited, is_valid};
+ghost use Rattle.ui_machine.specs.Definition.Values as values;
+ghost use Rattle.ui_machine.specs.Definition.Kinds as kinds;
+ghost use Rattle.ui_machine.specs.Definition.Kinds.{int, uint, int64, uint64};
+ghost use Rattle.ui_machine.specs.Definition.Types.{GType, enum, flags};
+ghost use Rattle.ui_machine.specs.Output.Text.{members_of};
+ghost use Rattle.ui_machine.specs.Rules.Transform.{same_value, least, greatest, has_number, known_bits};
+ghost use Rattle.ui_machine.specs.Rules.Validation.{clamp, limited, is_valid};
 ghost use Rattle.type_tree.specs.Adding.{sort_of};
 ghost use Rattle.g_values.specs.View.{kind_view, value_view, value_kind, IsKnown};
 ghost use Rattle.param_specs.specs.View.{spec_view};

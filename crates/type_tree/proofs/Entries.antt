@@ -4,9 +4,9 @@ use Rattle.std.specs.Option.{ForSome}
 use Rattle.std.proofs.lemmas.Bool.{cases_lt}
 use Rattle.std.proofs.lemmas.Option.{none-some}
 use Rattle.ui_machine.specs.Seq.{read}
-use Rattle.ui_machine.specs.Types.{GType}
-use Rattle.ui_machine.specs.Text.{no_type}
-use Rattle.ui_machine.specs.Ancestry.{parent_of}
+use Rattle.ui_machine.specs.Definition.Types.{GType}
+use Rattle.ui_machine.specs.Output.Text.{no_type}
+use Rattle.ui_machine.specs.Rules.Ancestry.{parent_of}
 use Rattle.type_tree.specs.declared.entry.TypeEntry.{TypeEntry}
 use Rattle.type_tree.specs.declared.entry.TypeEntry.TheVariants.{Class, Interface, Enum, Flags}
 use Rattle.type_tree.specs.Entry.{type_of}

@@ -3,9 +3,9 @@ use Rattle.std.proofs.Common.{◌≡◌, ℕ, zero, suc, ◌+◌, ◌<◌, ◌�
 use Rattle.std.specs.List.{list_any}
 use Rattle.std.proofs.lemmas.Bool.{cases_lt}
 use Rattle.std.proofs.lemmas.Option.{none-some}
-use Rattle.ui_machine.specs.Types.{GType}
-use Rattle.ui_machine.specs.Text.{no_type}
-use Rattle.ui_machine.specs.Ancestry.{parent_of, line_from, is_a, is_or_implements, depth}
+use Rattle.ui_machine.specs.Definition.Types.{GType}
+use Rattle.ui_machine.specs.Output.Text.{no_type}
+use Rattle.ui_machine.specs.Rules.Ancestry.{parent_of, line_from, is_a, is_or_implements, depth}
 use Rattle.type_tree.specs.Tree.{IsTree}
 use Rattle.type_tree.proofs.Entries.{read-past, parent_before}
 

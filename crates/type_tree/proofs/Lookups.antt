@@ -5,12 +5,12 @@ use Rattle.std.specs.Map.{keys_of}
 use Rattle.std.proofs.lemmas.Bool.Decides.{nat_tests}
 use Rattle.std.proofs.lemmas.List.{map-append}
 use Rattle.std.proofs.lemmas.Option.{none-some}
-use Rattle.ui_machine.specs.Types.{GType}
+use Rattle.ui_machine.specs.Definition.Types.{GType}
 use Rattle.type_tree.specs.Entry.{type_of}
 use Rattle.std.specs.Str.{bytes_eq}
 use Rattle.indexmap.specs.IndexMap.{insert_entry}
 use Rattle.std.proofs.lemmas.Iterator.Adapters.{position_from-zero}
-use Rattle.ui_machine.specs.Names.{same_name, place_from}
+use Rattle.ui_machine.specs.Definition.Names.{same_name, place_from}
 use Rattle.type_tree.specs.declared.entry.TypeEntry.{TypeEntry}
 use Rattle.type_tree.specs.Adding.{find_type}
 use Rattle.type_tree.proofs.Entries.{typed, name-type_of}

@@ -8,8 +8,8 @@ use Rattle.std.proofs.lemmas.Bool.Decides.{Decides-int_eq}
 use Rattle.std.proofs.lemmas.Int.{ints, to_z-of_z}
 use Rattle.std.proofs.Math.IntN.{pos-ne-negsuc}
 use Rattle.std.specs.Int.{FitsUnsignedBits}
-use Rattle.ui_machine.specs.Types.{Member}
-use Rattle.ui_machine.specs.Text.{nick_of}
+use Rattle.ui_machine.specs.Definition.Types.{Member}
+use Rattle.ui_machine.specs.Output.Text.{nick_of}
 use Rattle.type_tree.specs.declared.member.FlagsMember.{FlagsMember}
 use Rattle.type_tree.specs.Entry.{flags_member}
 

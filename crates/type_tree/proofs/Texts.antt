@@ -1,7 +1,7 @@
 -- Lists of names, behind references or not.
 use Rattle.std.proofs.Common.{◌≡◌, ◌∙◌, ℕ, ◌&&◌, List, [], ◌∷◌, map, Option, None, Result, Bor, is_some, refl, sym, ap, subst}
-use Rattle.ui_machine.specs.Types.{GType}
-use Rattle.ui_machine.specs.Types as sorts
+use Rattle.ui_machine.specs.Definition.Types.{GType}
+use Rattle.ui_machine.specs.Definition.Types as sorts
 use Rattle.type_tree.specs.declared.error.TypeFault.{TypeFault}
 use Rattle.type_tree.specs.declared.error.TypeError.{TypeError}
 use Rattle.type_tree.specs.declared.entry.TypeFlags.{TypeFlags}

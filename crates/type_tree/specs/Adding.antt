@@ -3,11 +3,11 @@
 use Rattle.std.specs.Prelude.{◌≡◌, ℕ, Bool, true, false, cond, not, ◌||◌, nat_eq, nat_le, List, [], ◌∷◌, ◌++◌, length, Option, None, Some, is_some, Result, Ok, Err}
 use Rattle.std.specs.List.{filter_map, find, flat_map, list_all, list_any}
 use Rattle.ui_machine.specs.Seq.{read}
-use Rattle.ui_machine.specs.Names.{place_named}
-use Rattle.ui_machine.specs.Types.{GType, Member}
-use Rattle.ui_machine.specs.Types as sorts
-use Rattle.ui_machine.specs.Text.{no_type}
-use Rattle.ui_machine.specs.Ancestry.{is_a, depth}
+use Rattle.ui_machine.specs.Definition.Names.{place_named}
+use Rattle.ui_machine.specs.Definition.Types.{GType, Member}
+use Rattle.ui_machine.specs.Definition.Types as sorts
+use Rattle.ui_machine.specs.Output.Text.{no_type}
+use Rattle.ui_machine.specs.Rules.Ancestry.{is_a, depth}
 use Rattle.type_tree.specs.declared.error.TypeFault.{TypeFault}
 use Rattle.type_tree.specs.declared.error.TypeError.{TypeError}
 use Rattle.type_tree.specs.declared.error.TypeFault.TheVariants.{BadName, Duplicate, UnknownParent, FinalParent, Prerequisite, Limit}

@@ -1,7 +1,7 @@
 -- What the entries of a tree stand for.
 use Rattle.std.specs.Prelude.{ℕ, pos, false, List, [], map, None, string_bytes}
-use Rattle.ui_machine.specs.Types.{GType, Member}
-use Rattle.ui_machine.specs.Types as sorts
+use Rattle.ui_machine.specs.Definition.Types.{GType, Member}
+use Rattle.ui_machine.specs.Definition.Types as sorts
 use Rattle.type_tree.specs.declared.member.EnumMember.{EnumMember}
 use Rattle.type_tree.specs.declared.member.FlagsMember.{FlagsMember}
 use Rattle.type_tree.specs.declared.entry.TypeSort.{TypeSort}

@@ -1,7 +1,7 @@
 -- What is so of every tree.
 use Rattle.std.specs.Prelude.{◌≡◌, ℕ, ◌<◌, ◌≤◌, List, length, Some}
-use Rattle.ui_machine.specs.Types.{GType}
-use Rattle.ui_machine.specs.Ancestry.{parent_of}
+use Rattle.ui_machine.specs.Definition.Types.{GType}
+use Rattle.ui_machine.specs.Rules.Ancestry.{parent_of}
 
 -- Parents stand before their children, and there are 256 types at most.
 pub record IsTree (types : List GType) : Type 0 where

@@ -2,7 +2,7 @@
 
 ghost use Rattle.std.specs.Prelude.{◌≡◌, ◌<◌, List, map, length, IfOk, is_some, nat_eq, not, OnOk, IfSome, Option, Some, None};
 ghost use Rattle.std.specs.List.{list_all, list_any, filter_map, find, flat_map};
-ghost use Rattle.ui_machine.specs.Types.{predeclared};
+ghost use Rattle.ui_machine.specs.Definition.Types.{predeclared};
 ghost use Rattle.type_tree.specs.Adding.{Adds, class_named, interface_named, required_named, name_fault, class_fault, parent_fault, child_fault, interface_fault, required_fault, members_fault, are_named, missing_type, first_required, required_by, would_be, room_fault, new_class, new_interface, new_enum, new_flags};
 ghost use Rattle.type_tree.specs.Entry.{enum_member, flags_member};
 

@@ -1,8 +1,8 @@
 //! What a tree keeps of a type beside its name.
 
 ghost use Rattle.std.specs.Prelude.{◌≡◌, ◌↔◌, ℕ, List, map, IsTrue};
-ghost use Rattle.ui_machine.specs.Types.{enum, flags};
-ghost use Rattle.ui_machine.specs.Ancestry.{implemented};
+ghost use Rattle.ui_machine.specs.Definition.Types.{enum, flags};
+ghost use Rattle.ui_machine.specs.Rules.Ancestry.{implemented};
 ghost use Rattle.type_tree.specs.Entry.{type_of, enum_member, flags_member};
 
 use crate::member::{EnumMember, FlagsMember};

@@ -1,7 +1,7 @@
 //! Nicks of members, by their numbers.
 
 ghost use Rattle.std.specs.Prelude.{◌≡◌, ℕ, List, map, pos};
-ghost use Rattle.ui_machine.specs.Text.{members_of, nick_of};
+ghost use Rattle.ui_machine.specs.Output.Text.{members_of, nick_of};
 ghost use Rattle.type_tree.specs.Entry.{type_of, enum_member, flags_member};
 
 use crate::entry::TypeEntry;

@@ -4,9 +4,9 @@ ghost use Rattle.std.specs.Prelude.{◌≡◌, ℕ, ◌+◌, ◌<◌, ◌≤◌,
 ghost use Rattle.std.specs.List.{list_any};
 ghost use Rattle.std.specs.Option.{ForSome};
 ghost use Rattle.ui_machine.specs.Seq.{read};
-ghost use Rattle.ui_machine.specs.Types.{GType, enum, flags};
-ghost use Rattle.ui_machine.specs.Text.{no_type, members_of};
-ghost use Rattle.ui_machine.specs.Ancestry.{is_a, depth, parent_of, implemented_by, is_or_implements};
+ghost use Rattle.ui_machine.specs.Definition.Types.{GType, enum, flags};
+ghost use Rattle.ui_machine.specs.Output.Text.{no_type, members_of};
+ghost use Rattle.ui_machine.specs.Rules.Ancestry.{is_a, depth, parent_of, implemented_by, is_or_implements};
 ghost use Rattle.type_tree.specs.Entry.{type_of, enum_member, flags_member, view_of_sort};
 ghost use Rattle.type_tree.specs.Adding.{Adds, find_type, sort_of};
 
@@ -32,7 +32,7 @@ pub struct TypeTree {
 
 impl Model for TypeTree {
     ghost use Rattle.std.specs.Prelude.{List, map, string_bytes};
-    ghost use Rattle.ui_machine.specs.Types.{GType};
+    ghost use Rattle.ui_machine.specs.Definition.Types.{GType};
     ghost use Rattle.type_tree.specs.Entry.{type_of};
     ghost use Rattle.type_tree.specs.Tree.{IsTree};
 

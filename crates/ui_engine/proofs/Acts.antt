@@ -2,26 +2,29 @@
 use Rattle.std.proofs.Common.{◌≡◌, ℕ, zero, suc, ◌+◌, ◌*◌, ◌<◌, ◌≤◌, Bool, true, false, nat_lt, List, [], ◌∷◌, ◌++◌, length, map, Option, Some, None, is_some, Ok, Err, slice_get, refl, sym, ap, subst, ◌∙◌, arith}
 use Rattle.std.specs.Prelude.{IfOk}
 use Rattle.std.proofs.lemmas.Bool.Decides.{nat_tests}
-use Rattle.ui_machine.specs.Properties.{is_writable}
+use Rattle.ui_machine.specs.Definition.Properties.{is_writable}
 use Rattle.ui_machine.specs.declared.arm.Arm.TheVariants as arms
 use Rattle.ui_machine.specs.Seq.{total}
-use Rattle.ui_machine.specs.Values.{Value}
-use Rattle.ui_machine.specs.Definition.{Definition, Place, value}
-use Rattle.ui_machine.specs.Ancestry.{is_a}
-use Rattle.ui_machine.specs.Lines as lines
-use Rattle.ui_machine.specs.Lookups.{type_of, program_at}
-use Rattle.ui_machine.specs.Config as config
-use Rattle.ui_machine.specs.Config.{Object, Objects, Making, Item, makes, Emission, Task, Setting, Notifying, Beginning, Emitting, Transferring, Unsetting, Thawing, Running, Answering, Calling, Constructing, Building, Carrying, Due, World, Config, built}
-use Rattle.ui_machine.specs.Answers.{Answer, known, only_if}
-use Rattle.ui_machine.specs.Objects.{living, changed, frozen_less, object_at}
-use Rattle.ui_machine.specs.Worlds.{Started, starts, said, held_at, is_unbuilt, with_held, sunk}
-use Rattle.ui_machine.specs.Programs.{first_frame, all_fit, fits_register, beginning_program, program_before}
-use Rattle.ui_machine.specs.Emissions.{notifying, notification}
-use Rattle.ui_machine.specs.Turns.{resulting}
-use Rattle.ui_machine.specs.Results.{Left, passed_down, told, ending}
-use Rattle.ui_machine.specs.Builds.{initially_unowned, making, with_object, new_object, thawing_made, constructed, making_set}
-use Rattle.ui_machine.specs.Sets.{setting, spec_at}
-use Rattle.ui_machine.specs.Steps.{most_steps, before, uncounted, left, act, thawing, building, carrying_set, carrying_get}
+use Rattle.ui_machine.specs.Definition.Values.{Value}
+use Rattle.ui_machine.specs.Definition.{Definition}
+use Rattle.ui_machine.specs.Definition.Places.{Place, value}
+use Rattle.ui_machine.specs.Rules.Ancestry.{is_a}
+use Rattle.ui_machine.specs.Output.Lines as lines
+use Rattle.ui_machine.specs.Definition.Lookups.{type_of, program_at}
+use Rattle.ui_machine.specs.State.Tasks as config
+use Rattle.ui_machine.specs.State.Objects.{Object, Objects, living, changed, object_at}
+use Rattle.ui_machine.specs.State.Tasks.{Making, Item, makes, Emission, Task, Setting, Notifying, Beginning, Emitting, Transferring, Unsetting, Thawing, Running, Answering, Calling, Constructing, Building, Carrying, Due}
+use Rattle.ui_machine.specs.State.Config.{World, Config, built, Started, starts, said, held_at, is_unbuilt, with_held, sunk, Left}
+use Rattle.ui_machine.specs.Outcome.{Answer, known, only_if}
+use Rattle.ui_machine.specs.Rules.NotifyQueue.{frozen_less, thawing}
+use Rattle.ui_machine.specs.Rules.Programs.{first_frame, all_fit, fits_register, beginning_program, program_before}
+use Rattle.ui_machine.specs.Rules.EmissionPlan.{notifying, notification}
+use Rattle.ui_machine.specs.Rules.Accumulation.{resulting, passed_down, told, ending}
+use Rattle.ui_machine.specs.Rules.Construction.{initially_unowned, making, with_object, new_object, thawing_made, constructed, making_set}
+use Rattle.ui_machine.specs.Rules.Sets.{setting, spec_at}
+use Rattle.ui_machine.specs.Steps.{most_steps, before, uncounted, left, act}
+use Rattle.ui_machine.specs.Rules.Build.{building}
+use Rattle.ui_machine.specs.Rules.Events.{carrying_set, carrying_get}
 use Rattle.g_values.specs.View.{value_view}
 use Rattle.builder_defs.specs.declared.event.Event.{Event}
 use Rattle.builder_defs.specs.declared.event.Event.TheVariants as events

@@ -3,11 +3,13 @@ use Rattle.std.proofs.Common.{◌≡◌, ℕ, zero, suc, Bool, true, false, cond
 use Rattle.std.proofs.lemmas.List.{append-nil}
 use Rattle.std.specs.List.{flat_map}
 use Rattle.ui_machine.specs.Seq.{total}
-use Rattle.ui_machine.specs.Definition.{Definition, Place, Attached, Bind}
-use Rattle.ui_machine.specs.Config.{Objects, Item, binds, connects, World}
-use Rattle.ui_machine.specs.Objects.{living}
-use Rattle.ui_machine.specs.Mentions.{same}
-use Rattle.ui_machine.specs.Builds.{made_items, forward_of, forward_items, numbered, connected_items, build_items}
+use Rattle.ui_machine.specs.Definition.{Definition}
+use Rattle.ui_machine.specs.Definition.Places.{Place, Attached, Bind}
+use Rattle.ui_machine.specs.State.Objects.{Objects, living}
+use Rattle.ui_machine.specs.State.Tasks.{Item, binds, connects}
+use Rattle.ui_machine.specs.State.Config.{World}
+use Rattle.ui_machine.specs.State.References.{same}
+use Rattle.ui_machine.specs.Rules.Build.{made_items, forward_of, forward_items, numbered, connected_items, build_items}
 use Rattle.builder_defs.specs.Meaning.{IsBasic}
 use Rattle.ui_engine.specs.Holding.{IsHeld}
 use Rattle.ui_engine.specs.TaskView.{build_from}

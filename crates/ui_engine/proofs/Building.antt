@@ -5,18 +5,19 @@ use Rattle.std.proofs.lemmas.Option.{slice_get_within, get_or_from_slice_get, sl
 use Rattle.std.proofs.lemmas.List.{length-map}
 use Rattle.std.proofs.Math.Seq.{drop-cons}
 use Rattle.ui_machine.specs.declared.arm.Arm.TheVariants as arms
-use Rattle.ui_machine.specs.Properties.{Spec, has_flags}
-use Rattle.ui_machine.specs.Definition.{Definition, Place, GivenProperty}
-use Rattle.ui_machine.specs.Lookups.{type_of, class_of, specs_of}
-use Rattle.ui_machine.specs.Lines as lines
-use Rattle.ui_machine.specs.Config.{thaws, Item, makes, Task, Constructing, Building, World}
-use Rattle.ui_machine.specs.Answers.{Answer, ◌>>=◌, known, only_if}
-use Rattle.ui_machine.specs.Worlds.{Started, starts, said, without}
-use Rattle.ui_machine.specs.Builds.{not_forward, is_at_construction, construct_sets, constructed_runs, run_of, given_sets, construction, new_object, with_object, making, made_items, adopts_if, has_valid_default, first_peer, peer_for}
-use Rattle.ui_machine.specs.Calls.{has_shape}
-use Rattle.ui_machine.specs.Ancestry.{lineage}
-use Rattle.ui_machine.specs.Transform.{same_bool}
-use Rattle.ui_machine.specs.Steps.{uncounted, building, building_object}
+use Rattle.ui_machine.specs.Definition.Properties.{Spec, has_flags}
+use Rattle.ui_machine.specs.Definition.{Definition}
+use Rattle.ui_machine.specs.Definition.Places.{Place, GivenProperty}
+use Rattle.ui_machine.specs.Definition.Lookups.{type_of, class_of, specs_of}
+use Rattle.ui_machine.specs.Output.Lines as lines
+use Rattle.ui_machine.specs.State.Tasks.{thaws, Item, makes, Task, Constructing, Building}
+use Rattle.ui_machine.specs.State.Config.{World, Started, starts, said, without}
+use Rattle.ui_machine.specs.Outcome.{Answer, ◌>>=◌, known, only_if}
+use Rattle.ui_machine.specs.Rules.Construction.{not_forward, is_at_construction, construct_sets, constructed_runs, run_of, given_sets, construction, new_object, with_object, making, has_valid_default, has_shape}
+use Rattle.ui_machine.specs.Rules.Build.{made_items, adopts_if, first_peer, peer_for, building, building_object}
+use Rattle.ui_machine.specs.Rules.Ancestry.{lineage}
+use Rattle.ui_machine.specs.Rules.Transform.{same_bool}
+use Rattle.ui_machine.specs.Steps.{uncounted}
 use Rattle.g_values.specs.declared.value.Value.{Value}
 use Rattle.g_values.specs.View.{value_view}
 use Rattle.builder_defs.specs.Meaning.{IsPlain, IsBasic}

@@ -3,11 +3,11 @@ use Rattle.std.proofs.Common.{◌≡◌, ℕ, zero, suc, Bool, true, false, not,
 use Rattle.ui_machine.specs.declared.arm.Arm.{Arm}
 use Rattle.ui_machine.specs.declared.arm.Arm.TheVariants as arms
 use Rattle.ui_machine.specs.Seq.{read, write}
-use Rattle.ui_machine.specs.Config.{Object, Held, unbuilt, built, World}
-use Rattle.ui_machine.specs.Answers.{Answer, ◌>>=◌, known, only_if}
-use Rattle.ui_machine.specs.Objects.{living, asked}
-use Rattle.ui_machine.specs.Worlds.{Started, starts, held_at, is_unbuilt, with_held, sunk}
-use Rattle.ui_machine.specs.Builds.{identity_held, constructed}
+use Rattle.ui_machine.specs.State.Objects.{Object, living, asked}
+use Rattle.ui_machine.specs.State.Config.{Held, unbuilt, built, World, Started, starts, held_at, is_unbuilt, with_held, sunk}
+use Rattle.ui_machine.specs.Outcome.{Answer, ◌>>=◌, known, only_if}
+use Rattle.ui_machine.specs.Rules.Build.{identity_held}
+use Rattle.ui_machine.specs.Rules.Construction.{constructed}
 use Rattle.ui_engine.specs.View.{held_of}
 
 -- what is found, if it is there and something

@@ -6,20 +6,22 @@ use Rattle.std.proofs.lemmas.List.{length-reverse}
 use Rattle.ui_machine.specs.declared.arm.Arm.{Arm}
 use Rattle.ui_machine.specs.declared.arm.Arm.TheVariants as arms
 use Rattle.ui_machine.specs.Seq.{read, write, total}
-use Rattle.ui_machine.specs.Values.{Value}
-use Rattle.ui_machine.specs.Lines as lines
-use Rattle.ui_machine.specs.Transform.{same_value}
-use Rattle.ui_machine.specs.Clamp.{clamp}
-use Rattle.ui_machine.specs.Properties.{Spec, is_lax, is_readable, is_writable, is_construct_only}
-use Rattle.ui_machine.specs.Definition.{Definition, Given}
-use Rattle.ui_machine.specs.Queue.{queued, thawed}
-use Rattle.ui_machine.specs.Config.{Object, Objects, Making, Notifying, World}
-use Rattle.ui_machine.specs.Answers.{Answer, ◌>>=◌, known, only_if}
-use Rattle.ui_machine.specs.Objects.{living, put, class_in, asked, value_at, changed, with_value, raised, frozen_less, less_frozen}
-use Rattle.ui_machine.specs.Worlds.{Started, starts, said}
-use Rattle.ui_machine.specs.Sets.{spec_at, raising, notifies, kept, written, settled, setting, lives, has_kind}
-use Rattle.ui_machine.specs.Builds.{thawing_made, given_value, held_object}
-use Rattle.ui_machine.specs.Steps.{with_result, thawing, carrying_set, carrying_get, set_given}
+use Rattle.ui_machine.specs.Definition.Values.{Value}
+use Rattle.ui_machine.specs.Output.Lines as lines
+use Rattle.ui_machine.specs.Rules.Transform.{same_value}
+use Rattle.ui_machine.specs.Rules.Validation.{clamp}
+use Rattle.ui_machine.specs.Definition.Properties.{Spec, is_lax, is_readable, is_writable, is_construct_only}
+use Rattle.ui_machine.specs.Definition.{Definition}
+use Rattle.ui_machine.specs.Definition.Places.{Given}
+use Rattle.ui_machine.specs.Rules.NotifyQueue.{queued, thawed, raised, frozen_less, less_frozen, thawing}
+use Rattle.ui_machine.specs.State.Objects.{Object, Objects, living, put, class_in, asked, value_at, changed, with_value}
+use Rattle.ui_machine.specs.State.Tasks.{Making, Notifying}
+use Rattle.ui_machine.specs.State.Config.{World, Started, starts, said}
+use Rattle.ui_machine.specs.Outcome.{Answer, ◌>>=◌, known, only_if}
+use Rattle.ui_machine.specs.Rules.Sets.{spec_at, raising, notifies, kept, written, settled, setting, lives, has_kind}
+use Rattle.ui_machine.specs.Rules.Construction.{thawing_made, given_value}
+use Rattle.ui_machine.specs.Rules.Build.{held_object}
+use Rattle.ui_machine.specs.Rules.Events.{with_result, carrying_set, carrying_get, set_given}
 use Rattle.ui_engine.specs.Measure.{weight, waiting_in, waiting}
 use Rattle.ui_engine.proofs.Held.{if_ok_at, bind_ok}
 

@@ -6,11 +6,11 @@ use Rattle.std.proofs.lemmas.Bool.Decides.{nat_tests}
 use Rattle.ui_machine.specs.declared.arm.Arm.TheVariants as arms
 use Rattle.ui_machine.specs.Seq.{read, write, total}
 use Rattle.ui_machine.specs.Definition.{Definition}
-use Rattle.ui_machine.specs.Config.{Object, Objects, Held, unbuilt, built, released, Making, Task, Setting, Notifying, Beginning, Emitting, Transferring, Unsetting, Thawing, Running, Answering, Calling, Constructing, Building, Carrying, Due, World, Config}
-use Rattle.ui_machine.specs.Answers.{Answer, ◌>>=◌, known}
-use Rattle.ui_machine.specs.Objects.{living, put, changed, unheld_from, next_unheld}
-use Rattle.ui_machine.specs.Mentions.{same, in_held, in_task, mentions}
-use Rattle.ui_machine.specs.Worlds.{Started, held_at, is_unbuilt, with_held, sunk, without}
+use Rattle.ui_machine.specs.State.Objects.{Object, Objects, living, put, changed}
+use Rattle.ui_machine.specs.State.Config.{Held, unbuilt, built, released, World, Config, Started, held_at, is_unbuilt, with_held, sunk, without}
+use Rattle.ui_machine.specs.State.Tasks.{Making, Task, Setting, Notifying, Beginning, Emitting, Transferring, Unsetting, Thawing, Running, Answering, Calling, Constructing, Building, Carrying, Due}
+use Rattle.ui_machine.specs.Outcome.{Answer, ◌>>=◌, known}
+use Rattle.ui_machine.specs.State.References.{unheld_from, next_unheld, same, in_held, in_task, mentions}
 use Rattle.ui_machine.specs.Prefix.{IsPrefix}
 use Rattle.ui_machine.proofs.Prefixes.{prefix_on}
 use Rattle.ui_engine.specs.Holding.{making_of, IsHeld}

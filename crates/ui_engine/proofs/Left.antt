@@ -1,10 +1,10 @@
 -- What the engine leaves, as the machine's configuration.
 use Rattle.std.proofs.Common.{◌≡◌, ℕ, List, [], ◌∷◌, Ok, refl, ap, ◌∙◌}
 use Rattle.ui_machine.specs.Definition.{Definition}
-use Rattle.ui_machine.specs.Config as config
-use Rattle.ui_machine.specs.Config.{World, Task}
-use Rattle.ui_machine.specs.Answers.{Answer}
-use Rattle.ui_machine.specs.Worlds.{Started, starts}
+use Rattle.ui_machine.specs.State.Config as config
+use Rattle.ui_machine.specs.State.Config.{World, Started, starts}
+use Rattle.ui_machine.specs.State.Tasks.{Task}
+use Rattle.ui_machine.specs.Outcome.{Answer}
 use Rattle.ui_machine.specs.Steps.{uncounted}
 use Rattle.ui_engine.specs.View.{world_of}
 use Rattle.ui_engine.specs.TaskView.{agenda_of}

@@ -1,8 +1,7 @@
 -- Lists that are read after a write, and sums over them.
 use Rattle.std.proofs.Common.{◌≡◌, ◌≢◌, ℕ, zero, suc, ◌+◌, ◌<◌, List, [], ◌∷◌, ◌++◌, length, Option, None, is_some, refl, ap, arith, true}
 use Rattle.ui_machine.specs.Seq.{read, write, total}
-use Rattle.ui_machine.specs.Config.{Object, Objects}
-use Rattle.ui_machine.specs.Objects.{living, put}
+use Rattle.ui_machine.specs.State.Objects.{Object, Objects, living, put}
 
 read-written : {A : Type 0} (d : A) (xs : List A) (i : ℕ) (y : A) → read d (write d xs i y) i ≡ y
 read-written d [] zero y = refl

@@ -6,9 +6,8 @@ use Rattle.std.specs.Ordering.{nat_cmp}
 use Rattle.std.specs.BTreeMap.{BTreeMap, get, is_at, btree_map_len, Updates, WritesThrough}
 use Rattle.ui_machine.specs.declared.arm.Arm.{Arm}
 use Rattle.ui_machine.specs.declared.arm.Halt.{Halt}
-use Rattle.ui_machine.specs.Config.{Object, Objects}
-use Rattle.ui_machine.specs.Answers.{Answer, Gives, Follows}
-use Rattle.ui_machine.specs.Objects.{changed}
+use Rattle.ui_machine.specs.State.Objects.{Object, Objects, changed}
+use Rattle.ui_machine.specs.Outcome.{Answer, Gives, Follows}
 use Rattle.ui_engine.specs.HeapView.{objects_of, InRange, Replaces}
 use Rattle.ui_engine.proofs.Shown.{changes, follows, one_more}
 

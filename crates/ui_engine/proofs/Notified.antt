@@ -4,20 +4,20 @@ use Rattle.std.proofs.lemmas.Bool.Decides.{nat_tests}
 use Rattle.std.proofs.lemmas.List.{reverse-append, map-append}
 use Rattle.ui_machine.specs.declared.arm.Arm.{Arm}
 use Rattle.ui_machine.specs.declared.arm.Arm.TheVariants as arms
-use Rattle.ui_machine.specs.Properties.{Spec}
-use Rattle.ui_machine.specs.Definition.{Definition, ClassHandler, Signal}
-use Rattle.ui_machine.specs.Ancestry.{lineage}
-use Rattle.ui_machine.specs.Lookups.{class_of, spec_of}
-use Rattle.ui_machine.specs.Lines as lines
-use Rattle.ui_machine.specs.Config.{Object, Task, Emitting, World}
-use Rattle.ui_machine.specs.Answers.{Answer, ◌>>=◌, known}
-use Rattle.ui_machine.specs.Objects.{living, asked}
-use Rattle.ui_machine.specs.Worlds.{Started, starts, said}
+use Rattle.ui_machine.specs.Definition.Properties.{Spec}
+use Rattle.ui_machine.specs.Definition.{Definition}
+use Rattle.ui_machine.specs.Definition.Signals.{ClassHandler, Signal}
+use Rattle.ui_machine.specs.Rules.Ancestry.{lineage}
+use Rattle.ui_machine.specs.Definition.Lookups.{class_of, spec_of}
+use Rattle.ui_machine.specs.Output.Lines as lines
+use Rattle.ui_machine.specs.State.Objects.{Object, living, asked}
+use Rattle.ui_machine.specs.State.Tasks.{Task, Emitting}
+use Rattle.ui_machine.specs.State.Config.{World, Started, starts, said, leaves}
+use Rattle.ui_machine.specs.Outcome.{Answer, ◌>>=◌, known}
 use Rattle.ui_machine.specs.Steps.{counted, uncounted, most_steps}
-use Rattle.ui_machine.specs.Emissions.{notifying, notification, notify_plan, first_given, or_else, handler_in, class_handler_of, signal_at}
-use Rattle.ui_machine.specs.Values.{Value}
-use Rattle.ui_machine.specs.Turns.{resulting, result_of}
-use Rattle.ui_machine.specs.Results.{ending, leaves, passed_down, told}
+use Rattle.ui_machine.specs.Rules.EmissionPlan.{notifying, notification, notify_plan, first_given, or_else, handler_in, class_handler_of, signal_at}
+use Rattle.ui_machine.specs.Definition.Values.{Value}
+use Rattle.ui_machine.specs.Rules.Accumulation.{resulting, result_of, ending, passed_down, told}
 use Rattle.builder_defs.specs.Meaning.{notify_signal, IsBasic}
 use Rattle.ui_engine.specs.TaskView.{name_of, name_in, task_of, agenda_of}
 use Rattle.ui_engine.specs.declared.task.Stack.{Stack}

@@ -3,20 +3,19 @@ use Rattle.std.proofs.Common.{◌≡◌, ℕ, Bool, true, false, cond, ◌&&◌,
 use Rattle.std.proofs.lemmas.Int.{ints}
 use Rattle.ui_machine.specs.declared.arm.Arm.{Arm}
 use Rattle.ui_machine.specs.declared.arm.Arm.TheVariants as arms
-use Rattle.ui_machine.specs.Kinds as kinds
-use Rattle.ui_machine.specs.Values.{Value}
-use Rattle.ui_machine.specs.Values as values
-use Rattle.ui_machine.specs.Types.{GType}
-use Rattle.ui_machine.specs.Transform.{least, greatest, same_value}
-use Rattle.ui_machine.specs.Clamp.{clamp}
-use Rattle.ui_machine.specs.Properties.{Spec, is_explicit_notify, is_lax, has_flags}
+use Rattle.ui_machine.specs.Definition.Kinds as kinds
+use Rattle.ui_machine.specs.Definition.Values.{Value}
+use Rattle.ui_machine.specs.Definition.Values as values
+use Rattle.ui_machine.specs.Definition.Types.{GType}
+use Rattle.ui_machine.specs.Rules.Transform.{least, greatest, same_value}
+use Rattle.ui_machine.specs.Rules.Validation.{clamp}
+use Rattle.ui_machine.specs.Definition.Properties.{Spec, is_explicit_notify, is_lax, has_flags}
 use Rattle.ui_machine.specs.Definition.{Definition}
-use Rattle.ui_machine.specs.Lines as lines
-use Rattle.ui_machine.specs.Config.{Objects, World}
-use Rattle.ui_machine.specs.Answers.{Answer, ◌>>=◌, only_if}
-use Rattle.ui_machine.specs.Objects.{class_in, changed, with_value}
-use Rattle.ui_machine.specs.Worlds.{starts, said, with_objects}
-use Rattle.ui_machine.specs.Sets.{spec_at, has_kind, lives, raising, kept, unless_disposed, written, settled, setting}
+use Rattle.ui_machine.specs.Output.Lines as lines
+use Rattle.ui_machine.specs.State.Objects.{Objects, class_in, changed, with_value}
+use Rattle.ui_machine.specs.State.Config.{World, starts, said, with_objects}
+use Rattle.ui_machine.specs.Outcome.{Answer, ◌>>=◌, only_if}
+use Rattle.ui_machine.specs.Rules.Sets.{spec_at, has_kind, lives, raising, kept, unless_disposed, written, settled, setting}
 use Rattle.g_values.specs.declared.value.Value as coded
 use Rattle.g_values.specs.declared.value.Value.TheVariants as of_value
 use Rattle.g_values.specs.View.{value_view}

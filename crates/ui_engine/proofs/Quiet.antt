@@ -4,22 +4,24 @@ use Rattle.std.specs.Prelude.{IfOk}
 use Rattle.ui_machine.specs.declared.arm.Arm.{Arm}
 use Rattle.ui_machine.specs.declared.arm.Arm.TheVariants as arms
 use Rattle.ui_machine.specs.Seq.{total}
-use Rattle.ui_machine.specs.Values.{Value}
-use Rattle.ui_machine.specs.Lines as lines
-use Rattle.ui_machine.specs.Transform.{same_value}
-use Rattle.ui_machine.specs.Clamp.{clamp}
-use Rattle.ui_machine.specs.Properties.{Spec, is_lax, is_readable, is_writable, is_construct_only}
-use Rattle.ui_machine.specs.Lookups.{spec_of}
-use Rattle.ui_machine.specs.Definition.{Definition, Given}
-use Rattle.ui_machine.specs.Config.{Object, Objects, Notifying, World}
-use Rattle.ui_machine.specs.Answers.{Answer, known, only_if}
-use Rattle.ui_machine.specs.Objects.{living, class_in, object_at, asked, value_at, changed, with_value, raised}
-use Rattle.ui_machine.specs.Worlds.{Started, starts, said}
-use Rattle.ui_machine.specs.Sets.{spec_at, raising, notifies, kept, written, settled, setting, lives, has_kind}
-use Rattle.ui_machine.specs.Emissions.{notifying, signal_at}
-use Rattle.ui_machine.specs.Builds.{given_value}
-use Rattle.ui_machine.specs.Steps.{with_result, thawing, carrying_set, carrying_get, set_given}
-use Rattle.ui_machine.specs.Builds.{held_object}
+use Rattle.ui_machine.specs.Definition.Values.{Value}
+use Rattle.ui_machine.specs.Output.Lines as lines
+use Rattle.ui_machine.specs.Rules.Transform.{same_value}
+use Rattle.ui_machine.specs.Rules.Validation.{clamp}
+use Rattle.ui_machine.specs.Definition.Properties.{Spec, is_lax, is_readable, is_writable, is_construct_only}
+use Rattle.ui_machine.specs.Definition.Lookups.{spec_of}
+use Rattle.ui_machine.specs.Definition.{Definition}
+use Rattle.ui_machine.specs.Definition.Places.{Given}
+use Rattle.ui_machine.specs.State.Objects.{Object, Objects, living, class_in, object_at, asked, value_at, changed, with_value}
+use Rattle.ui_machine.specs.State.Tasks.{Notifying}
+use Rattle.ui_machine.specs.State.Config.{World, Started, starts, said}
+use Rattle.ui_machine.specs.Outcome.{Answer, known, only_if}
+use Rattle.ui_machine.specs.Rules.NotifyQueue.{raised, thawing}
+use Rattle.ui_machine.specs.Rules.Sets.{spec_at, raising, notifies, kept, written, settled, setting, lives, has_kind}
+use Rattle.ui_machine.specs.Rules.EmissionPlan.{notifying, signal_at}
+use Rattle.ui_machine.specs.Rules.Construction.{given_value}
+use Rattle.ui_machine.specs.Rules.Events.{with_result, carrying_set, carrying_get, set_given}
+use Rattle.ui_machine.specs.Rules.Build.{held_object}
 use Rattle.ui_machine.specs.Prefix.{IsPrefix}
 use Rattle.ui_machine.proofs.Prefixes.{prefix_same, prefix_one}
 use Rattle.ui_engine.specs.Holding.{making_of}

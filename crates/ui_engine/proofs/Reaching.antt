@@ -2,7 +2,8 @@
 use Rattle.std.proofs.Common.{ℕ, zero, suc, List, [], ◌++◌, None, refl, ap, subst, sym, ◌∙◌, append_assoc}
 use Rattle.ui_machine.specs.declared.arm.Halt.{Halt}
 use Rattle.ui_machine.specs.Definition.{Definition}
-use Rattle.ui_machine.specs.Config.{Reply, Config}
+use Rattle.ui_machine.specs.State.Peers.{Reply}
+use Rattle.ui_machine.specs.State.Config.{Config}
 use Rattle.ui_machine.specs.Runs.{Step, listed, Steps, Reaches, Halts}
 
 module _ (d : Definition) where

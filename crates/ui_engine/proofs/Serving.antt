@@ -2,11 +2,12 @@
 use Rattle.std.proofs.Common.{◌≡◌, ℕ, zero, suc, Bool, true, false, List, [], ◌∷◌, map, Option, Some, None, Result, Ok, Err, refl, sym, ap, subst, ◌∙◌}
 use Rattle.ui_machine.specs.Seq.{read}
 use Rattle.ui_machine.specs.Definition.{Definition}
-use Rattle.ui_machine.specs.Config as config
-use Rattle.ui_machine.specs.Config.{Held, unbuilt, Carrying, Request, Event, World}
-use Rattle.ui_machine.specs.Worlds.{held_at}
+use Rattle.ui_machine.specs.State.Tasks as config
+use Rattle.ui_machine.specs.State.Config.{Held, unbuilt, World, held_at}
+use Rattle.ui_machine.specs.State.Tasks.{Carrying, Request, Event}
 use Rattle.ui_machine.specs.Runs as runs
-use Rattle.ui_machine.specs.Runs.{is_released, names_released, Refusal, gone, refusal, beginning}
+use Rattle.ui_machine.specs.Rules.Events.{is_released, names_released, Refusal, gone, refusal}
+use Rattle.ui_machine.specs.Runs.{beginning}
 use Rattle.builder_defs.specs.declared.event.Event as code
 use Rattle.builder_defs.specs.declared.event.Event.TheVariants as events
 use Rattle.builder_defs.specs.Meaning.{request_of}

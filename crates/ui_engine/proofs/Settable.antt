@@ -1,9 +1,9 @@
 -- Each property of a basic definition may be set.
 use Rattle.std.proofs.Common.{◌≡◌, true, not, ap}
 use Rattle.ui_machine.specs.declared.arm.Arm.TheVariants as arms
-use Rattle.ui_machine.specs.Properties.{Spec, has_flags, is_writable}
-use Rattle.ui_machine.specs.Answers.{Answer, only_if}
-use Rattle.ui_machine.specs.Sets.{if_settable}
+use Rattle.ui_machine.specs.Definition.Properties.{Spec, has_flags, is_writable}
+use Rattle.ui_machine.specs.Outcome.{Answer, only_if}
+use Rattle.ui_machine.specs.Rules.Sets.{if_settable}
 use Rattle.builder_defs.specs.Meaning.{IsPlain}
 
 pub writable : (s : Spec) → IsPlain s → is_writable s ≡ true

@@ -5,9 +5,8 @@ use Rattle.ui_machine.specs.declared.arm.Arm.TheVariants as arms
 use Rattle.ui_machine.specs.declared.arm.Halt.{Halt}
 use Rattle.ui_machine.specs.declared.arm.Halt.TheVariants as halts
 use Rattle.ui_machine.specs.Seq.{listed}
-use Rattle.ui_machine.specs.Config.{Object, Objects}
-use Rattle.ui_machine.specs.Answers.{Answer, ◌>>=◌, known, Gives, Follows}
-use Rattle.ui_machine.specs.Objects.{living, put, asked, changed}
+use Rattle.ui_machine.specs.State.Objects.{Object, Objects, living, put, asked, changed}
+use Rattle.ui_machine.specs.Outcome.{Answer, ◌>>=◌, known, Gives, Follows}
 use Rattle.ui_engine.specs.HeapView.{Lookup, objects_of, InRange, Replaces}
 use Rattle.ui_machine.proofs.Listed.{read-listed, listed-same, listed-write, listed-more, length-listed}
 

@@ -2,13 +2,12 @@
 use Rattle.std.proofs.Common.{◌≡◌, ℕ, Option, Some, None, Ok, Err, refl, ap, ◌∙◌}
 use Rattle.ui_machine.specs.declared.arm.Arm.{Arm}
 use Rattle.ui_machine.specs.declared.arm.Arm.TheVariants as arms
-use Rattle.ui_machine.specs.Properties as properties
+use Rattle.ui_machine.specs.Definition.Properties as properties
 use Rattle.ui_machine.specs.Definition.{Definition}
-use Rattle.ui_machine.specs.Lookups.{spec_of}
-use Rattle.ui_machine.specs.Config.{Object, Objects}
-use Rattle.ui_machine.specs.Answers.{Answer, ◌>>=◌, known}
-use Rattle.ui_machine.specs.Objects.{living, asked}
-use Rattle.ui_machine.specs.Sets.{spec_at}
+use Rattle.ui_machine.specs.Definition.Lookups.{spec_of}
+use Rattle.ui_machine.specs.State.Objects.{Object, Objects, living, asked}
+use Rattle.ui_machine.specs.Outcome.{Answer, ◌>>=◌, known}
+use Rattle.ui_machine.specs.Rules.Sets.{spec_at}
 
 spec_by_class : (d : Definition) (os : Objects) (id slot : ℕ) (r : Answer ℕ) → asked os id (λ o. Ok o.class) ≡ r → spec_at d os id slot ≡ (r >>= λ class. known arms.Code (spec_of d class slot))
 unfolding asked spec_at

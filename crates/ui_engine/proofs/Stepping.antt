@@ -4,8 +4,9 @@ use Rattle.std.specs.Prelude.{IfOk, OnErr}
 use Rattle.ui_machine.specs.declared.arm.Halt.{Halt}
 use Rattle.ui_machine.specs.declared.arm.Halt.TheVariants as halts
 use Rattle.ui_machine.specs.Definition.{Definition}
-use Rattle.ui_machine.specs.Config.{Task, World, Config}
-use Rattle.ui_machine.specs.Answers.{Goes, Stops}
+use Rattle.ui_machine.specs.State.Tasks.{Task}
+use Rattle.ui_machine.specs.State.Config.{World, Config}
+use Rattle.ui_machine.specs.Outcome.{Goes, Stops}
 use Rattle.ui_machine.specs.Steps.{act, first_of, step, asked_first, asked_after, question}
 use Rattle.ui_machine.specs.Runs.{HaltsAt}
 use Rattle.builder_defs.specs.Meaning.{IsBasic}

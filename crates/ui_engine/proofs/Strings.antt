@@ -1,7 +1,7 @@
 -- The machine's JSON string is the one that serde_json writes.
 use Rattle.std.proofs.Common.{◌≡◌, ℕ, List, [], ◌∷◌, ◌++◌, refl, ap}
 use Rattle.json.specs.Print.{escape, escape_byte, quoted}
-use Rattle.ui_machine.specs.Text.{escaped_byte, escaped, json_string}
+use Rattle.ui_machine.specs.Output.Text.{escaped_byte, escaped, json_string}
 
 byte : (x : ℕ) → escape_byte x ≡ escaped_byte x
 unfolding escape_byte

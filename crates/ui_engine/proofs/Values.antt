@@ -1,10 +1,10 @@
 -- Values that are seen as the machine's, read and written at a slot.
 use Rattle.std.proofs.Common.{◌≡◌, ℕ, zero, suc, ◌<◌, List, [], ◌∷◌, length, map, get_or, Some, Ok, slice_get, slice_set, refl, sym, ap, ◌∙◌, arith}
 use Rattle.ui_machine.specs.declared.arm.Arm.TheVariants as arms
-use Rattle.ui_machine.specs.Values as values
-use Rattle.ui_machine.specs.Config as config
-use Rattle.ui_machine.specs.Answers.{◌>>=◌, known}
-use Rattle.ui_machine.specs.Objects.{with_value}
+use Rattle.ui_machine.specs.Definition.Values as values
+use Rattle.ui_machine.specs.State.Objects as config
+use Rattle.ui_machine.specs.Outcome.{◌>>=◌, known}
+use Rattle.ui_machine.specs.State.Objects.{with_value}
 use Rattle.g_values.specs.declared.value.Value.{Value}
 use Rattle.g_values.specs.View.{value_view}
 

@@ -1,7 +1,7 @@
 -- Objects under their identities, seen as the machine's list.
 use Rattle.std.specs.Prelude.{◌≡◌, ◌≢◌, ℕ, suc, ◌<◌, ◌≤◌, Option, IsSome}
 use Rattle.ui_machine.specs.Seq.{listed}
-use Rattle.ui_machine.specs.Config.{Object, Objects}
+use Rattle.ui_machine.specs.State.Objects.{Object, Objects}
 
 -- what each identity has
 abbrev pub Lookup : Type 0

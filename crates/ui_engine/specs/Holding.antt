@@ -1,9 +1,10 @@
 -- What holds the objects of a session whose definition has no programs: the builder, or their own construction.
 use Rattle.std.specs.Prelude.{ℕ, ◌+◌, ◌<◌, true, false, List, IsSome}
 use Rattle.ui_machine.specs.Seq.{total}
-use Rattle.ui_machine.specs.Config.{Task, Setting, Notifying, Beginning, Emitting, Transferring, Unsetting, Thawing, Running, Answering, Calling, Constructing, Building, Carrying, Due, World}
-use Rattle.ui_machine.specs.Objects.{living}
-use Rattle.ui_machine.specs.Mentions.{same, in_held}
+use Rattle.ui_machine.specs.State.Tasks.{Task, Setting, Notifying, Beginning, Emitting, Transferring, Unsetting, Thawing, Running, Answering, Calling, Constructing, Building, Carrying, Due}
+use Rattle.ui_machine.specs.State.Config.{World}
+use Rattle.ui_machine.specs.State.Objects.{living}
+use Rattle.ui_machine.specs.State.References.{same, in_held}
 
 -- 1 for the construction of the object that the builder will hold
 abbrev pub making_of : ℕ → Task → ℕ

@@ -1,5 +1,5 @@
 -- What a step of a construction stands for in the machine.
-use Rattle.ui_machine.specs.Config as config
+use Rattle.ui_machine.specs.State.Tasks as config
 use Rattle.g_values.specs.View.{value_view}
 use Rattle.ui_engine.specs.declared.task.Making.{Making}
 use Rattle.ui_engine.specs.declared.task.Making.TheVariants as makings

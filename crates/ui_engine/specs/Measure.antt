@@ -1,9 +1,12 @@
 -- How much may be done before a counted step is due: it falls with each uncounted step.
 use Rattle.std.specs.Prelude.{ℕ, suc, ◌+◌, ◌*◌, length, Option, Some, None}
 use Rattle.ui_machine.specs.Seq.{total}
-use Rattle.ui_machine.specs.Definition.{Definition, Place}
-use Rattle.ui_machine.specs.Lookups.{place_at, specs_of}
-use Rattle.ui_machine.specs.Config.{Object, Objects, Item, makes, adopts, forwards, binds, connects, Task, Setting, Notifying, Beginning, Emitting, Transferring, Unsetting, Thawing, Running, Answering, Calling, Constructing, Building, Carrying, Due, Config}
+use Rattle.ui_machine.specs.Definition.{Definition}
+use Rattle.ui_machine.specs.Definition.Places.{Place}
+use Rattle.ui_machine.specs.Definition.Lookups.{place_at, specs_of}
+use Rattle.ui_machine.specs.State.Objects.{Object, Objects}
+use Rattle.ui_machine.specs.State.Tasks.{Item, makes, adopts, forwards, binds, connects, Task, Setting, Notifying, Beginning, Emitting, Transferring, Unsetting, Thawing, Running, Answering, Calling, Constructing, Building, Carrying, Due}
+use Rattle.ui_machine.specs.State.Config.{Config}
 
 -- the properties of an object of the build
 abbrev pub slots_of_place : Definition → Option Place → ℕ

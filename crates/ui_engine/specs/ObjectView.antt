@@ -1,9 +1,9 @@
 -- What an object of the engine is made as, and what its code answers.
 use Rattle.std.specs.Prelude.{◌≡◌, ℕ, false, List, [], None, Result, Ok, Err}
 use Rattle.ui_machine.specs.declared.arm.Arm.{Arm}
-use Rattle.ui_machine.specs.Values as values
-use Rattle.ui_machine.specs.Config as config
-use Rattle.ui_machine.specs.Answers.{Answer}
+use Rattle.ui_machine.specs.Definition.Values as values
+use Rattle.ui_machine.specs.State.Objects as config
+use Rattle.ui_machine.specs.Outcome.{Answer}
 
 -- an object that is just made: frozen once
 abbrev pub made_object : ℕ → ℕ → List values.Value → config.Object

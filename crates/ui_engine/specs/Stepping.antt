@@ -2,7 +2,7 @@
 use Rattle.std.specs.Prelude.{◌≡◌, suc, ◌<◌, Bool, true, false, [], None, option_map, Result, Ok, Err}
 use Rattle.ui_machine.specs.declared.arm.Halt.{Halt}
 use Rattle.ui_machine.specs.Definition.{Definition}
-use Rattle.ui_machine.specs.Config.{World, Config}
+use Rattle.ui_machine.specs.State.Config.{World, Config}
 use Rattle.ui_machine.specs.Steps.{most_steps}
 use Rattle.ui_machine.specs.Runs.{Step, Reaches, HasEnded, HaltsAt, Dispatches, Halts}
 use Rattle.g_values.specs.View.{value_view}

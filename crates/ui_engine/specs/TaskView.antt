@@ -1,11 +1,11 @@
 -- What a task of the engine stands for in the machine.
 use Rattle.std.specs.Prelude.{ℕ, true, List, [], map, reverse, drop, Option, Some, None}
-use Rattle.ui_machine.specs.Properties.{Spec}
+use Rattle.ui_machine.specs.Definition.Properties.{Spec}
 use Rattle.ui_machine.specs.Definition as machine
-use Rattle.ui_machine.specs.Lookups.{spec_of}
-use Rattle.ui_machine.specs.Config as config
-use Rattle.ui_machine.specs.Emissions.{notification}
-use Rattle.ui_machine.specs.Builds.{made_items}
+use Rattle.ui_machine.specs.Definition.Lookups.{spec_of}
+use Rattle.ui_machine.specs.State.Tasks as config
+use Rattle.ui_machine.specs.Rules.EmissionPlan.{notification}
+use Rattle.ui_machine.specs.Rules.Build.{made_items}
 use Rattle.g_values.specs.View.{value_view}
 use Rattle.builder_defs.specs.Meaning.{request_of}
 use Rattle.ui_engine.specs.declared.task.Task.{Task}

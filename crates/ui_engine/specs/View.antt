@@ -1,6 +1,6 @@
 -- What the engine's types stand for in the machine.
 use Rattle.std.specs.Prelude.{ℕ, [], map, Option, Some, None, option_map, string_bytes}
-use Rattle.ui_machine.specs.Config as config
+use Rattle.ui_machine.specs.State.Config as config
 use Rattle.g_values.specs.View.{value_view}
 use Rattle.ui_engine.specs.declared.world.World.{World}
 

@@ -1,13 +1,14 @@
 //! The build: how objects are made, and how their construction goes on and ends.
 
 ghost use Rattle.std.specs.Prelude.{◌≡◌, true, suc, length, None, cond, [], ◌∷◌, ◌++◌, map, OnOk, OnErr, IfOk};
-ghost use Rattle.ui_machine.specs.Answers.{Goes};
-ghost use Rattle.ui_machine.specs.Properties.{Spec};
-ghost use Rattle.ui_machine.specs.Lookups.{specs_of};
+ghost use Rattle.ui_machine.specs.Outcome.{Goes};
+ghost use Rattle.ui_machine.specs.Definition.Properties.{Spec};
+ghost use Rattle.ui_machine.specs.Definition.Lookups.{specs_of};
 ghost use Rattle.ui_engine.specs.ObjectView.{made_object};
-ghost use Rattle.ui_machine.specs.Builds.{with_object, constructed, thawing_made, making, making_set};
-ghost use Rattle.ui_machine.specs.Config.{Constructing};
-ghost use Rattle.ui_machine.specs.Steps.{uncounted, constructing, building};
+ghost use Rattle.ui_machine.specs.Rules.Construction.{with_object, constructed, thawing_made, making, making_set, constructing};
+ghost use Rattle.ui_machine.specs.State.Tasks.{Constructing};
+ghost use Rattle.ui_machine.specs.Steps.{uncounted};
+ghost use Rattle.ui_machine.specs.Rules.Build.{building};
 ghost use Rattle.g_values.specs.View.{value_view};
 ghost use Rattle.ui_engine.specs.View.{world_of};
 ghost use Rattle.ui_engine.specs.TaskView.{agenda_of, build_from};
@@ -29,7 +30,7 @@ const INITIALLY_UNOWNED: u16 = 1;
 
 impl Engine {
     // A construction ends: the builder holds the object, which no longer floats.
-    #[tactic(auto, unfolding(ui_machine::specs::Builds::constructed))]
+    #[tactic(auto, unfolding(ui_machine::specs::Rules::Construction::constructed))]
     fn constructed(&mut self, definition: &Definition, object: u64) -> Result<(), Halt>
         ensures step { Goes result
             (uncounted (agenda_of definition.now self.old.stack) self.old.counted (constructed (world_of self.old.world) object true))
@@ -47,7 +48,7 @@ impl Engine {
     }
 
     // The thaw that ends a construction.
-    #[tactic(auto, unfolding(ui_machine::specs::Builds::thawing_made))]
+    #[tactic(auto, unfolding(ui_machine::specs::Rules::Construction::thawing_made))]
     fn thawing_made(
         &mut self,
         definition: &Definition,
@@ -70,7 +71,7 @@ impl Engine {
     }
 
     // A set of a construction. Each property so far is writable.
-    #[tactic(auto, unfolding(ui_machine::specs::Builds::making_set))]
+    #[tactic(auto, unfolding(ui_machine::specs::Rules::Construction::making_set))]
     fn making_set(
         &mut self,
         definition: &Definition,
@@ -144,7 +145,7 @@ impl Engine {
     }
 
     // An object of the build is made. What its construction has to do goes on the stack.
-    #[tactic(auto, unfolding(ui_machine::specs::Builds::making))]
+    #[tactic(auto, unfolding(ui_machine::specs::Rules::Construction::making))]
     fn making(&mut self, definition: &Definition, place: usize) -> Result<(), Halt>
         ensures step { Goes result
             (uncounted (agenda_of definition.now self.old.stack) self.old.counted (making definition.now (world_of self.old.world) place None true))
@@ -173,7 +174,7 @@ impl Engine {
     }
 
     // The next object of the build.
-    #[tactic(auto, unfolding(ui_machine::specs::Steps::building_object))]
+    #[tactic(auto, unfolding(ui_machine::specs::Rules::Build::building_object))]
     pub(crate) fn building(&mut self, definition: &Definition, place: usize) -> Result<(), Halt>
         ensures step { Goes result
             (uncounted (agenda_of definition.now self.old.stack) self.old.counted (building definition.now (world_of self.old.world) (build_from definition.now place)))

@@ -1,12 +1,13 @@
 //! What events do.
 
 ghost use Rattle.std.specs.Prelude.{◌≡◌, OnErr};
-ghost use Rattle.ui_machine.specs.Answers.{Goes};
-ghost use Rattle.ui_machine.specs.Steps.{uncounted, carrying, carrying_set, carrying_get};
-ghost use Rattle.ui_machine.specs.Definition as machine;
+ghost use Rattle.ui_machine.specs.Outcome.{Goes};
+ghost use Rattle.ui_machine.specs.Steps.{uncounted};
+ghost use Rattle.ui_machine.specs.Rules.Events.{carrying, carrying_set, carrying_get};
+ghost use Rattle.ui_machine.specs.Definition.Places as machine;
 ghost use Rattle.g_values.specs.View.{value_view};
 ghost use Rattle.builder_defs.specs.Meaning.{request_of};
-ghost use Rattle.ui_machine.specs.Builds.{held_object};
+ghost use Rattle.ui_machine.specs.Rules.Build.{held_object};
 ghost use Rattle.ui_engine.specs.ObjectView.{Shows};
 ghost use Rattle.ui_engine.specs.View.{world_of};
 ghost use Rattle.ui_engine.specs.TaskView.{agenda_of};
@@ -28,7 +29,7 @@ impl Engine {
     }
 
     // A set by an event. Each property so far may be set.
-    #[tactic(auto, unfolding(ui_machine::specs::Steps::carrying_set, ui_machine::specs::Steps::set_given))]
+    #[tactic(auto, unfolding(ui_machine::specs::Rules::Events::carrying_set, ui_machine::specs::Rules::Events::set_given))]
     fn carrying_set(
         &mut self,
         definition: &Definition,
@@ -52,7 +53,7 @@ impl Engine {
     }
 
     // A get by an event. Each property so far is readable.
-    #[tactic(auto, unfolding(ui_machine::specs::Steps::carrying_get))]
+    #[tactic(auto, unfolding(ui_machine::specs::Rules::Events::carrying_get))]
     fn carrying_get(&mut self, definition: &Definition, place: Place, slot: u16) -> Result<(), Halt>
         ensures step { Goes result
             (uncounted (agenda_of definition.now self.old.stack) self.old.counted (carrying_get definition.now (world_of self.old.world) place.0 slot))

@@ -1,11 +1,12 @@
 //! The objects that live.
 
 ghost use Rattle.std.specs.Prelude.{◌≡◌, ◌++◌, ◌∷◌, [], suc, length, map, reverse, Some, OnOk, IfOk};
-ghost use Rattle.ui_machine.specs.Objects.{asked, changed, value_at, with_value, raised, frozen_less};
-ghost use Rattle.ui_machine.specs.Answers.{Gives, Follows};
+ghost use Rattle.ui_machine.specs.State.Objects.{asked, changed, value_at, with_value};
+ghost use Rattle.ui_machine.specs.Rules.NotifyQueue.{raised, frozen_less};
+ghost use Rattle.ui_machine.specs.Outcome.{Gives, Follows};
 ghost use Rattle.g_values.specs.View.{value_view};
 ghost use Rattle.ui_engine.specs.ObjectView.{made_object, Shows};
-ghost use Rattle.ui_machine.specs.Config as config;
+ghost use Rattle.ui_machine.specs.State.Tasks as config;
 
 use crate::object::Object;
 use g_values::Value;
@@ -23,7 +24,7 @@ pub struct Heap {
 }
 
 impl Model for Heap {
-    ghost use Rattle.ui_machine.specs.Config.{Objects};
+    ghost use Rattle.ui_machine.specs.State.Objects.{Objects};
 
     ghost Value = { Objects };
 

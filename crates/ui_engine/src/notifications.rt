@@ -1,10 +1,11 @@
 //! Notifications: how one begins and ends, and those of a thaw.
 
 ghost use Rattle.std.specs.Prelude.{◌≡◌, ◌<◌, suc, OnOk, OnErr};
-ghost use Rattle.ui_machine.specs.Answers.{Goes};
-ghost use Rattle.ui_machine.specs.Emissions.{notifying, notification};
-ghost use Rattle.ui_machine.specs.Results.{ending};
-ghost use Rattle.ui_machine.specs.Steps.{counted, uncounted, left, thawing, most_steps};
+ghost use Rattle.ui_machine.specs.Outcome.{Goes};
+ghost use Rattle.ui_machine.specs.Rules.EmissionPlan.{notifying, notification};
+ghost use Rattle.ui_machine.specs.Rules.Accumulation.{ending};
+ghost use Rattle.ui_machine.specs.Steps.{counted, uncounted, left, most_steps};
+ghost use Rattle.ui_machine.specs.Rules.NotifyQueue.{thawing};
 ghost use Rattle.ui_engine.specs.View.{world_of};
 ghost use Rattle.ui_engine.specs.TaskView.{agenda_of, name_of};
 ghost use Rattle.ui_engine.specs.EngineView.{config_of};
@@ -18,7 +19,7 @@ use ui_machine::{Arm, Halt};
 
 impl Engine {
     // A due notification begins. It is counted and told of; nobody listens.
-    #[tactic(auto, unfolding(ui_machine::specs::Emissions::notifying))]
+    #[tactic(auto, unfolding(ui_machine::specs::Rules::EmissionPlan::notifying))]
     pub(crate) fn notifying(
         &mut self,
         definition: &Definition,
@@ -52,7 +53,7 @@ impl Engine {
     }
 
     // A notification ends.
-    #[tactic(auto, unfolding(ui_machine::specs::Results::ending, ui_machine::specs::Turns::resulting, ui_machine::specs::Emissions::signal_at, ui_machine::specs::Steps::left))]
+    #[tactic(auto, unfolding(ui_machine::specs::Rules::Accumulation::ending, ui_machine::specs::Rules::Accumulation::resulting, ui_machine::specs::Rules::EmissionPlan::signal_at, ui_machine::specs::Steps::left))]
     pub(crate) fn ending(
         &mut self,
         definition: &Definition,

@@ -1,9 +1,10 @@
 //! One object.
 
 ghost use Rattle.std.specs.Prelude.{◌≡◌, ◌^◌, ◌-◌, ◌<◌, false, [], map, None, Some, IfOk, reverse};
-ghost use Rattle.ui_machine.specs.Objects.{value_at, with_value, raised, frozen_less};
-ghost use Rattle.ui_machine.specs.Answers.{Gives, Follows};
-ghost use Rattle.ui_machine.specs.Config as config;
+ghost use Rattle.ui_machine.specs.State.Objects.{value_at, with_value};
+ghost use Rattle.ui_machine.specs.Rules.NotifyQueue.{raised, frozen_less};
+ghost use Rattle.ui_machine.specs.Outcome.{Gives, Follows};
+ghost use Rattle.ui_machine.specs.State.Objects as config;
 ghost use Rattle.g_values.specs.View.{value_view};
 ghost use Rattle.ui_engine.specs.ObjectView.{made_object, Shows};
 
@@ -26,7 +27,7 @@ pub struct Object {
 
 impl Model for Object {
     ghost use Rattle.std.specs.Prelude.{map, [], None, false};
-    ghost use Rattle.ui_machine.specs.Config as config;
+    ghost use Rattle.ui_machine.specs.State.Objects as config;
     ghost use Rattle.g_values.specs.View.{value_view};
 
     ghost Value = { config.Object };
@@ -81,7 +82,7 @@ impl Object {
     }
 
     /// Writes a property, and answers what it was.
-    #[tactic(auto, unfolding(ui_machine::specs::Objects::with_value))]
+    #[tactic(auto, unfolding(ui_machine::specs::State::Objects::with_value))]
     pub fn write(&mut self, slot: u16, value: Value) -> Result<Value, Arm>
         ensures { Gives value_view result (with_value slot (value_view value) self.old) self.new }
     {

@@ -1,7 +1,7 @@
 //! What each task does, as the machine's.
 
 ghost use Rattle.std.specs.Prelude.{◌≡◌, ◌∷◌, OnErr, IfOk};
-ghost use Rattle.ui_machine.specs.Answers.{Goes};
+ghost use Rattle.ui_machine.specs.Outcome.{Goes};
 ghost use Rattle.ui_machine.specs.Steps.{act};
 ghost use Rattle.ui_engine.specs.View.{world_of};
 ghost use Rattle.ui_engine.specs.TaskView.{task_of, agenda_of};

@@ -1,10 +1,10 @@
 //! Sets of properties, and the notifications that they raise.
 
 ghost use Rattle.std.specs.Prelude.{◌≡◌, OnOk, OnErr, IfOk};
-ghost use Rattle.ui_machine.specs.Answers.{Goes};
-ghost use Rattle.ui_machine.specs.Sets.{setting, spec_at, has_kind};
-ghost use Rattle.ui_machine.specs.Worlds.{said};
-ghost use Rattle.ui_machine.specs.Lines as lines;
+ghost use Rattle.ui_machine.specs.Outcome.{Goes};
+ghost use Rattle.ui_machine.specs.Rules.Sets.{setting, spec_at, has_kind};
+ghost use Rattle.ui_machine.specs.State.Config.{said};
+ghost use Rattle.ui_machine.specs.Output.Lines as lines;
 ghost use Rattle.ui_machine.specs.Steps.{uncounted};
 ghost use Rattle.g_values.specs.View.{kind_view, value_view};
 ghost use Rattle.param_specs.specs.View.{spec_view};
@@ -44,7 +44,7 @@ fn has_kind(value: &Value, kind: Kind) -> bool
 
 impl Engine {
     // The spec of a living object's property.
-    #[tactic(auto, unfolding(ui_machine::specs::Sets::spec_at))]
+    #[tactic(auto, unfolding(ui_machine::specs::Rules::Sets::spec_at))]
     pub(crate) fn spec_of<'a>(
         &self,
         definition: &'a Definition,
@@ -63,7 +63,7 @@ impl Engine {
     }
 
     // Writes a value and tells of it, and raises the notification.
-    #[tactic(auto, unfolding(crate::specs::PlainSets::told_write, ui_machine::specs::Sets::raising))]
+    #[tactic(auto, unfolding(crate::specs::PlainSets::told_write, ui_machine::specs::Rules::Sets::raising))]
     fn put(
         &mut self,
         definition: &Definition,

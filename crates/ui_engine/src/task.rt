@@ -2,7 +2,7 @@
 
 ghost use Rattle.std.specs.Prelude.{◌≡◌, [], ◌∷◌, reverse, map, MatchOption, OnOk};
 ghost use Rattle.ui_machine.specs.Definition as machine;
-ghost use Rattle.ui_machine.specs.Config as config;
+ghost use Rattle.ui_machine.specs.State.Tasks as config;
 ghost use Rattle.ui_engine.specs.TaskView.{making_of_code, task_of, agenda_of};
 
 use builder_defs::Event;
@@ -56,7 +56,7 @@ pub struct Makings {
 
 impl Model for Makings {
     ghost use Rattle.std.specs.Prelude.{List, map, reverse};
-    ghost use Rattle.ui_machine.specs.Config as config;
+    ghost use Rattle.ui_machine.specs.State.Tasks as config;
     ghost use Rattle.ui_engine.specs.MakingView.{making_of_code};
 
     ghost Value = { List config.Making };

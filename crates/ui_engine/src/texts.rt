@@ -1,8 +1,8 @@
 //! The lines of a transcript.
 
 ghost use Rattle.std.specs.Prelude.{◌≡◌, ◌∷◌, ◌++◌, codes, IfOk, string_bytes};
-ghost use Rattle.ui_machine.specs.Text.{numeral, signed_numeral, json_string, text_of_value, text_of_identity};
-ghost use Rattle.ui_machine.specs.Lines as lines;
+ghost use Rattle.ui_machine.specs.Output.Text.{numeral, signed_numeral, json_string, text_of_value, text_of_identity};
+ghost use Rattle.ui_machine.specs.Output.Lines as lines;
 ghost use Rattle.serde_json.specs.Data.{string};
 ghost use Rattle.serde_json.specs.Written.{compact_text};
 ghost use Rattle.g_values.specs.View.{value_view};

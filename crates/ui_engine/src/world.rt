@@ -2,9 +2,8 @@
 
 ghost use Rattle.std.specs.Prelude.{◌≡◌, ◌∷◌, [], ◌++◌, OnOk, OnErr, map, slice_get, string_bytes};
 ghost use Rattle.ui_machine.specs.Seq.{write};
-ghost use Rattle.ui_machine.specs.Config.{built, unbuilt};
-ghost use Rattle.ui_machine.specs.Worlds.{held_at};
-ghost use Rattle.ui_machine.specs.Builds.{identity_held};
+ghost use Rattle.ui_machine.specs.State.Config.{built, unbuilt, held_at};
+ghost use Rattle.ui_machine.specs.Rules.Build.{identity_held};
 ghost use Rattle.ui_engine.specs.View.{held_of, world_of};
 
 use crate::heap::Heap;

@@ -6,7 +6,7 @@ use Rattle.std.specs.Fmt.{signed_decimal}
 use Rattle.std.proofs.lemmas.Fmt.{decimal_by_steps}
 use Rattle.std.proofs.lemmas.Bool.Decides.{nat_tests}
 use Rattle.std.proofs.lemmas.Int.{ints}
-use Rattle.ui_machine.specs.Text.{digits_before, numeral, signed_numeral}
+use Rattle.ui_machine.specs.Output.Text.{digits_before, numeral, signed_numeral}
 
 -- so many digits as stand in `ds` are put before the rest
 abbrev Spells : ℕ → List ℕ → Type 0

@@ -1,4 +1,4 @@
--- Lists that begin with another.
+-- Lists that begin another list.
 use Rattle.std.specs.Prelude.{◌≡◌, List, ◌++◌}
 
 -- the second list is the first with more at its end

@@ -1,24 +1,25 @@
--- Runs of the machine, over what the peers reply: the build (GTK manual, gtk_builder_add_from_string), and then the events
--- (GLib manual, g_main_context_iteration).
-use Rattle.std.specs.Prelude.{◌≡◌, ℕ, zero, suc, ◌+◌, ◌%◌, ◌^◌, ◌≤◌, nat_lt, Bool, true, false, ◌||◌, List, [], ◌∷◌, ◌++◌, map, length, Option, None, Some, option_map, slice_get, Ok, Err, IsTrue, IsSome}
-use Rattle.std.specs.List.{list_any}
+-- Runs of the machine: steps, dispatches, events, and whole runs.
+use Rattle.std.specs.Prelude.{Err, IsSome, IsTrue, List, None, Ok, Option, Some, [], length, option_map, slice_get, suc, zero, ℕ, ◌%◌, ◌++◌, ◌+◌, ◌^◌, ◌∷◌, ◌≡◌, ◌≤◌}
 use Rattle.ui_machine.specs.declared.arm.Arm.{Arm}
 use Rattle.ui_machine.specs.declared.arm.Halt.{Halt}
 use Rattle.ui_machine.specs.declared.arm.Halt.TheVariants as halts
-use Rattle.ui_machine.specs.Values.{Value}
-use Rattle.ui_machine.specs.Values as values
-use Rattle.ui_machine.specs.Transform.{kind_fits}
-use Rattle.ui_machine.specs.Definition.{Definition, Method, Given, value, named}
-use Rattle.ui_machine.specs.Lines as lines
-use Rattle.ui_machine.specs.Config as config
-use Rattle.ui_machine.specs.Config.{PeerState, Peer, Question, Reply, Source, Held, unbuilt, built, released, Task, Building, Carrying, Due, Request, Event, World, Config}
-use Rattle.ui_machine.specs.Objects.{next_unheld}
-use Rattle.ui_machine.specs.Mentions.{mentions}
-use Rattle.ui_machine.specs.Sources.{ready, source_of}
-use Rattle.ui_machine.specs.Instructions.{most_bytes}
-use Rattle.ui_machine.specs.Worlds.{said, held_at}
-use Rattle.ui_machine.specs.Builds.{build_items}
-use Rattle.ui_machine.specs.Steps.{step, question}
+use Rattle.ui_machine.specs.Definition.{Definition}
+use Rattle.ui_machine.specs.Definition.Signals.{Method}
+use Rattle.ui_machine.specs.Definition.Values.{Value}
+use Rattle.ui_machine.specs.Definition.Values as values
+use Rattle.ui_machine.specs.Instructions.Arithmetic.{most_bytes}
+use Rattle.ui_machine.specs.Output.Lines as lines
+use Rattle.ui_machine.specs.Rules.Build.{build_items}
+use Rattle.ui_machine.specs.Rules.Events.{Refusal, refusal}
+use Rattle.ui_machine.specs.Rules.MainLoop.{ready_at, turned}
+use Rattle.ui_machine.specs.Rules.Transform.{kind_fits}
+use Rattle.ui_machine.specs.State.Config.{Config, World, said, untold}
+use Rattle.ui_machine.specs.State.Peers.{Peer, PeerState, Question, Reply}
+use Rattle.ui_machine.specs.State.References.{mentions, next_unheld}
+use Rattle.ui_machine.specs.State.Sources.{Source, source_of}
+use Rattle.ui_machine.specs.State.Tasks.{Building, Carrying, Due, Event, Request, Task}
+use Rattle.ui_machine.specs.State.Tasks as config
+use Rattle.ui_machine.specs.Steps.{question, step}
 
 -- ** what peers reply
 
@@ -125,10 +126,6 @@ pub record Halts (d : Definition) (replies : List Reply) (c : Config) (halt : Ha
 
 -- ** where dispatches begin
 
--- the world as an event begins, which has told no value yet
-abbrev pub untold : World → World
-untold w = record w { result = None }
-
 -- a dispatch begins with one task, and has counted nothing
 abbrev pub beginning : World → Task → Config
 beginning w task = record { world = untold w; agenda = task ∷ []; counted = 0 }
@@ -157,40 +154,6 @@ first_world d peers = record {
 -- the build begins with its line
 abbrev pub of_build : Definition → List Peer → Config
 of_build d peers = beginning (said d (first_world d peers) lines.build) (Building (build_items d))
-
--- ** requests
-
--- whether the builder has let an object go
-abbrev pub is_released : Held → Bool
-is_released unbuilt = false
-is_released (built id) = false
-is_released released = true
-
--- whether a given value names such an object
-abbrev pub gives_released : World → Given → Bool
-gives_released w (value v) = false
-gives_released w (named place) = is_released (held_at w place)
-
--- whether a request names an object that was released, in any position
-abbrev pub names_released : World → Request → Bool
-names_released w (config.set place slot given) = is_released (held_at w place) || gives_released w given
-names_released w (config.get place slot) = is_released (held_at w place)
-names_released w (config.emit place signal args detail) = is_released (held_at w place) || list_any (gives_released w) args
-names_released w (config.release place) = is_released (held_at w place)
-
--- ** turns (GLib manual, g_main_context_iteration)
-
--- whether a moment lies before the latest one
-abbrev pub is_back : World → ℕ → Bool
-is_back w moment = nat_lt moment w.moment
-
--- the world as a turn begins
-abbrev pub turned : Definition → World → ℕ → World
-turned d w moment = record (said d (untold w) (lines.turn moment)) { moment = moment }
-
--- the numbers of the sources that a turn is to run
-abbrev pub ready_at : World → ℕ → List ℕ
-ready_at w moment = map (λ (s : Source). s.number) (ready moment w.sources)
 
 -- ** what events come to
 
@@ -246,16 +209,6 @@ abbrev pub RunsSources : Definition → List ℕ → List Reply → World → Ta
 RunsSources d [] replies w tally new = Rests replies w tally new
 RunsSources d (number ∷ more) replies w tally new =
     Then (λ first v. RunsSource d number (source_of number v.sources) first v) (RunsSources d more) replies w tally new
-
--- why an event is refused, which then leaves the world as it is
-pub data Refusal : Type 0 where
-  gone : Refusal  -- it names an object that the builder has let go
-  clock_back : Refusal  -- its moment lies before the latest one
-
--- why an event is refused, if it is
-abbrev pub refusal : World → Event → Option Refusal
-refusal w (config.request r) = elim (names_released w r) [ true ↦ Some gone | false ↦ None ]
-refusal w (config.turn moment) = elim (is_back w moment) [ true ↦ Some clock_back | false ↦ None ]
 
 -- what an event that is not refused does
 abbrev pub Does : Definition → Event → List Reply → World → Tally → World → Type 0

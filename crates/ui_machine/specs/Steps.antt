@@ -1,135 +1,28 @@
 -- The machine: one step from a configuration. Its order of tasks is this runtime's own; what each does has its manual's section there.
-use Rattle.std.specs.Prelude.{ℕ, suc, nat_lt, Bool, true, List, [], ◌∷◌, ◌++◌, Option, Some, None, Ok, Err}
+use Rattle.std.specs.Prelude.{Err, List, None, Ok, Option, Some, [], nat_lt, suc, ℕ, ◌++◌, ◌∷◌}
 use Rattle.ui_machine.specs.declared.arm.Arm.TheVariants as arms
-use Rattle.ui_machine.specs.Values.{Value}
-use Rattle.ui_machine.specs.Values as values
-use Rattle.ui_machine.specs.Lookups.{place_at}
-use Rattle.ui_machine.specs.Sources.{source_of}
-use Rattle.ui_machine.specs.Properties.{is_readable}
-use Rattle.ui_machine.specs.Definition.{Definition, Given}
-use Rattle.ui_machine.specs.Lines as lines
-use Rattle.ui_machine.specs.Config as config
-use Rattle.ui_machine.specs.Config.{World, Config, Task, Setting, Notifying, Beginning, Emitting, Transferring, Unsetting, Thawing, Running, Answering, Calling, Constructing, Building, Carrying, Due, Held, unbuilt, built, released, Question, Reply, Making, sets, runs, thaws, Item, makes, adopts, forwards, binds, connects, Request}
-use Rattle.ui_machine.specs.Answers.{Answer, ◌>>=◌, known, only_if}
-use Rattle.ui_machine.specs.Objects.{asked, value_at, next_unheld}
-use Rattle.ui_machine.specs.Mentions.{mentions}
-use Rattle.ui_machine.specs.Worlds.{Started, starts, said, with_held, sunk}
-use Rattle.ui_machine.specs.Sets.{setting, spec_at, if_settable}
-use Rattle.ui_machine.specs.Programs.{program_before}
-use Rattle.ui_machine.specs.Emissions.{notifying, beginning_emission}
-use Rattle.ui_machine.specs.Transfers.{transferring, unsetting}
-use Rattle.ui_machine.specs.Turns.{taking_entry}
-use Rattle.ui_machine.specs.Results.{Left, ending}
-use Rattle.ui_machine.specs.Calls.{calling_on, question_of}
-use Rattle.ui_machine.specs.Builds.{making, making_set, constructed, thawing_made, given_value, held_object, peer_for, building_child, building_forward, building_binding, building_handler}
-use Rattle.ui_machine.specs.Connections.{detail_in}
-use Rattle.ui_machine.specs.Instructions.{new_emission}
-use Rattle.ui_machine.specs.Running.{running}
-use Rattle.ui_machine.specs.Disposal.{finalised}
+use Rattle.ui_machine.specs.Definition.{Definition}
+use Rattle.ui_machine.specs.Instructions.{running}
+use Rattle.ui_machine.specs.Instructions.Peers.{calling_on, question_of}
+use Rattle.ui_machine.specs.Outcome.{Answer, only_if, ◌>>=◌}
+use Rattle.ui_machine.specs.Rules.Accumulation.{ending, taking_entry}
+use Rattle.ui_machine.specs.Rules.Build.{building}
+use Rattle.ui_machine.specs.Rules.Construction.{constructing}
+use Rattle.ui_machine.specs.Rules.Disposal.{finalised}
+use Rattle.ui_machine.specs.Rules.EmissionPlan.{beginning_emission, notifying}
+use Rattle.ui_machine.specs.Rules.Events.{carrying}
+use Rattle.ui_machine.specs.Rules.MainLoop.{sourcing}
+use Rattle.ui_machine.specs.Rules.NotifyQueue.{thawing}
+use Rattle.ui_machine.specs.Rules.Sets.{setting}
+use Rattle.ui_machine.specs.Rules.Transfers.{transferring, unsetting}
+use Rattle.ui_machine.specs.State.Config.{Config, Left, Started, World, starts, sunk}
+use Rattle.ui_machine.specs.State.Peers.{Question, Reply}
+use Rattle.ui_machine.specs.State.References.{mentions, next_unheld}
+use Rattle.ui_machine.specs.State.Tasks.{Answering, Beginning, Building, Calling, Carrying, Constructing, Due, Emitting, Notifying, Running, Setting, Task, Thawing, Transferring, Unsetting}
 
 -- the most counted steps of a dispatch
 abbrev pub most_steps : ℕ
 most_steps = 1_000_000_000_000
-
--- ** tasks
-
--- the next of the notifications that are left of a thaw
-abbrev pub thawing : World → ℕ → List ℕ → Answer Started
-thawing w id [] = starts w []
-thawing w id (slot ∷ slots) = starts w (Notifying id slot ∷ Thawing id slots ∷ [])
-
--- the next step of a construction
-abbrev pub constructing : Definition → World → ℕ → List Making → Bool → Answer Started
-constructing d w id [] held = constructed w id held
-constructing d w id (sets slot v ∷ steps) held = making_set d w id slot v (Constructing id steps held ∷ [])
-constructing d w id (runs program ∷ steps) held =
-    program_before d w program (values.object (Some id) ∷ []) (Constructing id steps held ∷ [])
-constructing d w id (thaws ∷ steps) held = thawing_made w id steps held
-
--- an object of the build is made, with the peer that is its own
-unfoldable pub building_object : Definition → World → ℕ → List Item → Answer Started
-building_object d w place items = do
-  p ← known arms.Code (place_at d place)
-  peer ← peer_for d w p
-  made ← making d w place peer true
-  starts made.world (made.tasks ++ Building items ∷ [])
-
--- the next item of the build
-abbrev pub building : Definition → World → List Item → Answer Started
-building d w [] = starts w []
-building d w (makes place ∷ items) = building_object d w place items
-building d w (adopts place ∷ items) = building_child d w place items
-building d w (forwards place slot to ∷ items) = building_forward d w place slot to items
-building d w (binds number ∷ items) = building_binding d w number items
-building d w (connects place number ∷ items) = building_handler d w place number items
-
--- ** requests
-
--- the set of a given value
-unfoldable pub set_given : World → (id slot : ℕ) → Given → Answer Started
-set_given w id slot given = do
-  v ← known arms.Operand (given_value w given)
-  starts w (Setting id slot v ∷ [])
-
--- a set by an event
-unfoldable pub carrying_set : Definition → World → (place slot : ℕ) → Given → Answer Started
-carrying_set d w place slot given = do
-  id ← held_object w place
-  s ← spec_at d w.objects id slot
-  if_settable s (set_given w id slot given)
-
--- the world with a value for the event
-abbrev pub with_result : World → Value → World
-with_result w v = record w { result = Some v }
-
--- a get by an event
-unfoldable pub carrying_get : Definition → World → ℕ → ℕ → Answer Started
-carrying_get d w place slot = do
-  id ← held_object w place
-  s ← spec_at d w.objects id slot
-  v ← asked w.objects id (value_at slot)
-  only_if (is_readable s) arms.Flags (starts (with_result (said d w (lines.get id s.name v)) v) [])
-
--- the given values of an emission's arguments
-unfoldable pub given_values : World → List Given → Answer (List Value)
-given_values w [] = Ok []
-given_values w (g ∷ gs) = do
-  v ← known arms.Operand (given_value w g)
-  vs ← given_values w gs
-  Ok (v ∷ vs)
-
--- an emission by an event
-unfoldable pub carrying_emit : Definition → World → (place signal : ℕ) → List Given → Option (List ℕ) → Answer Started
-carrying_emit d w place signal args detail = do
-  id ← held_object w place
-  stands ← detail_in d w id signal detail
-  given ← given_values w args
-  starts w (Beginning (new_emission id signal stands given true) ∷ [])
-
--- the builder lets an object go
-unfoldable pub carrying_release : Definition → World → ℕ → Answer Started
-carrying_release d w place = do
-  p ← known arms.Code (place_at d place)
-  _ ← held_object w place
-  starts (with_held (said d w (lines.release p.id)) place released) []
-
--- what a request does
-abbrev pub carrying : Definition → World → Request → Answer Started
-carrying d w (config.set place slot given) = carrying_set d w place slot given
-carrying d w (config.get place slot) = carrying_get d w place slot
-carrying d w (config.emit place signal args detail) = carrying_emit d w place signal args detail
-carrying d w (config.release place) = carrying_release d w place
-
--- the program of a ready source begins, with its data
-abbrev pub source_data : Option ℕ → List Value
-source_data None = []
-source_data (Some id) = values.object (Some id) ∷ []
-
--- a due source runs
-unfoldable pub sourcing : Definition → World → ℕ → Answer Started
-sourcing d w source = do
-  s ← known arms.Code (source_of source w.sources)
-  program_before d w s.program (source_data s.arg) (Answering source ∷ [])
 
 -- ** steps
 

@@ -1,6 +1,6 @@
 -- What a session's answers are to the lines that it hears.
 use Rattle.std.proofs.Common.{◌≡◌, ℕ, Bool, true, false, List, [], ◌∷◌, ◌++◌, length, drop, Ok, Err, refl, sym, ap, ◌∙◌, inl, inr}
-use Rattle.ui_machine.specs.Config.{Event}
+use Rattle.ui_machine.specs.State.Tasks.{Event}
 use Rattle.builder_defs.specs.EventMeaning.{event_refusal, event_denoted, Fails}
 use Rattle.builder_defs.specs.declared.event_fault.EventError.{EventError}
 use Rattle.builder_defs.specs.declared.event_fault.EventError.TheVariants as errors

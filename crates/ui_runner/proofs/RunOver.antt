@@ -3,7 +3,8 @@ use Rattle.std.proofs.Common.{◌≡◌, ℕ, ◌+◌, Bool, true, List, [], ◌
 use Rattle.std.specs.Prelude.{◌⊎◌}
 use Rattle.ui_machine.specs.declared.arm.Halt.TheVariants as halts
 use Rattle.ui_machine.specs.Definition.{Definition}
-use Rattle.ui_machine.specs.Config.{Event, World}
+use Rattle.ui_machine.specs.State.Tasks.{Event}
+use Rattle.ui_machine.specs.State.Config.{World}
 use Rattle.ui_machine.specs.Runs.{Tally, no_dispatch, tallied, Serves, ServesAll, HaltsIn, first_world}
 use Rattle.machine_laws.specs.FrontLaws.{fronted}
 use Rattle.machine_laws.proofs.FrontRuns.{event_appends, event_halt_appends}
@@ -165,7 +166,7 @@ pub runs_over : (s : SessionState) (lines : List (List ℕ)) (outcomes : List Ou
     → RunsOver s lines outcomes new
 runs_over s lines outcomes new built tale =
     let events = subst (λ (w : World). Served s.definition w (events_served s.definition 1 lines outcomes) (said_in outcomes) new.world) (all_in_front [] s.world)
-            (served s.definition outcomes 1 lines s.world.transcript (without_lines s) new refl tale) in
+    (served s.definition outcomes 1 lines s.world.transcript (without_lines s) new refl tale) in
     record {
       tally = tallied built.tally events.tally;
       last = events.last;

@@ -2,7 +2,8 @@
 use Rattle.std.specs.Prelude.{◌≡◌, ◌⊎◌, ℕ, ◌+◌, List, [], ◌∷◌, ◌++◌, Result, Ok, Err}
 use Rattle.ui_machine.specs.declared.arm.Halt.{Halt}
 use Rattle.ui_machine.specs.Definition.{Definition}
-use Rattle.ui_machine.specs.Config.{Event, World}
+use Rattle.ui_machine.specs.State.Tasks.{Event}
+use Rattle.ui_machine.specs.State.Config.{World}
 use Rattle.ui_machine.specs.Runs.{Tally, IsRun, HaltsIn}
 use Rattle.machine_laws.specs.FrontLaws.{fronted}
 use Rattle.builder_defs.specs.EventMeaning.{EventRefusal, event_denoted}

@@ -39,9 +39,15 @@ impl Ending {
     {
         let name = name.as_bytes();
         match self {
-            Ending::Usage => return write_parts(writer, &[b"usage: ui verify DEF | ui run DEF EVENTS", name, b"\n"]),
+            Ending::Usage => return write_parts(
+                writer,
+                &[b"usage: ui verify DEF | ui run DEF EVENTS", name, b"\n"],
+            ),
             Ending::Unreadable => return write_parts(writer, &[b"cannot read ", name, b"\n"]),
-            Ending::OutOfMemory => return write_parts(writer, &[b"refused: OutOfMemory", name, b"\n"]),
+            Ending::OutOfMemory => return write_parts(
+                writer,
+                &[b"refused: OutOfMemory", name, b"\n"],
+            ),
         }
     }
 

@@ -3,8 +3,7 @@
 use crate::fixtures::{marks_kind, mode_kind, number_of, tree_of_members, value_of};
 use g_values::{Kind, Value, is_known};
 use param_specs::{
-    OverrideFault, PropertyFlags, Spec, SpecError, SpecFault, SpecTable, takes,
-    validate,
+    OverrideFault, PropertyFlags, Spec, SpecError, SpecFault, SpecTable, takes, validate,
 };
 use std::alloc::Global;
 use std::test::Fail;

@@ -157,4 +157,3 @@ fn has_room_for_16_levels(rt: HostRuntime) -> Result<(), Fail> {
     }
     Ok(())
 }
-

@@ -1,5 +1,5 @@
 use Rattle.std.proofs.Common.{◌≡◌, ℕ, Bool, true, false, cond, nat_eq, refl, arith}
-use Rattle.ui_machine.specs.Config.{Binding}
+use Rattle.ui_machine.specs.State.Bindings.{Binding}
 use Rattle.ui_machine.proofs.Mapped.{mapped_written}
 use Rattle.bindings.proofs.list.mark.Goals as goal
 use Rattle.bindings.proofs.list.mark.Goals.{then-has_number, else-has_number}

@@ -1,5 +1,5 @@
 use Rattle.std.proofs.Common.{◌≡◌, ◌++◌, take, drop}
-use Rattle.ui_machine.specs.Bindings.{with_busy}
+use Rattle.ui_machine.specs.State.Bindings.{with_busy}
 use Rattle.bindings.proofs.list.mark.Given as goal
 
 abbrev pub invariant-loop-one : goal.invariant-loop-one

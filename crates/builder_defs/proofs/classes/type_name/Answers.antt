@@ -1,5 +1,5 @@
 use Rattle.std.proofs.Common.{sym, ap, arith}
-use Rattle.ui_machine.specs.Types.{GType}
+use Rattle.ui_machine.specs.Definition.Types.{GType}
 use Rattle.builder_defs.proofs.Tables.{type_past}
 use Rattle.builder_defs.proofs.classes.type_name.Goals as goal
 

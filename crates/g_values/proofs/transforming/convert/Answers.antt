@@ -1,7 +1,7 @@
 use Rattle.std.proofs.Common.{◌≡◌, pos, ap, arith}
 use Rattle.std.specs.Int.{cast_signed, cast_unsigned, w128}
 use Rattle.std.proofs.lemmas.Int.{ints}
-use Rattle.ui_machine.specs.Kinds.{int, uint, int64, uint64}
+use Rattle.ui_machine.specs.Definition.Kinds.{int, uint, int64, uint64}
 use Rattle.g_values.specs.View.{kind_view, value_view}
 use Rattle.g_values.proofs.Wholes.{whole_becomes}
 use Rattle.g_values.proofs.transforming.convert.Goals as goal

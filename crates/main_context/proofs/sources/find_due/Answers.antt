@@ -1,5 +1,5 @@
 use Rattle.std.proofs.Common.{option_map, sym, ◌∙◌, ap, refl}
-use Rattle.ui_machine.specs.Sources.{is_numbered}
+use Rattle.ui_machine.specs.State.Sources.{is_numbered}
 use Rattle.main_context.specs.Dues.{due_of}
 use Rattle.main_context.proofs.First.{absent, first}
 use Rattle.main_context.proofs.sources.find_due.Goals as goal

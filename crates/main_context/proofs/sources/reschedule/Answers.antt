@@ -1,6 +1,5 @@
 use Rattle.std.proofs.Common.{◌≡◌, ℕ, true, false, cond, refl, arith}
-use Rattle.ui_machine.specs.Config.{Source}
-use Rattle.ui_machine.specs.Sources.{is_numbered, due_after}
+use Rattle.ui_machine.specs.State.Sources.{Source, is_numbered, due_after}
 use Rattle.ui_machine.proofs.Mapped.{mapped_written}
 use Rattle.main_context.proofs.sources.reschedule.Goals as goal
 use Rattle.main_context.proofs.sources.reschedule.Goals.{then-has_number, else-has_number}

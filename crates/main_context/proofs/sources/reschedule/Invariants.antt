@@ -1,5 +1,5 @@
 use Rattle.std.proofs.Common.{◌≡◌, ◌++◌, take, drop}
-use Rattle.ui_machine.specs.Sources.{rescheduled}
+use Rattle.ui_machine.specs.Rules.MainLoop.{rescheduled}
 use Rattle.main_context.proofs.sources.reschedule.Given as goal
 
 abbrev pub invariant-loop-source : goal.invariant-loop-source

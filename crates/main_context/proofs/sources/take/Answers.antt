@@ -1,5 +1,5 @@
 use Rattle.std.proofs.Common.{sym, ◌∙◌}
-use Rattle.ui_machine.specs.Sources.{is_numbered}
+use Rattle.ui_machine.specs.State.Sources.{is_numbered}
 use Rattle.main_context.proofs.First.{absent, first}
 use Rattle.main_context.proofs.sources.take.Goals as goal
 

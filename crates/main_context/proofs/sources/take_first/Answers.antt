@@ -1,5 +1,5 @@
 use Rattle.std.proofs.Common.{sym, ◌∙◌}
-use Rattle.ui_machine.specs.Sources.{runs_program}
+use Rattle.ui_machine.specs.State.Sources.{runs_program}
 use Rattle.main_context.proofs.First.{absent, first}
 use Rattle.main_context.proofs.sources.take_first.Goals as goal
 

@@ -1,5 +1,5 @@
 use Rattle.std.proofs.Common.{◌≡◌, ℕ, ◌<◌, ◌≤◌, List, [], ◌∷◌, length, false, refl, arith}
-use Rattle.ui_machine.specs.Names.{same_name, canonical}
+use Rattle.ui_machine.specs.Definition.Names.{same_name, canonical}
 use Rattle.param_specs.proofs.name.+spells.Goals as goal
 
 shorter : (stored name : List ℕ) → length stored < 1 → 1 ≤ length name → false ≡ same_name stored (canonical name)

@@ -1,5 +1,5 @@
 use Rattle.std.proofs.Common.{◌∙◌, sym, ap, subst, IsUtf8}
-use Rattle.ui_machine.specs.Names.{canonical}
+use Rattle.ui_machine.specs.Definition.Names.{canonical}
 use Rattle.param_specs.proofs.Dashes.{canonical_utf8}
 use Rattle.param_specs.proofs.name.canonical_name.Goals as goal
 

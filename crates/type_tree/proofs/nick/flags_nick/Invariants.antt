@@ -1,5 +1,5 @@
 use Rattle.std.proofs.Common.{◌≡◌, drop, map}
-use Rattle.ui_machine.specs.Text.{nick_of}
+use Rattle.ui_machine.specs.Output.Text.{nick_of}
 use Rattle.type_tree.specs.Entry.{flags_member}
 use Rattle.type_tree.proofs.nick.flags_nick.Given as goal
 

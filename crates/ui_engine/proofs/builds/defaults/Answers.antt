@@ -1,6 +1,6 @@
 use Rattle.std.proofs.Common.{◌≡◌, ◌+◌, suc, Some, Bor, option_map, slice_get, sym, ap, ◌∙◌, arith}
 use Rattle.std.proofs.lemmas.Grind.{common_steps}
-use Rattle.ui_machine.specs.Lookups.{specs_of}
+use Rattle.ui_machine.specs.Definition.Lookups.{specs_of}
 use Rattle.param_specs.specs.declared.spec.Spec.{Spec}
 use Rattle.param_specs.specs.View.{spec_view}
 use Rattle.ui_engine.proofs.Building.{one_default_more}

@@ -1,6 +1,6 @@
 use Rattle.std.proofs.Common.{◌≡◌, ◌-◌, map, take, length}
-use Rattle.ui_machine.specs.Properties.{Spec}
-use Rattle.ui_machine.specs.Lookups.{specs_of}
+use Rattle.ui_machine.specs.Definition.Properties.{Spec}
+use Rattle.ui_machine.specs.Definition.Lookups.{specs_of}
 use Rattle.g_values.specs.View.{value_view}
 use Rattle.ui_engine.proofs.builds.defaults.Given as goal
 

@@ -1,7 +1,7 @@
 use Rattle.std.proofs.Common.{◌≡◌, refl, ◌<◌, ◌≤◌, length, map, Some, None, ap, ◌∙◌, arith}
 use Rattle.std.proofs.lemmas.List.{length-map}
 use Rattle.ui_machine.specs.Seq.{write}
-use Rattle.ui_machine.specs.Config.{built, unbuilt}
+use Rattle.ui_machine.specs.State.Config.{built, unbuilt}
 use Rattle.ui_engine.specs.View.{held_of}
 use Rattle.ui_engine.proofs.Built.{filled, held_more, held_set}
 use Rattle.ui_engine.proofs.world.hold.Goals as goal

@@ -1,6 +1,6 @@
 use Rattle.std.proofs.Common.{◌≡◌, ◌-◌, suc, map, vec_len}
 use Rattle.ui_machine.specs.Seq.{write}
-use Rattle.ui_machine.specs.Config.{built, unbuilt}
+use Rattle.ui_machine.specs.State.Config.{built, unbuilt}
 use Rattle.ui_engine.specs.View.{held_of}
 use Rattle.ui_engine.proofs.world.hold.Given as goal
 

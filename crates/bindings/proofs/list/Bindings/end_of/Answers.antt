@@ -1,6 +1,5 @@
 use Rattle.std.proofs.Common.{not}
-use Rattle.ui_machine.specs.Config.{Binding}
-use Rattle.ui_machine.specs.Bindings.{is_end}
+use Rattle.ui_machine.specs.State.Bindings.{Binding, is_end}
 use Rattle.bindings.proofs.Numbers.{left_below}
 use Rattle.bindings.proofs.list.Bindings.end_of.Goals as goal
 

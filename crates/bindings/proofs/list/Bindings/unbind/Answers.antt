@@ -1,6 +1,5 @@
 use Rattle.std.proofs.Common.{not}
-use Rattle.ui_machine.specs.Config.{Binding}
-use Rattle.ui_machine.specs.Bindings.{is_called}
+use Rattle.ui_machine.specs.State.Bindings.{Binding, is_called}
 use Rattle.bindings.proofs.Numbers.{left_below}
 use Rattle.bindings.proofs.list.Bindings.unbind.Goals as goal
 

@@ -1,6 +1,6 @@
 use Rattle.std.proofs.Common.{◌∙◌, ap}
 use Rattle.ui_machine.specs.Definition as machine
-use Rattle.ui_machine.specs.Lookups.{type_of}
+use Rattle.ui_machine.specs.Definition.Lookups.{type_of}
 use Rattle.builder_defs.proofs.definition.Definition.class_name.Goals as goal
 
 pub returns : goal.returns

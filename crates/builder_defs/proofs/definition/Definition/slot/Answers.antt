@@ -1,7 +1,7 @@
 use Rattle.std.proofs.Common.{List, sym, ap, ◌∙◌, arith}
-use Rattle.ui_machine.specs.Properties.{Spec}
+use Rattle.ui_machine.specs.Definition.Properties.{Spec}
 use Rattle.ui_machine.specs.Definition as machine
-use Rattle.ui_machine.specs.Lookups.{slot_of}
+use Rattle.ui_machine.specs.Definition.Lookups.{slot_of}
 use Rattle.param_specs.specs.Table.{slot_named}
 use Rattle.builder_defs.proofs.Tables.{known_specs, unknown_specs}
 use Rattle.builder_defs.proofs.definition.Definition.slot.Goals as goal

@@ -1,6 +1,6 @@
 use Rattle.std.proofs.Common.{length, sym, ap, ◌∙◌, arith}
 use Rattle.ui_machine.specs.Definition as machine
-use Rattle.ui_machine.specs.Lookups.{specs_of}
+use Rattle.ui_machine.specs.Definition.Lookups.{specs_of}
 use Rattle.builder_defs.proofs.Tables.{known_specs, unknown_specs}
 use Rattle.builder_defs.proofs.definition.Definition.slots.Goals as goal
 

@@ -1,7 +1,7 @@
 use Rattle.std.proofs.Common.{◌≡◌, ◌<◌, List, length, slice_get, sym, ap, ◌∙◌, arith}
-use Rattle.ui_machine.specs.Properties.{Spec}
+use Rattle.ui_machine.specs.Definition.Properties.{Spec}
 use Rattle.ui_machine.specs.Definition as machine
-use Rattle.ui_machine.specs.Lookups.{specs_of, spec_of}
+use Rattle.ui_machine.specs.Definition.Lookups.{specs_of, spec_of}
 use Rattle.builder_defs.proofs.Tables.{known_specs}
 use Rattle.builder_defs.proofs.definition.Definition.spec.Goals as goal
 

@@ -1,6 +1,6 @@
 use Rattle.std.proofs.Common.{ap, map, refl, rules, ◌∙◌, FitsSigned, w32}
 use Rattle.std.proofs.lemmas.Int.{to_z-of_z}
-use Rattle.ui_machine.specs.Config.{Source}
+use Rattle.ui_machine.specs.State.Sources.{Source}
 use Rattle.main_context.proofs.LeastPriority.{ready_at_least, ready_none}
 use Rattle.main_context.proofs.batch.Batch.ready.Goals as goal
 

@@ -1,6 +1,6 @@
 use Rattle.std.proofs.Common.{◌≡◌, ◌∙◌, ℕ, Bool, not, List, Option, Bor, sym, refl, true, false, is_some, Some, None}
 use Rattle.std.specs.List.{filter_map}
-use Rattle.ui_machine.specs.Types.{GType}
+use Rattle.ui_machine.specs.Definition.Types.{GType}
 use Rattle.type_tree.specs.Adding.{interface_named, would_be, required_by}
 use Rattle.type_tree.proofs.Missing.{first_of-found, first_of-after}
 use Rattle.type_tree.proofs.tree.TypeTree.missing_type.Goals as goal

@@ -1,5 +1,5 @@
 use Rattle.std.proofs.Common.{List, ◌∷◌, None, ap, ◌∙◌}
-use Rattle.ui_machine.specs.Config.{Task}
+use Rattle.ui_machine.specs.State.Tasks.{Task}
 use Rattle.ui_engine.specs.View.{world_of}
 use Rattle.ui_engine.specs.TaskView.{task_of}
 use Rattle.ui_engine.proofs.engine.Engine.begin.Goals as goal

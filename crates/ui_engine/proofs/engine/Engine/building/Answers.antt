@@ -1,7 +1,8 @@
 use Rattle.std.proofs.Common.{◌≡◌, suc, true, None, ◌+◌, List, ◌∷◌, sym, ap, subst, ◌∙◌, arith}
-use Rattle.ui_machine.specs.Config.{Task, Building, Config}
-use Rattle.ui_machine.specs.Answers.{Answer, Goes}
-use Rattle.ui_machine.specs.Builds.{making}
+use Rattle.ui_machine.specs.State.Tasks.{Task, Building}
+use Rattle.ui_machine.specs.State.Config.{Config}
+use Rattle.ui_machine.specs.Outcome.{Answer, Goes}
+use Rattle.ui_machine.specs.Rules.Construction.{making}
 use Rattle.ui_machine.specs.Steps.{uncounted}
 use Rattle.ui_engine.specs.View.{world_of}
 use Rattle.ui_engine.specs.TaskView.{agenda_of, build_from}

@@ -1,9 +1,9 @@
 use Rattle.std.proofs.Common.{ℕ, Option, Some, None, refl}
 use Rattle.std.specs.Option.{ok_or}
 use Rattle.ui_machine.specs.declared.arm.Arm.TheVariants as arms
-use Rattle.ui_machine.specs.Answers.{known}
-use Rattle.ui_machine.specs.Builds.{identity_held}
-use Rattle.ui_machine.specs.Worlds.{held_at}
+use Rattle.ui_machine.specs.Outcome.{known}
+use Rattle.ui_machine.specs.Rules.Build.{identity_held}
+use Rattle.ui_machine.specs.State.Config.{held_at}
 use Rattle.ui_engine.specs.ObjectView.{Shows}
 use Rattle.ui_engine.specs.View.{world_of}
 use Rattle.ui_engine.proofs.engine.Engine.built.Goals as goal

@@ -1,5 +1,5 @@
 use Rattle.std.proofs.Common.{rules}
-use Rattle.ui_machine.specs.Steps.{carrying_set, set_given}
+use Rattle.ui_machine.specs.Rules.Events.{carrying_set, set_given}
 use Rattle.ui_engine.proofs.Settable.{settable}
 use Rattle.ui_engine.proofs.engine.Engine.carrying_set.Goals as goal
 

@@ -1,11 +1,10 @@
 use Rattle.std.proofs.Common.{◌≡◌, suc, false, None, Some, List, [], ◌∷◌, ◌++◌, slice_get, length, string_bytes, rules, refl, sym, ap, ◌∙◌}
-use Rattle.ui_machine.specs.Lookups.{type_of}
-use Rattle.ui_machine.specs.Lines as lines
-use Rattle.ui_machine.specs.Text.{text_of_line}
-use Rattle.ui_machine.specs.Values.{Value}
-use Rattle.ui_machine.specs.Config.{World}
-use Rattle.ui_machine.specs.Worlds.{said}
-use Rattle.ui_machine.specs.Builds.{with_object, new_object}
+use Rattle.ui_machine.specs.Definition.Lookups.{type_of}
+use Rattle.ui_machine.specs.Output.Lines as lines
+use Rattle.ui_machine.specs.Output.Text.{text_of_line}
+use Rattle.ui_machine.specs.Definition.Values.{Value}
+use Rattle.ui_machine.specs.State.Config.{World, said}
+use Rattle.ui_machine.specs.Rules.Construction.{with_object, new_object}
 use Rattle.builder_defs.specs.Meaning.{bare_place}
 use Rattle.ui_engine.specs.ObjectView.{made_object}
 use Rattle.ui_engine.specs.View.{world_of}

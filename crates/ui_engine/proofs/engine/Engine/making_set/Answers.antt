@@ -1,5 +1,5 @@
 use Rattle.std.proofs.Common.{rules}
-use Rattle.ui_machine.specs.Builds.{making_set}
+use Rattle.ui_machine.specs.Rules.Construction.{making_set}
 use Rattle.ui_engine.proofs.Settable.{writable}
 use Rattle.ui_engine.proofs.engine.Engine.making_set.Goals as goal
 

@@ -1,5 +1,5 @@
 use Rattle.std.proofs.Common.{rules}
-use Rattle.ui_machine.specs.Sets.{raising}
+use Rattle.ui_machine.specs.Rules.Sets.{raising}
 use Rattle.ui_engine.specs.PlainSets.{told_write}
 use Rattle.ui_engine.proofs.engine.Engine.put.Goals as goal
 

@@ -1,6 +1,6 @@
 use Rattle.std.proofs.Common.{Bool, List, Ok, subst}
 use Rattle.std.proofs.lemmas.Result.{err_from_is_err_and}
-use Rattle.ui_machine.specs.Config.{Task}
+use Rattle.ui_machine.specs.State.Tasks.{Task}
 use Rattle.ui_engine.specs.View.{world_of}
 use Rattle.ui_engine.specs.EngineView.{config_of}
 use Rattle.ui_engine.specs.Holding.{IsHeld}

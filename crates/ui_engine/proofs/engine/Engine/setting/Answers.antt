@@ -1,7 +1,7 @@
 use Rattle.std.proofs.Common.{◌≡◌, true, sym, ap, ◌∙◌}
 use Rattle.std.proofs.lemmas.Result.{err_from_is_err_and}
-use Rattle.ui_machine.specs.Objects.{class_in}
-use Rattle.ui_machine.specs.Sets.{has_kind}
+use Rattle.ui_machine.specs.State.Objects.{class_in}
+use Rattle.ui_machine.specs.Rules.Sets.{has_kind}
 use Rattle.ui_machine.specs.Steps.{uncounted}
 use Rattle.g_values.specs.View.{value_view}
 use Rattle.param_specs.specs.View.{spec_view}

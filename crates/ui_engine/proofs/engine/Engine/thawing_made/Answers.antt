@@ -1,5 +1,5 @@
 use Rattle.std.proofs.Common.{rules}
-use Rattle.ui_machine.specs.Builds.{thawing_made}
+use Rattle.ui_machine.specs.Rules.Construction.{thawing_made}
 use Rattle.ui_engine.proofs.engine.Engine.thawing_made.Goals as goal
 
 pub returns-clause-step : goal.returns-clause-step

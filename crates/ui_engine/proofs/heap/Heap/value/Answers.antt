@@ -1,6 +1,6 @@
 use Rattle.std.proofs.Common.{sym, ap, ◌∙◌}
 use Rattle.std.specs.Option.{option_copied}
-use Rattle.ui_machine.specs.Objects.{value_at}
+use Rattle.ui_machine.specs.State.Objects.{value_at}
 use Rattle.ui_engine.proofs.Shown.{absent_asked, present_asked}
 use Rattle.ui_engine.proofs.heap.Heap.value.Goals as goal
 

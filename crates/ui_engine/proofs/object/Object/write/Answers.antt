@@ -1,5 +1,5 @@
 use Rattle.std.proofs.Common.{◌≡◌, ◌<◌, length, get_or, map, slice_set, Ok, ◌∙◌, ap, sym, arith}
-use Rattle.ui_machine.specs.Config as config
+use Rattle.ui_machine.specs.State.Objects as config
 use Rattle.g_values.specs.View.{value_view}
 use Rattle.ui_engine.proofs.Values.{write_over}
 use Rattle.ui_engine.proofs.object.Object.write.Goals as goal

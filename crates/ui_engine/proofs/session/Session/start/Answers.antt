@@ -1,7 +1,7 @@
 use Rattle.std.proofs.Common.{[], ap, subst, sym, ◌∙◌}
-use Rattle.ui_machine.specs.Config.{World, Building, Config}
-use Rattle.ui_machine.specs.Lines as lines
-use Rattle.ui_machine.specs.Worlds.{said}
+use Rattle.ui_machine.specs.State.Config.{World, Config, said}
+use Rattle.ui_machine.specs.State.Tasks.{Building}
+use Rattle.ui_machine.specs.Output.Lines as lines
 use Rattle.ui_machine.specs.Runs.{beginning, first_world}
 use Rattle.ui_engine.specs.View.{world_of}
 use Rattle.ui_engine.specs.TaskView.{build_from}

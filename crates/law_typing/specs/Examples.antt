@@ -1,0 +1,22 @@
+-- Worked definitions, each with what it is judged to be.
+pub mod FirstRun
+pub mod NothingToDo
+pub mod Freezes
+pub mod Pair
+pub mod Labels
+pub mod Floating
+pub mod LastReference
+pub mod MainLoop
+pub mod Chain
+pub mod AllParts
+pub mod SetConstructOnly
+pub mod UnfitHandler
+pub mod UnfitBinding
+pub mod SecondPair
+pub mod FrozenPair
+pub mod OpenFreeze
+pub mod LabelCycle
+pub mod TooLarge
+pub mod LabelsRenamed
+pub mod LabelChain
+pub mod ClassHandlers

@@ -1,0 +1,52 @@
+-- A handler of `notify` that sets a property of another object.
+use Rattle.std.specs.Prelude.{◌≡◌, ℕ, pos, false, List, [], ◌∷◌, codes, None, Some}
+use Rattle.ui_machine.specs.Definition.Kinds as kinds
+use Rattle.ui_machine.specs.Definition.Values as values
+use Rattle.ui_machine.specs.Definition.Types.{plain_class}
+use Rattle.ui_machine.specs.Definition.{Definition}
+use Rattle.ui_machine.specs.Definition.Programs as words
+use Rattle.law_typing.specs.Verdict.{verdict, accepted}
+use Rattle.law_typing.specs.Words.{class_type, property, notify, class_of, block, program, attached, object}
+
+abbrev pub definition : Definition
+definition = record {
+  types =
+      plain_class (codes "GObject") None []
+      ∷ class_type (codes "GInitiallyUnowned") 0 false false []
+      ∷ class_type (codes "Label") 0 false false []
+      ∷ [];
+  classes =
+      class_of [] (notify ∷ []) [] None None
+      ∷ class_of [] (notify ∷ []) [] None None
+      ∷ class_of (property (codes "text") kinds.text 3 (values.text None) (pos 0) (pos 0) false ∷ []) (notify ∷ []) [] None None
+      ∷ [];
+  shapes =
+      [];
+  programs =
+      program (codes "up") ((kinds.at 0) ∷ []) 3 None
+      (block ((kinds.at 0) ∷ kinds.unset ∷ kinds.unset ∷ []) 1 (words.object 1 (codes "l2") ∷ words.branch_null 1 1 2 ∷ [])
+      ∷ block (kinds.unset ∷ kinds.unset ∷ kinds.unset ∷ []) 1 (words.return None ∷ [])
+      ∷ block ((kinds.at 0) ∷ (kinds.at 1) ∷ kinds.unset ∷ []) 1 (words.get 2 0 (codes "text") ∷ words.set 1 (codes "text") 2 ∷ words.return None ∷ [])
+      ∷ [])
+      ∷ [];
+  places =
+      object (codes "l1") 2 None [] [] (attached (codes "notify") (Some (codes "text")) 0 false false None ∷ [])
+      ∷ object (codes "l2") 2 None [] [] []
+      ∷ [];
+  bindings =
+      [];
+  most_objects = 2;
+  most_handlers = 0;
+}
+
+abbrev pub lines : List (List ℕ)
+lines =
+    (codes "depth 3")
+    ∷ (codes "build bound 2")
+    ∷ (codes "property l1.text rank 0 bound 9")
+    ∷ (codes "property l2.text rank 1 bound 3")
+    ∷ []
+
+-- the definition is accepted, with this report
+abbrev pub Holds : Type 0
+Holds = verdict definition ≡ accepted lines

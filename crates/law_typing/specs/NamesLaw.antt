@@ -1,9 +1,0 @@
--- The labels and the stickers differ in names alone.
-use Rattle.std.specs.Prelude.{◌≡◌}
-use Rattle.law_typing.specs.Graph.{graph}
-use Rattle.law_typing.specs.Labels as labels
-use Rattle.law_typing.specs.Stickers as stickers
-
--- they have one graph
-abbrev pub OneGraph : Type 0
-OneGraph = graph labels.definition ≡ graph stickers.definition

@@ -1,0 +1,89 @@
+-- Bindings and signals of disposed objects are not made; forward values are set.
+use Rattle.std.specs.Prelude.{◌≡◌, ℕ, pos, negsuc, true, false, List, [], ◌∷◌, codes, None, Some, Ok}
+use Rattle.ui_machine.specs.Definition.Kinds as kinds
+use Rattle.ui_machine.specs.Definition.Values as values
+use Rattle.ui_machine.specs.Definition.Types.{plain_class}
+use Rattle.ui_machine.specs.Definition.{Definition}
+use Rattle.ui_machine.specs.Definition.Places.{named}
+use Rattle.ui_machine.specs.Definition.Programs as words
+use Rattle.ui_machine.specs.State.Tasks.{Event}
+use Rattle.ui_machine.specs.State.Peers.{Peer}
+use Rattle.ui_machine.specs.State.Tasks as config
+use Rattle.machine_rows.specs.Play.{Scripted, shown}
+use Rattle.machine_rows.specs.Words.{class_type, property, signal, notify, class_with, block, program, gives, attached, object, bind}
+
+abbrev pub definition : Definition
+definition = record {
+  types =
+      plain_class (codes "GObject") None []
+      ∷ class_type (codes "GInitiallyUnowned") 0 false false []
+      ∷ class_type (codes "Box") 0 false false []
+      ∷ [];
+  classes =
+      class_with [] (notify ∷ []) [] None None
+      ∷ class_with [] (notify ∷ []) [] None None
+      ∷ class_with (property (codes "to") (kinds.object 2) 3 (values.object None) (pos 0) (pos 0) false ∷ property (codes "w") (kinds.object 2) 3 (values.object None) (pos 0) (pos 0) true ∷ property (codes "n") (kinds.whole kinds.int) 3 (values.whole kinds.int (pos 0)) (negsuc 2147483647) (pos 2147483647) false ∷ []) (notify ∷ signal (codes "go") [] None 2 None ∷ []) [] (Some 0) None
+      ∷ [];
+  shapes =
+      [];
+  programs =
+      program (codes "die") ((kinds.some 2) ∷ []) 1 None
+      (block ((kinds.some 2) ∷ []) 1 (words.dispose 0 ∷ words.return None ∷ [])
+      ∷ [])
+      ∷ program (codes "h") ((kinds.some 2) ∷ []) 1 None
+      (block ((kinds.some 2) ∷ []) 1 (words.return None ∷ [])
+      ∷ [])
+      ∷ [];
+  places =
+      object (codes "a") 2 None (gives 0 (named 1) ∷ gives 1 (named 1) ∷ []) [] (attached (codes "go") None 1 false false None ∷ [])
+      ∷ object (codes "b") 2 None [] [] []
+      ∷ [];
+  bindings =
+      bind None 0 2 1 2 2
+      ∷ [];
+  most_objects = 64;
+  most_handlers = 0;
+}
+
+abbrev pub peers : List Peer
+peers =
+    []
+
+abbrev pub events : List Event
+events =
+    config.request (config.emit 0 1 [] None)
+    ∷ config.request (config.release 1)
+    ∷ config.request (config.release 0)
+    ∷ []
+
+abbrev pub replies : List Scripted
+replies =
+    []
+
+abbrev pub lines : List (List ℕ)
+lines =
+    (codes "build")
+    ∷ (codes "construct #1 Box")
+    ∷ (codes "run die")
+    ∷ (codes "dispose #1")
+    ∷ (codes "construct #2 Box")
+    ∷ (codes "run die")
+    ∷ (codes "dispose #2")
+    ∷ (codes "set #1.to #2")
+    ∷ (codes "notify #1.to")
+    ∷ (codes "set #1.w null")
+    ∷ (codes "notify #1.w")
+    ∷ (codes "end 6")
+    ∷ (codes "emit #1.go()")
+    ∷ (codes "end 1")
+    ∷ (codes "release b")
+    ∷ (codes "end 0")
+    ∷ (codes "release a")
+    ∷ (codes "final #1")
+    ∷ (codes "final #2")
+    ∷ (codes "end 2")
+    ∷ []
+
+-- the machine shows these lines
+abbrev pub Holds : Type 0
+Holds = shown definition peers events replies ≡ Ok lines

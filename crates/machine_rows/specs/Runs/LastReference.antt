@@ -1,0 +1,112 @@
+-- An object that loses its last mention while it emits.
+use Rattle.std.specs.Prelude.{◌≡◌, ℕ, pos, true, false, List, [], ◌∷◌, codes, None, Some, Ok}
+use Rattle.ui_machine.specs.Definition.Kinds as kinds
+use Rattle.ui_machine.specs.Definition.Values as values
+use Rattle.ui_machine.specs.Definition.Types.{plain_class}
+use Rattle.ui_machine.specs.Definition.{Definition}
+use Rattle.ui_machine.specs.Definition.Programs as words
+use Rattle.ui_machine.specs.State.Tasks.{Event}
+use Rattle.ui_machine.specs.State.Peers.{Peer}
+use Rattle.ui_machine.specs.State.Tasks as config
+use Rattle.machine_rows.specs.Play.{Scripted, shown}
+use Rattle.machine_rows.specs.Words.{class_type, property, signal, notify, class_with, method, shape, block, program, attached, object, prototype, peer, scripted}
+
+abbrev pub definition : Definition
+definition = record {
+  types =
+      plain_class (codes "GObject") None []
+      ∷ class_type (codes "GInitiallyUnowned") 0 false false []
+      ∷ class_type (codes "Item") 0 false false []
+      ∷ class_type (codes "Hold") 0 false false []
+      ∷ [];
+  classes =
+      class_with [] (notify ∷ []) [] None None
+      ∷ class_with [] (notify ∷ []) [] None None
+      ∷ class_with [] (notify ∷ signal (codes "s") [] None 2 None ∷ []) [] None (Some 0)
+      ∷ class_with (property (codes "cur") (kinds.object 2) 3 (values.object None) (pos 0) (pos 0) false ∷ property (codes "w") (kinds.object 2) 3 (values.object None) (pos 0) (pos 0) true ∷ []) (notify ∷ signal (codes "go") [] None 2 None ∷ signal (codes "fire") [] None 2 None ∷ []) [] None None
+      ∷ [];
+  shapes =
+      shape (codes "Tally") (method (codes "add") ((kinds.whole kinds.int64) ∷ []) (kinds.whole kinds.int64) ∷ method (codes "read") [] (kinds.whole kinds.int64) ∷ [])
+      ∷ [];
+  programs =
+      program (codes "mk") ((kinds.at 0) ∷ []) 3 None
+      (block ((kinds.at 0) ∷ kinds.unset ∷ kinds.unset ∷ []) 1 (words.new 1 (codes "it") ∷ words.branch_null 1 1 2 ∷ [])
+      ∷ block (kinds.unset ∷ kinds.unset ∷ kinds.unset ∷ []) 1 (words.return None ∷ [])
+      ∷ block ((kinds.at 0) ∷ (kinds.at 1) ∷ kinds.unset ∷ []) 1 (words.connect 2 1 (codes "s") None (codes "drop") false true (Some 0) ∷ words.connect 2 1 (codes "s") None (codes "later") false false None ∷ words.set 0 (codes "cur") 1 ∷ words.set 0 (codes "w") 1 ∷ words.return None ∷ [])
+      ∷ [])
+      ∷ program (codes "drop") ((kinds.at 0) ∷ (kinds.at 1) ∷ []) 3 None
+      (block ((kinds.at 0) ∷ (kinds.at 1) ∷ kinds.unset ∷ []) 1 (words.const 2 (kinds.object 2) (values.object None) ∷ words.set 0 (codes "cur") 2 ∷ words.return None ∷ [])
+      ∷ [])
+      ∷ program (codes "later") ((kinds.some 2) ∷ []) 3 None
+      (block ((kinds.some 2) ∷ kinds.unset ∷ kinds.unset ∷ []) 1 (words.const 1 (kinds.whole kinds.int64) (values.whole kinds.int64 (pos 2)) ∷ words.call 2 0 (codes "add") (1 ∷ []) ∷ words.return None ∷ [])
+      ∷ [])
+      ∷ program (codes "fire") ((kinds.at 0) ∷ []) 2 None
+      (block ((kinds.at 0) ∷ kinds.unset ∷ []) 1 (words.get 1 0 (codes "cur") ∷ words.branch_null 1 1 2 ∷ [])
+      ∷ block (kinds.unset ∷ kinds.unset ∷ []) 1 (words.return None ∷ [])
+      ∷ block ((kinds.at 0) ∷ (kinds.some 2) ∷ []) 1 (words.emit None 1 (codes "s") None [] ∷ words.return None ∷ [])
+      ∷ [])
+      ∷ [];
+  places =
+      object (codes "h") 3 None [] [] (attached (codes "go") None 0 false false None ∷ attached (codes "fire") None 3 false false None ∷ [])
+      ∷ prototype (codes "it") 2 [] ((codes "t") ∷ [])
+      ∷ [];
+  bindings =
+      [];
+  most_objects = 64;
+  most_handlers = 2;
+}
+
+abbrev pub peers : List Peer
+peers =
+    peer (codes "t") (method (codes "add") ((kinds.whole kinds.int64) ∷ []) (kinds.whole kinds.int64) ∷ method (codes "read") [] (kinds.whole kinds.int64) ∷ []) (values.whole kinds.int64 (pos 0) ∷ [])
+    ∷ []
+
+abbrev pub events : List Event
+events =
+    config.request (config.emit 0 1 [] None)
+    ∷ config.request (config.emit 0 2 [] None)
+    ∷ config.request (config.get 0 1)
+    ∷ config.request (config.emit 0 1 [] None)
+    ∷ []
+
+abbrev pub replies : List Scripted
+replies =
+    scripted (Some (values.whole kinds.int64 (pos 2))) (values.whole kinds.int64 (pos 2) ∷ [])
+    ∷ []
+
+abbrev pub lines : List (List ℕ)
+lines =
+    (codes "build")
+    ∷ (codes "construct #1 Hold")
+    ∷ (codes "end 0")
+    ∷ (codes "emit #1.go()")
+    ∷ (codes "run mk")
+    ∷ (codes "construct #2 Item")
+    ∷ (codes "set #1.cur #2")
+    ∷ (codes "notify #1.cur")
+    ∷ (codes "set #1.w #2")
+    ∷ (codes "notify #1.w")
+    ∷ (codes "end 10")
+    ∷ (codes "emit #1.fire()")
+    ∷ (codes "run fire")
+    ∷ (codes "emit #2.s()")
+    ∷ (codes "run drop")
+    ∷ (codes "set #1.cur null")
+    ∷ (codes "notify #1.cur")
+    ∷ (codes "run later")
+    ∷ (codes "call t.add(2) = 2")
+    ∷ (codes "dispose #2")
+    ∷ (codes "close t")
+    ∷ (codes "final #2")
+    ∷ (codes "end 14")
+    ∷ (codes "get #1.w null")
+    ∷ (codes "end 0")
+    ∷ (codes "emit #1.go()")
+    ∷ (codes "run mk")
+    ∷ (codes "limit new")
+    ∷ (codes "end 4")
+    ∷ []
+
+-- the machine shows these lines
+abbrev pub Holds : Type 0
+Holds = shown definition peers events replies ≡ Ok lines

@@ -1,0 +1,71 @@
+-- Sets inside and outside a range.
+use Rattle.std.specs.Prelude.{◌≡◌, ℕ, pos, negsuc, false, List, [], ◌∷◌, codes, None, Ok}
+use Rattle.ui_machine.specs.Definition.Kinds as kinds
+use Rattle.ui_machine.specs.Definition.Values as values
+use Rattle.ui_machine.specs.Definition.Types.{plain_class}
+use Rattle.ui_machine.specs.Definition.{Definition}
+use Rattle.ui_machine.specs.Definition.Places.{value}
+use Rattle.ui_machine.specs.State.Tasks.{Event}
+use Rattle.ui_machine.specs.State.Peers.{Peer}
+use Rattle.ui_machine.specs.State.Tasks as config
+use Rattle.machine_rows.specs.Play.{Scripted, shown}
+use Rattle.machine_rows.specs.Words.{class_type, property, notify, class_with, object}
+
+abbrev pub definition : Definition
+definition = record {
+  types =
+      plain_class (codes "GObject") None []
+      ∷ class_type (codes "GInitiallyUnowned") 0 false false []
+      ∷ class_type (codes "Box") 0 false false []
+      ∷ [];
+  classes =
+      class_with [] (notify ∷ []) [] None None
+      ∷ class_with [] (notify ∷ []) [] None None
+      ∷ class_with (property (codes "n") (kinds.whole kinds.int) 3 (values.whole kinds.int (pos 0)) (negsuc 2) (pos 2147483647) false ∷ []) (notify ∷ []) [] None None
+      ∷ [];
+  shapes =
+      [];
+  programs =
+      [];
+  places =
+      object (codes "b") 2 None [] [] []
+      ∷ [];
+  bindings =
+      [];
+  most_objects = 64;
+  most_handlers = 0;
+}
+
+abbrev pub peers : List Peer
+peers =
+    []
+
+abbrev pub events : List Event
+events =
+    config.request (config.set 0 0 (value (values.whole kinds.int (negsuc 2))))
+    ∷ config.request (config.set 0 0 (value (values.whole kinds.int (pos 2147483647))))
+    ∷ config.request (config.set 0 0 (value (values.whole kinds.int (negsuc 3))))
+    ∷ []
+
+abbrev pub replies : List Scripted
+replies =
+    []
+
+abbrev pub lines : List (List ℕ)
+lines =
+    (codes "build")
+    ∷ (codes "construct #1 Box")
+    ∷ (codes "end 0")
+    ∷ (codes "set #1.n -3")
+    ∷ (codes "notify #1.n")
+    ∷ (codes "end 1")
+    ∷ (codes "set #1.n 2147483647")
+    ∷ (codes "notify #1.n")
+    ∷ (codes "end 1")
+    ∷ (codes "refused #1.n -4")
+    ∷ (codes "end 0")
+    ∷ []
+
+-- the machine shows these lines
+abbrev pub Holds : Type 0
+Holds = shown definition peers events replies ≡ Ok lines

@@ -1,0 +1,75 @@
+-- A block that is passed three times.
+use Rattle.std.specs.Prelude.{◌≡◌, ℕ, pos, negsuc, false, List, [], ◌∷◌, codes, None, Ok}
+use Rattle.ui_machine.specs.Definition.Kinds as kinds
+use Rattle.ui_machine.specs.Definition.Values as values
+use Rattle.ui_machine.specs.Definition.Types.{plain_class}
+use Rattle.ui_machine.specs.Definition.{Definition}
+use Rattle.ui_machine.specs.Definition.Programs as words
+use Rattle.ui_machine.specs.State.Tasks.{Event}
+use Rattle.ui_machine.specs.State.Peers.{Peer}
+use Rattle.ui_machine.specs.State.Tasks as config
+use Rattle.machine_rows.specs.Play.{Scripted, shown}
+use Rattle.machine_rows.specs.Words.{class_type, property, signal, notify, class_with, block, program, attached, object}
+
+abbrev pub definition : Definition
+definition = record {
+  types =
+      plain_class (codes "GObject") None []
+      ∷ class_type (codes "GInitiallyUnowned") 0 false false []
+      ∷ class_type (codes "Box") 0 false false []
+      ∷ [];
+  classes =
+      class_with [] (notify ∷ []) [] None None
+      ∷ class_with [] (notify ∷ []) [] None None
+      ∷ class_with (property (codes "n") (kinds.whole kinds.int) 3 (values.whole kinds.int (pos 0)) (negsuc 2147483647) (pos 2147483647) false ∷ []) (notify ∷ signal (codes "go") [] None 2 None ∷ []) [] None None
+      ∷ [];
+  shapes =
+      [];
+  programs =
+      program (codes "f") ((kinds.some 2) ∷ []) 3 None
+      (block ((kinds.some 2) ∷ kinds.unset ∷ kinds.unset ∷ []) 1 (words.const 1 (kinds.whole kinds.int) (values.whole kinds.int (pos 1)) ∷ words.const 2 (kinds.whole kinds.int) (values.whole kinds.int (pos 0)) ∷ words.jump 1 ∷ [])
+      ∷ block ((kinds.some 2) ∷ (kinds.plain (kinds.whole kinds.int)) ∷ (kinds.plain (kinds.whole kinds.int)) ∷ []) 3 (words.arithmetic words.add 2 2 1 ∷ words.set 0 (codes "n") 2 ∷ words.jump 2 ∷ [])
+      ∷ block ((kinds.some 2) ∷ kinds.unset ∷ kinds.unset ∷ []) 1 (words.return None ∷ [])
+      ∷ [])
+      ∷ [];
+  places =
+      object (codes "b") 2 None [] [] (attached (codes "go") None 0 false false None ∷ [])
+      ∷ [];
+  bindings =
+      [];
+  most_objects = 64;
+  most_handlers = 0;
+}
+
+abbrev pub peers : List Peer
+peers =
+    []
+
+abbrev pub events : List Event
+events =
+    config.request (config.emit 0 1 [] None)
+    ∷ []
+
+abbrev pub replies : List Scripted
+replies =
+    []
+
+abbrev pub lines : List (List ℕ)
+lines =
+    (codes "build")
+    ∷ (codes "construct #1 Box")
+    ∷ (codes "end 0")
+    ∷ (codes "emit #1.go()")
+    ∷ (codes "run f")
+    ∷ (codes "set #1.n 1")
+    ∷ (codes "notify #1.n")
+    ∷ (codes "set #1.n 2")
+    ∷ (codes "notify #1.n")
+    ∷ (codes "set #1.n 3")
+    ∷ (codes "notify #1.n")
+    ∷ (codes "end 15")
+    ∷ []
+
+-- the machine shows these lines
+abbrev pub Holds : Type 0
+Holds = shown definition peers events replies ≡ Ok lines

@@ -1,0 +1,50 @@
+-- An object of an abstract class would be made.
+use Rattle.std.specs.Prelude.{◌≡◌, true, false, List, [], ◌∷◌, codes, None, Err}
+use Rattle.ui_machine.specs.declared.arm.Arm.TheVariants as arms
+use Rattle.ui_machine.specs.Definition.Types.{plain_class}
+use Rattle.ui_machine.specs.Definition.{Definition}
+use Rattle.ui_machine.specs.State.Tasks.{Event}
+use Rattle.ui_machine.specs.State.Peers.{Peer}
+use Rattle.machine_rows.specs.Play.{Scripted, shown}
+use Rattle.machine_rows.specs.Words.{class_type, notify, class_with, object}
+
+abbrev pub definition : Definition
+definition = record {
+  types =
+      plain_class (codes "GObject") None []
+      ∷ class_type (codes "GInitiallyUnowned") 0 false false []
+      ∷ class_type (codes "Box") 0 true false []
+      ∷ [];
+  classes =
+      class_with [] (notify ∷ []) [] None None
+      ∷ class_with [] (notify ∷ []) [] None None
+      ∷ class_with [] (notify ∷ []) [] None None
+      ∷ [];
+  shapes =
+      [];
+  programs =
+      [];
+  places =
+      object (codes "b") 2 None [] [] []
+      ∷ [];
+  bindings =
+      [];
+  most_objects = 64;
+  most_handlers = 0;
+}
+
+abbrev pub peers : List Peer
+peers =
+    []
+
+abbrev pub events : List Event
+events =
+    []
+
+abbrev pub replies : List Scripted
+replies =
+    []
+
+-- the machine is stuck
+abbrev pub Holds : Type 0
+Holds = shown definition peers events replies ≡ Err arms.Abstract

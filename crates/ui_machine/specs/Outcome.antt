@@ -1,0 +1,47 @@
+-- An answer is what a part of a step leads to, or the arm by which the machine is stuck.
+use Rattle.std.specs.Prelude.{◌≡◌, Bool, true, false, Option, Some, None, Result, Ok, Err}
+use Rattle.ui_machine.specs.declared.arm.Arm.{Arm}
+use Rattle.ui_machine.specs.declared.arm.Halt.{Halt}
+use Rattle.ui_machine.specs.declared.arm.Halt.TheVariants as halts
+
+-- what a part of a step leads to, or the arm
+abbrev pub Answer : Type 0 → Type 0
+Answer A = Result A Arm
+
+-- one answer after the other: the first that fails is the answer
+infixl 10 ◌>>=◌
+abbrev pub ◌>>=◌ : {A B E : Type 0} → Result A E → (A → Result B E) → Result B E
+(Ok x) >>= f = f x
+(Err e) >>= f = Err e
+
+-- what is there, or why not
+abbrev pub known : {A E : Type 0} → E → Option A → Result A E
+known e None = Err e
+known e (Some x) = Ok x
+
+-- the answer if the test holds, or why not
+abbrev pub only_if : {A E : Type 0} → Bool → E → Result A E → Result A E
+only_if true e answer = answer
+only_if false e answer = Err e
+
+-- ** what contracts say of code beside an answer
+
+-- The code's answer, seen by view, is the machine's, and what the code leaves is what the machine leaves.
+abbrev pub Gives : {S X Y : Type 0} → (X → Y) → Result X Arm → Answer (S × Y) → S → Type 0
+Gives view (Ok x) answer new = answer ≡ Ok (new, view x)
+Gives view (Err arm) answer new = answer ≡ Err arm
+
+-- why the code stopped: it found no memory, of which the machine knows nothing, or the machine is stuck there
+abbrev pub Stops : {A : Type 0} → Halt → Answer A → Type 0
+Stops halts.OutOfMemory answer = Unit {0}
+Stops (halts.Stuck arm) answer = answer ≡ Err arm
+
+-- the same as `Gives` of code that asks for memory
+abbrev pub Follows : {S X Y : Type 0} → (X → Y) → Result X Halt → Answer (S × Y) → S → Type 0
+Follows view (Ok x) answer new = answer ≡ Ok (new, view x)
+Follows view (Err halt) answer new = Stops halt answer
+
+-- code that answers nothing but what it leaves
+abbrev pub Goes : {S X : Type 0} → Result X Halt → Answer S → S → Type 0
+Goes (Ok x) answer new = answer ≡ Ok new
+Goes (Err halt) answer new = Stops halt answer

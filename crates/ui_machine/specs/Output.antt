@@ -1,0 +1,3 @@
+-- What the machine says.
+pub mod Lines
+pub mod Text
