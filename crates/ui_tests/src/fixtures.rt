@@ -3,7 +3,7 @@
 use g_values::{Kind, Value};
 use std::alloc::Global;
 use std::test::Fail;
-use type_tree::{EnumMember, FlagsMember, TypeId, TypeTree};
+use type_tree::{EnumMember, FlagsMember, TypeError, TypeFault, TypeId, TypeTree};
 use ui_machine::ObjectId;
 
 // A member of an enum, whose nick is its name in small letters.
@@ -42,11 +42,25 @@ fn marks(alloc: Global) -> Result<Vec<FlagsMember>, Fail> {
     Ok(members)
 }
 
+// Why no type was added.
+fn refused(_fault: TypeFault) -> Fail {
+    Fail::from("a type was refused")
+}
+
+/// The type that was added.
+pub fn added(outcome: Result<TypeId, TypeError>) -> Result<TypeId, Fail> {
+    match outcome {
+        Ok(id) => Ok(id),
+        Err(TypeError::OutOfMemory) => Err(Fail::from("no memory for a type")),
+        Err(TypeError::Refused(fault)) => Err(refused(fault)),
+    }
+}
+
 /// A tree with an enum, which is type 2, and a flags type, which is type 3.
 pub fn tree_of_members(alloc: Global) -> Result<TypeTree, Fail> {
     let mut tree = TypeTree::new(alloc)?;
-    let _ = tree.add_enum("Mode", modes(alloc)?)?;
-    let _ = tree.add_flags("Marks", marks(alloc)?)?;
+    let _ = added(tree.add_enum("Mode", modes(alloc)?))?;
+    let _ = added(tree.add_flags("Marks", marks(alloc)?))?;
     Ok(tree)
 }
 

@@ -1,6 +1,6 @@
 //! Properties: which may be installed, what values they take, and those of an interface.
 
-use crate::fixtures::{marks_kind, mode_kind, number_of, tree_of_members, value_of};
+use crate::fixtures::{added, marks_kind, mode_kind, number_of, tree_of_members, value_of};
 use g_values::{Kind, Value, is_known};
 use param_specs::{
     OverrideFault, PropertyFlags, Spec, SpecError, SpecFault, SpecTable, takes, validate,
@@ -47,6 +47,20 @@ fn install(
     table.install(tree, t, spec)
 }
 
+// Why no property was installed.
+fn refused(_fault: SpecFault) -> Fail {
+    Fail::from("a property was refused")
+}
+
+// The slot of the property that was installed.
+fn slot_of(outcome: Result<u16, SpecError>) -> Result<u16, Fail> {
+    match outcome {
+        Ok(slot) => Ok(slot),
+        Err(SpecError::OutOfMemory) => Err(Fail::from("no memory for a property")),
+        Err(SpecError::Refused(fault)) => Err(refused(fault)),
+    }
+}
+
 // The kind of objects of `Base`.
 fn base_kind() -> Kind {
     Kind::Object(TypeId::new(4))
@@ -55,8 +69,8 @@ fn base_kind() -> Kind {
 // The tree of members with the class `Base`, which is type 4, and its child `Derived`, which is type 5.
 fn tree_of_classes(alloc: Global) -> Result<TypeTree, Fail> {
     let mut tree = tree_of_members(alloc)?;
-    let _ = tree.add_class("Base", "GObject", TypeFlags::NONE, &[])?;
-    let _ = tree.add_class("Derived", "Base", TypeFlags::NONE, &[])?;
+    let _ = added(tree.add_class("Base", "GObject", TypeFlags::NONE, &[]))?;
+    let _ = added(tree.add_class("Derived", "Base", TypeFlags::NONE, &[]))?;
     Ok(tree)
 }
 
@@ -255,9 +269,9 @@ fn tests_flags(rt: HostRuntime) -> Result<(), Fail> {
 // The class `Base`, which is type 2, with its child `Derived`, which is type 4 and implements `Labelled`, which is type 3.
 fn tree_of_interface(alloc: Global) -> Result<TypeTree, Fail> {
     let mut tree = TypeTree::new(alloc)?;
-    let _ = tree.add_class("Base", "GObject", TypeFlags::NONE, &[])?;
-    let _ = tree.add_interface("Labelled", &[])?;
-    let _ = tree.add_class("Derived", "Base", TypeFlags::NONE, &["Labelled"])?;
+    let _ = added(tree.add_class("Base", "GObject", TypeFlags::NONE, &[]))?;
+    let _ = added(tree.add_interface("Labelled", &[]))?;
+    let _ = added(tree.add_class("Derived", "Base", TypeFlags::NONE, &["Labelled"]))?;
     Ok(tree)
 }
 
@@ -265,14 +279,14 @@ fn tree_of_interface(alloc: Global) -> Result<TypeTree, Fail> {
 fn table_of_interface(alloc: Global, tree: &TypeTree) -> Result<SpecTable, Fail> {
     let labelled = TypeId::new(3);
     let mut table = SpecTable::new(alloc);
-    let _ = install(
+    let _ = slot_of(install(
         &mut table,
         tree,
         labelled,
         number_spec(alloc, "size", (0, 9))?,
-    )?;
+    ))?;
     let text = spec_of(alloc, "label_text", Value::Text(None), Kind::Text, (0, 0))?;
-    let _ = install(&mut table, tree, labelled, text)?;
+    let _ = slot_of(install(&mut table, tree, labelled, text))?;
     Ok(table)
 }
 
@@ -284,10 +298,10 @@ fn overrides(
 ) -> Result<Result<(), OverrideFault>, Fail> {
     let tree = tree_of_interface(alloc)?;
     let mut table = table_of_interface(alloc, &tree)?;
-    let _ = install(&mut table, &tree, TypeId::new(2), size)?;
+    let _ = slot_of(install(&mut table, &tree, TypeId::new(2), size))?;
     if has_label {
         let text = spec_of(alloc, "label-text", Value::Text(None), Kind::Text, (0, 0))?;
-        let _ = install(&mut table, &tree, TypeId::new(4), text)?;
+        let _ = slot_of(install(&mut table, &tree, TypeId::new(4), text))?;
     }
     Ok(table.override_from(&tree, TypeId::new(4), TypeId::new(3)))
 }

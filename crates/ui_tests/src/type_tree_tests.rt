@@ -1,6 +1,6 @@
 //! Types: which may be added, and what is told of them.
 
-use crate::fixtures::tree_of_members;
+use crate::fixtures::{added, tree_of_members};
 use std::alloc::Global;
 use std::test::Fail;
 use type_tree::{
@@ -29,9 +29,9 @@ fn add(
 // A tree with the class `Base`, which is type 2, the final class `Sealed` under it, and the interface `Playable`, which requires `Base`.
 fn base_tree(alloc: Global) -> Result<TypeTree, Fail> {
     let mut tree = TypeTree::new(alloc)?;
-    let _ = tree.add_class("Base", "GObject", TypeFlags::NONE, &[])?;
-    let _ = tree.add_class("Sealed", "Base", SEALED, &[])?;
-    let _ = tree.add_interface("Playable", &["Base"])?;
+    let _ = added(tree.add_class("Base", "GObject", TypeFlags::NONE, &[]))?;
+    let _ = added(tree.add_class("Sealed", "Base", SEALED, &[]))?;
+    let _ = added(tree.add_interface("Playable", &["Base"]))?;
     Ok(tree)
 }
 
