@@ -1,10 +1,10 @@
 //! Whole numbers of the four kinds: the low bits of any number, and decimal texts.
 
-ghost use Rattle.std.specs.Prelude.{◌≡◌, pos, ◌^◌, ◌<ℤ◌, ◌≤ℤ◌, neg_ℤ, IfOk};
+ghost use Rattle.std.specs.Prelude.{◌≡◌, pos, ◌^◌, ◌<ℤ◌, ◌≤ℤ◌, neg_ℤ, decimal, IfOk};
+ghost use Rattle.std.specs.Fmt.{signed_decimal};
 ghost use Rattle.std.specs.Rc.{rc_str_bytes};
 ghost use Rattle.ui_machine.specs.Definition.Kinds.{int, uint, int64, uint64};
 ghost use Rattle.ui_machine.specs.Rules.Transform.{wrapped};
-ghost use Rattle.ui_machine.specs.Output.Text.{numeral, signed_numeral};
 
 use std::alloc::{AllocError, Global};
 use std::rc::RcStr;
@@ -38,18 +38,16 @@ pub fn wrapped_int64(number: i128) -> i64
 }
 
 /// A number of 64 bits in decimal.
-#[tactic(auto, using(ui_machine::proofs::Numerals::numeral_decimal))]
 fn unsigned_text(alloc: Global, number: u64) -> Result<RcStr, AllocError>
-    ensures { IfOk result (λ s. rc_str_bytes s ≡ numeral number) }
+    ensures { IfOk result (λ s. rc_str_bytes s ≡ decimal number) }
 {
     let text = format!(in alloc; "{number}")?;
     RcStr::from_str(alloc, text.as_str())
 }
 
 /// A number of 64 bits with a sign in decimal.
-#[tactic(auto, using(ui_machine::proofs::Numerals::signed_numeral_decimal))]
 fn signed_text(alloc: Global, number: i64) -> Result<RcStr, AllocError>
-    ensures { IfOk result (λ s. rc_str_bytes s ≡ signed_numeral number) }
+    ensures { IfOk result (λ s. rc_str_bytes s ≡ signed_decimal number) }
 {
     let text = format!(in alloc; "{number}")?;
     RcStr::from_str(alloc, text.as_str())
@@ -59,7 +57,7 @@ fn signed_text(alloc: Global, number: i64) -> Result<RcStr, AllocError>
 pub fn number_text(alloc: Global, number: i128) -> Result<RcStr, AllocError>
     requires low { neg_ℤ (pos 9223372036854775808) ≤ℤ number }
     requires high { number <ℤ pos 18446744073709551616 }
-    ensures { IfOk result (λ s. rc_str_bytes s ≡ signed_numeral number) }
+    ensures { IfOk result (λ s. rc_str_bytes s ≡ signed_decimal number) }
 {
     if number < 0 {
         signed_text(alloc, number as i64)

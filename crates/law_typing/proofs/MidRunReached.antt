@@ -1,4 +1,5 @@
 -- The machine reaches both.
+use Rattle.std.specs.Fmt.{digits}
 use Rattle.std.proofs.Common.{◌≡◌, refl}
 use Rattle.std.specs.Prelude.{[], None, Ok}
 use Rattle.ui_machine.specs.Definition.Places.{value}
@@ -32,9 +33,9 @@ use Rattle.law_typing.specs.Examples.Freezes as freezes
 use Rattle.law_typing.specs.Laws.MidRun.{after, int, box_built, at_notification, freezer_built, at_freeze}
 
 pub notification_reached : after 2 first_run.definition (of_request box_built (config.set 0 0 (value (int 5)))) ≡ Ok at_notification
-unfolding making making_set set_forward constructed thawing_made held_data building_child building_forward building_binding building_handler with_method left_with called uncalled detail_at detail_in closing finalised notifying signal_at beginning_emission adopted moving reckoning comparing sameness negating conjunction disjunction joining converting slot_at getting set_from assigning then_goes_on telling naming made_new creating sinking orphaning disposing adopting freezing unfreezing signal_in signal_to_emit emitting connecting on_handlers attaching removing calling jumping branching branching_null asked changed with_value beginning_program program_before values_in truth_in text_in whole_in operand_in data_in written_to down_to_emission down_to_source received_by ending block_in given_by returned returning in_front running spec_at raising written setting building_object set_given finalising carrying_set carrying_get given_values carrying_emit carrying_release sourcing left carried collecting resulting
+unfolding digits making making_set set_forward constructed thawing_made held_data building_child building_forward building_binding building_handler with_method left_with called uncalled detail_at detail_in closing finalised notifying signal_at beginning_emission adopted moving reckoning comparing sameness negating conjunction disjunction joining converting slot_at getting set_from assigning then_goes_on telling naming made_new creating sinking orphaning disposing adopting freezing unfreezing signal_in signal_to_emit emitting connecting on_handlers attaching removing calling jumping branching branching_null asked changed with_value beginning_program program_before values_in truth_in text_in whole_in operand_in data_in written_to down_to_emission down_to_source received_by ending block_in given_by returned returning in_front running spec_at raising written setting building_object set_given finalising carrying_set carrying_get given_values carrying_emit carrying_release sourcing left carried collecting resulting
 notification_reached = refl
 
 pub freeze_reached : after 7 freezes.definition (of_request freezer_built (config.emit 0 1 [] None)) ≡ Ok at_freeze
-unfolding making making_set set_forward constructed thawing_made held_data building_child building_forward building_binding building_handler with_method left_with called uncalled detail_at detail_in closing finalised notifying signal_at beginning_emission adopted moving reckoning comparing sameness negating conjunction disjunction joining converting slot_at getting set_from assigning then_goes_on telling naming made_new creating sinking orphaning disposing adopting freezing unfreezing signal_in signal_to_emit emitting connecting on_handlers attaching removing calling jumping branching branching_null asked changed with_value beginning_program program_before values_in truth_in text_in whole_in operand_in data_in written_to down_to_emission down_to_source received_by ending block_in given_by returned returning in_front running spec_at raising written setting building_object set_given finalising carrying_set carrying_get given_values carrying_emit carrying_release sourcing left carried collecting resulting
+unfolding digits making making_set set_forward constructed thawing_made held_data building_child building_forward building_binding building_handler with_method left_with called uncalled detail_at detail_in closing finalised notifying signal_at beginning_emission adopted moving reckoning comparing sameness negating conjunction disjunction joining converting slot_at getting set_from assigning then_goes_on telling naming made_new creating sinking orphaning disposing adopting freezing unfreezing signal_in signal_to_emit emitting connecting on_handlers attaching removing calling jumping branching branching_null asked changed with_value beginning_program program_before values_in truth_in text_in whole_in operand_in data_in written_to down_to_emission down_to_source received_by ending block_in given_by returned returning in_front running spec_at raising written setting building_object set_given finalising carrying_set carrying_get given_values carrying_emit carrying_release sourcing left carried collecting resulting
 freeze_reached = refl

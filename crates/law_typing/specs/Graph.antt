@@ -133,8 +133,8 @@ pub record Connection : Type 0 where
 
 -- the connection of an instruction
 abbrev pub connection_of : Definition → Kinds → Instruction → Option Connection
-connection_of d ks (words.connect to object name detail program after swapped with) =
-    Some (record { places = places d (kind_in ks object); signal = name; detail = detail; program = program_of d program })
+connection_of d ks (words.connect to object c) =
+    Some (record { places = places d (kind_in ks object); signal = c.signal; detail = c.detail; program = program_of d c.program })
 connection_of d ks _ = None
 
 -- all of them

@@ -10,7 +10,7 @@ use Rattle.ui_machine.specs.Definition.Properties.{Spec}
 use Rattle.ui_machine.specs.Definition.{Definition}
 use Rattle.ui_machine.specs.Definition.Places.{Given, Place}
 use Rattle.ui_machine.specs.Definition.Signals.{Method}
-use Rattle.ui_machine.specs.Definition.Programs.{Instruction, Arithmetic, Comparison}
+use Rattle.ui_machine.specs.Definition.Programs.{Instruction, Arithmetic, Comparison, Connect}
 use Rattle.ui_machine.specs.Definition.Programs as words
 use Rattle.ui_machine.specs.Definition.Places as places
 use Rattle.ui_machine.specs.Output.Lines.{Line}
@@ -26,13 +26,13 @@ use Rattle.ui_machine.specs.State.Config.{World, Config, Held, Started, said, wi
 use Rattle.ui_machine.specs.State.Tasks.{Setting, Notifying, Beginning, Emitting, Transferring, Unsetting, Thawing, Running, Answering, Calling, Constructing, Building, Carrying, Due, Task, Emission, PlanEntry, class_handler, handler, Frame, Call, Making, sets, runs, thaws, Item, makes, adopts, forwards, binds, connects, Request}
 use Rattle.ui_machine.specs.State.Bindings.{Binding, binding_of}
 use Rattle.ui_machine.specs.State.Handlers.{Handler, handler_of}
-use Rattle.ui_machine.specs.Outcome.{Answer, ◌>>=◌, only_if}
+use Rattle.ui_machine.specs.Outcome.{After, Answer, ◌>>=◌, only_if}
 use Rattle.ui_machine.specs.State.References.{next_unheld, mentions}
-use Rattle.ui_machine.specs.Rules.Sets.{raising, written, setting}
+use Rattle.ui_machine.specs.Rules.Sets.{raising, raising_if, written, setting}
 use Rattle.ui_machine.specs.Rules.EmissionPlan.{notifying, beginning_emission}
 use Rattle.ui_machine.specs.Rules.Programs.{beginning_program, program_before}
 use Rattle.ui_machine.specs.Rules.Transfers.{End, source_end, target_end, set_by, carried, carried_by, transferring}
-use Rattle.ui_machine.specs.Rules.Accumulation.{or_zero, running_handler, taking_entry, collecting, resulting, untaken, told, down_to_emission, down_to_source, given_down, ending}
+use Rattle.ui_machine.specs.Rules.Accumulation.{or_zero, running_handler, taking_entry, collecting, resulting, told, down_to_emission, down_to_source, given_down, ending}
 use Rattle.ui_machine.specs.Rules.Children.{updated, with_parent, with_child, with_family, adopted, orphaned}
 use Rattle.ui_machine.specs.Rules.Disposal.{closed_if_open, closing, said_if, is_first, peer_of, without_object, disposed, finalised}
 use Rattle.ui_machine.specs.Instructions.Registers.{tells, operand_in, data_in, written_to, moving, constant, clearing}
@@ -41,7 +41,7 @@ use Rattle.ui_machine.specs.Instructions.Peers.{call_line, replied, with_method,
 use Rattle.ui_machine.specs.Rules.Connections.{detail_in, is_too_late, has_room_for_handler, with_handler, connected, disconnected, blocked, unblocked, with_handlers_on, Connection}
 use Rattle.ui_machine.specs.Rules.Construction.{given_value, with_object, making, making_set, constructed, thawing_made, constructing}
 use Rattle.ui_machine.specs.Rules.Build.{held_data, building_child, set_forward, building_forward, building_binding, building_handler, with_signal, building_object, building}
-use Rattle.ui_machine.specs.Instructions.Signals.{Emit, signal_in, signal_to_emit, emitting, connecting, on_handlers, disconnecting, blocking, unblocking, unbinding, Connect}
+use Rattle.ui_machine.specs.Instructions.Signals.{Emit, signal_in, signal_to_emit, emitting, connecting, on_handlers, disconnecting, blocking, unblocking, unbinding}
 use Rattle.ui_machine.specs.Instructions.Objects.{disposed_once, naming, made_new, creating, sinking, orphaning, disposing, adopting, freezing, unfreezing}
 use Rattle.ui_machine.specs.Instructions.Arithmetic.{most_bytes, gives_from, within_bytes, reckoning, comparing, sameness, negating, conjunction, disjunction, joining, converting}
 use Rattle.ui_machine.specs.Instructions.Sources.{with_source, attached_to, attaching, removing, Attach}
@@ -79,8 +79,8 @@ module _ (front : List (List ℕ)) (d : Definition) where
   said_with_objects : (w : World) (os : Objects) (line : Line) → said d (with_objects (fronted front w) os) line ≡ fronted front (said d (with_objects w os) line)
   said_with_objects w os line = said_in_front (with_objects w os) line
 
-  abbrev family : World × Bool → World × Bool
-  family done = (fronted front done.0, done.1)
+  abbrev family : After World Bool → After World Bool
+  family done = record done { state = fronted front done.state }
 
   abbrev remaining : Left → Left
   remaining l = record l { world = fronted front l.world }
@@ -91,9 +91,13 @@ module _ (front : List (List ℕ)) (d : Definition) where
   unfolding raising
   raises w id slot = simp (raising, parts)
 
+  raises_if : (b : Bool) (w : World) (id slot : ℕ) → raising_if b (fronted front w) id slot ≡ mapped started (raising_if b w id slot)
+  raises_if false w id slot = refl
+  raises_if true w id slot = raises w id slot
+
   writes : (w : World) (id slot : ℕ) (s : Spec) (v : Value) → written d (fronted front w) id slot s v ≡ mapped started (written d w id slot s v)
   unfolding written
-  writes w id slot s v = simp (written, parts, raises)
+  writes w id slot s v = simp (written, parts, raises_if)
 
   sets_one : (w : World) (id slot : ℕ) (v : Value) → setting d (fronted front w) id slot v ≡ mapped started (setting d w id slot v)
   unfolding setting
@@ -150,11 +154,11 @@ module _ (front : List (List ℕ)) (d : Definition) where
   carries_by w true (Some b) = carries w b (target_end b) (source_end b)
 
   adopts_if_room : (w : World) (parent child : ℕ) (refused : Bool) →
-      ◌≡◌ {A = World × Bool} (cond refused (said d (fronted front w) (lines.limit (codes "adopt")), false) (with_family d (fronted front w) parent child, true))
-      (family (cond refused (said d w (lines.limit (codes "adopt")), false) (with_family d w parent child, true)))
-  adopts_if_room w parent child true = ap (λ v. (v, false)) (said_in_front w (lines.limit (codes "adopt")))
+      ◌≡◌ {A = After World Bool} (cond refused (record { state = said d (fronted front w) (lines.limit (codes "adopt")); answer = false }) (record { state = with_family d (fronted front w) parent child; answer = true }))
+      (family (cond refused (record { state = said d w (lines.limit (codes "adopt")); answer = false }) (record { state = with_family d w parent child; answer = true })))
+  adopts_if_room w parent child true = ap (λ (v : World). record { state = v; answer = false }) (said_in_front w (lines.limit (codes "adopt")))
   adopts_if_room w parent child false =
-      ap (λ v. (v, true)) (said_in_front (sunk (with_objects w (updated (with_parent (Some parent)) child (updated (with_child child) parent w.objects))) child) (lines.adopt parent child))
+      ap (λ (v : World). record { state = v; answer = true }) (said_in_front (sunk (with_objects w (updated (with_parent (Some parent)) child (updated (with_child child) parent w.objects))) child) (lines.adopt parent child))
 
   adopts_one : (w : World) (parent child : ℕ) → adopted d (fronted front w) parent child ≡ mapped family (adopted d w parent child)
   unfolding adopted
@@ -236,8 +240,8 @@ module _ (front : List (List ℕ)) (d : Definition) where
   joins_within w to f s = by_length (nat_lt most_bytes (length s))
     where
       by_length : (b : Bool) →
-          gives_from (cond b (said d (fronted front w) (lines.limit (codes "join")), values.text None) (fronted front w, values.text (Some s))) to f
-          ≡ mapped started (gives_from (cond b (said d w (lines.limit (codes "join")), values.text None) (w, values.text (Some s))) to f)
+          gives_from (cond b (record { state = said d (fronted front w) (lines.limit (codes "join")); answer = values.text None }) (record { state = fronted front w; answer = values.text (Some s) })) to f
+          ≡ mapped started (gives_from (cond b (record { state = said d w (lines.limit (codes "join")); answer = values.text None }) (record { state = w; answer = values.text (Some s) })) to f)
       by_length true = simp (parts, writes_register)
       by_length false = simp (parts, writes_register)
 
@@ -341,7 +345,7 @@ module _ (front : List (List ℕ)) (d : Definition) where
   emits w f object e = simp (emitting, parts, writes_register, reads_operand, reads_data, finds_emitted, finds_detail)
 
   tells_done : (w v : World) (to : ℕ) (f : Frame) (b : Bool) (line : Line) →
-      tells (cond b (fronted front v, true) (said d (fronted front w) line, false)) to f ≡ mapped started (tells (cond b (v, true) (said d w line, false)) to f)
+      tells (cond b (record { state = fronted front v; answer = true }) (record { state = said d (fronted front w) line; answer = false })) to f ≡ mapped started (tells (cond b (record { state = v; answer = true }) (record { state = said d w line; answer = false })) to f)
   tells_done w v to f true line = writes_register v to (Some (values.bool true)) f
   tells_done w v to f false line = simp (parts, writes_register)
 
@@ -349,9 +353,9 @@ module _ (front : List (List ℕ)) (d : Definition) where
   connects_one w to_come to f c = by_late (is_too_late w.objects c.object c.arg)
     where
       by_late : (late : Bool) →
-          tells (cond late (fronted front w, false)
-          (cond (has_room_for_handler d w to_come c.object c.signal) (fronted front (with_handler w c), true) (said d (fronted front w) (lines.limit (codes "connect")), false))) to f
-          ≡ mapped started (tells (cond late (w, false) (cond (has_room_for_handler d w to_come c.object c.signal) (with_handler w c, true) (said d w (lines.limit (codes "connect")), false))) to f)
+          tells (cond late (record { state = fronted front w; answer = false })
+          (cond (has_room_for_handler d w to_come c.object c.signal) (record { state = fronted front (with_handler w c); answer = true }) (record { state = said d (fronted front w) (lines.limit (codes "connect")); answer = false }))) to f
+          ≡ mapped started (tells (cond late (record { state = w; answer = false }) (cond (has_room_for_handler d w to_come c.object c.signal) (record { state = with_handler w c; answer = true }) (record { state = said d w (lines.limit (codes "connect")); answer = false }))) to f)
       by_late true = writes_register w to (Some (values.bool false)) f
       by_late false = tells_done w (with_handler w c) to f (has_room_for_handler d w to_come c.object c.signal) (lines.limit (codes "connect"))
 
@@ -421,26 +425,11 @@ module _ (front : List (List ℕ)) (d : Definition) where
   unfolding down_to_source
   gives_source w source rest given = simp (down_to_source, parts, keeps_source, mapped_before)
 
-  leaves_untaken : (w : World) (rest : List Task) (given : Option Value) → untaken (fronted front w) rest given ≡ mapped remaining (untaken w rest given)
-  leaves_untaken w rest None = refl
-  leaves_untaken w rest (Some v) = refl
-
   gives_down : (w : World) (rest : List Task) (given : Option Value) → given_down d (fronted front w) rest given ≡ mapped remaining (given_down d w rest given)
-  gives_down w [] given = leaves_untaken w [] given
-  gives_down w (Setting object slot v ∷ rest) given = leaves_untaken w (Setting object slot v ∷ rest) given
-  gives_down w (Notifying object slot ∷ rest) given = leaves_untaken w (Notifying object slot ∷ rest) given
-  gives_down w (Beginning emission ∷ rest) given = leaves_untaken w (Beginning emission ∷ rest) given
   gives_down w (Emitting e turns ∷ rest) given = gives_emission w e turns rest given
-  gives_down w (Transferring number back ∷ rest) given = leaves_untaken w (Transferring number back ∷ rest) given
-  gives_down w (Unsetting number ∷ rest) given = leaves_untaken w (Unsetting number ∷ rest) given
-  gives_down w (Thawing object slots ∷ rest) given = leaves_untaken w (Thawing object slots ∷ rest) given
-  gives_down w (Running frame ∷ rest) given = leaves_untaken w (Running frame ∷ rest) given
   gives_down w (Answering source ∷ rest) given = gives_source w source rest given
-  gives_down w (Calling call ∷ rest) given = leaves_untaken w (Calling call ∷ rest) given
-  gives_down w (Constructing object steps held ∷ rest) given = leaves_untaken w (Constructing object steps held ∷ rest) given
-  gives_down w (Building items ∷ rest) given = leaves_untaken w (Building items ∷ rest) given
-  gives_down w (Carrying request ∷ rest) given = leaves_untaken w (Carrying request ∷ rest) given
-  gives_down w (Due source ∷ rest) given = leaves_untaken w (Due source ∷ rest) given
+  gives_down w rest None = refl
+  gives_down w rest (Some v) = refl
 
   tells_result : (w : World) (by_event : Bool) (v : Option Value) → told d (fronted front w) by_event v ≡ fronted front (told d w by_event v)
   tells_result w by_event None = refl
@@ -491,7 +480,7 @@ module _ (front : List (List ℕ)) (d : Definition) where
   instructs_all w rest f (words.thaw object) = begins w rest (unfreezing (fronted front w) f object) (unfreezing w f object) (unfreezes w f object)
   instructs_all w rest f (words.emit into object name detail args) = begins w rest (emitting d (fronted front w) f object (record { into = into; signal = name; detail = detail; args = args })) (emitting d w f object (record { into = into; signal = name; detail = detail; args = args })) (emits w f object (record { into = into; signal = name; detail = detail; args = args }))
   instructs_all w rest f (words.notify object name) = begins w rest (telling d (fronted front w) f object name) (telling d w f object name) (tells_of w f object name)
-  instructs_all w rest f (words.connect to object signal detail program after swapped with) = begins w rest (connecting d (fronted front w) rest f to object (record { signal = signal; detail = detail; program = program; after = after; swapped = swapped; with = with })) (connecting d w rest f to object (record { signal = signal; detail = detail; program = program; after = after; swapped = swapped; with = with })) (connects_of w rest f to object (record { signal = signal; detail = detail; program = program; after = after; swapped = swapped; with = with }))
+  instructs_all w rest f (words.connect to object c) = begins w rest (connecting d (fronted front w) rest f to object c) (connecting d w rest f to object c) (connects_of w rest f to object c)
   instructs_all w rest f (words.disconnect object program) = begins w rest (disconnecting d (fronted front w) f object program) (disconnecting d w f object program) (disconnects w f object program)
   instructs_all w rest f (words.block object program) = begins w rest (blocking d (fronted front w) f object program) (blocking d w f object program) (blocks_of w f object program)
   instructs_all w rest f (words.unblock object program) = begins w rest (unblocking d (fronted front w) f object program) (unblocking d w f object program) (unblocks_of w f object program)

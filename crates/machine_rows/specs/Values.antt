@@ -1,4 +1,5 @@
 -- Types, transformations and validation at worked values: each equation holds by computing (GObject manual, g_value_transform).
+use Rattle.std.specs.Fmt.{digits}
 use Rattle.std.specs.Prelude.{List, None, Option, Some, [], codes, false, negsuc, pos, refl, true, ℕ, ℤ, ◌++◌, ◌^◌, ◌∷◌, ◌≡◌}
 use Rattle.ui_machine.specs.Definition.Kinds.{int, int64, uint, uint64}
 use Rattle.ui_machine.specs.Definition.Kinds as kinds
@@ -84,6 +85,7 @@ int64_to_bool : transformed examples (kinds.whole int64) kinds.bool (values.whol
 int64_to_bool = refl
 
 int_to_text : transformed examples (kinds.whole int) kinds.text (values.whole int (negsuc 41)) ≡ Some (values.text (Some (codes "-42")))
+unfolding digits
 int_to_text = refl
 
 text_to_int : is_transformable examples kinds.text (kinds.whole int) ≡ false

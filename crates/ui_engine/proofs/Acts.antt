@@ -15,7 +15,7 @@ use Rattle.ui_machine.specs.State.Tasks as config
 use Rattle.ui_machine.specs.State.Objects.{Object, Objects, living, changed, object_at}
 use Rattle.ui_machine.specs.State.Tasks.{Making, Item, makes, Emission, Task, Setting, Notifying, Beginning, Emitting, Transferring, Unsetting, Thawing, Running, Answering, Calling, Constructing, Building, Carrying, Due}
 use Rattle.ui_machine.specs.State.Config.{World, Config, built, Started, starts, said, held_at, is_unbuilt, with_held, sunk, Left}
-use Rattle.ui_machine.specs.Outcome.{Answer, known, only_if}
+use Rattle.ui_machine.specs.Outcome.{After, Answer, known, only_if}
 use Rattle.ui_machine.specs.Rules.NotifyQueue.{frozen_less, thawing}
 use Rattle.ui_machine.specs.Rules.Programs.{first_frame, all_fit, fits_register, beginning_program, program_before}
 use Rattle.ui_machine.specs.Rules.EmissionPlan.{notifying, notification}
@@ -230,7 +230,7 @@ module _ (d : Definition) (w : World) (rest : List Task) (n : ℕ) where
 
       hands : IfOk (thawing_made w id steps true) Hands
       hands = bind_ok (changed w.objects id frozen_less) _ Hands (λ r e.
-          let h = if_ok_at (λ (r : Objects × List ℕ). (q : ℕ) → is_some (living r.0 q) ≡ true → is_some (living w.objects q) ≡ true) (changed w.objects id frozen_less) r (changed_lives w.objects id frozen_less) e in
+          let h = if_ok_at (λ (r : After Objects (List ℕ)). (q : ℕ) → is_some (living r.state q) ≡ true → is_some (living w.objects q) ≡ true) (changed w.objects id frozen_less) r (changed_lives w.objects id frozen_less) e in
           (record { lives = h; builder = refl; floating = refl; grows = prefix_same w.transcript }, λ o. omega arith))
 
   constructing_passes : (id : ℕ) (steps : List Making) → IsHeld w (Constructing id steps true ∷ rest) → IfOk (act d w None (Constructing id steps true ∷ rest) n) (Passes d w (Constructing id steps true) rest n)

@@ -17,8 +17,8 @@ use Rattle.ui_machine.specs.Rules.NotifyQueue.{queued, thawed, raised, frozen_le
 use Rattle.ui_machine.specs.State.Objects.{Object, Objects, living, put, class_in, asked, value_at, changed, with_value}
 use Rattle.ui_machine.specs.State.Tasks.{Making, Notifying}
 use Rattle.ui_machine.specs.State.Config.{World, Started, starts, said}
-use Rattle.ui_machine.specs.Outcome.{Answer, ◌>>=◌, known, only_if}
-use Rattle.ui_machine.specs.Rules.Sets.{spec_at, raising, notifies, kept, written, settled, setting, lives, has_kind}
+use Rattle.ui_machine.specs.Outcome.{After, Answer, ◌>>=◌, known, only_if}
+use Rattle.ui_machine.specs.Rules.Sets.{spec_at, raising, raising_if, notifies, kept, written, settled, setting, lives, has_kind}
 use Rattle.ui_machine.specs.Rules.Construction.{thawing_made, given_value}
 use Rattle.ui_machine.specs.Rules.Build.{held_object}
 use Rattle.ui_machine.specs.Rules.Events.{with_result, carrying_set, carrying_get, set_given}
@@ -37,22 +37,22 @@ waiting-put os zero o x h = cc
 waiting-put os (suc i) o x h = waiting-write os i o x h
 
 -- a change of one object that puts no more than so much into its queue, and gives back so much
-abbrev Adds : {X : Type 0} → (X → ℕ) → ℕ → (Object → Answer (Object × X)) → Type 0
-Adds {X} gives most change = (o : Object) → IfOk (change o) (λ r. waiting_in (Some r.0) + gives r.1 ≤ waiting_in (Some o) + most)
+abbrev Adds : {X : Type 0} → (X → ℕ) → ℕ → (Object → Answer (After Object X)) → Type 0
+Adds {X} gives most change = (o : Object) → IfOk (change o) (λ r. waiting_in (Some r.state) + gives r.answer ≤ waiting_in (Some o) + most)
 
-changed_waiting : {X : Type 0} (gives : X → ℕ) (most : ℕ) (os : Objects) (id : ℕ) (change : Object → Answer (Object × X)) → Adds gives most change
-    → IfOk (changed os id change) (λ r. waiting r.0 + gives r.1 ≤ waiting os + most)
+changed_waiting : {X : Type 0} (gives : X → ℕ) (most : ℕ) (os : Objects) (id : ℕ) (change : Object → Answer (After Object X)) → Adds gives most change
+    → IfOk (changed os id change) (λ r. waiting r.state + gives r.answer ≤ waiting os + most)
 unfolding changed
 changed_waiting {X} gives most os id change adds = by (living os id) refl
   where
     P : Objects × X → Type 0
-    P = λ r. waiting r.0 + gives r.1 ≤ waiting os + most
+    P = λ r. waiting r.state + gives r.answer ≤ waiting os + most
 
-    by : (o : Option Object) → living os id ≡ o → IfOk (known arms.Operand o >>= λ x. change x >>= λ new. Ok (put os id (Some new.0), new.1)) P
+    by : (o : Option Object) → living os id ≡ o → IfOk (known arms.Operand o >>= λ x. change x >>= λ new. Ok (record { state = put os id (Some new.state); answer = new.answer })) P
     by None e = tt
-    by (Some x) e = bind_ok (change x) (λ new. Ok (put os id (Some new.0), new.1)) P (λ new is.
-        let a = if_ok_at (λ (r : Object × X). waiting_in (Some r.0) + gives r.1 ≤ waiting_in (Some x) + most) (change x) new (adds x) is in
-        let p = waiting-put os id x new.0 e in
+    by (Some x) e = bind_ok (change x) (λ new. Ok (record { state = put os id (Some new.state); answer = new.answer })) P (λ new is.
+        let a = if_ok_at (λ (r : After Object X). waiting_in (Some r.state) + gives r.answer ≤ waiting_in (Some x) + most) (change x) new (adds x) is in
+        let p = waiting-put os id x new.state e in
         omega (arith, a, p))
 
 nothing : {X : Type 0} → X → ℕ
@@ -60,7 +60,7 @@ nothing x = 0
 
 written_adds : (slot : ℕ) (v : Value) → Adds (nothing {X = Value}) 0 (with_value slot v)
 unfolding with_value nothing
-written_adds slot v o = bind_ok (value_at slot o) _ (λ r. waiting_in (Some r.0) + 0 ≤ waiting_in (Some o) + 0) (λ old _. omega arith)
+written_adds slot v o = bind_ok (value_at slot o) _ (λ r. waiting_in (Some r.state) + 0 ≤ waiting_in (Some o) + 0) (λ old _. omega arith)
 
 length-queued : (q : List ℕ) (slot : ℕ) (b : Bool) → 2 * length (cond b q (q ++ slot ∷ [])) ≤ 2 * length q + 2
 length-queued q slot true = omega arith
@@ -74,10 +74,10 @@ raised_adds : (slot : ℕ) → Adds told_weight 2 (raised slot)
 unfolding told_weight
 raised_adds slot o = by (nat_eq o.freezes 0)
   where
-    raise : Bool → Answer (Object × Bool)
+    raise : Bool → Answer (After Object Bool)
     raise b = Ok (cond b (o, true) (record o { queue = queued o.queue slot }, false))
 
-    by : (b : Bool) → IfOk (raise b) (λ r. waiting_in (Some r.0) + told_weight r.1 ≤ waiting_in (Some o) + 2)
+    by : (b : Bool) → IfOk (raise b) (λ r. waiting_in (Some r.state) + told_weight r.answer ≤ waiting_in (Some o) + 2)
     by true = omega arith
     by false = omega (arith, length-queued o.queue slot (list_any (λ s. nat_eq s slot) o.queue))
 
@@ -91,7 +91,7 @@ thawed_adds : Adds twice_length 0 frozen_less
 unfolding twice_length
 thawed_adds o = by (nat_lt 0 o.freezes) (o.freezes - 1)
   where
-    by : (b : Bool) (n : ℕ) → IfOk (only_if b arms.Freeze (Ok (less_frozen n o))) (λ r. waiting_in (Some r.0) + 2 * length r.1 ≤ waiting_in (Some o) + 0)
+    by : (b : Bool) (n : ℕ) → IfOk (only_if b arms.Freeze (Ok (less_frozen n o))) (λ r. waiting_in (Some r.state) + 2 * length r.answer ≤ waiting_in (Some o) + 0)
     by false n = tt
     by true zero = omega (arith, length-thawed o.queue)
     by true (suc n) = omega arith
@@ -110,8 +110,8 @@ told_less false d id slot = refl
 pub raising_falls : (d : Definition) (w : World) (id slot : ℕ) → IfOk (raising w id slot) (Falls d w 3)
 unfolding raising
 raising_falls d w id slot = bind_ok (changed w.objects id (raised slot)) _ (Falls d w 3) (λ r e.
-    let a = if_ok_at (λ (r : Objects × Bool). waiting r.0 + told_weight r.1 ≤ waiting w.objects + 2) (changed w.objects id (raised slot)) r (changed_waiting told_weight 2 w.objects id (raised slot) (raised_adds slot)) e in
-    record { less = omega (arith, a, told_less r.1 d id slot) })
+    let a = if_ok_at (λ (r : After Objects Bool). waiting r.state + told_weight r.answer ≤ waiting w.objects + 2) (changed w.objects id (raised slot)) r (changed_waiting told_weight 2 w.objects id (raised slot) (raised_adds slot)) e in
+    record { less = omega (arith, a, told_less r.answer d id slot) })
 
 falls_on : (d : Definition) (w v : World) (a : Answer Started) (before : ℕ) → waiting v.objects ≤ waiting w.objects → IfOk a (Falls d v before) → IfOk a (Falls d w before)
 falls_on d w v (Ok s) before h f = let l = f.less in record { less = omega (arith, l, h) }
@@ -120,12 +120,12 @@ falls_on d w v (Err arm) before h f = tt
 written_falls : (d : Definition) (w : World) (id slot : ℕ) (s : Spec) (v : Value) → IfOk (written d w id slot s v) (Falls d w 3)
 unfolding written nothing
 written_falls d w id slot s v = bind_ok (changed w.objects id (with_value slot v)) _ (Falls d w 3) (λ r e.
-    let a = if_ok_at (λ (r : Objects × Value). waiting r.0 + 0 ≤ waiting w.objects + 0) (changed w.objects id (with_value slot v)) r (changed_waiting nothing 0 w.objects id (with_value slot v) (written_adds slot v)) e in
-    by (notifies s r.1 v) r (omega (arith, a)))
+    let a = if_ok_at (λ (r : After Objects Value). waiting r.state + 0 ≤ waiting w.objects + 0) (changed w.objects id (with_value slot v)) r (changed_waiting nothing 0 w.objects id (with_value slot v) (written_adds slot v)) e in
+    by (notifies s r.answer v) r (omega (arith, a)))
   where
-    by : (b : Bool) (r : Objects × Value) → waiting r.0 ≤ waiting w.objects
-        → IfOk (cond b (raising (said d (record w { objects = r.0 }) (lines.set id s.name v)) id slot) (starts (said d (record w { objects = r.0 }) (lines.set id s.name v)) [])) (Falls d w 3)
-    by true r h = falls_on d w (said d (record w { objects = r.0 }) (lines.set id s.name v)) (raising (said d (record w { objects = r.0 }) (lines.set id s.name v)) id slot) 3 h (raising_falls d (said d (record w { objects = r.0 }) (lines.set id s.name v)) id slot)
+    by : (b : Bool) (r : After Objects Value) → waiting r.state ≤ waiting w.objects
+        → IfOk (raising_if b (said d (record w { objects = r.state }) (lines.set id s.name v)) id slot) (Falls d w 3)
+    by true r h = falls_on d w (said d (record w { objects = r.state }) (lines.set id s.name v)) (raising (said d (record w { objects = r.state }) (lines.set id s.name v)) id slot) 3 h (raising_falls d (said d (record w { objects = r.state }) (lines.set id s.name v)) id slot)
     by false r h = record { less = omega (arith, h) }
 
 settled_falls : (d : Definition) (w : World) (id slot : ℕ) (s : Spec) (v valid : Value) → IfOk (settled d w id slot s v valid) (Falls d w 3)
@@ -151,7 +151,7 @@ thawing_falls d w id (slot ∷ slots) = record { less = omega arith }
 pub thawing_made_falls : (d : Definition) (w : World) (id : ℕ) (steps : List Making) (held : Bool) → IfOk (thawing_made w id steps held) (Falls d w (4 * suc (length steps) + 1))
 unfolding thawing_made twice_length
 thawing_made_falls d w id steps held = bind_ok (changed w.objects id frozen_less) _ (Falls d w (4 * suc (length steps) + 1)) (λ r e.
-    let a = if_ok_at (λ (r : Objects × List ℕ). waiting r.0 + 2 * length r.1 ≤ waiting w.objects + 0) (changed w.objects id frozen_less) r (changed_waiting twice_length 0 w.objects id frozen_less thawed_adds) e in
+    let a = if_ok_at (λ (r : After Objects (List ℕ)). waiting r.state + 2 * length r.answer ≤ waiting w.objects + 0) (changed w.objects id frozen_less) r (changed_waiting twice_length 0 w.objects id frozen_less thawed_adds) e in
     record { less = omega (arith, a) })
 
 set_given_falls : (d : Definition) (w : World) (id slot : ℕ) (given : Given) → IfOk (set_given w id slot given) (Falls d w 4)

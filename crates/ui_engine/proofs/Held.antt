@@ -9,7 +9,7 @@ use Rattle.ui_machine.specs.Definition.{Definition}
 use Rattle.ui_machine.specs.State.Objects.{Object, Objects, living, put, changed}
 use Rattle.ui_machine.specs.State.Config.{Held, unbuilt, built, released, World, Config, Started, held_at, is_unbuilt, with_held, sunk, without}
 use Rattle.ui_machine.specs.State.Tasks.{Making, Task, Setting, Notifying, Beginning, Emitting, Transferring, Unsetting, Thawing, Running, Answering, Calling, Constructing, Building, Carrying, Due}
-use Rattle.ui_machine.specs.Outcome.{Answer, ◌>>=◌, known}
+use Rattle.ui_machine.specs.Outcome.{After, Answer, ◌>>=◌, known}
 use Rattle.ui_machine.specs.State.References.{unheld_from, next_unheld, same, in_held, in_task, mentions}
 use Rattle.ui_machine.specs.Prefix.{IsPrefix}
 use Rattle.ui_machine.proofs.Prefixes.{prefix_on}
@@ -78,18 +78,18 @@ pub bind_ok : {A B : Type 0} (a : Answer A) (f : A → Answer B) (P : B → Type
 bind_ok (Ok x) f P h = h x refl
 bind_ok (Err arm) f P h = tt
 
-pub changed_lives : {X : Type 0} (os : Objects) (id : ℕ) (change : Object → Answer (Object × X)) → IfOk (changed os id change) (λ r. (q : ℕ) → is_some (living r.0 q) ≡ true → is_some (living os q) ≡ true)
+pub changed_lives : {X : Type 0} (os : Objects) (id : ℕ) (change : Object → Answer (After Object X)) → IfOk (changed os id change) (λ r. (q : ℕ) → is_some (living r.state q) ≡ true → is_some (living os q) ≡ true)
 unfolding changed
 changed_lives {X} os id change = by (living os id) refl
   where
     P : Objects × X → Type 0
-    P = λ r. (q : ℕ) → is_some (living r.0 q) ≡ true → is_some (living os q) ≡ true
+    P = λ r. (q : ℕ) → is_some (living r.state q) ≡ true → is_some (living os q) ≡ true
 
-    by : (o : Option Object) → living os id ≡ o → IfOk (known arms.Operand o >>= λ x. change x >>= λ new. Ok (put os id (Some new.0), new.1)) P
+    by : (o : Option Object) → living os id ≡ o → IfOk (known arms.Operand o >>= λ x. change x >>= λ new. Ok (record { state = put os id (Some new.state); answer = new.answer })) P
     by None e = tt
-    by (Some x) e = bind_ok (change x) (λ new. Ok (put os id (Some new.0), new.1)) P (λ new _ q h. elim (cases_eq q id) [
+    by (Some x) e = bind_ok (change x) (λ new. Ok (record { state = put os id (Some new.state); answer = new.answer })) P (λ new _ q h. elim (cases_eq q id) [
       | inl is ↦ ap (λ j. is_some (living os j)) is ∙ ap is_some e
-      | inr ne ↦ ap is_some (sym (living-beside os id q (Some new.0) ne)) ∙ h
+      | inr ne ↦ ap is_some (sym (living-beside os id q (Some new.state) ne)) ∙ h
     ])
 
 -- a step that keeps them and hands on its part of the constructions

@@ -7,7 +7,7 @@ use Rattle.std.specs.BTreeMap.{BTreeMap, get, is_at, btree_map_len, Updates, Wri
 use Rattle.ui_machine.specs.declared.arm.Arm.{Arm}
 use Rattle.ui_machine.specs.declared.arm.Halt.{Halt}
 use Rattle.ui_machine.specs.State.Objects.{Object, Objects, changed}
-use Rattle.ui_machine.specs.Outcome.{Answer, Gives, Follows}
+use Rattle.ui_machine.specs.Outcome.{After, Answer, Gives, Follows}
 use Rattle.ui_engine.specs.HeapView.{objects_of, InRange, Replaces}
 use Rattle.ui_engine.proofs.Shown.{changes, follows, one_more}
 
@@ -22,12 +22,12 @@ written m n id was y here h = updated m n id (Some y) (h.3 (ap is_some here))
 
 -- what is written through what the map lent
 module _ (m n : BTreeMap ℕ Object) (id : ℕ) (old : Objects) (was y : Object) (range : InRange (get nat_cmp m) (btree_map_len m)) (is : objects_of (get nat_cmp m) (btree_map_len m) ≡ old) (here : get nat_cmp m id ≡ Some was) (h : WritesThrough nat_cmp (nat_cmp id) m y n) where
-  pub written_changes : {X Y : Type 0} (view : X → Y) (change : Object → Answer (Object × Y)) (r : Result X Arm) → Gives view r (change was) y → Gives view r (changed old id change) (objects_of (get nat_cmp n) (btree_map_len n))
+  pub written_changes : {X Y : Type 0} (view : X → Y) (change : Object → Answer (After Object Y)) (r : Result X Arm) → Gives view r (change was) y → Gives view r (changed old id change) (objects_of (get nat_cmp n) (btree_map_len n))
   written_changes view change r g =
       subst (λ k. Gives view r (changed old id change) (objects_of (get nat_cmp n) k)) (sym h.2)
       (changes (get nat_cmp m) (get nat_cmp n) (btree_map_len m) id old was y range is here (written m n id was y here h) view change r g)
 
-  pub written_follows : {X Y : Type 0} (view : X → Y) (change : Object → Answer (Object × Y)) (r : Result X Halt) → Follows view r (change was) y → Follows view r (changed old id change) (objects_of (get nat_cmp n) (btree_map_len n))
+  pub written_follows : {X Y : Type 0} (view : X → Y) (change : Object → Answer (After Object Y)) (r : Result X Halt) → Follows view r (change was) y → Follows view r (changed old id change) (objects_of (get nat_cmp n) (btree_map_len n))
   written_follows view change r g =
       subst (λ k. Follows view r (changed old id change) (objects_of (get nat_cmp n) k)) (sym h.2)
       (follows (get nat_cmp m) (get nat_cmp n) (btree_map_len m) id old was y range is here (written m n id was y here h) view change r g)

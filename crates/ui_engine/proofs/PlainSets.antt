@@ -15,7 +15,7 @@ use Rattle.ui_machine.specs.Output.Lines as lines
 use Rattle.ui_machine.specs.State.Objects.{Objects, class_in, changed, with_value}
 use Rattle.ui_machine.specs.State.Config.{World, starts, said, with_objects}
 use Rattle.ui_machine.specs.Outcome.{Answer, ◌>>=◌, only_if}
-use Rattle.ui_machine.specs.Rules.Sets.{spec_at, has_kind, lives, raising, kept, unless_disposed, written, settled, setting}
+use Rattle.ui_machine.specs.Rules.Sets.{spec_at, has_kind, lives, raising, raising_if, kept, unless_disposed, written, settled, setting}
 use Rattle.g_values.specs.declared.value.Value as coded
 use Rattle.g_values.specs.declared.value.Value.TheVariants as of_value
 use Rattle.g_values.specs.View.{value_view}
@@ -181,9 +181,9 @@ module _ (d : Definition) (w : World) (id slot : ℕ) (v : Value) where
       written_plain : (x : Value) → written d w id slot s x ≡ told_write d w id slot s.name x
       unfolding written told_write
       written_plain x = ap (λ b. changed w.objects id (with_value slot x) >>= λ new.
-          cond (b && (not (is_explicit_notify s) || not (same_value new.1 x))) (raising (said d (with_objects w new.0) (lines.set id s.name x)) id slot) (starts (said d (with_objects w new.0) (lines.set id s.name x)) [])) (flag 1)
+          raising_if (b && (not (is_explicit_notify s) || not (same_value new.answer x))) (said d (with_objects w new.state) (lines.set id s.name x)) id slot) (flag 1)
           ∙ ap (λ b. changed w.objects id (with_value slot x) >>= λ new.
-          cond (not b || not (same_value new.1 x)) (raising (said d (with_objects w new.0) (lines.set id s.name x)) id slot) (starts (said d (with_objects w new.0) (lines.set id s.name x)) [])) (flag 1073741824)
+          raising_if (not b || not (same_value new.answer x)) (said d (with_objects w new.state) (lines.set id s.name x)) id slot) (flag 1073741824)
 
       pub written_set : (x : Value) → x ≡ clamp (class_in w.objects) d.types s v → same_value (clamp (class_in w.objects) d.types s v) v ≡ true → setting d w id slot v ≡ told_write d w id slot s.name x
       written_set x valid same =

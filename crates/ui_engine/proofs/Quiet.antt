@@ -15,9 +15,9 @@ use Rattle.ui_machine.specs.Definition.Places.{Given}
 use Rattle.ui_machine.specs.State.Objects.{Object, Objects, living, class_in, object_at, asked, value_at, changed, with_value}
 use Rattle.ui_machine.specs.State.Tasks.{Notifying}
 use Rattle.ui_machine.specs.State.Config.{World, Started, starts, said}
-use Rattle.ui_machine.specs.Outcome.{Answer, known, only_if}
+use Rattle.ui_machine.specs.Outcome.{After, Answer, known, only_if}
 use Rattle.ui_machine.specs.Rules.NotifyQueue.{raised, thawing}
-use Rattle.ui_machine.specs.Rules.Sets.{spec_at, raising, notifies, kept, written, settled, setting, lives, has_kind}
+use Rattle.ui_machine.specs.Rules.Sets.{spec_at, raising, raising_if, notifies, kept, written, settled, setting, lives, has_kind}
 use Rattle.ui_machine.specs.Rules.EmissionPlan.{notifying, signal_at}
 use Rattle.ui_machine.specs.Rules.Construction.{given_value}
 use Rattle.ui_machine.specs.Rules.Events.{with_result, carrying_set, carrying_get, set_given}
@@ -33,9 +33,9 @@ pub record Calm (w : World) (s : Started) : Type 0 where
   pub none : (o : ℕ) → total (making_of o) s.tasks ≡ 0
 
 -- a world with other objects, as a change of one left them
-same_lives : {X : Type 0} (w new : World) (id : ℕ) (change : Object → Answer (Object × X)) (os : Objects × X) → changed w.objects id change ≡ Ok os → new.objects ≡ os.0 → new.builder ≡ w.builder → new.floating ≡ w.floating → IsPrefix w.transcript new.transcript → Quietly w new
+same_lives : {X : Type 0} (w new : World) (id : ℕ) (change : Object → Answer (After Object X)) (os : After Objects X) → changed w.objects id change ≡ Ok os → new.objects ≡ os.state → new.builder ≡ w.builder → new.floating ≡ w.floating → IsPrefix w.transcript new.transcript → Quietly w new
 same_lives {X} w new id change os e objects builder floating grows =
-    let h = if_ok_at (λ (r : Objects × X). (q : ℕ) → is_some (living r.0 q) ≡ true → is_some (living w.objects q) ≡ true) (changed w.objects id change) os (changed_lives w.objects id change) e in
+    let h = if_ok_at (λ (r : After Objects X). (q : ℕ) → is_some (living r.state q) ≡ true → is_some (living w.objects q) ≡ true) (changed w.objects id change) os (changed_lives w.objects id change) e in
     record { lives = λ q s. h q (subst (λ (xs : Objects). is_some (living xs q) ≡ true) objects s); builder = builder; floating = floating; grows = grows }
 
 -- ** notifications
@@ -47,8 +47,8 @@ none_made false id slot o = refl
 pub raising_calm : (w : World) (id slot : ℕ) → IfOk (raising w id slot) (Calm w)
 unfolding raising
 raising_calm w id slot = bind_ok (changed w.objects id (raised slot)) _ (Calm w) (λ r e. record {
-  quiet = same_lives w (record w { objects = r.0 }) id (raised slot) r e refl refl refl (prefix_same w.transcript);
-  none = none_made r.1 id slot;
+  quiet = same_lives w (record w { objects = r.state }) id (raised slot) r e refl refl refl (prefix_same w.transcript);
+  none = none_made r.answer id slot;
 })
 
 calm_on : (w v : World) (a : Answer Started) → Quietly w v → IfOk a (Calm v) → IfOk a (Calm w)
@@ -64,14 +64,14 @@ notifying_calm d w id slot = bind_ok (object_at w.objects id) _ (Calm w) (λ o _
 
 -- ** sets
 
-told_calm : (b : Bool) (w v : World) (id slot : ℕ) → Quietly w v → IfOk (cond b (raising v id slot) (Ok (record { world = v; tasks = [] }))) (Calm w)
+told_calm : (b : Bool) (w v : World) (id slot : ℕ) → Quietly w v → IfOk (raising_if b v id slot) (Calm w)
 told_calm true w v id slot q = calm_on w v (raising v id slot) q (raising_calm v id slot)
 told_calm false w v id slot q = record { quiet = q; none = λ o. refl }
 
 pub written_calm : (d : Definition) (w : World) (id slot : ℕ) (s : Spec) (v : Value) → IfOk (written d w id slot s v) (Calm w)
 unfolding written
 written_calm d w id slot s v = bind_ok (changed w.objects id (with_value slot v)) _ (Calm w) (λ r e.
-    told_calm (notifies s r.1 v) w _ id slot (same_lives w _ id (with_value slot v) r e refl refl refl (prefix_one w.transcript _)))
+    told_calm (notifies s r.answer v) w _ id slot (same_lives w _ id (with_value slot v) r e refl refl refl (prefix_one w.transcript _)))
 
 settled_calm : (d : Definition) (w : World) (id slot : ℕ) (s : Spec) (v valid : Value) → IfOk (settled d w id slot s v valid) (Calm w)
 settled_calm d w id slot s v valid = by (same_value valid v || is_lax s)

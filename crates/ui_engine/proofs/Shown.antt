@@ -6,7 +6,7 @@ use Rattle.ui_machine.specs.declared.arm.Halt.{Halt}
 use Rattle.ui_machine.specs.declared.arm.Halt.TheVariants as halts
 use Rattle.ui_machine.specs.Seq.{listed}
 use Rattle.ui_machine.specs.State.Objects.{Object, Objects, living, put, asked, changed}
-use Rattle.ui_machine.specs.Outcome.{Answer, ◌>>=◌, known, Gives, Follows}
+use Rattle.ui_machine.specs.Outcome.{After, Answer, ◌>>=◌, known, Gives, Follows}
 use Rattle.ui_engine.specs.HeapView.{Lookup, objects_of, InRange, Replaces}
 use Rattle.ui_machine.proofs.Listed.{read-listed, listed-same, listed-write, listed-more, length-listed}
 
@@ -44,19 +44,19 @@ unfolding asked
 present_asked at made id old x question range is here =
     ap (λ (o : Option Object). known arms.Operand o >>= question) (found_in at made id old range is ∙ here)
 
-pub absent_changed : {X : Type 0} (at : Lookup) (made id : ℕ) (old : Objects) (change : Object → Answer (Object × X)) → InRange at made → objects_of at made ≡ old → at id ≡ None → changed old id change ≡ Err arms.Operand
+pub absent_changed : {X : Type 0} (at : Lookup) (made id : ℕ) (old : Objects) (change : Object → Answer (After Object X)) → InRange at made → objects_of at made ≡ old → at id ≡ None → changed old id change ≡ Err arms.Operand
 unfolding changed
 absent_changed at made id old change range is none =
-    ap (λ (o : Option Object). known arms.Operand o >>= λ o. change o >>= λ w. Ok (put old id (Some w.0), w.1)) (found_in at made id old range is ∙ none)
+    ap (λ (o : Option Object). known arms.Operand o >>= λ o. change o >>= λ w. Ok (record { state = put old id (Some w.state); answer = w.answer })) (found_in at made id old range is ∙ none)
 
 module _ (at new : Lookup) (made id : ℕ) (old : Objects) (was y : Object) (range : InRange at made) (is : objects_of at made ≡ old) (here : at id ≡ Some was) (replaces : Replaces at new id (Some y)) where
   -- what a change of the one object's does to all
-  pub changes : {X Y : Type 0} (view : X → Y) (change : Object → Answer (Object × Y)) (r : Result X Arm) → Gives view r (change was) y → Gives view r (changed old id change) (objects_of new made)
+  pub changes : {X Y : Type 0} (view : X → Y) (change : Object → Answer (After Object Y)) (r : Result X Arm) → Gives view r (change was) y → Gives view r (changed old id change) (objects_of new made)
   unfolding changed
   changes {X} {Y} view change r h = by r h
     where
-      put_in : Answer (Object × Y) → Answer (Objects × Y)
-      put_in a = a >>= λ w. Ok (put old id (Some w.0), w.1)
+      put_in : Answer (After Object Y) → Answer (Objects × Y)
+      put_in a = a >>= λ w. Ok (record { state = put old id (Some w.state); answer = w.answer })
 
       to_one : changed old id change ≡ put_in (change was)
       to_one = ap (λ (o : Option Object). known arms.Operand o >>= λ o. put_in (change o)) (found_in at made id old range is ∙ here)
@@ -65,10 +65,10 @@ module _ (at new : Lookup) (made id : ℕ) (old : Objects) (was y : Object) (ran
       by (Ok x) e = to_one ∙ ap put_in e ∙ ap (λ (os : Objects). Ok (os, view x)) (ap (λ (os : Objects). put os id (Some y)) (sym is) ∙ sym (put_back at new made id (Some y) (range id (ap is_some here)) replaces))
       by (Err arm) e = to_one ∙ ap put_in e
 
-  stuck : {X Y : Type 0} (view : X → Y) (change : Object → Answer (Object × Y)) (arm : Arm) → change was ≡ Err arm → changed old id change ≡ Err arm
+  stuck : {X Y : Type 0} (view : X → Y) (change : Object → Answer (After Object Y)) (arm : Arm) → change was ≡ Err arm → changed old id change ≡ Err arm
   stuck view change arm h = changes view change (Err arm) h
 
-  pub follows : {X Y : Type 0} (view : X → Y) (change : Object → Answer (Object × Y)) (r : Result X Halt) → Follows view r (change was) y → Follows view r (changed old id change) (objects_of new made)
+  pub follows : {X Y : Type 0} (view : X → Y) (change : Object → Answer (After Object Y)) (r : Result X Halt) → Follows view r (change was) y → Follows view r (changed old id change) (objects_of new made)
   follows view change (Ok x) h = changes view change (Ok x) h
   follows view change (Err halts.OutOfMemory) h = tt
   follows view change (Err (halts.Stuck arm)) h = stuck view change arm h

@@ -21,7 +21,7 @@ module _ {A B : Type 0} (f : A → B) where
 
 -- a value written over another
 pub write_over : (o : config.Object) (vs : List Value) (i : ℕ) (v old : Value) → o.values ≡ map value_view vs → i < length vs → old ≡ get_or vs i old
-    → with_value i (value_view v) o ≡ Ok (record o { values = map value_view (slice_set vs i v) }, value_view old)
+    → with_value i (value_view v) o ≡ Ok (record { state = record o { values = map value_view (slice_set vs i v) }; answer = value_view old })
 unfolding with_value
 write_over o vs i v old is lt was =
     let here : slice_get o.values i ≡ Some (value_view old) = ap (λ (xs : List values.Value). slice_get xs i) is ∙ got value_view vs i old lt ∙ ap (λ (x : Value). Some (value_view x)) (sym was) in

@@ -12,4 +12,4 @@ use Rattle.ui_machine.specs.Rules.Sets.{raising}
 unfoldable pub told_write : Definition → World → ℕ → ℕ → List ℕ → Value → Answer Started
 told_write d w id slot name v = do
   new ← changed w.objects id (with_value slot v)
-  raising (said d (with_objects w new.0) (lines.set id name v)) id slot
+  raising (said d (with_objects w new.state) (lines.set id name v)) id slot

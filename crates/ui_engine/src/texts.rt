@@ -1,7 +1,8 @@
 //! The lines of a transcript.
 
-ghost use Rattle.std.specs.Prelude.{◌≡◌, ◌∷◌, ◌++◌, codes, IfOk, string_bytes};
-ghost use Rattle.ui_machine.specs.Output.Text.{numeral, signed_numeral, json_string, text_of_value, text_of_identity};
+ghost use Rattle.std.specs.Prelude.{◌≡◌, ◌∷◌, ◌++◌, codes, decimal, IfOk, string_bytes};
+ghost use Rattle.std.specs.Fmt.{signed_decimal};
+ghost use Rattle.ui_machine.specs.Output.Text.{json_string, text_of_value, text_of_identity};
 ghost use Rattle.ui_machine.specs.Output.Lines as lines;
 ghost use Rattle.serde_json.specs.Data.{string};
 ghost use Rattle.serde_json.specs.Written.{compact_text};
@@ -13,31 +14,27 @@ use type_tree::TypeTree;
 use ui_machine::ObjectId;
 
 /// `construct #1 CLASS`
-#[tactic(auto, using(ui_machine::proofs::Numerals::numeral_decimal))]
 pub fn construct_line(alloc: Global, object: u64, class: &str) -> Result<String, AllocError>
-    ensures { IfOk result (λ line. string_bytes line ≡ codes "construct #" ++ (numeral object ++ (codes " " ++ class.now))) }
+    ensures { IfOk result (λ line. string_bytes line ≡ codes "construct #" ++ (decimal object ++ (codes " " ++ class.now))) }
 {
     format!(in alloc; "construct #{object} {class}")
 }
 
 /// `notify #1.p`
-#[tactic(auto, using(ui_machine::proofs::Numerals::numeral_decimal))]
 pub fn notify_line(alloc: Global, object: u64, property: &str) -> Result<String, AllocError>
-    ensures { IfOk result (λ line. string_bytes line ≡ codes "notify #" ++ (numeral object ++ (codes "." ++ property.now))) }
+    ensures { IfOk result (λ line. string_bytes line ≡ codes "notify #" ++ (decimal object ++ (codes "." ++ property.now))) }
 {
     format!(in alloc; "notify #{object}.{property}")
 }
 
 /// `end N`
-#[tactic(auto, using(ui_machine::proofs::Numerals::numeral_decimal))]
 pub fn end_line(alloc: Global, steps: u64) -> Result<String, AllocError>
-    ensures { IfOk result (λ line. string_bytes line ≡ codes "end " ++ numeral steps) }
+    ensures { IfOk result (λ line. string_bytes line ≡ codes "end " ++ decimal steps) }
 {
     format!(in alloc; "end {steps}")
 }
 
 /// `set #1.p V`
-#[tactic(auto, using(ui_machine::proofs::Numerals::numeral_decimal))]
 pub fn set_line(
     alloc: Global,
     object: u64,
@@ -45,13 +42,12 @@ pub fn set_line(
     value: &str,
 ) -> Result<String, AllocError>
     ensures { IfOk result (λ line. string_bytes line
-        ≡ codes "set #" ++ (numeral object ++ (codes "." ++ (property.now ++ (codes " " ++ value.now))))) }
+        ≡ codes "set #" ++ (decimal object ++ (codes "." ++ (property.now ++ (codes " " ++ value.now))))) }
 {
     format!(in alloc; "set #{object}.{property} {value}")
 }
 
 /// `refused #1.p V`
-#[tactic(auto, using(ui_machine::proofs::Numerals::numeral_decimal))]
 pub fn refused_line(
     alloc: Global,
     object: u64,
@@ -59,13 +55,12 @@ pub fn refused_line(
     value: &str,
 ) -> Result<String, AllocError>
     ensures { IfOk result (λ line. string_bytes line
-        ≡ codes "refused #" ++ (numeral object ++ (codes "." ++ (property.now ++ (codes " " ++ value.now))))) }
+        ≡ codes "refused #" ++ (decimal object ++ (codes "." ++ (property.now ++ (codes " " ++ value.now))))) }
 {
     format!(in alloc; "refused #{object}.{property} {value}")
 }
 
 /// `get #1.p V`
-#[tactic(auto, using(ui_machine::proofs::Numerals::numeral_decimal))]
 pub fn get_line(
     alloc: Global,
     object: u64,
@@ -73,7 +68,7 @@ pub fn get_line(
     value: &str,
 ) -> Result<String, AllocError>
     ensures { IfOk result (λ line. string_bytes line
-        ≡ codes "get #" ++ (numeral object ++ (codes "." ++ (property.now ++ (codes " " ++ value.now))))) }
+        ≡ codes "get #" ++ (decimal object ++ (codes "." ++ (property.now ++ (codes " " ++ value.now))))) }
 {
     format!(in alloc; "get #{object}.{property} {value}")
 }
@@ -99,21 +94,18 @@ pub fn value_text(alloc: Global, types: &TypeTree, value: &Value) -> Result<Stri
     }
 }
 
-#[tactic(auto, using(ui_machine::proofs::Numerals::numeral_decimal))]
 fn unsigned_text(alloc: Global, number: u64) -> Result<String, AllocError>
-    ensures { IfOk result (λ text. string_bytes text ≡ numeral number) }
+    ensures { IfOk result (λ text. string_bytes text ≡ decimal number) }
 {
     format!(in alloc; "{number}")
 }
 
-#[tactic(auto, using(ui_machine::proofs::Numerals::signed_numeral_decimal))]
 fn signed_text(alloc: Global, number: i64) -> Result<String, AllocError>
-    ensures { IfOk result (λ text. string_bytes text ≡ signed_numeral number) }
+    ensures { IfOk result (λ text. string_bytes text ≡ signed_decimal number) }
 {
     format!(in alloc; "{number}")
 }
 
-#[tactic(auto, using(ui_machine::proofs::Numerals::numeral_decimal))]
 fn identity_text(alloc: Global, object: ObjectId) -> Result<String, AllocError>
     ensures { IfOk result (λ text. string_bytes text ≡ text_of_identity object.0) }
 {

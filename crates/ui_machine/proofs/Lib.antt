@@ -1,4 +1,3 @@
-pub mod Numerals
 pub mod Mapped
 pub mod Listed
 pub mod Prefixes

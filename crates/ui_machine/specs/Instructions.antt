@@ -58,15 +58,7 @@ instructed d w rest f (words.thaw object) = in_front rest (unfreezing w f object
 instructed d w rest f (words.emit into object name detail args) =
     in_front rest (emitting d w f object (record { into = into; signal = name; detail = detail; args = args }))
 instructed d w rest f (words.notify object name) = in_front rest (telling d w f object name)
-instructed d w rest f (words.connect to object signal detail program after swapped with) =
-    in_front rest (connecting d w rest f to object (record {
-      signal = signal;
-      detail = detail;
-      program = program;
-      after = after;
-      swapped = swapped;
-      with = with;
-    }))
+instructed d w rest f (words.connect to object c) = in_front rest (connecting d w rest f to object c)
 instructed d w rest f (words.disconnect object program) = in_front rest (disconnecting d w f object program)
 instructed d w rest f (words.block object program) = in_front rest (blocking d w f object program)
 instructed d w rest f (words.unblock object program) = in_front rest (unblocking d w f object program)

@@ -8,6 +8,11 @@ use Rattle.ui_machine.specs.declared.arm.Halt.TheVariants as halts
 abbrev pub Answer : Type 0 → Type 0
 Answer A = Result A Arm
 
+-- what an action leaves, and what it answers
+pub record After (S X : Type 0) : Type 0 where
+  pub state : S
+  pub answer : X
+
 -- one answer after the other: the first that fails is the answer
 infixl 10 ◌>>=◌
 abbrev pub ◌>>=◌ : {A B E : Type 0} → Result A E → (A → Result B E) → Result B E
@@ -27,8 +32,8 @@ only_if false e answer = Err e
 -- ** what contracts say of code beside an answer
 
 -- The code's answer, seen by view, is the machine's, and what the code leaves is what the machine leaves.
-abbrev pub Gives : {S X Y : Type 0} → (X → Y) → Result X Arm → Answer (S × Y) → S → Type 0
-Gives view (Ok x) answer new = answer ≡ Ok (new, view x)
+abbrev pub Gives : {S X Y : Type 0} → (X → Y) → Result X Arm → Answer (After S Y) → S → Type 0
+Gives view (Ok x) answer new = answer ≡ Ok (record { state = new; answer = view x })
 Gives view (Err arm) answer new = answer ≡ Err arm
 
 -- why the code stopped: it found no memory, of which the machine knows nothing, or the machine is stuck there
@@ -37,8 +42,8 @@ Stops halts.OutOfMemory answer = Unit {0}
 Stops (halts.Stuck arm) answer = answer ≡ Err arm
 
 -- the same as `Gives` of code that asks for memory
-abbrev pub Follows : {S X Y : Type 0} → (X → Y) → Result X Halt → Answer (S × Y) → S → Type 0
-Follows view (Ok x) answer new = answer ≡ Ok (new, view x)
+abbrev pub Follows : {S X Y : Type 0} → (X → Y) → Result X Halt → Answer (After S Y) → S → Type 0
+Follows view (Ok x) answer new = answer ≡ Ok (record { state = new; answer = view x })
 Follows view (Err halt) answer new = Stops halt answer
 
 -- code that answers nothing but what it leaves

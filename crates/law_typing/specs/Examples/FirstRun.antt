@@ -17,7 +17,8 @@ definition = record {
   classes =
       class_of [] (notify ∷ []) [] None None
       ∷ class_of [] (notify ∷ []) [] None None
-      ∷ class_of (property (codes "n") (kinds.whole kinds.int) 3 (values.whole kinds.int (pos 0)) (negsuc 2147483647) (pos 2147483647) false ∷ []) (notify ∷ []) [] None None
+      ∷ class_of (property (codes "n") (kinds.whole kinds.int) 3 (values.whole kinds.int (pos 0)) (negsuc 2147483647)
+          (pos 2147483647) false ∷ []) (notify ∷ []) [] None None
       ∷ [];
   shapes =
       [];

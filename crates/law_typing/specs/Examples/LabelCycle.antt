@@ -29,12 +29,14 @@ definition = record {
       program (codes "up") ((kinds.at 0) ∷ []) 3 None
       (block ((kinds.at 0) ∷ kinds.unset ∷ kinds.unset ∷ []) 1 (words.object 1 (codes "l2") ∷ words.branch_null 1 1 2 ∷ [])
       ∷ block (kinds.unset ∷ kinds.unset ∷ kinds.unset ∷ []) 1 (words.return None ∷ [])
-      ∷ block ((kinds.at 0) ∷ (kinds.at 1) ∷ kinds.unset ∷ []) 1 (words.get 2 0 (codes "text") ∷ words.set 1 (codes "text") 2 ∷ words.return None ∷ [])
+      ∷ block ((kinds.at 0) ∷ (kinds.at 1) ∷ kinds.unset ∷ []) 1 (words.get 2 0 (codes "text") ∷ words.set 1 (codes "text") 2
+          ∷ words.return None ∷ [])
       ∷ [])
       ∷ program (codes "down") ((kinds.at 1) ∷ []) 3 None
       (block ((kinds.at 1) ∷ kinds.unset ∷ kinds.unset ∷ []) 1 (words.object 1 (codes "l1") ∷ words.branch_null 1 1 2 ∷ [])
       ∷ block (kinds.unset ∷ kinds.unset ∷ kinds.unset ∷ []) 1 (words.return None ∷ [])
-      ∷ block ((kinds.at 1) ∷ (kinds.at 0) ∷ kinds.unset ∷ []) 1 (words.get 2 0 (codes "text") ∷ words.set 1 (codes "text") 2 ∷ words.return None ∷ [])
+      ∷ block ((kinds.at 1) ∷ (kinds.at 0) ∷ kinds.unset ∷ []) 1 (words.get 2 0 (codes "text") ∷ words.set 1 (codes "text") 2
+          ∷ words.return None ∷ [])
       ∷ [])
       ∷ [];
   places =
@@ -49,4 +51,6 @@ definition = record {
 
 -- the definition is refused for a cycle, and this is one
 abbrev pub Holds : Type 0
-Holds = (verdict definition ≡ has_cycle) × (is_cycle (graph definition) (record { from = (channels.property 0 0); by = (channels.program 0) } ∷ record { from = (channels.property 1 0); by = (channels.program 1) } ∷ []) ≡ true)
+Holds = (verdict definition ≡ has_cycle) × (is_cycle (graph definition)
+    (record { from = (channels.property 0 0); by = (channels.program 0) }
+    ∷ record { from = (channels.property 1 0); by = (channels.program 1) } ∷ []) ≡ true)

@@ -10,7 +10,7 @@ use Rattle.ui_machine.specs.Rules.Transform.{same_kind}
 use Rattle.ui_machine.specs.Definition.Properties.{Spec, is_readable, is_writable, is_construct_only}
 use Rattle.ui_machine.specs.Definition.{Definition}
 use Rattle.ui_machine.specs.Definition.Signals.{Signal, Method, Shape}
-use Rattle.ui_machine.specs.Definition.Programs.{Instruction, Block, Program}
+use Rattle.ui_machine.specs.Definition.Programs.{Connect, Instruction, Block, Program}
 use Rattle.ui_machine.specs.Definition.Places.{Place, Bind}
 use Rattle.ui_machine.specs.Definition.Programs as words
 use Rattle.ui_machine.specs.Definition.Lookups.{slot_of, spec_of, program_at, program_of, place_at, place_of}
@@ -265,14 +265,14 @@ program_named d name = do
   known rules.unknown (program_at d number)
 
 -- `connect d o s D p [options] z`
-unfoldable pub connecting : Definition → Kinds → (to object : ℕ) → List ℕ → Option (List ℕ) → List ℕ → Bool → Option ℕ → Typing Kinds
-connecting d ks to object name detail program swapped with = do
+unfoldable pub connecting : Definition → Kinds → (to object : ℕ) → Connect → Typing Kinds
+connecting d ks to object c = do
   class ← operand d ks object
-  number ← signal_named d class name
+  number ← signal_named d class c.signal
   s ← signal_at d class number
-  p ← program_named d program
-  data_kind ← only_if (takes_detail d class number s detail) rules.detail (data_in d ks with)
-  only_if (takes d p (given_kinds swapped (kind_in ks object) s.params data_kind) s.result) rules.signature (tells to ks)
+  p ← program_named d c.program
+  data_kind ← only_if (takes_detail d class number s c.detail) rules.detail (data_in d ks c.with)
+  only_if (takes d p (given_kinds c.swapped (kind_in ks object) s.params data_kind) s.result) rules.signature (tells to ks)
 
 -- `disconnect`, `block`, `unblock o p`
 unfoldable pub on_handlers : Definition → Kinds → ℕ → List ℕ → Typing Kinds
@@ -389,7 +389,7 @@ typed d p ks (words.freeze object) = changing_none ks (operand d ks object)
 typed d p ks (words.thaw object) = changing_none ks (operand d ks object)
 typed d p ks (words.emit into object name detail args) = emitting d ks into object name detail args
 typed d p ks (words.notify object name) = changing_none ks (property_of d ks object name)
-typed d p ks (words.connect to object name detail program after swapped with) = connecting d ks to object name detail program swapped with
+typed d p ks (words.connect to object c) = connecting d ks to object c
 typed d p ks (words.disconnect object program) = on_handlers d ks object program
 typed d p ks (words.block object program) = on_handlers d ks object program
 typed d p ks (words.unblock object program) = on_handlers d ks object program

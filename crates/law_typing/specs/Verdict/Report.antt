@@ -1,6 +1,5 @@
 -- The report of a definition, as lines of bytes.
-use Rattle.std.specs.Prelude.{ℕ, List, [], ◌∷◌, ◌++◌, codes, map, Option, None, Some}
-use Rattle.ui_machine.specs.Output.Text.{numeral}
+use Rattle.std.specs.Prelude.{ℕ, List, [], ◌∷◌, ◌++◌, codes, decimal, map, Option, None, Some}
 use Rattle.ui_machine.specs.Definition.Properties.{Spec}
 use Rattle.ui_machine.specs.Definition.{Definition}
 use Rattle.ui_machine.specs.Definition.Signals.{Signal}
@@ -53,7 +52,7 @@ text_of_channel d (signal place number) = codes "signal " ++ (id_of d place ++ (
 
 -- a number after a word
 abbrev pub numbered : List ℕ → ℕ → List ℕ
-numbered word n = word ++ numeral n
+numbered word n = word ++ decimal n
 
 -- the line of a channel
 abbrev pub channel_line : Definition → Graph → Table → Tables → Channel → List ℕ

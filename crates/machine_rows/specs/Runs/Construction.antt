@@ -21,15 +21,21 @@ definition = record {
   classes =
       class_with [] (notify ∷ []) [] None None
       ∷ class_with [] (notify ∷ []) [] None None
-      ∷ class_with (property (codes "x") (kinds.whole kinds.int) 7 (values.whole kinds.int (pos 3)) (negsuc 2147483647) (pos 2147483647) false ∷ []) (notify ∷ []) [] None None
-      ∷ class_with (property (codes "x") (kinds.whole kinds.int) 7 (values.whole kinds.int (pos 3)) (negsuc 2147483647) (pos 2147483647) false ∷ property (codes "y") (kinds.whole kinds.int) 7 (values.whole kinds.int (pos 4)) (negsuc 2147483647) (pos 2147483647) false ∷ property (codes "z") (kinds.whole kinds.int) 3 (values.whole kinds.int (pos 0)) (negsuc 2147483647) (pos 2147483647) false ∷ []) (notify ∷ []) [] None None
+      ∷ class_with (property (codes "x") (kinds.whole kinds.int) 7 (values.whole kinds.int (pos 3)) (negsuc 2147483647)
+          (pos 2147483647) false ∷ []) (notify ∷ []) [] None None
+      ∷ class_with (property (codes "x") (kinds.whole kinds.int) 7 (values.whole kinds.int (pos 3)) (negsuc 2147483647)
+          (pos 2147483647) false
+          ∷ property (codes "y") (kinds.whole kinds.int) 7 (values.whole kinds.int (pos 4)) (negsuc 2147483647) (pos 2147483647) false
+          ∷ property (codes "z") (kinds.whole kinds.int) 3 (values.whole kinds.int (pos 0)) (negsuc 2147483647)
+          (pos 2147483647) false ∷ []) (notify ∷ []) [] None None
       ∷ [];
   shapes =
       [];
   programs =
       [];
   places =
-      object (codes "o") 3 None (gives 2 (value (values.whole kinds.int (pos 1))) ∷ gives 1 (value (values.whole kinds.int (pos 9))) ∷ []) [] []
+      object (codes "o") 3 None (gives 2 (value (values.whole kinds.int (pos 1)))
+          ∷ gives 1 (value (values.whole kinds.int (pos 9))) ∷ []) [] []
       ∷ [];
   bindings =
       [];

@@ -24,11 +24,14 @@ definition = record {
       ∷ class_with [] (notify ∷ signal (codes "s") [] None 2 None ∷ []) [] None (Some 0)
       ∷ [];
   shapes =
-      shape (codes "Tally") (method (codes "add") ((kinds.whole kinds.int64) ∷ []) (kinds.whole kinds.int64) ∷ method (codes "read") [] (kinds.whole kinds.int64) ∷ [])
+      shape (codes "Tally") (method (codes "add") ((kinds.whole kinds.int64) ∷ []) (kinds.whole kinds.int64)
+          ∷ method (codes "read") [] (kinds.whole kinds.int64) ∷ [])
       ∷ [];
   programs =
       program (codes "later") ((kinds.some 2) ∷ []) 3 None
-      (block ((kinds.some 2) ∷ kinds.unset ∷ kinds.unset ∷ []) 1 (words.const 1 (kinds.whole kinds.int64) (values.whole kinds.int64 (pos 2)) ∷ words.call 2 0 (codes "add") (1 ∷ []) ∷ words.return None ∷ [])
+      (block ((kinds.some 2) ∷ kinds.unset ∷ kinds.unset ∷ []) 1
+          (words.const 1 (kinds.whole kinds.int64) (values.whole kinds.int64 (pos 2)) ∷ words.call 2 0 (codes "add") (1 ∷ [])
+          ∷ words.return None ∷ [])
       ∷ [])
       ∷ [];
   places =
@@ -42,7 +45,8 @@ definition = record {
 
 abbrev pub peers : List Peer
 peers =
-    peer (codes "t") (method (codes "add") ((kinds.whole kinds.int64) ∷ []) (kinds.whole kinds.int64) ∷ method (codes "read") [] (kinds.whole kinds.int64) ∷ []) (values.whole kinds.int64 (pos 0) ∷ [])
+    peer (codes "t") (method (codes "add") ((kinds.whole kinds.int64) ∷ []) (kinds.whole kinds.int64)
+        ∷ method (codes "read") [] (kinds.whole kinds.int64) ∷ []) (values.whole kinds.int64 (pos 0) ∷ [])
     ∷ []
 
 abbrev pub events : List Event

@@ -22,7 +22,8 @@ definition = record {
   classes =
       class_with [] (notify ∷ []) [] None None
       ∷ class_with [] (notify ∷ []) [] None None
-      ∷ class_with (property (codes "on") kinds.bool 3 (values.bool false) (pos 0) (pos 0) false ∷ []) (notify ∷ signal (codes "go") ((kinds.object 2) ∷ []) None 2 None ∷ []) [] None None
+      ∷ class_with (property (codes "on") kinds.bool 3 (values.bool false) (pos 0) (pos 0) false ∷ []) (notify
+          ∷ signal (codes "go") ((kinds.object 2) ∷ []) None 2 None ∷ []) [] None None
       ∷ [];
   shapes =
       [];
@@ -30,7 +31,8 @@ definition = record {
       program (codes "f") ((kinds.some 2) ∷ (kinds.plain (kinds.object 2)) ∷ []) 3 None
       (block ((kinds.some 2) ∷ (kinds.plain (kinds.object 2)) ∷ kinds.unset ∷ []) 1 (words.branch_null 1 1 2 ∷ [])
       ∷ block (kinds.unset ∷ kinds.unset ∷ kinds.unset ∷ []) 1 (words.return None ∷ [])
-      ∷ block ((kinds.some 2) ∷ (kinds.some 2) ∷ kinds.unset ∷ []) 1 (words.const 2 kinds.bool (values.bool true) ∷ words.freeze 1 ∷ words.set 0 (codes "on") 2 ∷ words.thaw 1 ∷ words.return None ∷ [])
+      ∷ block ((kinds.some 2) ∷ (kinds.some 2) ∷ kinds.unset ∷ []) 1 (words.const 2 kinds.bool (values.bool true) ∷ words.freeze 1
+          ∷ words.set 0 (codes "on") 2 ∷ words.thaw 1 ∷ words.return None ∷ [])
       ∷ [])
       ∷ [];
   places =

@@ -29,7 +29,8 @@ definition = record {
       (block ((kinds.some 2) ∷ []) 1 (words.return None ∷ [])
       ∷ [])
       ∷ program (codes "f") ((kinds.some 2) ∷ []) 2 None
-      (block ((kinds.some 2) ∷ kinds.unset ∷ []) 1 (words.dispose 0 ∷ words.connect 1 0 (codes "go") None (codes "n") false false None ∷ words.return None ∷ [])
+      (block ((kinds.some 2) ∷ kinds.unset ∷ []) 1 (words.dispose 0
+          ∷ words.connect 1 0 (words.connects (codes "go") None (codes "n") false false None) ∷ words.return None ∷ [])
       ∷ [])
       ∷ [];
   places =

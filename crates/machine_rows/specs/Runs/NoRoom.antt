@@ -29,7 +29,8 @@ definition = record {
       (block ((kinds.some 2) ∷ []) 1 (words.emit None 0 (codes "s") None [] ∷ words.return None ∷ [])
       ∷ [])
       ∷ program (codes "f") ((kinds.some 2) ∷ []) 2 None
-      (block ((kinds.some 2) ∷ kinds.unset ∷ []) 1 (words.connect 1 0 (codes "s") None (codes "again") false false None ∷ words.return None ∷ [])
+      (block ((kinds.some 2) ∷ kinds.unset ∷ []) 1 (words.connect 1 0 (words.connects (codes "s") None (codes "again") false false None)
+          ∷ words.return None ∷ [])
       ∷ [])
       ∷ [];
   places =

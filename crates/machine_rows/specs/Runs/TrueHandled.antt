@@ -35,7 +35,8 @@ definition = record {
       ∷ [])
       ∷ [];
   places =
-      object (codes "b") 2 None [] [] (attached (codes "q") None 0 false false None ∷ attached (codes "q") None 1 false false None ∷ attached (codes "q") None 1 false false None ∷ [])
+      object (codes "b") 2 None [] [] (attached (codes "q") None 0 false false None ∷ attached (codes "q") None 1 false false None
+          ∷ attached (codes "q") None 1 false false None ∷ [])
       ∷ [];
   bindings =
       [];

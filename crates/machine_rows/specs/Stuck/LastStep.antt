@@ -9,4 +9,5 @@ use Rattle.ui_machine.specs.Definition.{Definition}
 -- one more counted step is not taken
 abbrev pub NoFurtherStep : Type 0
 NoFurtherStep =
-    (d : Definition) (w : World) (object slot : ℕ) (rest : List Task) → act d w None (Notifying object slot ∷ rest) most_steps ≡ Err arms.Steps
+    (d : Definition) (w : World) (object slot : ℕ) (rest : List Task)
+        → act d w None (Notifying object slot ∷ rest) most_steps ≡ Err arms.Steps

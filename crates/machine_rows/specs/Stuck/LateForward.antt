@@ -21,7 +21,8 @@ definition = record {
   classes =
       class_with [] (notify ∷ []) [] None None
       ∷ class_with [] (notify ∷ []) [] None None
-      ∷ class_with (property (codes "o") (kinds.object 2) 11 (values.object None) (pos 0) (pos 0) false ∷ []) (notify ∷ signal (codes "go") [] None 2 None ∷ []) [] None None
+      ∷ class_with (property (codes "o") (kinds.object 2) 11 (values.object None) (pos 0) (pos 0) false ∷ []) (notify
+          ∷ signal (codes "go") [] None 2 None ∷ []) [] None None
       ∷ [];
   shapes =
       [];

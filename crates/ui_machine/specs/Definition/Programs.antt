@@ -13,6 +13,20 @@ pub data Comparison : Type 0 where
   lt : Comparison
   le : Comparison
 
+-- what `connect` says beside the object and the register that it writes
+pub record Connect : Type 0 where
+  pub signal : List ℕ
+  pub detail : Option (List ℕ)
+  pub program : List ℕ
+  pub after : Bool
+  pub swapped : Bool
+  pub with : Option ℕ
+
+-- these, in the order of the format
+abbrev pub connects : (signal : List ℕ) (detail : Option (List ℕ)) (program : List ℕ) (after swapped : Bool) (with : Option ℕ) → Connect
+connects signal detail program after swapped with =
+    record { signal = signal; detail = detail; program = program; after = after; swapped = swapped; with = with }
+
 -- Registers are numbers; properties, signals, programs, methods and bindings go by name, ids by place.
 pub data Instruction : Type 0 where
   const : (to : ℕ) (kind : Kind) (value : Value) → Instruction
@@ -38,8 +52,7 @@ pub data Instruction : Type 0 where
   thaw : (object : ℕ) → Instruction
   emit : (into : Option ℕ) (object : ℕ) (signal : List ℕ) (detail : Option (List ℕ)) (args : List ℕ) → Instruction
   notify : (object : ℕ) (property : List ℕ) → Instruction
-  connect : (to object : ℕ) (signal : List ℕ) (detail : Option (List ℕ)) (program : List ℕ) (after swapped : Bool)
-      (with : Option ℕ) → Instruction
+  connect : (to object : ℕ) (c : Connect) → Instruction
   disconnect : (object : ℕ) (program : List ℕ) → Instruction
   block : (object : ℕ) (program : List ℕ) → Instruction
   unblock : (object : ℕ) (program : List ℕ) → Instruction

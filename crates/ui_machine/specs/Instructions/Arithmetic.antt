@@ -8,8 +8,8 @@ use Rattle.ui_machine.specs.Definition.Kinds as kinds
 use Rattle.ui_machine.specs.Definition.Programs.{Arithmetic, Comparison, add, eq, le, lt, mul, sub}
 use Rattle.ui_machine.specs.Definition.Values.{Value}
 use Rattle.ui_machine.specs.Definition.Values as values
-use Rattle.ui_machine.specs.Instructions.Registers.{gives, text_in, truth_in, value_in, whole_in}
-use Rattle.ui_machine.specs.Outcome.{Answer, only_if, ◌>>=◌}
+use Rattle.ui_machine.specs.Instructions.Registers.{WholeNumber, gives, text_in, truth_in, value_in, whole_in}
+use Rattle.ui_machine.specs.Outcome.{After, Answer, only_if, ◌>>=◌}
 use Rattle.ui_machine.specs.Output.Lines as lines
 use Rattle.ui_machine.specs.Rules.Accumulation.{or_zero}
 use Rattle.ui_machine.specs.Rules.Sets.{has_kind}
@@ -32,8 +32,8 @@ holds lt m n = int_lt m n
 holds le m n = int_le m n
 
 -- two numbers of one kind
-abbrev pub of_one_kind : {X : Type 0} → Whole × ℤ → Whole × ℤ → (Whole → ℤ → ℤ → Answer X) → Answer X
-of_one_kind m n f = only_if (same_whole m.0 n.0) arms.Register (f m.0 m.1 n.1)
+abbrev pub of_one_kind : {X : Type 0} → WholeNumber → WholeNumber → (Whole → ℤ → ℤ → Answer X) → Answer X
+of_one_kind m n f = only_if (same_whole m.kind n.kind) arms.Register (f m.kind m.number n.number)
 
 -- `add`, `sub`, `mul d a b`: wrapping
 unfoldable pub reckoning : World → Frame → Arithmetic → (to a b : ℕ) → Answer Started
@@ -97,13 +97,14 @@ bytes_of None = []
 bytes_of (Some s) = s
 
 -- a text that is not too long
-abbrev pub within_bytes : Definition → World → List ℕ → World × Value
+abbrev pub within_bytes : Definition → World → List ℕ → After World Value
 within_bytes d w s =
-    cond (nat_lt most_bytes (length s)) (said d w (lines.limit (codes "join")), values.text None) (w, values.text (Some s))
+    cond (nat_lt most_bytes (length s)) (record { state = said d w (lines.limit (codes "join")); answer = values.text None })
+    (record { state = w; answer = values.text (Some s) })
 
 -- a register is written after a line was perhaps said
-abbrev pub gives_from : World × Value → ℕ → Frame → Answer Started
-gives_from made to f = gives made.0 to made.1 f
+abbrev pub gives_from : After World Value → ℕ → Frame → Answer Started
+gives_from made to f = gives made.state to made.answer f
 
 -- `join d a b`: null is empty
 unfoldable pub joining : Definition → World → Frame → (to a b : ℕ) → Answer Started

@@ -96,11 +96,11 @@ unfoldable pub freezing : World → Frame → ℕ → Answer Started
 freezing w f object = do
   id ← operand_in w f object
   frozen ← changed w.objects id frozen_more
-  goes_on (with_objects w frozen.0) [] f
+  goes_on (with_objects w frozen.state) [] f
 
 -- `thaw o`
 unfoldable pub unfreezing : World → Frame → ℕ → Answer Started
 unfreezing w f object = do
   id ← operand_in w f object
   thaw ← changed w.objects id frozen_less
-  goes_on (with_objects w thaw.0) (Thawing id thaw.1 ∷ []) f
+  goes_on (with_objects w thaw.state) (Thawing id thaw.answer ∷ []) f

@@ -4,7 +4,7 @@ use Rattle.ui_machine.specs.declared.arm.Arm.TheVariants as arms
 use Rattle.ui_machine.specs.Definition.Kinds.{Whole}
 use Rattle.ui_machine.specs.Definition.Values.{Value}
 use Rattle.ui_machine.specs.Definition.Values as values
-use Rattle.ui_machine.specs.Outcome.{Answer, known, only_if, ◌>>=◌}
+use Rattle.ui_machine.specs.Outcome.{After, Answer, known, only_if, ◌>>=◌}
 use Rattle.ui_machine.specs.Seq.{read, write}
 use Rattle.ui_machine.specs.State.Config.{Started, World, starts}
 use Rattle.ui_machine.specs.State.Objects.{living}
@@ -34,9 +34,14 @@ abbrev pub text_of : Value → Answer (Option (List ℕ))
 text_of (values.text s) = Ok s
 text_of _ = Err arms.Register
 
--- the kind and number of a whole number
-abbrev pub whole_of : Value → Answer (Whole × ℤ)
-whole_of (values.whole kind n) = Ok (kind, n)
+-- a whole number and its kind
+pub record WholeNumber : Type 0 where
+  pub kind : Whole
+  pub number : ℤ
+
+-- the whole number of such a value
+abbrev pub whole_of : Value → Answer WholeNumber
+whole_of (values.whole kind n) = Ok (record { kind = kind; number = n })
 whole_of _ = Err arms.Register
 
 -- the identity that a value names; null names none
@@ -58,7 +63,7 @@ text_in f from = do
   text_of v
 
 -- the whole number in a register
-unfoldable pub whole_in : Frame → ℕ → Answer (Whole × ℤ)
+unfoldable pub whole_in : Frame → ℕ → Answer WholeNumber
 whole_in f from = do
   v ← value_in f from
   whole_of v
@@ -100,8 +105,8 @@ abbrev pub gives : World → ℕ → Value → Frame → Answer Started
 gives w to v f = written_to w to (Some v) f
 
 -- one of two worlds, with what was done as TRUE or FALSE
-abbrev pub tells : World × Bool → ℕ → Frame → Answer Started
-tells done to f = gives done.0 to (values.bool done.1) f
+abbrev pub tells : After World Bool → ℕ → Frame → Answer Started
+tells done to f = gives done.state to (values.bool done.answer) f
 
 -- ** registers
 

@@ -3,6 +3,7 @@ use Rattle.std.specs.Prelude.{Bool, List, Ok, Option, [], false, nat_lt, true, �
 use Rattle.ui_machine.specs.declared.arm.Arm.TheVariants as arms
 use Rattle.ui_machine.specs.Definition.{Definition}
 use Rattle.ui_machine.specs.Definition.Lookups.{program_of}
+use Rattle.ui_machine.specs.Definition.Programs.{Connect}
 use Rattle.ui_machine.specs.Instructions.Registers.{data_in, goes_on, operand_in, tells, values_in}
 use Rattle.ui_machine.specs.Outcome.{Answer, known, only_if, ◌>>=◌}
 use Rattle.ui_machine.specs.Rules.Build.{to_connect}
@@ -40,15 +41,6 @@ emitting d w f object e = do
   detail ← detail_in d w id signal e.detail
   given ← values_in f e.args
   goes_on w (Beginning (new_emission id signal detail given false) ∷ []) (record f { into = e.into })
-
--- what `connect` says beside the object and the register that it writes
-pub record Connect : Type 0 where
-  pub signal : List ℕ
-  pub detail : Option (List ℕ)
-  pub program : List ℕ
-  pub after : Bool
-  pub swapped : Bool
-  pub with : Option ℕ
 
 -- how bytecode connects a handler
 abbrev pub connection_by_code : (id signal : ℕ) → Option (List ℕ) → (program : ℕ) → Option ℕ → Connect → Connection

@@ -4,7 +4,7 @@ use Rattle.ui_machine.specs.declared.arm.Arm.TheVariants as arms
 use Rattle.ui_machine.specs.Definition.{Definition}
 use Rattle.ui_machine.specs.Definition.Lookups.{program_of}
 use Rattle.ui_machine.specs.Instructions.Registers.{data_in, goes_on, tells}
-use Rattle.ui_machine.specs.Outcome.{Answer, known, ◌>>=◌}
+use Rattle.ui_machine.specs.Outcome.{After, Answer, known, ◌>>=◌}
 use Rattle.ui_machine.specs.Output.Lines as lines
 use Rattle.ui_machine.specs.State.Config.{Started, World, said}
 use Rattle.ui_machine.specs.State.Sources as sources
@@ -26,9 +26,10 @@ with_source w a program arg = record w {
 }
 
 -- a source is attached, or past the limit its line said
-abbrev pub attached_to : Definition → World → Attach → (program : ℕ) → Option ℕ → World × Bool
+abbrev pub attached_to : Definition → World → Attach → (program : ℕ) → Option ℕ → After World Bool
 attached_to d w a program arg =
-    cond (sources.has_room w.sources w.last_source) (with_source w a program arg, true) (said d w (lines.limit a.word), false)
+    cond (sources.has_room w.sources w.last_source) (record { state = with_source w a program arg; answer = true })
+    (record { state = said d w (lines.limit a.word); answer = false })
 
 -- `idle d p n z`, `timeout d p n i z`
 unfoldable pub attaching : Definition → World → Frame → ℕ → Attach → Answer Started

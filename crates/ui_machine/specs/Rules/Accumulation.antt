@@ -140,11 +140,6 @@ resulting d w e = do
 
 -- ** results of programs
 
--- no one takes a result
-abbrev pub untaken : World → List Task → Option Value → Answer Left
-untaken w rest None = leaves w rest
-untaken w rest (Some v) = Err arms.Result
-
 -- to an emission
 unfoldable pub down_to_emission : Definition → World → Emission → List PlanEntry → List Task → Option Value → Answer Left
 down_to_emission d w e entries rest given = do
@@ -157,12 +152,13 @@ down_to_source w source rest given = do
   kept ← kept_source w source given
   leaves kept rest
 
--- a program's result, or none, goes to its emission or source
+-- where a program's result goes, by the task below it: an emission collects it, a source goes on or ends by it, and to all others a
+-- program gives none
 abbrev pub given_down : Definition → World → List Task → Option Value → Answer Left
-given_down d w [] given = untaken w [] given
 given_down d w (Emitting e entries ∷ rest) given = down_to_emission d w e entries rest given
 given_down d w (Answering source ∷ rest) given = down_to_source w source rest given
-given_down d w (task ∷ rest) given = untaken w (task ∷ rest) given
+given_down d w rest None = leaves w rest
+given_down d w rest (Some v) = Err arms.Result
 
 -- ** results of emissions and peers
 
@@ -172,7 +168,7 @@ received_by f rest to v = do
   new ← with_register to v f.registers
   Ok (Running (record f { into = None; registers = new }) ∷ rest)
 
--- the first task, a program, goes on so
+-- where a peer's answer goes, by the task below it: to the program that called
 abbrev pub received : List Task → ℕ → Option Value → Answer (List Task)
 received (Running f ∷ rest) to v = received_by f rest to v
 received _ to v = Err arms.Code
@@ -183,7 +179,7 @@ taken None f rest v = Ok (Running f ∷ rest)
 taken (Some to) f rest None = Err arms.Result
 taken (Some to) f rest (Some v) = received_by f rest to (Some v)
 
--- an emission's result goes to the program that waits for it
+-- where an emission's result goes, by the task below it: a program that waits for one takes it, and no one else asks
 abbrev pub passed_down : List Task → Option Value → Answer (List Task)
 passed_down (Running f ∷ rest) v = taken f.into f rest v
 passed_down rest v = Ok rest

@@ -95,7 +95,7 @@ building_child d w place items = do
   parent ← held_object w above
   child ← held_object w place
   family ← adopted d w parent child
-  starts family.0 (Building items ∷ [])
+  starts family.state (Building items ∷ [])
 
 -- the set of a forward reference
 unfoldable pub set_forward : World → (id slot to : ℕ) → List Item → Answer Started

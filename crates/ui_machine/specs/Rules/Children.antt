@@ -5,7 +5,7 @@ use Rattle.std.specs.Prelude.{codes}
 use Rattle.ui_machine.specs.Output.Lines as lines
 use Rattle.ui_machine.specs.State.Objects.{Object, Objects, living, put, object_at}
 use Rattle.ui_machine.specs.State.Config.{World, said, with_objects, sunk, without}
-use Rattle.ui_machine.specs.Outcome.{Answer, ◌>>=◌}
+use Rattle.ui_machine.specs.Outcome.{After, Answer, ◌>>=◌}
 
 -- the most children of an object
 abbrev pub most_children : ℕ
@@ -38,11 +38,12 @@ with_family d w parent child =
     (lines.adopt parent child)
 
 -- an object becomes another's child, or does not, by a limit's line
-unfoldable pub adopted : Definition → World → ℕ → ℕ → Answer (World × Bool)
+unfoldable pub adopted : Definition → World → ℕ → ℕ → Answer (After World Bool)
 adopted d w parent child = do
   p ← object_at w.objects parent
   c ← object_at w.objects child
-  Ok (cond (is_unadoptable parent p child c) (said d w (lines.limit (codes "adopt")), false) (with_family d w parent child, true))
+  Ok (cond (is_unadoptable parent p child c) (record { state = said d w (lines.limit (codes "adopt")); answer = false })
+      (record { state = with_family d w parent child; answer = true }))
 
 -- the world after an object was taken out of its parent, if it has one
 abbrev pub orphaned : Definition → World → ℕ → Option ℕ → World

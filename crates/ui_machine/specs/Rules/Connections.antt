@@ -11,7 +11,7 @@ use Rattle.ui_machine.specs.Output.Lines as lines
 use Rattle.ui_machine.specs.State.Objects.{Objects, living, object_at}
 use Rattle.ui_machine.specs.State.Handlers.{Handler}
 use Rattle.ui_machine.specs.State.Config.{World, said}
-use Rattle.ui_machine.specs.Outcome.{Answer, ◌>>=◌, only_if}
+use Rattle.ui_machine.specs.Outcome.{After, Answer, ◌>>=◌, only_if}
 use Rattle.ui_machine.specs.Rules.EmissionPlan.{signal_at}
 use Rattle.ui_machine.specs.Rules.Sets.{is_disposed}
 
@@ -97,10 +97,11 @@ has_room_for_handler d w to_come id signal =
     nat_lt (length (filter (by_code_to id signal) w.handlers)) d.most_handlers && nat_lt (w.last_handler + to_come) greatest_handler
 
 -- a connection by bytecode: on a disposed object none, past the limit none with its line
-abbrev pub connected : Definition → World → ℕ → Connection → World × Bool
+abbrev pub connected : Definition → World → ℕ → Connection → After World Bool
 connected d w to_come c =
-    cond (is_too_late w.objects c.object c.arg) (w, false)
-    (cond (has_room_for_handler d w to_come c.object c.signal) (with_handler w c, true) (said d w (lines.limit (codes "connect")), false))
+    cond (is_too_late w.objects c.object c.arg) (record { state = w; answer = false })
+    (cond (has_room_for_handler d w to_come c.object c.signal) (record { state = with_handler w c; answer = true })
+    (record { state = said d w (lines.limit (codes "connect")); answer = false }))
 
 -- ** all handlers of a program on an object
 

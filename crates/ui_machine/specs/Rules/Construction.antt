@@ -176,7 +176,7 @@ constructed w id true = do
 unfoldable pub thawing_made : World → ℕ → List Making → Bool → Answer Started
 thawing_made w id steps held = do
   thaw ← changed w.objects id frozen_less
-  starts (with_objects w thaw.0) (Thawing id thaw.1 ∷ Constructing id steps held ∷ [])
+  starts (with_objects w thaw.state) (Thawing id thaw.answer ∷ Constructing id steps held ∷ [])
 
 -- ** which peer a new object gets
 

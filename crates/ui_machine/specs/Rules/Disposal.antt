@@ -1,6 +1,7 @@
 -- Dispose and finalisation (GObject manual, g_object_run_dispose and finalize).
 use Rattle.std.specs.List.{filter}
-use Rattle.std.specs.Prelude.{Bool, List, None, Ok, Option, Some, [], cond, false, fold, map, nat_eq, not, option_map, slice_get, true, ℕ, ◌||◌, ◌∷◌}
+use Rattle.std.specs.Option.{option_map_or}
+use Rattle.std.specs.Prelude.{Bool, List, None, Ok, Option, Some, [], cond, false, fold, map, nat_eq, not, option_map, slice_get, slice_set, true, ℕ, ◌||◌, ◌∷◌}
 use Rattle.ui_machine.specs.declared.arm.Arm.TheVariants as arms
 use Rattle.ui_machine.specs.Definition.{Definition}
 use Rattle.ui_machine.specs.Definition.Lookups.{specs_of}
@@ -10,7 +11,7 @@ use Rattle.ui_machine.specs.Definition.Values as values
 use Rattle.ui_machine.specs.Outcome.{Answer, known, ◌>>=◌}
 use Rattle.ui_machine.specs.Output.Lines.{Line}
 use Rattle.ui_machine.specs.Output.Lines as lines
-use Rattle.ui_machine.specs.Seq.{read, write}
+use Rattle.ui_machine.specs.Seq.{write}
 use Rattle.ui_machine.specs.State.Bindings.{bindings_without_end}
 use Rattle.ui_machine.specs.State.Config.{World, said, with_objects}
 use Rattle.ui_machine.specs.State.Handlers.{Handler}
@@ -143,11 +144,11 @@ finalised d w id = do
 -- the peers with an object's closed if it is open
 abbrev pub peers_closed : List Peer → Option Object → List Peer
 peers_closed peers None = peers
-peers_closed peers (Some o) = closed_at peers o.peer
+peers_closed peers (Some o) = closed_at o.peer
   where
-    closed_at : List Peer → Option ℕ → List Peer
-    closed_at peers None = peers
-    closed_at peers (Some k) = write no_peer peers k (closed_peer (read no_peer peers k))
+    closed_at : Option ℕ → List Peer
+    closed_at None = peers
+    closed_at (Some k) = option_map_or (λ p. slice_set peers k (closed_peer p)) (slice_get peers k) peers
 
 -- the world as a session is finished: each object's open peer is closed, the lowest identity first, and nothing is said
 abbrev pub finish : World → World

@@ -2,7 +2,7 @@
 use Rattle.std.specs.List.{list_any}
 use Rattle.std.specs.Prelude.{Bool, List, Ok, [], cond, false, nat_eq, nat_lt, reverse, suc, true, zero, ℕ, ◌++◌, ◌-◌, ◌∷◌}
 use Rattle.ui_machine.specs.declared.arm.Arm.TheVariants as arms
-use Rattle.ui_machine.specs.Outcome.{Answer, only_if}
+use Rattle.ui_machine.specs.Outcome.{After, Answer, only_if}
 use Rattle.ui_machine.specs.State.Config.{Started, World, starts}
 use Rattle.ui_machine.specs.State.Objects.{Object}
 use Rattle.ui_machine.specs.State.Tasks.{Notifying, Thawing}
@@ -22,21 +22,24 @@ abbrev pub most_freezes : ℕ
 most_freezes = 18446744073709551615
 
 -- with one more freeze
-abbrev pub frozen_more : Object → Answer (Object × Unit {0})
-frozen_more o = only_if (nat_lt o.freezes most_freezes) arms.Freeze (Ok (record o { freezes = suc o.freezes }, tt))
+abbrev pub frozen_more : Object → Answer (After Object (Unit {0}))
+frozen_more o =
+    only_if (nat_lt o.freezes most_freezes) arms.Freeze (Ok (record { state = record o { freezes = suc o.freezes }; answer = tt }))
 
 -- with one freeze taken off of n + 1, and the notifications that are then made
-abbrev pub less_frozen : ℕ → Object → Object × List ℕ
-less_frozen zero o = (record o { freezes = 0; queue = [] }, thawed o.queue)
-less_frozen (suc n) o = (record o { freezes = suc n }, [])
+abbrev pub less_frozen : ℕ → Object → After Object (List ℕ)
+less_frozen zero o = record { state = record o { freezes = 0; queue = [] }; answer = thawed o.queue }
+less_frozen (suc n) o = record { state = record o { freezes = suc n }; answer = [] }
 
 -- the thaw that reaches zero takes the queue (g_object_thaw_notify)
-abbrev pub frozen_less : Object → Answer (Object × List ℕ)
+abbrev pub frozen_less : Object → Answer (After Object (List ℕ))
 frozen_less o = only_if (nat_lt 0 o.freezes) arms.Freeze (Ok (less_frozen (o.freezes - 1) o))
 
 -- the object after a notification was raised, and whether it is made at once
-abbrev pub raised : ℕ → Object → Answer (Object × Bool)
-raised slot o = Ok (cond (nat_eq o.freezes 0) (o, true) (record o { queue = queued o.queue slot }, false))
+abbrev pub raised : ℕ → Object → Answer (After Object Bool)
+raised slot o =
+    Ok (cond (nat_eq o.freezes 0) (record { state = o; answer = true })
+    (record { state = record o { queue = queued o.queue slot }; answer = false }))
 
 -- ** what is left of a thaw
 

@@ -49,7 +49,12 @@ lives os (values.object (Some i)) = is_some (living os i)
 unfoldable pub raising : World → ℕ → ℕ → Answer Started
 raising w id slot = do
   raise ← changed w.objects id (raised slot)
-  starts (with_objects w raise.0) (cond raise.1 (Notifying id slot ∷ []) [])
+  starts (with_objects w raise.state) (cond raise.answer (Notifying id slot ∷ []) [])
+
+-- the same, if the test holds
+abbrev pub raising_if : Bool → World → ℕ → ℕ → Answer Started
+raising_if false w id slot = starts w []
+raising_if true w id slot = raising w id slot
 
 -- whether a write of a property is notified
 abbrev pub notifies : Spec → Value → Value → Bool
@@ -83,9 +88,8 @@ kept os s v = cond s.weak (unless_disposed os v) v
 -- a value is written and told of, and the notification raised
 unfoldable pub written : Definition → World → ℕ → ℕ → Spec → Value → Answer Started
 written d w id slot s v = do
-  new ← changed w.objects id (with_value slot v)
-  cond (notifies s new.1 v) (raising (said d (with_objects w new.0) (lines.set id s.name v)) id slot)
-      (starts (said d (with_objects w new.0) (lines.set id s.name v)) [])
+  write ← changed w.objects id (with_value slot v)
+  raising_if (notifies s write.answer v) (said d (with_objects w write.state) (lines.set id s.name v)) id slot
 
 -- a set whose value validation would change is refused, unless the property is lax
 abbrev pub settled : Definition → World → ℕ → ℕ → Spec → Value → Value → Answer Started

@@ -1,6 +1,7 @@
 -- Kinds of values: what fits them, their zero values, and how a value of one becomes a value of another
 -- (GObject manual, GValue: value transformation).
 use Rattle.std.specs.Prelude.{ℕ, ◌^◌, ℤ, pos, negsuc, int_lt, unsigned_abs, bit_and, bit_or, Bool, true, false, cond, not, ◌&&◌, nat_eq, nat_lt, List, [], ◌∷◌, codes, Option, None, Some}
+use Rattle.std.specs.Fmt.{signed_decimal}
 use Rattle.std.specs.List.{list_any}
 use Rattle.std.specs.Ordering.{int_eq}
 use Rattle.std.specs.Int.{cast_signed, int_rem_euclid, w32, w64}
@@ -10,7 +11,7 @@ use Rattle.ui_machine.specs.Definition.Values.{Value}
 use Rattle.ui_machine.specs.Definition.Values as values
 use Rattle.ui_machine.specs.Definition.Types.{GType, Member}
 use Rattle.ui_machine.specs.Definition.Names.{same_name}
-use Rattle.ui_machine.specs.Output.Text.{members_of, signed_numeral}
+use Rattle.ui_machine.specs.Output.Text.{members_of}
 use Rattle.ui_machine.specs.Rules.Ancestry.{is_a}
 
 -- ** whole numbers
@@ -145,7 +146,7 @@ converted types (kinds.whole k) (values.bool b) = Some (values.whole k (number_o
 converted types kinds.text (values.bool b) = Some (values.text (Some (text_of_bool b)))
 converted types kinds.bool (values.whole l n) = Some (values.bool (not (int_eq n (pos 0))))
 converted types (kinds.whole k) (values.whole l n) = Some (values.whole k (wrapped k n))
-converted types kinds.text (values.whole l n) = Some (values.text (Some (signed_numeral n)))
+converted types kinds.text (values.whole l n) = Some (values.text (Some (signed_decimal n)))
 converted types (kinds.enum t) (values.whole l n) = if_so (has_number (members_of types t) n) (values.enum t n)
 converted types (kinds.flags t) (values.whole l n) = if_so (is_known (members_of types t) n) (values.flags t (unsigned_abs n))
 converted types kinds.text (values.text s) = Some (values.text s)

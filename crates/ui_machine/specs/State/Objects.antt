@@ -2,7 +2,7 @@
 use Rattle.std.specs.Prelude.{Bool, List, None, Ok, Option, Some, option_map, slice_get, slice_set, suc, zero, ℕ}
 use Rattle.ui_machine.specs.declared.arm.Arm.TheVariants as arms
 use Rattle.ui_machine.specs.Definition.Values.{Value}
-use Rattle.ui_machine.specs.Outcome.{Answer, known, ◌>>=◌}
+use Rattle.ui_machine.specs.Outcome.{After, Answer, known, ◌>>=◌}
 use Rattle.ui_machine.specs.Seq.{read, total, write}
 
 -- ** what there is of an object
@@ -59,11 +59,11 @@ asked os id question = do
   question o
 
 -- the objects with one changed, by a change that may be refused and answers something
-unfoldable pub changed : {X : Type 0} → Objects → ℕ → (Object → Answer (Object × X)) → Answer (Objects × X)
+unfoldable pub changed : {X : Type 0} → Objects → ℕ → (Object → Answer (After Object X)) → Answer (After Objects X)
 changed os id change = do
   o ← object_at os id
   new ← change o
-  Ok (put os id (Some new.0), new.1)
+  Ok (record { state = put os id (Some new.state); answer = new.answer })
 
 -- ** values
 
@@ -72,10 +72,10 @@ abbrev pub value_at : ℕ → Object → Answer Value
 value_at slot o = known arms.Code (slice_get o.values slot)
 
 -- with the value written, and the old one
-unfoldable pub with_value : ℕ → Value → Object → Answer (Object × Value)
+unfoldable pub with_value : ℕ → Value → Object → Answer (After Object Value)
 with_value slot v o = do
   old ← value_at slot o
-  Ok (record o { values = slice_set o.values slot v }, old)
+  Ok (record { state = record o { values = slice_set o.values slot v }; answer = old })
 
 -- ** identities
 
