@@ -45,7 +45,7 @@ changed_waiting : {X : Type 0} (gives : X → ℕ) (most : ℕ) (os : Objects) (
 unfolding changed
 changed_waiting {X} gives most os id change adds = by (living os id) refl
   where
-    P : Objects × X → Type 0
+    P : After Objects X → Type 0
     P = λ r. waiting r.state + gives r.answer ≤ waiting os + most
 
     by : (o : Option Object) → living os id ≡ o → IfOk (known arms.Operand o >>= λ x. change x >>= λ new. Ok (record { state = put os id (Some new.state); answer = new.answer })) P
@@ -75,7 +75,7 @@ unfolding told_weight
 raised_adds slot o = by (nat_eq o.freezes 0)
   where
     raise : Bool → Answer (After Object Bool)
-    raise b = Ok (cond b (o, true) (record o { queue = queued o.queue slot }, false))
+    raise b = Ok (cond b (record { state = o; answer = true }) (record { state = record o { queue = queued o.queue slot }; answer = false }))
 
     by : (b : Bool) → IfOk (raise b) (λ r. waiting_in (Some r.state) + told_weight r.answer ≤ waiting_in (Some o) + 2)
     by true = omega arith

@@ -82,7 +82,7 @@ pub changed_lives : {X : Type 0} (os : Objects) (id : ℕ) (change : Object → 
 unfolding changed
 changed_lives {X} os id change = by (living os id) refl
   where
-    P : Objects × X → Type 0
+    P : After Objects X → Type 0
     P = λ r. (q : ℕ) → is_some (living r.state q) ≡ true → is_some (living os q) ≡ true
 
     by : (o : Option Object) → living os id ≡ o → IfOk (known arms.Operand o >>= λ x. change x >>= λ new. Ok (record { state = put os id (Some new.state); answer = new.answer })) P

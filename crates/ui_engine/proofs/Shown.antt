@@ -55,14 +55,14 @@ module _ (at new : Lookup) (made id : ℕ) (old : Objects) (was y : Object) (ran
   unfolding changed
   changes {X} {Y} view change r h = by r h
     where
-      put_in : Answer (After Object Y) → Answer (Objects × Y)
+      put_in : Answer (After Object Y) → Answer (After Objects Y)
       put_in a = a >>= λ w. Ok (record { state = put old id (Some w.state); answer = w.answer })
 
       to_one : changed old id change ≡ put_in (change was)
       to_one = ap (λ (o : Option Object). known arms.Operand o >>= λ o. put_in (change o)) (found_in at made id old range is ∙ here)
 
       by : (r : Result X Arm) → Gives view r (change was) y → Gives view r (changed old id change) (objects_of new made)
-      by (Ok x) e = to_one ∙ ap put_in e ∙ ap (λ (os : Objects). Ok (os, view x)) (ap (λ (os : Objects). put os id (Some y)) (sym is) ∙ sym (put_back at new made id (Some y) (range id (ap is_some here)) replaces))
+      by (Ok x) e = to_one ∙ ap put_in e ∙ ap (λ (os : Objects). Ok (record { state = os; answer = view x })) (ap (λ (os : Objects). put os id (Some y)) (sym is) ∙ sym (put_back at new made id (Some y) (range id (ap is_some here)) replaces))
       by (Err arm) e = to_one ∙ ap put_in e
 
   stuck : {X Y : Type 0} (view : X → Y) (change : Object → Answer (After Object Y)) (arm : Arm) → change was ≡ Err arm → changed old id change ≡ Err arm

@@ -26,5 +26,5 @@ unfolding with_value
 write_over o vs i v old is lt was =
     let here : slice_get o.values i ≡ Some (value_view old) = ap (λ (xs : List values.Value). slice_get xs i) is ∙ got value_view vs i old lt ∙ ap (λ (x : Value). Some (value_view x)) (sym was) in
     let new : slice_set o.values i (value_view v) ≡ map value_view (slice_set vs i v) = ap (λ (xs : List values.Value). slice_set xs i (value_view v)) is ∙ sym (set-map value_view vs i v) in
-    ap (λ x. known arms.Code x >>= λ w. Ok (record o { values = slice_set o.values i (value_view v) }, w)) here
-    ∙ ap (λ (xs : List values.Value). Ok (record o { values = xs }, value_view old)) new
+    ap (λ x. known arms.Code x >>= λ w. Ok (record { state = record o { values = slice_set o.values i (value_view v) }; answer = w })) here
+    ∙ ap (λ (xs : List values.Value). Ok (record { state = record o { values = xs }; answer = value_view old })) new
