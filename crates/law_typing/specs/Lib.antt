@@ -2,6 +2,5 @@ pub mod Rules
 pub mod Graph
 pub mod Verdict
 pub mod Laws
-pub mod Words
 pub mod Examples
 pub mod Good

@@ -21,6 +21,10 @@ pub record Scripted : Type 0 where
   pub answer : Option Value
   pub values : List Value
 
+-- this answer, and the state that it goes to
+abbrev pub scripted : Option Value → List Value → Scripted
+scripted answer state = record { answer = answer; values = state }
+
 -- something, and the script that is left
 pub record Played (A : Type 0) : Type 0 where
   pub at : A

@@ -5,6 +5,7 @@ pub mod Limits
 pub mod Outcome
 pub mod State
 pub mod Output
+pub mod Words
 pub mod Rules
 pub mod Instructions
 pub mod Steps

@@ -6,7 +6,7 @@ use Rattle.ui_machine.specs.Definition.Types.{plain_class}
 use Rattle.ui_machine.specs.Definition.{Definition}
 use Rattle.ui_machine.specs.Definition.Programs as words
 use Rattle.law_typing.specs.Verdict.{verdict, accepted}
-use Rattle.law_typing.specs.Words.{class_type, property, notify, class_of, block, program, attached, object}
+use Rattle.ui_machine.specs.Words.{class_type, property, notify, class_with, block, program, attached, object}
 
 abbrev pub definition : Definition
 definition = record {
@@ -16,9 +16,9 @@ definition = record {
       ∷ class_type (codes "Box") 0 false false []
       ∷ [];
   classes =
-      class_of [] (notify ∷ []) [] None None
-      ∷ class_of [] (notify ∷ []) [] None None
-      ∷ class_of (property (codes "p0") (kinds.whole kinds.int) 3 (values.whole kinds.int (pos 0)) (negsuc 2147483647)
+      class_with [] (notify ∷ []) [] None None
+      ∷ class_with [] (notify ∷ []) [] None None
+      ∷ class_with (property (codes "p0") (kinds.whole kinds.int) 3 (values.whole kinds.int (pos 0)) (negsuc 2147483647)
           (pos 2147483647) false
           ∷ property (codes "p1") (kinds.whole kinds.int) 3 (values.whole kinds.int (pos 0)) (negsuc 2147483647) (pos 2147483647) false
           ∷ property (codes "p2") (kinds.whole kinds.int) 3 (values.whole kinds.int (pos 0)) (negsuc 2147483647) (pos 2147483647) false

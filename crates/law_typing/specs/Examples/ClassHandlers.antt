@@ -6,7 +6,7 @@ use Rattle.ui_machine.specs.Definition.Types.{plain_class}
 use Rattle.ui_machine.specs.Definition.{Definition}
 use Rattle.ui_machine.specs.Definition.Programs as words
 use Rattle.law_typing.specs.Verdict.{verdict, accepted}
-use Rattle.law_typing.specs.Words.{class_type, property, signal, notify, class_handler, class_of, block, program, object}
+use Rattle.ui_machine.specs.Words.{class_type, property, signal, notify, class_handler, class_with, block, program, object, connects}
 
 abbrev pub definition : Definition
 definition = record {
@@ -16,9 +16,9 @@ definition = record {
       ∷ class_type (codes "Knob") 0 false false []
       ∷ [];
   classes =
-      class_of [] (notify ∷ []) [] None None
-      ∷ class_of [] (notify ∷ []) [] None None
-      ∷ class_of (property (codes "value") (kinds.whole kinds.int) 3 (values.whole kinds.int (pos 0)) (negsuc 2147483647)
+      class_with [] (notify ∷ []) [] None None
+      ∷ class_with [] (notify ∷ []) [] None None
+      ∷ class_with (property (codes "value") (kinds.whole kinds.int) 3 (values.whole kinds.int (pos 0)) (negsuc 2147483647)
           (pos 2147483647) false ∷ []) (notify ∷ signal (codes "turned") [] None 5 None ∷ []) (class_handler (codes "turned") 0 ∷ [])
           (Some 1) None
       ∷ [];
@@ -31,7 +31,7 @@ definition = record {
       ∷ [])
       ∷ program (codes "begin") ((kinds.some 2) ∷ []) 2 None
       (block ((kinds.some 2) ∷ kinds.unset ∷ []) 1
-          (words.connect 1 0 (words.connects (codes "turned") None (codes "rest") false false None) ∷ words.return None ∷ [])
+          (words.connect 1 0 (connects (codes "turned") None (codes "rest") false false None) ∷ words.return None ∷ [])
       ∷ [])
       ∷ program (codes "rest") ((kinds.some 2) ∷ []) 1 None
       (block ((kinds.some 2) ∷ []) 1 (words.return None ∷ [])

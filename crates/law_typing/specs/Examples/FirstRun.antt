@@ -5,7 +5,7 @@ use Rattle.ui_machine.specs.Definition.Values as values
 use Rattle.ui_machine.specs.Definition.Types.{plain_class}
 use Rattle.ui_machine.specs.Definition.{Definition}
 use Rattle.law_typing.specs.Verdict.{verdict, accepted}
-use Rattle.law_typing.specs.Words.{class_type, property, notify, class_of, object}
+use Rattle.ui_machine.specs.Words.{class_type, property, notify, class_with, object}
 
 abbrev pub definition : Definition
 definition = record {
@@ -15,9 +15,9 @@ definition = record {
       ∷ class_type (codes "Box") 0 false false []
       ∷ [];
   classes =
-      class_of [] (notify ∷ []) [] None None
-      ∷ class_of [] (notify ∷ []) [] None None
-      ∷ class_of (property (codes "n") (kinds.whole kinds.int) 3 (values.whole kinds.int (pos 0)) (negsuc 2147483647)
+      class_with [] (notify ∷ []) [] None None
+      ∷ class_with [] (notify ∷ []) [] None None
+      ∷ class_with (property (codes "n") (kinds.whole kinds.int) 3 (values.whole kinds.int (pos 0)) (negsuc 2147483647)
           (pos 2147483647) false ∷ []) (notify ∷ []) [] None None
       ∷ [];
   shapes =

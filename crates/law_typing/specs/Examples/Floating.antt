@@ -5,7 +5,7 @@ use Rattle.ui_machine.specs.Definition.Types.{plain_class}
 use Rattle.ui_machine.specs.Definition.{Definition}
 use Rattle.ui_machine.specs.Definition.Programs as words
 use Rattle.law_typing.specs.Verdict.{verdict, accepted}
-use Rattle.law_typing.specs.Words.{class_type, signal, notify, class_of, block, program, attached, object, prototype}
+use Rattle.ui_machine.specs.Words.{class_type, signal, notify, class_with, block, program, attached, object, prototype}
 
 abbrev pub definition : Definition
 definition = record {
@@ -16,10 +16,10 @@ definition = record {
       ∷ class_type (codes "Item") 1 false false []
       ∷ [];
   classes =
-      class_of [] (notify ∷ []) [] None None
-      ∷ class_of [] (notify ∷ []) [] None None
-      ∷ class_of [] (notify ∷ signal (codes "go") [] None 2 None ∷ signal (codes "keep") [] None 2 None ∷ []) [] None None
-      ∷ class_of [] (notify ∷ []) [] None None
+      class_with [] (notify ∷ []) [] None None
+      ∷ class_with [] (notify ∷ []) [] None None
+      ∷ class_with [] (notify ∷ signal (codes "go") [] None 2 None ∷ signal (codes "keep") [] None 2 None ∷ []) [] None None
+      ∷ class_with [] (notify ∷ []) [] None None
       ∷ [];
   shapes =
       [];

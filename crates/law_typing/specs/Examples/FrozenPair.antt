@@ -7,7 +7,7 @@ use Rattle.ui_machine.specs.Definition.{Definition}
 use Rattle.ui_machine.specs.Definition.Programs as words
 use Rattle.law_typing.specs.Rules.Faults as faults
 use Rattle.law_typing.specs.Verdict.{verdict, refused}
-use Rattle.law_typing.specs.Words.{class_type, property, notify, class_of, block, program, object, bind}
+use Rattle.ui_machine.specs.Words.{class_type, property, notify, class_with, block, program, object, bind}
 
 abbrev pub definition : Definition
 definition = record {
@@ -17,9 +17,9 @@ definition = record {
       ∷ class_type (codes "Switch") 0 false false []
       ∷ [];
   classes =
-      class_of [] (notify ∷ []) [] None None
-      ∷ class_of [] (notify ∷ []) [] None None
-      ∷ class_of (property (codes "on") kinds.bool 3 (values.bool false) (pos 0) (pos 0) false ∷ []) (notify ∷ []) [] None None
+      class_with [] (notify ∷ []) [] None None
+      ∷ class_with [] (notify ∷ []) [] None None
+      ∷ class_with (property (codes "on") kinds.bool 3 (values.bool false) (pos 0) (pos 0) false ∷ []) (notify ∷ []) [] None None
       ∷ [];
   shapes =
       [];

@@ -9,7 +9,7 @@ use Rattle.law_typing.specs.Graph.Channels as channels
 use Rattle.law_typing.specs.Verdict.{verdict, has_cycle}
 use Rattle.law_typing.specs.Graph.{graph}
 use Rattle.law_typing.specs.Graph.Ranks.{is_cycle}
-use Rattle.law_typing.specs.Words.{class_type, property, notify, class_of, block, program, attached, object}
+use Rattle.ui_machine.specs.Words.{class_type, property, notify, class_with, block, program, attached, object}
 
 abbrev pub definition : Definition
 definition = record {
@@ -19,9 +19,9 @@ definition = record {
       ∷ class_type (codes "Label") 0 false false []
       ∷ [];
   classes =
-      class_of [] (notify ∷ []) [] None None
-      ∷ class_of [] (notify ∷ []) [] None None
-      ∷ class_of (property (codes "text") kinds.text 3 (values.text None) (pos 0) (pos 0) false ∷ []) (notify ∷ []) [] None None
+      class_with [] (notify ∷ []) [] None None
+      ∷ class_with [] (notify ∷ []) [] None None
+      ∷ class_with (property (codes "text") kinds.text 3 (values.text None) (pos 0) (pos 0) false ∷ []) (notify ∷ []) [] None None
       ∷ [];
   shapes =
       [];

@@ -6,7 +6,7 @@ use Rattle.ui_machine.specs.Definition.Types.{plain_class}
 use Rattle.ui_machine.specs.Definition.{Definition}
 use Rattle.ui_machine.specs.Definition.Programs as words
 use Rattle.law_typing.specs.Verdict.{verdict, accepted}
-use Rattle.law_typing.specs.Words.{class_type, property, signal, notify, class_of, method, shape, block, program, attached, object, prototype}
+use Rattle.ui_machine.specs.Words.{class_type, property, signal, notify, class_with, method, shape, block, program, attached, object, prototype, connects}
 
 abbrev pub definition : Definition
 definition = record {
@@ -17,10 +17,10 @@ definition = record {
       ∷ class_type (codes "Hold") 0 false false []
       ∷ [];
   classes =
-      class_of [] (notify ∷ []) [] None None
-      ∷ class_of [] (notify ∷ []) [] None None
-      ∷ class_of [] (notify ∷ signal (codes "s") [] None 2 None ∷ []) [] None (Some 0)
-      ∷ class_of (property (codes "cur") (kinds.object 2) 3 (values.object None) (pos 0) (pos 0) false
+      class_with [] (notify ∷ []) [] None None
+      ∷ class_with [] (notify ∷ []) [] None None
+      ∷ class_with [] (notify ∷ signal (codes "s") [] None 2 None ∷ []) [] None (Some 0)
+      ∷ class_with (property (codes "cur") (kinds.object 2) 3 (values.object None) (pos 0) (pos 0) false
           ∷ property (codes "w") (kinds.object 2) 3 (values.object None) (pos 0) (pos 0) true ∷ []) (notify
           ∷ signal (codes "go") [] None 2 None ∷ signal (codes "fire") [] None 2 None ∷ []) [] None None
       ∷ [];
@@ -33,8 +33,8 @@ definition = record {
       (block ((kinds.at 0) ∷ kinds.unset ∷ kinds.unset ∷ []) 1 (words.new 1 (codes "it") ∷ words.branch_null 1 1 2 ∷ [])
       ∷ block (kinds.unset ∷ kinds.unset ∷ kinds.unset ∷ []) 1 (words.return None ∷ [])
       ∷ block ((kinds.at 0) ∷ (kinds.at 1) ∷ kinds.unset ∷ []) 1
-          (words.connect 2 1 (words.connects (codes "s") None (codes "drop") false true (Some 0))
-          ∷ words.connect 2 1 (words.connects (codes "s") None (codes "later") false false None) ∷ words.set 0 (codes "cur") 1
+          (words.connect 2 1 (connects (codes "s") None (codes "drop") false true (Some 0))
+          ∷ words.connect 2 1 (connects (codes "s") None (codes "later") false false None) ∷ words.set 0 (codes "cur") 1
           ∷ words.set 0 (codes "w") 1 ∷ words.return None ∷ [])
       ∷ [])
       ∷ program (codes "drop") ((kinds.at 0) ∷ (kinds.at 1) ∷ []) 3 None

@@ -6,7 +6,7 @@ use Rattle.ui_machine.specs.Definition.Types.{plain_class}
 use Rattle.ui_machine.specs.Definition.{Definition}
 use Rattle.ui_machine.specs.Definition.Programs as words
 use Rattle.law_typing.specs.Verdict.{verdict, accepted}
-use Rattle.law_typing.specs.Words.{class_type, signal, notify, class_of, block, program, attached, object}
+use Rattle.ui_machine.specs.Words.{class_type, signal, notify, class_with, block, program, attached, object}
 
 abbrev pub definition : Definition
 definition = record {
@@ -16,9 +16,9 @@ definition = record {
       ∷ class_type (codes "Box") 0 false false []
       ∷ [];
   classes =
-      class_of [] (notify ∷ []) [] None None
-      ∷ class_of [] (notify ∷ []) [] None None
-      ∷ class_of [] (notify ∷ signal (codes "go") [] None 2 None ∷ []) [] None None
+      class_with [] (notify ∷ []) [] None None
+      ∷ class_with [] (notify ∷ []) [] None None
+      ∷ class_with [] (notify ∷ signal (codes "go") [] None 2 None ∷ []) [] None None
       ∷ [];
   shapes =
       [];

@@ -3,7 +3,7 @@ use Rattle.std.specs.Prelude.{◌≡◌, ℕ, false, List, [], ◌∷◌, codes,
 use Rattle.ui_machine.specs.Definition.Types.{plain_class}
 use Rattle.ui_machine.specs.Definition.{Definition}
 use Rattle.law_typing.specs.Verdict.{verdict, accepted}
-use Rattle.law_typing.specs.Words.{class_type, notify, class_of}
+use Rattle.ui_machine.specs.Words.{class_type, notify, class_with}
 
 abbrev pub definition : Definition
 definition = record {
@@ -12,8 +12,8 @@ definition = record {
       ∷ class_type (codes "GInitiallyUnowned") 0 false false []
       ∷ [];
   classes =
-      class_of [] (notify ∷ []) [] None None
-      ∷ class_of [] (notify ∷ []) [] None None
+      class_with [] (notify ∷ []) [] None None
+      ∷ class_with [] (notify ∷ []) [] None None
       ∷ [];
   shapes =
       [];

@@ -5,7 +5,7 @@ use Rattle.ui_machine.specs.Definition.Values as values
 use Rattle.ui_machine.specs.Definition.Types.{plain_class}
 use Rattle.ui_machine.specs.Definition.{Definition}
 use Rattle.law_typing.specs.Verdict.{verdict, accepted}
-use Rattle.law_typing.specs.Words.{class_type, property, notify, class_of, object, bind}
+use Rattle.ui_machine.specs.Words.{class_type, property, notify, class_with, object, bind}
 
 abbrev pub definition : Definition
 definition = record {
@@ -15,9 +15,9 @@ definition = record {
       ∷ class_type (codes "Switch") 0 false false []
       ∷ [];
   classes =
-      class_of [] (notify ∷ []) [] None None
-      ∷ class_of [] (notify ∷ []) [] None None
-      ∷ class_of (property (codes "on") kinds.bool 3 (values.bool false) (pos 0) (pos 0) false ∷ []) (notify ∷ []) [] None None
+      class_with [] (notify ∷ []) [] None None
+      ∷ class_with [] (notify ∷ []) [] None None
+      ∷ class_with (property (codes "on") kinds.bool 3 (values.bool false) (pos 0) (pos 0) false ∷ []) (notify ∷ []) [] None None
       ∷ [];
   shapes =
       [];

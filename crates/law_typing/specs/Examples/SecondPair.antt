@@ -6,7 +6,7 @@ use Rattle.ui_machine.specs.Definition.Types.{plain_class}
 use Rattle.ui_machine.specs.Definition.{Definition}
 use Rattle.law_typing.specs.Rules.Faults as faults
 use Rattle.law_typing.specs.Verdict.{verdict, refused}
-use Rattle.law_typing.specs.Words.{class_type, property, notify, class_of, object, bind}
+use Rattle.ui_machine.specs.Words.{class_type, property, notify, class_with, object, bind}
 
 abbrev pub definition : Definition
 definition = record {
@@ -16,9 +16,9 @@ definition = record {
       ∷ class_type (codes "Knob") 0 false false []
       ∷ [];
   classes =
-      class_of [] (notify ∷ []) [] None None
-      ∷ class_of [] (notify ∷ []) [] None None
-      ∷ class_of (property (codes "value") (kinds.whole kinds.int) 3 (values.whole kinds.int (pos 0)) (negsuc 2147483647)
+      class_with [] (notify ∷ []) [] None None
+      ∷ class_with [] (notify ∷ []) [] None None
+      ∷ class_with (property (codes "value") (kinds.whole kinds.int) 3 (values.whole kinds.int (pos 0)) (negsuc 2147483647)
           (pos 2147483647) false ∷ property (codes "on") kinds.bool 3 (values.bool false) (pos 0) (pos 0) false ∷ [])
           (notify ∷ []) [] None None
       ∷ [];

@@ -9,7 +9,7 @@ use Rattle.ui_machine.specs.Definition.Programs as words
 use Rattle.law_typing.specs.Rules.Answers as rules
 use Rattle.law_typing.specs.Rules.Faults as faults
 use Rattle.law_typing.specs.Verdict.{verdict, refused}
-use Rattle.law_typing.specs.Words.{class_type, property, notify, class_of, block, program, gives, object}
+use Rattle.ui_machine.specs.Words.{class_type, property, notify, class_with, block, program, gives, object}
 
 abbrev pub definition : Definition
 definition = record {
@@ -19,9 +19,9 @@ definition = record {
       ∷ class_type (codes "Box") 0 false false []
       ∷ [];
   classes =
-      class_of [] (notify ∷ []) [] None None
-      ∷ class_of [] (notify ∷ []) [] None None
-      ∷ class_of (property (codes "n") (kinds.whole kinds.int) 11 (values.whole kinds.int (pos 0)) (negsuc 2147483647)
+      class_with [] (notify ∷ []) [] None None
+      ∷ class_with [] (notify ∷ []) [] None None
+      ∷ class_with (property (codes "n") (kinds.whole kinds.int) 11 (values.whole kinds.int (pos 0)) (negsuc 2147483647)
           (pos 2147483647) false ∷ []) (notify ∷ []) [] None None
       ∷ [];
   shapes =

@@ -14,16 +14,16 @@ use Rattle.ui_machine.specs.State.Tasks.{Running}
 use Rattle.ui_machine.specs.Runs.{first_world}
 use Rattle.law_typing.specs.Graph.Tables.{Tables}
 use Rattle.law_typing.specs.Good.{Good}
-use Rattle.law_typing.specs.Words.{class_type, property, notify, class_of, block, program, object}
+use Rattle.ui_machine.specs.Words.{class_type, property, notify, class_with, block, program, object}
 
 -- two classes that have nothing to do with each other, and a program that is for things of the first
 abbrev pub definition : Definition
 definition = record {
   types = plain_class (codes "GObject") None [] ∷ class_type (codes "One") 0 false false [] ∷ class_type (codes "Two") 0 false false [] ∷ [];
   classes =
-      class_of [] (notify ∷ []) [] None None
-      ∷ class_of (property (codes "on") kinds.bool 3 (values.bool false) (pos 0) (pos 0) false ∷ []) (notify ∷ []) [] None None
-      ∷ class_of (property (codes "on") kinds.bool 3 (values.bool false) (pos 0) (pos 0) false ∷ []) (notify ∷ []) [] None None
+      class_with [] (notify ∷ []) [] None None
+      ∷ class_with (property (codes "on") kinds.bool 3 (values.bool false) (pos 0) (pos 0) false ∷ []) (notify ∷ []) [] None None
+      ∷ class_with (property (codes "on") kinds.bool 3 (values.bool false) (pos 0) (pos 0) false ∷ []) (notify ∷ []) [] None None
       ∷ [];
   shapes = [];
   programs =

@@ -15,7 +15,7 @@ use Rattle.law_typing.specs.Rules.Faults.{BindingWord}
 use Rattle.law_typing.specs.Rules.Faults as faults
 use Rattle.law_typing.specs.Rules.BindingRules.{word_of}
 use Rattle.law_typing.specs.Rules.Brackets.{is_balanced}
-use Rattle.law_typing.specs.Words.{class_type, property, signal, notify, class_of, block, program, object, bind}
+use Rattle.ui_machine.specs.Words.{class_type, property, signal, notify, class_with, block, program, object, bind}
 
 abbrev pub definition : Definition
 definition = record {
@@ -25,9 +25,9 @@ definition = record {
       ∷ class_type (codes "Knob") 0 false false []
       ∷ [];
   classes =
-      class_of [] (notify ∷ []) [] None None
-      ∷ class_of [] (notify ∷ []) [] None None
-      ∷ class_of (property (codes "value") (kinds.whole kinds.int) 3 (values.whole kinds.int (pos 0)) (negsuc 2147483647) (pos 2147483647) false ∷ property (codes "secret") (kinds.whole kinds.int) 2 (values.whole kinds.int (pos 0)) (negsuc 2147483647) (pos 2147483647) false ∷ property (codes "level") (kinds.whole kinds.int) 1 (values.whole kinds.int (pos 0)) (negsuc 2147483647) (pos 2147483647) false ∷ property (codes "serial") (kinds.whole kinds.int) 11 (values.whole kinds.int (pos 0)) (negsuc 2147483647) (pos 2147483647) false ∷ property (codes "next") (kinds.object 2) 3 (values.object None) (pos 0) (pos 0) false ∷ []) (notify ∷ signal (codes "turned") [] None 2 None ∷ []) [] None None
+      class_with [] (notify ∷ []) [] None None
+      ∷ class_with [] (notify ∷ []) [] None None
+      ∷ class_with (property (codes "value") (kinds.whole kinds.int) 3 (values.whole kinds.int (pos 0)) (negsuc 2147483647) (pos 2147483647) false ∷ property (codes "secret") (kinds.whole kinds.int) 2 (values.whole kinds.int (pos 0)) (negsuc 2147483647) (pos 2147483647) false ∷ property (codes "level") (kinds.whole kinds.int) 1 (values.whole kinds.int (pos 0)) (negsuc 2147483647) (pos 2147483647) false ∷ property (codes "serial") (kinds.whole kinds.int) 11 (values.whole kinds.int (pos 0)) (negsuc 2147483647) (pos 2147483647) false ∷ property (codes "next") (kinds.object 2) 3 (values.object None) (pos 0) (pos 0) false ∷ []) (notify ∷ signal (codes "turned") [] None 2 None ∷ []) [] None None
       ∷ [];
   shapes =
       [];

@@ -8,7 +8,7 @@ use Rattle.ui_machine.specs.State.Tasks.{Event}
 use Rattle.ui_machine.specs.State.Peers.{Peer}
 use Rattle.ui_machine.specs.State.Tasks as config
 use Rattle.machine_rows.specs.Play.{Scripted, shown}
-use Rattle.machine_rows.specs.Words.{class_type, notify, class_with, block, program, object}
+use Rattle.ui_machine.specs.Words.{class_type, notify, class_with, block, program, object}
 
 abbrev pub definition : Definition
 definition = record {

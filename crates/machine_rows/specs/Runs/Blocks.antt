@@ -10,7 +10,7 @@ use Rattle.ui_machine.specs.State.Tasks.{Event}
 use Rattle.ui_machine.specs.State.Peers.{Peer}
 use Rattle.ui_machine.specs.State.Tasks as config
 use Rattle.machine_rows.specs.Play.{Scripted, shown}
-use Rattle.machine_rows.specs.Words.{class_type, signal, notify, class_handler, class_with, block, program, attached, object}
+use Rattle.ui_machine.specs.Words.{class_type, signal, notify, class_handler, class_with, block, program, attached, object, connects}
 
 abbrev pub definition : Definition
 definition = record {
@@ -35,8 +35,8 @@ definition = record {
           ∷ words.unblock 0 (codes "h") ∷ words.unblock 0 (codes "h") ∷ words.emit None 0 (codes "s") (Some (codes "e")) (1 ∷ [])
           ∷ words.emit None 0 (codes "s") None (1 ∷ []) ∷ words.disconnect 0 (codes "h")
           ∷ words.emit None 0 (codes "s") (Some (codes "d")) (1 ∷ [])
-          ∷ words.connect 3 0 (words.connects (codes "notify") None (codes "n") true false None)
-          ∷ words.connect 3 0 (words.connects (codes "s") (Some (codes "d")) (codes "m") true true (Some 0))
+          ∷ words.connect 3 0 (connects (codes "notify") None (codes "n") true false None)
+          ∷ words.connect 3 0 (connects (codes "s") (Some (codes "d")) (codes "m") true true (Some 0))
           ∷ words.emit None 0 (codes "s") (Some (codes "d")) (1 ∷ []) ∷ words.return None ∷ [])
       ∷ [])
       ∷ program (codes "h") ((kinds.some 2) ∷ (kinds.plain (kinds.whole kinds.int)) ∷ []) 2 None

@@ -8,7 +8,7 @@ use Rattle.ui_machine.specs.State.Tasks.{Event}
 use Rattle.ui_machine.specs.State.Peers.{Peer}
 use Rattle.ui_machine.specs.State.Tasks as config
 use Rattle.machine_rows.specs.Play.{Scripted, shown}
-use Rattle.machine_rows.specs.Words.{class_type, signal, notify, class_with, block, program, attached, object}
+use Rattle.ui_machine.specs.Words.{class_type, signal, notify, class_with, block, program, attached, object, connects}
 
 abbrev pub definition : Definition
 definition = record {
@@ -27,7 +27,7 @@ definition = record {
   programs =
       program (codes "h1") ((kinds.some 2) ∷ []) 2 None
       (block ((kinds.some 2) ∷ kinds.unset ∷ []) 1 (words.disconnect 0 (codes "h2") ∷ words.block 0 (codes "h3")
-          ∷ words.connect 1 0 (words.connects (codes "s") None (codes "n") false false None) ∷ words.return None ∷ [])
+          ∷ words.connect 1 0 (connects (codes "s") None (codes "n") false false None) ∷ words.return None ∷ [])
       ∷ [])
       ∷ program (codes "h2") ((kinds.some 2) ∷ []) 1 None
       (block ((kinds.some 2) ∷ []) 1 (words.return None ∷ [])

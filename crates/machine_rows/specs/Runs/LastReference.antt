@@ -8,8 +8,8 @@ use Rattle.ui_machine.specs.Definition.Programs as words
 use Rattle.ui_machine.specs.State.Tasks.{Event}
 use Rattle.ui_machine.specs.State.Peers.{Peer}
 use Rattle.ui_machine.specs.State.Tasks as config
-use Rattle.machine_rows.specs.Play.{Scripted, shown}
-use Rattle.machine_rows.specs.Words.{class_type, property, signal, notify, class_with, method, shape, block, program, attached, object, prototype, peer, scripted}
+use Rattle.machine_rows.specs.Play.{Scripted, shown, scripted}
+use Rattle.ui_machine.specs.Words.{class_type, property, signal, notify, class_with, method, shape, block, program, attached, object, prototype, peer, connects}
 
 abbrev pub definition : Definition
 definition = record {
@@ -36,8 +36,8 @@ definition = record {
       (block ((kinds.at 0) ∷ kinds.unset ∷ kinds.unset ∷ []) 1 (words.new 1 (codes "it") ∷ words.branch_null 1 1 2 ∷ [])
       ∷ block (kinds.unset ∷ kinds.unset ∷ kinds.unset ∷ []) 1 (words.return None ∷ [])
       ∷ block ((kinds.at 0) ∷ (kinds.at 1) ∷ kinds.unset ∷ []) 1
-          (words.connect 2 1 (words.connects (codes "s") None (codes "drop") false true (Some 0))
-          ∷ words.connect 2 1 (words.connects (codes "s") None (codes "later") false false None) ∷ words.set 0 (codes "cur") 1
+          (words.connect 2 1 (connects (codes "s") None (codes "drop") false true (Some 0))
+          ∷ words.connect 2 1 (connects (codes "s") None (codes "later") false false None) ∷ words.set 0 (codes "cur") 1
           ∷ words.set 0 (codes "w") 1 ∷ words.return None ∷ [])
       ∷ [])
       ∷ program (codes "drop") ((kinds.at 0) ∷ (kinds.at 1) ∷ []) 3 None

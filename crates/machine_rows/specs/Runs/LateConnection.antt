@@ -8,7 +8,7 @@ use Rattle.ui_machine.specs.State.Tasks.{Event}
 use Rattle.ui_machine.specs.State.Peers.{Peer}
 use Rattle.ui_machine.specs.State.Tasks as config
 use Rattle.machine_rows.specs.Play.{Scripted, shown}
-use Rattle.machine_rows.specs.Words.{class_type, signal, notify, class_with, block, program, attached, object}
+use Rattle.ui_machine.specs.Words.{class_type, signal, notify, class_with, block, program, attached, object, connects}
 
 abbrev pub definition : Definition
 definition = record {
@@ -30,7 +30,7 @@ definition = record {
       ∷ [])
       ∷ program (codes "f") ((kinds.some 2) ∷ []) 2 None
       (block ((kinds.some 2) ∷ kinds.unset ∷ []) 1 (words.dispose 0
-          ∷ words.connect 1 0 (words.connects (codes "go") None (codes "n") false false None) ∷ words.return None ∷ [])
+          ∷ words.connect 1 0 (connects (codes "go") None (codes "n") false false None) ∷ words.return None ∷ [])
       ∷ [])
       ∷ [];
   places =

@@ -10,7 +10,7 @@ use Rattle.ui_machine.specs.State.Tasks.{Event}
 use Rattle.ui_machine.specs.State.Peers.{Peer}
 use Rattle.ui_machine.specs.State.Tasks as config
 use Rattle.machine_rows.specs.Play.{Scripted, shown}
-use Rattle.machine_rows.specs.Words.{class_type, property, signal, notify, class_with, block, program, attached, object}
+use Rattle.ui_machine.specs.Words.{class_type, property, signal, notify, class_with, block, program, attached, object, connects}
 
 abbrev pub definition : Definition
 definition = record {
@@ -35,10 +35,10 @@ definition = record {
       ∷ [])
       ∷ program (codes "f") ((kinds.some 2) ∷ []) 2 None
       (block ((kinds.some 2) ∷ kinds.unset ∷ []) 1
-          (words.connect 1 0 (words.connects (codes "notify") (Some (codes "x")) (codes "n") false false None)
-          ∷ words.connect 1 0 (words.connects (codes "notify") (Some (codes "y")) (codes "n") false false None)
+          (words.connect 1 0 (connects (codes "notify") (Some (codes "x")) (codes "n") false false None)
+          ∷ words.connect 1 0 (connects (codes "notify") (Some (codes "y")) (codes "n") false false None)
           ∷ words.disconnect 0 (codes "n")
-          ∷ words.connect 1 0 (words.connects (codes "notify") (Some (codes "y")) (codes "n") false false None) ∷ words.return None ∷ [])
+          ∷ words.connect 1 0 (connects (codes "notify") (Some (codes "y")) (codes "n") false false None) ∷ words.return None ∷ [])
       ∷ [])
       ∷ [];
   places =

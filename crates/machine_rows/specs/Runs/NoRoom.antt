@@ -8,7 +8,7 @@ use Rattle.ui_machine.specs.State.Tasks.{Event}
 use Rattle.ui_machine.specs.State.Peers.{Peer}
 use Rattle.ui_machine.specs.State.Tasks as config
 use Rattle.machine_rows.specs.Play.{Scripted, shown}
-use Rattle.machine_rows.specs.Words.{class_type, signal, notify, class_with, block, program, attached, object}
+use Rattle.ui_machine.specs.Words.{class_type, signal, notify, class_with, block, program, attached, object, connects}
 
 abbrev pub definition : Definition
 definition = record {
@@ -29,7 +29,7 @@ definition = record {
       (block ((kinds.some 2) ∷ []) 1 (words.emit None 0 (codes "s") None [] ∷ words.return None ∷ [])
       ∷ [])
       ∷ program (codes "f") ((kinds.some 2) ∷ []) 2 None
-      (block ((kinds.some 2) ∷ kinds.unset ∷ []) 1 (words.connect 1 0 (words.connects (codes "s") None (codes "again") false false None)
+      (block ((kinds.some 2) ∷ kinds.unset ∷ []) 1 (words.connect 1 0 (connects (codes "s") None (codes "again") false false None)
           ∷ words.return None ∷ [])
       ∷ [])
       ∷ [];

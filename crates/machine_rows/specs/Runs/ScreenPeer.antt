@@ -8,8 +8,8 @@ use Rattle.ui_machine.specs.Definition.Programs as words
 use Rattle.ui_machine.specs.State.Tasks.{Event}
 use Rattle.ui_machine.specs.State.Peers.{Peer}
 use Rattle.ui_machine.specs.State.Tasks as config
-use Rattle.machine_rows.specs.Play.{Scripted, shown}
-use Rattle.machine_rows.specs.Words.{class_type, signal, notify, class_with, method, shape, block, program, attached, object, peer, scripted}
+use Rattle.machine_rows.specs.Play.{Scripted, shown, scripted}
+use Rattle.ui_machine.specs.Words.{class_type, signal, notify, class_with, method, shape, block, program, attached, object, peer}
 
 abbrev pub definition : Definition
 definition = record {

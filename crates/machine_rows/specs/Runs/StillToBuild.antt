@@ -7,7 +7,7 @@ use Rattle.ui_machine.specs.Definition.Programs as words
 use Rattle.ui_machine.specs.State.Tasks.{Event}
 use Rattle.ui_machine.specs.State.Peers.{Peer}
 use Rattle.machine_rows.specs.Play.{Scripted, shown}
-use Rattle.machine_rows.specs.Words.{class_type, notify, class_with, block, program, object, prototype}
+use Rattle.ui_machine.specs.Words.{class_type, notify, class_with, block, program, object, prototype}
 
 abbrev pub definition : Definition
 definition = record {

@@ -6,7 +6,7 @@ use Rattle.ui_machine.specs.Definition.{Definition}
 use Rattle.ui_machine.specs.State.Tasks.{Event}
 use Rattle.ui_machine.specs.State.Peers.{Peer}
 use Rattle.machine_rows.specs.Play.{Scripted, shown}
-use Rattle.machine_rows.specs.Words.{class_type, signal, notify, class_with, object, peer}
+use Rattle.ui_machine.specs.Words.{class_type, signal, notify, class_with, object, peer}
 
 abbrev pub definition : Definition
 definition = record {

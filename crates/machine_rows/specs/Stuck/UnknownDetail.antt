@@ -11,7 +11,7 @@ use Rattle.ui_machine.specs.State.Tasks.{Event}
 use Rattle.ui_machine.specs.State.Peers.{Peer}
 use Rattle.ui_machine.specs.State.Tasks as config
 use Rattle.machine_rows.specs.Play.{Scripted, shown}
-use Rattle.machine_rows.specs.Words.{class_type, property, signal, notify, class_with, block, program, attached, object}
+use Rattle.ui_machine.specs.Words.{class_type, property, signal, notify, class_with, block, program, attached, object, connects}
 
 abbrev pub definition : Definition
 definition = record {
@@ -31,7 +31,7 @@ definition = record {
   programs =
       program (codes "f") ((kinds.some 2) ∷ []) 2 None
       (block ((kinds.some 2) ∷ kinds.unset ∷ []) 1
-          (words.connect 1 0 (words.connects (codes "notify") (Some (codes "x")) (codes "f") false false None) ∷ words.return None ∷ [])
+          (words.connect 1 0 (connects (codes "notify") (Some (codes "x")) (codes "f") false false None) ∷ words.return None ∷ [])
       ∷ [])
       ∷ [];
   places =

@@ -9,7 +9,7 @@ use Rattle.ui_machine.specs.Definition.Places.{named}
 use Rattle.ui_machine.specs.State.Tasks.{Event}
 use Rattle.ui_machine.specs.State.Peers.{Peer}
 use Rattle.machine_rows.specs.Play.{Scripted, shown}
-use Rattle.machine_rows.specs.Words.{class_type, property, signal, notify, class_with, gives, object}
+use Rattle.ui_machine.specs.Words.{class_type, property, signal, notify, class_with, gives, object}
 
 abbrev pub definition : Definition
 definition = record {

@@ -22,11 +22,6 @@ pub record Connect : Type 0 where
   pub swapped : Bool
   pub with : Option ℕ
 
--- these, in the order of the format
-abbrev pub connects : (signal : List ℕ) (detail : Option (List ℕ)) (program : List ℕ) (after swapped : Bool) (with : Option ℕ) → Connect
-connects signal detail program after swapped with =
-    record { signal = signal; detail = detail; program = program; after = after; swapped = swapped; with = with }
-
 -- Registers are numbers; properties, signals, programs, methods and bindings go by name, ids by place.
 pub data Instruction : Type 0 where
   const : (to : ℕ) (kind : Kind) (value : Value) → Instruction

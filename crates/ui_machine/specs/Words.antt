@@ -7,10 +7,9 @@ use Rattle.ui_machine.specs.Definition.Types as types
 use Rattle.ui_machine.specs.Definition.Properties.{Spec}
 use Rattle.ui_machine.specs.Definition.Signals.{Accumulator, Signal, Method, Shape, ClassHandler}
 use Rattle.ui_machine.specs.Definition.{Class}
-use Rattle.ui_machine.specs.Definition.Programs.{Instruction, Block, Program}
+use Rattle.ui_machine.specs.Definition.Programs.{Instruction, Block, Connect, Program}
 use Rattle.ui_machine.specs.Definition.Places.{Given, GivenProperty, Attached, Place, Bind}
 use Rattle.ui_machine.specs.State.Peers.{Peer}
-use Rattle.machine_rows.specs.Play.{Scripted}
 
 -- ** types
 
@@ -91,12 +90,14 @@ abbrev pub bind : Option (List ℕ) → (source source_slot target target_slot f
 bind name source source_slot target target_slot flags =
     record { name = name; source = source; source_slot = source_slot; target = target; target_slot = target_slot; flags = flags }
 
--- ** peers
+-- ** instructions and peers
+
+-- what `connect` says, in the order of the format
+abbrev pub connects : (signal : List ℕ) (detail : Option (List ℕ)) (program : List ℕ) (after swapped : Bool) (with : Option ℕ) → Connect
+connects signal detail program after swapped with =
+    record { signal = signal; detail = detail; program = program; after = after; swapped = swapped; with = with }
 
 -- a peer that was not called yet
 abbrev pub peer : List ℕ → List Method → List Value → Peer
 peer name methods state =
     record { name = name; state = record { shape = methods; is_open = true; calls = 0; faults = 0; values = state }; holder = None }
-
-abbrev pub scripted : Option Value → List Value → Scripted
-scripted answer state = record { answer = answer; values = state }
