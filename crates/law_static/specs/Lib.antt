@@ -1,2 +1,5 @@
 pub mod Rising
 pub mod PlanCost
+pub mod Sites
+pub mod Subclass
+pub mod Fits

@@ -3,6 +3,9 @@
 
 ghost use Rattle.law_static.specs.Rising.{RisingAreFound, RisingCosts};
 ghost use Rattle.law_static.specs.PlanCost.{PlanCosts};
+ghost use Rattle.law_static.specs.Sites.{BlocksKeep, SitesKeep};
+ghost use Rattle.law_static.specs.Subclass.{NamesFind, SpecsInherit, SignalsInherit, EmittedInherit};
+ghost use Rattle.law_static.specs.Fits.{HoldsFits, HoldsLive, HoldsKind, HoldsSet, OperandsStand, ClassesAgree, GivenHold, GivenFit};
 ghost use Rattle.law_typing.specs.Laws.StepsKeepGood.{SourcesBegin};
 
 /// What stands under rising numbers is found by its number, and bindings that do cost together no more than those of the definition.
@@ -19,4 +22,32 @@ pub fn plan()
 /// A due source begins well from any world at rest, within its bound and the depth.
 pub fn beginnings()
     ensures sources { SourcesBegin }
+{}
+
+/// Each block of an accepted definition keeps its rules and its brackets, and each of its instructions is typed at its place, is among the
+/// sites of the graph, and freezes no object with a paired property.
+pub fn sites()
+    ensures blocks { BlocksKeep }
+    ensures instructions { SitesKeep }
+{}
+
+/// A class has under each name the property and the signal of each type that it is.
+pub fn subclasses()
+    ensures finds { NamesFind }
+    ensures specs { SpecsInherit }
+    ensures signals { SignalsInherit }
+    ensures emitted { EmittedInherit }
+{}
+
+/// What a register holds is what its kind says, and what fits it is held as well. An object operand lives, and what a program is given fits
+/// its parameters.
+pub fn registers()
+    ensures fits { HoldsFits }
+    ensures live { HoldsLive }
+    ensures kind { HoldsKind }
+    ensures set { HoldsSet }
+    ensures operands { OperandsStand }
+    ensures classes { ClassesAgree }
+    ensures given { GivenHold }
+    ensures parameters { GivenFit }
 {}
