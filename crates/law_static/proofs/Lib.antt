@@ -5,3 +5,5 @@ pub mod SiteProofs
 pub mod Same
 pub mod SubclassProofs
 pub mod FitsProofs
+pub mod CodeProofs
+pub mod BeginProofs

@@ -102,7 +102,7 @@ module _ (d : Definition) (p : Program) where
       subst (λ i. typed d p ks i ≡ Ok (after d p ks j)) s (first_typed n ks j code e).0
   typed_at n (suc at) ks (j ∷ code) i e is = typed_at (suc n) at (after d p ks j) code i (first_typed n ks j code e).1 is
 
-  started_at : (at : ℕ) (ks : Kinds) (code : List Instruction) (i : Instruction) → slice_get code at ≡ Some i →
+  pub started_at : (at : ℕ) (ks : Kinds) (code : List Instruction) (i : Instruction) → slice_get code at ≡ Some i →
       IsIn (start_of d (kinds_before d p ks at code) i) (starts_of d p ks code)
   started_at at ks [] i is = absurd (cc)
   started_at zero ks (j ∷ code) i is = let s : i ≡ j = cc in inl (ap (start_of d ks) s)

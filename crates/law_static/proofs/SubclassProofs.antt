@@ -27,7 +27,7 @@ all_in test [] x e h = absurd h
 all_in test (y ∷ ys) x e (inl s) = ap test s ∙ (both_parts (test y) (list_all test ys) e).0
 all_in test (y ∷ ys) x e (inr h) = all_in test ys x (both_parts (test y) (list_all test ys) e).1 h
 
-get_in : {A : Type 0} (xs : List A) (i : ℕ) (x : A) → slice_get xs i ≡ Some x → IsIn x xs
+pub get_in : {A : Type 0} (xs : List A) (i : ℕ) (x : A) → slice_get xs i ≡ Some x → IsIn x xs
 get_in [] i x e = absurd (cc)
 get_in (y ∷ ys) zero x e = inl (let s : x ≡ y = cc in s)
 get_in (y ∷ ys) (suc i) x e = inr (get_in ys i x e)

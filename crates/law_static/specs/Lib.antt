@@ -3,3 +3,4 @@ pub mod PlanCost
 pub mod Sites
 pub mod Subclass
 pub mod Fits
+pub mod Code

@@ -6,6 +6,7 @@ ghost use Rattle.law_static.specs.PlanCost.{PlanCosts};
 ghost use Rattle.law_static.specs.Sites.{BlocksKeep, SitesKeep};
 ghost use Rattle.law_static.specs.Subclass.{NamesFind, SpecsInherit, SignalsInherit, EmittedInherit};
 ghost use Rattle.law_static.specs.Fits.{HoldsFits, HoldsLive, HoldsKind, HoldsSet, OperandsStand, ClassesAgree, GivenHold, GivenFit};
+ghost use Rattle.law_static.specs.Code.{InstructionsTaken, ProgramsGoOn, ProgramsBegin, FirstRegistersFit};
 ghost use Rattle.law_typing.specs.Laws.StepsKeepGood.{SourcesBegin};
 
 /// What stands under rising numbers is found by its number, and bindings that do cost together no more than those of the definition.
@@ -50,4 +51,13 @@ pub fn registers()
     ensures classes { ClassesAgree }
     ensures given { GivenHold }
     ensures parameters { GivenFit }
+{}
+
+/// What is known of the instruction that a program has come to, and of what it costs. Past one that does not end its block the rest is good
+/// with what is left of the steps; and a program begins well within its cost and depth.
+pub fn code()
+    ensures taken { InstructionsTaken }
+    ensures goes_on { ProgramsGoOn }
+    ensures begins { ProgramsBegin }
+    ensures registers { FirstRegistersFit }
 {}
