@@ -7,3 +7,4 @@ pub mod SubclassProofs
 pub mod FitsProofs
 pub mod CodeProofs
 pub mod BeginProofs
+pub mod RaisesProofs

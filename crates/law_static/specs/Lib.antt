@@ -4,3 +4,4 @@ pub mod Sites
 pub mod Subclass
 pub mod Fits
 pub mod Code
+pub mod Raises

@@ -7,6 +7,7 @@ ghost use Rattle.law_static.specs.Sites.{BlocksKeep, SitesKeep};
 ghost use Rattle.law_static.specs.Subclass.{NamesFind, SpecsInherit, SignalsInherit, EmittedInherit};
 ghost use Rattle.law_static.specs.Fits.{HoldsFits, HoldsLive, HoldsKind, HoldsSet, OperandsStand, ClassesAgree, GivenHold, GivenFit};
 ghost use Rattle.law_static.specs.Code.{InstructionsTaken, ProgramsGoOn, ProgramsBegin, FirstRegistersFit};
+ghost use Rattle.law_static.specs.Raises.{ChannelsKnown, ConnectionsKnown, SourcesKnown};
 ghost use Rattle.law_typing.specs.Laws.StepsKeepGood.{SourcesBegin};
 
 /// What stands under rising numbers is found by its number, and bindings that do cost together no more than those of the definition.
@@ -60,4 +61,12 @@ pub fn code()
     ensures goes_on { ProgramsGoOn }
     ensures begins { ProgramsBegin }
     ensures registers { FirstRegistersFit }
+{}
+
+/// A channel that is there is in the graph, with what runs there, and costs what that does; what an instruction connects is connectable
+/// there, and what it attaches is a source.
+pub fn raises()
+    ensures channels { ChannelsKnown }
+    ensures connections { ConnectionsKnown }
+    ensures sources { SourcesKnown }
 {}
