@@ -1,1 +1,3 @@
 pub mod WriteProofs
+pub mod ServedProofs
+pub mod AgendaProofs

@@ -1,10 +1,17 @@
 //! Laws of what is kept of a world where something of it changes.
 #![tactic(auto)]
 
+ghost use Rattle.law_kept.specs.Agenda.{AgendaServed};
 ghost use Rattle.law_kept.specs.Write.{WriteKeeps};
 
 /// Where one object is written over by another of the same place, class, family, count and peer, the rest of the world stays good, and the
 /// agenda reads the same of it.
 pub fn write()
     ensures keeps { WriteKeeps }
+{}
+
+/// The agenda stays good, within the same steps and frames, in a world where what it needs stands where it stood, the builder holds the same,
+/// the handlers and bindings are some of those that were there, and peers keep their shapes.
+pub fn agenda()
+    ensures served { AgendaServed }
 {}
