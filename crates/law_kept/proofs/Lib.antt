@@ -1,3 +1,5 @@
 pub mod WriteProofs
 pub mod ServedProofs
 pub mod AgendaProofs
+pub mod Left
+pub mod HandlersProofs

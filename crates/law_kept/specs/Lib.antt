@@ -1,2 +1,3 @@
 pub mod Write
 pub mod Agenda
+pub mod Handlers

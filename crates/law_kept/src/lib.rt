@@ -2,6 +2,7 @@
 #![tactic(auto)]
 
 ghost use Rattle.law_kept.specs.Agenda.{AgendaServed};
+ghost use Rattle.law_kept.specs.Handlers.{HandlersLeft, HandlersChanged, LeftAreFound};
 ghost use Rattle.law_kept.specs.Write.{WriteKeeps};
 
 /// Where one object is written over by another of the same place, class, family, count and peer, the rest of the world stays good, and the
@@ -14,4 +15,12 @@ pub fn write()
 /// the handlers and bindings are some of those that were there, and peers keep their shapes.
 pub fn agenda()
     ensures served { AgendaServed }
+{}
+
+/// Handlers that are left after others are disconnected stay good, and so do those that are blocked or unblocked; a number finds among them
+/// what it found.
+pub fn handlers()
+    ensures left { HandlersLeft }
+    ensures found { LeftAreFound }
+    ensures changed { HandlersChanged }
 {}
