@@ -3,3 +3,5 @@ pub mod ServedProofs
 pub mod AgendaProofs
 pub mod Left
 pub mod HandlersProofs
+pub mod BindingsProofs
+pub mod SourcesProofs

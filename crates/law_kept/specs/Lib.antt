@@ -1,3 +1,5 @@
 pub mod Write
 pub mod Agenda
 pub mod Handlers
+pub mod Bindings
+pub mod Sources

@@ -3,6 +3,8 @@
 
 ghost use Rattle.law_kept.specs.Agenda.{AgendaServed};
 ghost use Rattle.law_kept.specs.Handlers.{HandlersLeft, HandlersChanged, LeftAreFound};
+ghost use Rattle.law_kept.specs.Bindings.{BindingsLeft, LeftBindingsFound, BindingSets, BindingUnset, BindingMade};
+ghost use Rattle.law_kept.specs.Sources.{SourceStays, SourcesLeft, SourcesAnswered, SourcesAttached};
 ghost use Rattle.law_kept.specs.Write.{WriteKeeps};
 
 /// Where one object is written over by another of the same place, class, family, count and peer, the rest of the world stays good, and the
@@ -23,4 +25,21 @@ pub fn handlers()
     ensures left { HandlersLeft }
     ensures found { LeftAreFound }
     ensures changed { HandlersChanged }
+{}
+
+/// Bindings that are left after others ended stay good, and so do they where one begins to set, is set free, or is made by the build.
+pub fn bindings()
+    ensures left { BindingsLeft }
+    ensures found { LeftBindingsFound }
+    ensures sets { BindingSets }
+    ensures unset { BindingUnset }
+    ensures made { BindingMade }
+{}
+
+/// Sources stay good where some are removed, where one's program has answered, and where one more that is good is attached.
+pub fn sources()
+    ensures stays { SourceStays }
+    ensures left { SourcesLeft }
+    ensures answered { SourcesAnswered }
+    ensures attached { SourcesAttached }
 {}
