@@ -5,3 +5,4 @@ pub mod Left
 pub mod HandlersProofs
 pub mod BindingsProofs
 pub mod SourcesProofs
+pub mod ChangesProofs

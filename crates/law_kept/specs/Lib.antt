@@ -3,3 +3,4 @@ pub mod Agenda
 pub mod Handlers
 pub mod Bindings
 pub mod Sources
+pub mod Changes

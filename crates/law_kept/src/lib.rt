@@ -5,9 +5,10 @@ ghost use Rattle.law_kept.specs.Agenda.{AgendaServed};
 ghost use Rattle.law_kept.specs.Handlers.{HandlersLeft, HandlersChanged, LeftAreFound};
 ghost use Rattle.law_kept.specs.Bindings.{BindingsLeft, LeftBindingsFound, BindingSets, BindingUnset, BindingMade};
 ghost use Rattle.law_kept.specs.Sources.{SourceStays, SourcesLeft, SourcesAnswered, SourcesAttached};
+ghost use Rattle.law_kept.specs.Changes.{ValueIsLike, QueueIsLike, FreezeIsLike, ThawIsLike};
 ghost use Rattle.law_kept.specs.Write.{WriteKeeps};
 
-/// Where one object is written over by another of the same place, class, family, count and peer, the rest of the world stays good, and the
+/// Where one object is written over by another of the same place, class, family and peer, the rest of the world stays good, and the
 /// agenda reads the same of it.
 pub fn write()
     ensures keeps { WriteKeeps }
@@ -42,4 +43,13 @@ pub fn sources()
     ensures left { SourcesLeft }
     ensures answered { SourcesAnswered }
     ensures attached { SourcesAttached }
+{}
+
+/// An object with a valid value written, with one more notification that waits, frozen once more where it has no paired property, or once
+/// less, is like the one that stood there.
+pub fn changes()
+    ensures value { ValueIsLike }
+    ensures queue { QueueIsLike }
+    ensures freeze { FreezeIsLike }
+    ensures thaw { ThawIsLike }
 {}
