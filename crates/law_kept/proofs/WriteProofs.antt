@@ -1,8 +1,9 @@
 -- A write keeps the rest: what is found afterwards is the new object, or what was found before.
 use Rattle.std.proofs.Common.{◌≡◌, inl, inr, ◌⊎◌, refl, sym, ap, subst, ◌∙◌, ℕ, zero, suc, ◌<◌, Bool, true, false, List, [], ◌∷◌, Option, None, Some, slice_get, arith}
-use Rattle.std.specs.Prelude.{nat_eq, option_map}
+use Rattle.std.specs.Prelude.{◌&&◌, nat_eq, option_map}
+use Rattle.std.specs.List.{list_any}
 use Rattle.std.proofs.Math.Path.{fun_ext}
-use Rattle.std.proofs.lemmas.Bool.{eqb-true, eqb-false}
+use Rattle.std.proofs.lemmas.Bool.{eqb-true, eqb-false, eq-eqb, or_left, or_right}
 use Rattle.ui_machine.specs.Seq.{read, write, total}
 use Rattle.ui_machine.specs.Definition.Properties.{Spec, is_readable}
 use Rattle.ui_machine.specs.Definition.{Definition}
@@ -16,7 +17,9 @@ use Rattle.law_typing.specs.Graph.Channels.{is_pair}
 use Rattle.law_typing.specs.Graph.Tables.{Tables}
 use Rattle.law_typing.specs.Verdict.Accepted.{Each}
 use Rattle.law_typing.specs.Laws.{IsIn}
-use Rattle.law_typing.specs.Rules.Brackets.{has_pair}
+use Rattle.law_typing.specs.Rules.Brackets.{is_among, has_pair}
+use Rattle.law_typing.proofs.Lists.{any_true}
+use Rattle.ui_machine.specs.Definition.Places.{Bind}
 use Rattle.law_typing.specs.Good.Standing.{Standing, standing, view, Lives}
 use Rattle.law_typing.specs.Good.Objects.{ValueGood, FamilyGood, PeerGood, ObjectGood, ObjectsGood}
 use Rattle.law_typing.specs.Good.Handlers.{HandlersGood}
@@ -106,6 +109,29 @@ each_to : {A : Type 0} (P Q : A → Type 0) (xs : List A) → ((x : A) → P x �
 each_to P Q [] f all = tt
 each_to P Q (x ∷ xs) f all = (f x all.0, each_to P Q xs f all.1)
 
+-- what is frozen and would not be if it had not been was
+was_frozen : (a b : ℕ) → (a ≡ 0 → b ≡ 0) → 0 < b → 0 < a
+was_frozen zero b f some = absurd (let none = f refl in omega (arith, none, some))
+was_frozen (suc a) b f some = omega arith
+
+get_in : {A : Type 0} (xs : List A) (i : ℕ) (x : A) → slice_get xs i ≡ Some x → IsIn x xs
+get_in [] i x e = absurd (cc)
+get_in (y ∷ ys) zero x e = inl (let s : x ≡ y = cc in s)
+get_in (y ∷ ys) (suc i) x e = inr (get_in ys i x e)
+
+-- an end of a pair is a place with a paired property
+pub pair_has : (d : Definition) (number : ℕ) (b : Bind) (place : ℕ) → slice_get d.bindings number ≡ Some b → is_pair b ≡ true → (place ≡ b.source) ⊎ (place ≡ b.target) →
+    has_pair d place ≡ true
+pair_has d number b place is pair end =
+    any_true (λ (b : Bind). is_pair b && is_among (b.source ∷ b.target ∷ []) place) d.bindings b (get_in d.bindings number b is)
+    (ap (λ x. x && is_among (b.source ∷ b.target ∷ []) place) pair ∙ among end)
+  where
+    among : (place ≡ b.source) ⊎ (place ≡ b.target) → is_among (b.source ∷ b.target ∷ []) place ≡ true
+    among (inl e) = or_left (nat_eq place b.source) (list_any (nat_eq place) (b.target ∷ [])) (eq-eqb place b.source e)
+    among (inr e) =
+        or_right (nat_eq place b.source) (list_any (nat_eq place) (b.target ∷ []))
+        (or_left (nat_eq place b.target) (list_any (nat_eq place) []) (eq-eqb place b.target e))
+
 module _ (d : Definition) (w : World) (id : ℕ) (o new : Object) (is : living w.objects id ≡ Some o) (like : Like d w o new) where
   abbrev os : Objects
   os = put w.objects id (Some new)
@@ -165,13 +191,27 @@ module _ (d : Definition) (w : World) (id : ℕ) (o new : Object) (is : living w
     thawed = λ pair x there. free pair x there;
   }
     where
-      of : is_pair g.bind ≡ true → (i : ℕ) (x : Object) → ((y : Object) → living w.objects i ≡ Some y → y.freezes ≡ 0) → ((id ≡ i) × (x ≡ new)) ⊎ (living w.objects i ≡ Some x) → x.freezes ≡ 0
-      of pair i x old (inl h) = ap (λ (x : Object). x.freezes) h.1 ∙ (like.freezes ∙ old o (subst (λ i. living w.objects i ≡ Some o) h.0 is))
-      of pair i x old (inr h) = old x h
+      -- an end of a pair has a paired property
+      none : is_pair g.bind ≡ true → (i place : ℕ) → id ≡ i → standing w.objects i ≡ Some place → (place ≡ g.bind.source) ⊎ (place ≡ g.bind.target) → has_pair d o.place ≡ false → ⊥
+      none pair i place same stands end e =
+          let here : place_in w.objects i ≡ Some o.place = ap (option_map (λ (o : Object). o.place)) (subst (λ i. living w.objects i ≡ Some o) same is) in
+          let at : o.place ≡ place = (let s = sym here ∙ stands in cc) in
+          let paired = pair_has d b.number g.bind place g.is pair end in
+          let f = ap (has_pair d) at ∙ paired in
+          cc
+
+      of : is_pair g.bind ≡ true → (i place : ℕ) (x : Object) → standing w.objects i ≡ Some place → (place ≡ g.bind.source) ⊎ (place ≡ g.bind.target) →
+          ((y : Object) → living w.objects i ≡ Some y → y.freezes ≡ 0) → ((id ≡ i) × (x ≡ new)) ⊎ (living w.objects i ≡ Some x) → x.freezes ≡ 0
+      of pair i place x stands end old (inl h) = ap (λ (x : Object). x.freezes) h.1 ∙ by like.freezes
+        where
+          by : (o.freezes ≡ 0 → new.freezes ≡ 0) ⊎ (has_pair d o.place ≡ false) → new.freezes ≡ 0
+          by (inl f) = f (old o (subst (λ i. living w.objects i ≡ Some o) h.0 is))
+          by (inr e) = absurd (none pair i place h.0 stands end e)
+      of pair i place x stands end old (inr h) = old x h
 
       free : is_pair g.bind ≡ true → (x : Object) → (living os b.source ≡ Some x) ⊎ (living os b.target ≡ Some x) → x.freezes ≡ 0
-      free pair x (inl e) = of pair b.source x (λ y f. g.thawed pair y (inl f)) (after w.objects id o new is b.source x e)
-      free pair x (inr e) = of pair b.target x (λ y f. g.thawed pair y (inr f)) (after w.objects id o new is b.target x e)
+      free pair x (inl e) = of pair b.source g.bind.source x g.source (inl refl) (λ y f. g.thawed pair y (inl f)) (after w.objects id o new is b.source x e)
+      free pair x (inr e) = of pair b.target g.bind.target x g.target (inr refl) (λ y f. g.thawed pair y (inr f)) (after w.objects id o new is b.target x e)
 
   bindings_good : (agenda : List Task) → BindingsGood d (standing w.objects) agenda w.objects w.bindings → BindingsGood d (standing os) agenda os w.bindings
   bindings_good agenda g = record { each = each_to _ _ w.bindings (binding_good agenda) g.each; rising = g.rising; made = g.made }
@@ -183,8 +223,13 @@ module _ (d : Definition) (w : World) (id : ℕ) (o new : Object) (is : living w
       go : (i : ℕ) (x : Object) → has_pair d x.place ≡ true → 0 < x.freezes → ((id ≡ i) × (x ≡ new)) ⊎ (living w.objects i ≡ Some x) → 0 < total (constructs_held i) agenda
       go i x pair held (inl h) =
           let place : x.place ≡ o.place = ap (λ (x : Object). x.place) h.1 ∙ like.place in
-          let count : x.freezes ≡ o.freezes = ap (λ (x : Object). x.freezes) h.1 ∙ like.freezes in
-          g.frozen i o (subst (λ i. living w.objects i ≡ Some o) h.0 is) (subst (λ p. has_pair d p ≡ true) place pair) (subst (λ n. 0 < n) count held)
+          let paired = subst (λ p. has_pair d p ≡ true) place pair in
+          let some = subst (λ n. 0 < n) (ap (λ (x : Object). x.freezes) h.1) held in
+          g.frozen i o (subst (λ i. living w.objects i ≡ Some o) h.0 is) paired (by paired some like.freezes)
+        where
+          by : has_pair d o.place ≡ true → 0 < new.freezes → (o.freezes ≡ 0 → new.freezes ≡ 0) ⊎ (has_pair d o.place ≡ false) → 0 < o.freezes
+          by paired some (inl f) = was_frozen o.freezes new.freezes f some
+          by paired some (inr e) = absurd (cc)
       go i x pair held (inr h) = g.frozen i x h pair held
 
   -- the agenda reads the same

@@ -1,1 +1,6 @@
 pub mod Write
+pub mod Agenda
+pub mod Handlers
+pub mod Bindings
+pub mod Sources
+pub mod Changes

@@ -1,5 +1,5 @@
--- One object is written over by another of the same place, class, family, count and peer: what is kept of the whole.
-use Rattle.std.specs.Prelude.{◌≡◌, ℕ, List, Some, true, slice_get}
+-- One object is written over by another of the same place, class, family and peer: what is kept of the whole.
+use Rattle.std.specs.Prelude.{◌≡◌, ◌⊎◌, ℕ, List, Some, true, false, slice_get}
 use Rattle.ui_machine.specs.Definition.Properties.{Spec, is_readable}
 use Rattle.ui_machine.specs.Definition.{Definition}
 use Rattle.ui_machine.specs.Definition.Lookups.{spec_of}
@@ -8,6 +8,7 @@ use Rattle.ui_machine.specs.State.Tasks.{Task}
 use Rattle.ui_machine.specs.State.Config.{World, with_objects}
 use Rattle.law_typing.specs.Graph.Tables.{Tables}
 use Rattle.law_typing.specs.Verdict.Accepted.{Each}
+use Rattle.law_typing.specs.Rules.Brackets.{has_pair}
 use Rattle.law_typing.specs.Good.Standing.{standing, view, Lives}
 use Rattle.law_typing.specs.Good.Objects.{ValueGood, ObjectsGood}
 use Rattle.law_typing.specs.Good.Handlers.{HandlersGood}
@@ -20,7 +21,8 @@ pub record Like (d : Definition) (w : World) (o new : Object) : Type 0 where
   pub class : new.class ≡ o.class
   pub children : new.children ≡ o.children
   pub parent : new.parent ≡ o.parent
-  pub freezes : new.freezes ≡ o.freezes
+  -- it is not frozen where it was not, or it has no paired property
+  pub freezes : (o.freezes ≡ 0 → new.freezes ≡ 0) ⊎ (has_pair d o.place ≡ false)
   pub disposed : new.disposed ≡ o.disposed
   pub peer : new.peer ≡ o.peer
   -- its values are valid, and only readable properties are queued

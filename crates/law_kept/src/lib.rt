@@ -1,10 +1,55 @@
 //! Laws of what is kept of a world where something of it changes.
 #![tactic(auto)]
 
+ghost use Rattle.law_kept.specs.Agenda.{AgendaServed};
+ghost use Rattle.law_kept.specs.Handlers.{HandlersLeft, HandlersChanged, LeftAreFound};
+ghost use Rattle.law_kept.specs.Bindings.{BindingsLeft, LeftBindingsFound, BindingSets, BindingUnset, BindingMade};
+ghost use Rattle.law_kept.specs.Sources.{SourceStays, SourcesLeft, SourcesAnswered, SourcesAttached};
+ghost use Rattle.law_kept.specs.Changes.{ValueIsLike, QueueIsLike, FreezeIsLike, ThawIsLike};
 ghost use Rattle.law_kept.specs.Write.{WriteKeeps};
 
-/// Where one object is written over by another of the same place, class, family, count and peer, the rest of the world stays good, and the
+/// Where one object is written over by another of the same place, class, family and peer, the rest of the world stays good, and the
 /// agenda reads the same of it.
 pub fn write()
     ensures keeps { WriteKeeps }
+{}
+
+/// The agenda stays good, within the same steps and frames, in a world where what it needs stands where it stood, the builder holds the same,
+/// the handlers and bindings are some of those that were there, and peers keep their shapes.
+pub fn agenda()
+    ensures served { AgendaServed }
+{}
+
+/// Handlers that are left after others are disconnected stay good, and so do those that are blocked or unblocked; a number finds among them
+/// what it found.
+pub fn handlers()
+    ensures left { HandlersLeft }
+    ensures found { LeftAreFound }
+    ensures changed { HandlersChanged }
+{}
+
+/// Bindings that are left after others ended stay good, and so do they where one begins to set, is set free, or is made by the build.
+pub fn bindings()
+    ensures left { BindingsLeft }
+    ensures found { LeftBindingsFound }
+    ensures sets { BindingSets }
+    ensures unset { BindingUnset }
+    ensures made { BindingMade }
+{}
+
+/// Sources stay good where some are removed, where one's program has answered, and where one more that is good is attached.
+pub fn sources()
+    ensures stays { SourceStays }
+    ensures left { SourcesLeft }
+    ensures answered { SourcesAnswered }
+    ensures attached { SourcesAttached }
+{}
+
+/// An object with a valid value written, with one more notification that waits, frozen once more where it has no paired property, or once
+/// less, is like the one that stood there.
+pub fn changes()
+    ensures value { ValueIsLike }
+    ensures queue { QueueIsLike }
+    ensures freeze { FreezeIsLike }
+    ensures thaw { ThawIsLike }
 {}

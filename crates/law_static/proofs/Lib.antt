@@ -1,3 +1,10 @@
 pub mod RisingProofs
 pub mod PlanCostProofs
 pub mod SourceProofs
+pub mod SiteProofs
+pub mod Same
+pub mod SubclassProofs
+pub mod FitsProofs
+pub mod CodeProofs
+pub mod BeginProofs
+pub mod RaisesProofs

@@ -86,10 +86,10 @@ sources_begin d well a w r number s is =
       bindings = bindings d costs depths w r number;
       sources = r.sources;
       peers = (let same : length w.builder ≡ length w.builder + 0 = omega arith in subst (PeersGood d w.peers) same r.peers);
-      build = r.document;
+      build = (r.document, refl);
       held = r.held;
       floating = subst (Each (Lives (standing w.objects))) (sym r.floating) tt;
-      sets = record { first = refl; held = λ h. absurd (omega (arith, h)) };
+      sets = record { alone = refl; first = refl; held = λ h. absurd (omega (arith, h)) };
       pairs = record {
         frozen = λ id o e pair h. absurd (let none = (r.thawed id o e).0 in omega (arith, h, none));
         before = λ h. absurd (omega (arith, h));

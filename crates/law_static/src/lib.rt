@@ -3,6 +3,11 @@
 
 ghost use Rattle.law_static.specs.Rising.{RisingAreFound, RisingCosts};
 ghost use Rattle.law_static.specs.PlanCost.{PlanCosts};
+ghost use Rattle.law_static.specs.Sites.{BlocksKeep, SitesKeep};
+ghost use Rattle.law_static.specs.Subclass.{NamesFind, SpecsInherit, SignalsInherit, EmittedInherit};
+ghost use Rattle.law_static.specs.Fits.{HoldsFits, HoldsLive, HoldsKind, HoldsSet, OperandsStand, ClassesAgree, GivenHold, GivenFit};
+ghost use Rattle.law_static.specs.Code.{InstructionsTaken, ProgramsGoOn, ProgramsBegin, FirstRegistersFit};
+ghost use Rattle.law_static.specs.Raises.{ChannelsKnown, ConnectionsKnown, SourcesKnown};
 ghost use Rattle.law_typing.specs.Laws.StepsKeepGood.{SourcesBegin};
 
 /// What stands under rising numbers is found by its number, and bindings that do cost together no more than those of the definition.
@@ -19,4 +24,49 @@ pub fn plan()
 /// A due source begins well from any world at rest, within its bound and the depth.
 pub fn beginnings()
     ensures sources { SourcesBegin }
+{}
+
+/// Each block of an accepted definition keeps its rules and its brackets, and each of its instructions is typed at its place, is among the
+/// sites of the graph, and freezes no object with a paired property.
+pub fn sites()
+    ensures blocks { BlocksKeep }
+    ensures instructions { SitesKeep }
+{}
+
+/// A class has under each name the property and the signal of each type that it is.
+pub fn subclasses()
+    ensures finds { NamesFind }
+    ensures specs { SpecsInherit }
+    ensures signals { SignalsInherit }
+    ensures emitted { EmittedInherit }
+{}
+
+/// What a register holds is what its kind says, and what fits it is held as well. An object operand lives, and what a program is given fits
+/// its parameters.
+pub fn registers()
+    ensures fits { HoldsFits }
+    ensures live { HoldsLive }
+    ensures kind { HoldsKind }
+    ensures set { HoldsSet }
+    ensures operands { OperandsStand }
+    ensures classes { ClassesAgree }
+    ensures given { GivenHold }
+    ensures parameters { GivenFit }
+{}
+
+/// What is known of the instruction that a program has come to, and of what it costs. Past one that does not end its block the rest is good
+/// with what is left of the steps; and a program begins well within its cost and depth.
+pub fn code()
+    ensures taken { InstructionsTaken }
+    ensures goes_on { ProgramsGoOn }
+    ensures begins { ProgramsBegin }
+    ensures registers { FirstRegistersFit }
+{}
+
+/// A channel that is there is in the graph, with what runs there, and costs what that does; what an instruction connects is connectable
+/// there, and what it attaches is a source.
+pub fn raises()
+    ensures channels { ChannelsKnown }
+    ensures connections { ConnectionsKnown }
+    ensures sources { SourcesKnown }
 {}

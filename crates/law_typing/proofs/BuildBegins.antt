@@ -76,7 +76,7 @@ begins d costs depths most_counted most peers pool r =
       build = ([], refl, refl, tt);
       held = λ place id e. nothing_held place id e;
       floating = tt;
-      sets = record { first = refl; held = λ h. absurd (omega (arith, h)) };
+      sets = record { alone = refl; first = refl; held = λ h. absurd (omega (arith, h)) };
       pairs = record { frozen = λ id o e paired h. nothing_lives id o e; before = λ h. absurd (omega (arith, h)); one = omega arith };
       budget = total (item_cost d costs) (build_items d);
       agenda = (

@@ -89,10 +89,10 @@ first_run_good = record {
   bindings = record { each = tt; rising = tt; made = tt };
   sources = tt;
   peers = no_peers first_run.definition case.at_notification.world.peers 1 refl;
-  build = record { all = refl; each = (tt, tt) };
+  build = (record { all = refl; each = (tt, tt) }, refl);
   held = first_run_held;
   floating = tt;
-  sets = record { first = refl; held = λ h. absurd (omega (arith, h)) };
+  sets = record { alone = refl; first = refl; held = λ h. absurd (omega (arith, h)) };
   pairs = record { frozen = λ id o e paired h. absurd (cc); before = λ h. absurd (omega (arith, h)); one = omega arith };
   budget = 1;
   agenda = (1, 1, 0, (tt, record { due = record { place = 0; is = refl; spec = _; has = refl; cheap = leb-true _ 1 refl; shallow = leb-true _ 1 refl }; readable = refl }), leb-true 1 1 refl, leb-true 1 1 refl, tt);
@@ -152,10 +152,10 @@ freezes_good = record {
   bindings = record { each = tt; rising = tt; made = tt };
   sources = tt;
   peers = no_peers freezes.definition case.at_freeze.world.peers 1 refl;
-  build = record { all = refl; each = (tt, tt) };
+  build = (record { all = refl; each = (tt, tt) }, refl);
   held = freezes_held;
   floating = tt;
-  sets = record { first = refl; held = λ h. absurd (omega (arith, h)) };
+  sets = record { alone = refl; first = refl; held = λ h. absurd (omega (arith, h)) };
   pairs = record { frozen = λ id o e paired h. absurd (cc); before = λ h. absurd (omega (arith, h)); one = omega arith };
   budget = 8;
   agenda = (

@@ -22,7 +22,7 @@ use Rattle.law_typing.specs.Rules.RegisterKinds.{Kinds}
 use Rattle.law_typing.specs.Rules.Brackets.{written, is_empty}
 use Rattle.law_typing.specs.Graph.{next_of}
 use Rattle.law_typing.specs.Verdict.Inherits.{inherits}
-use Rattle.law_typing.specs.Laws.WellRead.{no_class_of, no_two, is_range, has_values, result_has_values, ends, is_plain, objects_of}
+use Rattle.law_typing.specs.Laws.WellRead.{no_class_of, no_two, is_range, has_values, result_has_values, ends, is_set, is_plain, objects_of}
 use Rattle.law_typing.proofs.Numbered.{all_from}
 
 -- b holds wherever a does
@@ -62,6 +62,11 @@ is_spec_read d s =
 abbrev pub has_notify_at : Definition → ℕ → Bool
 has_notify_at d class = implies (is_class (type_of d class).sort) (is_notify (signal_of d class 0))
 
+-- whether `notify` is the first of the signals, if there are any
+abbrev pub begins_with_notify : List Signal → Bool
+begins_with_notify [] = true
+begins_with_notify (s ∷ signals) = is_notify (Some s)
+
 abbrev pub are_types_read : Definition → Bool
 are_types_read d =
     nat_eq (length d.classes) (length d.types)
@@ -71,7 +76,8 @@ are_types_read d =
     && (all_from (λ t (x : GType). has_notify_at d t) 0 d.types
     && (all_from (λ t (c : Class). list_all (is_spec_read d) c.specs) 0 d.classes
     && (list_all (λ (c : Class). no_two same_name (map (λ (s : Spec). s.name) c.specs)) d.classes
-    && list_all (λ (c : Class). list_all (result_has_values d) c.signals) d.classes))))))
+    && (list_all (λ (c : Class). list_all (result_has_values d) c.signals) d.classes
+    && all_from (λ t (c : Class). begins_with_notify c.signals) 0 d.classes)))))))
 
 -- ** programs
 
@@ -117,7 +123,8 @@ begins_first params (Some b) = begins_with params b.entry
 
 abbrev pub is_program_read : Definition → Program → Bool
 is_program_read d p =
-    nat_le (length p.params) p.registers && (begins_first p.params (slice_get p.blocks 0) && all_from (is_block_read d p) 0 p.blocks)
+    nat_le (length p.params) p.registers
+    && (begins_first p.params (slice_get p.blocks 0) && (all_from (is_block_read d p) 0 p.blocks && list_all is_set p.params))
 
 -- ** places
 

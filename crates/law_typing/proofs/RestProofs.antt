@@ -82,7 +82,7 @@ rests d costs depths most_counted most c g ended =
       sources = g.sources;
       peers = (let all : length w.builder + total is_for_builder [] ≡ length w.builder = omega arith in
           subst (PeersGood d w.peers) all (subst (λ ts. PeersGood d w.peers (length w.builder + total is_for_builder ts)) none g.peers));
-      document = subst (λ ts. BuildGood d w.builder ts ts) none g.build;
+      document = (subst (λ ts. BuildGood d w.builder ts ts) none g.build).0;
       held = g.held;
       floating = ended.floating;
       thawed = λ id o e. (let q = g.queues id o e in

@@ -180,6 +180,19 @@ specs_read d e class slot s is = go (all_from_read (λ t (c : Class). list_all (
     go (inl h) = spec_read d s (all_get (tests.is_spec_read d) (class_of d class).specs slot s h is)
     go (inr past) = absurd (let none : spec_of d class slot ≡ None = ap (λ (c : Class). slice_get c.specs slot) past in let f = sym none ∙ is in cc)
 
+-- the signals of each type
+first_read : (d : Definition) → all_from (λ t (c : Class). tests.begins_with_notify c.signals) 0 d.classes ≡ true →
+    (type number : ℕ) (s : Signal) → signal_of d type number ≡ Some s → HasNotify d type
+first_read d e type number s is = go (all_from_read (λ t (c : Class). tests.begins_with_notify c.signals) no_class d.classes type e)
+  where
+    begins : (signals : List Signal) (n : ℕ) → slice_get signals n ≡ Some s → tests.begins_with_notify signals ≡ true → tests.is_notify (slice_get signals 0) ≡ true
+    begins [] n f h = absurd (cc)
+    begins (x ∷ xs) n f h = h
+
+    go : (tests.begins_with_notify (class_of d type).signals ≡ true) ⊎ (class_of d type ≡ no_class) → HasNotify d type
+    go (inl h) = has_notify d type (begins (class_of d type).signals number is h)
+    go (inr past) = absurd (let none : signal_of d type number ≡ None = ap (λ (c : Class). slice_get c.signals number) past in let f = sym none ∙ is in cc)
+
 types_read : (d : Definition) → tests.are_types_read d ≡ true → TypesRead d
 types_read d e =
     let a = both_parts _ _ e in
@@ -189,6 +202,7 @@ types_read d e =
     let g = both_parts _ _ f.1 in
     let h = both_parts _ _ g.1 in
     let i = both_parts _ _ h.1 in
+    let j = both_parts _ _ i.1 in
     record {
       classes = eqb-true _ _ a.0;
       parents = parents d.types b.0;
@@ -196,8 +210,9 @@ types_read d e =
       inherits = f.0;
       notify = λ class below is. notify class below is (all_from_below (tests.has_notify_at d) d.types class g.0 below);
       specs = specs_read d h.0;
+      first = first_read d j.1;
       names = i.0;
-      results = i.1;
+      results = j.0;
     }
   where
     notify : (class : ℕ) → class < length d.types → (type_of d class).sort ≡ sorts.class → tests.has_notify_at d class ≡ true → HasNotify d class
@@ -274,11 +289,13 @@ program_read : (d : Definition) (p : Program) → tests.is_program_read d p ≡ 
 program_read d p e =
     let a = both_parts _ _ e in
     let b = both_parts _ _ a.1 in
+    let c = both_parts _ _ b.1 in
     record {
       params = leb-true _ _ a.0;
+      given = c.1;
       first = λ f is. first f (subst (λ o. tests.begins_first p.params o ≡ true) is b.0);
       some = some (slice_get p.blocks 0) refl b.0;
-      blocks = λ number f is. block_read d p number f (all_from_get (tests.is_block_read d p) p.blocks number f b.1 is);
+      blocks = λ number f is. block_read d p number f (all_from_get (tests.is_block_read d p) p.blocks number f c.0 is);
     }
   where
     first : (b : Block) → tests.begins_first p.params (Some b) ≡ true → (rest : Kinds) × (b.entry ≡ p.params ++ rest) × Each (λ k. k ≡ kinds.unset) rest

@@ -87,9 +87,9 @@ is_for_builder (Constructing id todo held) = cond held 1 0
 is_for_builder _ = 0
 
 -- The rest of the build is the end of all of it. Up to there each object was made: the builder holds it, or it is under construction. Where
--- nothing of the build is left, each place of the document is built or released.
+-- nothing of the build is left, each place of the document is built or released, and no construction is for the builder.
 abbrev pub BuildGood : Definition → List Held → (agenda : List Task) → List Task → Type 0
-BuildGood d builder agenda [] = DocumentGood d builder
+BuildGood d builder agenda [] = DocumentGood d builder × (total is_for_builder agenda ≡ 0)
 BuildGood d builder agenda (Building items ∷ tasks) =
     (done : List Item) × (build_items d ≡ done ++ items) × (total is_making done ≡ length builder + total is_for_builder agenda)
     × Each (λ (h : Held). (id : ℕ) × (h ≡ built id)) builder

@@ -6,7 +6,7 @@ use Rattle.ui_machine.specs.Definition.Values as values
 use Rattle.ui_machine.specs.Definition.{Definition}
 use Rattle.ui_machine.specs.State.Objects.{Object, Objects}
 use Rattle.ui_machine.specs.State.Bindings.{Binding}
-use Rattle.ui_machine.specs.State.Tasks.{Making, thaws, Task, Setting, Transferring, Unsetting, Running, Constructing}
+use Rattle.ui_machine.specs.State.Tasks.{Making, thaws, Task, Setting, Transferring, Unsetting, Running, Constructing, Due}
 use Rattle.ui_machine.specs.State.Config.{Config}
 use Rattle.ui_machine.specs.State.References.{next_unheld, mentions}
 use Rattle.ui_machine.specs.State.Objects as heap
@@ -87,7 +87,14 @@ abbrev pub is_due_set : Task → ℕ
 is_due_set (Setting object slot v) = 1
 is_due_set task = 0
 
--- a set is due only as the first task, and then nothing is to be finalised before it
+-- 1 where a source is due
+abbrev pub is_due_source : Task → ℕ
+is_due_source (Due source) = 1
+is_due_source task = 0
+
+-- a set is due only as the first task, and then nothing is to be finalised before it; a source is due only as the first task as well, so
+-- that no program removes it before it runs
 pub record SetsGood (d : Definition) (c : Config) : Type 0 where
+  pub alone : total is_due_source (drop 1 c.agenda) ≡ 0
   pub first : total is_due_set (drop 1 c.agenda) ≡ 0
   pub held : 0 < total is_due_set c.agenda → next_unheld (mentions d c) c.world.objects ≡ None

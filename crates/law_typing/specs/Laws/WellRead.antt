@@ -90,6 +90,8 @@ pub record TypesRead (d : Definition) : Type 0 where
   pub inherits : inherits d ≡ true
   -- each class among the types has `notify`
   pub notify : (class : ℕ) → class < length d.types → (type_of d class).sort ≡ sorts.class → HasNotify d class
+  -- and so has each type that has signals, as an interface may
+  pub first : (type number : ℕ) (s : Signal) → signal_of d type number ≡ Some s → HasNotify d type
   -- each property is as a property should be
   pub specs : (class slot : ℕ) (s : Spec) → spec_of d class slot ≡ Some s → SpecRead d s
   -- no class has two properties of one name
@@ -134,8 +136,15 @@ pub record BlockRead (d : Definition) (p : Program) (number : ℕ) (b : Block) :
   -- it goes to later blocks that are there
   pub next : Each (λ i. Each (λ to. (number < to) × (to < length p.blocks)) (next_of i)) b.code
 
+-- whether a register's kind says that it is set
+abbrev pub is_set : RegisterKind → Bool
+is_set kinds.unset = false
+is_set k = true
+
 pub record ProgramRead (d : Definition) (p : Program) : Type 0 where
   pub params : length p.params ≤ p.registers
+  -- each parameter is set
+  pub given : list_all is_set p.params ≡ true
   -- the first block begins with the parameters
   pub first : (b : Block) → slice_get p.blocks 0 ≡ Some b → (rest : Kinds) × (b.entry ≡ p.params ++ rest) × Each (λ k. k ≡ kinds.unset) rest
   pub some : (b : Block) × (slice_get p.blocks 0 ≡ Some b)
