@@ -14,7 +14,7 @@ use Rattle.ui_machine.specs.Definition.Places as places
 use Rattle.ui_machine.specs.Definition.Lookups.{place_of, slot_of, spec_of}
 use Rattle.ui_machine.specs.State.Tasks as config
 use Rattle.g_values.specs.Reading.{json_value}
-use Rattle.g_values.specs.declared.error.JsonError.{JsonError}
+use Rattle.g_values.specs.declared.error.JsonFault.{JsonFault}
 use Rattle.builder_defs.specs.Meaning.{class_at}
 use Rattle.ui_machine.specs.Outcome.{◌>>=◌}
 use Rattle.ui_machine.specs.Limits.{most_line_bytes}
@@ -124,7 +124,7 @@ target d id name = do
 -- ** the value of a set
 
 -- the value, or the one refusal for whichever cause there is none
-abbrev pub or_value_fault : {A : Type 0} → Result A JsonError → Result A EventRefusal
+abbrev pub or_value_fault : {A : Type 0} → Result A JsonFault → Result A EventRefusal
 or_value_fault (Ok x) = Ok x
 or_value_fault (Err cause) = Err value_fault
 
