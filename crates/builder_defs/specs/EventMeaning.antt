@@ -1,13 +1,9 @@
 -- Which event of a definition a line denotes, or why it denotes none: the first fault in the order of the tests.
-use Rattle.std.specs.Prelude.{◌≡◌, ℕ, ℤ, int_lt, List, length, codes, Bool, true, false, ◌||◌, nat_lt, if◌then◌else◌, Option, None, Some, option_map, option_and_then, Result, Ok, Err, string_bytes}
+use Rattle.std.specs.Prelude.{◌≡◌, ℕ, List, length, codes, Bool, true, false, nat_lt, if◌then◌else◌, Option, None, Some, option_and_then, Result, Ok, Err, string_bytes}
 use Rattle.std.specs.Str.{is_utf8}
 use Rattle.serde_json.specs.Data.{Data, null, boolean, number, string, array, object, Items, no_items, item, Members, no_members, member}
-use Rattle.serde_json.specs.Find.{get, as_bool, as_str, as_array, as_number, as_i64}
+use Rattle.serde_json.specs.Find.{get, as_str, as_array}
 use Rattle.serde_json.specs.Read.{read}
-use Rattle.ui_machine.specs.Definition.Kinds as kinds
-use Rattle.ui_machine.specs.Definition.Values.{Value}
-use Rattle.ui_machine.specs.Definition.Values as values
-use Rattle.ui_machine.specs.Rules.Transform.{least, greatest}
 use Rattle.ui_machine.specs.Definition.Properties.{Spec, is_readable, is_writable, is_construct_only}
 use Rattle.ui_machine.specs.Definition as machine
 use Rattle.ui_machine.specs.Definition.Places as places
