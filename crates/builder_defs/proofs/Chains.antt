@@ -9,7 +9,8 @@ use Rattle.builder_defs.specs.declared.fault.ReadError.TheVariants as errors
 use Rattle.ui_machine.specs.Outcome.{◌>>=◌}
 use Rattle.builder_defs.specs.Refusals.{Refusal, Fails}
 use Rattle.builder_defs.specs.Document.{members_at, nothing_at, only_at}
-use Rattle.builder_defs.specs.Denoted.{Draft, draft_of, spec_at, installed, property_at, declared_at, properties_at, class_at, unset_after_properties, keys_of_class}
+use Rattle.builder_defs.specs.Denoted.Properties.{spec_at, installed, property_at}
+use Rattle.builder_defs.specs.Denoted.Classes.{Draft, draft_of, declared_at, properties_at, class_at, unset_after_properties, keys_of_class}
 use Rattle.builder_defs.proofs.Installing.{property_at_is}
 
 pub fails_first : {A B : Type 0} (e : ReadError) (r : Result A Refusal) (f : A → Result B Refusal) → Fails e r → Fails e (r >>= f)

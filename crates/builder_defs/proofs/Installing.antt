@@ -8,7 +8,7 @@ use Rattle.param_specs.specs.declared.error.SpecError.{SpecError}
 use Rattle.param_specs.specs.declared.error.SpecError.TheVariants.{OutOfMemory, Refused}
 use Rattle.param_specs.specs.Table.{own_of, specs_of, install_fault, canonical_spec, Installs}
 use Rattle.builder_defs.specs.Refusals.{bad_spec}
-use Rattle.builder_defs.specs.Denoted.{specs_by, add_own, installed_or, installed, spec_at, property_at}
+use Rattle.builder_defs.specs.Denoted.Properties.{specs_by, add_own, installed_or, installed, spec_at, property_at}
 use Rattle.ui_machine.specs.Outcome.{◌>>=◌}
 use Rattle.serde_json.specs.Data.{Data}
 

@@ -1,6 +1,9 @@
 -- All properties of a definition that was read are plain.
-use Rattle.std.proofs.Common.{◌≡◌, ◌≤◌, ℕ, codes, zero, suc, ◌+◌, Bool, true, false, nat_eq, if◌then◌else◌, List, [], ◌∷◌, ◌++◌, length, reverse, slice_get, Option, Some, None, Result, Ok, Err, refl, sym, subst}
+use Rattle.std.proofs.Common.{◌≡◌, ◌≤◌, ◌<◌, ℕ, codes, zero, suc, ◌+◌, Bool, true, false, nat_eq, nat_le, arith, map, if◌then◌else◌, List, [], ◌∷◌, ◌++◌, length, reverse, slice_get, Option, Some, None, Result, Ok, Err, refl, sym, subst}
 use Rattle.std.specs.List.{flat_map}
+use Rattle.std.proofs.lemmas.List.{length_push, length-map}
+use Rattle.std.proofs.lemmas.Bool.Decides.{nat_tests}
+use Rattle.ui_machine.specs.Definition.Places.{Place}
 use Rattle.serde_json.specs.Data.{Data, Items, no_items, item}
 use Rattle.ui_machine.specs.Definition.Types.{GType}
 use Rattle.ui_machine.specs.Definition.Kinds.{Kind}
@@ -10,11 +13,15 @@ use Rattle.ui_machine.specs.Definition.Kinds as kinds
 use Rattle.ui_machine.specs.Rules.Ancestry.{lineage}
 use Rattle.param_specs.specs.declared.error.SpecFault.{SpecFault}
 use Rattle.param_specs.specs.Table.{own_of, specs_of, install_fault, canonical_spec}
-use Rattle.builder_defs.specs.Meaning.{Entry, IsPlain, IsPlainKind, IsSound}
-use Rattle.builder_defs.specs.Refusals.{Refusal, shape, or_refused}
+use Rattle.builder_defs.specs.Meaning.{Entry, plain_object, IsPlain, IsPlainKind, IsSound}
+use Rattle.builder_defs.specs.Refusals.{Refusal, shape, limit, or_refused}
+use Rattle.builder_defs.specs.declared.fault.DefinitionLimit.TheVariants.{Objects}
 use Rattle.ui_machine.specs.Outcome.{◌>>=◌}
-use Rattle.builder_defs.specs.Document.{each, under, nth, members_at, text_at, entries_at, nothing_at, only_at}
-use Rattle.builder_defs.specs.Denoted.{Draft, draft_of, first_draft, specs_by, kind_named, kind_at, property_spec, room_for_property, new_property, unset_of_property, keys_of_property, spec_at, add_own, installed_or, installed, property_at, property_of, unset_before_properties, unset_after_properties, keys_of_class, declared_at, properties_at, class_at, class_of, unset_before_classes, classes_in}
+use Rattle.builder_defs.specs.Document.{each, at_entry, under, nth, members_at, text_at, entries_at, nothing_at, only_at}
+use Rattle.builder_defs.specs.Denoted.Properties.{specs_by, kind_named, kind_at, property_spec, room_for_property, new_property, unset_of_property, keys_of_property, spec_at, add_own, installed_or, installed, property_at}
+use Rattle.builder_defs.specs.Denoted.Classes.{Draft, draft_of, first_draft, unset_before_properties, unset_after_properties, keys_of_class, declared_at, properties_at, class_at}
+use Rattle.builder_defs.specs.Denoted.Objects.{room_for_object, new_id, class_at_key, unset_of_object, keys_of_object, place_at, object_at}
+use Rattle.builder_defs.specs.Denoted.{unset_before_classes, unset_before_objects, classes_in, objects_in}
 use Rattle.builder_defs.proofs.Installing.{specs_of-is}
 
 -- what is so of what was read, if it was
@@ -117,7 +124,7 @@ unfolding properties_at
 properties_plain path types t own d all =
     on_bind (λ x. Unit {0}) AllOwn (nothing_at path d unset_before_properties) _ (on_all _) λ unset u.
     on_bind (λ x. Unit {0}) AllOwn (entries_at path d (codes "properties")) _ (on_all _) λ list u.
-    on_each AllOwn (property_of (under path (codes "properties")) types t) (λ i own d all. property_plain (nth (under path (codes "properties")) i) types t own d all) 0 own list all
+    on_each AllOwn (at_entry (λ entry. property_at entry types t) (under path (codes "properties"))) (λ i own d all. property_plain (nth (under path (codes "properties")) i) types t own d all) 0 own list all
 
 abbrev pub PlainDraft : Draft → Type 0
 PlainDraft draft = AllOwn draft.own
@@ -136,12 +143,48 @@ unfolding classes_in
 classes_plain d =
     on_bind (λ x. Unit {0}) PlainDraft (nothing_at [] d unset_before_classes) _ (on_all _) λ unset u.
     on_bind (λ x. Unit {0}) PlainDraft (entries_at [] d (codes "classes")) _ (on_all _) λ list u.
-    on_each PlainDraft (class_of (under [] (codes "classes"))) (λ i draft d all. class_plain (nth (under [] (codes "classes")) i) draft d all) 0 first_draft list (λ t. tt)
+    on_each PlainDraft (at_entry class_at (under [] (codes "classes"))) (λ i draft d all. class_plain (nth (under [] (codes "classes")) i) draft d all) 0 first_draft list (λ t. tt)
 
-pub sound : (types : List GType) (table : List (List Spec)) (os : List Entry) (d : Data) → classes_in d ≡ Ok (draft_of types table) → length os ≤ 64 → IsSound types table os
-sound types table os d read few =
+-- ** no more objects than there is room for
+
+abbrev pub AreFew : List Place → Type 0
+AreFew places = length places ≤ 64
+
+room_below : (places : List Place) → OnRead (λ u. length places < 64) (room_for_object places)
+room_below places = by (nat_le 64 (length places)) refl
+  where
+    by : (b : Bool) → nat_le 64 (length places) ≡ b → OnRead {A = Unit {0}} (λ u. length places < 64) (if b then Err (limit Objects) else Ok tt)
+    by true e = tt
+    by false e = grind (arith, nat_tests)
+
+place_few : (path : List ℕ) (types : List GType) (places : List Place) (d : Data) → OnRead (λ place. length places < 64) (place_at path types places d)
+unfolding place_at
+place_few path types places d =
+    on_bind (λ x. Unit {0}) (λ place. length places < 64) (members_at path d) _ (on_all _) λ ms u.
+    on_bind (λ x. length places < 64) (λ place. length places < 64) (room_for_object places) _ (room_below places) λ room below.
+    on_bind (λ x. Unit {0}) (λ place. length places < 64) (text_at path d (codes "id")) _ (on_all _) λ id u.
+    on_bind (λ x. Unit {0}) (λ place. length places < 64) (new_id (under path (codes "id")) places id) _ (on_all _) λ new u.
+    on_bind (λ x. Unit {0}) (λ place. length places < 64) (class_at_key path types d) _ (on_all _) λ class u.
+    on_bind (λ x. Unit {0}) (λ place. length places < 64) (nothing_at path d unset_of_object) _ (on_all _) λ unset u.
+    on_bind (λ x. Unit {0}) (λ place. length places < 64) (only_at path ms keys_of_object) _ (on_all _) λ only u. below
+
+object_few : (path : List ℕ) (types : List GType) (places : List Place) (d : Data) → AreFew places → OnRead AreFew (object_at path types places d)
+unfolding object_at
+object_few path types places d few =
+    on_bind (λ place. length places < 64) AreFew (place_at path types places d) (λ place. Ok (places ++ place ∷ [])) (place_few path types places d)
+    λ place below. omega (arith, length_push places place)
+
+objects_few : (types : List GType) (d : Data) → OnRead AreFew (objects_in types d)
+unfolding objects_in
+objects_few types d =
+    on_bind (λ x. Unit {0}) AreFew (nothing_at [] d unset_before_objects) _ (on_all _) λ unset u.
+    on_bind (λ x. Unit {0}) AreFew (entries_at [] d (codes "objects")) _ (on_all _) λ list u.
+    on_each AreFew (at_entry (λ entry. object_at entry types) (under [] (codes "objects"))) (λ i places d few. object_few (nth (under [] (codes "objects")) i) types places d few) 0 [] list (omega arith)
+
+pub sound : (types : List GType) (table : List (List Spec)) (os : List Entry) (d : Data) → classes_in d ≡ Ok (draft_of types table) → objects_in types d ≡ Ok (map plain_object os) → IsSound types table os
+sound types table os d read objects =
     let all : AllOwn (own_of table) = subst (OnRead PlainDraft) read (classes_plain d) in
     record {
       plain = record { at = λ t slot s h. plain_get (specs_of types table t) slot s (subst AllPlain (sym (specs_of-is types table t)) (plain_flat (own_of table) all (reverse (lineage types t)))) h };
-      few = few;
+      few = subst (λ n. n ≤ 64) (length-map os plain_object) (subst (OnRead AreFew) objects (objects_few types d));
     }

@@ -11,7 +11,8 @@ use Rattle.builder_defs.specs.Meaning.{Entry, meaning, plain_object}
 use Rattle.ui_machine.specs.Outcome.{◌>>=◌}
 use Rattle.builder_defs.specs.Refusals.{Refusal}
 use Rattle.builder_defs.specs.Document.{members_at, only_at}
-use Rattle.builder_defs.specs.Denoted.{Draft, draft_of, format_of, classes_in, objects_in, definition_in, definition_with, keys_of_definition}
+use Rattle.builder_defs.specs.Denoted.Classes.{Draft, draft_of}
+use Rattle.builder_defs.specs.Denoted.{format_of, classes_in, objects_in, definition_in, definition_with, keys_of_definition}
 
 meant : (types : List GType) (table : List (List Spec)) (os : List Entry) → definition_with (draft_of types table) (map plain_object os) ≡ meaning types table os
 unfolding specs_of

@@ -8,6 +8,7 @@ use Rattle.serde_json.specs.Read.{read}
 use Rattle.ui_machine.specs.Outcome.{◌>>=◌}
 use Rattle.builder_defs.specs.Refusals.{Refusal, shape, too_long, not_utf8, not_json, or_refused, refused_if}
 use Rattle.ui_machine.specs.Limits.{most_definition_bytes}
+use Rattle.builder_defs.specs.declared.document.Path.{Path}
 
 -- the path of a member
 abbrev pub under : List ℕ → List ℕ → List ℕ
@@ -16,6 +17,14 @@ under path key = path ++ (codes "/" ++ key)
 -- the path of an entry of a list
 abbrev pub nth : List ℕ → ℕ → List ℕ
 nth path i = path ++ (codes "/" ++ decimal i)
+
+-- the path of an entry, where the path of its list is given, or the path itself
+abbrev pub located : List ℕ → Option ℕ → List ℕ
+located base None = base
+located base (Some i) = nth base i
+
+abbrev pub path_of : Path → List ℕ
+path_of path = located path.base.now path.index
 
 -- the members of an object
 abbrev pub members_at : List ℕ → Data → Result Members Refusal
@@ -76,6 +85,10 @@ each step i s no_items = Ok s
 each step i s (item d ds) = do
   t ← step i s d
   each step (i + 1) t ds
+
+-- what comes of a state by an entry, of which the path of the list and the number are given
+abbrev pub at_entry : {S : Type 0} → (List ℕ → S → Data → Result S Refusal) → List ℕ → ℕ → S → Data → Result S Refusal
+at_entry step path i s d = step (nth path i) s d
 
 -- ** from bytes
 

@@ -1,20 +1,16 @@
 -- Which event of a definition a line denotes, or why it denotes none: the first fault in the order of the tests.
-use Rattle.std.specs.Prelude.{◌≡◌, ℕ, ℤ, int_lt, List, length, codes, Bool, true, false, ◌||◌, nat_lt, if◌then◌else◌, Option, None, Some, option_map, option_and_then, Result, Ok, Err, string_bytes}
+use Rattle.std.specs.Prelude.{◌≡◌, ℕ, List, length, codes, Bool, true, false, nat_lt, if◌then◌else◌, Option, None, Some, option_and_then, Result, Ok, Err, string_bytes}
 use Rattle.std.specs.Str.{is_utf8}
 use Rattle.serde_json.specs.Data.{Data, null, boolean, number, string, array, object, Items, no_items, item, Members, no_members, member}
-use Rattle.serde_json.specs.Find.{get, as_bool, as_str, as_array, as_number, as_i64}
+use Rattle.serde_json.specs.Find.{get, as_str, as_array}
 use Rattle.serde_json.specs.Read.{read}
-use Rattle.ui_machine.specs.Definition.Kinds as kinds
-use Rattle.ui_machine.specs.Definition.Values.{Value}
-use Rattle.ui_machine.specs.Definition.Values as values
-use Rattle.ui_machine.specs.Rules.Transform.{least, greatest}
 use Rattle.ui_machine.specs.Definition.Properties.{Spec, is_readable, is_writable, is_construct_only}
 use Rattle.ui_machine.specs.Definition as machine
 use Rattle.ui_machine.specs.Definition.Places as places
 use Rattle.ui_machine.specs.Definition.Lookups.{place_of, slot_of, spec_of}
 use Rattle.ui_machine.specs.State.Tasks as config
 use Rattle.g_values.specs.Reading.{json_value}
-use Rattle.g_values.specs.declared.error.JsonError.{JsonError}
+use Rattle.g_values.specs.declared.error.JsonFault.{JsonFault}
 use Rattle.builder_defs.specs.Meaning.{class_at}
 use Rattle.ui_machine.specs.Outcome.{◌>>=◌}
 use Rattle.ui_machine.specs.Limits.{most_line_bytes}
@@ -124,7 +120,7 @@ target d id name = do
 -- ** the value of a set
 
 -- the value, or the one refusal for whichever cause there is none
-abbrev pub or_value_fault : {A : Type 0} → Result A JsonError → Result A EventRefusal
+abbrev pub or_value_fault : {A : Type 0} → Result A JsonFault → Result A EventRefusal
 or_value_fault (Ok x) = Ok x
 or_value_fault (Err cause) = Err value_fault
 

@@ -7,12 +7,13 @@ ghost use Rattle.ui_machine.specs.Seq.{read};
 ghost use Rattle.ui_machine.specs.Output.Text.{no_type};
 ghost use Rattle.builder_defs.specs.Causes.{cause_view, named_cause};
 ghost use Rattle.builder_defs.specs.Refusals.{Gives, Leads};
-ghost use Rattle.builder_defs.specs.Document.{under, each};
-ghost use Rattle.builder_defs.specs.Denoted.{draft_of, is_further, room_for_type, with_class, declared_at, properties_at, class_at, class_of};
+ghost use Rattle.builder_defs.specs.Document.{under, path_of, each, at_entry};
+ghost use Rattle.builder_defs.specs.Denoted.Classes.{draft_of, is_further, room_for_type, with_class, declared_at, properties_at, class_at};
 
-use crate::document::{Entries, Part, path_of_entry, path_under};
+use crate::document::{Entries, Part, path_under};
 use crate::fault::{DefinitionFault, DefinitionLimit, ReadError, TypeCause};
 use crate::properties::read_properties;
+use crate::reads::{Reads, read_each};
 use param_specs::SpecTable;
 use std::alloc::{AllocError, Global};
 use type_tree::{MOST_TYPES, TypeError, TypeFault, TypeFlags, TypeId, TypeTree};
@@ -85,7 +86,7 @@ fn named_cause(alloc: Global, types: &TypeTree, fault: TypeFault) -> Result<Type
 
 // Adds a class of a name, a child of `GObject`.
 fn add_class(part: Part<'_>, types: &mut TypeTree, name: &str) -> Result<TypeId, ReadError>
-    ensures types { Leads result (with_class (under part.entry.path.now (codes "name")) types.old name.now) types.new }
+    ensures types { Leads result (with_class (under (path_of part.entry.path) (codes "name")) types.old name.now) types.new }
     ensures class { IfOk result (λ t. t ≡ length types.old) }
 {
     if is_further(types.find(name)) {
@@ -105,9 +106,9 @@ fn add_class(part: Part<'_>, types: &mut TypeTree, name: &str) -> Result<TypeId,
 }
 
 // Adds the class that an entry declares.
-#[tactic(auto, unfolding(crate::specs::Denoted::declared_at))]
+#[tactic(auto, unfolding(crate::specs::Denoted::Classes::declared_at))]
 fn declare(part: Part<'_>, types: &mut TypeTree) -> Result<TypeId, ReadError>
-    ensures types { Leads result (declared_at part.entry.path.now types.old (view part.entry.value.now)) types.new }
+    ensures types { Leads result (declared_at (path_of part.entry.path) types.old (view part.entry.value.now)) types.new }
     ensures class { IfOk result (λ t. t ≡ length types.old) }
 {
     check_room(types)?;
@@ -117,14 +118,14 @@ fn declare(part: Part<'_>, types: &mut TypeTree) -> Result<TypeId, ReadError>
 }
 
 // Gives a class the properties of its entry.
-#[tactic(auto, unfolding(crate::specs::Denoted::properties_at))]
+#[tactic(auto, unfolding(crate::specs::Denoted::Classes::properties_at))]
 fn give_properties(
     part: Part<'_>,
     types: &TypeTree,
     specs: &mut SpecTable,
     class: TypeId,
 ) -> Result<(), ReadError>
-    ensures { Leads result (properties_at part.entry.path.now types.now class (own_of specs.old) (view part.entry.value.now)) (own_of specs.new) }
+    ensures { Leads result (properties_at (path_of part.entry.path) types.now class (own_of specs.old) (view part.entry.value.now)) (own_of specs.new) }
 {
     part.check_nothing(&UNSET_BEFORE_PROPERTIES)?;
     let items = part.entries("properties")?;
@@ -139,9 +140,9 @@ fn give_properties(
 }
 
 // Adds the class of an entry, with its properties.
-#[tactic(auto, unfolding(crate::specs::Denoted::class_at))]
+#[tactic(auto, unfolding(crate::specs::Denoted::Classes::class_at))]
 fn read_class(part: Part<'_>, types: &mut TypeTree, specs: &mut SpecTable) -> Result<(), ReadError>
-    ensures { Leads result (class_at part.entry.path.now (draft_of types.old specs.old) (view part.entry.value.now)) (draft_of types.new specs.new) }
+    ensures { Leads result (class_at (path_of part.entry.path) (draft_of types.old specs.old) (view part.entry.value.now)) (draft_of types.new specs.new) }
 {
     let members = part.members()?;
     let class = declare(part, types)?;
@@ -151,22 +152,34 @@ fn read_class(part: Part<'_>, types: &mut TypeTree, specs: &mut SpecTable) -> Re
     Ok(())
 }
 
-// Adds the classes of a list.
-pub(crate) fn read_classes(
-    list: Entries<'_>,
-    types: &mut TypeTree,
-    specs: &mut SpecTable,
-) -> Result<(), ReadError>
-    ensures { Leads result (each (class_of list.entry.path.now) 0 (draft_of types.old specs.old) (items_view list.entry.items.now)) (draft_of types.new specs.new) }
-{
-    'items: for (index, item) in list.items.iter().enumerate() {
-        let path = path_of_entry(list.alloc, list.path, index)?;
-        let part = Part {
-            alloc: list.alloc,
-            path: path.as_str(),
-            value: item,
-        };
-        read_class(part, types, specs)?;
+// Types with their properties, while they are read.
+#[derive(Drop)]
+pub(crate) struct Draft {
+    pub(crate) types: TypeTree,
+    pub(crate) specs: SpecTable,
+}
+
+// How the entries of the classes are read.
+#[derive(Clone, Copy)]
+struct ClassEntries;
+
+impl Reads<Draft> for ClassEntries {
+    ghost use Rattle.builder_defs.specs.Denoted.Classes as denoted;
+
+    ghost State = { denoted.Draft };
+
+    ghost seen = { λ draft. denoted.draft_of draft.types draft.specs };
+
+    ghost step = { λ r path draft d. denoted.class_at path draft d };
+
+    fn read(&self, part: Part<'_>, draft: &mut Draft) -> Result<(), ReadError> {
+        read_class(part, &mut draft.types, &mut draft.specs)
     }
-    Ok(())
+}
+
+// Adds the classes of a list.
+pub(crate) fn read_classes(list: Entries<'_>, draft: &mut Draft) -> Result<(), ReadError>
+    ensures { Leads result (each (at_entry class_at list.entry.path.now) 0 (draft_of draft.old.types draft.old.specs) (items_view list.entry.items.now)) (draft_of draft.new.types draft.new.specs) }
+{
+    read_each(&ClassEntries, list, draft)
 }

@@ -8,7 +8,7 @@ ghost use Rattle.std.specs.BTreeMap.{keys};
 ghost use Rattle.serde_json.specs.View.{view, items_view, members_view};
 ghost use Rattle.serde_json.specs.Find.{get};
 ghost use Rattle.builder_defs.specs.Refusals.{Gives, IsRefusal, shape};
-ghost use Rattle.builder_defs.specs.Document.{under, nth, members_at, text_at, entries_at, is_absent_or_empty, nothing_at, escaped, only_at, document};
+ghost use Rattle.builder_defs.specs.Document.{under, nth, path_of, members_at, text_at, entries_at, is_absent_or_empty, nothing_at, escaped, only_at, document};
 
 use crate::fault::{DefinitionFault, ReadError};
 use serde_json::{Map, Value};
@@ -35,11 +35,18 @@ pub(crate) fn parsed(alloc: Global, bytes: &[u8]) -> Result<Value, ReadError>
     }
 }
 
-// A value of a document, and its path.
+// Where a value stands: at a path, or as an entry of the list that stands there. Its text is made for a refusal alone.
+#[derive(Clone, Copy)]
+pub(crate) struct Path<'a> {
+    pub(crate) base: &'a str,
+    pub(crate) index: Option<usize>,
+}
+
+// A value of a document, and where it stands.
 #[derive(Clone, Copy)]
 pub(crate) struct Part<'a> {
     pub(crate) alloc: Global,
-    pub(crate) path: &'a str,
+    pub(crate) path: Path<'a>,
     pub(crate) value: &'a Value,
 }
 
@@ -51,23 +58,43 @@ pub(crate) struct Entries<'a> {
     pub(crate) items: &'a [Value],
 }
 
-// The path of a member.
-pub(crate) fn path_under(alloc: Global, path: &str, key: &str) -> Result<String, AllocError>
-    ensures { IfOk result (λ s. string_bytes s ≡ under path.now key.now) }
-{
-    Ok(format!(in alloc; "{path}/{key}")?)
-}
-
 // The path of an entry of a list.
-pub(crate) fn path_of_entry(alloc: Global, path: &str, index: usize) -> Result<String, AllocError>
+fn path_of_entry(alloc: Global, path: &str, index: usize) -> Result<String, AllocError>
     ensures { IfOk result (λ s. string_bytes s ≡ nth path.now index) }
 {
     Ok(format!(in alloc; "{path}/{index}")?)
 }
 
+// The path as a text.
+pub(crate) fn path_text(alloc: Global, path: Path<'_>) -> Result<String, AllocError>
+    ensures { IfOk result (λ s. string_bytes s ≡ path_of path.entry) }
+{
+    match path.index {
+        Some(index) => path_of_entry(alloc, path.base, index),
+        None => String::from_str(alloc, path.base),
+    }
+}
+
+// The path of a member of the value there.
+pub(crate) fn path_under(alloc: Global, path: Path<'_>, key: &str) -> Result<String, AllocError>
+    ensures { IfOk result (λ s. string_bytes s ≡ under (path_of path.entry) key.now) }
+{
+    let whole = path_text(alloc, path)?;
+    let start = whole.as_str();
+    Ok(format!(in alloc; "{start}/{key}")?)
+}
+
+// The path of an entry of the list there.
+pub(crate) fn path_within(alloc: Global, path: Path<'_>, index: usize) -> Result<String, AllocError>
+    ensures { IfOk result (λ s. string_bytes s ≡ nth (path_of path.entry) index) }
+{
+    let whole = path_text(alloc, path)?;
+    path_of_entry(alloc, whole.as_str(), index)
+}
+
 // A fault of shape at a member.
-pub(crate) fn bad_shape(alloc: Global, path: &str, key: &str) -> Result<ReadError, ReadError>
-    ensures { IsRefusal (shape (under path.now key.now)) result }
+pub(crate) fn bad_shape(alloc: Global, path: Path<'_>, key: &str) -> Result<ReadError, ReadError>
+    ensures { IsRefusal (shape (under (path_of path.entry) key.now)) result }
 {
     Ok(ReadError::Refused(DefinitionFault::Shape(path_under(alloc, path, key)?)))
 }
@@ -89,11 +116,11 @@ fn is_absent_or_empty(member: Option<&Value>) -> bool
 impl<'a> Part<'a> {
     // The members of the value, which must be an object.
     pub(crate) fn members(self) -> Result<&'a Map<String, Value>, ReadError>
-        ensures { Gives (λ m. members_view m.now.entries) result (members_at self.entry.path.now (view self.entry.value.now)) }
+        ensures { Gives (λ m. members_view m.now.entries) result (members_at (path_of self.entry.path) (view self.entry.value.now)) }
     {
         match self.value.as_object() {
             Some(members) => Ok(members),
-            None => Err(ReadError::Refused(DefinitionFault::Shape(String::from_str(
+            None => Err(ReadError::Refused(DefinitionFault::Shape(path_text(
                 self.alloc, self.path,
             )?))),
         }
@@ -101,7 +128,7 @@ impl<'a> Part<'a> {
 
     // A member that must be a text.
     pub(crate) fn text(self, key: &str) -> Result<&'a str, ReadError>
-        ensures { Gives (λ s. s.now) result (text_at self.entry.path.now (view self.entry.value.now) key.now) }
+        ensures { Gives (λ s. s.now) result (text_at (path_of self.entry.path) (view self.entry.value.now) key.now) }
     {
         match self.value.get(key).and_then(Value::as_str) {
             Some(text) => Ok(text),
@@ -111,7 +138,7 @@ impl<'a> Part<'a> {
 
     // The entries of a list, which may be absent.
     pub(crate) fn entries(self, key: &str) -> Result<&'a [Value], ReadError>
-        ensures { Gives (λ s. items_view s.now) result (entries_at self.entry.path.now (view self.entry.value.now) key.now) }
+        ensures { Gives (λ s. items_view s.now) result (entries_at (path_of self.entry.path) (view self.entry.value.now) key.now) }
     {
         let Some(list) = self.value.get(key) else {
             return Ok(&[]);
@@ -125,7 +152,7 @@ impl<'a> Part<'a> {
     // Tests that members, of which there is nothing so far, are absent or empty lists.
     #[tactic(auto, using(crate::proofs::Members::find_map))]
     pub(crate) fn check_nothing(self, keys: &[&str]) -> Result<(), ReadError>
-        ensures { Gives (λ _. tt) result (nothing_at self.entry.path.now (view self.entry.value.now) (map (λ k. k.now) keys.now)) }
+        ensures { Gives (λ _. tt) result (nothing_at (path_of self.entry.path) (view self.entry.value.now) (map (λ k. k.now) keys.now)) }
     {
         match first_given(self.value, keys) {
             None => Ok(()),
@@ -140,7 +167,7 @@ impl<'a> Part<'a> {
         members: &Map<String, Value>,
         keys: &[&str],
     ) -> Result<(), ReadError>
-        ensures { Gives (λ _. tt) result (only_at self.entry.path.now (members_view members.now.entries) (map (λ k. k.now) keys.now)) }
+        ensures { Gives (λ _. tt) result (only_at (path_of self.entry.path) (members_view members.now.entries) (map (λ k. k.now) keys.now)) }
     {
         match first_other(members, keys) {
             None => Ok(()),

@@ -214,11 +214,6 @@ fn value_for(
     match from_json(alloc, types, value, kind) {
         Ok(value) => Ok(value),
         Err(JsonError::OutOfMemory) => Err(EventError::OutOfMemory),
-        Err(
-            JsonError::WrongJson
-            | JsonError::OutOfRange
-            | JsonError::UnknownMember
-            | JsonError::TextTooLong,
-        ) => Err(EventError::Refused(EventFault::ValueFault)),
+        Err(JsonError::Refused(_)) => Err(EventError::Refused(EventFault::ValueFault)),
     }
 }

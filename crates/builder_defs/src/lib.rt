@@ -11,10 +11,12 @@ mod event_fault;
 mod event_reading;
 mod fault;
 mod fault_text;
+mod names;
 mod object_entry;
 mod objects;
 mod properties;
 mod reading;
+mod reads;
 
 pub use definition::Definition;
 pub use document::MAX_BYTES;

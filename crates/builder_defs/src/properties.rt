@@ -10,11 +10,12 @@ ghost use Rattle.ui_machine.specs.Definition.Properties as properties;
 ghost use Rattle.param_specs.specs.View.{spec_view};
 ghost use Rattle.param_specs.specs.Table.{own_of, specs_of};
 ghost use Rattle.builder_defs.specs.Refusals.{Gives, Leads};
-ghost use Rattle.builder_defs.specs.Document.{under, each};
-ghost use Rattle.builder_defs.specs.Denoted.{kind_named, kind_at, lowest, highest, room_for_property, new_property, spec_at, installed, property_at, property_of};
+ghost use Rattle.builder_defs.specs.Document.{under, path_of, each, at_entry};
+ghost use Rattle.builder_defs.specs.Denoted.Properties.{kind_named, kind_at, lowest, highest, room_for_property, new_property, spec_at, installed, property_at};
 
-use crate::document::{Entries, Part, bad_shape, path_of_entry, path_under};
+use crate::document::{Entries, Part, bad_shape, path_text, path_under};
 use crate::fault::{DefinitionFault, DefinitionLimit, ReadError};
+use crate::reads::{Reads, read_each};
 use g_values::{Kind, zero_of};
 use param_specs::{
     MOST_PROPERTIES, PropertyFlags, Spec, SpecError, SpecFault, SpecTable, is_property_name,
@@ -45,7 +46,7 @@ fn kind_named(word: &str) -> Option<Kind>
 
 // The kind of a property.
 fn kind_of(part: Part<'_>) -> Result<Kind, ReadError>
-    ensures kind { Gives kind_view result (kind_at part.entry.path.now (view part.entry.value.now)) }
+    ensures kind { Gives kind_view result (kind_at (path_of part.entry.path) (view part.entry.value.now)) }
     ensures known { IfOk result (λ k. (types : List GType) → IsKnown types k) }
 {
     let word = part.text("kind")?;
@@ -128,7 +129,7 @@ fn check_name(
     class: TypeId,
     name: &str,
 ) -> Result<(), ReadError>
-    ensures { Gives (λ _. tt) result (new_property (under part.entry.path.now (codes "name")) (specs_of types.now specs.now class) name.now) }
+    ensures { Gives (λ _. tt) result (new_property (under (path_of part.entry.path) (codes "name")) (specs_of types.now specs.now class) name.now) }
 {
     if !is_property_name(name) {
         let path = path_under(part.alloc, part.path, "name")?;
@@ -142,14 +143,14 @@ fn check_name(
 }
 
 // The spec of a property that a class has not yet.
-#[tactic(auto, unfolding(crate::specs::Denoted::spec_at))]
+#[tactic(auto, unfolding(crate::specs::Denoted::Properties::spec_at))]
 fn spec_in(
     part: Part<'_>,
     types: &TypeTree,
     specs: &SpecTable,
     class: TypeId,
 ) -> Result<Spec, ReadError>
-    ensures spec { Gives spec_view result (spec_at part.entry.path.now types.now (specs_of types.now specs.now class) (view part.entry.value.now)) }
+    ensures spec { Gives spec_view result (spec_at (path_of part.entry.path) types.now (specs_of types.now specs.now class) (view part.entry.value.now)) }
     ensures known { IfOk result (λ s. IsKnown types.now s.kind) }
 {
     let members = part.members()?;
@@ -173,13 +174,13 @@ fn install(
     spec: Spec,
 ) -> Result<(), ReadError>
     requires { IsKnown types.now spec.kind }
-    ensures { Leads result (installed part.entry.path.now types.now class (own_of specs.old) (spec_view spec)) (own_of specs.new) }
+    ensures { Leads result (installed (path_of part.entry.path) types.now class (own_of specs.old) (spec_view spec)) (own_of specs.new) }
 {
     match specs.install(types, class, spec) {
         Ok(_) => Ok(()),
         Err(SpecError::OutOfMemory) => Err(ReadError::OutOfMemory),
         Err(SpecError::Refused(cause)) => Err(ReadError::Refused(DefinitionFault::BadSpec(
-            String::from_str(part.alloc, part.path)?,
+            path_text(part.alloc, part.path)?,
             cause,
         ))),
     }
@@ -193,11 +194,35 @@ fn read_property(
     specs: &mut SpecTable,
     class: TypeId,
 ) -> Result<(), ReadError>
-    ensures { Leads result (property_at part.entry.path.now types.now class (own_of specs.old) (view part.entry.value.now)) (own_of specs.new) }
+    ensures { Leads result (property_at (path_of part.entry.path) types.now class (own_of specs.old) (view part.entry.value.now)) (own_of specs.new) }
 {
     let spec = spec_in(part, types, specs, class)?;
     install(part, types, specs, class, spec)?;
     Ok(())
+}
+
+// How the entries of a class's properties are read.
+#[derive(Clone, Copy)]
+struct PropertyEntries<'a> {
+    types: &'a TypeTree,
+    class: TypeId,
+}
+
+impl<'a> Reads<SpecTable> for PropertyEntries<'a> {
+    ghost use Rattle.std.specs.Prelude.{ℕ, List};
+    ghost use Rattle.ui_machine.specs.Definition.Properties as properties;
+    ghost use Rattle.param_specs.specs.Table.{own_of};
+    ghost use Rattle.builder_defs.specs.Denoted.Properties.{property_at};
+
+    ghost State = { ℕ → List properties.Spec };
+
+    ghost seen = { λ specs. own_of specs };
+
+    ghost step = { λ r path own d. property_at path r.types.now r.class own d };
+
+    fn read(&self, part: Part<'_>, specs: &mut SpecTable) -> Result<(), ReadError> {
+        read_property(part, self.types, specs, self.class)
+    }
 }
 
 // Gives a class the properties of a list.
@@ -207,16 +232,8 @@ pub(crate) fn read_properties(
     specs: &mut SpecTable,
     class: TypeId,
 ) -> Result<(), ReadError>
-    ensures { Leads result (each (property_of list.entry.path.now types.now class) 0 (own_of specs.old) (items_view list.entry.items.now)) (own_of specs.new) }
+    ensures { Leads result (each (at_entry (λ path. property_at path types.now class) list.entry.path.now) 0 (own_of specs.old) (items_view list.entry.items.now)) (own_of specs.new) }
 {
-    'items: for (index, item) in list.items.iter().enumerate() {
-        let path = path_of_entry(list.alloc, list.path, index)?;
-        let part = Part {
-            alloc: list.alloc,
-            path: path.as_str(),
-            value: item,
-        };
-        read_property(part, types, specs, class)?;
-    }
-    Ok(())
+    let reader = PropertyEntries { types, class };
+    read_each(&reader, list, specs)
 }

@@ -5,11 +5,13 @@ ghost use Rattle.serde_json.specs.Find.{get, as_number, as_u64};
 ghost use Rattle.serde_json.specs.View.{view};
 ghost use Rattle.builder_defs.specs.Meaning.{plain_object};
 ghost use Rattle.builder_defs.specs.Refusals.{Gives, Leads};
-ghost use Rattle.builder_defs.specs.Denoted.{draft_of, first_draft, format_of, classes_in, objects_in, definition_in, denoted};
+ghost use Rattle.builder_defs.specs.Document.{path_of};
+ghost use Rattle.builder_defs.specs.Denoted.Classes.{draft_of, first_draft};
+ghost use Rattle.builder_defs.specs.Denoted.{format_of, classes_in, objects_in, definition_in, denoted};
 
-use crate::classes::read_classes;
+use crate::classes::{Draft, read_classes};
 use crate::definition::Definition;
-use crate::document::{Entries, Part, parsed, path_under};
+use crate::document::{Entries, Part, Path, parsed};
 use crate::fault::{DefinitionFault, ReadError};
 use crate::objects::read_objects;
 use indexmap::IndexMap;
@@ -54,36 +56,33 @@ fn format_in(value: &Value) -> Option<u64>
 
 // Adds the classes of a definition to the types that are there from the beginning.
 #[tactic(auto, unfolding(crate::specs::Denoted::classes_in))]
-fn read_types(part: Part<'_>, types: &mut TypeTree, specs: &mut SpecTable) -> Result<(), ReadError>
-    requires root { part.path.now ≡ [] }
-    requires first { draft_of types.old specs.old ≡ first_draft }
-    ensures { Leads result (classes_in (view part.entry.value.now)) (draft_of types.new specs.new) }
+fn read_types(part: Part<'_>, draft: &mut Draft) -> Result<(), ReadError>
+    requires root { path_of part.path ≡ [] }
+    requires first { draft_of draft.old.types draft.old.specs ≡ first_draft }
+    ensures { Leads result (classes_in (view part.entry.value.now)) (draft_of draft.new.types draft.new.specs) }
 {
     part.check_nothing(&UNSET_BEFORE_CLASSES)?;
     let items = part.entries("classes")?;
-    let path = path_under(part.alloc, part.path, "classes")?;
     let list = Entries {
         alloc: part.alloc,
-        path: path.as_str(),
+        path: "/classes",
         items,
     };
-    read_classes(list, types, specs)?;
+    read_classes(list, draft)?;
     Ok(())
 }
 
 // The objects of a definition.
 #[tactic(auto, unfolding(crate::specs::Denoted::objects_in))]
 fn objects_of(part: Part<'_>, types: &TypeTree) -> Result<IndexMap<String, TypeId>, ReadError>
-    requires { part.path.now ≡ [] }
-    ensures objects { Gives (λ v. map plain_object v.entries) result (objects_in types.now (view part.entry.value.now)) }
-    ensures few { IfOk result (λ v. length v.entries ≤ 64) }
+    requires { path_of part.path ≡ [] }
+    ensures { Gives (λ v. map plain_object v.entries) result (objects_in types.now (view part.entry.value.now)) }
 {
     part.check_nothing(&UNSET_BEFORE_OBJECTS)?;
     let items = part.entries("objects")?;
-    let path = path_under(part.alloc, part.path, "objects")?;
     let list = Entries {
         alloc: part.alloc,
-        path: path.as_str(),
+        path: "/objects",
         items,
     };
     let objects = read_objects(list, types)?;
@@ -97,19 +96,24 @@ fn definition_of(alloc: Global, value: &Value) -> Result<Definition, ReadError>
 {
     let part = Part {
         alloc,
-        path: "",
+        path: Path {
+            base: "",
+            index: None,
+        },
         value,
     };
     let members = part.members()?;
     check_format(alloc, format_in(value))?;
-    let mut types = TypeTree::new(alloc)?;
-    let mut specs = SpecTable::new(alloc);
-    read_types(part, &mut types, &mut specs)?;
-    let objects = objects_of(part, &types)?;
+    let mut draft = Draft {
+        types: TypeTree::new(alloc)?,
+        specs: SpecTable::new(alloc),
+    };
+    read_types(part, &mut draft)?;
+    let objects = objects_of(part, &draft.types)?;
     part.check_only(members, &MEMBERS)?;
     Ok(Definition {
-        types,
-        specs,
+        types: draft.types,
+        specs: draft.specs,
         objects,
     })
 }

@@ -11,8 +11,10 @@ use Rattle.ui_machine.specs.Definition.Types.{GType, Member}
 use Rattle.ui_machine.specs.Output.Text.{members_of}
 use Rattle.ui_machine.specs.Rules.Transform.{least, greatest, is_between, has_number}
 use Rattle.g_values.specs.Naming.{number_called, bits_named}
+use Rattle.g_values.specs.declared.error.JsonFault.{JsonFault}
+use Rattle.g_values.specs.declared.error.JsonFault.TheVariants.{WrongJson, OutOfRange, UnknownMember, TextTooLong}
 use Rattle.g_values.specs.declared.error.JsonError.{JsonError}
-use Rattle.g_values.specs.declared.error.JsonError.TheVariants.{WrongJson, OutOfRange, UnknownMember, TextTooLong, OutOfMemory}
+use Rattle.g_values.specs.declared.error.JsonError.TheVariants.{OutOfMemory, Refused}
 use Rattle.ui_machine.specs.Limits.{most_text_bytes}
 
 -- ** parts of values
@@ -22,36 +24,36 @@ abbrev pub whole_number : Data → Option ℤ
 whole_number d = option_and_then as_integer (as_number d)
 
 -- a whole number between two others, both included
-abbrev pub number_between : ℤ → ℤ → Option ℤ → Result ℤ JsonError
+abbrev pub number_between : ℤ → ℤ → Option ℤ → Result ℤ JsonFault
 number_between low high None = Err WrongJson
 number_between low high (Some n) = if is_between low high n then Ok n else Err OutOfRange
 
 -- what a text calls, if it calls something
-abbrev pub called : {A : Type 0} → Option A → Result A JsonError
+abbrev pub called : {A : Type 0} → Option A → Result A JsonFault
 called None = Err UnknownMember
 called (Some x) = Ok x
 
 -- the number of a member
-abbrev pub member_numbered : List Member → Result ℤ JsonError → Result ℤ JsonError
+abbrev pub member_numbered : List Member → Result ℤ JsonFault → Result ℤ JsonFault
 member_numbered members (Err cause) = Err cause
 member_numbered members (Ok n) = if has_number members n then Ok n else Err UnknownMember
 
 -- the number of a member that a text calls or that is given itself
-abbrev pub enum_number : List Member → Option (List ℕ) → Option ℤ → Result ℤ JsonError
+abbrev pub enum_number : List Member → Option (List ℕ) → Option ℤ → Result ℤ JsonFault
 enum_number members None n = member_numbered members (number_between (least int) (greatest int) n)
 enum_number members (Some word) n = called (number_called members word)
 
-abbrev pub bits_of : Result ℤ JsonError → Result ℕ JsonError
+abbrev pub bits_of : Result ℤ JsonFault → Result ℕ JsonFault
 bits_of (Err cause) = Err cause
 bits_of (Ok n) = Ok (unsigned_abs n)
 
 -- bits that a text names, or any number of 32 bits that is given itself
-abbrev pub flags_bits : List Member → Option (List ℕ) → Option ℤ → Result ℕ JsonError
+abbrev pub flags_bits : List Member → Option (List ℕ) → Option ℤ → Result ℕ JsonFault
 flags_bits members None n = bits_of (number_between (pos 0) (greatest uint) n)
 flags_bits members (Some text) n = called (bits_named members text)
 
 -- a text that is not too long, or null
-abbrev pub text_or_null : Data → Result (Option (List ℕ)) JsonError
+abbrev pub text_or_null : Data → Result (Option (List ℕ)) JsonFault
 text_or_null null = Ok None
 text_or_null (boolean b) = Err WrongJson
 text_or_null (number n) = Err WrongJson
@@ -60,18 +62,18 @@ text_or_null (array ds) = Err WrongJson
 text_or_null (object ms) = Err WrongJson
 
 -- what is there, if it is
-abbrev pub expected : {A : Type 0} → Option A → Result A JsonError
+abbrev pub expected : {A : Type 0} → Option A → Result A JsonFault
 expected None = Err WrongJson
 expected (Some x) = Ok x
 
 -- ** values
 
-abbrev pub value_of : {A : Type 0} → (A → Value) → Result A JsonError → Result Value JsonError
+abbrev pub value_of : {A : Type 0} → (A → Value) → Result A JsonFault → Result Value JsonFault
 value_of make (Err cause) = Err cause
 value_of make (Ok x) = Ok (make x)
 
 -- the value of a kind that JSON stands for, or why it stands for none; of objects, null alone
-abbrev pub json_value : List GType → Kind → Data → Result Value JsonError
+abbrev pub json_value : List GType → Kind → Data → Result Value JsonFault
 json_value types kinds.bool d = value_of values.bool (expected (as_bool d))
 json_value types (kinds.whole k) d = value_of (values.whole k) (number_between (least k) (greatest k) (whole_number d))
 json_value types kinds.text d = value_of values.text (text_or_null d)
@@ -80,10 +82,7 @@ json_value types (kinds.flags t) d = value_of (values.flags t) (flags_bits (memb
 json_value types (kinds.object t) d = value_of (λ _. values.object None) (expected (as_null d))
 
 -- What a function returned, seen by view, is what is meant; without memory it would have been a value.
-abbrev pub Means : {X Y : Type 0} → (X → Y) → Result X JsonError → Result Y JsonError → Type 0
+abbrev pub Means : {X Y : Type 0} → (X → Y) → Result X JsonError → Result Y JsonFault → Type 0
 Means view (Ok x) meant = meant ≡ Ok (view x)
-Means view (Err WrongJson) meant = meant ≡ Err WrongJson
-Means view (Err OutOfRange) meant = meant ≡ Err OutOfRange
-Means view (Err UnknownMember) meant = meant ≡ Err UnknownMember
-Means view (Err TextTooLong) meant = meant ≡ Err TextTooLong
+Means view (Err (Refused cause)) meant = meant ≡ Err cause
 Means view (Err OutOfMemory) meant = IsOk meant

@@ -7,7 +7,8 @@ use Rattle.ui_machine.specs.Definition.Kinds as kinds
 use Rattle.ui_machine.specs.Definition.Values as values
 use Rattle.ui_machine.specs.Rules.Transform.{wrapped, is_transformable, transformed}
 use Rattle.g_values.specs.declared.error.TransformError.{TransformError}
-use Rattle.g_values.specs.declared.error.TransformError.TheVariants.{NoTransform, NotAMember, OutOfMemory}
+use Rattle.g_values.specs.declared.error.TransformError.TheVariants.{OutOfMemory, Refused}
+use Rattle.g_values.specs.declared.error.TransformFault.TheVariants.{NoTransform, NotAMember}
 use Rattle.ui_machine.specs.Definition.Types.{GType, enum, flags}
 use Rattle.type_tree.specs.Adding.{sort_of}
 use Rattle.g_values.specs.declared.kind.Kind.{Kind}
@@ -93,6 +94,6 @@ Yields (Err e) kind answer = IsSome answer
 -- has no result. Without memory it would have been answered.
 abbrev pub Transforms : Result Value TransformError → List GType → kinds.Kind → kinds.Kind → values.Value → Type 0
 Transforms (Ok w) types from to v = (transformed types from to v ≡ Some (value_view w)) × (value_kind w ≡ to)
-Transforms (Err NoTransform) types from to v = is_transformable types from to ≡ false
-Transforms (Err NotAMember) types from to v = (is_transformable types from to ≡ true) × (transformed types from to v ≡ None)
+Transforms (Err (Refused NoTransform)) types from to v = is_transformable types from to ≡ false
+Transforms (Err (Refused NotAMember)) types from to v = (is_transformable types from to ≡ true) × (transformed types from to v ≡ None)
 Transforms (Err OutOfMemory) types from to v = IsSome (transformed types from to v)

@@ -5,20 +5,23 @@ ghost use Rattle.g_values.specs.declared.error.TransformError.TheVariants.{OutOf
 ghost use Rattle.g_values.specs.declared.error.JsonError.TheVariants as json;
 
 use std::alloc::AllocError;
-use thiserror::Error;
 
-/// Why a value is not transformed.
-#[derive(Clone, Copy, Debug, PartialEq, Eq, Error)]
-pub enum TransformError {
+/// Why a value does not become one of another kind, in the order in which the tests are made.
+#[derive(Clone, Copy, Debug, PartialEq, Eq)]
+pub enum TransformFault {
     /// No value of the one kind becomes a value of the other.
-    #[error("NoTransform")]
     NoTransform,
     /// No member of the enum has the number, or the number is not made of known bits of the flags type.
-    #[error("NotAMember")]
     NotAMember,
+}
+
+/// Why a transformation gave no value.
+#[derive(Clone, Copy, Debug, PartialEq, Eq)]
+pub enum TransformError {
     /// No memory was found.
-    #[error("OutOfMemory")]
     OutOfMemory,
+    /// The value has no result in the kind.
+    Refused(TransformFault),
 }
 
 impl From<AllocError> for TransformError {
@@ -30,23 +33,25 @@ impl From<AllocError> for TransformError {
 }
 
 /// Why JSON stands for no value of a kind.
-#[derive(Clone, Copy, Debug, PartialEq, Eq, Error)]
-pub enum JsonError {
+#[derive(Clone, Copy, Debug, PartialEq, Eq)]
+pub enum JsonFault {
     /// JSON of this sort stands for no value of the kind.
-    #[error("WrongJson")]
     WrongJson,
     /// The kind does not have the number.
-    #[error("OutOfRange")]
     OutOfRange,
     /// No member is called so or has the number.
-    #[error("UnknownMember")]
     UnknownMember,
     /// The text has more than 4,096 bytes.
-    #[error("TextTooLong")]
     TextTooLong,
+}
+
+/// Why a read of JSON gave no value.
+#[derive(Clone, Copy, Debug, PartialEq, Eq)]
+pub enum JsonError {
     /// No memory was found.
-    #[error("OutOfMemory")]
     OutOfMemory,
+    /// The JSON stands for no value of the kind.
+    Refused(JsonFault),
 }
 
 impl From<AllocError> for JsonError {
@@ -54,5 +59,13 @@ impl From<AllocError> for JsonError {
 
     fn from(_error: AllocError) -> JsonError {
         JsonError::OutOfMemory
+    }
+}
+
+impl From<JsonFault> for JsonError {
+    ghost from_gives = { λ fault error. error ≡ json.Refused fault };
+
+    fn from(fault: JsonFault) -> JsonError {
+        JsonError::Refused(fault)
     }
 }

@@ -18,7 +18,7 @@ mod zero;
 pub use arithmetic::{
     is_at_most, is_equal, is_less, wrapping_difference, wrapping_product, wrapping_sum,
 };
-pub use error::{JsonError, TransformError};
+pub use error::{JsonError, JsonFault, TransformError, TransformFault};
 pub use kind::{Kind, is_known};
 pub use members::{has_number, known_bits};
 pub use reading::{MOST_TEXT_BYTES, from_json};

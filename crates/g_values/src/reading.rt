@@ -8,7 +8,7 @@ ghost use Rattle.type_tree.specs.Entry.{enum_member, flags_member};
 ghost use Rattle.g_values.specs.View.{kind_view, value_view, value_kind, IsKnown};
 ghost use Rattle.g_values.specs.Reading.{whole_number, number_between, enum_number, flags_bits, text_or_null, expected, json_value, Means};
 
-use crate::error::JsonError;
+use crate::error::{JsonError, JsonFault};
 use crate::kind::Kind;
 use crate::members::has_number;
 use crate::naming::{bits_named, enum_called};
@@ -66,17 +66,17 @@ pub fn from_json(
 }
 
 // A truth value.
-fn truth_in(json: &serde_json::Value) -> Result<bool, JsonError>
+fn truth_in(json: &serde_json::Value) -> Result<bool, JsonFault>
     ensures { result ≡ expected (as_bool (view json.now)) }
 {
-    json.as_bool().ok_or(JsonError::WrongJson)
+    json.as_bool().ok_or(JsonFault::WrongJson)
 }
 
 // Null.
-fn null_in(json: &serde_json::Value) -> Result<(), JsonError>
+fn null_in(json: &serde_json::Value) -> Result<(), JsonFault>
     ensures { result ≡ expected (as_null (view json.now)) }
 {
-    json.as_null().ok_or(JsonError::WrongJson)
+    json.as_null().ok_or(JsonFault::WrongJson)
 }
 
 // A whole number of 64 bits, with or without a sign.
@@ -87,16 +87,16 @@ fn whole_number(json: &serde_json::Value) -> Option<i128>
 }
 
 // A whole number between two others, both included.
-fn number_in(json: &serde_json::Value, low: i128, high: i128) -> Result<i128, JsonError>
+fn number_in(json: &serde_json::Value, low: i128, high: i128) -> Result<i128, JsonFault>
     ensures number { result ≡ number_between low high (whole_number (view json.now)) }
     ensures low { IfOk result (λ n. low ≤ℤ n) }
     ensures high { IfOk result (λ n. n ≤ℤ high) }
 {
     let Some(number) = whole_number(json) else {
-        return Err(JsonError::WrongJson);
+        return Err(JsonFault::WrongJson);
     };
     if number < low || number > high {
-        return Err(JsonError::OutOfRange);
+        return Err(JsonFault::OutOfRange);
     }
     Ok(number)
 }
@@ -109,36 +109,36 @@ fn text_in(alloc: Global, json: &serde_json::Value) -> Result<Option<RcStr>, Jso
         return Ok(None);
     }
     let Some(text) = json.as_str() else {
-        return Err(JsonError::WrongJson);
+        return Err(JsonError::Refused(JsonFault::WrongJson));
     };
     if text.len() > MOST_TEXT_BYTES {
-        return Err(JsonError::TextTooLong);
+        return Err(JsonError::Refused(JsonFault::TextTooLong));
     }
     let text = RcStr::from_str(alloc, text)?;
     Ok(Some(text))
 }
 
 // The number of a member of an enum, which is called or given itself.
-fn enum_number_in(members: &[EnumMember], json: &serde_json::Value) -> Result<i32, JsonError>
+fn enum_number_in(members: &[EnumMember], json: &serde_json::Value) -> Result<i32, JsonFault>
     ensures { result ≡ enum_number (map enum_member members.now) (as_str (view json.now)) (whole_number (view json.now)) }
 {
     if let Some(word) = json.as_str() {
-        return enum_called(members, word).ok_or(JsonError::UnknownMember);
+        return enum_called(members, word).ok_or(JsonFault::UnknownMember);
     }
     let number = number_in(json, i128::from(i32::MIN), i128::from(i32::MAX))?;
     if has_number(members, number) {
         Ok(number as i32)
     } else {
-        Err(JsonError::UnknownMember)
+        Err(JsonFault::UnknownMember)
     }
 }
 
 // Bits that are named, or any number of 32 bits that is given itself.
-fn bits_in(members: &[FlagsMember], json: &serde_json::Value) -> Result<u32, JsonError>
+fn bits_in(members: &[FlagsMember], json: &serde_json::Value) -> Result<u32, JsonFault>
     ensures { result ≡ flags_bits (map flags_member members.now) (as_str (view json.now)) (whole_number (view json.now)) }
 {
     if let Some(text) = json.as_str() {
-        return bits_named(members, text).ok_or(JsonError::UnknownMember);
+        return bits_named(members, text).ok_or(JsonFault::UnknownMember);
     }
     let number = number_in(json, 0, i128::from(u32::MAX))?;
     Ok(number as u32)

@@ -11,7 +11,7 @@ ghost use Rattle.type_tree.specs.Adding.{sort_of};
 ghost use Rattle.ui_machine.specs.Rules.Transform.{is_transformable, converted, transformed, has_number, is_known, if_so};
 ghost use Rattle.g_values.specs.View.{kind_view, value_view, value_kind, is_whole_kind, IsKnown, Becomes, BecomesWhole, Yields, Transforms};
 
-use crate::error::TransformError;
+use crate::error::{TransformError, TransformFault};
 use crate::kind::Kind;
 use crate::members::{known_flags, member_number};
 use crate::value::{Value, kind_of};
@@ -222,7 +222,7 @@ pub fn transform(
     if transformable(tree, kind_of(value), to) {
         transform_one(alloc, tree, value, kind)
     } else {
-        Err(TransformError::NoTransform)
+        Err(TransformError::Refused(TransformFault::NoTransform))
     }
 }
 
@@ -240,6 +240,6 @@ fn transform_one(
     let becomes = convert(alloc, tree, value, kind)?;
     match becomes {
         Some(value) => Ok(value),
-        None => Err(TransformError::NotAMember),
+        None => Err(TransformError::Refused(TransformFault::NotAMember)),
     }
 }

@@ -4,3 +4,4 @@ pub mod Same
 pub mod Lists
 pub mod First
 pub mod Within
+pub mod Named

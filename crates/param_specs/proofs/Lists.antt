@@ -4,7 +4,7 @@ use Rattle.std.proofs.lemmas.Bool.Decides.{nat_tests}
 use Rattle.std.proofs.lemmas.List.{map-append}
 use Rattle.ui_machine.specs.Definition.Properties as properties
 use Rattle.param_specs.specs.declared.spec.Spec.{Spec}
-use Rattle.param_specs.specs.View.{spec_view, lists_of}
+use Rattle.param_specs.specs.View.{Entry, spec_view, lists_of, AreNamed, AllNamed}
 use Rattle.param_specs.specs.Table.{AddsSpec, SameSpecs, IsTable, Installs, own_of}
 use Rattle.param_specs.specs.declared.error.SpecFault.{SpecFault}
 use Rattle.param_specs.specs.declared.error.SpecError.TheVariants.{Refused}
@@ -46,6 +46,23 @@ module _ {V : Type 0} (items : V → List Spec) where
   SameSpecs-grown [] w e (suc u) = refl
   SameSpecs-grown (x ∷ xs) w e zero = refl
   SameSpecs-grown (x ∷ xs) w e (suc u) = SameSpecs-grown xs w e u
+
+-- ** names
+
+module _ {V : Type 0} (entries : V → List Entry) where
+  pub AllNamed-set : (xs : List V) (i : ℕ) (w : V) → AreNamed (entries w) → AllNamed entries xs → AllNamed entries (slice_set xs i w)
+  AllNamed-set [] i w n all = tt
+  AllNamed-set (x ∷ xs) zero w n all = (n, all.1)
+  AllNamed-set (x ∷ xs) (suc i) w n all = (all.0, AllNamed-set xs i w n all.1)
+
+  pub AllNamed-grown : (xs : List V) (w : V) → entries w ≡ [] → AllNamed entries xs → AllNamed entries (xs ++ w ∷ [])
+  AllNamed-grown [] w e all = (subst AreNamed (sym e) tt, tt)
+  AllNamed-grown (x ∷ xs) w e all = (all.0, AllNamed-grown xs w e all.1)
+
+  pub AllNamed-at : (xs : List V) (i : ℕ) (d : V) → i < length xs → AllNamed entries xs → AreNamed (entries (get_or xs i d))
+  AllNamed-at [] i d h all = absurd (omega arith)
+  AllNamed-at (x ∷ xs) zero d h all = all.0
+  AllNamed-at (x ∷ xs) (suc i) d h all = AllNamed-at xs i d (omega arith) all.1
 
 pub on_err_if : {A E : Type 0} {P : Type 0} (r : Result A E) → P → OnErr r P
 on_err_if (Ok x) p = tt

@@ -8,11 +8,11 @@ use Rattle.std.specs.List.{position_from}
 use Rattle.std.proofs.lemmas.Iterator.Adapters.{position_from-zero}
 use Rattle.std.proofs.lemmas.Option.{none-some}
 use Rattle.ui_machine.specs.Seq.{read}
-use Rattle.ui_machine.specs.Definition.Names.{same_name, canonical, place_from}
+use Rattle.ui_machine.specs.Definition.Names.{same_name, canonical, place_from, place_named}
 use Rattle.param_specs.specs.declared.spec.Spec as Entry
 use Rattle.param_specs.specs.View.{spec_view}
 use Rattle.ui_machine.specs.Definition.Types.{GType}
-use Rattle.ui_machine.specs.Rules.Ancestry.{parent_of, lineage}
+use Rattle.ui_machine.specs.Rules.Ancestry.{parent_of, lineage, line_from}
 use Rattle.ui_machine.specs.Definition.Properties.{Spec}
 use Rattle.type_tree.specs.Tree.{IsTree}
 use Rattle.type_tree.proofs.Lines.{line_from-parent, line_from-root}
@@ -41,14 +41,11 @@ slice_get-back [] ys i h = ap (slice_get ys) (omega arith)
 slice_get-back (x ∷ xs) ys zero h = absurd (omega arith)
 slice_get-back (x ∷ xs) ys (suc i) h = slice_get-back xs ys i (omega arith) ∙ ap (slice_get ys) (omega arith)
 
--- the element that was indexed
-pub slice_get-index : {A B : Type 0} (f : A → B) (xs : List A) (ys : List B) (i : ℕ) (x : A) → map f xs ≡ ys → i < length xs → x ≡ get_or xs i x → slice_get ys i ≡ Some (f x)
-slice_get-index f xs ys i x m h e = ap (λ l. slice_get l i) (sym m) ∙ at xs i h e
-  where
-    at : (zs : List _) (j : ℕ) → j < length zs → x ≡ get_or zs j x → slice_get (map f zs) j ≡ Some (f x)
-    at [] j h e = absurd (omega arith)
-    at (z ∷ zs) zero h e = ap (λ y. Some (f y)) (sym e)
-    at (z ∷ zs) (suc j) h e = at zs j (omega arith) e
+-- the element that was found, mapped
+pub slice_get-mapped : {A B : Type 0} (f : A → B) (xs : List A) (i : ℕ) (x : A) → slice_get xs i ≡ Some x → slice_get (map f xs) i ≡ Some (f x)
+slice_get-mapped f [] i x h = absurd (cc)
+slice_get-mapped f (y ∷ xs) zero x h = let e : y ≡ x = cc in ap (λ z. Some (f z)) e
+slice_get-mapped f (y ∷ xs) (suc i) x h = slice_get-mapped f xs i x h
 
 place_from-front : (i slot : ℕ) (xs ys : List Spec) (name : List ℕ) → place_from (λ s. s.name) i xs name ≡ Some slot → place_from (λ s. s.name) i (xs ++ ys) name ≡ Some slot
 place_from-front i slot [] ys name h = absurd (none-some slot h)
@@ -140,3 +137,30 @@ module _ (types : List GType) (tree : IsTree types) (table : List (List Spec)) w
 
   pub slot-root : (t : ℕ) (name : List ℕ) → parent_of types t ≡ None → slot_named (specs_of types table t) name ≡ slot_named (own_of table t) name
   slot-root t name h = ap (λ x. slot_named x name) (specs_of-root t h)
+
+none_any : (i j : ℕ) (ys : List Spec) (name : List ℕ) → place_from (λ s. s.name) i ys name ≡ None → place_from (λ s. s.name) j ys name ≡ None
+none_any i j [] name h = refl
+none_any i j (y ∷ ys) name h = by (same_name y.name name) h (none_any (suc i) (suc j) ys name)
+  where
+    by : (b : Bool) → cond b (Some i) (place_from (λ s. s.name) (suc i) ys name) ≡ None
+        → (place_from (λ s. s.name) (suc i) ys name ≡ None → place_from (λ s. s.name) (suc j) ys name ≡ None)
+        → cond b (Some j) (place_from (λ s. s.name) (suc j) ys name) ≡ None
+    by true e rest = absurd (none-some i (sym e))
+    by false e rest = rest e
+
+none_behind : (i : ℕ) (xs ys : List Spec) (name : List ℕ) → place_from (λ s. s.name) i (xs ++ ys) name ≡ None → place_from (λ s. s.name) 0 ys name ≡ None
+none_behind i [] ys name h = none_any i 0 ys name h
+none_behind i (x ∷ xs) ys name h = by (same_name x.name name) h (none_behind (suc i) xs ys name)
+  where
+    by : (b : Bool) → cond b (Some i) (place_from (λ s. s.name) (suc i) (xs ++ ys) name) ≡ None
+        → (place_from (λ s. s.name) (suc i) (xs ++ ys) name ≡ None → place_from (λ s. s.name) 0 ys name ≡ None) → place_from (λ s. s.name) 0 ys name ≡ None
+    by true e rest = absurd (none-some i (sym e))
+    by false e rest = rest e
+
+-- a name that no property of a type has is no name of one of its own
+pub none_own : (types : List GType) (table : List (List Spec)) (t : ℕ) (name : List ℕ) → slot_named (specs_of types table t) name ≡ None
+    → place_named (λ s. s.name) (own_of table t) (canonical name) ≡ None
+unfolding specs_of
+none_own types table t name h =
+    none_behind 0 (flat_map (own_of table) (reverse (line_from (length types) types (parent_of types t)))) (own_of table t) (canonical name)
+    (ap (λ (l : List Spec). place_from (λ s. s.name) 0 l (canonical name)) (sym (flat_map-last (own_of table) (line_from (length types) types (parent_of types t)) t)) ∙ h)

@@ -1,29 +1,45 @@
-//! Lists of lists of specs that grow.
+//! The own properties of each type, by their names, as they grow.
 
-ghost use Rattle.std.specs.Prelude.{◌≡◌, ℕ, ◌+◌, ◌<◌, ◌≤◌, List, [], ◌∷◌, ◌++◌, map, nat_eq, if◌then◌else◌, vec_len, OnOk, OnErr};
-ghost use Rattle.param_specs.specs.View.{spec_view, lists_of};
-ghost use Rattle.param_specs.specs.Table.{AddsSpec, SameSpecs};
+ghost use Rattle.std.specs.Prelude.{◌≡◌, ℕ, ◌+◌, ◌<◌, ◌≤◌, List, [], ◌∷◌, ◌++◌, map, nat_eq, None, string_bytes, if◌then◌else◌, vec_len, OnOk, OnErr};
+ghost use Rattle.ui_machine.specs.Definition.Names.{place_named};
+ghost use Rattle.param_specs.specs.View.{spec_view, specs_in, lists_of, AllNamed};
+ghost use Rattle.param_specs.specs.Table.{AddsSpec, SameSpecs, own_of};
 
 use crate::spec::Spec;
+use indexmap::IndexMap;
 use std::alloc::{AllocError, Global};
 
 /// Makes room for a list at each place below the length: empty lists are added, which changes no list that is read.
-pub fn grow(alloc: Global, lists: &mut Vec<Vec<Spec>>, len: usize) -> Result<(), AllocError>
-    ensures same { SameSpecs (lists_of (λ v. v.items) lists.old.items) (lists_of (λ v. v.items) lists.new.items) }
+pub fn grow(
+    alloc: Global,
+    lists: &mut Vec<IndexMap<String, Spec>>,
+    len: usize,
+) -> Result<(), AllocError>
+    ensures same { SameSpecs (lists_of (λ m. specs_in m.entries) lists.old.items) (lists_of (λ m. specs_in m.entries) lists.new.items) }
+    ensures named { AllNamed (λ m. m.entries) lists.old.items → AllNamed (λ m. m.entries) lists.new.items }
     ensures ok { OnOk result (len ≤ vec_len lists.new) }
 {
     'growing: while lists.len() < len {
-        lists.push(Vec::new(alloc))?;
+        lists.push(IndexMap::new(alloc))?;
     }
     Ok(())
 }
 
-/// Adds a spec to one of the lists.
-pub fn add(lists: &mut Vec<Vec<Spec>>, at: usize, spec: Spec) -> Result<(), AllocError>
-    requires { at < vec_len lists.old }
-    ensures ok { OnOk result (AddsSpec (lists_of (λ v. v.items) lists.old.items) (lists_of (λ v. v.items) lists.new.items) at (spec_view spec)) }
-    ensures err { OnErr result (SameSpecs (lists_of (λ v. v.items) lists.old.items) (lists_of (λ v. v.items) lists.new.items)) }
+/// Adds a spec to one of the lists, under its name, which none of the list has.
+pub fn add(
+    lists: &mut Vec<IndexMap<String, Spec>>,
+    at: usize,
+    name: String,
+    spec: Spec,
+) -> Result<(), AllocError>
+    requires within { at < vec_len lists.old }
+    requires named { string_bytes name ≡ string_bytes spec.name }
+    requires new { place_named (λ s. s.name) (own_of (lists_of (λ m. specs_in m.entries) lists.old.items) at) (string_bytes name) ≡ None }
+    requires all { AllNamed (λ m. m.entries) lists.old.items }
+    ensures ok { OnOk result (AddsSpec (lists_of (λ m. specs_in m.entries) lists.old.items) (lists_of (λ m. specs_in m.entries) lists.new.items) at (spec_view spec)) }
+    ensures err { OnErr result (SameSpecs (lists_of (λ m. specs_in m.entries) lists.old.items) (lists_of (λ m. specs_in m.entries) lists.new.items)) }
+    ensures named { AllNamed (λ m. m.entries) lists.new.items }
 {
-    lists[at].push(spec)?;
+    lists[at].insert(name, spec)?;
     Ok(())
 }

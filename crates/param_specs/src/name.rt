@@ -1,6 +1,7 @@
 //! Names of properties.
 
-ghost use Rattle.std.specs.Prelude.{◌≡◌, cond, nat_eq, map, true, IfOk, string_bytes};
+ghost use Rattle.std.specs.Prelude.{◌≡◌, cond, nat_eq, not, map, true, IfOk, string_bytes};
+ghost use Rattle.std.specs.List.{list_all};
 ghost use Rattle.ui_machine.specs.Definition.Names.{same_name, canonical};
 ghost use Rattle.param_specs.specs.PropertyName.{is_property_name, segments_follow, is_letter, is_letter_or_digit, is_separator};
 
@@ -50,6 +51,13 @@ fn is_letter_or_digit(byte: u8) -> bool
     ensures { result ≡ is_letter_or_digit byte }
 {
     matches!(byte, b'0'..=b'9') || is_letter(byte)
+}
+
+/// Whether a name is in the canonical spelling, which has no `_`.
+pub fn has_canonical_bytes(name: &str) -> bool
+    ensures { result ≡ list_all (λ b. not (nat_eq b 95)) name.now }
+{
+    name.as_bytes().iter().all(|byte| *byte != b'_')
 }
 
 /// Whether a canonical name is the one that a name spells, with `-` for `_`.

@@ -1,17 +1,19 @@
 //! Which properties the types have.
 
-ghost use Rattle.std.specs.Prelude.{◌≡◌, ◌≢◌, ◌<◌, ◌≤◌, ◌+◌, ◌*◌, List, [], map, length, string_bytes, slice_get, position, Some, IfSome, IfNone, true, OnOk, OnErr};
+ghost use Rattle.std.specs.Prelude.{◌≡◌, ◌≢◌, ◌<◌, ◌≤◌, ◌+◌, ◌*◌, List, [], map, length, string_bytes, slice_get, position, option_map, None, Some, IfSome, IfNone, true, OnOk, OnErr};
 ghost use Rattle.ui_machine.specs.Definition.Names.{same_name, canonical, place_named};
-ghost use Rattle.param_specs.specs.View.{spec_view};
+ghost use Rattle.param_specs.specs.View.{spec_view, specs_in, AreNamed, entries_or_none};
+ghost use Rattle.indexmap.specs.IndexMap.{keys};
 ghost use Rattle.g_values.specs.View.{IsKnown};
 ghost use Rattle.param_specs.specs.PropertyName.{is_property_name};
 ghost use Rattle.param_specs.specs.Table.{own_of, specs_of, slot_named, AddsSpec, SameSpecs, Installs, install_fault};
 
 use crate::error::{SpecError, SpecFault};
 use crate::growing::{add, grow};
-use crate::name::{canonical_name, is_property_name, is_spelling};
+use crate::name::{canonical_name, has_canonical_bytes, is_property_name, is_spelling};
 use crate::spec::Spec;
 use crate::validating::is_valid_default;
+use indexmap::IndexMap;
 use std::alloc::{AllocError, Global};
 use std::marker::Model;
 use type_tree::{TypeId, TypeTree};
@@ -19,24 +21,24 @@ use type_tree::{TypeId, TypeTree};
 /// The most properties of a type, with the inherited ones.
 pub const MOST_PROPERTIES: usize = 64;
 
-/// The properties of each type's own. Those of its ancestors stand before them: a type's slots are numbered from the root down.
-/// A contract sees the list of the types' own lists.
+/// The properties of each type's own, by their canonical names. Those of its ancestors stand before them: a type's slots are numbered from the
+/// root down. A contract sees the list of the types' own lists.
 #[derive(Drop)]
 pub struct SpecTable {
-    own: Vec<Vec<Spec>>,
+    own: Vec<IndexMap<String, Spec>>,
 }
 
 impl Model for SpecTable {
-    ghost use Rattle.std.specs.Prelude.{List, map};
+    ghost use Rattle.std.specs.Prelude.{List};
     ghost use Rattle.ui_machine.specs.Definition.Properties as properties;
-    ghost use Rattle.param_specs.specs.View.{spec_view};
+    ghost use Rattle.param_specs.specs.View.{specs_in, lists_of, AllNamed};
     ghost use Rattle.param_specs.specs.Table.{IsTable};
 
     ghost Value = { List (List properties.Spec) };
 
-    ghost view = { λ t. map (λ v. map spec_view v.items) t.own.items };
+    ghost view = { λ t. lists_of (λ m. specs_in m.entries) t.own.items };
 
-    ghost invariant = { λ t. IsTable (map (λ v. map spec_view v.items) t.own.items) };
+    ghost invariant = { λ t. IsTable (lists_of (λ m. specs_in m.entries) t.own.items) × AllNamed (λ m. m.entries) t.own.items };
 }
 
 impl SpecTable {
@@ -49,16 +51,28 @@ impl SpecTable {
         }
     }
 
-    // The properties of a type's own.
-    fn own(&self, t: TypeId) -> &[Spec]
-        ensures own { map spec_view result.now ≡ own_of self.now t }
-        ensures few { length result.now ≤ 64 }
+    // The properties of a type's own, if it was given some.
+    fn own(&self, t: TypeId) -> Option<&IndexMap<String, Spec>>
+        ensures own { map spec_view (specs_in (entries_or_none (option_map (λ m. m.now.entries) result))) ≡ own_of self.now t }
+        ensures few { IfSome result (λ m. length m.now.entries ≤ 64) }
+        ensures named { IfSome result (λ m. AreNamed m.now.entries) }
     {
         let at = t.index();
         if at < self.own.len() {
-            self.own[at].as_slice()
+            Some(&self.own[at])
         } else {
-            &[]
+            None
+        }
+    }
+
+    // How many properties a type has of its own.
+    fn own_count(&self, t: TypeId) -> usize
+        ensures count { result ≡ length (own_of self.now t) }
+        ensures few { result ≤ 64 }
+    {
+        match self.own(t) {
+            Some(own) => own.len(),
+            None => 0,
         }
     }
 
@@ -69,7 +83,7 @@ impl SpecTable {
         ensures few { result ≤ 16448 }
         ensures own { length (own_of self.now t) ≤ result }
     {
-        let own = self.own(t).len();
+        let own = self.own_count(t);
         match tree.parent(t) {
             Some(parent) => self.slots_of(tree, parent) + own,
             None => own,
@@ -81,7 +95,7 @@ impl SpecTable {
         ensures slot { result ≡ slot_named (own_of self.now t) name.now }
         ensures within { IfSome result (λ i. i < 64) }
     {
-        position_of(self.own(t), name)
+        position_of(self.own(t)?, name)
     }
 
     // The property of a slot of a type's own.
@@ -89,8 +103,13 @@ impl SpecTable {
         requires { slot < length (own_of self.now t) }
         ensures { slice_get (own_of self.now t) slot ≡ Some (spec_view result.now) }
     {
-        let own = self.own(t);
-        &own[slot]
+        let Some(own) = self.own(t) else {
+            unreachable!()
+        };
+        let Some((_, spec)) = own.get_index(slot) else {
+            unreachable!()
+        };
+        spec
     }
 
     // The slot of a property of a type, its own or inherited.
@@ -124,16 +143,18 @@ impl SpecTable {
         }
     }
 
-    // Adds a property of a type's own.
-    fn add_own(&mut self, t: TypeId, spec: Spec) -> Result<(), AllocError>
-        requires { length (own_of self.old t) < 64 }
+    // Adds a property of a type's own, under its name.
+    fn add_own(&mut self, t: TypeId, name: String, spec: Spec) -> Result<(), AllocError>
+        requires room { length (own_of self.old t) < 64 }
+        requires named { string_bytes name ≡ string_bytes spec.name }
+        requires new { place_named (λ s. s.name) (own_of self.old t) (string_bytes name) ≡ None }
         ensures ok { OnOk result (AddsSpec self.old self.new t (spec_view spec)) }
         ensures err { OnErr result (SameSpecs self.old self.new) }
     {
         let at = t.index();
         let alloc = *self.own.allocator();
         grow(alloc, &mut self.own, at + 1)?;
-        add(&mut self.own, at, spec)?;
+        add(&mut self.own, at, name, spec)?;
         Ok(())
     }
 
@@ -143,6 +164,7 @@ impl SpecTable {
         ensures fault { result ≡ install_fault tree.now (specs_of tree.now self.now t) (spec_view spec.now) }
         ensures named { IfNone result (is_property_name (string_bytes spec.now.name) ≡ true) }
         ensures room { IfNone result (length (specs_of tree.now self.now t) < 64) }
+        ensures new { IfNone result (slot_named (specs_of tree.now self.now t) (string_bytes spec.now.name) ≡ None) }
     {
         if !is_property_name(spec.name.as_str()) {
             return Some(SpecFault::BadName);
@@ -182,8 +204,9 @@ impl SpecTable {
         }
         let slot = self.slots_of(tree, t);
         let name = canonical_name(self.allocator(), spec.name.as_str())?;
+        let key = name.clone()?;
         let spec = renamed(spec, name);
-        self.add_own(t, spec)?;
+        self.add_own(t, key, spec)?;
         Ok(slot as u16)
     }
 
@@ -204,13 +227,25 @@ impl SpecTable {
     }
 }
 
-// Where a property stands, by any spelling of its name.
-fn position_of(own: &[Spec], name: &str) -> Option<usize>
-    ensures place { result ≡ position (λ s. same_name (string_bytes s.name) (canonical name.now)) own.now }
-    ensures within { IfSome result (λ i. i < length own.now) }
+// Where a property stands, by any spelling of its name. One in the canonical spelling is not searched for.
+fn position_of(own: &IndexMap<String, Spec>, name: &str) -> Option<usize>
+    requires { AreNamed own.now.entries }
+    ensures place { result ≡ slot_named (map spec_view (specs_in own.now.entries)) name.now }
+    ensures within { IfSome result (λ i. i < length own.now.entries) }
 {
-    own.iter()
-        .position(|spec| is_spelling(spec.name.as_str(), name))
+    if has_canonical_bytes(name) {
+        own.get_index_of(name)
+    } else {
+        spelled_position(own, name)
+    }
+}
+
+// The same, by walking over the names.
+fn spelled_position(own: &IndexMap<String, Spec>, name: &str) -> Option<usize>
+    ensures place { result ≡ position (λ k. same_name (string_bytes k) (canonical name.now)) (keys own.now) }
+    ensures within { IfSome result (λ i. i < length own.now.entries) }
+{
+    own.keys().position(|key| is_spelling(key.as_str(), name))
 }
 
 // The same property under another name.

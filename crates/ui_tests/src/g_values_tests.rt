@@ -2,7 +2,7 @@
 
 use crate::fixtures::{marks_kind, mode_kind, number_of, times, tree_of_members, value_of};
 use g_values::{
-    JsonError, Kind, MOST_TEXT_BYTES, TransformError, Value, from_json, has_number, is_at_most,
+    JsonError, Kind, MOST_TEXT_BYTES, TransformError, TransformFault, Value, from_json, has_number, is_at_most,
     is_equal, is_known, is_less, is_same, kind_of, known_bits, transform, transformable,
     wrapping_difference, wrapping_product, wrapping_sum, zero_of,
 };
@@ -143,7 +143,7 @@ fn zero(tree: &TypeTree, kind: Kind) -> Option<Value> {
 fn becomes(alloc: Global, tree: &TypeTree, from: Kind, to: Kind) -> Option<bool> {
     match transformed(alloc, tree, &zero(tree, from)?, to) {
         Ok(_) => Some(true),
-        Err(TransformError::NoTransform) => Some(false),
+        Err(TransformError::Refused(TransformFault::NoTransform)) => Some(false),
         Err(_) => None,
     }
 }
@@ -187,7 +187,8 @@ fn told(
     match transformed(alloc, tree, &value_of(from, number), to) {
         Ok(Value::Text(Some(text))) => Ok(String::from_str(alloc, text.as_str())?),
         Ok(value) => Ok(format!(in alloc; "{value:?}")?),
-        Err(fault) => Ok(format!(in alloc; "{fault:?}")?),
+        Err(TransformError::Refused(fault)) => Ok(format!(in alloc; "{fault:?}")?),
+        Err(TransformError::OutOfMemory) => Ok(String::from_str(alloc, "OutOfMemory")?),
     }
 }
 
@@ -332,7 +333,8 @@ fn told_json(alloc: Global, tree: &TypeTree, kind: Kind, text: &str) -> Result<S
     let json = serde_json::Value::from_str(alloc, text)?;
     match read(alloc, tree, &json, kind) {
         Ok(value) => Ok(format!(in alloc; "{value:?}")?),
-        Err(fault) => Ok(format!(in alloc; "{fault:?}")?),
+        Err(JsonError::Refused(fault)) => Ok(format!(in alloc; "{fault:?}")?),
+        Err(JsonError::OutOfMemory) => Ok(String::from_str(alloc, "OutOfMemory")?),
     }
 }
 

@@ -1,0 +1,50 @@
+-- The objects of a definition.
+use Rattle.std.specs.Prelude.{ℕ, List, [], ◌∷◌, ◌++◌, length, codes, nat_le, if◌then◌else◌, is_some, Result, Ok, Err}
+use Rattle.serde_json.specs.Data.{Data}
+use Rattle.ui_machine.specs.Outcome.{◌>>=◌}
+use Rattle.ui_machine.specs.Definition.Types.{GType}
+use Rattle.ui_machine.specs.Definition.Names.{place_named}
+use Rattle.ui_machine.specs.Definition.Places as machine
+use Rattle.type_tree.specs.Adding.{find_type}
+use Rattle.builder_defs.specs.declared.fault.DefinitionLimit.TheVariants.{Objects}
+use Rattle.builder_defs.specs.Meaning.{bare_place}
+use Rattle.builder_defs.specs.Refusals.{Refusal, shape, unknown, duplicate, limit, or_refused}
+use Rattle.builder_defs.specs.Document.{under, members_at, text_at, nothing_at, only_at}
+use Rattle.builder_defs.specs.Denoted.Names.{is_name}
+
+abbrev pub room_for_object : List machine.Place → Result (Unit {0}) Refusal
+room_for_object places = if nat_le 64 (length places) then Err (limit Objects) else Ok tt
+
+-- an id beside those of these objects
+abbrev pub new_id : List ℕ → List machine.Place → List ℕ → Result (Unit {0}) Refusal
+new_id path places id =
+    if is_name id then (if is_some (place_named (λ (p : machine.Place). p.id) places id) then Err (duplicate path) else Ok tt) else Err (shape path)
+
+abbrev pub class_at_key : List ℕ → List GType → Data → Result ℕ Refusal
+class_at_key path types d = do
+  name ← text_at path d (codes "class")
+  or_refused (unknown (under path (codes "class")) name) (find_type types name)
+
+abbrev pub unset_of_object : List (List ℕ)
+unset_of_object = codes "peer" ∷ codes "properties" ∷ codes "signals" ∷ codes "children" ∷ []
+
+abbrev pub keys_of_object : List (List ℕ)
+keys_of_object = codes "id" ∷ codes "class" ∷ codes "peer" ∷ codes "properties" ∷ codes "signals" ∷ codes "children" ∷ []
+
+-- the object that an entry gives beside these
+unfoldable pub place_at : List ℕ → List GType → List machine.Place → Data → Result machine.Place Refusal
+place_at path types places d = do
+  members ← members_at path d
+  room ← room_for_object places
+  id ← text_at path d (codes "id")
+  new ← new_id (under path (codes "id")) places id
+  class ← class_at_key path types d
+  unset ← nothing_at path d unset_of_object
+  only ← only_at path members keys_of_object
+  Ok (bare_place id class)
+
+-- these objects, with the one that an entry gives
+unfoldable pub object_at : List ℕ → List GType → List machine.Place → Data → Result (List machine.Place) Refusal
+object_at path types places d = do
+  place ← place_at path types places d
+  Ok (places ++ place ∷ [])

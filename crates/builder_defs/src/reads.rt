@@ -1,0 +1,47 @@
+//! Reading the entries of a list, one after the other.
+
+ghost use Rattle.std.specs.Prelude.{◌≡◌, ℕ, List, Result};
+ghost use Rattle.serde_json.specs.Data.{Data};
+ghost use Rattle.serde_json.specs.View.{view, items_view};
+ghost use Rattle.builder_defs.specs.Refusals.{Refusal, Leads};
+ghost use Rattle.builder_defs.specs.Document.{path_of, each, at_entry};
+
+use crate::document::{Entries, Part, Path};
+use crate::fault::ReadError;
+
+// What an entry of a list adds to a state.
+pub(crate) trait Reads<S> {
+    // The state as the format sees it.
+    ghost State: { Type 0 };
+
+    ghost seen: { S → State };
+
+    // What comes of the state by the entry at a path, or the fault.
+    ghost step: { Self → List ℕ → State → Data → Result State Refusal };
+
+    fn read(&self, part: Part<'_>, state: &mut S) -> Result<(), ReadError>
+        ensures { Leads result (step self.now (path_of part.entry.path) (seen state.old) (view part.entry.value.now)) (seen state.new) };
+}
+
+// Reads the entries of a list, from the first on.
+pub(crate) fn read_each<S, R: Reads<S>>(
+    reader: &R,
+    list: Entries<'_>,
+    state: &mut S,
+) -> Result<(), ReadError>
+    ensures { Leads result (each (at_entry (R.step reader.now) list.entry.path.now) 0 (R.seen state.old) (items_view list.entry.items.now)) (R.seen state.new) }
+{
+    'items: for (index, value) in list.items.iter().enumerate() {
+        let path = Path {
+            base: list.path,
+            index: Some(index),
+        };
+        let part = Part {
+            alloc: list.alloc,
+            path,
+            value,
+        };
+        reader.read(part, state)?;
+    }
+    Ok(())
+}
