@@ -3,6 +3,7 @@ pub mod HeapView
 pub mod Holding
 pub mod View
 pub mod MakingView
+pub mod LineView
 pub mod TaskView
 pub mod Measure
 pub mod EngineView

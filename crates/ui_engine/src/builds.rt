@@ -15,9 +15,9 @@ ghost use Rattle.ui_engine.specs.TaskView.{agenda_of, build_from};
 ghost use Rattle.ui_engine.specs.EngineView.{config_of};
 
 use crate::engine::Engine;
+use crate::lines::Line;
 use crate::object::Object;
 use crate::task::{Making, Makings, Slots, Task};
-use crate::texts::construct_line;
 use crate::world::hold;
 use builder_defs::Definition;
 use g_values::Value;
@@ -164,7 +164,11 @@ impl Engine {
         let mut steps = Vec::new(self.alloc);
         steps.push(Making::Thaw)?;
         let object = self.add(definition, class, place, values)?;
-        let line = construct_line(self.alloc, object, definition.class_name(class))?;
+        let told = Line::Construct {
+            object,
+            class: definition.class_name(class),
+        };
+        let line = told.text(self.alloc, types)?;
         self.stack.push(Task::Constructing {
             object,
             steps: Makings::new(steps),

@@ -14,8 +14,8 @@ ghost use Rattle.ui_engine.specs.TaskView.{agenda_of};
 ghost use Rattle.ui_engine.specs.EngineView.{config_of};
 
 use crate::engine::Engine;
+use crate::lines::Line;
 use crate::task::Task;
-use crate::texts::{get_line, value_text};
 use builder_defs::{Definition, Event};
 use g_values::Value;
 use ui_machine::{Arm, Halt, Place};
@@ -63,8 +63,12 @@ impl Engine {
         let object = self.built(place)?;
         let spec = self.spec_of(definition, object, slot)?;
         let value = self.world.heap.value(object, slot)?.copied()?;
-        let text = value_text(self.alloc, definition.types(), &value)?;
-        let line = get_line(self.alloc, object, spec.name.as_str(), text.as_str())?;
+        let told = Line::Get {
+            object,
+            property: spec.name.as_str(),
+            value: &value,
+        };
+        let line = told.text(self.alloc, definition.types())?;
         self.world.say(line)?;
         self.world.result = Some(value);
         Ok(())

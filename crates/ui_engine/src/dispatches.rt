@@ -13,8 +13,8 @@ ghost use Rattle.ui_engine.specs.Stepping.{Carried};
 
 use crate::engine::Engine;
 use crate::heap::Heap;
+use crate::lines::Line;
 use crate::task::{Stack, Task};
-use crate::texts::end_line;
 use crate::world::World;
 use builder_defs::Definition;
 use g_values::Value;
@@ -82,7 +82,7 @@ impl Engine {
         self.run(definition)?;
         let result = copied(&self.world.result)?;
         let steps = self.counted;
-        let line = end_line(self.alloc, steps)?;
+        let line = Line::End { steps }.text(self.alloc, definition.types())?;
         self.world.say(line)?;
         Ok(Reply {
             result,

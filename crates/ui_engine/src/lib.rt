@@ -10,6 +10,7 @@ mod counting;
 mod dispatches;
 mod engine;
 mod heap;
+mod lines;
 mod notifications;
 mod object;
 mod running;
@@ -17,7 +18,6 @@ mod runs;
 mod session;
 mod sets;
 mod task;
-mod texts;
 mod world;
 
 pub use dispatches::Reply;

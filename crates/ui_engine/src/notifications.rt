@@ -11,8 +11,8 @@ ghost use Rattle.ui_engine.specs.TaskView.{agenda_of, name_of};
 ghost use Rattle.ui_engine.specs.EngineView.{config_of};
 
 use crate::engine::Engine;
+use crate::lines::Line;
 use crate::task::{Slots, Task};
-use crate::texts::notify_line;
 use builder_defs::Definition;
 use type_tree::TypeId;
 use ui_machine::{Arm, Halt};
@@ -42,7 +42,11 @@ impl Engine {
         if class.index() >= count {
             return Err(Halt::Stuck(Arm::Code));
         }
-        let line = notify_line(self.alloc, object, spec.name.as_str())?;
+        let told = Line::Notify {
+            object,
+            property: spec.name.as_str(),
+        };
+        let line = told.text(self.alloc, types)?;
         self.stack.push(Task::Emitting {
             object,
             class,

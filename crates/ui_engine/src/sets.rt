@@ -16,8 +16,8 @@ ghost use Rattle.ui_engine.specs.EngineView.{config_of};
 ghost use Rattle.ui_engine.specs.PlainSets.{told_write};
 
 use crate::engine::Engine;
+use crate::lines::Line;
 use crate::task::Task;
-use crate::texts::{refused_line, set_line, value_text};
 use builder_defs::Definition;
 use g_values::{Kind, Value};
 use param_specs::{Spec, validate};
@@ -77,8 +77,12 @@ impl Engine {
             (config_of definition.now self.new) }
         ensures quiet { OnErr result ((world_of self.new.world).transcript ≡ (world_of self.old.world).transcript) }
     {
-        let text = value_text(self.alloc, definition.types(), &value)?;
-        let line = set_line(self.alloc, object, name, text.as_str())?;
+        let told = Line::Set {
+            object,
+            property: name,
+            value: &value,
+        };
+        let line = told.text(self.alloc, definition.types())?;
         self.world.heap.write(object, slot, value)?;
         if self.world.heap.raise(object, slot)? {
             self.stack.push(Task::Notifying { object, slot })?;
@@ -101,8 +105,12 @@ impl Engine {
         ensures err { OnErr result (world_of self.new.world ≡ world_of self.old.world) }
         ensures same { (self.new.stack ≡ self.old.stack) × (self.new.counted ≡ self.old.counted) }
     {
-        let text = value_text(self.alloc, definition.types(), value)?;
-        let line = refused_line(self.alloc, object, name, text.as_str())?;
+        let told = Line::Refused {
+            object,
+            property: name,
+            value,
+        };
+        let line = told.text(self.alloc, definition.types())?;
         self.world.say(line)?;
         Ok(())
     }

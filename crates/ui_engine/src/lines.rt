@@ -1,0 +1,192 @@
+//! The lines of a transcript, and the text of each.
+
+ghost use Rattle.std.specs.Prelude.{◌≡◌, ◌++◌, codes, decimal, OnOk, IfOk, string_bytes};
+ghost use Rattle.std.specs.Fmt.{signed_decimal};
+ghost use Rattle.ui_machine.specs.Output.Text.{json_string, text_of_value, text_of_identity, text_of_line};
+ghost use Rattle.serde_json.specs.Data.{string};
+ghost use Rattle.serde_json.specs.Written.{compact_text};
+ghost use Rattle.g_values.specs.View.{value_view};
+ghost use Rattle.ui_engine.specs.LineView.{line_view};
+
+use g_values::Value;
+use std::alloc::{AllocError, Global};
+use type_tree::TypeTree;
+use ui_machine::ObjectId;
+
+/// A line of the transcript.
+#[derive(Clone, Copy, Debug)]
+pub enum Line<'a> {
+    /// The build begins.
+    Build,
+    /// An object is made.
+    Construct {
+        object: u64,
+        class: &'a str,
+    },
+    /// A property is written.
+    Set {
+        object: u64,
+        property: &'a str,
+        value: &'a Value,
+    },
+    /// A value is not taken by its property.
+    Refused {
+        object: u64,
+        property: &'a str,
+        value: &'a Value,
+    },
+    /// A notification begins.
+    Notify {
+        object: u64,
+        property: &'a str,
+    },
+    /// A property is read.
+    Get {
+        object: u64,
+        property: &'a str,
+        value: &'a Value,
+    },
+    /// A dispatch ends, after so many counted steps.
+    End {
+        steps: u64,
+    },
+}
+
+// Room for a line with a number and a name of this length. A text in it may take more.
+fn room(name: &str) -> usize {
+    name.len().saturating_add(64)
+}
+
+impl Line<'_> {
+    /// Its text, without the LF.
+    pub fn text(self, alloc: Global, types: &TypeTree) -> Result<String, AllocError>
+        ensures { IfOk result (λ text. string_bytes text ≡ text_of_line types.now (line_view self.entry)) }
+    {
+        match self {
+            Line::Build => String::from_str(alloc, "build"),
+            Line::Construct { object, class } => construct_line(alloc, object, class),
+            Line::Set {
+                object,
+                property,
+                value,
+            } => value_line(alloc, types, "set #", object, property, value),
+            Line::Refused {
+                object,
+                property,
+                value,
+            } => value_line(alloc, types, "refused #", object, property, value),
+            Line::Notify { object, property } => notify_line(alloc, object, property),
+            Line::Get {
+                object,
+                property,
+                value,
+            } => value_line(alloc, types, "get #", object, property, value),
+            Line::End { steps } => end_line(alloc, steps),
+        }
+    }
+}
+
+// `construct #1 CLASS`
+fn construct_line(alloc: Global, object: u64, class: &str) -> Result<String, AllocError>
+    ensures { IfOk result (λ line. string_bytes line ≡ codes "construct #" ++ (decimal object ++ (codes " " ++ class.now))) }
+{
+    let mut line = String::with_capacity(alloc, room(class))?;
+    write!(line, "construct #{object} {class}")?;
+    Ok(line)
+}
+
+// `notify #1.p`
+fn notify_line(alloc: Global, object: u64, property: &str) -> Result<String, AllocError>
+    ensures { IfOk result (λ line. string_bytes line ≡ codes "notify #" ++ (decimal object ++ (codes "." ++ property.now))) }
+{
+    let mut line = String::with_capacity(alloc, room(property))?;
+    write!(line, "notify #{object}.{property}")?;
+    Ok(line)
+}
+
+// `end N`
+fn end_line(alloc: Global, steps: u64) -> Result<String, AllocError>
+    ensures { IfOk result (λ line. string_bytes line ≡ codes "end " ++ decimal steps) }
+{
+    let mut line = String::with_capacity(alloc, room(""))?;
+    write!(line, "end {steps}")?;
+    Ok(line)
+}
+
+// `set #1.p V`, or with another word in front
+fn value_line(
+    alloc: Global,
+    types: &TypeTree,
+    word: &str,
+    object: u64,
+    property: &str,
+    value: &Value,
+) -> Result<String, AllocError>
+    ensures { IfOk result (λ line. string_bytes line
+        ≡ word.now ++ (decimal object ++ (codes "." ++ (property.now ++ (codes " " ++ text_of_value types.now (value_view value.now)))))) }
+{
+    let mut line = String::with_capacity(alloc, room(property))?;
+    write!(line, "{word}{object}.{property} ")?;
+    push_value(alloc, &mut line, types, value)?;
+    Ok(line)
+}
+
+// A value as it is printed: `TRUE` or `FALSE`, decimal, a text as a compact JSON string, `null`, an enum's nick, flags as a number, `#`
+// and the identity of an object.
+fn push_value(
+    alloc: Global,
+    line: &mut String,
+    types: &TypeTree,
+    value: &Value,
+) -> Result<(), AllocError>
+    ensures { OnOk result (string_bytes line.new ≡ string_bytes line.old ++ text_of_value types.now (value_view value.now)) }
+{
+    match value {
+        Value::Bool(true) => line.push_str("TRUE"),
+        Value::Bool(false) => line.push_str("FALSE"),
+        Value::Int(number) => push_signed(line, i64::from(*number)),
+        Value::UInt(number) => push_unsigned(line, u64::from(*number)),
+        Value::Int64(number) => push_signed(line, *number),
+        Value::UInt64(number) => push_unsigned(line, *number),
+        Value::Text(None) => line.push_str("null"),
+        Value::Text(Some(text)) => push_quoted(alloc, line, text.as_str()),
+        Value::Enum(class, number) => line.push_str(types.nick(*class, *number)),
+        Value::Flags(_, bits) => push_unsigned(line, u64::from(*bits)),
+        Value::Object(_, None) => line.push_str("null"),
+        Value::Object(_, Some(object)) => push_identity(line, *object),
+    }
+}
+
+fn push_unsigned(line: &mut String, number: u64) -> Result<(), AllocError>
+    ensures { OnOk result (string_bytes line.new ≡ string_bytes line.old ++ decimal number) }
+{
+    write!(line, "{number}")
+}
+
+fn push_signed(line: &mut String, number: i64) -> Result<(), AllocError>
+    ensures { OnOk result (string_bytes line.new ≡ string_bytes line.old ++ signed_decimal number) }
+{
+    write!(line, "{number}")
+}
+
+fn push_identity(line: &mut String, object: ObjectId) -> Result<(), AllocError>
+    ensures { OnOk result (string_bytes line.new ≡ string_bytes line.old ++ text_of_identity object.0) }
+{
+    let number = object.0;
+    write!(line, "#{number}")
+}
+
+// A text as a compact JSON string.
+#[tactic(auto, using(crate::proofs::Strings::quoted_json))]
+fn push_quoted(alloc: Global, line: &mut String, text: &str) -> Result<(), AllocError>
+    ensures { OnOk result (string_bytes line.new ≡ string_bytes line.old ++ json_string text.now) }
+{
+    let written = compact(alloc, text)?;
+    line.push_str(written.as_str())
+}
+
+fn compact(alloc: Global, text: &str) -> Result<String, AllocError>
+    ensures { IfOk result (λ written. string_bytes written ≡ compact_text (string text.now)) }
+{
+    serde_json::Value::String(String::from_str(alloc, text)?).to_string(alloc)
+}
