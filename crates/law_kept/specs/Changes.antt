@@ -36,4 +36,4 @@ FreezeIsLike =
 abbrev pub ThawIsLike : Type 0
 ThawIsLike =
     (d : Definition) (w : World) (id left : ℕ) (o : Object) → ObjectGood d w (standing w.objects) id o → o.freezes ≡ suc left →
-    Like d w o (less_frozen left o).0
+    Like d w o (less_frozen left o).state

@@ -115,7 +115,7 @@ impl Engine {
         Ok(())
     }
 
-    // A set: the property's spec brings the value into its range, or the set is told of as refused.
+    // A set writes the value. Where validation would change it, the set is refused with a line.
     pub(crate) fn setting(
         &mut self,
         definition: &Definition,
