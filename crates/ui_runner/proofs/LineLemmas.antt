@@ -151,3 +151,12 @@ taken_whole (Some xs) (Some ys) (Some zs) bs n h e lt =
     let none : ys ≡ [] = sym e.0 ∙ e.1 in
     let x : xs ≡ bs = rw none at h ∙ append-nil bs in
     rw x (sym (take_all n bs lt))
+
+keeps_all : (a b : Option (List ℕ)) → Consumes a b [] → Keeps a b
+keeps_all None b h = tt
+keeps_all (Some xs) None h = absurd h
+keeps_all (Some xs) (Some ys) h = sym h
+
+-- the last read gave none
+pub taken_to_end : (a b c : Option (List ℕ)) (bs piece : List ℕ) (count n : ℕ) → Consumes a b bs → Consumes b c (take count piece) → count ≡ 0 → IsAtEnd c → length bs ≤ n → IfSome a (λ input. bs ≡ take n input)
+taken_to_end a b c bs piece count n h k none end lt = taken_whole a b c bs n h (keeps_all b c (rw none at k), end) lt
