@@ -1,6 +1,6 @@
 -- How a run opens, and what follows.
-use Rattle.std.proofs.Common.{◌≡◌, ℕ, Bool, true, List, [], ◌∷◌, ◌++◌, codes, String, Global, Option, Some, None, Result, Ok, Err, refl, sym, ap, subst, ◌∙◌, inl, inr}
-use Rattle.std.specs.Prelude.{IfSome, string_bytes}
+use Rattle.std.proofs.Common.{◌≡◌, ℕ, Bool, true, false, List, [], ◌∷◌, ◌++◌, take, append_assoc, append-nil, codes, String, Global, Option, Some, None, Result, Ok, Err, refl, sym, ap, subst, ◌∙◌, inl, inr}
+use Rattle.std.specs.Prelude.{IfSome, string_bytes, ◌⊎◌}
 use Rattle.std.specs.Io.KnownBytes.{Appends}
 use Rattle.std.proofs.KnownBytes.{Appends-trans}
 use Rattle.ui_machine.specs.declared.arm.Halt.{Halt}
@@ -17,12 +17,13 @@ use Rattle.builder_defs.specs.FaultText.{refusal_text}
 use Rattle.ui_runner.specs.declared.opening.Opening.TheVariants as code
 use Rattle.ui_runner.specs.OpeningView.{IsOpening, Opened, halt_of}
 use Rattle.ui_runner.specs.Texts.{joined, lines_text, nothing_begun, build_stopped}
-use Rattle.ui_runner.specs.Story.{Story}
+use Rattle.ui_runner.specs.Story.{Story, InStep, text_from}
 use Rattle.ui_runner.specs.Events.{event_replies}
 use Rattle.ui_runner.proofs.RunOver.{runs_over}
-use Rattle.ui_runner.specs.Writing.{AppendsPart}
+use Rattle.ui_runner.specs.Writing.{Passes, Tears, Finishes}
+use Rattle.ui_machine.specs.Prefix.{IsPrefix}
 use Rattle.ui_runner.specs.Lines.{lines_of}
-use Rattle.ui_runner.specs.Opening.{Opening, refused, unbegun, built, stopped, Opens, Concludes, Proceeds, Ran}
+use Rattle.ui_runner.specs.Opening.{Opening, refused, unbegun, built, stopped, Opens, Concludes, Plays, Proceeds, Ran}
 
 module _ (bytes : List ℕ) (d : Definition) (s : SessionState) (denotes : denoted bytes ≡ Ok d) where
   pub opens_built : (build : Result Reply SessionFault) → Comes build (building d) d s → halt_of build ≡ None → Opens bytes (built s)
@@ -57,27 +58,114 @@ module _ (bytes : List ℕ) (d : Definition) (s : SessionState) (denotes : denot
 
 -- ** what is written
 
-pub if_some : {A : Type 0} (o : Option A) (P Q : A → Type 0) → ((x : A) → P x → Q x) → IfSome o P → IfSome o Q
-if_some None P Q h p = tt
-if_some (Some x) P Q h p = h x p
+-- there are bytes that the reader's are, where these are known
+pub any_bytes : (a : Option (List ℕ)) → (input : List ℕ) × IfSome a (λ known. known ≡ input)
+any_bytes None = ([], tt)
+any_bytes (Some xs) = (xs, refl)
 
-pub some_always : {A : Type 0} (o : Option A) (P : A → Type 0) → ((x : A) → P x) → IfSome o P
-some_always None P h = tt
-some_always (Some x) P h = h x
+-- a text was said where nothing was gathered, and the run ends
+pub concludes : (failed : Bool) (a b c : Option (List ℕ)) (p q whole : List ℕ) (answer status : ℕ) → p ≡ [] → Passes a p b q whole → Finishes answer status failed b q c
+    → (out : List ℕ) × Concludes whole answer status failed out × Appends a c out
+concludes false a b c p q whole answer status none h f =
+    let w = f.whole refl in
+    let said : whole ≡ h.moved ++ q = ap (λ t. t ++ whole) (sym none) ∙ h.whole in
+    (h.moved ++ q, inr (w.0, refl, sym said), Appends-trans a b c h.moved q h.appends w.1)
+concludes true a b c p q whole answer status none h f =
+    let w = f.part refl in
+    let said : whole ≡ h.moved ++ q = ap (λ t. t ++ whole) (sym none) ∙ h.whole in (
+      h.moved ++ w.1.part,
+      inl (w.0, refl, record { more = w.1.more; whole = said ∙ ap (λ t. h.moved ++ t) w.1.split ∙ sym (append_assoc h.moved w.1.part w.1.more) }),
+      Appends-trans a b c h.moved w.1.part h.appends w.1.appends,
+    )
 
-module _ (a b c : Option (List ℕ)) (s : SessionState) (torn : Bool) where
+pub concludes_torn : (failed : Bool) (a b : Option (List ℕ)) (p whole : List ℕ) (answer : ℕ) → p ≡ [] → failed ≡ true → Tears a p b whole → (out : List ℕ) × Concludes whole answer 4 failed out × Appends a b out
+concludes_torn failed a b p whole answer none torn h =
+    (h.moved, inl (refl, torn, record { more = h.lost; whole = ap (λ t. t ++ whole) (sym none) ∙ h.whole }), h.appends)
+
+-- some of what came before was written, and then what is left of it and more
+left_and_more : (moved left before more : List ℕ) → before ≡ moved ++ left → before ++ more ≡ moved ++ (left ++ more)
+left_and_more moved left before more e = ap (λ t. t ++ more) e ∙ append_assoc moved left more
+
+prefix_after : (moved left before more text : List ℕ) → before ≡ moved ++ left → IsPrefix text (left ++ more) → IsPrefix (moved ++ text) (before ++ more)
+prefix_after moved left before more text e h = record { more = h.more; whole = left_and_more moved left before more e ∙ ap (λ t. moved ++ t) h.whole ∙ sym (append_assoc moved text h.more) }
+
+after_prefix : (moved left before more text : List ℕ) → before ≡ moved ++ left → IsPrefix (left ++ more) text → IsPrefix (before ++ more) (moved ++ text)
+after_prefix moved left before more text e h =
+    record { more = h.more; whole = ap (λ t. moved ++ t) h.whole ∙ sym (append_assoc moved (left ++ more) h.more) ∙ ap (λ t. t ++ h.more) (sym (left_and_more moved left before more e)) }
+
+module _ (s : SessionState) (lines : List (List ℕ)) (status : ℕ) (torn : Bool) (unread : Type 0) (first last : Option (List ℕ)) where
+  abbrev build : List ℕ
+  build = lines_text s.world.transcript
+
+  -- the build's lines were said, and the events told
+  plays_on : (moved left text : List ℕ) (new : SessionState) → build ≡ moved ++ left → Story event_replies without_lines (without_lines s) left lines status torn unread first last text new
+      → Plays s lines status torn unread first last (moved ++ text)
+  plays_on moved left text new is story = record {
+    new = new;
+    story = record {
+      outcomes = story.outcomes;
+      told = story.told;
+      broke = λ failed. prefix_after moved left build (text_from 1 story.outcomes) text is (story.broke failed);
+      whole = λ fine. ap (λ t. moved ++ t) (story.whole fine) ∙ sym (left_and_more moved left build (text_from 1 story.outcomes) is);
+      over = story.over;
+      answer = story.answer;
+      order = by story.order;
+      heard = story.heard;
+    };
+    run = λ stands. runs_over s lines story.outcomes new stands story.told;
+  }
+    where
+      by : unread ⊎ InStep left story.outcomes first last text → unread ⊎ InStep build story.outcomes first last (moved ++ text)
+      by (inl un) = inl un
+      by (inr step) = inr (record {
+        count = step.count;
+        within = step.within;
+        goes_on = step.goes_on;
+        written = after_prefix moved left build (text_from 1 (take step.count story.outcomes)) text is step.written;
+        near = step.near;
+      })
+
+module _ (s : SessionState) (torn : Bool) (unread : Type 0) (first last a b c : Option (List ℕ)) (p q : List ℕ) where
+  abbrev PlaysOver : ℕ → Option (List ℕ) → Type 0
+  PlaysOver status end = (input : List ℕ) × IfSome first (λ known. known ≡ input) × (text : List ℕ) × Proceeds (built s) (lines_of input) status torn unread first last text × Appends a end text
+
   -- the build's lines broke off
-  pub breaks_off : (lines : List (List ℕ)) → torn ≡ true → AppendsPart a c (lines_text s.world.transcript) → (text : List ℕ) × Proceeds (built s) lines 4 torn text × Appends a c text
-  breaks_off lines failed p = (p.part, inl (refl, failed, record { more = p.more; whole = p.split }), p.appends)
+  pub breaks_off : p ≡ [] → torn ≡ true → unread → Tears a p b (lines_text s.world.transcript) → PlaysOver 4 b
+  breaks_off none failed un h =
+      let input = any_bytes first in
+      let is : lines_text s.world.transcript ≡ h.moved ++ h.lost = ap (λ t. t ++ lines_text s.world.transcript) (sym none) ∙ h.whole in (
+        input.0,
+        input.1,
+        h.moved,
+        record {
+          new = without_lines s;
+          story = record {
+            outcomes = [];
+            told = refl;
+            broke = λ _. record { more = h.lost; whole = append-nil (lines_text s.world.transcript) ∙ is };
+            whole = λ fine. cc (failed, fine);
+            over = λ ne. absurd (ne refl);
+            answer = λ ne. absurd (ne refl);
+            order = inl un;
+            heard = λ _ fine. cc (failed, fine);
+          };
+          run = λ stands. runs_over s (lines_of input.0) [] (without_lines s) stands refl;
+        },
+        h.appends,
+      )
 
-  -- they were written, and then the events told
-  pub plays : (lines : List (List ℕ)) (status : ℕ) (new : SessionState) → Appends a b (lines_text s.world.transcript)
-      → (rest : List ℕ) × Story event_replies without_lines (without_lines s) lines status torn rest new × Appends b c rest → (text : List ℕ) × Proceeds (built s) lines status torn text × Appends a c text
-  plays lines status new first told = (
-    lines_text s.world.transcript ++ told.0,
-    inr (record { rest = told.0; new = new; whole = refl; story = told.1; run = λ built. runs_over s lines told.1.outcomes new built told.1.told }),
-    Appends-trans a b c (lines_text s.world.transcript) told.0 first told.2,
-  )
+  -- they were said, and then the events told
+  pub plays : (status : ℕ) (new : SessionState) → p ≡ [] → Passes a p b q (lines_text s.world.transcript)
+      → (input : List ℕ) × IfSome first (λ known. known ≡ input) × (text : List ℕ) × Story event_replies without_lines (without_lines s) q (lines_of input) status torn unread first last text new × Appends b c text
+      → PlaysOver status c
+  plays status new none h told =
+      let is : lines_text s.world.transcript ≡ h.moved ++ q = ap (λ t. t ++ lines_text s.world.transcript) (sym none) ∙ h.whole in (
+        told.0,
+        told.1,
+        h.moved ++ told.2,
+        plays_on s (lines_of told.0) status torn unread first last h.moved q told.2 new is told.3,
+        Appends-trans a b c h.moved told.2 h.appends told.4,
+      )
 
 -- ** which opening the code's is
 
@@ -100,24 +188,30 @@ open_refused bytes text unbegun is opens = absurd is
 open_refused bytes text (stopped s h) is opens = absurd is
 open_refused bytes text (built s) is opens = absurd is
 
-module _ (bytes : List ℕ) (input a c : Option (List ℕ)) (status : ℕ) (torn : Bool) where
+module _ (bytes : List ℕ) (first last a c : Option (List ℕ)) (status : ℕ) (torn : Bool) (unread : Type 0) where
   abbrev pub IsWritten : List ℕ → ℕ → Type 0
   IsWritten whole answer = (out : List ℕ) × Concludes whole answer status torn out × Appends a c out
 
   abbrev pub RanOver : Type 0
-  RanOver = IfSome input (λ left. (text : List ℕ) × Ran bytes (lines_of left) status torn text × Appends a c text)
+  RanOver = (input : List ℕ) × IfSome first (λ known. known ≡ input) × (text : List ℕ) × Ran bytes (lines_of input) status torn unread first last text × Appends a c text
 
-  pub ran_stopped : (session : SessionState) (halt : Halt) → Opened bytes (code.Stopped session halt) → IsWritten (lines_text session.world.transcript ++ build_stopped halt) 3 → RanOver
-  ran_stopped session halt o w = some_always input _ (λ left. (w.0, record { opening = stopped session halt; opens = open_stopped bytes session halt o.opening o.is o.opens; proceeds = w.1 }, w.2))
+  pub ran_stopped : (session : SessionState) (halt : Halt) → Opened bytes (code.Stopped session halt) → unread → IsWritten (lines_text session.world.transcript ++ build_stopped halt) 3 → RanOver
+  ran_stopped session halt o un w =
+      let input = any_bytes first in
+      (input.0, input.1, w.0, record { opening = stopped session halt; opens = open_stopped bytes session halt o.opening o.is o.opens; proceeds = (un, w.1) }, w.2)
 
-  pub ran_unbegun : IsWritten nothing_begun 3 → RanOver
-  ran_unbegun w = some_always input _ (λ left. (w.0, record { opening = unbegun; opens = tt; proceeds = w.1 }, w.2))
+  pub ran_unbegun : unread → IsWritten nothing_begun 3 → RanOver
+  ran_unbegun un w =
+      let input = any_bytes first in
+      (input.0, input.1, w.0, record { opening = unbegun; opens = tt; proceeds = (un, w.1) }, w.2)
 
-  pub ran_refused : (text : String Global) → Opened bytes (code.Refused text) → IsWritten (joined (codes "refused: " ∷ string_bytes text ∷ codes "\n" ∷ [])) 1 → RanOver
-  ran_refused text o w =
+  pub ran_refused : (text : String Global) → Opened bytes (code.Refused text) → unread → IsWritten (joined (codes "refused: " ∷ string_bytes text ∷ codes "\n" ∷ [])) 1 → RanOver
+  ran_refused text o un w =
       let r = open_refused bytes text o.opening o.is o.opens in
       let concludes = rw r.2 at w.1 in
-      some_always input _ (λ left. (w.0, record { opening = refused r.0; opens = r.1; proceeds = concludes }, w.2))
+      let input = any_bytes first in
+      (input.0, input.1, w.0, record { opening = refused r.0; opens = r.1; proceeds = (un, concludes) }, w.2)
 
-  pub ran_built : (session : SessionState) → Opened bytes (code.Built session) → IfSome input (λ left. (text : List ℕ) × Proceeds (built session) (lines_of left) status torn text × Appends a c text) → RanOver
-  ran_built session o w = if_some input _ _ (λ left t. (t.0, record { opening = built session; opens = open_built bytes session o.opening o.is o.opens; proceeds = t.1 }, t.2)) w
+  pub ran_built : (session : SessionState) → Opened bytes (code.Built session)
+      → (input : List ℕ) × IfSome first (λ known. known ≡ input) × (text : List ℕ) × Proceeds (built session) (lines_of input) status torn unread first last text × Appends a c text → RanOver
+  ran_built session o t = (t.0, t.1, t.2, record { opening = built session; opens = open_built bytes session o.opening o.is o.opens; proceeds = t.3 }, t.4)

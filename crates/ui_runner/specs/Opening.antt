@@ -1,5 +1,5 @@
 -- How a run opens, before it tells the event lines, and the whole run.
-use Rattle.std.specs.Prelude.{◌≡◌, ◌⊎◌, ℕ, Bool, true, false, List, [], ◌++◌, Ok, Err}
+use Rattle.std.specs.Prelude.{◌≡◌, ◌⊎◌, ℕ, Bool, true, false, List, [], ◌++◌, Option, Ok, Err}
 use Rattle.ui_machine.specs.declared.arm.Halt.{Halt}
 use Rattle.ui_machine.specs.Prefix.{IsPrefix}
 use Rattle.ui_machine.specs.Runs.{Tally, Carries, Halts, of_build}
@@ -47,25 +47,24 @@ abbrev pub Concludes : List ℕ → ℕ → ℕ → Bool → List ℕ → Type 0
 Concludes whole answer status torn text =
     ((status ≡ 4) × (torn ≡ true) × IsPrefix text whole) ⊎ ((status ≡ answer) × (torn ≡ false) × (text ≡ whole))
 
--- the lines of the build were written, and then the event lines told
-pub record Plays (s : SessionState) (lines : List (List ℕ)) (status : ℕ) (torn : Bool) (text : List ℕ) : Type 0 where
-  pub rest : List ℕ
+-- the lines of the build were said, and then the event lines told
+pub record Plays (s : SessionState) (lines : List (List ℕ)) (status : ℕ) (torn : Bool) (unread : Type 0) (first last : Option (List ℕ)) (text : List ℕ) : Type 0 where
   pub new : SessionState
-  pub whole : text ≡ lines_text s.world.transcript ++ rest
-  pub story : Story event_replies without_lines (without_lines s) lines status torn rest new
+  pub story : Story event_replies without_lines (without_lines s) (lines_text s.world.transcript) lines status torn unread first last text new
   -- what was carried out is a run of the machine
   pub run : IsBuilt s → RunsOver s lines story.outcomes new
 
--- what a run comes to after its opening: 1 where the definition is refused, 3 for want of memory and where the build stopped
-abbrev pub Proceeds : Opening → List (List ℕ) → ℕ → Bool → List ℕ → Type 0
-Proceeds (refused refusal) lines status torn text = Concludes (definition_refused refusal) 1 status torn text
-Proceeds unbegun lines status torn text = Concludes nothing_begun 3 status torn text
-Proceeds (stopped s halt) lines status torn text = Concludes (lines_text s.world.transcript ++ build_stopped halt) 3 status torn text
-Proceeds (built s) lines status torn text =
-    ((status ≡ 4) × (torn ≡ true) × IsPrefix text (lines_text s.world.transcript)) ⊎ Plays s lines status torn text
+-- What a run comes to after its opening: 1 where the definition is refused, 3 for want of memory and where the build stopped. Nothing is
+-- read unless the build stands.
+abbrev pub Proceeds : Opening → List (List ℕ) → ℕ → Bool → Type 0 → Option (List ℕ) → Option (List ℕ) → List ℕ → Type 0
+Proceeds (refused refusal) lines status torn unread first last text = unread × Concludes (definition_refused refusal) 1 status torn text
+Proceeds unbegun lines status torn unread first last text = unread × Concludes nothing_begun 3 status torn text
+Proceeds (stopped s halt) lines status torn unread first last text = unread × Concludes (lines_text s.world.transcript ++ build_stopped halt) 3 status torn text
+Proceeds (built s) lines status torn unread first last text = Plays s lines status torn unread first last text
 
--- a run with these bytes of a definition and these event lines, whose writer failed or not
-pub record Ran (bytes : List ℕ) (lines : List (List ℕ)) (status : ℕ) (torn : Bool) (text : List ℕ) : Type 0 where
+-- a run with these bytes of a definition and these event lines, whose writer failed or not, and whose reader went from the first bytes to
+-- the last or was not read
+pub record Ran (bytes : List ℕ) (lines : List (List ℕ)) (status : ℕ) (torn : Bool) (unread : Type 0) (first last : Option (List ℕ)) (text : List ℕ) : Type 0 where
   pub opening : Opening
   pub opens : Opens bytes opening
-  pub proceeds : Proceeds opening lines status torn text
+  pub proceeds : Proceeds opening lines status torn unread first last text

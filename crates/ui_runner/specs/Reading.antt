@@ -1,6 +1,6 @@
 -- What a line reader finds.
-use Rattle.std.specs.Prelude.{◌+◌, min, ◌≡◌, ℕ, ◌<◌, ◌≤◌, List, [], ◌∷◌, length, Option, Some, None, ⊤}
-use Rattle.ui_runner.specs.Lines.{lines_of}
+use Rattle.std.specs.Prelude.{◌+◌, min, ◌≡◌, ℕ, ◌<◌, ◌≤◌, false, List, [], ◌∷◌, ◌++◌, length, Option, Some, None, ⊤}
+use Rattle.ui_runner.specs.Lines.{lines_of, line_ends, has_end}
 use Rattle.ui_machine.specs.Limits.{most_line_bytes}
 use Rattle.ui_runner.specs.declared.line_reader.Found.{Found}
 use Rattle.ui_runner.specs.declared.line_reader.Found.TheVariants as founds
@@ -21,16 +21,31 @@ IsOf founds.Whole buffer line = (line ≡ buffer) × (length line ≤ most_line_
 IsOf founds.TooLong buffer line = most_line_bytes < length line
 IsOf founds.NoMemory buffer line = ⊤
 
--- the first line of the bytes
-pub record Finds (found : Found) (buffer : List ℕ) (xs ys : List ℕ) : Type 0 where
-  pub line : List ℕ
+-- the line is the first of the bytes xs, of which ys are left
+pub record IsFirst (found : Found) (line xs ys : List ℕ) : Type 0 where
   pub rest : List (List ℕ)
   pub first : lines_of xs ≡ line ∷ rest
-  pub is : IsOf found buffer line
-  pub short : length xs ≤ length ys + (min (length line) most_line_bytes + 1)
   pub goes_on : found ≡ founds.Whole → rest ≡ lines_of ys
+  pub short : length xs ≤ length ys + (min (length line) most_line_bytes + 1)
+  pub part : List ℕ
+  pub split : xs ≡ part ++ ys
+  pub ends : line_ends part ≤ 1
+
+-- a line, the first of the bytes where these are known
+pub record Finds (found : Found) (buffer : List ℕ) (old new : Option (List ℕ)) : Type 0 where
+  pub line : List ℕ
+  pub is : IsOf found buffer line
+  pub one : has_end line ≡ false
+  pub first : WhereKnown old new (λ xs ys. IsFirst found line xs ys)
 
 -- the next line, or the end
-abbrev pub Reads : Option Found → List ℕ → List ℕ → List ℕ → Type 0
-Reads None buffer xs ys = xs ≡ []
-Reads (Some found) buffer xs ys = Finds found buffer xs ys
+abbrev pub Reads : Option Found → List ℕ → Option (List ℕ) → Option (List ℕ) → Type 0
+Reads None buffer old new = WhereKnown old new (λ xs ys. xs ≡ [])
+Reads (Some found) buffer old new = Finds found buffer old new
+
+-- what was read of a line whose end was not
+pub record IsBegun (xs ys : List ℕ) : Type 0 where
+  pub part : List ℕ
+  pub split : xs ≡ part ++ ys
+  pub one : has_end part ≡ false
+  pub short : length part ≤ most_line_bytes

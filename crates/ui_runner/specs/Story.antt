@@ -1,5 +1,5 @@
 -- What a run over the lines of a text may come to.
-use Rattle.std.specs.Prelude.{min, ◌≡◌, ◌≢◌, ℕ, ◌+◌, ◌⊎◌, Bool, true, false, ◌||◌, List, [], ◌∷◌, ◌++◌, length, fold, nat_lt, nat_eq, if◌then◌else◌}
+use Rattle.std.specs.Prelude.{min, ◌≡◌, ◌≢◌, ◌≤◌, ℕ, ◌+◌, ◌⊎◌, Bool, true, false, ◌||◌, List, [], ◌∷◌, ◌++◌, length, take, fold, nat_lt, nat_eq, if◌then◌else◌, Option}
 use Rattle.std.specs.List.{list_all, list_any}
 use Rattle.ui_machine.specs.declared.arm.Halt.{Halt}
 use Rattle.ui_machine.specs.declared.arm.Halt.TheVariants as halts
@@ -7,6 +7,8 @@ use Rattle.ui_machine.specs.Limits.{most_line_bytes, most_lines}
 use Rattle.ui_machine.specs.Prefix.{IsPrefix}
 use Rattle.ui_runner.specs.declared.refusal.LineRefusal.{LineRefusal}
 use Rattle.ui_runner.specs.declared.refusal.LineRefusal.TheVariants as refusals
+use Rattle.ui_runner.specs.Lines.{lines_of, line_ends}
+use Rattle.ui_runner.specs.Reading.{WhereKnown, most_ahead}
 use Rattle.ui_runner.specs.Texts.{lines_text, refused_line, stopped_line}
 
 -- how an event line ends
@@ -60,17 +62,6 @@ fate n line =
     else (if nat_lt most_line_bytes (length line) then too_long
     else (if is_blank line then skipped else event))
 
-abbrev pub ends_run : Fate → Bool
-ends_run too_many = true
-ends_run too_long = true
-ends_run skipped = false
-ends_run event = false
-
--- the lines up to the first that ends the run by its fate, the first of them numbered n
-abbrev pub told_lines : ℕ → List (List ℕ) → List (List ℕ)
-told_lines n [] = []
-told_lines n (line ∷ lines) = line ∷ (if ends_run (fate n line) then [] else told_lines (n + 1) lines)
-
 -- the bytes of these lines, of each no more than one past the limit
 abbrev pub reach : List (List ℕ) → ℕ
 reach [] = 0
@@ -103,14 +94,34 @@ Tale {S} replies forgotten old n (line ∷ lines) (outcome ∷ outcomes) new =
 abbrev pub IsOver : List (List ℕ) → List Outcome → Type 0
 IsOver lines outcomes = (length outcomes ≡ length lines) ⊎ (list_any ends outcomes ≡ true)
 
--- a run over these lines that ended in this status, where the writer failed or not: their outcomes, and what it wrote
-pub record Story {S : Type 0} (replies : Replies S) (forgotten : S → S) (old : S) (lines : List (List ℕ)) (status : ℕ) (torn : Bool) (text : List ℕ) (new : S) : Type 0 where
+-- The order of reads and writes, as it was at the last read: what comes before the events was written, and the outcomes of the first
+-- lines, none of which ends the run; and of the lines after them no more was read than the next, and a chunk.
+pub record InStep (before : List ℕ) (outcomes : List Outcome) (first last : Option (List ℕ)) (text : List ℕ) : Type 0 where
+  pub count : ℕ
+  pub within : count ≤ length outcomes
+  pub goes_on : list_any ends (take count outcomes) ≡ false
+  pub written : IsPrefix (before ++ text_from 1 (take count outcomes)) text
+  pub near : WhereKnown first last (λ input rest. length input ≤ length rest + (reach (take (count + 1) (lines_of input)) + most_ahead))
+
+-- each whole line that was read has its outcome
+pub record AllTold (outcomes : List Outcome) (input rest : List ℕ) : Type 0 where
+  pub part : List ℕ
+  pub split : input ≡ part ++ rest
+  pub told : line_ends part ≤ length outcomes
+
+-- a run over these lines that ended in this status, where the writer failed or not: their outcomes, and what it wrote from the bytes before
+-- them on; nothing was read, or from the first bytes to the last
+pub record Story {S : Type 0} (replies : Replies S) (forgotten : S → S) (old : S) (before : List ℕ) (lines : List (List ℕ)) (status : ℕ) (torn : Bool) (unread : Type 0) (first last : Option (List ℕ)) (text : List ℕ) (new : S) : Type 0 where
   pub outcomes : List Outcome
   pub told : Tale replies forgotten old 1 lines outcomes new
   -- the writer failed: the text broke off
-  pub broke : torn ≡ true → IsPrefix text (text_from 1 outcomes)
+  pub broke : torn ≡ true → IsPrefix text (before ++ text_from 1 outcomes)
   -- it did not: the whole text of the outcomes so far, also where the reader failed
-  pub whole : torn ≡ false → text ≡ text_from 1 outcomes
+  pub whole : torn ≡ false → text ≡ before ++ text_from 1 outcomes
   -- no device failed: there are no more outcomes, by the end of the lines or of the run
   pub over : status ≢ 4 → IsOver lines outcomes
   pub answer : status ≢ 4 → status ≡ status_of outcomes
+  -- at each status: all that was said is written before anything is read
+  pub order : unread ⊎ InStep before outcomes first last text
+  -- the reader failed: the lines so far were told
+  pub heard : status ≡ 4 → torn ≡ false → WhereKnown first last (λ input rest. AllTold outcomes input rest)

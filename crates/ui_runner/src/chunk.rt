@@ -1,11 +1,13 @@
 //! Bytes read ahead.
 
-ghost use Rattle.std.specs.Prelude.{◌≡◌, ◌≤◌, ◌++◌, [], ◌∷◌, ℕ, List, drop, take, length, true, IfOk, OnOk, MatchOption, MatchResult, false};
+ghost use Rattle.std.specs.Prelude.{◌≡◌, ◌≤◌, ◌++◌, [], ◌∷◌, ℕ, List, drop, take, length, IfOk, OnOk, OnErr, MatchOption, false};
 ghost use Rattle.std.specs.Io.KnownBytes.{Keeps, Consumes, IsAtEnd, prepend_known};
+ghost use Rattle.ui_runner.specs.Writing.{Waits, IsFine};
 ghost use Rattle.ui_runner.specs.declared.chunk.TheConstants.{CHUNK_SIZE};
 
+use crate::output::Output;
 use std::marker::Model;
-use ui_machine::{DeviceFault, Feed};
+use ui_machine::{DeviceFault, Feed, Sink};
 
 /// The most bytes that are read ahead.
 pub const CHUNK_SIZE: usize = 4096;
@@ -38,32 +40,50 @@ impl Chunk {
         }
     }
 
-    /// Takes the next byte, and reads where there is none; None at the end. A read is not tried again.
-    pub fn next<R: Feed>(&mut self, reader: &mut R) -> Result<Option<u8>, DeviceFault>
-        requires works { R.failed reader.old ≡ false }
+    /// Takes the next byte, and reads where there is none; None at the end. Before a read all that was said is written. Neither a read
+    /// nor a write is tried again.
+    pub fn next<R: Feed, W: Sink + Drop>(
+        &mut self,
+        reader: &mut R,
+        output: &mut Output<W>,
+    ) -> Result<Option<u8>, DeviceFault>
+        requires reader { R.failed reader.old ≡ false }
+        requires writer { W.failed output.old.writer ≡ false }
         ensures byte { IfOk result (λ next. MatchOption next
             (Keeps (prepend_known self.old (R.left reader.old)) (prepend_known self.new (R.left reader.new))
             × IsAtEnd (prepend_known self.new (R.left reader.new)))
             (λ b. Consumes (prepend_known self.old (R.left reader.old)) (prepend_known self.new (R.left reader.new)) (b ∷ []))) }
-        ensures marks { MatchResult result (λ _. R.failed reader.new ≡ false) (λ _. R.failed reader.new ≡ true) }
+        ensures kept { OnErr result (Keeps (prepend_known self.old (R.left reader.old)) (R.left reader.new) × (self.new ≡ [])) }
         ensures small { length self.new ≤ CHUNK_SIZE }
+        ensures waits { Waits (reader.new ≡ reader.old) (W.failed output.new.writer)
+            (W.taken output.old.writer) output.old.gather (W.taken output.new.writer) output.new.gather }
+        ensures marks { IsFine result (R.failed reader.new) (W.failed output.new.writer) }
     {
-        self.fill(reader)?;
+        self.fill(reader, output)?;
         let next = self.pop();
         Ok(next)
     }
 
     // Reads where there is no byte.
-    fn fill<R: Feed>(&mut self, reader: &mut R) -> Result<(), DeviceFault>
-        requires works { R.failed reader.old ≡ false }
+    fn fill<R: Feed, W: Sink + Drop>(
+        &mut self,
+        reader: &mut R,
+        output: &mut Output<W>,
+    ) -> Result<(), DeviceFault>
+        requires reader { R.failed reader.old ≡ false }
+        requires writer { W.failed output.old.writer ≡ false }
         ensures keeps { OnOk result (Keeps (prepend_known self.old (R.left reader.old)) (prepend_known self.new (R.left reader.new))) }
+        ensures kept { OnErr result (Keeps (prepend_known self.old (R.left reader.old)) (R.left reader.new) × (self.new ≡ [])) }
         ensures small { length self.new ≤ CHUNK_SIZE }
         ensures end { OnOk result (self.new ≡ [] → IsAtEnd (R.left reader.new)) }
-        ensures marks { MatchResult result (λ _. R.failed reader.new ≡ false) (λ _. R.failed reader.new ≡ true) }
+        ensures waits { Waits (reader.new ≡ reader.old) (W.failed output.new.writer)
+            (W.taken output.old.writer) output.old.gather (W.taken output.new.writer) output.new.gather }
+        ensures marks { IsFine result (R.failed reader.new) (W.failed output.new.writer) }
     {
         if self.at < self.end {
             return Ok(());
         }
+        output.flush()?;
         let count = reader.read(&mut self.bytes)?;
         self.at = 0;
         self.end = count;

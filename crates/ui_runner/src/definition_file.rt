@@ -1,13 +1,16 @@
 //! The bytes of a definition, out of a feed.
 
-ghost use Rattle.std.specs.Prelude.{◌≡◌, ◌+◌, take, IfOk, IfSome, MatchResult, false};
+ghost use Rattle.std.specs.Prelude.{◌≡◌, ◌≤◌, ◌+◌, take, length, IfOk, IfSome, MatchResult, false};
 ghost use Rattle.ui_machine.specs.Limits.{most_definition_bytes};
 ghost use Rattle.ui_runner.specs.Files.{Marks};
+ghost use Rattle.ui_runner.specs.Reading.{WhereKnown};
 
-use crate::chunk::Chunk;
 use builder_defs::MAX_BYTES;
 use std::alloc::{AllocError, AllocFailed, Global};
 use ui_machine::{DeviceFault, Feed};
+
+/// The most bytes that one read asks for.
+const PIECE_SIZE: usize = 4096;
 
 /// Why a definition's bytes were not had.
 #[derive(Clone, Copy, Debug, PartialEq, Eq)]
@@ -51,21 +54,22 @@ impl<T: Drop> From<AllocFailed<T>> for FileFault {
     }
 }
 
-/// All bytes of a feed, but no more than the limit of a definition and one, by which it is refused.
+/// All bytes of a feed, but no more than the limit of a definition and one, by which it is refused. No byte past that one is asked for.
 pub fn definition_bytes<R: Feed>(alloc: Global, reader: &mut R) -> Result<Vec<u8>, FileFault>
     requires works { R.failed reader.old ≡ false }
     ensures bytes { IfOk result (λ bytes. IfSome (R.left reader.old) (λ input. bytes.items ≡ take (most_definition_bytes + 1) input)) }
+    ensures near { WhereKnown (R.left reader.old) (R.left reader.new) (λ input rest. length input ≤ length rest + (most_definition_bytes + 1)) }
     ensures marks { MatchResult result (λ _. R.failed reader.new ≡ false) (Marks (R.failed reader.new)) }
 {
-    let mut chunk = Chunk::new();
+    let mut piece = [0; PIECE_SIZE];
     let mut bytes = Vec::new(alloc);
-    loop {
-        if bytes.len() > MAX_BYTES {
+    while bytes.len() <= MAX_BYTES {
+        let most = (MAX_BYTES + 1 - bytes.len()).min(PIECE_SIZE);
+        let count = reader.read(&mut piece[..most])?;
+        if count == 0 {
             return Ok(bytes);
         }
-        let Some(byte) = chunk.next(reader)? else {
-            return Ok(bytes);
-        };
-        bytes.push(byte)?;
+        bytes.extend_from_slice(&piece[..count])?;
     }
+    Ok(bytes)
 }

@@ -1,10 +1,11 @@
 //! How the program ends where it runs nothing: its one line, and its status.
 
-ghost use Rattle.std.specs.Prelude.{◌≡◌, true, false, MatchResult};
+ghost use Rattle.std.specs.Prelude.{◌≡◌, [], true, false, MatchResult};
 ghost use Rattle.ui_runner.specs.Endings.{ending_line, ending_status};
-ghost use Rattle.ui_runner.specs.Writing.{Writes, IsTold};
+ghost use Rattle.ui_runner.specs.Writing.{Writes, Puts, IsTold};
 
-use crate::writing::write_parts;
+use crate::output::Output;
+use crate::writing::put_parts;
 use ui_machine::{DeviceFault, Sink};
 
 /// Why nothing is run.
@@ -21,31 +22,44 @@ pub enum Ending {
 impl Ending {
     /// Writes the line, with the name of the file that can't be read, and answers the status: 2 for the words of the command line and
     /// 4 for a file, whether or not the line was lost; 3 for want of memory, and 4 where its line was lost.
-    pub fn tell<W: Sink>(self, writer: &mut W, name: &str) -> u8
-        requires works { W.failed writer.old ≡ false }
-        ensures text { IsTold (W.failed writer.new) (W.taken writer.old) (W.taken writer.new) (ending_line self name.now) }
-        ensures status { result ≡ ending_status self (W.failed writer.new) }
+    pub fn tell<W: Sink + Drop>(self, output: &mut Output<W>, name: &str) -> u8
+        requires works { W.failed output.old.writer ≡ false }
+        requires empty { output.old.gather ≡ [] }
+        ensures text { IsTold (W.failed output.new.writer) (W.taken output.old.writer) (W.taken output.new.writer) (ending_line self name.now) }
+        ensures status { result ≡ ending_status self (W.failed output.new.writer) }
     {
-        let Ok(()) = self.write(writer, name) else {
+        let Ok(()) = self.write(output, name) else {
             return self.status(true);
         };
         self.status(false)
     }
 
-    fn write<W: Sink>(self, writer: &mut W, name: &str) -> Result<(), DeviceFault>
-        requires works { W.failed writer.old ≡ false }
-        ensures writes { Writes result (W.taken writer.old) (W.taken writer.new) (ending_line self name.now) }
-        ensures marks { MatchResult result (λ _. W.failed writer.new ≡ false) (λ _. W.failed writer.new ≡ true) }
+    fn write<W: Sink + Drop>(self, output: &mut Output<W>, name: &str) -> Result<(), DeviceFault>
+        requires works { W.failed output.old.writer ≡ false }
+        requires empty { output.old.gather ≡ [] }
+        ensures writes { Writes result (W.taken output.old.writer) (W.taken output.new.writer) (ending_line self name.now) }
+        ensures marks { MatchResult result (λ _. W.failed output.new.writer ≡ false) (λ _. W.failed output.new.writer ≡ true) }
+    {
+        let Ok(()) = self.put(output, name) else {
+            return Err(DeviceFault);
+        };
+        output.flush()
+    }
+
+    fn put<W: Sink + Drop>(self, output: &mut Output<W>, name: &str) -> Result<(), DeviceFault>
+        requires works { W.failed output.old.writer ≡ false }
+        ensures puts { Puts result (W.taken output.old.writer) output.old.gather (W.taken output.new.writer) output.new.gather (ending_line self name.now) }
+        ensures marks { MatchResult result (λ _. W.failed output.new.writer ≡ false) (λ _. W.failed output.new.writer ≡ true) }
     {
         let name = name.as_bytes();
         match self {
-            Ending::Usage => return write_parts(
-                writer,
+            Ending::Usage => return put_parts(
+                output,
                 &[b"usage: ui verify DEF | ui run DEF EVENTS", name, b"\n"],
             ),
-            Ending::Unreadable => return write_parts(writer, &[b"cannot read ", name, b"\n"]),
-            Ending::OutOfMemory => return write_parts(
-                writer,
+            Ending::Unreadable => return put_parts(output, &[b"cannot read ", name, b"\n"]),
+            Ending::OutOfMemory => return put_parts(
+                output,
                 &[b"refused: OutOfMemory", name, b"\n"],
             ),
         }

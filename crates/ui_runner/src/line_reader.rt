@@ -1,12 +1,14 @@
 //! Lines out of bytes.
 
-ghost use Rattle.std.specs.Prelude.{◌≡◌, ◌≤◌, true, length, OnOk, IfOk, MatchResult, false};
+ghost use Rattle.std.specs.Prelude.{◌≡◌, ◌≤◌, length, IfOk, OnErr, false};
 ghost use Rattle.std.specs.Io.KnownBytes.{prepend_known};
-ghost use Rattle.ui_runner.specs.Reading.{WhereKnown, Reads};
+ghost use Rattle.ui_runner.specs.Reading.{WhereKnown, Reads, IsBegun};
+ghost use Rattle.ui_runner.specs.Writing.{Waits, IsFine};
 
 use crate::LINE_LIMIT;
 use crate::chunk::{CHUNK_SIZE, Chunk};
-use ui_machine::{DeviceFault, Feed};
+use crate::output::Output;
+use ui_machine::{DeviceFault, Feed, Sink};
 
 /// A line that was found.
 #[derive(Clone, Copy, Debug, PartialEq, Eq)]
@@ -28,18 +30,25 @@ pub struct LineReader {
 
 impl LineReader {
     /// Reads the next line into the buffer; None at the end. It reads no further than a chunk past the line, and where a line is too
-    /// long no further than a chunk past the limit.
-    pub fn next_line<R: Feed>(&mut self, reader: &mut R) -> Result<Option<Found>, DeviceFault>
-        requires works { R.failed reader.old ≡ false }
+    /// long no further than a chunk past the limit. Before each read all that was said is written.
+    pub fn next_line<R: Feed, W: Sink + Drop>(
+        &mut self,
+        reader: &mut R,
+        output: &mut Output<W>,
+    ) -> Result<Option<Found>, DeviceFault>
+        requires reader { R.failed reader.old ≡ false }
+        requires writer { W.failed output.old.writer ≡ false }
         ensures reads { IfOk result (λ found.
-            WhereKnown (prepend_known self.old.chunk (R.left reader.old)) (prepend_known self.new.chunk (R.left reader.new))
-            (λ xs ys. Reads found self.new.line.items xs ys)) }
-        ensures small { OnOk result (length self.new.chunk ≤ CHUNK_SIZE) }
-        ensures marks { MatchResult result (λ _. R.failed reader.new ≡ false) (λ _. R.failed reader.new ≡ true) }
+            Reads found self.new.line.items (prepend_known self.old.chunk (R.left reader.old)) (prepend_known self.new.chunk (R.left reader.new))) }
+        ensures begun { OnErr result (WhereKnown (prepend_known self.old.chunk (R.left reader.old)) (R.left reader.new) (λ xs ys. IsBegun xs ys)) }
+        ensures small { length self.new.chunk ≤ CHUNK_SIZE }
+        ensures waits { Waits (reader.new ≡ reader.old) (W.failed output.new.writer)
+            (W.taken output.old.writer) output.old.gather (W.taken output.new.writer) output.new.gather }
+        ensures marks { IsFine result (R.failed reader.new) (W.failed output.new.writer) }
     {
         self.line.clear();
         loop {
-            let Some(byte) = self.chunk.next(reader)? else {
+            let Some(byte) = self.chunk.next(reader, output)? else {
                 if self.line.is_empty() {
                     return Ok(None);
                 }

@@ -1,15 +1,19 @@
 //! The program: `ui run DEF EVENTS`.
 #![tactic(auto)]
 
+ghost use Rattle.std.specs.Prelude.{◌≡◌, [], false};
+
 mod chunk;
 mod definition_file;
 mod ending;
 #[cfg(test)]
 mod fakes;
+mod gather;
 mod hearing;
 mod line_reader;
 mod listener;
 mod opening;
+mod output;
 mod refusal;
 mod run;
 mod story;
@@ -21,8 +25,10 @@ mod writing;
 
 use definition_file::{FileFault, definition_bytes};
 use ending::Ending;
+use output::Output;
 use run::run;
 use std::fs::File;
+use std::io::Write;
 use std::process::ExitCode;
 use ui_machine::Device;
 use words::{Request, WordsFault, given_words, read_words};
@@ -35,6 +41,14 @@ pub const MOST_LINES: u64 = 65_536;
 
 fn main(rt: HostRuntime) -> ExitCode {
     ExitCode::from(status(&rt))
+}
+
+// Nothing was said yet to a writer of std.
+fn to<T: Write + Drop>(writer: T) -> Output<Device<T>>
+    ensures works { result.writer.failed ≡ false }
+    ensures empty { result.gather ≡ [] }
+{
+    Output::new(Device::new(writer))
 }
 
 // Reads the words and does what they ask for.
@@ -51,7 +65,7 @@ fn status(rt: &HostRuntime) -> u8 {
 
 fn refuse_words(rt: &HostRuntime, fault: WordsFault) -> u8 {
     match fault {
-        WordsFault::Usage => Ending::Usage.tell(&mut Device::new(rt.stderr()), ""),
+        WordsFault::Usage => Ending::Usage.tell(&mut to(rt.stderr()), ""),
         WordsFault::OutOfMemory => out_of_memory(rt),
     }
 }
@@ -67,8 +81,8 @@ fn perform(rt: &HostRuntime, request: Request<'_>) -> u8 {
         return unreadable(rt, request.events);
     };
     let mut reader = Device::new(events);
-    let mut writer = Device::new(rt.stdout());
-    run(rt.alloc(), bytes.as_slice(), &mut reader, &mut writer)
+    let mut output = to(rt.stdout());
+    run(rt.alloc(), bytes.as_slice(), &mut reader, &mut output)
 }
 
 fn definition_at(rt: &HostRuntime, name: &str) -> Result<Vec<u8>, FileFault> {
@@ -80,9 +94,9 @@ fn definition_at(rt: &HostRuntime, name: &str) -> Result<Vec<u8>, FileFault> {
 }
 
 fn unreadable(rt: &HostRuntime, name: &str) -> u8 {
-    Ending::Unreadable.tell(&mut Device::new(rt.stderr()), name)
+    Ending::Unreadable.tell(&mut to(rt.stderr()), name)
 }
 
 fn out_of_memory(rt: &HostRuntime) -> u8 {
-    Ending::OutOfMemory.tell(&mut Device::new(rt.stdout()), "")
+    Ending::OutOfMemory.tell(&mut to(rt.stdout()), "")
 }

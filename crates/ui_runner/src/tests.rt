@@ -2,6 +2,7 @@
 
 use crate::definition_file::{FileFault, definition_bytes};
 use crate::fakes::{Pace, Source, Target};
+use crate::output::Output;
 use crate::run::run;
 use std::alloc::{AllocError, Global};
 use std::process::Abort;
@@ -57,18 +58,18 @@ fn run_over(
         pace: reading,
         calls: 0,
     });
-    let mut writer = Device::new(Target {
+    let mut output = Output::new(Device::new(Target {
         bytes: Vec::with_capacity(alloc, 4096)?,
         pace: writing,
         calls: 0,
-    });
-    let status = run(alloc, definition, &mut reader, &mut writer);
-    let failed = Feed::has_failed(&reader) || Sink::has_failed(&writer);
+    }));
+    let status = run(alloc, definition, &mut reader, &mut output);
+    let failed = Feed::has_failed(&reader) || Sink::has_failed(&output.writer);
     Ok(Ran {
         status,
         reads: reader.inner.calls,
-        writes: writer.inner.calls,
-        text: writer.inner.bytes,
+        writes: output.writer.inner.calls,
+        text: output.writer.inner.bytes,
         failed,
     })
 }

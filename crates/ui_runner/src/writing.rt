@@ -1,54 +1,42 @@
-//! Text out to a sink.
+//! Texts out to a sink.
 
 ghost use Rattle.std.specs.Prelude.{◌≡◌, true, List, map, flat_map, MatchResult, string_bytes, false};
-ghost use Rattle.ui_runner.specs.Writing.{Writes};
+ghost use Rattle.ui_runner.specs.Writing.{Puts};
 ghost use Rattle.ui_runner.specs.Texts.{joined, lines_text, refused_line, stopped_line, stop_name};
 ghost use Rattle.ui_runner.specs.Story.{text_at};
 ghost use Rattle.ui_runner.specs.Telling.{told_of};
 
+use crate::output::Output;
 use crate::refusal::LineRefusal;
 use crate::telling::Telling;
 use itoa::Buffer;
 use ui_machine::{Arm, DeviceFault, Halt, Sink};
 
-/// Writes all the bytes, or what comes before the first write that fails.
-pub fn write_all<W: Sink>(writer: &mut W, bytes: &[u8]) -> Result<(), DeviceFault>
-    requires works { W.failed writer.old ≡ false }
-    ensures writes { Writes result (W.taken writer.old) (W.taken writer.new) bytes.now }
-    ensures marks { MatchResult result (λ _. W.failed writer.new ≡ false) (λ _. W.failed writer.new ≡ true) }
-{
-    let mut done = 0;
-    while done < bytes.len() {
-        let Ok(count) = writer.write(&bytes[done..]) else {
-            return Err(DeviceFault);
-        };
-        done += count;
-    }
-    Ok(())
-}
-
-/// Writes texts one after the other, as `write_all` does.
-pub fn write_parts<W: Sink>(writer: &mut W, parts: &[&[u8]]) -> Result<(), DeviceFault>
-    requires works { W.failed writer.old ≡ false }
-    ensures writes { Writes result (W.taken writer.old) (W.taken writer.new) (flat_map (λ part. part.now) parts.now) }
-    ensures marks { MatchResult result (λ _. W.failed writer.new ≡ false) (λ _. W.failed writer.new ≡ true) }
+/// Says texts one after the other.
+pub fn put_parts<W: Sink + Drop>(output: &mut Output<W>, parts: &[&[u8]]) -> Result<(), DeviceFault>
+    requires works { W.failed output.old.writer ≡ false }
+    ensures puts { Puts result (W.taken output.old.writer) output.old.gather (W.taken output.new.writer) output.new.gather (flat_map (λ part. part.now) parts.now) }
+    ensures marks { MatchResult result (λ _. W.failed output.new.writer ≡ false) (λ _. W.failed output.new.writer ≡ true) }
 {
     for part in parts {
-        let Ok(()) = write_all(writer, part) else {
+        let Ok(()) = output.put(part) else {
             return Err(DeviceFault);
         };
     }
     Ok(())
 }
 
-/// Writes lines, each with its LF.
-pub fn write_lines<W: Sink>(writer: &mut W, lines: &[String]) -> Result<(), DeviceFault>
-    requires works { W.failed writer.old ≡ false }
-    ensures writes { Writes result (W.taken writer.old) (W.taken writer.new) (lines_text (map string_bytes lines.now)) }
-    ensures marks { MatchResult result (λ _. W.failed writer.new ≡ false) (λ _. W.failed writer.new ≡ true) }
+/// Says lines, each with its LF.
+pub fn put_lines<W: Sink + Drop>(
+    output: &mut Output<W>,
+    lines: &[String],
+) -> Result<(), DeviceFault>
+    requires works { W.failed output.old.writer ≡ false }
+    ensures puts { Puts result (W.taken output.old.writer) output.old.gather (W.taken output.new.writer) output.new.gather (lines_text (map string_bytes lines.now)) }
+    ensures marks { MatchResult result (λ _. W.failed output.new.writer ≡ false) (λ _. W.failed output.new.writer ≡ true) }
 {
     for line in lines {
-        let Ok(()) = write_parts(writer, &[line.as_bytes(), b"\n"]) else {
+        let Ok(()) = put_parts(output, &[line.as_bytes(), b"\n"]) else {
             return Err(DeviceFault);
         };
     }
@@ -77,19 +65,19 @@ pub fn stop_name(halt: Halt) -> &'static str
     }
 }
 
-fn write_refused<W: Sink>(
-    writer: &mut W,
+fn put_refused<W: Sink + Drop>(
+    output: &mut Output<W>,
     number: u64,
     refusal: LineRefusal,
 ) -> Result<(), DeviceFault>
-    requires works { W.failed writer.old ≡ false }
-    ensures writes { Writes result (W.taken writer.old) (W.taken writer.new) (refused_line number refusal) }
-    ensures marks { MatchResult result (λ _. W.failed writer.new ≡ false) (λ _. W.failed writer.new ≡ true) }
+    requires works { W.failed output.old.writer ≡ false }
+    ensures puts { Puts result (W.taken output.old.writer) output.old.gather (W.taken output.new.writer) output.new.gather (refused_line number refusal) }
+    ensures marks { MatchResult result (λ _. W.failed output.new.writer ≡ false) (λ _. W.failed output.new.writer ≡ true) }
 {
     let mut digits = Buffer::new();
     let number = digits.format(number).as_bytes();
-    write_parts(
-        writer,
+    put_parts(
+        output,
         &[
             b"line ",
             number,
@@ -100,15 +88,19 @@ fn write_refused<W: Sink>(
     )
 }
 
-fn write_stopped<W: Sink>(writer: &mut W, number: u64, halt: Halt) -> Result<(), DeviceFault>
-    requires works { W.failed writer.old ≡ false }
-    ensures writes { Writes result (W.taken writer.old) (W.taken writer.new) (stopped_line number halt) }
-    ensures marks { MatchResult result (λ _. W.failed writer.new ≡ false) (λ _. W.failed writer.new ≡ true) }
+fn put_stopped<W: Sink + Drop>(
+    output: &mut Output<W>,
+    number: u64,
+    halt: Halt,
+) -> Result<(), DeviceFault>
+    requires works { W.failed output.old.writer ≡ false }
+    ensures puts { Puts result (W.taken output.old.writer) output.old.gather (W.taken output.new.writer) output.new.gather (stopped_line number halt) }
+    ensures marks { MatchResult result (λ _. W.failed output.new.writer ≡ false) (λ _. W.failed output.new.writer ≡ true) }
 {
     let mut digits = Buffer::new();
     let number = digits.format(number).as_bytes();
-    write_parts(
-        writer,
+    put_parts(
+        output,
         &[
             b"line ",
             number,
@@ -119,26 +111,26 @@ fn write_stopped<W: Sink>(writer: &mut W, number: u64, halt: Halt) -> Result<(),
     )
 }
 
-/// Writes what a line came to, the lines that were said with it among them.
-pub fn write_telling<W: Sink>(
-    writer: &mut W,
+/// Says what a line came to, the lines that were said with it among them.
+pub fn put_telling<W: Sink + Drop>(
+    output: &mut Output<W>,
     number: u64,
     telling: Telling,
     lines: &[String],
 ) -> Result<(), DeviceFault>
-    requires works { W.failed writer.old ≡ false }
-    ensures writes { Writes result (W.taken writer.old) (W.taken writer.new) (text_at number (told_of telling (map string_bytes lines.now))) }
-    ensures marks { MatchResult result (λ _. W.failed writer.new ≡ false) (λ _. W.failed writer.new ≡ true) }
+    requires works { W.failed output.old.writer ≡ false }
+    ensures puts { Puts result (W.taken output.old.writer) output.old.gather (W.taken output.new.writer) output.new.gather (text_at number (told_of telling (map string_bytes lines.now))) }
+    ensures marks { MatchResult result (λ _. W.failed output.new.writer ≡ false) (λ _. W.failed output.new.writer ≡ true) }
 {
     match telling {
-        Telling::Said => write_lines(writer, lines),
-        Telling::Refused(refusal) => write_refused(writer, number, refusal),
-        Telling::CutOff(refusal) => write_refused(writer, number, refusal),
+        Telling::Said => put_lines(output, lines),
+        Telling::Refused(refusal) => put_refused(output, number, refusal),
+        Telling::CutOff(refusal) => put_refused(output, number, refusal),
         Telling::Stopped(halt) => {
-            let Ok(()) = write_lines(writer, lines) else {
+            let Ok(()) = put_lines(output, lines) else {
                 return Err(DeviceFault);
             };
-            write_stopped(writer, number, halt)
+            put_stopped(output, number, halt)
         }
     }
 }

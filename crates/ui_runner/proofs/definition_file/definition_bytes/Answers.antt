@@ -1,14 +1,14 @@
-use Rattle.std.proofs.Common.{◌≡◌, ◌+◌, length, arith}
-use Rattle.builder_defs.specs.declared.document.TheConstants.{MAX_BYTES}
-use Rattle.ui_runner.proofs.LineLemmas.{taken_front, taken_whole}
+use Rattle.std.proofs.Common.{◌+◌, length, arith, sym, take, min, rules, length-take, ◌<◌}
+use Rattle.ui_machine.specs.Limits.{most_definition_bytes}
+use Rattle.ui_runner.proofs.LineLemmas.{taken_front, taken_to_end}
 use Rattle.ui_runner.proofs.definition_file.definition_bytes.Goals as goal
 
-pub returns-then-len-gt-MAX_BYTES-clause-bytes : goal.returns-then-len-gt-MAX_BYTES-clause-bytes
-returns-then-len-gt-MAX_BYTES-clause-bytes g c =
-    let full : MAX_BYTES + 1 ≡ length c.loop-chunk.bytes.items = omega (arith, c.loop-chunk.invariant.within, c.loop-chunk.bytes.ok, c.if-len-gt-MAX_BYTES.true, c.len.ensures) in
-    taken_front _ _ c.loop-chunk.bytes.items (MAX_BYTES + 1) c.loop-chunk.invariant.consumed full
+pub returns-then-count-eq0-clause-bytes : goal.returns-then-count-eq0-clause-bytes
+returns-then-count-eq0-clause-bytes g c =
+    taken_to_end _ _ _ c.loop-piece.bytes.items _ c.in_ok-count.count (most_definition_bytes + 1) c.loop-piece.invariant.consumed
+    c.in_ok-count.ensures.bytes.0 c.if-count-eq0.true (c.in_ok-count.ensures.bytes.1 c.if-count-eq0.true (search rules)) c.loop-piece.invariant.within
 
-pub returns-in_default-clause-bytes : goal.returns-in_default-clause-bytes
-returns-in_default-clause-bytes g c =
-    let end = rw c.in_default.is at c.in_ok-byte.ensures.byte in
-    taken_whole _ _ _ c.loop-chunk.bytes.items (MAX_BYTES + 1) c.loop-chunk.invariant.consumed end c.loop-chunk.invariant.within
+pub returns-clause-bytes : goal.returns-clause-bytes
+returns-clause-bytes g c =
+    taken_front _ _ c.loop-piece.bytes.items (most_definition_bytes + 1) c.loop-piece.invariant.consumed
+    (omega (arith, c.loop-piece.invariant.within, c.loop-piece.bytes.ok, c.loop-piece-test.false, c.len.ensures))

@@ -1,11 +1,14 @@
-use Rattle.ui_runner.specs.Lines.{lines_of}
-use Rattle.ui_runner.proofs.Openings.{if_some, plays}
+use Rattle.std.proofs.Common.{refl, []}
+use Rattle.ui_runner.proofs.Openings.{breaks_off, plays}
 use Rattle.ui_runner.proofs.run.play.Goals as goal
+
+pub returns-in_default-clause-plays : goal.returns-in_default-clause-plays
+returns-in_default-clause-plays g c =
+    let first = rw c.transcript.ensures at c.in_default.ensures.puts in
+    breaks_off c.args.session _ _ _ _ _ _ (g.W.Sink.taken c.args.output.now.writer) _ [] c.requires.empty c.in_default.ensures.marks refl first
 
 pub returns-clause-plays : goal.returns-clause-plays
 returns-clause-plays g c =
-    let first = rw c.transcript.ensures at c.in-Ok.ensures.writes in
+    let first = rw c.transcript.ensures at c.in-Ok.ensures.puts in
     let story = rw c.forget.ensures at c.tell_lines.ensures.story in
-    if_some (g.R.Feed.left c.args.reader.now) _ _
-    (λ input told. plays (g.W.Sink.taken c.args.writer.now) (g.W.Sink.taken c.write_lines.new.writer) (g.W.Sink.taken c.tell_lines.new.writer) c.args.session (g.W.Sink.failed c.tell_lines.new.writer) (lines_of input) c.tell_lines.result c.tell_lines.new.listener first told)
-    story
+    plays c.args.session _ _ _ _ _ _ _ _ _ c.tell_lines.result c.tell_lines.new.listener c.requires.empty first story

@@ -1,83 +1,114 @@
-use Rattle.std.proofs.Common.{arith, ◌≤◌, ◌+◌, [], false, List, ℕ, ◌∙◌, refl, sym, drop, length}
+use Rattle.std.proofs.Common.{arith, [], ◌∷◌, ◌++◌, false, true, List, ℕ, ◌∙◌, ap, subst, refl, sym, drop, length, append-nil, inl, inr}
 use Rattle.std.specs.Prelude.{string_bytes}
-use Rattle.std.specs.Io.KnownBytes.{Appends}
-use Rattle.std.proofs.KnownBytes.{Appends-nil, prepend_known-nil}
+use Rattle.std.proofs.KnownBytes.{prepend_known-nil}
 use Rattle.ui_runner.specs.Lines.{lines_of}
+use Rattle.ui_runner.specs.Reading.{most_ahead}
 use Rattle.ui_runner.specs.Telling.{told_of}
-use Rattle.ui_runner.specs.Story.{told_lines, reach}
+use Rattle.ui_runner.specs.Story.{AllTold}
+use Rattle.ui_runner.specs.Writing.{Finishes}
 use Rattle.ui_runner.proofs.LineLemmas.{known_further}
-use Rattle.ui_runner.proofs.Near.{IsNear, near_more, near_all, near_end, near_so}
-use Rattle.ui_runner.proofs.Runs.{Came, came_start, known_here, said_since, breaks, ends_there, goes_on_from, status_is_no_fault}
+use Rattle.ui_runner.proofs.Runs.{IsAt, IsNear, at_start, at_next, clean_more, came_start, came_on, came_fine, came_told, told_cut, told_torn, told_whole, bytes_of, bytes_of_all, lines_so_far, lines_left, lines_all, near_first, near_end, near_begun, near_ahead, all_told, held_none, said_since, status_is_no_fault}
 use Rattle.ui_runner.proofs.story.tell_lines.Goals as goal
 
 pub loop-next-init : goal.loop-next-init
 loop-next-init g c = record {
-  came = rw (c.new.ensures, prepend_known-nil (g.R.Feed.left c.args.reader.now))
-      (known_here (g.R.Feed.left c.args.reader.now)
-      (λ xs ys. (text : List ℕ) × Came g.L.Listener.replies g.L.Listener.forgotten c.args.listener.now (lines_of xs) c.args.listener.now 1 0 false (lines_of ys) text
-      × Appends (g.W.Sink.taken c.args.writer.now) (g.W.Sink.taken c.args.writer.now) text)
-      (λ xs. ([], came_start g.L.Listener.replies g.L.Listener.forgotten c.args.listener.now (lines_of xs), Appends-nil (g.W.Sink.taken c.args.writer.now))));
+  came = (
+    [],
+    [],
+    came_start g.L.Listener.replies g.L.Listener.forgotten c.args.listener.now c.args.output.now.gather _ (g.R.Feed.left c.args.reader.now) (g.W.Sink.taken c.args.output.now.writer) refl,
+    rw c.new.ensures (at_start (g.R.Feed.left c.args.reader.now)),
+  );
   reader_works = c.requires.reader;
   writer_works = c.requires.writer;
-  near = rw (c.new.ensures, prepend_known-nil (g.R.Feed.left c.args.reader.now))
-      (known_here (g.R.Feed.left c.args.reader.now) (λ xs ys. IsNear 1 xs ys) (λ xs. omega arith));
   works = λ e. absurd (omega arith);
   within = omega arith;
 }
 
-pub returns-in_default-written-clause-story : goal.returns-in_default-written-clause-story
-returns-in_default-written-clause-story g c =
-    let said = drop (length (g.L.Listener.lines c.loop-next.listener)) (g.L.Listener.lines c.tell-telling.new.listener) in
-    let writes = rw (said_since string_bytes c.transcript-before.result.now c.transcript.result.now _ _ c.transcript-before.ensures c.transcript.ensures)
-    at c.in_default-written.ensures.writes in
-    let tells = rw c.as_slice.ensures.value at c.tell-telling.ensures.tells in
+pub returns-in_default-clause-story : goal.returns-in_default-clause-story
+returns-in_default-clause-story g c =
+    let came = c.loop-next.invariant.came in
+    let begun = c.in_default.ensures.begun in
+    let waits = c.next_line.ensures.waits in
+    let near = known_further _ _ _ _ _ (λ xs zs. IsNear came.0 most_ahead xs zs) came.3 begun (λ xs ys zs h b. near_begun came.0 xs ys zs h b) in
+    let on = came_on g.L.Listener.replies g.L.Listener.forgotten came.2 waits (λ u. (ap g.R.Feed.left (sym u), λ v. u ∙ v)) near in
+    let none = held_none _ _ c.in_default.ensures.marks (λ u. ap g.R.Feed.failed u ∙ c.loop-next.invariant.reader_works) waits.out in
+    let heard = known_further _ _ _ _ _ (λ xs zs. AllTold came.1 xs zs) came.3 begun (λ xs ys zs h b. all_told came.0 came.1 xs ys zs h b came.2.counts) in
+    let bytes = bytes_of _ _ came.0 came.2.clean (known_further _ _ _ _ _ _ came.3 begun (λ xs ys zs h b. lines_left came.0 xs ys h)) in
+    let end = told_cut g.L.Listener.replies g.L.Listener.forgotten (lines_of bytes.0) bytes.2 _ on none (λ _. heard) bytes.3 in
+    (bytes.0, bytes.1, end.0, end.1, end.2)
+
+pub returns-in_default-next-clause-story : goal.returns-in_default-next-clause-story
+returns-in_default-next-clause-story g c =
+    let came = c.loop-next.invariant.came in
+    let reads = rw c.in_default-next.is at c.in-Ok.ensures.reads in
+    let near = near_ahead _ _ came.0 c.next_line.new.self.chunk
+    (known_further _ _ _ _ _ (λ xs zs. IsNear came.0 0 xs zs) came.3 reads (λ xs ys zs h e. near_end came.0 xs ys zs h e)) c.next_line.ensures.small in
+    let on = came_fine g.L.Listener.replies g.L.Listener.forgotten c.in-Ok.ensures.marks.1 came.2 c.next_line.ensures.waits (λ u. (ap g.R.Feed.left (sym u), λ v. u ∙ v)) near in
+    let bytes = bytes_of_all _ _ came.0 came.2.clean (known_further _ _ _ _ _ (λ xs zs. _) came.3 reads (λ xs ys zs h e. lines_all came.0 xs ys h e)) in
+    let end = told_whole g.L.Listener.replies g.L.Listener.forgotten (lines_of bytes.0) [] _ _ on c.loop-next.invariant.works c.finish.ensures.finishes
+    (bytes.2 ∙ sym (append-nil came.0)) (inl (came.2.counts ∙ ap length (sym bytes.2))) in
+    (bytes.0, bytes.1, end.0, end.1, end.2)
+
+pub returns-in_default-put-clause-story : goal.returns-in_default-put-clause-story
+returns-in_default-put-clause-story g c =
+    let came = c.loop-next.invariant.came in
     let reads = rw c.in-Some.is at c.in-Ok.ensures.reads in
-    rw c.forget.ensures (breaks g.L.Listener.replies g.L.Listener.forgotten _ _ _ _ _ _ _ _ _ c.loop-next.number c.loop-next.status c.in-Some.found _ (told_of c.tell-telling.result said)
-    c.loop-next.invariant.came reads tells _ c.in_default-written.ensures.marks writes)
+    let said = drop (length (g.L.Listener.lines c.loop-next.listener)) (g.L.Listener.lines c.tell-telling.new.listener) in
+    let puts = rw (said_since string_bytes c.transcript-before.result.now c.transcript.result.now _ _ c.transcript-before.ensures c.transcript.ensures)
+    at c.in_default-put.ensures.puts in
+    let tells = (rw c.as_slice.ensures.value at c.tell-telling.ensures.tells) reads.line reads.is in
+    let near = near_ahead _ _ came.0 c.next_line.new.self.chunk
+    (known_further _ _ _ _ _ (λ xs zs. IsNear came.0 0 xs zs) came.3 reads.first (λ xs ys zs h f. near_first came.0 c.in-Some.found reads.line xs ys zs h f)) c.next_line.ensures.small in
+    let on = came_fine g.L.Listener.replies g.L.Listener.forgotten c.in-Ok.ensures.marks.1 came.2 c.next_line.ensures.waits (λ u. (ap g.R.Feed.left (sym u), λ v. u ∙ v)) near in
+    let bytes = bytes_of _ _ (came.0 ++ reads.line ∷ []) (clean_more came.0 reads.line came.2.clean reads.one)
+    (known_further _ _ _ _ _ _ came.3 reads.first (λ xs ys zs h f. lines_so_far came.0 c.in-Some.found reads.line xs ys zs h f)) in
+    let end = told_torn g.L.Listener.replies g.L.Listener.forgotten (lines_of bytes.0) bytes.2 reads.line (told_of c.tell-telling.result said) _ c.in_default-put.ensures.marks on tells puts bytes.3 in
+    rw c.forget.ensures (bytes.0, bytes.1, end.0, end.1, end.2)
 
 pub returns-then-ends-clause-story : goal.returns-then-ends-clause-story
 returns-then-ends-clause-story g c =
-    let said = drop (length (g.L.Listener.lines c.loop-next.listener)) (g.L.Listener.lines c.tell-telling.new.listener) in
-    let writes = rw (said_since string_bytes c.transcript-before.result.now c.transcript.result.now _ _ c.transcript-before.ensures c.transcript.ensures)
-    at c.in-Ok-written.ensures.writes in
-    let tells = rw c.as_slice.ensures.value at c.tell-telling.ensures.tells in
+    let came = c.loop-next.invariant.came in
     let reads = rw c.in-Some.is at c.in-Ok.ensures.reads in
-    rw c.forget.ensures (ends_there g.L.Listener.replies g.L.Listener.forgotten _ _ _ _ _ _ _ _ _ c.loop-next.number c.loop-next.status c.in-Some.found _ (told_of c.tell-telling.result said)
-    c.loop-next.invariant.came reads tells _ c.status_after-status.result (c.status_after-status.ensures said) (sym c.if-ends.true ∙ c.ends.ensures said) writes)
+    let said = drop (length (g.L.Listener.lines c.loop-next.listener)) (g.L.Listener.lines c.tell-telling.new.listener) in
+    let outcome = told_of c.tell-telling.result said in
+    let puts = rw (said_since string_bytes c.transcript-before.result.now c.transcript.result.now _ _ c.transcript-before.ensures c.transcript.ensures)
+    at c.in-Ok-put.ensures.puts in
+    let tells = (rw c.as_slice.ensures.value at c.tell-telling.ensures.tells) reads.line reads.is in
+    let near = near_ahead _ _ came.0 c.next_line.new.self.chunk
+    (known_further _ _ _ _ _ (λ xs zs. IsNear came.0 0 xs zs) came.3 reads.first (λ xs ys zs h f. near_first came.0 c.in-Some.found reads.line xs ys zs h f)) c.next_line.ensures.small in
+    let on = came_fine g.L.Listener.replies g.L.Listener.forgotten c.in-Ok.ensures.marks.1 came.2 c.next_line.ensures.waits (λ u. (ap g.R.Feed.left (sym u), λ v. u ∙ v)) near in
+    let told = came_told g.L.Listener.replies g.L.Listener.forgotten reads.line outcome on tells reads.one puts in
+    let bytes = bytes_of _ _ (came.0 ++ reads.line ∷ []) (clean_more came.0 reads.line came.2.clean reads.one)
+    (known_further _ _ _ _ _ _ came.3 reads.first (λ xs ys zs h f. lines_so_far came.0 c.in-Some.found reads.line xs ys zs h f)) in
+    let finishes = rw (c.status_after-status.ensures said) at c.finish-then-ends.ensures.finishes in
+    let end = told_whole g.L.Listener.replies g.L.Listener.forgotten (lines_of bytes.0) bytes.2 _ _ told (status_is_no_fault c.loop-next.status outcome c.loop-next.invariant.works)
+    finishes bytes.3 (inr (told.over ∙ sym (c.ends.ensures said) ∙ c.if-ends.true)) in
+    rw c.forget.ensures (bytes.0, bytes.1, end.0, end.1, end.2)
 
 pub loop-next-preserved : goal.loop-next-preserved
 loop-next-preserved g c =
+    let came = c.loop-next.invariant.came in
+    let reads = rw c.in-Some.is at c.in-Ok.ensures.reads in
     let said = drop (length (g.L.Listener.lines c.loop-next.listener)) (g.L.Listener.lines c.tell-telling.new.listener) in
-    let writes = rw (said_since string_bytes c.transcript-before.result.now c.transcript.result.now _ _ c.transcript-before.ensures c.transcript.ensures)
-    at c.in-Ok-written.ensures.writes in
-    let tells = rw c.as_slice.ensures.value at c.tell-telling.ensures.tells in
-    let reads = rw c.in-Some.is at c.in-Ok.ensures.reads in
+    let outcome = told_of c.tell-telling.result said in
+    let puts = rw (said_since string_bytes c.transcript-before.result.now c.transcript.result.now _ _ c.transcript-before.ensures c.transcript.ensures)
+    at c.in-Ok-put.ensures.puts in
+    let tells = (rw c.as_slice.ensures.value at c.tell-telling.ensures.tells) reads.line reads.is in
+    let near = near_ahead _ _ came.0 c.next_line.new.self.chunk
+    (known_further _ _ _ _ _ (λ xs zs. IsNear came.0 0 xs zs) came.3 reads.first (λ xs ys zs h f. near_first came.0 c.in-Some.found reads.line xs ys zs h f)) c.next_line.ensures.small in
+    let on = came_fine g.L.Listener.replies g.L.Listener.forgotten c.in-Ok.ensures.marks.1 came.2 c.next_line.ensures.waits (λ u. (ap g.R.Feed.left (sym u), λ v. u ∙ v)) near in
+    let told = came_told g.L.Listener.replies g.L.Listener.forgotten reads.line outcome on tells reads.one puts in
     let goes = sym c.if-ends.false ∙ c.ends.ensures said in
-    let on = c.tell-telling.ensures.goes_on said (sym goes) in
-    let whole = rw on.1 at reads in
+    let whole = c.tell-telling.ensures.goes_on said (sym goes) in
     record {
-      near = known_further _ _ _ _ _ (λ xs zs. IsNear (c.loop-next.number + 1) xs zs) c.loop-next.invariant.near whole
-          (λ xs ys zs h f. near_more xs ys zs c.loop-next.number _ h f on.0);
-      came = rw c.forget.ensures (goes_on_from g.L.Listener.replies g.L.Listener.forgotten _ _ _ _ _ _ _ _ _ c.loop-next.number c.loop-next.status c.in-Some.found _ (told_of c.tell-telling.result said)
-          c.loop-next.invariant.came reads tells c.status_after-status.result (c.status_after-status.ensures said) goes on.1 writes);
-      reader_works = c.in-Ok.ensures.marks;
-      writer_works = c.in-Ok-written.ensures.marks;
-      works = rw (c.status_after-status.ensures said) (status_is_no_fault c.loop-next.status (told_of c.tell-telling.result said) c.loop-next.invariant.works);
-      within = omega (arith, on.0);
+      came = (
+        came.0 ++ reads.line ∷ [],
+        came.1 ++ outcome ∷ [],
+        rw (c.forget.ensures, c.status_after-status.ensures said, goes) told,
+        known_further _ _ _ _ _ (λ xs zs. IsAt (came.0 ++ reads.line ∷ []) xs zs) came.3 reads.first (λ xs ys zs h f. at_next came.0 c.in-Some.found reads.line xs ys zs h f whole.1),
+      );
+      reader_works = c.in-Ok.ensures.marks.0;
+      writer_works = c.in-Ok-put.ensures.marks;
+      works = rw (c.status_after-status.ensures said) (status_is_no_fault c.loop-next.status outcome c.loop-next.invariant.works);
+      within = omega (arith, whole.0);
     }
-
-pub returns-then-ends-clause-near : goal.returns-then-ends-clause-near
-returns-then-ends-clause-near g c n =
-    let reads = rw c.in-Some.is at c.in-Ok.ensures.reads in
-    near_so _ _ c.next_line.new.self.chunk
-    (known_further _ _ _ _ _ (λ xs zs. length xs ≤ length zs + reach (told_lines 1 (lines_of xs))) c.loop-next.invariant.near reads
-    (λ xs ys zs h f. near_end xs ys zs c.loop-next.number c.in-Some.found _ h f))
-    c.in-Ok.ensures.small
-
-pub returns-in_default-next-clause-near : goal.returns-in_default-next-clause-near
-returns-in_default-next-clause-near g c n =
-    let reads = rw c.in_default-next.is at c.in-Ok.ensures.reads in
-    near_so _ _ c.next_line.new.self.chunk
-    (known_further _ _ _ _ _ (λ xs zs. length xs ≤ length zs + reach (told_lines 1 (lines_of xs))) c.loop-next.invariant.near reads
-    (λ xs ys zs h e. near_all xs ys zs c.loop-next.number h e))
-    c.in-Ok.ensures.small

@@ -1,20 +1,19 @@
 use Rattle.std.proofs.Common.{◌≡◌, ◌≢◌, ◌≤◌, ◌+◌, ◌-◌, List, ℕ, false}
-use Rattle.std.specs.Io.KnownBytes.{Appends, prepend_known}
+use Rattle.std.specs.Io.KnownBytes.{prepend_known}
 use Rattle.ui_machine.specs.Limits.{most_lines}
-use Rattle.ui_runner.specs.Lines.{lines_of}
 use Rattle.ui_runner.specs.Reading.{WhereKnown}
-use Rattle.ui_runner.proofs.Near.{IsNear}
-use Rattle.ui_runner.proofs.Runs.{Came}
+use Rattle.ui_runner.specs.Story.{Outcome}
+use Rattle.ui_runner.proofs.Runs.{Came, IsAt}
 use Rattle.ui_runner.proofs.story.tell_lines.Given as goal
 
 abbrev pub invariant-loop-next : goal.invariant-loop-next
 invariant-loop-next g l = record {
-  came : WhereKnown (g.R.Feed.left l.fn.reader) (prepend_known l.lines.chunk (g.R.Feed.left l.reader))
-      (λ xs ys. (text : List ℕ) × Came g.L.Listener.replies g.L.Listener.forgotten l.fn.listener (lines_of xs) l.listener l.number l.status false (lines_of ys) text
-      × Appends (g.W.Sink.taken l.fn.writer) (g.W.Sink.taken l.writer) text);
+  came : (done : List (List ℕ)) × (outcomes : List Outcome)
+      × Came g.L.Listener.replies g.L.Listener.forgotten l.fn.listener l.fn.output.gather l.listener l.number l.status false (l.reader ≡ l.fn.reader)
+      (g.R.Feed.left l.fn.reader) (g.R.Feed.left l.reader) (g.W.Sink.taken l.fn.output.writer) (g.W.Sink.taken l.output.writer) l.output.gather done outcomes
+      × WhereKnown (g.R.Feed.left l.fn.reader) (prepend_known l.lines.chunk (g.R.Feed.left l.reader)) (λ xs ys. IsAt done xs ys);
   reader_works : g.R.Feed.failed l.reader ≡ false;
-  writer_works : g.W.Sink.failed l.writer ≡ false;
-  near : WhereKnown (g.R.Feed.left l.fn.reader) (prepend_known l.lines.chunk (g.R.Feed.left l.reader)) (λ xs ys. IsNear l.number xs ys);
+  writer_works : g.W.Sink.failed l.output.writer ≡ false;
   works : l.status ≢ 4;
   within : l.number ≤ most_lines + 1;
 }

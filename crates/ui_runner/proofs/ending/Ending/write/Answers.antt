@@ -1,10 +1,12 @@
+use Rattle.ui_runner.proofs.Pieces.{said_and_out, said_and_torn}
 use Rattle.ui_runner.proofs.ending.Ending.write.Goals as goal
 
-pub returns-in-Usage-clause-writes : goal.returns-in-Usage-clause-writes
-returns-in-Usage-clause-writes g c = rw c.in-Usage.is (rw c.as_bytes-name.ensures.value at c.write_parts.ensures.writes)
+pub returns-in_default-clause-writes : goal.returns-in_default-clause-writes
+returns-in_default-clause-writes g c =
+    let puts = rw c.requires.empty at c.in_default.ensures.puts in
+    said_and_torn _ _ _ puts
 
-pub returns-in-Unreadable-clause-writes : goal.returns-in-Unreadable-clause-writes
-returns-in-Unreadable-clause-writes g c = rw c.in-Unreadable.is (rw c.as_bytes-name.ensures.value at c.write_parts-in-Unreadable.ensures.writes)
-
-pub returns-in-OutOfMemory-clause-writes : goal.returns-in-OutOfMemory-clause-writes
-returns-in-OutOfMemory-clause-writes g c = rw c.in-OutOfMemory.is (rw c.as_bytes-name.ensures.value at c.write_parts-in-OutOfMemory.ensures.writes)
+pub returns-clause-writes : goal.returns-clause-writes
+returns-clause-writes g c =
+    let puts = rw c.requires.empty at c.in-Ok.ensures.puts in
+    said_and_out _ _ _ _ _ _ _ puts c.flush.ensures.puts c.flush.ensures.empty

@@ -1,7 +1,8 @@
 use Rattle.std.proofs.Common.{false, ◌≡◌, ◌≤◌, ◌-◌, length, vec_len}
 use Rattle.std.specs.Io.KnownBytes.{Consumes, prepend_known}
 use Rattle.ui_machine.specs.Limits.{most_line_bytes}
-use Rattle.ui_runner.proofs.LineLemmas.{has_end}
+use Rattle.ui_runner.specs.Lines.{has_end}
+use Rattle.ui_runner.specs.Writing.{Waits}
 use Rattle.ui_runner.proofs.line_reader.LineReader.next_line.Given as goal
 
 abbrev pub invariant-loop-byte : goal.invariant-loop-byte
@@ -9,7 +10,9 @@ invariant-loop-byte g l = record {
   consumed : Consumes (prepend_known l.fn.self.chunk (g.R.Feed.left l.fn.reader)) (prepend_known l.self.chunk (g.R.Feed.left l.reader)) l.self.line.items;
   within : length l.self.line.items ≤ most_line_bytes;
   no_end : has_end l.self.line.items ≡ false;
-  works : g.R.Feed.failed l.reader ≡ false;
+  reader_works : g.R.Feed.failed l.reader ≡ false;
+  writer_works : g.W.Sink.failed l.output.writer ≡ false;
+  waits : Waits (l.reader ≡ l.fn.reader) false (g.W.Sink.taken l.fn.output.writer) l.fn.output.gather (g.W.Sink.taken l.output.writer) l.output.gather;
 }
 
 abbrev pub decreases-loop-byte : goal.decreases-loop-byte

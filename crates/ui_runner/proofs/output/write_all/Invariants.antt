@@ -1,6 +1,6 @@
 use Rattle.std.proofs.Common.{length, take, ◌-◌, ◌≡◌, ◌≤◌, false}
 use Rattle.std.specs.Io.KnownBytes.{Appends}
-use Rattle.ui_runner.proofs.writing.write_all.Given as goal
+use Rattle.ui_runner.proofs.output.write_all.Given as goal
 
 abbrev pub invariant-loop-done : goal.invariant-loop-done
 invariant-loop-done g l = record {

@@ -1,6 +1,6 @@
 use Rattle.std.proofs.Common.{arith, length-take, length-drop}
 use Rattle.ui_runner.proofs.Pieces.{stops_before, goes_on}
-use Rattle.ui_runner.proofs.writing.write_all.Goals as goal
+use Rattle.ui_runner.proofs.output.write_all.Goals as goal
 
 pub returns-in_default-clause-writes : goal.returns-in_default-clause-writes
 returns-in_default-clause-writes g c = stops_before _ _ _ c.loop-done.done c.args.bytes.now c.loop-done.invariant.appends c.in_default.ensures.bytes

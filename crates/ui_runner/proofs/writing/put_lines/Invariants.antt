@@ -1,0 +1,11 @@
+use Rattle.std.proofs.Common.{take, ◌≡◌, map, false}
+use Rattle.std.specs.Prelude.{string_bytes}
+use Rattle.ui_runner.specs.Writing.{Passes}
+use Rattle.ui_runner.specs.Texts.{lines_text}
+use Rattle.ui_runner.proofs.writing.put_lines.Given as goal
+
+abbrev pub invariant-loop-line : goal.invariant-loop-line
+invariant-loop-line g l = record {
+  passes : Passes (g.W.Sink.taken l.fn.output.writer) l.fn.output.gather (g.W.Sink.taken l.output.writer) l.output.gather (lines_text (map string_bytes (take l.line-index l.lines)));
+  works : g.W.Sink.failed l.output.writer ≡ false;
+}

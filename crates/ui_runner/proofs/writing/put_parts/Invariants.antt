@@ -1,0 +1,10 @@
+use Rattle.std.proofs.Common.{take, ◌≡◌, false}
+use Rattle.std.specs.Prelude.{flat_map}
+use Rattle.ui_runner.specs.Writing.{Passes}
+use Rattle.ui_runner.proofs.writing.put_parts.Given as goal
+
+abbrev pub invariant-loop-part : goal.invariant-loop-part
+invariant-loop-part g l = record {
+  passes : Passes (g.W.Sink.taken l.fn.output.writer) l.fn.output.gather (g.W.Sink.taken l.output.writer) l.output.gather (flat_map (λ part. part.now) (take l.part-index l.parts));
+  works : g.W.Sink.failed l.output.writer ≡ false;
+}
