@@ -2,12 +2,11 @@
 use Rattle.std.proofs.Common.{◌≡◌, ◌≢◌, ℕ, ◌<◌, ◌≤◌, Bool, true, false, List, [], ◌∷◌, ◌++◌, ◌+◌, length, refl, sym, ap, ◌∙◌, append_assoc, append-nil, length-append, arith, take}
 use Rattle.std.specs.Prelude.{Option, Some, None, IfSome, ◌==◌, ◌||◌, if◌then◌else◌}
 use Rattle.std.proofs.lemmas.List.{take_all}
-use Rattle.std.specs.List.{list_any}
 use Rattle.std.specs.Io.KnownBytes.{Consumes, Keeps, IsAtEnd}
 use Rattle.std.proofs.KnownBytes.{Consumes-trans, Consumes-kept}
 use Rattle.std.proofs.lemmas.List.Folds.{list_any-append}
 use Rattle.ui_runner.specs.Lines.{lines_of, onto_first, line_ends, has_end}
-use Rattle.ui_runner.specs.Reading.{WhereKnown, IsOf, IsFirst, Finds, IsBegun}
+use Rattle.ui_runner.specs.Reading.{WhereKnown, IsOf, Finds, IsBegun}
 use Rattle.ui_machine.specs.Limits.{most_line_bytes}
 use Rattle.ui_runner.specs.declared.line_reader.Found.{Found}
 use Rattle.ui_runner.specs.declared.line_reader.Found.TheVariants as founds

@@ -7,7 +7,6 @@ use Rattle.std.proofs.lemmas.List.{take-append-drop, drop_more, take_rest, take_
 use Rattle.std.proofs.lemmas.List.Concat.{flat_map-append}
 use Rattle.std.proofs.lemmas.List.Folds.{flat_map-map}
 use Rattle.std.proofs.Math.Seq.{take-add}
-use Rattle.ui_machine.specs.Prefix.{IsPrefix}
 use Rattle.ui_runner.specs.Writing.{AppendsPart, Writes, Passes, Tears, Puts, Waits, Finishes}
 
 -- ** writes

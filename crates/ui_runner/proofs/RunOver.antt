@@ -1,14 +1,13 @@
 -- What the lines of an event file come to is a run of the machine.
-use Rattle.std.proofs.Common.{◌≡◌, ℕ, ◌+◌, Bool, true, List, [], ◌∷◌, ◌++◌, Result, Ok, Err, refl, sym, ap, subst, ◌∙◌, append_assoc, append-nil, inl, inr}
+use Rattle.std.proofs.Common.{◌≡◌, ℕ, ◌+◌, true, List, [], ◌∷◌, ◌++◌, Ok, refl, sym, ap, subst, ◌∙◌, append_assoc, append-nil, inl, inr}
 use Rattle.std.specs.Prelude.{◌⊎◌}
-use Rattle.ui_machine.specs.declared.arm.Halt.TheVariants as halts
 use Rattle.ui_machine.specs.Definition.{Definition}
 use Rattle.ui_machine.specs.State.Tasks.{Event}
 use Rattle.ui_machine.specs.State.Config.{World}
-use Rattle.ui_machine.specs.Runs.{Tally, no_dispatch, tallied, Serves, ServesAll, HaltsIn, first_world}
+use Rattle.ui_machine.specs.Runs.{Tally, no_dispatch, tallied, Serves, ServesAll, HaltsIn}
 use Rattle.machine_laws.specs.FrontLaws.{fronted}
 use Rattle.machine_laws.proofs.FrontRuns.{event_appends, event_halt_appends}
-use Rattle.builder_defs.specs.EventMeaning.{EventRefusal, event_denoted}
+use Rattle.builder_defs.specs.EventMeaning.{event_denoted}
 use Rattle.ui_engine.specs.SessionView.{SessionState, without_lines}
 use Rattle.ui_runner.specs.Story as story
 use Rattle.ui_runner.specs.Story.{Outcome, said, refused, cut_off, stopped, Fate, too_many, too_long, skipped, fate, ends, Meets, Tells, Tale}

@@ -11,12 +11,12 @@ use Rattle.std.proofs.Math.Bool.{or-false}
 use Rattle.ui_machine.specs.Prefix.{IsPrefix}
 use Rattle.ui_machine.specs.Limits.{most_line_bytes}
 use Rattle.ui_runner.specs.Lines.{lines_of, line_ends, has_end}
-use Rattle.ui_runner.specs.Reading.{WhereKnown, IsOf, IsFirst, Finds, IsBegun, most_ahead}
+use Rattle.ui_runner.specs.Reading.{WhereKnown, IsFirst, IsBegun, most_ahead}
 use Rattle.ui_runner.specs.Story.{Outcome, said, refused, cut_off, stopped, Replies, Tells, Tale, Story, InStep, AllTold, IsOver, ends, text_at, text_from, status_after, status_of, reach}
-use Rattle.ui_runner.specs.Writing.{AppendsPart, Passes, Tears, Waits, Finishes}
+use Rattle.ui_runner.specs.Writing.{Passes, Tears, Waits, Finishes}
 use Rattle.ui_runner.specs.declared.line_reader.Found.{Found}
 use Rattle.ui_runner.specs.declared.line_reader.Found.TheVariants as founds
-use Rattle.ui_runner.proofs.LineLemmas.{or_false, known_further, known_map, first_line, begun_line, line_ends_append, no_more_ends}
+use Rattle.ui_runner.proofs.LineLemmas.{or_false, first_line, begun_line, line_ends_append, no_more_ends}
 use Rattle.ui_runner.proofs.Pieces.{joined_moves}
 
 -- no line has an end in it

@@ -1,4 +1,4 @@
-use Rattle.std.proofs.Common.{◌+◌, length, arith, sym, take, min, rules, length-take, ◌<◌}
+use Rattle.std.proofs.Common.{◌+◌, arith, rules}
 use Rattle.ui_machine.specs.Limits.{most_definition_bytes}
 use Rattle.ui_runner.proofs.LineLemmas.{taken_front, taken_to_end}
 use Rattle.ui_runner.proofs.definition_file.definition_bytes.Goals as goal

@@ -1,11 +1,9 @@
-use Rattle.std.proofs.Common.{arith, [], ◌∷◌, ◌++◌, false, true, List, ℕ, ◌∙◌, ap, subst, refl, sym, drop, length, append-nil, inl, inr}
+use Rattle.std.proofs.Common.{arith, [], ◌∷◌, ◌++◌, ◌∙◌, ap, refl, sym, drop, length, append-nil, inl, inr}
 use Rattle.std.specs.Prelude.{string_bytes}
-use Rattle.std.proofs.KnownBytes.{prepend_known-nil}
 use Rattle.ui_runner.specs.Lines.{lines_of}
 use Rattle.ui_runner.specs.Reading.{most_ahead}
 use Rattle.ui_runner.specs.Telling.{told_of}
 use Rattle.ui_runner.specs.Story.{AllTold}
-use Rattle.ui_runner.specs.Writing.{Finishes}
 use Rattle.ui_runner.proofs.LineLemmas.{known_further}
 use Rattle.ui_runner.proofs.Runs.{IsAt, IsNear, at_start, at_next, clean_more, came_start, came_on, came_fine, came_told, told_cut, told_torn, told_whole, bytes_of, bytes_of_all, lines_so_far, lines_left, lines_all, near_first, near_end, near_begun, near_ahead, all_told, held_none, said_since, status_is_no_fault}
 use Rattle.ui_runner.proofs.story.tell_lines.Goals as goal

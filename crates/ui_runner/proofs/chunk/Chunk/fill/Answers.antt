@@ -1,5 +1,4 @@
-use Rattle.std.proofs.Common.{arith, ap, length, length-take, length-drop, ◌∙◌, refl}
-use Rattle.ui_runner.proofs.Pieces.{waits_not, waits_out, waits_torn}
+use Rattle.std.proofs.Common.{arith, ap, length, length-take, length-drop, ◌∙◌}
 use Rattle.ui_runner.proofs.chunk.Chunk.fill.Goals as goal
 
 pub returns-then-self-clause-end : goal.returns-then-self-clause-end
