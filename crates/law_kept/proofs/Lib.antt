@@ -6,3 +6,4 @@ pub mod HandlersProofs
 pub mod BindingsProofs
 pub mod SourcesProofs
 pub mod ChangesProofs
+pub mod NewProofs

@@ -4,3 +4,4 @@ pub mod Handlers
 pub mod Bindings
 pub mod Sources
 pub mod Changes
+pub mod New
