@@ -7,3 +7,5 @@ pub mod BindingsProofs
 pub mod SourcesProofs
 pub mod ChangesProofs
 pub mod NewProofs
+pub mod DisposeProofs
+pub mod DisposedProofs

@@ -93,7 +93,7 @@ one_alive [] o = omega arith
 one_alive (x ∷ os) o = let h = one_alive os o in omega (arith, h)
 
 -- the object of a place
-at_place : (os : Objects) (id place : ℕ) → place_in os id ≡ Some place → (o : Object) × (living os id ≡ Some o) × (o.place ≡ place)
+pub at_place : (os : Objects) (id place : ℕ) → place_in os id ≡ Some place → (o : Object) × (living os id ≡ Some o) × (o.place ≡ place)
 at_place os id place e = go (living os id) refl e
   where
     go : (o : Option Object) → living os id ≡ o → option_map (λ (o : Object). o.place) o ≡ Some place → (o : Object) × (living os id ≡ Some o) × (o.place ≡ place)
@@ -151,7 +151,7 @@ value_stays d s z spec v stay g = record { value = g.value; is = g.is; valid = v
 
 -- ** what serves
 
-peer_write : (peers : List Peer) (number : ℕ) (q : Peer) (other : ℕ) (p : Peer) → slice_get peers other ≡ Some p → ((number ≡ other → ⊥) → slice_get (write no_peer peers number q) other ≡ Some p)
+pub peer_write : (peers : List Peer) (number : ℕ) (q : Peer) (other : ℕ) (p : Peer) → slice_get peers other ≡ Some p → ((number ≡ other → ⊥) → slice_get (write no_peer peers number q) other ≡ Some p)
     × (number ≡ other → (slice_get (write no_peer peers number q) other ≡ Some q) × (read no_peer peers number ≡ p))
 peer_write [] number q other p e = absurd (cc)
 peer_write (x ∷ peers) zero q zero p e = (λ h. absurd (h refl), λ h. (refl, (let s : x ≡ p = cc in s)))

@@ -5,3 +5,4 @@ pub mod Bindings
 pub mod Sources
 pub mod Changes
 pub mod New
+pub mod Dispose

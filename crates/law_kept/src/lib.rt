@@ -7,6 +7,7 @@ ghost use Rattle.law_kept.specs.Bindings.{BindingsLeft, LeftBindingsFound, Bindi
 ghost use Rattle.law_kept.specs.Sources.{SourceStays, SourcesLeft, SourcesAnswered, SourcesAttached};
 ghost use Rattle.law_kept.specs.Changes.{ValueIsLike, QueueIsLike, FreezeIsLike, ThawIsLike};
 ghost use Rattle.law_kept.specs.New.{NewStands, ValuesStay, NewServes, NewObjectsGood, NewHandlersGood, NewBindingsGood};
+ghost use Rattle.law_kept.specs.Dispose.{DisposeKeeps};
 ghost use Rattle.law_kept.specs.Write.{WriteKeeps};
 
 /// Where one object is written over by another of the same place, class, family and peer, the rest of the world stays good, and the
@@ -64,4 +65,9 @@ pub fn makings()
     ensures objects { NewObjectsGood }
     ensures handlers { NewHandlersGood }
     ensures bindings { NewBindingsGood }
+{}
+
+/// A living object is disposed without a fault. All that stood stands, each object stays good, and no weak property names the disposed one.
+pub fn disposal()
+    ensures keeps { DisposeKeeps }
 {}
