@@ -9,3 +9,4 @@ pub mod ChangesProofs
 pub mod NewProofs
 pub mod DisposeProofs
 pub mod DisposedProofs
+pub mod FinaliseProofs

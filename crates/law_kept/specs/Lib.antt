@@ -6,3 +6,4 @@ pub mod Sources
 pub mod Changes
 pub mod New
 pub mod Dispose
+pub mod Finalise

@@ -8,6 +8,7 @@ ghost use Rattle.law_kept.specs.Sources.{SourceStays, SourcesLeft, SourcesAnswer
 ghost use Rattle.law_kept.specs.Changes.{ValueIsLike, QueueIsLike, FreezeIsLike, ThawIsLike};
 ghost use Rattle.law_kept.specs.New.{NewStands, ValuesStay, NewServes, NewObjectsGood, NewHandlersGood, NewBindingsGood};
 ghost use Rattle.law_kept.specs.Dispose.{DisposeKeeps};
+ghost use Rattle.law_kept.specs.Finalise.{FinalisationIsFine};
 ghost use Rattle.law_kept.specs.Write.{WriteKeeps};
 
 /// Where one object is written over by another of the same place, class, family and peer, the rest of the world stays good, and the
@@ -70,4 +71,9 @@ pub fn makings()
 /// A living object is disposed without a fault. All that stood stands, each object stays good, and no weak property names the disposed one.
 pub fn disposal()
     ensures keeps { DisposeKeeps }
+{}
+
+/// From what is good, the step that finalises an object without a mention is not stuck, and leads to what is good within the same bound.
+pub fn finalisation()
+    ensures fine { FinalisationIsFine }
 {}
