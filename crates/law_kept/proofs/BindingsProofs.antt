@@ -23,7 +23,7 @@ number_of b = b.number
 
 -- ** those that are left
 
-binding_kept : (d : Definition) (s z : Standing) (agenda : List Task) (os new : Objects) (b : Binding) → NoMoreFrozen os new → Stays s z b.source → Stays s z b.target →
+pub binding_kept : (d : Definition) (s z : Standing) (agenda : List Task) (os new : Objects) (b : Binding) → NoMoreFrozen s os new → Stays s z b.source → Stays s z b.target →
     BindingGood d s agenda os b → BindingGood d z agenda new b
 binding_kept d s z agenda os new b thawer source target g = record {
   bind = g.bind;
@@ -36,8 +36,8 @@ binding_kept d s z agenda os new b thawer source target g = record {
 }
   where
     at : is_pair g.bind ≡ true → (o : Object) → (living new b.source ≡ Some o) ⊎ (living new b.target ≡ Some o) → o.freezes ≡ 0
-    at pair o (inl e) = let old = thawer b.source o e in old.2 (g.thawed pair old.0 (inl old.1))
-    at pair o (inr e) = let old = thawer b.target o e in old.2 (g.thawed pair old.0 (inr old.1))
+    at pair o (inl e) = let old = thawer b.source g.bind.source o g.source e in old.2 (g.thawed pair old.0 (inl old.1))
+    at pair o (inr e) = let old = thawer b.target g.bind.target o g.target e in old.2 (g.thawed pair old.0 (inr old.1))
 
 pub bindings_left : BindingsLeft
 bindings_left d s z agenda os new bs test thawer stays g = record {

@@ -29,7 +29,7 @@ module _ (d : Definition) (s z : Standing) where
       let now = stays id refl lives.place lives.is in
       (record { place = lives.place; is = now; allowed = tt }, ap (option_map kinds.at) (now ∙ sym lives.is))
 
-  handler_kept : (h : Handler) → Stays s z h.object → ((id : ℕ) → h.arg ≡ Some id → Stays s z id) → HandlerGood d s h → HandlerGood d z h
+  pub handler_kept : (h : Handler) → Stays s z h.object → ((id : ℕ) → h.arg ≡ Some id → Stays s z id) → HandlerGood d s h → HandlerGood d z h
   handler_kept h stays data_stays g =
       let held = data_kept h.arg data_stays g.arg in
       record {

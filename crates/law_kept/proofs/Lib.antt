@@ -6,3 +6,7 @@ pub mod HandlersProofs
 pub mod BindingsProofs
 pub mod SourcesProofs
 pub mod ChangesProofs
+pub mod NewProofs
+pub mod DisposeProofs
+pub mod DisposedProofs
+pub mod FinaliseProofs

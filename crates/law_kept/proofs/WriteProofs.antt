@@ -27,13 +27,13 @@ use Rattle.law_typing.specs.Good.Bindings.{BindingGood, BindingsGood, SourceGood
 use Rattle.law_typing.specs.Good.Freezes.{PairsGood, constructs_held}
 use Rattle.law_kept.specs.Write.{Like, Whole, WriteKeeps}
 
-read_here : {A : Type 0} (n : A) (xs : List A) (i : ℕ) (y : A) → read n (write n xs i y) i ≡ y
+pub read_here : {A : Type 0} (n : A) (xs : List A) (i : ℕ) (y : A) → read n (write n xs i y) i ≡ y
 read_here n [] zero y = refl
 read_here n [] (suc i) y = read_here n [] i y
 read_here n (x ∷ xs) zero y = refl
 read_here n (x ∷ xs) (suc i) y = read_here n xs i y
 
-read_apart : {A : Type 0} (n : A) (xs : List A) (i : ℕ) (y : A) (j : ℕ) → (i ≡ j → ⊥) → read n (write n xs i y) j ≡ read n xs j
+pub read_apart : {A : Type 0} (n : A) (xs : List A) (i : ℕ) (y : A) (j : ℕ) → (i ≡ j → ⊥) → read n (write n xs i y) j ≡ read n xs j
 read_apart n [] zero y zero h = absurd (h refl)
 read_apart n [] zero y (suc j) h = refl
 read_apart n [] (suc i) y zero h = refl

@@ -14,14 +14,15 @@ use Rattle.law_typing.specs.Good.DueCosts.{unsets}
 use Rattle.law_typing.specs.Good.Bindings.{is_binding, BindingsGood}
 use Rattle.law_kept.specs.Agenda.{Stays}
 
--- what is frozen was
-abbrev pub NoMoreFrozen : Objects → Objects → Type 0
-NoMoreFrozen os new = (id : ℕ) (o : Object) → living new id ≡ Some o → (p : Object) × (living os id ≡ Some p) × (p.freezes ≡ 0 → o.freezes ≡ 0)
+-- what stood and is frozen was
+abbrev pub NoMoreFrozen : Standing → Objects → Objects → Type 0
+NoMoreFrozen s os new =
+    (id place : ℕ) (o : Object) → s id ≡ Some place → living new id ≡ Some o → (p : Object) × (living os id ≡ Some p) × (p.freezes ≡ 0 → o.freezes ≡ 0)
 
 -- those that are left after others ended stay good, where their ends stand as they stood
 abbrev pub BindingsLeft : Type 0
 BindingsLeft =
-    (d : Definition) (s z : Standing) (agenda : List Task) (os new : Objects) (bs : List Binding) (test : Binding → Bool) → NoMoreFrozen os new →
+    (d : Definition) (s z : Standing) (agenda : List Task) (os new : Objects) (bs : List Binding) (test : Binding → Bool) → NoMoreFrozen s os new →
     ((b : Binding) → test b ≡ true → Stays s z b.source × Stays s z b.target) → BindingsGood d s agenda os bs →
     BindingsGood d z agenda new (filter test bs)
 

@@ -4,3 +4,6 @@ pub mod Handlers
 pub mod Bindings
 pub mod Sources
 pub mod Changes
+pub mod New
+pub mod Dispose
+pub mod Finalise

@@ -6,6 +6,9 @@ ghost use Rattle.law_kept.specs.Handlers.{HandlersLeft, HandlersChanged, LeftAre
 ghost use Rattle.law_kept.specs.Bindings.{BindingsLeft, LeftBindingsFound, BindingSets, BindingUnset, BindingMade};
 ghost use Rattle.law_kept.specs.Sources.{SourceStays, SourcesLeft, SourcesAnswered, SourcesAttached};
 ghost use Rattle.law_kept.specs.Changes.{ValueIsLike, QueueIsLike, FreezeIsLike, ThawIsLike};
+ghost use Rattle.law_kept.specs.New.{NewStands, ValuesStay, NewServes, NewObjectsGood, NewHandlersGood, NewBindingsGood};
+ghost use Rattle.law_kept.specs.Dispose.{DisposeKeeps};
+ghost use Rattle.law_kept.specs.Finalise.{FinalisationIsFine};
 ghost use Rattle.law_kept.specs.Write.{WriteKeeps};
 
 /// Where one object is written over by another of the same place, class, family and peer, the rest of the world stays good, and the
@@ -52,4 +55,25 @@ pub fn changes()
     ensures queue { QueueIsLike }
     ensures freeze { FreezeIsLike }
     ensures thaw { ThawIsLike }
+{}
+
+/// With a new object all stands that stood, and one more lives. Each agenda is served as before, the new object is good with the defaults of its
+/// class, and objects, handlers and bindings stay so.
+pub fn makings()
+    ensures stands { NewStands }
+    ensures values { ValuesStay }
+    ensures serves { NewServes }
+    ensures objects { NewObjectsGood }
+    ensures handlers { NewHandlersGood }
+    ensures bindings { NewBindingsGood }
+{}
+
+/// A living object is disposed without a fault. All that stood stands, each object stays good, and no weak property names the disposed one.
+pub fn disposal()
+    ensures keeps { DisposeKeeps }
+{}
+
+/// From what is good, the step that finalises an object without a mention is not stuck, and leads to what is good within the same bound.
+pub fn finalisation()
+    ensures fine { FinalisationIsFine }
 {}

@@ -8,3 +8,5 @@ pub mod FitsProofs
 pub mod CodeProofs
 pub mod BeginProofs
 pub mod RaisesProofs
+pub mod PairCostProofs
+pub mod NotifyCostProofs

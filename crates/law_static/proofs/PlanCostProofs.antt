@@ -22,19 +22,19 @@ use Rattle.law_typing.proofs.Lists.{each_in}
 use Rattle.law_static.specs.PlanCost.{PlanCosts}
 use Rattle.law_static.proofs.RisingProofs.{rising_are_found}
 
-total_append : {A : Type 0} (f : A → ℕ) (xs ys : List A) → total f (xs ++ ys) ≡ total f xs + total f ys
+pub total_append : {A : Type 0} (f : A → ℕ) (xs ys : List A) → total f (xs ++ ys) ≡ total f xs + total f ys
 total_append f [] ys = omega arith
 total_append f (x ∷ xs) ys = let h = total_append f xs ys in omega arith
 
 -- a filter's first
-total_first : {A : Type 0} (f : A → ℕ) (test : A → Bool) (x : A) (xs : List A) → total f (filter test (x ∷ xs)) ≡ cond (test x) (f x) 0 + total f (filter test xs)
+pub total_first : {A : Type 0} (f : A → ℕ) (test : A → Bool) (x : A) (xs : List A) → total f (filter test (x ∷ xs)) ≡ cond (test x) (f x) 0 + total f (filter test xs)
 total_first f test x xs = go (test x)
   where
     go : (b : Bool) → total f (cond b (x ∷ filter test xs) (filter test xs)) ≡ cond b (f x) 0 + total f (filter test xs)
     go true = refl
     go false = omega arith
 
-mapped_first : {A B : Type 0} (f : B → ℕ) (m : A → B) (test : A → Bool) (x : A) (xs : List A) →
+pub mapped_first : {A B : Type 0} (f : B → ℕ) (m : A → B) (test : A → Bool) (x : A) (xs : List A) →
     total f (map m (filter test (x ∷ xs))) ≡ cond (test x) (f (m x)) 0 + total f (map m (filter test xs))
 mapped_first f m test x xs = go (test x)
   where
@@ -42,7 +42,7 @@ mapped_first f m test x xs = go (test x)
     go true = refl
     go false = omega arith
 
-count_first : {A : Type 0} (test : A → Bool) (x : A) (xs : List A) → length (filter test (x ∷ xs)) ≡ cond (test x) 1 0 + length (filter test xs)
+pub count_first : {A : Type 0} (test : A → Bool) (x : A) (xs : List A) → length (filter test (x ∷ xs)) ≡ cond (test x) 1 0 + length (filter test xs)
 count_first test x xs = go (test x)
   where
     go : (b : Bool) → length (cond b (x ∷ filter test xs) (filter test xs)) ≡ cond b 1 0 + length (filter test xs)
@@ -66,24 +66,24 @@ times_of : (b : Bool) (v : ℕ) → cond b v 0 ≡ cond b 1 0 * v
 times_of true v = omega arith
 times_of false v = omega arith
 
-three : (a b c v : ℕ) → (a + (b + (c + 0))) * v ≡ a * v + (b * v + c * v)
+pub three : (a b c v : ℕ) → (a + (b + (c + 0))) * v ≡ a * v + (b * v + c * v)
 three a b c v = grind arith
 
-times_le : (n a b : ℕ) → a ≤ b → a * n ≤ b * n
+pub times_le : (n a b : ℕ) → a ≤ b → a * n ≤ b * n
 times_le n a b h = grind arith
 
-at_most : {A : Type 0} (f : A → ℕ) (most : ℕ) (xs : List A) → Each (λ x. f x ≤ most) xs → total f xs ≤ length xs * most
+pub at_most : {A : Type 0} (f : A → ℕ) (most : ℕ) (xs : List A) → Each (λ x. f x ≤ most) xs → total f xs ≤ length xs * most
 at_most f most [] all = omega arith
 at_most f most (x ∷ xs) all = let h = at_most f most xs all.1 in let k = all.0 in omega (arith, h, k)
 
 module _ (d : Definition) (costs : Tables) (w : World) (below : List Task) where
-  abbrev tc : PlanEntry → ℕ
+  abbrev pub tc : PlanEntry → ℕ
   tc t = turn_cost d costs (view w) below t
 
-  abbrev cost_of : Handler → ℕ
+  abbrev pub cost_of : Handler → ℕ
   cost_of h = of_program costs h.program
 
-  stage : (runs cleanup : Bool) (o : Option ℕ) → total tc (at_stage runs cleanup o) ≡ cond runs (programs_cost costs (listed_if o)) 0
+  pub stage : (runs cleanup : Bool) (o : Option ℕ) → total tc (at_stage runs cleanup o) ≡ cond runs (programs_cost costs (listed_if o)) 0
   stage true cleanup None = refl
   stage false cleanup None = refl
   stage true cleanup (Some p) = refl
@@ -93,7 +93,7 @@ module _ (d : Definition) (costs : Tables) (w : World) (below : List Task) where
   turn_of_found : (h : Handler) → handler_of h.number w.handlers ≡ Some h → tc (handler h.number) ≡ cost_of h
   turn_of_found h e = rw e
 
-  turns_of_found : (hs : List Handler) → Each (λ (h : Handler). handler_of h.number w.handlers ≡ Some h) hs → Each (λ (h : Handler). tc (handler h.number) ≡ cost_of h) hs
+  pub turns_of_found : (hs : List Handler) → Each (λ (h : Handler). handler_of h.number w.handlers ≡ Some h) hs → Each (λ (h : Handler). tc (handler h.number) ≡ cost_of h) hs
   turns_of_found [] all = tt
   turns_of_found (h ∷ hs) all = (turn_of_found h all.0, turns_of_found hs all.1)
 

@@ -5,3 +5,4 @@ pub mod Subclass
 pub mod Fits
 pub mod Code
 pub mod Raises
+pub mod NotifyCost

@@ -3,6 +3,7 @@
 
 ghost use Rattle.law_static.specs.Rising.{RisingAreFound, RisingCosts};
 ghost use Rattle.law_static.specs.PlanCost.{PlanCosts};
+ghost use Rattle.law_static.specs.NotifyCost.{NotifyCosts};
 ghost use Rattle.law_static.specs.Sites.{BlocksKeep, SitesKeep};
 ghost use Rattle.law_static.specs.Subclass.{NamesFind, SpecsInherit, SignalsInherit, EmittedInherit};
 ghost use Rattle.law_static.specs.Fits.{HoldsFits, HoldsLive, HoldsKind, HoldsSet, OperandsStand, ClassesAgree, GivenHold, GivenFit};
@@ -16,9 +17,11 @@ pub fn rising()
     ensures costs { RisingCosts }
 {}
 
-/// As an emission of a signal begins, its plan is within what the channel costs.
+/// As an emission of a signal begins, its plan is within what the channel costs; as a notification begins, with the transfers of its bindings and
+/// its pair, it is within what a due notification may cost.
 pub fn plan()
     ensures costs { PlanCosts }
+    ensures notifications { NotifyCosts }
 {}
 
 /// A due source begins well from any world at rest, within its bound and the depth.

@@ -24,7 +24,7 @@ use Rattle.law_typing.proofs.OneSolutionProofs.{one_ranking, one_cost, one_depth
 -- ** pairs that are apart
 
 -- two channels are not one
-abbrev Differ : Channel → Channel → Type 0
+abbrev pub Differ : Channel → Channel → Type 0
 Differ c e = same_channel c e ≡ false
 
 -- two pairs share no end
@@ -96,7 +96,7 @@ no_word binding None e = refl
 no_word binding (Some w) e = absurd (cc)
 
 -- no binding breaks a rule
-no_words : (d : Definition) (n : ℕ) (bs : List Bind) → faults_from d n bs ≡ [] → Each (λ b. word_of d b ≡ None) bs
+pub no_words : (d : Definition) (n : ℕ) (bs : List Bind) → faults_from d n bs ≡ [] → Each (λ b. word_of d b ≡ None) bs
 no_words d n [] e = tt
 no_words d n (b ∷ bs) e =
     let parts = both_empty (fault_of n (word_of d b)) (faults_from d (suc n) bs) e in
@@ -121,7 +121,7 @@ readable_source d inverts (Some s) (Some t) e =
     (or_word (is_transformable d.types s.kind t.kind) words.kinds (or_word (is_invertible inverts s.kind t.kind) words.invert None)))) e).0
 
 -- both ends of a pair can be read, and are two
-record PairRead (d : Definition) (b : Bind) : Type 0 where
+pub record PairRead (d : Definition) (b : Bind) : Type 0 where
   pub two : Differ (source_of b) (target_of b)
   pub source : is_channel d (source_of b) ≡ true
   pub target : is_channel d (target_of b) ≡ true
@@ -130,7 +130,7 @@ not_true : (b : Bool) → not b ≡ true → b ≡ false
 not_true true e = absurd (cc)
 not_true false e = refl
 
-pair_read : (d : Definition) (b : Bind) → is_pair b ≡ true → word_of d b ≡ None → PairRead d b
+pub pair_read : (d : Definition) (b : Bind) → is_pair b ≡ true → word_of d b ≡ None → PairRead d b
 pair_read d b pair e =
     let forwards = word_between d (has_flags 4 b.flags) (spec_at d b.source b.source_slot) (spec_at d b.target b.target_slot) in
     let backwards = word_between d (has_flags 4 b.flags) (spec_at d b.target b.target_slot) (spec_at d b.source b.source_slot) in
@@ -146,7 +146,7 @@ pair_read d b pair e =
 
 -- ** no second pair
 
-abbrev NoSecond : List Bind → List Bind → Type 0
+abbrev pub NoSecond : List Bind → List Bind → Type 0
 NoSecond earlier [] = Unit {0}
 NoSecond earlier (b ∷ bs) = (is_second earlier b ≡ false) × NoSecond (b ∷ earlier) bs
 
@@ -154,7 +154,7 @@ no_fault : (test : Bool) (fault : Fault) → cond test (fault ∷ []) [] ≡ [] 
 no_fault true fault e = absurd (cc)
 no_fault false fault e = refl
 
-no_second : (earlier : List Bind) (n : ℕ) (bs : List Bind) → second_from earlier n bs ≡ [] → NoSecond earlier bs
+pub no_second : (earlier : List Bind) (n : ℕ) (bs : List Bind) → second_from earlier n bs ≡ [] → NoSecond earlier bs
 no_second earlier n [] e = tt
 no_second earlier n (b ∷ bs) e =
     let parts = both_empty (cond (is_second earlier b) (words.second_pair n ∷ []) []) (second_from (b ∷ earlier) (suc n) bs) e in
@@ -170,7 +170,7 @@ second_part true b e h = e
 second_part false b e h = absurd (cc)
 
 -- a later pair shares no end
-later_apart : (b : Bind) (earlier bs : List Bind) → is_pair b ≡ true → IsIn b earlier → NoSecond earlier bs → Each (λ x. is_pair x ≡ true → shares_end b x ≡ false) bs
+pub later_apart : (b : Bind) (earlier bs : List Bind) → is_pair b ≡ true → IsIn b earlier → NoSecond earlier bs → Each (λ x. is_pair x ≡ true → shares_end b x ≡ false) bs
 later_apart b earlier [] pair there none = tt
 later_apart b earlier (x ∷ bs) pair there none = (
   λ h.

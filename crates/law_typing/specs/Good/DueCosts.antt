@@ -18,26 +18,32 @@ abbrev pub unsets : ℕ → Task → ℕ
 unsets number (Unsetting n) = cond (nat_eq n number) 1 0
 unsets number _ = 0
 
+-- whether a binding has the channel as an end
+abbrev pub has_end : Channel → Bind → Bool
+has_end c b = cond (same_channel (source_of b) c) true (same_channel (target_of b) c)
+
+-- whether the binding of this number is of a pair with the channel, and is still to be set free below
+abbrev pub is_setting_at : List Task → Channel → ℕ → Bind → Bool
+is_setting_at below c number b = (is_pair b && has_end c b) && cond (nat_eq (total (unsets number) below) 0) false true
+
+-- the same of some of these bindings, where the first has this number
+abbrev pub is_setting_from : List Task → Channel → ℕ → List Bind → Bool
+is_setting_from below c number [] = false
+is_setting_from below c number (b ∷ bindings) = cond (is_setting_at below c number b) true (is_setting_from below c (suc number) bindings)
+
 -- whether a binding of a pair is still to be set free below: then nothing comes back over it
 abbrev pub is_setting_below : Definition → List Task → Channel → Bool
-is_setting_below d below c = any_from 0 d.bindings
-  where
-    at : ℕ → Bind → Bool
-    at number b =
-        (is_pair b && cond (same_channel (source_of b) c) true (same_channel (target_of b) c)) && cond (nat_eq (total (unsets number) below) 0) false true
+is_setting_below d below c = is_setting_from below c 0 d.bindings
 
-    any_from : ℕ → List Bind → Bool
-    any_from number [] = false
-    any_from number (b ∷ bindings) = cond (at number b) true (any_from (suc number) bindings)
+-- the way over to the other end of a pair, and the other end
+abbrev pub over_cost : Tables → Option Channel → ℕ
+over_cost costs None = 0
+over_cost costs (Some other) = 1 + entry costs.channels other
 
 -- What a set or a notification that is due may cost: the channel's own part, and where it is in a pair the way over and the other end,
 -- but for a pair that is setting below. The whole node would be too much: a transfer pays for the other end alone.
 abbrev pub due_cost : Definition → Tables → List Task → Channel → ℕ
-due_cost d costs below c = entry costs.channels c + cond (is_setting_below d below c) 0 (over (other_end (graph d) c))
-  where
-    over : Option Channel → ℕ
-    over None = 0
-    over (Some other) = 1 + entry costs.channels other
+due_cost d costs below c = entry costs.channels c + cond (is_setting_below d below c) 0 (over_cost costs (other_end (graph d) c))
 
 -- what a transfer may cost that is due: for a pair its step and the other end, unless the pair is setting below
 abbrev pub transfer_cost : Definition → Tables → List Task → Bool → Option Bind → ℕ
