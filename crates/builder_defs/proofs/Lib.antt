@@ -12,3 +12,4 @@ pub mod Ids
 pub mod Values
 pub mod Printing
 pub mod PlainKinds
+pub mod Sections

@@ -16,6 +16,10 @@ any_map : {A : Type 0} (name : A → List ℕ) (key : List ℕ) (xs : List A) �
 any_map name key [] = refl
 any_map name key (x ∷ xs) = ap (λ b. bytes_eq (name x) key || b) (any_map name key xs)
 
+pub any_mapped : {A B : Type 0} (test : B → Bool) (f : A → B) (xs : List A) → list_any test (map f xs) ≡ list_any (λ x. test (f x)) xs
+any_mapped test f [] = refl
+any_mapped test f (x ∷ xs) = ap (λ b. test (f x) || b) (any_mapped test f xs)
+
 pub first_other_is : {A : Type 0} (name : A → List ℕ) (ks : List A) (es : List (String Global × Value))
     → first_other (map name ks) (members_view es) ≡ option_map string_bytes (find (λ key. not (list_any (λ k. bytes_eq (name k) (string_bytes key)) ks)) (keys_of es))
 first_other_is name ks [] = refl

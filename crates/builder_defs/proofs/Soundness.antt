@@ -19,9 +19,9 @@ use Rattle.builder_defs.specs.declared.fault.DefinitionLimit.TheVariants.{Object
 use Rattle.ui_machine.specs.Outcome.{◌>>=◌}
 use Rattle.builder_defs.specs.Document.{each, at_entry, under, nth, members_at, text_at, entries_at, nothing_at, only_at}
 use Rattle.builder_defs.specs.Denoted.Properties.{specs_by, kind_named, kind_at, property_spec, room_for_property, new_property, unset_of_property, keys_of_property, spec_at, add_own, installed_or, installed, property_at}
-use Rattle.builder_defs.specs.Denoted.Classes.{Draft, draft_of, first_draft, unset_before_properties, unset_after_properties, keys_of_class, declared_at, properties_at, class_at}
+use Rattle.builder_defs.specs.Denoted.Classes.{Draft, draft_of, bare_draft, unset_before_properties, unset_after_properties, keys_of_class, declared_at, properties_at, class_at}
 use Rattle.builder_defs.specs.Denoted.Objects.{room_for_object, new_id, class_at_key, unset_of_object, keys_of_object, place_at, object_at}
-use Rattle.builder_defs.specs.Denoted.{unset_before_classes, unset_before_objects, classes_in, objects_in}
+use Rattle.builder_defs.specs.Denoted.{unset_before_classes, unset_before_objects, enums_in, flags_in, classes_in, draft_in, objects_in}
 use Rattle.builder_defs.proofs.Installing.{specs_of-is}
 
 -- what is so of what was read, if it was
@@ -129,21 +129,27 @@ properties_plain path types t own d all =
 abbrev pub PlainDraft : Draft → Type 0
 PlainDraft draft = AllOwn draft.own
 
-class_plain : (path : List ℕ) (draft : Draft) (d : Data) → PlainDraft draft → OnRead PlainDraft (class_at path draft d)
+class_plain : (path : List ℕ) (first : ℕ) (draft : Draft) (d : Data) → PlainDraft draft → OnRead PlainDraft (class_at path first draft d)
 unfolding class_at
-class_plain path draft d all =
+class_plain path first draft d all =
     on_bind (λ x. Unit {0}) PlainDraft (members_at path d) _ (on_all _) λ ms u.
-    on_bind (λ x. Unit {0}) PlainDraft (declared_at path draft.types d) _ (on_all _) λ types u.
+    on_bind (λ x. Unit {0}) PlainDraft (declared_at path first draft.types d) _ (on_all _) λ types u.
     on_bind AllOwn PlainDraft (properties_at path types (length draft.types) draft.own d) _ (properties_plain path types (length draft.types) draft.own d all) λ own plain.
     on_bind (λ x. Unit {0}) PlainDraft (nothing_at path d unset_after_properties) _ (on_all _) λ unset u.
     on_bind (λ x. Unit {0}) PlainDraft (only_at path ms keys_of_class) _ (on_all _) λ only u. plain
 
-classes_plain : (d : Data) → OnRead PlainDraft (classes_in d)
+classes_plain : (types : List GType) (d : Data) → OnRead PlainDraft (classes_in types d)
 unfolding classes_in
-classes_plain d =
+classes_plain types d =
     on_bind (λ x. Unit {0}) PlainDraft (nothing_at [] d unset_before_classes) _ (on_all _) λ unset u.
     on_bind (λ x. Unit {0}) PlainDraft (entries_at [] d (codes "classes")) _ (on_all _) λ list u.
-    on_each PlainDraft (at_entry class_at (under [] (codes "classes"))) (λ i draft d all. class_plain (nth (under [] (codes "classes")) i) draft d all) 0 first_draft list (λ t. tt)
+    on_each PlainDraft (at_entry (λ path. class_at path (length types)) (under [] (codes "classes"))) (λ i draft d all. class_plain (nth (under [] (codes "classes")) i) (length types) draft d all) 0 (bare_draft types) list (λ t. tt)
+
+draft_plain : (d : Data) → OnRead PlainDraft (draft_in d)
+unfolding draft_in
+draft_plain d =
+    on_bind (λ x. Unit {0}) PlainDraft (enums_in d) _ (on_all _) λ enums u.
+    on_bind (λ x. Unit {0}) PlainDraft (flags_in enums d) _ (on_all _) λ types u. classes_plain types d
 
 -- ** no more objects than there is room for
 
@@ -181,9 +187,9 @@ objects_few types d =
     on_bind (λ x. Unit {0}) AreFew (entries_at [] d (codes "objects")) _ (on_all _) λ list u.
     on_each AreFew (at_entry (λ entry. object_at entry types) (under [] (codes "objects"))) (λ i places d few. object_few (nth (under [] (codes "objects")) i) types places d few) 0 [] list (omega arith)
 
-pub sound : (types : List GType) (table : List (List Spec)) (os : List Entry) (d : Data) → classes_in d ≡ Ok (draft_of types table) → objects_in types d ≡ Ok (map plain_object os) → IsSound types table os
+pub sound : (types : List GType) (table : List (List Spec)) (os : List Entry) (d : Data) → draft_in d ≡ Ok (draft_of types table) → objects_in types d ≡ Ok (map plain_object os) → IsSound types table os
 sound types table os d read objects =
-    let all : AllOwn (own_of table) = subst (OnRead PlainDraft) read (classes_plain d) in
+    let all : AllOwn (own_of table) = subst (OnRead PlainDraft) read (draft_plain d) in
     record {
       plain = record { at = λ t slot s h. plain_get (specs_of types table t) slot s (subst AllPlain (sym (specs_of-is types table t)) (plain_flat (own_of table) all (reverse (lineage types t)))) h };
       few = subst (λ n. n ≤ 64) (length-map os plain_object) (subst (OnRead AreFew) objects (objects_few types d));

@@ -1,5 +1,7 @@
 -- Which definition bytes denote, or the first fault in document order. A file of the folder has the rows of one part of the format.
 pub mod Names
+pub mod Types
+pub mod Enums
 pub mod Properties
 pub mod Classes
 pub mod Objects
@@ -8,14 +10,15 @@ use Rattle.serde_json.specs.Data.{Data}
 use Rattle.serde_json.specs.Find.{get, as_number, as_u64}
 use Rattle.ui_machine.specs.Outcome.{◌>>=◌}
 use Rattle.ui_machine.specs.Seq.{listed}
-use Rattle.ui_machine.specs.Definition.Types.{GType}
+use Rattle.ui_machine.specs.Definition.Types.{GType, predeclared}
 use Rattle.ui_machine.specs.Definition.Places as machine
 use Rattle.ui_machine.specs.Definition as definition
 use Rattle.builder_defs.specs.Meaning.{class_with, default_objects}
 use Rattle.builder_defs.specs.Refusals.{Refusal, shape}
 use Rattle.builder_defs.specs.Document.{under, members_at, entries_at, nothing_at, only_at, each, at_entry, document}
 use Rattle.builder_defs.specs.Denoted.Properties.{specs_by}
-use Rattle.builder_defs.specs.Denoted.Classes.{Draft, first_draft, class_at}
+use Rattle.builder_defs.specs.Denoted.Enums.{enum_at, flags_at}
+use Rattle.builder_defs.specs.Denoted.Classes.{Draft, bare_draft, class_at}
 use Rattle.builder_defs.specs.Denoted.Objects.{object_at}
 
 -- the member `format`, which is 1
@@ -23,8 +26,11 @@ abbrev pub format_of : Option ℕ → Result (Unit {0}) Refusal
 format_of None = Err (shape (codes "/format"))
 format_of (Some n) = if n == 1 then Ok tt else Err (shape (codes "/format"))
 
+abbrev pub unset_before_enums : List (List ℕ)
+unset_before_enums = codes "limits" ∷ []
+
 abbrev pub unset_before_classes : List (List ℕ)
-unset_before_classes = codes "limits" ∷ codes "enums" ∷ codes "flags" ∷ codes "interfaces" ∷ codes "shapes" ∷ []
+unset_before_classes = codes "interfaces" ∷ codes "shapes" ∷ []
 
 abbrev pub unset_before_objects : List (List ℕ)
 unset_before_objects = codes "programs" ∷ codes "prototypes" ∷ []
@@ -45,11 +51,32 @@ definition_with draft places = record {
   most_handlers = 0;
 }
 
-unfoldable pub classes_in : Data → Result Draft Refusal
-classes_in d = do
+-- the predeclared types with the enums of a definition
+unfoldable pub enums_in : Data → Result (List GType) Refusal
+enums_in d = do
+  unset ← nothing_at [] d unset_before_enums
+  list ← entries_at [] d (codes "enums")
+  each (at_entry (λ path. enum_at path (length predeclared)) (under [] (codes "enums"))) 0 predeclared list
+
+-- these types, with the flags types of a definition
+unfoldable pub flags_in : List GType → Data → Result (List GType) Refusal
+flags_in types d = do
+  list ← entries_at [] d (codes "flags")
+  each (at_entry (λ path. flags_at path (length types)) (under [] (codes "flags"))) 0 types list
+
+-- these types, with the classes of a definition
+unfoldable pub classes_in : List GType → Data → Result Draft Refusal
+classes_in types d = do
   unset ← nothing_at [] d unset_before_classes
   list ← entries_at [] d (codes "classes")
-  each (at_entry class_at (under [] (codes "classes"))) 0 first_draft list
+  each (at_entry (λ path. class_at path (length types)) (under [] (codes "classes"))) 0 (bare_draft types) list
+
+-- the types of a definition, with their properties
+unfoldable pub draft_in : Data → Result Draft Refusal
+draft_in d = do
+  enums ← enums_in d
+  types ← flags_in enums d
+  classes_in types d
 
 unfoldable pub objects_in : List GType → Data → Result (List machine.Place) Refusal
 objects_in types d = do
@@ -61,7 +88,7 @@ unfoldable pub definition_in : Data → Result definition.Definition Refusal
 definition_in d = do
   members ← members_at [] d
   format ← format_of (option_and_then as_u64 (option_and_then as_number (get (codes "format") d)))
-  draft ← classes_in d
+  draft ← draft_in d
   places ← objects_in draft.types d
   only ← only_at [] members keys_of_definition
   Ok (definition_with draft places)

@@ -3,22 +3,17 @@
 ghost use Rattle.std.specs.Prelude.{◌≡◌, codes, length, IfOk};
 ghost use Rattle.serde_json.specs.View.{view, items_view};
 ghost use Rattle.param_specs.specs.Table.{own_of};
-ghost use Rattle.ui_machine.specs.Seq.{read};
-ghost use Rattle.ui_machine.specs.Output.Text.{no_type};
-ghost use Rattle.builder_defs.specs.Causes.{cause_view, named_cause};
 ghost use Rattle.builder_defs.specs.Refusals.{Gives, Leads};
 ghost use Rattle.builder_defs.specs.Document.{under, path_of, each, at_entry};
-ghost use Rattle.builder_defs.specs.Denoted.Classes.{draft_of, is_further, room_for_type, with_class, declared_at, properties_at, class_at};
+ghost use Rattle.builder_defs.specs.Denoted.Classes.{draft_of, with_class, declared_at, properties_at, class_at};
 
 use crate::document::{Entries, Part, path_under};
-use crate::fault::{DefinitionFault, DefinitionLimit, ReadError, TypeCause};
+use crate::fault::{DefinitionFault, ReadError};
 use crate::properties::read_properties;
 use crate::reads::{Reads, read_each};
+use crate::types::{check_room, is_from, named_cause};
 use param_specs::SpecTable;
-use std::alloc::{AllocError, Global};
-use type_tree::{MOST_TYPES, TypeError, TypeFault, TypeFlags, TypeId, TypeTree};
-
-const PREDECLARED_TYPES: usize = 2;
+use type_tree::{TypeError, TypeFlags, TypeId, TypeTree};
 
 const UNSET_BEFORE_PROPERTIES: [&str; 4] = ["parent", "abstract", "final", "implements"];
 
@@ -37,59 +32,17 @@ const MEMBERS: [&str; 10] = [
     "shape",
 ];
 
-// Tests that the tree has room for a further type.
-fn check_room(types: &TypeTree) -> Result<(), ReadError>
-    ensures { Gives (λ _. tt) result (room_for_type types.now) }
-{
-    if types.len() >= MOST_TYPES {
-        return Err(ReadError::Refused(DefinitionFault::Limit(DefinitionLimit::Types)));
-    }
-    Ok(())
-}
-
-// Whether a type is a class of the definition.
-fn is_further(class: Option<TypeId>) -> bool
-    ensures { result ≡ is_further class }
-{
-    match class {
-        Some(class) => class.index() >= PREDECLARED_TYPES,
-        None => false,
-    }
-}
-
-// The name of a type, and nothing where there is none.
-pub(crate) fn type_name(types: &TypeTree, t: TypeId) -> &str
-    ensures { result.now ≡ (read no_type types.now t).name }
-{
-    if t.index() >= types.len() {
-        return "";
-    }
-    types.name(t)
-}
-
-// The cause of a fault, with the names of types.
-fn named_cause(alloc: Global, types: &TypeTree, fault: TypeFault) -> Result<TypeCause, AllocError>
-    ensures { IfOk result (λ cause. cause_view cause ≡ named_cause types.now fault) }
-{
-    match fault {
-        TypeFault::BadName => Ok(TypeCause::BadName),
-        TypeFault::Duplicate => Ok(TypeCause::Duplicate),
-        TypeFault::UnknownParent => Ok(TypeCause::UnknownParent),
-        TypeFault::FinalParent => Ok(TypeCause::FinalParent),
-        TypeFault::Prerequisite(required) => {
-            let name = String::from_str(alloc, type_name(types, required))?;
-            Ok(TypeCause::Prerequisite(name))
-        }
-        TypeFault::Limit(limit) => Ok(TypeCause::Limit(limit)),
-    }
-}
-
 // Adds a class of a name, a child of `GObject`.
-fn add_class(part: Part<'_>, types: &mut TypeTree, name: &str) -> Result<TypeId, ReadError>
-    ensures types { Leads result (with_class (under (path_of part.entry.path) (codes "name")) types.old name.now) types.new }
+fn add_class(
+    part: Part<'_>,
+    first: usize,
+    types: &mut TypeTree,
+    name: &str,
+) -> Result<TypeId, ReadError>
+    ensures types { Leads result (with_class (under (path_of part.entry.path) (codes "name")) first types.old name.now) types.new }
     ensures class { IfOk result (λ t. t ≡ length types.old) }
 {
-    if is_further(types.find(name)) {
+    if is_from(first, types.find(name)) {
         return Err(ReadError::Refused(DefinitionFault::Duplicate(path_under(
             part.alloc, part.path, "name",
         )?)));
@@ -107,13 +60,13 @@ fn add_class(part: Part<'_>, types: &mut TypeTree, name: &str) -> Result<TypeId,
 
 // Adds the class that an entry declares.
 #[tactic(auto, unfolding(crate::specs::Denoted::Classes::declared_at))]
-fn declare(part: Part<'_>, types: &mut TypeTree) -> Result<TypeId, ReadError>
-    ensures types { Leads result (declared_at (path_of part.entry.path) types.old (view part.entry.value.now)) types.new }
+fn declare(part: Part<'_>, first: usize, types: &mut TypeTree) -> Result<TypeId, ReadError>
+    ensures types { Leads result (declared_at (path_of part.entry.path) first types.old (view part.entry.value.now)) types.new }
     ensures class { IfOk result (λ t. t ≡ length types.old) }
 {
     check_room(types)?;
     let name = part.text("name")?;
-    let class = add_class(part, types, name)?;
+    let class = add_class(part, first, types, name)?;
     Ok(class)
 }
 
@@ -141,11 +94,16 @@ fn give_properties(
 
 // Adds the class of an entry, with its properties.
 #[tactic(auto, unfolding(crate::specs::Denoted::Classes::class_at))]
-fn read_class(part: Part<'_>, types: &mut TypeTree, specs: &mut SpecTable) -> Result<(), ReadError>
-    ensures { Leads result (class_at (path_of part.entry.path) (draft_of types.old specs.old) (view part.entry.value.now)) (draft_of types.new specs.new) }
+fn read_class(
+    part: Part<'_>,
+    first: usize,
+    types: &mut TypeTree,
+    specs: &mut SpecTable,
+) -> Result<(), ReadError>
+    ensures { Leads result (class_at (path_of part.entry.path) first (draft_of types.old specs.old) (view part.entry.value.now)) (draft_of types.new specs.new) }
 {
     let members = part.members()?;
-    let class = declare(part, types)?;
+    let class = declare(part, first, types)?;
     give_properties(part, types, specs, class)?;
     part.check_nothing(&UNSET_AFTER_PROPERTIES)?;
     part.check_only(members, &MEMBERS)?;
@@ -159,9 +117,11 @@ pub(crate) struct Draft {
     pub(crate) specs: SpecTable,
 }
 
-// How the entries of the classes are read.
+// How the entries of the classes are read, where the classes begin with the first.
 #[derive(Clone, Copy)]
-struct ClassEntries;
+struct ClassEntries {
+    first: usize,
+}
 
 impl Reads<Draft> for ClassEntries {
     ghost use Rattle.builder_defs.specs.Denoted.Classes as denoted;
@@ -170,16 +130,19 @@ impl Reads<Draft> for ClassEntries {
 
     ghost seen = { λ draft. denoted.draft_of draft.types draft.specs };
 
-    ghost step = { λ r path draft d. denoted.class_at path draft d };
+    ghost step = { λ r path draft d. denoted.class_at path r.first draft d };
 
     fn read(&self, part: Part<'_>, draft: &mut Draft) -> Result<(), ReadError> {
-        read_class(part, &mut draft.types, &mut draft.specs)
+        read_class(part, self.first, &mut draft.types, &mut draft.specs)
     }
 }
 
 // Adds the classes of a list.
 pub(crate) fn read_classes(list: Entries<'_>, draft: &mut Draft) -> Result<(), ReadError>
-    ensures { Leads result (each (at_entry class_at list.entry.path.now) 0 (draft_of draft.old.types draft.old.specs) (items_view list.entry.items.now)) (draft_of draft.new.types draft.new.specs) }
+    ensures { Leads result (each (at_entry (λ path. class_at path (length draft.old.types)) list.entry.path.now) 0 (draft_of draft.old.types draft.old.specs) (items_view list.entry.items.now)) (draft_of draft.new.types draft.new.specs) }
 {
-    read_each(&ClassEntries, list, draft)
+    let reader = ClassEntries {
+        first: draft.types.len(),
+    };
+    read_each(&reader, list, draft)
 }

@@ -6,8 +6,8 @@ ghost use Rattle.ui_machine.specs.Definition.Lookups.{place_of, spec_of, specs_o
 ghost use Rattle.param_specs.specs.View.{spec_view};
 ghost use Rattle.builder_defs.specs.Meaning.{IsBasic, bare_place, class_at, plain_object};
 
-use crate::classes::type_name;
 use crate::object_entry::ObjectEntry;
+use crate::types::type_name;
 use indexmap::IndexMap;
 use param_specs::{Spec, SpecTable};
 use std::marker::Model;

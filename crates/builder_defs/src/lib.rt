@@ -6,6 +6,7 @@
 mod classes;
 mod definition;
 mod document;
+mod enums;
 mod event;
 mod event_fault;
 mod event_reading;
@@ -17,6 +18,7 @@ mod objects;
 mod properties;
 mod reading;
 mod reads;
+mod types;
 
 pub use definition::Definition;
 pub use document::MAX_BYTES;

@@ -58,7 +58,7 @@ fn class_of(part: Part<'_>, types: &TypeTree) -> Result<TypeId, ReadError>
     ensures { Gives (λ t. t) result (class_at_key (path_of part.entry.path) types.now (view part.entry.value.now)) }
 {
     let name = part.text("class")?;
-    match types.find(name) {
+    match types.find_class(name) {
         Some(class) => Ok(class),
         None => {
             let path = path_under(part.alloc, part.path, "class")?;

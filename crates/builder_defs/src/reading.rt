@@ -1,17 +1,19 @@
 //! Definitions, read from their bytes.
 
-ghost use Rattle.std.specs.Prelude.{◌≡◌, ◌≤◌, [], map, length, codes, option_and_then, IfOk};
+ghost use Rattle.std.specs.Prelude.{◌≡◌, [], map, codes, option_and_then};
 ghost use Rattle.serde_json.specs.Find.{get, as_number, as_u64};
 ghost use Rattle.serde_json.specs.View.{view};
+ghost use Rattle.ui_machine.specs.Definition.Types.{predeclared};
 ghost use Rattle.builder_defs.specs.Meaning.{plain_object};
 ghost use Rattle.builder_defs.specs.Refusals.{Gives, Leads};
 ghost use Rattle.builder_defs.specs.Document.{path_of};
-ghost use Rattle.builder_defs.specs.Denoted.Classes.{draft_of, first_draft};
-ghost use Rattle.builder_defs.specs.Denoted.{format_of, classes_in, objects_in, definition_in, denoted};
+ghost use Rattle.builder_defs.specs.Denoted.Classes.{draft_of};
+ghost use Rattle.builder_defs.specs.Denoted.{format_of, enums_in, flags_in, classes_in, draft_in, objects_in, definition_in, denoted};
 
 use crate::classes::{Draft, read_classes};
 use crate::definition::Definition;
 use crate::document::{Entries, Part, Path, parsed};
+use crate::enums::{read_enums, read_flags_types};
 use crate::fault::{DefinitionFault, ReadError};
 use crate::objects::read_objects;
 use indexmap::IndexMap;
@@ -20,7 +22,9 @@ use serde_json::Value;
 use std::alloc::Global;
 use type_tree::{TypeId, TypeTree};
 
-const UNSET_BEFORE_CLASSES: [&str; 5] = ["limits", "enums", "flags", "interfaces", "shapes"];
+const UNSET_BEFORE_ENUMS: [&str; 1] = ["limits"];
+
+const UNSET_BEFORE_CLASSES: [&str; 2] = ["interfaces", "shapes"];
 
 const UNSET_BEFORE_OBJECTS: [&str; 2] = ["programs", "prototypes"];
 
@@ -54,12 +58,46 @@ fn format_in(value: &Value) -> Option<u64>
     value.get("format").and_then(Value::as_u64)
 }
 
-// Adds the classes of a definition to the types that are there from the beginning.
-#[tactic(auto, unfolding(crate::specs::Denoted::classes_in))]
-fn read_types(part: Part<'_>, draft: &mut Draft) -> Result<(), ReadError>
+// Adds the enums of a definition to the types that are there from the beginning.
+#[tactic(auto, unfolding(crate::specs::Denoted::enums_in))]
+fn enums_of(part: Part<'_>, types: &mut TypeTree) -> Result<(), ReadError>
     requires root { path_of part.path ≡ [] }
-    requires first { draft_of draft.old.types draft.old.specs ≡ first_draft }
-    ensures { Leads result (classes_in (view part.entry.value.now)) (draft_of draft.new.types draft.new.specs) }
+    requires first { types.old ≡ predeclared }
+    ensures { Leads result (enums_in (view part.entry.value.now)) types.new }
+{
+    part.check_nothing(&UNSET_BEFORE_ENUMS)?;
+    let items = part.entries("enums")?;
+    let list = Entries {
+        alloc: part.alloc,
+        path: "/enums",
+        items,
+    };
+    read_enums(list, types)?;
+    Ok(())
+}
+
+// Adds the flags types of a definition.
+#[tactic(auto, unfolding(crate::specs::Denoted::flags_in))]
+fn flags_of(part: Part<'_>, types: &mut TypeTree) -> Result<(), ReadError>
+    requires { path_of part.path ≡ [] }
+    ensures { Leads result (flags_in types.old (view part.entry.value.now)) types.new }
+{
+    let items = part.entries("flags")?;
+    let list = Entries {
+        alloc: part.alloc,
+        path: "/flags",
+        items,
+    };
+    read_flags_types(list, types)?;
+    Ok(())
+}
+
+// Adds the classes of a definition.
+#[tactic(auto, unfolding(crate::specs::Denoted::classes_in))]
+fn classes_of(part: Part<'_>, draft: &mut Draft) -> Result<(), ReadError>
+    requires root { path_of part.path ≡ [] }
+    requires bare { draft.old.specs ≡ [] }
+    ensures { Leads result (classes_in draft.old.types (view part.entry.value.now)) (draft_of draft.new.types draft.new.specs) }
 {
     part.check_nothing(&UNSET_BEFORE_CLASSES)?;
     let items = part.entries("classes")?;
@@ -70,6 +108,21 @@ fn read_types(part: Part<'_>, draft: &mut Draft) -> Result<(), ReadError>
     };
     read_classes(list, draft)?;
     Ok(())
+}
+
+// The types of a definition, with their properties.
+#[tactic(auto, unfolding(crate::specs::Denoted::draft_in))]
+fn read_draft(part: Part<'_>) -> Result<Draft, ReadError>
+    requires { path_of part.path ≡ [] }
+    ensures { Gives (λ draft. draft_of draft.types draft.specs) result (draft_in (view part.entry.value.now)) }
+{
+    let mut types = TypeTree::new(part.alloc)?;
+    enums_of(part, &mut types)?;
+    flags_of(part, &mut types)?;
+    let specs = SpecTable::new(part.alloc);
+    let mut draft = Draft { types, specs };
+    classes_of(part, &mut draft)?;
+    Ok(draft)
 }
 
 // The objects of a definition.
@@ -104,11 +157,7 @@ fn definition_of(alloc: Global, value: &Value) -> Result<Definition, ReadError>
     };
     let members = part.members()?;
     check_format(alloc, format_in(value))?;
-    let mut draft = Draft {
-        types: TypeTree::new(alloc)?,
-        specs: SpecTable::new(alloc),
-    };
-    read_types(part, &mut draft)?;
+    let draft = read_draft(part)?;
     let objects = objects_of(part, &draft.types)?;
     part.check_only(members, &MEMBERS)?;
     Ok(Definition {

@@ -15,8 +15,8 @@ use crate::type_id::TypeId;
 use std::alloc::{AllocError, Global};
 
 impl TypeTree {
-    // The class of a name.
-    fn find_class(&self, name: &str) -> Option<TypeId>
+    /// The class of a name.
+    pub fn find_class(&self, name: &str) -> Option<TypeId>
         ensures class { result ≡ class_named self.now name.now }
         ensures within { IfSome result (λ t. t < length self.now) }
     {
@@ -51,8 +51,8 @@ impl TypeTree {
         }
     }
 
-    // Why no type of this name is added.
-    fn name_fault(&self, name: &str) -> Option<TypeFault>
+    /// Why no type of this name is added: the name is none of a type, or a type has it.
+    pub fn name_fault(&self, name: &str) -> Option<TypeFault>
         ensures { result ≡ name_fault self.now name.now }
     {
         if !is_type_name(name) {

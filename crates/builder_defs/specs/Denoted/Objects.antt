@@ -5,7 +5,7 @@ use Rattle.ui_machine.specs.Outcome.{◌>>=◌}
 use Rattle.ui_machine.specs.Definition.Types.{GType}
 use Rattle.ui_machine.specs.Definition.Names.{place_named}
 use Rattle.ui_machine.specs.Definition.Places as machine
-use Rattle.type_tree.specs.Adding.{find_type}
+use Rattle.type_tree.specs.Adding.{class_named}
 use Rattle.builder_defs.specs.declared.fault.DefinitionLimit.TheVariants.{Objects}
 use Rattle.builder_defs.specs.Meaning.{bare_place}
 use Rattle.builder_defs.specs.Refusals.{Refusal, shape, unknown, duplicate, limit, or_refused}
@@ -23,7 +23,7 @@ new_id path places id =
 abbrev pub class_at_key : List ℕ → List GType → Data → Result ℕ Refusal
 class_at_key path types d = do
   name ← text_at path d (codes "class")
-  or_refused (unknown (under path (codes "class")) name) (find_type types name)
+  or_refused (unknown (under path (codes "class")) name) (class_named types name)
 
 abbrev pub unset_of_object : List (List ℕ)
 unset_of_object = codes "peer" ∷ codes "properties" ∷ codes "signals" ∷ codes "children" ∷ []

@@ -1,0 +1,48 @@
+-- The sections of a definition that have types, and the members of these.
+use Rattle.std.proofs.Common.{◌≡◌, ◌≤◌, ℕ, List, [], ◌∷◌, codes, length, Option, None, Some, option_and_then, Result, Ok, refl, sym, ap, ◌∙◌, arith}
+use Rattle.serde_json.specs.Data.{Data, Items}
+use Rattle.serde_json.specs.Find.{get, as_array}
+use Rattle.serde_json.specs.declared.value.Value.{Value}
+use Rattle.serde_json.specs.View.{items_view}
+use Rattle.ui_machine.specs.Outcome.{◌>>=◌}
+use Rattle.ui_machine.specs.Definition.Types.{GType, predeclared}
+use Rattle.builder_defs.specs.declared.fault.ReadError.{ReadError}
+use Rattle.builder_defs.specs.Refusals.{Refusal, Fails, shape, or_refused}
+use Rattle.builder_defs.specs.Document.{under, nothing_at, entries_at, each, at_entry}
+use Rattle.builder_defs.specs.Denoted.Enums.{three_in, some_items, some_entries_at, enum_at, flags_at}
+use Rattle.builder_defs.specs.Denoted.Classes.{Draft, bare_draft, class_at}
+use Rattle.builder_defs.specs.Denoted.{unset_before_enums, unset_before_classes, enums_in, flags_in, classes_in}
+use Rattle.builder_defs.proofs.Chains.{fails_as}
+
+pub not_three : (vs : List Value) → (length vs ≡ 3 → ⊥) → None ≡ three_in (items_view vs)
+not_three [] h = refl
+not_three (v ∷ []) h = refl
+not_three (v ∷ w ∷ []) h = refl
+not_three (v ∷ w ∷ x ∷ []) h = absurd (h refl)
+not_three (v ∷ w ∷ x ∷ y ∷ vs) h = refl
+
+pub some_there : (path key : List ℕ) (d : Data) (vs : List Value) → Some (items_view vs) ≡ option_and_then as_array (get key d) → 1 ≤ length vs → some_entries_at path d key ≡ Ok (items_view vs)
+some_there path key d [] is h = absurd (omega arith)
+some_there path key d (v ∷ vs) is h = ap (λ (o : Option Items). or_refused (shape (under path key)) (option_and_then some_items o)) (sym is)
+
+pub enums_fail : (d : Data) (list : Items) (e : ReadError) → nothing_at [] d unset_before_enums ≡ Ok tt → entries_at [] d (codes "enums") ≡ Ok list
+    → Fails e (each (at_entry (λ path. enum_at path (length predeclared)) (codes "/enums")) 0 predeclared list) → Fails e (enums_in d)
+unfolding enums_in
+enums_fail d list e unset read fails =
+    fails_as e _ _
+    (ap (λ (r : Result (Unit {0}) Refusal). r >>= λ u. entries_at [] d (codes "enums") >>= λ list. each (at_entry (λ path. enum_at path (length predeclared)) (codes "/enums")) 0 predeclared list) unset
+    ∙ ap (λ (r : Result Items Refusal). r >>= λ list. each (at_entry (λ path. enum_at path (length predeclared)) (codes "/enums")) 0 predeclared list) read) fails
+
+pub flags_fail : (types : List GType) (d : Data) (list : Items) (e : ReadError) → entries_at [] d (codes "flags") ≡ Ok list
+    → Fails e (each (at_entry (λ path. flags_at path (length types)) (codes "/flags")) 0 types list) → Fails e (flags_in types d)
+unfolding flags_in
+flags_fail types d list e read fails =
+    fails_as e _ _ (ap (λ (r : Result Items Refusal). r >>= λ list. each (at_entry (λ path. flags_at path (length types)) (codes "/flags")) 0 types list) read) fails
+
+pub classes_fail : (types : List GType) (d : Data) (list : Items) (e : ReadError) → nothing_at [] d unset_before_classes ≡ Ok tt → entries_at [] d (codes "classes") ≡ Ok list
+    → Fails e (each (at_entry (λ path. class_at path (length types)) (codes "/classes")) 0 (bare_draft types) list) → Fails e (classes_in types d)
+unfolding classes_in
+classes_fail types d list e unset read fails =
+    fails_as e _ _
+    (ap (λ (r : Result (Unit {0}) Refusal). r >>= λ u. entries_at [] d (codes "classes") >>= λ list. each (at_entry (λ path. class_at path (length types)) (codes "/classes")) 0 (bare_draft types) list) unset
+    ∙ ap (λ (r : Result Items Refusal). r >>= λ list. each (at_entry (λ path. class_at path (length types)) (codes "/classes")) 0 (bare_draft types) list) read) fails

@@ -1,0 +1,11 @@
+use Rattle.std.proofs.Common.{◌≡◌, Ok, codes, subst}
+use Rattle.builder_defs.specs.Document.{entries_at}
+use Rattle.std.proofs.lemmas.Result.{err_from_is_err_and}
+use Rattle.serde_json.specs.View.{view, items_view}
+use Rattle.builder_defs.proofs.Sections.{flags_fail}
+use Rattle.builder_defs.proofs.reading.flags_of.Goals as goal
+
+pub returns-in_err-read_flags_types : goal.returns-in_err-read_flags_types
+returns-in_err-read_flags_types c =
+    let p = err_from_is_err_and c.from_residual-in_err-read_flags_types.result c.from_residual-in_err-read_flags_types.ensures.1 in
+    rw (p.1, p.2) (flags_fail c.args.types.now (view c.args.part.value.now) (items_view c.in_ok-items.items.now) c.in_err-read_flags_types.field-0.0 (subst (λ path. entries_at path (view c.args.part.value.now) (codes "flags") ≡ Ok (items_view c.in_ok-items.items.now)) c.requires c.in_ok-items.ensures) c.in_err-read_flags_types.ensures)
