@@ -11,6 +11,8 @@ use Rattle.ui_machine.specs.Definition.Properties.{Spec}
 use Rattle.std.specs.Str.{bytes_eq}
 use Rattle.ui_machine.specs.Definition.Kinds as kinds
 use Rattle.ui_machine.specs.Rules.Ancestry.{lineage}
+use Rattle.ui_machine.specs.Rules.Transform.{least, greatest}
+use Rattle.std.proofs.lemmas.Int.{ints}
 use Rattle.param_specs.specs.declared.error.SpecFault.{SpecFault}
 use Rattle.param_specs.specs.Table.{own_of, specs_of, install_fault, canonical_spec}
 use Rattle.builder_defs.specs.Meaning.{Entry, plain_object, IsPlain, IsPlainKind, IsSound}
@@ -65,17 +67,33 @@ plain_get (x ∷ ss) (suc i) s p h = plain_get ss i s p.1 h
 abbrev pub PlainKind : List GType → Kind → Type 0
 PlainKind types k = (name : List ℕ) → IsPlain (property_spec types name k)
 
-named_plain : (r : Refusal) (types : List GType) (x y z : Bool)
-    → OnRead (PlainKind types) (or_refused r (if x then Some kinds.bool else (if y then Some (kinds.whole kinds.int) else (if z then Some kinds.text else None))))
-named_plain r types true y z = λ name. record { kind = tt; flags = refl; strong = refl; default = λ all. refl }
-named_plain r types false true z = λ name. record { kind = (refl, refl); flags = refl; strong = refl; default = λ all. refl }
-named_plain r types false false true = λ name. record { kind = tt; flags = refl; strong = refl; default = λ all. refl }
-named_plain r types false false false = tt
+whole_kind : (k : kinds.Whole) (s : Spec) → s.low ≡ least k → s.high ≡ greatest k → IsPlainKind (kinds.whole k) s
+whole_kind kinds.int s low high = (omega (arith, ints, low), omega (arith, ints, low), omega (arith, ints, high), omega (arith, ints, high))
+whole_kind kinds.uint s low high = (omega (arith, ints, low), omega (arith, ints, low), omega (arith, ints, high), omega (arith, ints, high))
+whole_kind kinds.int64 s low high = (omega (arith, ints, low), omega (arith, ints, low), omega (arith, ints, high), omega (arith, ints, high))
+whole_kind kinds.uint64 s low high = (omega (arith, ints, low), omega (arith, ints, low), omega (arith, ints, high), omega (arith, ints, high))
+
+named_plain : (r : Refusal) (types : List GType) (u v w x y z : Bool)
+    → OnRead (PlainKind types) (or_refused r
+    (if u then Some kinds.bool else (if v then Some (kinds.whole kinds.int) else (if w then Some (kinds.whole kinds.uint) else
+    (if x then Some (kinds.whole kinds.int64) else (if y then Some (kinds.whole kinds.uint64) else (if z then Some kinds.text else None)))))))
+named_plain r types true v w x y z = λ name. record { kind = tt; flags = refl; strong = refl; default = λ all. refl }
+named_plain r types false true w x y z =
+    λ name. record { kind = whole_kind kinds.int (property_spec types name (kinds.whole kinds.int)) refl refl; flags = refl; strong = refl; default = λ all. refl }
+named_plain r types false false true x y z =
+    λ name. record { kind = whole_kind kinds.uint (property_spec types name (kinds.whole kinds.uint)) refl refl; flags = refl; strong = refl; default = λ all. refl }
+named_plain r types false false false true y z =
+    λ name. record { kind = whole_kind kinds.int64 (property_spec types name (kinds.whole kinds.int64)) refl refl; flags = refl; strong = refl; default = λ all. refl }
+named_plain r types false false false false true z =
+    λ name. record { kind = whole_kind kinds.uint64 (property_spec types name (kinds.whole kinds.uint64)) refl refl; flags = refl; strong = refl; default = λ all. refl }
+named_plain r types false false false false false true = λ name. record { kind = tt; flags = refl; strong = refl; default = λ all. refl }
+named_plain r types false false false false false false = tt
 
 kind_plain : (path : List ℕ) (d : Data) (types : List GType) → OnRead (PlainKind types) (kind_at path d)
 kind_plain path d types =
     on_bind (λ x. Unit {0}) (PlainKind types) (text_at path d (codes "kind")) (λ word. or_refused (shape (under path (codes "kind"))) (kind_named word)) (on_all _)
-    (λ word u. named_plain _ types (bytes_eq word (codes "bool")) (bytes_eq word (codes "int")) (bytes_eq word (codes "text")))
+    (λ word u. named_plain _ types (bytes_eq word (codes "bool")) (bytes_eq word (codes "int")) (bytes_eq word (codes "uint"))
+    (bytes_eq word (codes "int64")) (bytes_eq word (codes "uint64")) (bytes_eq word (codes "text")))
 
 spec_plain : (path : List ℕ) (types : List GType) (specs : List Spec) (d : Data) → OnRead IsPlain (spec_at path types specs d)
 unfolding spec_at
@@ -104,10 +122,7 @@ installed_plain path (Some cause) own all = tt
 
 canonical_kind : (k : Kind) (s : Spec) → IsPlainKind k s → IsPlainKind k (canonical_spec s)
 canonical_kind kinds.bool s p = p
-canonical_kind (kinds.whole kinds.int) s p = p
-canonical_kind (kinds.whole kinds.uint) s p = p
-canonical_kind (kinds.whole kinds.int64) s p = p
-canonical_kind (kinds.whole kinds.uint64) s p = p
+canonical_kind (kinds.whole k) s p = p
 canonical_kind kinds.text s p = p
 canonical_kind (kinds.enum t) s p = p
 canonical_kind (kinds.flags t) s p = p

@@ -1,5 +1,5 @@
 -- Which definition and event of the machine the code's stand for.
-use Rattle.std.specs.Prelude.{◌≡◌, ℕ, ◌<◌, ◌≤◌, true, false, List, [], ◌∷◌, map, length, Option, None, Some, String, string_bytes, codes, slice_get}
+use Rattle.std.specs.Prelude.{◌≡◌, ℕ, ◌<◌, ◌≤◌, ◌≤ℤ◌, true, false, List, [], ◌∷◌, map, length, Option, None, Some, String, string_bytes, codes, slice_get}
 use Rattle.std.specs.Global.{Global}
 use Rattle.ui_machine.specs.Seq.{listed}
 use Rattle.ui_machine.specs.Definition.Kinds as kinds
@@ -54,13 +54,10 @@ meaning types specs objects = record {
   most_handlers = 0;
 }
 
--- a property of a kind that there is so far: a truth value, a number of the whole range, or a text
+-- a property of a kind that there is so far: a truth value, a number of a range within its kind, or a text
 abbrev pub IsPlainKind : kinds.Kind → Spec → Type 0
 IsPlainKind kinds.bool s = Unit {0}
-IsPlainKind (kinds.whole kinds.int) s = (s.low ≡ least kinds.int) × (s.high ≡ greatest kinds.int)
-IsPlainKind (kinds.whole kinds.uint) s = ⊥
-IsPlainKind (kinds.whole kinds.int64) s = ⊥
-IsPlainKind (kinds.whole kinds.uint64) s = ⊥
+IsPlainKind (kinds.whole k) s = (least k ≤ℤ s.low) × (s.low ≤ℤ greatest k) × (least k ≤ℤ s.high) × (s.high ≤ℤ greatest k)
 IsPlainKind kinds.text s = Unit {0}
 IsPlainKind (kinds.enum t) s = ⊥
 IsPlainKind (kinds.flags t) s = ⊥

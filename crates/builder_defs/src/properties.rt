@@ -37,6 +37,12 @@ fn kind_named(word: &str) -> Option<Kind>
         Some(Kind::Bool)
     } else if word == "int" {
         Some(Kind::Int)
+    } else if word == "uint" {
+        Some(Kind::UInt)
+    } else if word == "int64" {
+        Some(Kind::Int64)
+    } else if word == "uint64" {
+        Some(Kind::UInt64)
     } else if word == "text" {
         Some(Kind::Text)
     } else {

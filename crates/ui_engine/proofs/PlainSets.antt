@@ -1,13 +1,12 @@
 -- A set of a plain property, by what validation says of the value.
-use Rattle.std.proofs.Common.{◌≡◌, ℕ, Bool, true, false, cond, ◌&&◌, ◌||◌, not, List, [], Option, Ok, Err, refl, sym, ap, ◌∙◌, arith, ℤ}
-use Rattle.std.proofs.lemmas.Int.{ints}
+use Rattle.std.proofs.Common.{◌≡◌, ℕ, Bool, true, false, cond, ◌&&◌, ◌||◌, not, List, [], Option, Ok, Err, refl, sym, ap, subst, ◌∙◌, ℤ, pos}
 use Rattle.ui_machine.specs.declared.arm.Arm.{Arm}
 use Rattle.ui_machine.specs.declared.arm.Arm.TheVariants as arms
 use Rattle.ui_machine.specs.Definition.Kinds as kinds
 use Rattle.ui_machine.specs.Definition.Values.{Value}
 use Rattle.ui_machine.specs.Definition.Values as values
 use Rattle.ui_machine.specs.Definition.Types.{GType}
-use Rattle.ui_machine.specs.Rules.Transform.{least, greatest, same_value}
+use Rattle.ui_machine.specs.Rules.Transform.{same_value, same_whole}
 use Rattle.ui_machine.specs.Rules.Validation.{clamp}
 use Rattle.ui_machine.specs.Definition.Properties.{Spec, is_explicit_notify, is_lax, has_flags}
 use Rattle.ui_machine.specs.Definition.{Definition}
@@ -56,32 +55,40 @@ knows_class f (of_value.Object t o) (kinds.enum u) s p h = cc
 knows_class f (of_value.Object t o) (kinds.flags u) s p h = cc
 knows_class f (of_value.Object t o) (kinds.object u) s p h = absurd p
 
-within : (s : specs.Spec) → s.min ≡ least kinds.int → s.max ≡ greatest kinds.int → IsWithin kinds.int s
-within s low high = record {
-  min_low = omega (arith, ints, low);
-  min_high = omega (arith, ints, low);
-  max_low = omega (arith, ints, high);
-  max_high = omega (arith, ints, high);
-}
+whole_same : (w k : kinds.Whole) → same_whole w k ≡ true → w ≡ k
+whole_same kinds.int kinds.int h = refl
+whole_same kinds.int kinds.uint h = cc
+whole_same kinds.int kinds.int64 h = cc
+whole_same kinds.int kinds.uint64 h = cc
+whole_same kinds.uint kinds.int h = cc
+whole_same kinds.uint kinds.uint h = refl
+whole_same kinds.uint kinds.int64 h = cc
+whole_same kinds.uint kinds.uint64 h = cc
+whole_same kinds.int64 kinds.int h = cc
+whole_same kinds.int64 kinds.uint h = cc
+whole_same kinds.int64 kinds.int64 h = refl
+whole_same kinds.int64 kinds.uint64 h = cc
+whole_same kinds.uint64 kinds.int h = cc
+whole_same kinds.uint64 kinds.uint h = cc
+whole_same kinds.uint64 kinds.int64 h = cc
+whole_same kinds.uint64 kinds.uint64 h = refl
 
-takes_int : (types : List GType) (k : kinds.Kind) (s : specs.Spec) (n : ℤ) → IsPlainKind k (spec_view s) → has_kind (values.whole kinds.int n) k ≡ true → IsWithin kinds.int s
-takes_int types kinds.bool s n p h = cc
-takes_int types (kinds.whole kinds.int) s n p h = within s p.0 p.1
-takes_int types (kinds.whole kinds.uint) s n p h = absurd p
-takes_int types (kinds.whole kinds.int64) s n p h = absurd p
-takes_int types (kinds.whole kinds.uint64) s n p h = absurd p
-takes_int types kinds.text s n p h = cc
-takes_int types (kinds.enum u) s n p h = absurd p
-takes_int types (kinds.flags u) s n p h = absurd p
-takes_int types (kinds.object u) s n p h = absurd p
+takes_whole : (w : kinds.Whole) (k : kinds.Kind) (s : specs.Spec) (n : ℤ) → IsPlainKind k (spec_view s) → has_kind (values.whole w n) k ≡ true → IsWithin w s
+takes_whole w kinds.bool s n p h = cc
+takes_whole w (kinds.whole k) s n p h =
+    subst (λ v. IsWithin v s) (sym (whole_same w k h)) (record { min_low = p.0; min_high = p.1; max_low = p.2; max_high = p.3 })
+takes_whole w kinds.text s n p h = cc
+takes_whole w (kinds.enum u) s n p h = absurd p
+takes_whole w (kinds.flags u) s n p h = absurd p
+takes_whole w (kinds.object u) s n p h = absurd p
 
 -- no other value is of a plain kind
 abbrev IsOther : coded.Value → Type 0
 IsOther (of_value.Bool b) = ⊥
 IsOther (of_value.Int n) = ⊥
-IsOther (of_value.UInt n) = Unit {0}
-IsOther (of_value.Int64 n) = Unit {0}
-IsOther (of_value.UInt64 n) = Unit {0}
+IsOther (of_value.UInt n) = ⊥
+IsOther (of_value.Int64 n) = ⊥
+IsOther (of_value.UInt64 n) = ⊥
 IsOther (of_value.Text t) = ⊥
 IsOther (of_value.Enum t n) = Unit {0}
 IsOther (of_value.Flags t n) = Unit {0}
@@ -90,34 +97,10 @@ IsOther (of_value.Object t o) = Unit {0}
 not_other : (v : coded.Value) (k : kinds.Kind) (s : Spec) → IsPlainKind k s → has_kind (value_view v) k ≡ true → IsOther v → ⊥
 not_other (of_value.Bool b) k s p h o = o
 not_other (of_value.Int n) k s p h o = o
+not_other (of_value.UInt n) k s p h o = o
+not_other (of_value.Int64 n) k s p h o = o
+not_other (of_value.UInt64 n) k s p h o = o
 not_other (of_value.Text t) k s p h o = o
-not_other (of_value.UInt n) kinds.bool s p h o = cc
-not_other (of_value.UInt n) (kinds.whole kinds.int) s p h o = cc
-not_other (of_value.UInt n) (kinds.whole kinds.uint) s p h o = p
-not_other (of_value.UInt n) (kinds.whole kinds.int64) s p h o = p
-not_other (of_value.UInt n) (kinds.whole kinds.uint64) s p h o = p
-not_other (of_value.UInt n) kinds.text s p h o = cc
-not_other (of_value.UInt n) (kinds.enum u) s p h o = p
-not_other (of_value.UInt n) (kinds.flags u) s p h o = p
-not_other (of_value.UInt n) (kinds.object u) s p h o = p
-not_other (of_value.Int64 n) kinds.bool s p h o = cc
-not_other (of_value.Int64 n) (kinds.whole kinds.int) s p h o = cc
-not_other (of_value.Int64 n) (kinds.whole kinds.uint) s p h o = p
-not_other (of_value.Int64 n) (kinds.whole kinds.int64) s p h o = p
-not_other (of_value.Int64 n) (kinds.whole kinds.uint64) s p h o = p
-not_other (of_value.Int64 n) kinds.text s p h o = cc
-not_other (of_value.Int64 n) (kinds.enum u) s p h o = p
-not_other (of_value.Int64 n) (kinds.flags u) s p h o = p
-not_other (of_value.Int64 n) (kinds.object u) s p h o = p
-not_other (of_value.UInt64 n) kinds.bool s p h o = cc
-not_other (of_value.UInt64 n) (kinds.whole kinds.int) s p h o = cc
-not_other (of_value.UInt64 n) (kinds.whole kinds.uint) s p h o = p
-not_other (of_value.UInt64 n) (kinds.whole kinds.int64) s p h o = p
-not_other (of_value.UInt64 n) (kinds.whole kinds.uint64) s p h o = p
-not_other (of_value.UInt64 n) kinds.text s p h o = cc
-not_other (of_value.UInt64 n) (kinds.enum u) s p h o = p
-not_other (of_value.UInt64 n) (kinds.flags u) s p h o = p
-not_other (of_value.UInt64 n) (kinds.object u) s p h o = p
 not_other (of_value.Enum t n) kinds.bool s p h o = cc
 not_other (of_value.Enum t n) (kinds.whole w) s p h o = cc
 not_other (of_value.Enum t n) kinds.text s p h o = cc
@@ -140,11 +123,11 @@ not_other (of_value.Object t x) (kinds.object u) s p h o = p
 -- what validation asks for holds
 pub takes : (types : List GType) (k : kinds.Kind) (s : specs.Spec) (v : coded.Value) → IsPlainKind k (spec_view s) → has_kind (value_view v) k ≡ true → Takes types s v
 takes types k s (of_value.Bool b) p h = tt
-takes types k s (of_value.Int n) p h = takes_int types k s n p h
+takes types k s (of_value.Int n) p h = takes_whole kinds.int k s n p h
 takes types k s (of_value.Text t) p h = tt
-takes types k s (of_value.UInt n) p h = absurd (not_other (of_value.UInt n) k (spec_view s) p h tt)
-takes types k s (of_value.Int64 n) p h = absurd (not_other (of_value.Int64 n) k (spec_view s) p h tt)
-takes types k s (of_value.UInt64 n) p h = absurd (not_other (of_value.UInt64 n) k (spec_view s) p h tt)
+takes types k s (of_value.UInt n) p h = takes_whole kinds.uint k s (pos n) p h
+takes types k s (of_value.Int64 n) p h = takes_whole kinds.int64 k s n p h
+takes types k s (of_value.UInt64 n) p h = takes_whole kinds.uint64 k s (pos n) p h
 takes types k s (of_value.Enum t n) p h = absurd (not_other (of_value.Enum t n) k (spec_view s) p h tt)
 takes types k s (of_value.Flags t n) p h = absurd (not_other (of_value.Flags t n) k (spec_view s) p h tt)
 takes types k s (of_value.Object t o) p h = tt

@@ -27,7 +27,10 @@ abbrev pub kind_named : List ℕ → Option Kind
 kind_named word =
     if bytes_eq word (codes "bool") then Some kinds.bool else
     (if bytes_eq word (codes "int") then Some (kinds.whole kinds.int) else
-    (if bytes_eq word (codes "text") then Some kinds.text else None))
+    (if bytes_eq word (codes "uint") then Some (kinds.whole kinds.uint) else
+    (if bytes_eq word (codes "int64") then Some (kinds.whole kinds.int64) else
+    (if bytes_eq word (codes "uint64") then Some (kinds.whole kinds.uint64) else
+    (if bytes_eq word (codes "text") then Some kinds.text else None)))))
 
 -- the least and the greatest number of a kind, 0 where it is no kind of whole numbers
 abbrev pub lowest : Kind → ℤ
