@@ -10,3 +10,5 @@ pub mod BeginProofs
 pub mod RaisesProofs
 pub mod PairCostProofs
 pub mod NotifyCostProofs
+pub mod AbsentProofs
+pub mod MakingCostProofs

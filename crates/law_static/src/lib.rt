@@ -9,6 +9,7 @@ ghost use Rattle.law_static.specs.Subclass.{NamesFind, SpecsInherit, SignalsInhe
 ghost use Rattle.law_static.specs.Fits.{HoldsFits, HoldsLive, HoldsKind, HoldsSet, OperandsStand, ClassesAgree, GivenHold, GivenFit};
 ghost use Rattle.law_static.specs.Code.{InstructionsTaken, ProgramsGoOn, ProgramsBegin, FirstRegistersFit};
 ghost use Rattle.law_static.specs.Raises.{ChannelsKnown, ConnectionsKnown, SourcesKnown};
+ghost use Rattle.law_static.specs.MakingCost.{AbsentCostsNothing, ConstructionCosts};
 ghost use Rattle.law_typing.specs.Laws.StepsKeepGood.{SourcesBegin};
 
 /// What stands under rising numbers is found by its number, and bindings that do cost together no more than those of the definition.
@@ -72,4 +73,10 @@ pub fn raises()
     ensures channels { ChannelsKnown }
     ensures connections { ConnectionsKnown }
     ensures sources { SourcesKnown }
+{}
+
+/// What is not raised costs nothing, and a construction costs no more than what the making of its place's object raises.
+pub fn making()
+    ensures absent { AbsentCostsNothing }
+    ensures cheap { ConstructionCosts }
 {}
