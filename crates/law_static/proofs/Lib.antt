@@ -12,3 +12,4 @@ pub mod PairCostProofs
 pub mod NotifyCostProofs
 pub mod AbsentProofs
 pub mod MakingCostProofs
+pub mod RequestProofs
