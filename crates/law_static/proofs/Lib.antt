@@ -13,3 +13,4 @@ pub mod NotifyCostProofs
 pub mod AbsentProofs
 pub mod MakingCostProofs
 pub mod RequestProofs
+pub mod BuildCostProofs

@@ -10,7 +10,7 @@ ghost use Rattle.law_static.specs.Fits.{HoldsFits, HoldsLive, HoldsKind, HoldsSe
 ghost use Rattle.law_static.specs.Code.{InstructionsTaken, ProgramsGoOn, ProgramsBegin, FirstRegistersFit};
 ghost use Rattle.law_static.specs.Raises.{ChannelsKnown, ConnectionsKnown, SourcesKnown};
 ghost use Rattle.law_static.specs.MakingCost.{AbsentCostsNothing, ConstructionCosts};
-ghost use Rattle.law_typing.specs.Laws.StepsKeepGood.{RequestsBegin, SourcesBegin};
+ghost use Rattle.law_typing.specs.Laws.StepsKeepGood.{BuildBegins, RequestsBegin, SourcesBegin};
 
 /// What stands under rising numbers is found by its number, and bindings that do cost together no more than those of the definition.
 pub fn rising()
@@ -25,8 +25,10 @@ pub fn plan()
     ensures notifications { NotifyCosts }
 {}
 
-/// A due source begins well from any world at rest, within its bound and the depth, and so does a request that names no released object.
+/// The build of an accepted definition begins well, within its bound and the depth. So does from any world at rest a due source, and a request
+/// that names no released object.
 pub fn beginnings()
+    ensures build { BuildBegins }
     ensures sources { SourcesBegin }
     ensures requests { RequestsBegin }
 {}
