@@ -1,5 +1,5 @@
 -- A handler that bytecode connects.
-use Rattle.std.proofs.Common.{◌≡◌, inl, inr, ◌⊎◌, refl, sym, ap, subst, ◌∙◌, ℕ, zero, suc, ◌+◌, ◌<◌, ◌≤◌, Bool, true, false, cond, List, [], ◌∷◌, ◌++◌, length, Option, None, Some, arith}
+use Rattle.std.proofs.Common.{◌≡◌, inl, inr, refl, sym, ap, subst, ◌∙◌, ℕ, suc, ◌<◌, ◌≤◌, Bool, true, false, cond, List, [], ◌∷◌, ◌++◌, length, Some, arith}
 use Rattle.std.specs.Prelude.{not, ◌&&◌, nat_eq}
 use Rattle.std.specs.List.{filter}
 use Rattle.std.proofs.lemmas.Bool.{eqb-true}
@@ -15,7 +15,7 @@ use Rattle.law_typing.specs.Verdict.Accepted.{Each}
 use Rattle.law_typing.specs.Laws.{IsIn}
 use Rattle.law_typing.specs.Good.Standing.{Standing, Rising}
 use Rattle.law_typing.specs.Good.Handlers.{HandlerGood, runs_at, running_for, is_connected, ChannelGood, HandlersGood}
-use Rattle.law_typing.proofs.Lists.{both_parts, each_in, greatest_in}
+use Rattle.law_typing.proofs.Lists.{both_parts, greatest_in}
 use Rattle.law_typing.proofs.EdgeProofs.{append_right}
 use Rattle.law_kept.specs.Connect.{MayConnect, HandlerConnects}
 use Rattle.law_kept.proofs.Left.{each_to}

@@ -1,7 +1,7 @@
 -- A channel that is not there costs nothing: it is in no table, and in no pair.
-use Rattle.std.proofs.Common.{◌≡◌, inl, inr, ◌⊎◌, refl, sym, ap, subst, ◌∙◌, ℕ, zero, suc, ◌+◌, ◌<◌, Bool, true, false, cond, List, [], ◌∷◌, ◌++◌, length, map, Option, None, Some, slice_get, arith, lt-ltb}
+use Rattle.std.proofs.Common.{◌≡◌, refl, sym, ap, ◌∙◌, ℕ, suc, ◌+◌, ◌<◌, Bool, true, false, cond, List, [], ◌∷◌, ◌++◌, length, map, Option, None, Some, slice_get, arith, lt-ltb}
 use Rattle.std.specs.Prelude.{◌&&◌, nat_lt}
-use Rattle.std.specs.List.{filter, flat_map}
+use Rattle.std.specs.List.{filter}
 use Rattle.ui_machine.specs.Definition.{Definition}
 use Rattle.ui_machine.specs.Definition.Properties.{Spec, is_readable}
 use Rattle.ui_machine.specs.Definition.Signals.{Signal}
@@ -9,12 +9,12 @@ use Rattle.ui_machine.specs.Definition.Places.{Bind}
 use Rattle.ui_machine.specs.Definition.Lookups.{specs_of}
 use Rattle.law_typing.specs.Rules.RegisterKinds.{class_at, place_numbers}
 use Rattle.law_typing.specs.Rules.BindingRules.{word_of}
-use Rattle.law_typing.specs.Graph.Channels.{Channel, constructed, property, signal, same_channel, of_class, constructed_at, spec_if, spec_at, is_readable_one, signals_at, readable_from, signals_from, emitted_at, is_filled, channels_at, channels, is_channel, is_pair, source_of, target_of}
+use Rattle.law_typing.specs.Graph.Channels.{Channel, constructed, property, same_channel, of_class, constructed_at, spec_if, spec_at, is_readable_one, signals_at, readable_from, signals_from, emitted_at, is_filled, channels_at, channels, is_channel, is_pair, source_of, target_of}
 use Rattle.law_typing.specs.Rules.Sites.{sites}
 use Rattle.law_typing.specs.Graph.{Raised, graph, raised_at, connections, is_before, in_order, pairs_of}
-use Rattle.law_typing.specs.Graph.Tables.{Tables, entry}
-use Rattle.law_typing.specs.Graph.Costs.{other_end_in, other_end, with_other, node_cost, channel_cost}
-use Rattle.law_typing.specs.Verdict.Accepted.{Each, Accepted}
+use Rattle.law_typing.specs.Graph.Tables.{entry}
+use Rattle.law_typing.specs.Graph.Costs.{other_end_in, other_end, with_other, channel_cost}
+use Rattle.law_typing.specs.Verdict.Accepted.{Each}
 use Rattle.law_typing.proofs.Lists.{same_channel_true, each_append, each_flat}
 use Rattle.law_typing.proofs.PairProofs.{PairRead, no_words, pair_read}
 use Rattle.law_static.specs.MakingCost.{AbsentCostsNothing}

@@ -1,5 +1,5 @@
 -- The build of an accepted definition begins well: its items cost no more than the report says, and go no deeper.
-use Rattle.std.proofs.Common.{◌≡◌, inl, inr, ◌⊎◌, refl, sym, subst, ap, ◌∙◌, ℕ, zero, suc, ◌+◌, ◌<◌, ◌≤◌, Bool, true, false, cond, List, [], ◌∷◌, ◌++◌, length, map, Option, None, Some, slice_get, arith}
+use Rattle.std.proofs.Common.{◌≡◌, refl, sym, ap, ◌∙◌, ℕ, zero, suc, ◌+◌, ◌<◌, ◌≤◌, Bool, true, false, cond, List, [], ◌∷◌, ◌++◌, length, map, Option, None, Some, slice_get, arith}
 use Rattle.std.specs.Prelude.{◌&&◌, nat_le}
 use Rattle.std.specs.List.{list_all, filter, flat_map}
 use Rattle.std.proofs.lemmas.Bool.{le-leb}
@@ -8,21 +8,20 @@ use Rattle.ui_machine.specs.Definition.Properties.{has_flags}
 use Rattle.ui_machine.specs.Definition.{Definition}
 use Rattle.ui_machine.specs.Definition.Places.{Given, value, named, GivenProperty, Attached, Place, Bind}
 use Rattle.ui_machine.specs.State.Tasks.{Item, makes, adopts, forwards, binds, connects}
-use Rattle.ui_machine.specs.Rules.Build.{adopts_if, made_items, forward_given, forward_of, forward_items, numbered, connected_items, build_items, is_making}
+use Rattle.ui_machine.specs.Rules.Build.{adopts_if, made_items, forward_given, forward_of, forward_items, numbered, connected_items, is_making}
 use Rattle.ui_machine.specs.Rules.Construction.{is_forward}
 use Rattle.law_typing.specs.Rules.BindingRules.{word_of}
 use Rattle.law_typing.specs.Graph.Channels.{Channel, property, is_channel, present, is_pair, source_of, target_of}
-use Rattle.law_typing.specs.Graph.{graph, raised_by_making, makings_from, forwards_of, forwards_from, built_objects, created_by}
+use Rattle.law_typing.specs.Graph.{graph, raised_by_making, makings_from, forwards_of, forwards_from, built_objects}
 use Rattle.law_typing.specs.Graph.Tables.{Tables, entry, greatest}
-use Rattle.law_typing.specs.Graph.Costs.{with_other, other_end, node_cost, making_cost, targets_cost}
+use Rattle.law_typing.specs.Graph.Costs.{with_other, other_end, node_cost, making_cost}
 use Rattle.law_typing.specs.Graph.Depths.{depth_within, depth_within_if, raised_of, property_depth, making_depth, depth}
-use Rattle.law_typing.specs.Verdict.Accepted.{Each, Accepted}
-use Rattle.law_typing.specs.Laws.{IsIn}
-use Rattle.law_typing.specs.Laws.WellRead.{is_object, objects_of, WellRead}
+use Rattle.law_typing.specs.Verdict.Accepted.{Accepted}
+use Rattle.law_typing.specs.Laws.WellRead.{is_object}
 use Rattle.law_typing.specs.Laws.StepsKeepGood.{BuildBegins}
 use Rattle.law_typing.specs.Good.Builds.{item_cost, item_depth}
 use Rattle.law_typing.specs.Good.DueCosts.{is_setting_below, transfer_cost, transfer_depth}
-use Rattle.law_typing.proofs.Lists.{each_in, greatest_in}
+use Rattle.law_typing.proofs.Lists.{each_in}
 use Rattle.law_typing.proofs.OneSolutionProofs.{entry_below}
 use Rattle.law_typing.proofs.PairProofs.{no_words, pair_read}
 use Rattle.law_typing.proofs.BuildBegins.{begins}

@@ -1,25 +1,24 @@
 -- What the making of an object costs: each set of its construction is one of what its making raises, and no property is set twice.
-use Rattle.std.proofs.Common.{◌≡◌, refl, sym, ap, subst, ◌∙◌, ℕ, zero, suc, ◌+◌, ◌≤◌, Bool, true, false, cond, List, [], ◌∷◌, ◌++◌, map, Option, None, Some, slice_get, arith}
+use Rattle.std.proofs.Common.{◌≡◌, refl, sym, ap, ◌∙◌, ℕ, zero, suc, ◌+◌, ◌≤◌, Bool, true, false, cond, List, [], ◌∷◌, ◌++◌, map, Option, None, Some, slice_get, arith}
 use Rattle.std.specs.Prelude.{not, ◌&&◌, ◌||◌, nat_eq, option_map, reverse}
-use Rattle.std.specs.List.{list_any, filter}
-use Rattle.std.proofs.lemmas.Bool.{eqb-true, eqb-false, eq-eqb, or_parts}
+use Rattle.std.specs.List.{list_any}
+use Rattle.std.proofs.lemmas.Bool.{eqb-true, eq-eqb, or_parts}
 use Rattle.ui_machine.specs.Seq.{read, total}
 use Rattle.ui_machine.specs.Definition.Properties.{Spec}
 use Rattle.ui_machine.specs.Definition.{Definition}
 use Rattle.ui_machine.specs.Definition.Values.{Value}
 use Rattle.ui_machine.specs.Definition.Places.{GivenProperty, Place}
-use Rattle.ui_machine.specs.Definition.Lookups.{class_of, place_at, specs_of, spec_of}
+use Rattle.ui_machine.specs.Definition.Lookups.{class_of, specs_of}
 use Rattle.ui_machine.specs.Rules.Ancestry.{lineage}
 use Rattle.ui_machine.specs.State.Config.{World}
 use Rattle.ui_machine.specs.State.Tasks.{Making, sets, runs, thaws}
-use Rattle.ui_machine.specs.Rules.Construction.{is_forward, given_at, given_value, not_forward, is_at_construction, construct_sets, or_default, set_of, no_spec, given_sets, run_of, constructed_runs, construction}
-use Rattle.law_typing.specs.Rules.RegisterKinds.{class_at}
+use Rattle.ui_machine.specs.Rules.Construction.{is_forward, given_at, given_value, not_forward, is_at_construction, construct_sets, or_default, set_of, no_spec, given_sets, run_of, constructed_runs}
 use Rattle.law_typing.specs.Graph.Channels.{Channel, constructed, property, programs_of, of_class, constructed_at, is_filled, is_channel, present}
-use Rattle.law_typing.specs.Graph.{graph, is_given, set_from, raised_by_making}
-use Rattle.law_typing.specs.Graph.Tables.{Tables, entry, of_program}
-use Rattle.law_typing.specs.Graph.Costs.{other_end, with_other, node_cost, programs_cost, making_cost}
+use Rattle.law_typing.specs.Graph.{graph, is_given, set_from}
+use Rattle.law_typing.specs.Graph.Tables.{Tables, entry}
+use Rattle.law_typing.specs.Graph.Costs.{other_end, with_other, node_cost, programs_cost}
 use Rattle.law_typing.specs.Verdict.Accepted.{Each, Accepted}
-use Rattle.law_typing.specs.Laws.WellRead.{no_two, GivenRead, PlaceRead}
+use Rattle.law_typing.specs.Laws.WellRead.{no_two, GivenRead}
 use Rattle.law_typing.specs.Good.Builds.{step_cost}
 use Rattle.law_typing.proofs.Lists.{both_parts, each_flat}
 use Rattle.law_static.specs.MakingCost.{ConstructionCosts}

@@ -1,27 +1,23 @@
 -- A request of an object that was not released begins well from any world at rest.
-use Rattle.std.proofs.Common.{◌≡◌, inl, inr, ◌⊎◌, refl, sym, subst, ap, ◌∙◌, ℕ, zero, suc, ◌+◌, ◌<◌, ◌≤◌, Bool, true, false, cond, List, [], ◌∷◌, ◌++◌, length, Option, None, Some, slice_get, arith}
-use Rattle.std.specs.Prelude.{◌||◌}
+use Rattle.std.proofs.Common.{◌≡◌, refl, sym, subst, ap, ℕ, zero, suc, ◌+◌, ◌<◌, ◌≤◌, Bool, true, false, cond, List, [], ◌∷◌, ◌++◌, length, None, Some, slice_get, arith}
 use Rattle.std.specs.List.{AllZip, list_any, flat_map}
 use Rattle.std.proofs.lemmas.Bool.{or_parts}
 use Rattle.ui_machine.specs.Seq.{read, total}
 use Rattle.ui_machine.specs.Definition.Kinds.{Kind}
 use Rattle.ui_machine.specs.Definition.{Definition}
 use Rattle.ui_machine.specs.Definition.Places.{Given, value, named, Place}
-use Rattle.ui_machine.specs.Definition.Lookups.{place_at}
 use Rattle.ui_machine.specs.State.Objects.{Object}
 use Rattle.ui_machine.specs.State.Bindings.{Binding}
 use Rattle.ui_machine.specs.State.Tasks.{Request, Task, Carrying}
 use Rattle.ui_machine.specs.State.Tasks as config
 use Rattle.ui_machine.specs.State.Config.{Held, unbuilt, built, released, World, held_at}
 use Rattle.ui_machine.specs.Rules.Events.{is_released, gives_released, names_released}
-use Rattle.law_typing.specs.Graph.Channels.{property, signal, Entry}
-use Rattle.law_typing.specs.Graph.Channels as entries
+use Rattle.law_typing.specs.Graph.Channels.{property, signal}
 use Rattle.law_typing.specs.Graph.{Raised, graph}
-use Rattle.law_typing.specs.Graph.Tables.{Tables, entry}
+use Rattle.law_typing.specs.Graph.Tables.{Tables}
 use Rattle.law_typing.specs.Graph.Costs.{cost}
 use Rattle.law_typing.specs.Graph.Depths.{depth}
 use Rattle.law_typing.specs.Verdict.Accepted.{Each}
-use Rattle.law_typing.specs.Laws.{IsIn}
 use Rattle.law_typing.specs.Laws.WellRead.{GivenFits, IsObject, is_object, objects_of, WellRead}
 use Rattle.law_typing.specs.Good.Standing.{standing, Lives}
 use Rattle.law_typing.specs.Good.Objects.{PeersGood}
@@ -30,7 +26,6 @@ use Rattle.law_typing.specs.Good.Bindings.{BindingGood, BindingsGood, IsBuilt, D
 use Rattle.law_typing.specs.Good.Requests.{entry_of, entry_depth, RequestRead, places_named}
 use Rattle.law_typing.specs.Good.{Resting}
 use Rattle.law_typing.specs.Laws.StepsKeepGood.{RequestsBegin}
-use Rattle.law_typing.proofs.Lists.{each_flat}
 use Rattle.law_typing.proofs.OneSolutionProofs.{entry_below}
 use Rattle.law_static.proofs.SourceProofs.{none_carried, each_to}
 
