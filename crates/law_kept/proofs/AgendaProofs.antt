@@ -1,31 +1,27 @@
 -- The agenda stays good where what it reads stays.
-use Rattle.std.proofs.Common.{◌≡◌, inl, inr, ◌⊎◌, refl, sym, ap, subst, ◌∙◌, ℕ, zero, suc, ◌+◌, ◌<◌, ◌≤◌, Bool, true, false, List, [], ◌∷◌, length, Option, None, Some, slice_get, arith}
+use Rattle.std.proofs.Common.{◌≡◌, inl, inr, ◌⊎◌, refl, sym, ap, subst, ◌∙◌, ℕ, ◌+◌, ◌≤◌, true, List, [], ◌∷◌, length, Option, None, Some, slice_get, arith}
 use Rattle.std.specs.Prelude.{is_some}
 use Rattle.ui_machine.specs.Seq.{read, total}
 use Rattle.ui_machine.specs.Definition.{Definition}
 use Rattle.ui_machine.specs.Definition.Values.{Value}
 use Rattle.ui_machine.specs.Definition.Values as values
-use Rattle.ui_machine.specs.Definition.Properties.{Spec}
 use Rattle.ui_machine.specs.Definition.Signals.{Method}
 use Rattle.ui_machine.specs.State.Handlers.{Handler, handler_of}
 use Rattle.ui_machine.specs.State.Bindings.{Binding, binding_of}
-use Rattle.ui_machine.specs.State.Sources.{Source, source_of}
-use Rattle.ui_machine.specs.State.Peers.{Peer, method_of}
+use Rattle.ui_machine.specs.State.Sources.{source_of}
+use Rattle.ui_machine.specs.State.Peers.{Peer}
 use Rattle.ui_machine.specs.State.Config.{Held, unbuilt, built}
-use Rattle.ui_machine.specs.State.References.{same, in_value, in_task, in_emission}
+use Rattle.ui_machine.specs.State.References.{in_value, in_emission}
 use Rattle.ui_machine.specs.State.Tasks.{PlanEntry, class_handler, handler, Emission, Making, sets, runs, thaws, Frame, Call, Task, Setting, Notifying, Beginning, Emitting, Transferring, Unsetting, Thawing, Running, Answering, Calling, Constructing, Building, Carrying, Due}
 use Rattle.ui_machine.specs.State.Tasks as config
-use Rattle.law_typing.specs.Rules.RegisterKinds.{class_at}
-use Rattle.law_typing.specs.Graph.{number_for}
 use Rattle.law_typing.specs.Graph.Tables.{Tables, of_program}
 use Rattle.law_typing.specs.Verdict.Accepted.{Each}
-use Rattle.law_typing.specs.Good.Standing.{Standing, View, Stands, Lives, lives_by}
-use Rattle.law_typing.specs.Good.ComingDown.{Down, down, answer_of, results, result_of_emission, result_of_signal}
+use Rattle.law_typing.specs.Good.Standing.{View, lives_by}
+use Rattle.law_typing.specs.Good.ComingDown.{Down, down, answer_of, results, result_of_emission}
 use Rattle.law_typing.specs.Good.DueCosts.{turn_cost, turn_depth}
-use Rattle.law_typing.specs.Good.Emissions.{DueGood, SettingGood, NotifyingGood, TransferringGood, TurnGood, EmittingGood, BeginningGood, ThawingGood}
-use Rattle.law_typing.specs.Good.Programs.{RunningGood, CallingGood}
-use Rattle.law_typing.specs.Good.Builds.{HeldIf, MakingGood, ConstructingGood}
-use Rattle.law_typing.specs.Good.Requests.{CarryingGood, places_named}
+use Rattle.law_typing.specs.Good.Emissions.{DueGood, TurnGood, EmittingGood, ThawingGood}
+use Rattle.law_typing.specs.Good.Builds.{HeldIf, MakingGood}
+use Rattle.law_typing.specs.Good.Requests.{places_named}
 use Rattle.law_typing.specs.Good.Agenda.{TaskGood, AgendaGood}
 use Rattle.law_typing.specs.Good.Freezes.{is_due_source}
 use Rattle.law_kept.specs.Agenda.{Stays, Keeps, needed, Serves, AgendaServed}

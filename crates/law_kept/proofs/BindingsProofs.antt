@@ -1,7 +1,6 @@
 -- Bindings that end, begin and end to set, and are made.
-use Rattle.std.proofs.Common.{◌≡◌, inl, inr, ◌⊎◌, refl, sym, ap, subst, ◌∙◌, ℕ, zero, suc, ◌+◌, ◌<◌, ◌≤◌, Bool, true, false, cond, List, [], ◌∷◌, ◌++◌, length, map, Option, None, Some, slice_get, arith}
+use Rattle.std.proofs.Common.{◌≡◌, inl, inr, ◌⊎◌, refl, sym, ap, ◌∙◌, ℕ, suc, ◌+◌, ◌<◌, ◌≤◌, Bool, true, false, cond, List, [], ◌∷◌, ◌++◌, length, Some, arith}
 use Rattle.std.specs.Prelude.{nat_eq}
-use Rattle.std.specs.List.{filter}
 use Rattle.std.proofs.lemmas.Bool.{eqb-true, eqb-false, eq-eqb}
 use Rattle.ui_machine.specs.Seq.{total}
 use Rattle.ui_machine.specs.Definition.{Definition}
@@ -13,9 +12,9 @@ use Rattle.law_typing.specs.Graph.Channels.{is_pair}
 use Rattle.law_typing.specs.Verdict.Accepted.{Each}
 use Rattle.law_typing.specs.Good.Standing.{Standing, Rising}
 use Rattle.law_typing.specs.Good.DueCosts.{unsets}
-use Rattle.law_typing.specs.Good.Bindings.{is_binding, BindingGood, BindingsGood}
+use Rattle.law_typing.specs.Good.Bindings.{is_binding, BindingGood}
 use Rattle.law_kept.specs.Agenda.{Stays}
-use Rattle.law_kept.specs.Bindings.{NoMoreFrozen, BindingsLeft, LeftBindingsFound, OneMore, BindingSets, BindingUnset, NextBinding, BindingMade}
+use Rattle.law_kept.specs.Bindings.{NoMoreFrozen, BindingsLeft, LeftBindingsFound, BindingSets, BindingUnset, BindingMade}
 use Rattle.law_kept.proofs.Left.{each_to, each_left, rising_left, left_found, rising_changed}
 
 abbrev number_of : Binding → ℕ

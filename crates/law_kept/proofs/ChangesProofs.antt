@@ -1,20 +1,15 @@
 -- What a step writes into one object is like what stood there.
-use Rattle.std.proofs.Common.{◌≡◌, inl, inr, ◌⊎◌, refl, sym, ap, subst, ◌∙◌, ℕ, zero, suc, ◌+◌, Bool, true, false, cond, List, [], ◌∷◌, ◌++◌, Option, None, Some, slice_get, arith}
+use Rattle.std.proofs.Common.{◌≡◌, inl, inr, refl, sym, ap, subst, ◌∙◌, ℕ, zero, suc, Bool, true, false, cond, List, [], ◌∷◌, ◌++◌, Some, slice_get, arith}
 use Rattle.std.specs.Prelude.{nat_eq, slice_set}
 use Rattle.std.specs.List.{list_any}
 use Rattle.std.proofs.lemmas.Bool.{eqb-true, eqb-false}
-use Rattle.ui_machine.specs.Definition.Values.{Value}
 use Rattle.ui_machine.specs.Definition.Properties.{Spec, is_readable}
-use Rattle.ui_machine.specs.Definition.{Definition}
 use Rattle.ui_machine.specs.Definition.Lookups.{spec_of}
-use Rattle.ui_machine.specs.State.Objects.{Object}
-use Rattle.ui_machine.specs.State.Config.{World}
 use Rattle.ui_machine.specs.Rules.Validation.{is_valid}
-use Rattle.ui_machine.specs.Rules.NotifyQueue.{queued, less_frozen}
+use Rattle.ui_machine.specs.Rules.NotifyQueue.{queued}
 use Rattle.law_typing.specs.Verdict.Accepted.{Each}
 use Rattle.law_typing.specs.Good.Standing.{standing, class_by}
-use Rattle.law_typing.specs.Good.Objects.{ValueGood, ObjectGood}
-use Rattle.law_kept.specs.Write.{Like}
+use Rattle.law_typing.specs.Good.Objects.{ValueGood}
 use Rattle.law_kept.specs.Changes.{ValueIsLike, QueueIsLike, FreezeIsLike, ThawIsLike}
 
 -- what is there is written over, and the others stay

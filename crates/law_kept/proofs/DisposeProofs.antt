@@ -1,7 +1,6 @@
 -- A dispose: who stands afterwards, and what each object is.
-use Rattle.std.proofs.Common.{◌≡◌, inl, inr, ◌⊎◌, refl, sym, ap, subst, ◌∙◌, ℕ, zero, suc, ◌+◌, Bool, true, false, cond, List, [], ◌∷◌, length, map, Option, None, Some, Ok, slice_get, arith}
-use Rattle.std.proofs.Math.Path.{fun_ext}
-use Rattle.std.specs.Prelude.{not, ◌&&◌, nat_eq, option_map}
+use Rattle.std.proofs.Common.{◌≡◌, inl, inr, ◌⊎◌, refl, sym, ap, subst, ◌∙◌, ℕ, zero, suc, ◌+◌, Bool, true, false, cond, List, [], ◌∷◌, map, Option, None, Some, slice_get, arith}
+use Rattle.std.specs.Prelude.{◌&&◌, nat_eq, option_map}
 use Rattle.std.proofs.lemmas.Bool.{eqb-true, eqb-false}
 use Rattle.ui_machine.specs.Seq.{read, write, total}
 use Rattle.ui_machine.specs.Definition.Names.{same_name, place_from}
@@ -10,25 +9,19 @@ use Rattle.ui_machine.specs.Definition.Kinds as kinds
 use Rattle.ui_machine.specs.Definition.Values.{Value}
 use Rattle.ui_machine.specs.Definition.Values as values
 use Rattle.ui_machine.specs.Definition.Types.{GType}
-use Rattle.ui_machine.specs.Definition.Properties.{Spec, is_readable}
+use Rattle.ui_machine.specs.Definition.Properties.{Spec}
 use Rattle.ui_machine.specs.Definition.{Definition}
-use Rattle.ui_machine.specs.Definition.Lookups.{place_at, specs_of, spec_of}
-use Rattle.ui_machine.specs.Outcome.{Answer}
+use Rattle.ui_machine.specs.Definition.Lookups.{specs_of, spec_of}
 use Rattle.ui_machine.specs.State.Objects.{Object, Objects, living, put}
 use Rattle.ui_machine.specs.State.Peers.{Peer, no_peer, peer_number}
-use Rattle.ui_machine.specs.State.Config.{World, said}
 use Rattle.ui_machine.specs.Rules.Programs.{place_in}
 use Rattle.ui_machine.specs.Rules.Transform.{kind_fits, same_value}
 use Rattle.ui_machine.specs.Rules.Validation.{clamp, is_valid}
-use Rattle.ui_machine.specs.Rules.Construction.{nearest_shape}
-use Rattle.ui_machine.specs.Rules.Disposal.{names_object, is_object, nulled, forgets, lets_go, without_parent, orphans, children_of, closed_if_open, closing, said_if, is_first, peer_of, all_forget, one_lets_go, objects_disposed, without_object, disposed}
-use Rattle.ui_machine.specs.Output.Lines as lines
-use Rattle.law_typing.specs.Verdict.Accepted.{Each}
+use Rattle.ui_machine.specs.Rules.Disposal.{names_object, is_object, nulled, without_parent, orphans}
 use Rattle.law_typing.specs.Laws.{IsIn}
-use Rattle.law_typing.specs.Good.Standing.{Standing, standing, class_by, Lives}
-use Rattle.law_typing.specs.Good.Objects.{ValueGood, PeerGood, FamilyGood, ObjectGood, ObjectsGood}
+use Rattle.law_typing.specs.Good.Standing.{Standing, class_by}
+use Rattle.law_typing.specs.Good.Objects.{ValueGood}
 use Rattle.law_typing.proofs.Lists.{both_parts}
-use Rattle.law_kept.specs.Dispose.{Shed, DisposedKept, DisposeKeeps}
 use Rattle.law_kept.proofs.WriteProofs.{read_here, read_apart}
 
 -- ** one object is changed

@@ -2,14 +2,14 @@
 use Rattle.std.proofs.Common.{◌≡◌, inl, inr, ◌⊎◌, refl, sym, ap, subst, ◌∙◌, ℕ, zero, suc, Bool, true, false, cond, List, [], ◌∷◌, map, Option, None, Some, Ok, slice_get}
 use Rattle.std.proofs.Math.Path.{fun_ext}
 use Rattle.std.specs.Prelude.{nat_eq, option_map}
-use Rattle.std.proofs.lemmas.Bool.{eqb-true, eqb-false, eq-eqb}
+use Rattle.std.proofs.lemmas.Bool.{eqb-true, eqb-false}
 use Rattle.ui_machine.specs.Seq.{read, write, total}
 use Rattle.ui_machine.specs.Definition.Values.{Value}
 use Rattle.ui_machine.specs.Definition.Values as values
 use Rattle.ui_machine.specs.Definition.Properties.{Spec}
 use Rattle.ui_machine.specs.Definition.{Definition}
 use Rattle.ui_machine.specs.Definition.Lookups.{specs_of, spec_of}
-use Rattle.ui_machine.specs.State.Objects.{Object, Objects, living, put}
+use Rattle.ui_machine.specs.State.Objects.{Object, Objects, living}
 use Rattle.ui_machine.specs.State.Peers.{Peer, no_peer, closed_peer, peer_number}
 use Rattle.ui_machine.specs.State.Config.{World, said}
 use Rattle.ui_machine.specs.Rules.Programs.{place_in}
@@ -18,10 +18,10 @@ use Rattle.ui_machine.specs.Rules.Disposal.{names_object, is_object, nulled, for
 use Rattle.ui_machine.specs.Output.Lines as lines
 use Rattle.law_typing.specs.Verdict.Accepted.{Each}
 use Rattle.law_typing.specs.Laws.{IsIn}
-use Rattle.law_typing.specs.Good.Standing.{Standing, standing, class_by, Lives}
+use Rattle.law_typing.specs.Good.Standing.{Standing, standing, Lives}
 use Rattle.law_typing.specs.Good.Objects.{ValueGood, PeerGood, FamilyGood, ObjectGood, ObjectsGood}
 use Rattle.law_kept.specs.Dispose.{Shed, DisposedKept, DisposeKeeps}
-use Rattle.law_kept.proofs.DisposeProofs.{changed_here, put_apart, Was, was, place_same, orphaned_was, orphaned_place, nulled_at, nulled_good, forgotten, let_go, not_named, sum_changed, sum_mapped, sum_orphaned, names_written}
+use Rattle.law_kept.proofs.DisposeProofs.{Was, was, place_same, orphaned_was, orphaned_place, nulled_at, nulled_good, forgotten, let_go, not_named, sum_changed, sum_mapped, sum_orphaned, names_written}
 use Rattle.law_kept.proofs.NewProofs.{at_place, peer_write}
 
 read_mapped : (f : Object → Object) (os : Objects) (i : ℕ) → read None (map (option_map f) os) i ≡ option_map f (read None os i)

@@ -1,6 +1,6 @@
 -- The finalisation of an object that nothing holds.
-use Rattle.std.proofs.Common.{◌≡◌, inl, inr, ◌⊎◌, refl, sym, ap, subst, ◌∙◌, ℕ, zero, suc, ◌+◌, ◌<◌, ◌≤◌, Bool, true, false, cond, List, [], ◌∷◌, ◌++◌, length, Option, None, Some, Ok, Err, slice_get, arith, lt-ltb}
-use Rattle.std.specs.Prelude.{not, ◌||◌, nat_eq, nat_lt, option_map}
+use Rattle.std.proofs.Common.{◌≡◌, inl, inr, ◌⊎◌, refl, sym, ap, subst, ◌∙◌, ℕ, zero, suc, ◌+◌, ◌<◌, ◌≤◌, Bool, true, false, cond, List, [], ◌∷◌, length, Option, None, Some, Ok, slice_get, arith, lt-ltb}
+use Rattle.std.specs.Prelude.{not, ◌||◌, nat_eq, option_map}
 use Rattle.std.specs.List.{filter}
 use Rattle.std.proofs.lemmas.Bool.{eqb-true, eqb-false, eq-eqb}
 use Rattle.ui_machine.specs.declared.arm.Arm.TheVariants as arms
@@ -10,21 +10,18 @@ use Rattle.ui_machine.specs.Definition.Values as values
 use Rattle.ui_machine.specs.Definition.Properties.{Spec}
 use Rattle.ui_machine.specs.Definition.{Definition}
 use Rattle.ui_machine.specs.Definition.Places.{Place}
-use Rattle.ui_machine.specs.Definition.Lookups.{specs_of, spec_of, place_at}
+use Rattle.ui_machine.specs.Definition.Lookups.{specs_of, spec_of}
 use Rattle.ui_machine.specs.Outcome.{only_if}
 use Rattle.ui_machine.specs.Output.Lines as lines
 use Rattle.ui_machine.specs.State.Objects.{Object, Objects, living, put, live, one_if}
-use Rattle.ui_machine.specs.State.Handlers.{Handler, handler_of}
-use Rattle.ui_machine.specs.State.Bindings.{Binding, binding_of, is_end}
-use Rattle.ui_machine.specs.State.Sources.{Source}
+use Rattle.ui_machine.specs.State.Handlers.{handler_of}
+use Rattle.ui_machine.specs.State.Bindings.{binding_of, is_end}
 use Rattle.ui_machine.specs.State.Peers.{Peer}
 use Rattle.ui_machine.specs.State.Tasks.{Task, Setting, Notifying, Beginning, Emitting, Transferring, Unsetting, Thawing, Running, Answering, Calling, Constructing, Building, Carrying, Due}
 use Rattle.ui_machine.specs.State.Config.{Held, unbuilt, built, World, Config, said, with_objects}
 use Rattle.ui_machine.specs.State.References.{same, in_option, in_value, in_values, in_object, in_held, in_source, in_task, mentions, unheld_from, next_unheld}
-use Rattle.ui_machine.specs.Rules.Programs.{place_in}
-use Rattle.ui_machine.specs.Rules.Build.{to_make}
-use Rattle.ui_machine.specs.Rules.Disposal.{names_object, is_identity, is_of_object, disposed, without_object, finalised}
-use Rattle.ui_machine.specs.Steps.{most_steps, counted, uncounted, before, finalising}
+use Rattle.ui_machine.specs.Rules.Disposal.{names_object, is_identity, is_of_object, disposed, finalised}
+use Rattle.ui_machine.specs.Steps.{most_steps, counted, uncounted, finalising}
 use Rattle.law_typing.specs.Graph.Channels.{property}
 use Rattle.law_typing.specs.Graph.Tables.{Tables, entry}
 use Rattle.law_typing.specs.Rules.Brackets.{has_pair}
@@ -33,15 +30,14 @@ use Rattle.law_typing.specs.Verdict.Accepted.{Each}
 use Rattle.law_typing.specs.Laws.{IsIn}
 use Rattle.law_typing.specs.Laws.StepsKeepGood.{Fine}
 use Rattle.law_typing.specs.Good.Standing.{Standing, standing, view, Lives}
-use Rattle.law_typing.specs.Good.Objects.{ValueGood, PeerGood, FamilyGood, ObjectGood, ObjectsGood, PoolGood, PeersGood}
+use Rattle.law_typing.specs.Good.Objects.{FamilyGood, ObjectGood, ObjectsGood, PoolGood, PeersGood}
 use Rattle.law_typing.specs.Good.Handlers.{HandlersGood}
 use Rattle.law_typing.specs.Good.Bindings.{BindingsGood, SourceGood, HeldGood}
 use Rattle.law_typing.specs.Good.ComingDown as downs
 use Rattle.law_typing.specs.Good.Builds.{is_for_builder, BuildGood}
-use Rattle.law_typing.specs.Good.Agenda.{AgendaGood}
-use Rattle.law_typing.specs.Good.Freezes.{below_lowest, QueueGood, QueuesGood, carried, PairsGood, SetsGood, is_due_set}
+use Rattle.law_typing.specs.Good.Freezes.{below_lowest, QueuesGood, carried, PairsGood, SetsGood, is_due_set}
 use Rattle.law_typing.specs.Good.{Good}
-use Rattle.law_kept.specs.Agenda.{Stays, Keeps, needed, Serves}
+use Rattle.law_kept.specs.Agenda.{Stays, needed, Serves}
 use Rattle.law_kept.specs.Dispose.{Shed, DisposedKept}
 use Rattle.law_kept.specs.Finalise.{FinalisationIsFine}
 use Rattle.law_kept.proofs.ServedProofs.{same_itself}

@@ -1,8 +1,7 @@
 -- Handlers that are disconnected, blocked and unblocked.
-use Rattle.std.proofs.Common.{◌≡◌, refl, sym, ap, subst, ◌∙◌, ℕ, ◌+◌, ◌≤◌, Bool, true, false, cond, List, [], ◌∷◌, length, map, Option, None, Some, arith}
+use Rattle.std.proofs.Common.{◌≡◌, refl, sym, ap, subst, ◌∙◌, ℕ, ◌≤◌, Bool, true, false, cond, List, map, Option, None, Some, arith}
 use Rattle.std.specs.Prelude.{not, ◌&&◌, nat_eq, option_map}
 use Rattle.std.specs.List.{filter}
-use Rattle.ui_machine.specs.Seq.{total}
 use Rattle.ui_machine.specs.Definition.Kinds.{RegisterKind}
 use Rattle.ui_machine.specs.Definition.Kinds as kinds
 use Rattle.ui_machine.specs.Definition.{Definition}
@@ -13,9 +12,8 @@ use Rattle.law_typing.specs.Graph.Channels as entries
 use Rattle.law_typing.specs.Graph.{Raised, graph, place_of_channel}
 use Rattle.law_typing.specs.Graph.Tables.{Tables, of_program, greatest}
 use Rattle.law_typing.specs.Graph.Depths.{depth_within}
-use Rattle.law_typing.specs.Verdict.Accepted.{Each}
-use Rattle.law_typing.specs.Good.Standing.{Standing, Lives, LivesIf}
-use Rattle.law_typing.specs.Good.Handlers.{Takes, data_kind, HandlerGood, runs_at, running_for, is_connected, ChannelGood, HandlersGood}
+use Rattle.law_typing.specs.Good.Standing.{Standing, LivesIf}
+use Rattle.law_typing.specs.Good.Handlers.{Takes, data_kind, HandlerGood, runs_at, is_connected, ChannelGood}
 use Rattle.law_kept.specs.Agenda.{Stays}
 use Rattle.law_kept.specs.Handlers.{HandlersLeft, OnlyBlocks, HandlersChanged, LeftAreFound}
 use Rattle.law_kept.proofs.Left.{each_to, each_left, each_left_twice, total_left, length_left, rising_left, left_found, each_changed, each_changed_left, total_changed, length_changed, rising_changed}

@@ -10,3 +10,4 @@ pub mod NewProofs
 pub mod DisposeProofs
 pub mod DisposedProofs
 pub mod FinaliseProofs
+pub mod ConnectProofs

@@ -1,7 +1,6 @@
 -- A new object: all that stood stands, and what was good stays.
-use Rattle.std.proofs.Common.{◌≡◌, inl, inr, ◌⊎◌, refl, sym, ap, subst, ◌∙◌, ℕ, zero, suc, ◌+◌, ◌<◌, ◌≤◌, Bool, true, false, cond, List, [], ◌∷◌, ◌++◌, length, map, Option, None, Some, slice_get, arith}
+use Rattle.std.proofs.Common.{◌≡◌, inl, inr, ◌⊎◌, refl, sym, ap, subst, ◌∙◌, ℕ, zero, suc, ◌<◌, ◌≤◌, Bool, true, false, cond, List, [], ◌∷◌, ◌++◌, length, map, Option, None, Some, slice_get, arith}
 use Rattle.std.specs.Prelude.{not, ◌&&◌, nat_eq, option_map}
-use Rattle.std.specs.List.{filter}
 use Rattle.std.proofs.lemmas.Bool.{eqb-true, eqb-false}
 use Rattle.ui_machine.specs.Seq.{read, write, total}
 use Rattle.ui_machine.specs.Definition.Kinds.{Kind}
@@ -14,10 +13,9 @@ use Rattle.ui_machine.specs.Definition.{Definition}
 use Rattle.ui_machine.specs.Definition.Places.{Place}
 use Rattle.ui_machine.specs.Definition.Lookups.{place_at, specs_of, spec_of}
 use Rattle.ui_machine.specs.State.Handlers.{Handler}
-use Rattle.ui_machine.specs.State.Objects.{Object, Objects, living, live, one_if}
+use Rattle.ui_machine.specs.State.Objects.{Object, Objects, living, live}
 use Rattle.ui_machine.specs.State.Bindings.{Binding}
 use Rattle.ui_machine.specs.State.Peers.{Peer, no_peer}
-use Rattle.ui_machine.specs.State.Tasks.{Task}
 use Rattle.ui_machine.specs.State.Config.{World}
 use Rattle.ui_machine.specs.State.References.{in_value}
 use Rattle.ui_machine.specs.Rules.Programs.{place_in}
@@ -26,18 +24,18 @@ use Rattle.ui_machine.specs.Rules.Validation.{clamp, is_valid}
 use Rattle.ui_machine.specs.Rules.Construction.{nearest_shape, new_object, with_object, lent}
 use Rattle.law_typing.specs.Graph.Channels.{Channel}
 use Rattle.law_typing.specs.Graph.{Raised, graph, place_of_channel}
-use Rattle.law_typing.specs.Graph.Tables.{Tables, of_program, greatest}
+use Rattle.law_typing.specs.Graph.Tables.{of_program, greatest}
 use Rattle.law_typing.specs.Graph.Depths.{depth_within}
 use Rattle.law_typing.specs.Verdict.Accepted.{Each}
 use Rattle.law_typing.specs.Laws.{IsIn}
 use Rattle.law_typing.specs.Laws.WellRead.{no_class_of, TypesRead}
-use Rattle.law_typing.specs.Good.Standing.{Standing, standing, class_by, view, Lives}
-use Rattle.law_typing.specs.Good.Objects.{ValueGood, PeerGood, FamilyGood, ObjectGood, ObjectsGood}
-use Rattle.law_typing.specs.Good.Handlers.{HandlerGood, runs_at, running_for, ChannelGood, HandlersGood}
+use Rattle.law_typing.specs.Good.Standing.{Standing, standing, class_by, Lives}
+use Rattle.law_typing.specs.Good.Objects.{ValueGood, PeerGood, FamilyGood, ObjectGood}
+use Rattle.law_typing.specs.Good.Handlers.{HandlerGood, runs_at, running_for, ChannelGood}
 use Rattle.law_typing.proofs.Lists.{both_parts}
 use Rattle.machine_laws.proofs.ClampProofs.{same_value_itself}
-use Rattle.law_kept.specs.Agenda.{Stays, Keeps, Serves}
-use Rattle.law_kept.specs.New.{next_identity, OneMoreStands, NewStands, ValuesStay, NewServes, TakesFree, NewObjectsGood, NewHandlersGood, NewBindingsGood}
+use Rattle.law_kept.specs.Agenda.{Stays, Keeps}
+use Rattle.law_kept.specs.New.{next_identity, NewStands, ValuesStay, NewServes, TakesFree, NewObjectsGood, NewHandlersGood, NewBindingsGood}
 use Rattle.law_kept.proofs.ServedProofs.{kind_kept}
 use Rattle.law_kept.proofs.Left.{each_to}
 use Rattle.law_kept.proofs.HandlersProofs.{handler_kept}

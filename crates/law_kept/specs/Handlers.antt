@@ -1,5 +1,5 @@
 -- Handlers that are disconnected, blocked and unblocked, wherever the objects that the others name stand as they stood.
-use Rattle.std.specs.Prelude.{◌≡◌, ℕ, ◌≤◌, Bool, true, List, map, Some}
+use Rattle.std.specs.Prelude.{◌≡◌, ℕ, Bool, true, List, map, Some}
 use Rattle.std.specs.List.{filter}
 use Rattle.ui_machine.specs.Definition.{Definition}
 use Rattle.ui_machine.specs.State.Handlers.{Handler, handler_of}

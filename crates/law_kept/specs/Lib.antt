@@ -7,3 +7,4 @@ pub mod Changes
 pub mod New
 pub mod Dispose
 pub mod Finalise
+pub mod Connect

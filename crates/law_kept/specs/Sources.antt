@@ -1,9 +1,9 @@
 -- Sources that are removed, put off and attached.
-use Rattle.std.specs.Prelude.{◌≡◌, ℕ, Bool, true, List, [], ◌∷◌, ◌++◌, Some, map}
+use Rattle.std.specs.Prelude.{◌≡◌, ℕ, Bool, List, Some}
 use Rattle.std.specs.List.{filter}
 use Rattle.ui_machine.specs.Definition.{Definition}
 use Rattle.ui_machine.specs.State.Sources.{Source, without_first, attached}
-use Rattle.ui_machine.specs.Rules.MainLoop.{rescheduled, answered}
+use Rattle.ui_machine.specs.Rules.MainLoop.{answered}
 use Rattle.law_typing.specs.Verdict.Accepted.{Each}
 use Rattle.law_typing.specs.Good.Standing.{Standing}
 use Rattle.law_typing.specs.Good.Bindings.{SourceGood}

@@ -9,6 +9,7 @@ ghost use Rattle.law_kept.specs.Changes.{ValueIsLike, QueueIsLike, FreezeIsLike,
 ghost use Rattle.law_kept.specs.New.{NewStands, ValuesStay, NewServes, NewObjectsGood, NewHandlersGood, NewBindingsGood};
 ghost use Rattle.law_kept.specs.Dispose.{DisposeKeeps};
 ghost use Rattle.law_kept.specs.Finalise.{FinalisationIsFine};
+ghost use Rattle.law_kept.specs.Connect.{HandlerConnects};
 ghost use Rattle.law_kept.specs.Write.{WriteKeeps};
 
 /// Where one object is written over by another of the same place, class, family and peer, the rest of the world stays good, and the
@@ -24,11 +25,12 @@ pub fn agenda()
 {}
 
 /// Handlers that are left after others are disconnected stay good, and so do those that are blocked or unblocked; a number finds among them
-/// what it found.
+/// what it found. So are they with one more that bytecode connects, where there is room and its program is connectable.
 pub fn handlers()
     ensures left { HandlersLeft }
     ensures found { LeftAreFound }
     ensures changed { HandlersChanged }
+    ensures connects { HandlerConnects }
 {}
 
 /// Bindings that are left after others ended stay good, and so do they where one begins to set, is set free, or is made by the build.

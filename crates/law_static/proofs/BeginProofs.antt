@@ -1,5 +1,5 @@
 -- Where a program begins.
-use Rattle.std.proofs.Common.{◌≡◌, refl, sym, ap, subst, ◌∙◌, ℕ, zero, suc, ◌+◌, ◌-◌, ◌<◌, ◌≤◌, Bool, true, false, List, [], ◌∷◌, ◌++◌, length, drop, map, Option, None, Some, slice_get, arith}
+use Rattle.std.proofs.Common.{◌≡◌, refl, sym, ap, subst, ◌∙◌, ℕ, zero, suc, ◌+◌, ◌-◌, ◌<◌, true, List, [], ◌∷◌, ◌++◌, length, map, Option, None, Some, slice_get, arith}
 use Rattle.std.specs.Prelude.{replicate}
 use Rattle.std.specs.List.{flat_map}
 use Rattle.ui_machine.specs.Seq.{read}
@@ -7,16 +7,14 @@ use Rattle.ui_machine.specs.Definition.{Definition}
 use Rattle.ui_machine.specs.Definition.Kinds.{RegisterKind}
 use Rattle.ui_machine.specs.Definition.Kinds as kinds
 use Rattle.ui_machine.specs.Definition.Values.{Value}
-use Rattle.ui_machine.specs.Definition.Programs.{Instruction, Block, Program}
-use Rattle.ui_machine.specs.State.Tasks.{Registers}
+use Rattle.ui_machine.specs.Definition.Programs.{Instruction}
 use Rattle.ui_machine.specs.Rules.Programs.{passes_of}
 use Rattle.law_typing.specs.Rules.RegisterKinds.{Kinds}
 use Rattle.law_typing.specs.Rules.Brackets.{is_bracketed, is_empty, opened}
 use Rattle.law_typing.specs.Graph.{graph, stretch_of, stretches_of, next_of}
 use Rattle.law_typing.specs.Verdict.Accepted.{Each}
-use Rattle.law_typing.specs.Laws.{IsIn}
-use Rattle.law_typing.specs.Laws.WellRead.{WellRead, Ends}
-use Rattle.law_typing.specs.Good.Standing.{Standing, holds, RegistersFit}
+use Rattle.law_typing.specs.Laws.WellRead.{Ends}
+use Rattle.law_typing.specs.Good.Standing.{Standing, holds}
 use Rattle.law_typing.proofs.Lists.{both_parts, each_in, each_flat}
 use Rattle.law_typing.proofs.CostProofs.{costs_solved, depths_solved, blocks_cover}
 use Rattle.law_static.specs.Fits.{AllHold}

@@ -1,5 +1,5 @@
 -- How a program's rest goes on past an instruction, and where a program begins.
-use Rattle.std.proofs.Common.{◌≡◌, refl, sym, ap, subst, ◌∙◌, ℕ, zero, suc, ◌+◌, ◌-◌, ◌<◌, ◌≤◌, Bool, true, false, List, [], ◌∷◌, ◌++◌, length, drop, map, Option, None, Some, Ok, slice_get, arith}
+use Rattle.std.proofs.Common.{◌≡◌, refl, sym, ap, subst, ◌∙◌, ℕ, zero, suc, ◌+◌, ◌-◌, ◌<◌, ◌≤◌, true, false, List, [], ◌∷◌, ◌++◌, length, drop, Option, None, Some, slice_get, arith}
 use Rattle.std.specs.Prelude.{◌&&◌}
 use Rattle.std.specs.List.{flat_map}
 use Rattle.ui_machine.specs.Definition.{Definition}
@@ -9,10 +9,9 @@ use Rattle.ui_machine.specs.State.Tasks.{Registers, Frame}
 use Rattle.law_typing.specs.Rules.RegisterKinds.{Kinds}
 use Rattle.law_typing.specs.Rules.Typing.{after, first_broken}
 use Rattle.law_typing.specs.Rules.Brackets.{opened, keeps_brackets, is_bracketed}
-use Rattle.law_typing.specs.Graph.{Stretch, Start, graph, start_of, starts_of, stretch_of, stretches_of, next_of}
+use Rattle.law_typing.specs.Graph.{graph, start_of, starts_of, stretch_of, stretches_of, next_of}
 use Rattle.law_typing.specs.Graph.Tables.{Tables}
 use Rattle.law_typing.specs.Graph.Costs.{start_cost, code_cost}
-use Rattle.law_typing.specs.Graph.Depths.{start_depth, program_depth}
 use Rattle.law_typing.specs.Laws.{IsIn}
 use Rattle.law_typing.specs.Laws.WellRead.{WellRead, ends, Ends}
 use Rattle.law_typing.specs.Good.Standing.{Standing, RegistersFit}

@@ -1,7 +1,7 @@
 -- What a register holds, by the kind that it has where it is read.
-use Rattle.std.proofs.Common.{◌≡◌, inl, inr, ◌⊎◌, refl, sym, ap, subst, ◌∙◌, ℕ, Bool, true, false, List, [], ◌∷◌, Option, None, Some, Ok, Err, arith}
+use Rattle.std.proofs.Common.{◌≡◌, inl, inr, ◌⊎◌, refl, sym, ap, subst, ◌∙◌, ℕ, Bool, true, List, [], ◌∷◌, Option, None, Some, Ok}
 use Rattle.std.proofs.Math.Path.{fun_ext}
-use Rattle.std.specs.Prelude.{◌&&◌, ◌||◌, nat_eq, is_some, option_map}
+use Rattle.std.specs.Prelude.{◌&&◌, nat_eq, is_some, option_map}
 use Rattle.std.specs.List.{list_all}
 use Rattle.std.proofs.lemmas.Bool.{eqb-true, eq-eqb}
 use Rattle.ui_machine.specs.Definition.Kinds.{Kind, RegisterKind, Whole}
@@ -11,26 +11,25 @@ use Rattle.ui_machine.specs.Definition.Values as values
 use Rattle.ui_machine.specs.Definition.{Definition}
 use Rattle.ui_machine.specs.Definition.Types.{GType}
 use Rattle.ui_machine.specs.Definition.Places.{Place}
-use Rattle.ui_machine.specs.Definition.Lookups.{place_at}
-use Rattle.ui_machine.specs.State.Objects.{Object, living, class_in}
+use Rattle.ui_machine.specs.State.Objects.{Object, living}
 use Rattle.ui_machine.specs.State.Config.{World}
 use Rattle.ui_machine.specs.Rules.Ancestry.{is_a}
-use Rattle.ui_machine.specs.Rules.Transform.{same_whole, same_kind, is_one, is_between, least, greatest, kind_fits}
+use Rattle.ui_machine.specs.Rules.Transform.{same_whole, is_one, is_between, least, greatest, kind_fits}
 use Rattle.ui_machine.specs.Rules.Sets.{has_kind}
-use Rattle.ui_machine.specs.Rules.Programs.{place_in, is_number, names_one, fits_register, all_fit}
+use Rattle.ui_machine.specs.Rules.Programs.{is_number, fits_register, all_fit}
 use Rattle.law_typing.specs.Rules.Answers.{Typing}
 use Rattle.law_typing.specs.Rules.Answers as rules
-use Rattle.law_typing.specs.Rules.RegisterKinds.{Kinds, kind_in, class_at, class_of_kind, class_of_plain, is_never_null, is_plain, is_at, is_at_or_null, is_of_class, covers, fits}
-use Rattle.law_typing.specs.Rules.Typing.{class_of_operand, operand}
+use Rattle.law_typing.specs.Rules.RegisterKinds.{kind_in, class_at, class_of_plain, is_never_null, is_plain, is_at, is_at_or_null, is_of_class, covers, fits}
+use Rattle.law_typing.specs.Rules.Typing.{class_of_operand}
 use Rattle.ui_machine.specs.Outcome.{known}
 use Rattle.law_typing.specs.Rules.Signatures.{parameters_fit}
 use Rattle.law_typing.specs.Laws.WellRead.{TypesRead, is_set}
 use Rattle.law_typing.specs.Graph.{number_for}
 use Rattle.law_typing.specs.Good.Standing.{Standing, standing, class_by, covers_if, holds, lives_by}
-use Rattle.law_typing.specs.Good.Objects.{ObjectGood, ObjectsGood}
+use Rattle.law_typing.specs.Good.Objects.{ObjectsGood}
 use Rattle.law_typing.proofs.Lists.{both_parts, either_part}
 use Rattle.machine_laws.proofs.TypeProofs.{is_a_reflexive}
-use Rattle.law_static.specs.Fits.{HoldsFits, HoldsLive, HoldsKind, HoldsSet, OperandGood, OperandsStand, ClassesAgree, AllHold, GivenHold, GivenFit}
+use Rattle.law_static.specs.Fits.{HoldsFits, HoldsLive, HoldsKind, HoldsSet, OperandGood, OperandsStand, ClassesAgree, GivenHold, GivenFit}
 use Rattle.law_static.proofs.Same.{kind_same}
 
 -- ** classes

@@ -10,3 +10,7 @@ pub mod BeginProofs
 pub mod RaisesProofs
 pub mod PairCostProofs
 pub mod NotifyCostProofs
+pub mod AbsentProofs
+pub mod MakingCostProofs
+pub mod RequestProofs
+pub mod BuildCostProofs

@@ -1,6 +1,6 @@
 -- What the turns of a notification cost as it begins.
-use Rattle.std.proofs.Common.{◌≡◌, inl, inr, ◌⊎◌, refl, sym, ap, subst, ◌∙◌, ℕ, suc, ◌+◌, ◌-◌, ◌*◌, ◌≤◌, Bool, true, false, cond, List, [], ◌∷◌, ◌++◌, length, map, Option, None, Some, slice_get, arith}
-use Rattle.std.specs.Prelude.{not, ◌&&◌, ◌||◌, nat_eq, codes}
+use Rattle.std.proofs.Common.{◌≡◌, refl, sym, ap, subst, ◌∙◌, ℕ, ◌+◌, ◌-◌, ◌≤◌, Bool, true, false, cond, List, [], ◌∷◌, ◌++◌, length, map, None, Some, slice_get, arith}
+use Rattle.std.specs.Prelude.{not, ◌&&◌, ◌||◌, nat_eq}
 use Rattle.std.specs.List.{filter}
 use Rattle.std.proofs.lemmas.Bool.{eqb-true, eq-eqb}
 use Rattle.ui_machine.specs.Seq.{total}
@@ -14,18 +14,17 @@ use Rattle.ui_machine.specs.State.Tasks.{handler, PlanEntry, Task}
 use Rattle.ui_machine.specs.State.Tasks as config
 use Rattle.ui_machine.specs.State.Config.{World}
 use Rattle.ui_machine.specs.Rules.EmissionPlan.{fits_detail, at_stage, handlers_for, runs_for, class_handler_of}
-use Rattle.ui_machine.specs.Rules.Build.{of_items}
 use Rattle.law_typing.specs.Rules.BindingRules.{word_of}
 use Rattle.law_typing.specs.Graph.Channels.{Channel, property, same_channel, is_pair, source_of, target_of, spec_at, of_class}
-use Rattle.law_typing.specs.Graph.{Raised, graph, place_of_channel, listed_if, class_handler_for, targets_from}
+use Rattle.law_typing.specs.Graph.{graph, listed_if, class_handler_for}
 use Rattle.law_typing.specs.Graph.Tables.{Tables, entry, of_program, greatest}
-use Rattle.law_typing.specs.Graph.Costs.{node_cost, programs_cost, targets_cost}
+use Rattle.law_typing.specs.Graph.Costs.{node_cost, programs_cost}
 use Rattle.law_typing.specs.Verdict.Accepted.{Each}
 use Rattle.law_typing.specs.Verdict.Report.{property_name}
-use Rattle.law_typing.specs.Good.Standing.{Standing, standing, view}
-use Rattle.law_typing.specs.Good.Handlers.{connecting_cost, is_connected, running_for}
+use Rattle.law_typing.specs.Good.Standing.{standing}
+use Rattle.law_typing.specs.Good.Handlers.{is_connected, running_for}
 use Rattle.law_typing.specs.Good.Bindings.{BindingGood}
-use Rattle.law_typing.specs.Good.DueCosts.{has_end, is_setting_below, transfer_cost, turn_cost}
+use Rattle.law_typing.specs.Good.DueCosts.{is_setting_below, transfer_cost}
 use Rattle.law_typing.proofs.Lists.{both_parts, each_in, same_channel_true}
 use Rattle.law_typing.proofs.PairProofs.{Differ, no_words, no_second, pair_read}
 use Rattle.law_static.specs.Rising.{Priced}
@@ -35,7 +34,7 @@ use Rattle.law_static.proofs.RisingProofs.{rising_are_found, rising_costs}
 use Rattle.law_static.proofs.RaisesProofs.{channels_known}
 use Rattle.law_static.proofs.SubclassProofs.{get_in}
 use Rattle.law_static.proofs.PlanCostProofs.{total_append, total_first, mapped_first, count_first, times_le, at_most, tc, cost_of, stage, turns_of_found}
-use Rattle.law_static.proofs.PairCostProofs.{other_of, pair_part, pair_costs}
+use Rattle.law_static.proofs.PairCostProofs.{pair_part, pair_costs}
 
 -- ** handlers
 

@@ -1,8 +1,7 @@
 -- What the pair of a channel costs: no other pair shares an end with it.
 use Rattle.std.proofs.Common.{◌≡◌, inl, inr, ◌⊎◌, refl, sym, ap, subst, ◌∙◌, ℕ, zero, suc, ◌+◌, ◌≤◌, Bool, true, false, cond, List, [], ◌∷◌, map, Option, None, Some, slice_get, arith}
-use Rattle.std.specs.Prelude.{not, ◌&&◌, ◌||◌, nat_eq}
+use Rattle.std.specs.Prelude.{◌&&◌, ◌||◌}
 use Rattle.std.specs.List.{filter}
-use Rattle.std.proofs.lemmas.Bool.{or_parts}
 use Rattle.ui_machine.specs.Seq.{total}
 use Rattle.ui_machine.specs.Definition.{Definition}
 use Rattle.ui_machine.specs.Definition.Places.{Bind}
@@ -14,7 +13,7 @@ use Rattle.law_typing.specs.Graph.Tables.{Tables, entry}
 use Rattle.law_typing.specs.Graph.Costs.{other_end_in}
 use Rattle.law_typing.specs.Verdict.Accepted.{Each}
 use Rattle.law_typing.specs.Laws.{IsIn}
-use Rattle.law_typing.specs.Good.DueCosts.{unsets, has_end, is_setting_at, is_setting_from, is_setting_below, over_cost}
+use Rattle.law_typing.specs.Good.DueCosts.{has_end, is_setting_at, is_setting_from, is_setting_below, over_cost}
 use Rattle.law_typing.proofs.Lists.{both_parts, each_in, same_channel_true, same_channel_refl}
 use Rattle.law_typing.proofs.PairProofs.{Differ, NoSecond, later_apart, pair_read}
 

@@ -1,16 +1,13 @@
 -- What an accepted definition's graph has at a channel.
-use Rattle.std.proofs.Common.{◌≡◌, inl, inr, ◌⊎◌, refl, sym, ap, subst, ◌∙◌, ℕ, zero, suc, ◌+◌, ◌<◌, Bool, true, false, cond, List, [], ◌∷◌, ◌++◌, map, Option, None, Some, slice_get, arith, lt-ltb}
-use Rattle.std.specs.Prelude.{nat_eq, nat_lt}
+use Rattle.std.proofs.Common.{◌≡◌, inl, inr, ◌⊎◌, refl, sym, ap, subst, ◌∙◌, ℕ, zero, suc, ◌+◌, Bool, true, false, cond, List, [], ◌∷◌, map, Option, None, Some, slice_get, arith, lt-ltb}
 use Rattle.std.specs.List.{list_any, filter, filter_map, find, cons_option}
 use Rattle.std.proofs.lemmas.Bool.{eq-eqb}
 use Rattle.ui_machine.specs.Definition.{Definition}
 use Rattle.ui_machine.specs.Definition.Programs.{Program}
 use Rattle.ui_machine.specs.Rules.Programs.{is_number}
-use Rattle.law_typing.specs.Rules.RegisterKinds.{class_at}
 use Rattle.law_typing.specs.Rules.Sites.{Site, sites}
-use Rattle.law_typing.specs.Graph.Channels.{Channel, same_channel, channels, is_channel, of_class}
-use Rattle.law_typing.specs.Graph.{Connection, Raised, graph, raised_at, connections, connection_of, connectable_at, may_be_at, place_of_channel, source_named, is_source, sources_of}
-use Rattle.law_typing.specs.Graph.Depths.{raised_of}
+use Rattle.law_typing.specs.Graph.Channels.{Channel, same_channel, channels, of_class}
+use Rattle.law_typing.specs.Graph.{Connection, Raised, graph, connections, connection_of, connectable_at, may_be_at, source_named, is_source, sources_of}
 use Rattle.law_typing.specs.Laws.{IsIn}
 use Rattle.law_typing.proofs.Lists.{either_part, same_channel_true, any_true, filter_in}
 use Rattle.law_typing.proofs.CostProofs.{costs_solved, depths_solved}

@@ -1,22 +1,21 @@
 -- What is known where an instruction of an accepted definition stands: it is found in the lists of sites and faults by its numbers.
-use Rattle.std.proofs.Common.{◌≡◌, inl, inr, refl, sym, ap, subst, ◌∙◌, ℕ, zero, suc, ◌+◌, Bool, true, false, cond, List, [], ◌∷◌, ◌++◌, Option, None, Some, Ok, Err, slice_get, arith}
+use Rattle.std.proofs.Common.{◌≡◌, inl, inr, refl, sym, ap, subst, ◌∙◌, ℕ, zero, suc, ◌+◌, Bool, true, false, cond, List, [], ◌∷◌, Option, None, Some, Ok, Err, slice_get, arith}
 use Rattle.std.specs.List.{flat_map}
 use Rattle.ui_machine.specs.Definition.{Definition}
 use Rattle.ui_machine.specs.Definition.Programs.{Instruction, Block, Program}
 use Rattle.law_typing.specs.Rules.RegisterKinds.{Kinds}
 use Rattle.law_typing.specs.Rules.Answers.{Typing}
-use Rattle.law_typing.specs.Rules.Faults.{Fault, unbalanced, freeze_paired}
+use Rattle.law_typing.specs.Rules.Faults.{unbalanced, freeze_paired}
 use Rattle.law_typing.specs.Rules.Sites.{Site, sites, code_sites, block_sites, program_sites, broken_at, block_faults, program_faults}
 use Rattle.law_typing.specs.Rules.Typing.{typed, after, or_before, unless_broken, first_broken, WellTypedBlock}
 use Rattle.law_typing.specs.Rules.Answers.{Rule}
 use Rattle.law_typing.specs.Rules.Brackets.{is_balanced, balance_faults, unbalanced_from, freezes_pair, freeze_at}
 use Rattle.law_typing.specs.Graph.{start_of, starts_of}
-use Rattle.law_typing.specs.Verdict.Accepted.{Accepted}
 use Rattle.law_typing.specs.Laws.{IsIn}
 use Rattle.law_typing.specs.Good.Programs.{kinds_before}
 use Rattle.law_typing.proofs.Lists.{both_empty}
 use Rattle.law_typing.proofs.EdgeProofs.{append_left, append_right}
-use Rattle.law_static.specs.Sites.{BlockIs, BlockKept, BlocksKeep, SiteKept, SitesKeep, site}
+use Rattle.law_static.specs.Sites.{BlockIs, BlocksKeep, SitesKeep, site}
 
 -- ** lists without entries
 

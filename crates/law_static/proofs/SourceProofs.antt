@@ -18,13 +18,13 @@ use Rattle.law_typing.specs.Good.{Resting}
 use Rattle.law_typing.specs.Laws.StepsKeepGood.{SourcesBegin}
 
 -- an entry of a table is at most the greatest
-read_at_most : (xs : List ℕ) (i : ℕ) → read 0 xs i ≤ greatest (λ n. n) xs
+pub read_at_most : (xs : List ℕ) (i : ℕ) → read 0 xs i ≤ greatest (λ n. n) xs
 read_at_most [] i = omega arith
 read_at_most (x ∷ xs) zero = omega arith
 read_at_most (x ∷ xs) (suc i) = let h = read_at_most xs i in omega (arith, h)
 
 -- where nothing is queued nothing is carried
-none_carried : (d : Definition) (costs : Tables) (os : Objects) → ((i : ℕ) (o : Object) → read None os i ≡ Some o → o.queue ≡ []) → total (carried d costs) os ≡ 0
+pub none_carried : (d : Definition) (costs : Tables) (os : Objects) → ((i : ℕ) (o : Object) → read None os i ≡ Some o → o.queue ≡ []) → total (carried d costs) os ≡ 0
 none_carried d costs [] none = refl
 none_carried d costs (x ∷ os) none =
     let later = none_carried d costs os (λ i o e. none (suc i) o e) in
@@ -35,7 +35,7 @@ none_carried d costs (x ∷ os) none =
     here None none = refl
     here (Some o) none = ap (λ q. carried d costs (Some (record o { queue = q }))) (none o refl)
 
-each_to : {A : Type 0} (P Q : A → Type 0) (xs : List A) → ((x : A) → P x → Q x) → Each P xs → Each Q xs
+pub each_to : {A : Type 0} (P Q : A → Type 0) (xs : List A) → ((x : A) → P x → Q x) → Each P xs → Each Q xs
 each_to P Q [] f all = tt
 each_to P Q (x ∷ xs) f all = (f x all.0, each_to P Q xs f all.1)
 

@@ -1,6 +1,6 @@
 -- What a class has of the types that it is.
 use Rattle.std.proofs.Common.{◌≡◌, inl, inr, refl, sym, ap, subst, ◌∙◌, ℕ, zero, suc, ◌+◌, ◌<◌, Bool, true, false, cond, List, [], ◌∷◌, length, Option, None, Some, slice_get, arith}
-use Rattle.std.specs.Prelude.{◌&&◌, nat_eq, codes}
+use Rattle.std.specs.Prelude.{codes}
 use Rattle.std.specs.List.{list_all}
 use Rattle.std.proofs.lemmas.Bool.{eq-eqb}
 use Rattle.ui_machine.specs.Seq.{read}
@@ -12,7 +12,7 @@ use Rattle.ui_machine.specs.Definition.Lookups.{no_class, class_of, specs_of, sp
 use Rattle.ui_machine.specs.Rules.Ancestry.{is_a}
 use Rattle.ui_machine.specs.Rules.EmissionPlan.{signal_of}
 use Rattle.ui_machine.specs.Rules.Connections.{signal_number}
-use Rattle.law_typing.specs.Verdict.Inherits.{same_spec, same_signal, is_spec, spec_named, is_signal, signal_named, has_all_of, implies, types_of}
+use Rattle.law_typing.specs.Verdict.Inherits.{is_spec, spec_named, is_signal, signal_named, has_all_of, implies, types_of}
 use Rattle.law_typing.specs.Laws.{IsIn}
 use Rattle.law_typing.specs.Laws.WellRead.{TypesRead, HasNotify}
 use Rattle.law_typing.proofs.Lists.{both_parts}

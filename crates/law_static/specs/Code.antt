@@ -9,7 +9,7 @@ use Rattle.ui_machine.specs.Rules.Programs.{first_frame}
 use Rattle.law_typing.specs.Rules.Typing as typing
 use Rattle.law_typing.specs.Rules.Typing.{after}
 use Rattle.law_typing.specs.Rules.Brackets.{opened, keeps_brackets}
-use Rattle.law_typing.specs.Graph.{graph, start_of, next_of}
+use Rattle.law_typing.specs.Graph.{graph, start_of}
 use Rattle.law_typing.specs.Graph.Tables.{Tables, of_program}
 use Rattle.law_typing.specs.Graph.Costs.{start_cost}
 use Rattle.law_typing.specs.Graph.Depths.{start_depth}

@@ -1,5 +1,5 @@
 -- What a register holds, by the kind that it has where it is read.
-use Rattle.std.specs.Prelude.{⊤, ◌≡◌, ℕ, true, List, [], ◌∷◌, Option, None, Some, Ok}
+use Rattle.std.specs.Prelude.{⊤, ◌≡◌, ℕ, true, List, [], ◌∷◌, Option, Some, Ok}
 use Rattle.std.specs.List.{list_all}
 use Rattle.ui_machine.specs.Definition.Kinds.{Kind, RegisterKind}
 use Rattle.ui_machine.specs.Definition.Kinds as kinds

@@ -6,3 +6,4 @@ pub mod Fits
 pub mod Code
 pub mod Raises
 pub mod NotifyCost
+pub mod MakingCost

@@ -9,7 +9,8 @@ ghost use Rattle.law_static.specs.Subclass.{NamesFind, SpecsInherit, SignalsInhe
 ghost use Rattle.law_static.specs.Fits.{HoldsFits, HoldsLive, HoldsKind, HoldsSet, OperandsStand, ClassesAgree, GivenHold, GivenFit};
 ghost use Rattle.law_static.specs.Code.{InstructionsTaken, ProgramsGoOn, ProgramsBegin, FirstRegistersFit};
 ghost use Rattle.law_static.specs.Raises.{ChannelsKnown, ConnectionsKnown, SourcesKnown};
-ghost use Rattle.law_typing.specs.Laws.StepsKeepGood.{SourcesBegin};
+ghost use Rattle.law_static.specs.MakingCost.{AbsentCostsNothing, ConstructionCosts};
+ghost use Rattle.law_typing.specs.Laws.StepsKeepGood.{BuildBegins, RequestsBegin, SourcesBegin};
 
 /// What stands under rising numbers is found by its number, and bindings that do cost together no more than those of the definition.
 pub fn rising()
@@ -24,9 +25,12 @@ pub fn plan()
     ensures notifications { NotifyCosts }
 {}
 
-/// A due source begins well from any world at rest, within its bound and the depth.
+/// The build of an accepted definition begins well, within its bound and the depth. So does from any world at rest a due source, and a request
+/// that names no released object.
 pub fn beginnings()
+    ensures build { BuildBegins }
     ensures sources { SourcesBegin }
+    ensures requests { RequestsBegin }
 {}
 
 /// Each block of an accepted definition keeps its rules and its brackets, and each of its instructions is typed at its place, is among the
@@ -72,4 +76,10 @@ pub fn raises()
     ensures channels { ChannelsKnown }
     ensures connections { ConnectionsKnown }
     ensures sources { SourcesKnown }
+{}
+
+/// What is not raised costs nothing, and a construction costs no more than what the making of its place's object raises.
+pub fn making()
+    ensures absent { AbsentCostsNothing }
+    ensures cheap { ConstructionCosts }
 {}

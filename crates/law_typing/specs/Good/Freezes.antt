@@ -19,6 +19,12 @@ use Rattle.law_typing.specs.Good.Programs.{code_left}
 use Rattle.law_typing.specs.Good.Builds.{is_for_builder}
 use Rattle.law_typing.specs.Good.Agenda.{frames}
 
+-- how often a construction has still to thaw its object
+abbrev pub to_thaw : List Making → ℕ
+to_thaw [] = 0
+to_thaw (thaws ∷ more) = 1 + to_thaw more
+to_thaw (m ∷ more) = to_thaw more
+
 -- how often a program's rest holds an object frozen: the registers that its code still thaws
 abbrev pub frozen_by : Definition → ℕ → Task → ℕ
 frozen_by d id (Running frame) = total holding (opened (code_left d frame))
@@ -30,11 +36,6 @@ frozen_by d id (Running frame) = total holding (opened (code_left d frame))
     holding : ℕ → ℕ
     holding r = names (read None frame.registers r)
 frozen_by d id (Constructing object todo held) = cond (nat_eq object id) (to_thaw todo) 0
-  where
-    to_thaw : List Making → ℕ
-    to_thaw [] = 0
-    to_thaw (thaws ∷ more) = 1 + to_thaw more
-    to_thaw (m ∷ more) = to_thaw more
 frozen_by d id _ = 0
 
 -- the frames below the lowest task that holds an object frozen: what is queued is notified above them
