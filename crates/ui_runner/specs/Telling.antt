@@ -8,8 +8,8 @@ use Rattle.ui_engine.specs.declared.session.SessionFault.{SessionFault}
 use Rattle.ui_engine.specs.declared.session.SessionFault.TheVariants as ends
 use Rattle.ui_runner.specs.Texts.{line_refusal}
 use Rattle.ui_runner.specs.Story.{Outcome, said, refused, cut_off, stopped}
-use Rattle.ui_runner.specs.declared.listener.LineFault.{LineFault}
-use Rattle.ui_runner.specs.declared.listener.LineFault.TheVariants as faults
+use Rattle.ui_runner.specs.declared.line_handler.LineFault.{LineFault}
+use Rattle.ui_runner.specs.declared.line_handler.LineFault.TheVariants as faults
 use Rattle.ui_runner.specs.declared.telling.Telling.{Telling}
 use Rattle.ui_runner.specs.declared.telling.Telling.TheVariants as tellings
 

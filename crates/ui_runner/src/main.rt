@@ -4,25 +4,25 @@
 ghost use Rattle.std.specs.Prelude.{◌≡◌, [], false};
 
 mod chunk;
+mod command_line;
 mod definition_file;
 mod ending;
+mod event_file;
 #[cfg(test)]
 mod fakes;
 mod gather;
-mod hearing;
+mod line_handler;
 mod line_reader;
-mod listener;
 mod opening;
 mod output;
 mod refusal;
 mod run;
-mod story;
 mod telling;
 #[cfg(test)]
 mod tests;
-mod words;
 mod writing;
 
+use command_line::{Request, WordsFault, given_words, read_words};
 use definition_file::{FileFault, definition_bytes};
 use ending::Ending;
 use output::Output;
@@ -31,7 +31,6 @@ use std::fs::File;
 use std::io::Write;
 use std::process::ExitCode;
 use ui_machine::Device;
-use words::{Request, WordsFault, given_words, read_words};
 
 /// The most bytes of an event line, without its LF.
 pub const LINE_LIMIT: usize = 65_536;

@@ -8,9 +8,9 @@ ghost use Rattle.ui_runner.specs.Texts.{joined, lines_text, nothing_begun, build
 ghost use Rattle.ui_runner.specs.Writing.{Puts, IsMarked};
 ghost use Rattle.ui_runner.specs.Opening.{built, Concludes, Proceeds, Ran};
 
+use crate::event_file::tell_lines;
 use crate::opening::{Opening, open};
 use crate::output::Output;
-use crate::story::tell_lines;
 use crate::writing::{put_lines, put_parts, stop_name};
 use std::alloc::Global;
 use ui_engine::Session;

@@ -1,4 +1,4 @@
-//! One line of the event file, told to a listener.
+//! One line of the event file, handed to its handler.
 
 ghost use Rattle.std.specs.Prelude.{◌≡◌, ◌≤◌, ℕ, List, false, length, drop};
 ghost use Rattle.ui_runner.specs.Story.{Tells, ends, status_after, is_blank};
@@ -7,8 +7,8 @@ ghost use Rattle.ui_runner.specs.Reading.{IsOf};
 ghost use Rattle.ui_machine.specs.Limits.{most_lines};
 
 use crate::MOST_LINES;
+use crate::line_handler::{LineFault, LineHandler};
 use crate::line_reader::Found;
-use crate::listener::{LineFault, Listener};
 use crate::refusal::LineRefusal;
 use std::alloc::Global;
 use ui_machine::Halt;
@@ -54,17 +54,17 @@ fn is_blank(line: &[u8]) -> bool
         .all(|b| *b == b' ' || *b == b'\t' || *b == b'\r')
 }
 
-/// Tells the listener the line that was found, unless the run refuses it or passes over it.
-pub fn tell<L: Listener>(
+/// Hands the handler the line that was found, unless the run refuses it or passes over it.
+pub fn tell<L: LineHandler>(
     alloc: Global,
-    listener: &mut L,
+    handler: &mut L,
     number: u64,
     found: Found,
     buffer: &[u8],
 ) -> Telling
     ensures tells { (line : List ℕ) → IsOf found buffer.now line →
-        Tells L.replies listener.old number line (told_of result (drop (length (L.lines listener.old)) (L.lines listener.new))) listener.new }
-    ensures grows { length (L.lines listener.old) ≤ length (L.lines listener.new) }
+        Tells L.replies handler.old number line (told_of result (drop (length (L.lines handler.old)) (L.lines handler.new))) handler.new }
+    ensures grows { length (L.lines handler.old) ≤ length (L.lines handler.new) }
     ensures goes_on { (said : List (List ℕ)) → ends (told_of result said) ≡ false → (number ≤ most_lines) × (found ≡ Found.Whole) }
 {
     if found == Found::NoMemory {
@@ -79,7 +79,7 @@ pub fn tell<L: Listener>(
     if is_blank(buffer) {
         return Telling::Said;
     }
-    match listener.listen(alloc, buffer) {
+    match handler.handle(alloc, buffer) {
         Ok(()) => return Telling::Said,
         Err(LineFault::Refused(refusal)) => return Telling::Refused(refusal),
         Err(LineFault::Stopped(halt)) => return Telling::Stopped(halt),

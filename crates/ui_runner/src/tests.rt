@@ -146,6 +146,24 @@ fn runs(rt: HostRuntime) -> Result<(), Fail> {
     Ok(())
 }
 
+// What is said is gathered: a write for each 4,096 bytes, and one before each read and at the end.
+#[test]
+fn gathers_what_it_writes(rt: HostRuntime) -> Result<(), Fail> {
+    let alloc = rt.alloc();
+    let mut events = Vec::new(alloc);
+    for _ in 0..1000 {
+        events.extend_from_slice(SET_AND_GET.as_bytes())?;
+    }
+    let got = run_over(alloc, BOX.as_bytes(), events.as_slice(), FAST, FAST)?;
+    assert_eq!(rt; (got.status, got.text.len(), got.reads), (0, 46_029, 11));
+    assert!(rt;
+        got.writes <= 46_029 / 4096 + 11 + 1,
+        "{} writes",
+        got.writes
+    );
+    Ok(())
+}
+
 // Of a definition that is refused nothing is read.
 #[test]
 fn refuses_each_beginning(rt: HostRuntime) -> Result<(), Fail> {

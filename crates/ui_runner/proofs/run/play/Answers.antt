@@ -11,4 +11,4 @@ pub returns-clause-plays : goal.returns-clause-plays
 returns-clause-plays g c =
     let first = rw c.transcript.ensures at c.in-Ok.ensures.puts in
     let story = rw c.forget.ensures at c.tell_lines.ensures.story in
-    plays c.args.session _ _ _ _ _ _ _ _ _ c.tell_lines.result c.tell_lines.new.listener c.requires.empty first story
+    plays c.args.session _ _ _ _ _ _ _ _ _ c.tell_lines.result c.tell_lines.new.handler c.requires.empty first story

@@ -4,12 +4,12 @@ use Rattle.ui_machine.specs.Limits.{most_lines}
 use Rattle.ui_runner.specs.Reading.{WhereKnown}
 use Rattle.ui_runner.specs.Story.{Outcome}
 use Rattle.ui_runner.proofs.Runs.{Came, IsAt}
-use Rattle.ui_runner.proofs.story.tell_lines.Given as goal
+use Rattle.ui_runner.proofs.event_file.tell_lines.Given as goal
 
 abbrev pub invariant-loop-next : goal.invariant-loop-next
 invariant-loop-next g l = record {
   came : (done : List (List ℕ)) × (outcomes : List Outcome)
-      × Came g.L.Listener.replies g.L.Listener.forgotten l.fn.listener l.fn.output.gather l.listener l.number l.status false (l.reader ≡ l.fn.reader)
+      × Came g.L.LineHandler.replies g.L.LineHandler.forgotten l.fn.handler l.fn.output.gather l.handler l.number l.status false (l.reader ≡ l.fn.reader)
       (g.R.Feed.left l.fn.reader) (g.R.Feed.left l.reader) (g.W.Sink.taken l.fn.output.writer) (g.W.Sink.taken l.output.writer) l.output.gather done outcomes
       × WhereKnown (g.R.Feed.left l.fn.reader) (prepend_known l.lines.chunk (g.R.Feed.left l.reader)) (λ xs ys. IsAt done xs ys);
   reader_works : g.R.Feed.failed l.reader ≡ false;

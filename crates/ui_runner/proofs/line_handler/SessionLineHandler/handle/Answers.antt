@@ -4,7 +4,7 @@ use Rattle.ui_machine.specs.Definition.{Definition}
 use Rattle.builder_defs.specs.Meaning.{event_of}
 use Rattle.builder_defs.specs.EventMeaning.{event_denoted, Fails}
 use Rattle.ui_runner.proofs.EventLemmas.{unread, said_event, halted}
-use Rattle.ui_runner.proofs.hearing.SessionListener.listen.Goals as goal
+use Rattle.ui_runner.proofs.line_handler.SessionLineHandler.handle.Goals as goal
 
 pub returns-in_err-event-clause-replies : goal.returns-in_err-event-clause-replies
 returns-in_err-event-clause-replies c =

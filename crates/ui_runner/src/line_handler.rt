@@ -1,13 +1,13 @@
-//! What the lines of a run are told to.
+//! What handles the lines of a run: a session, which carries out the events that they denote.
 
 ghost use Rattle.std.specs.Prelude.{◌≡◌, ◌≤◌, ℕ, List, map, length, drop, string_bytes};
 ghost use Rattle.ui_runner.specs.Story.{Replies};
 ghost use Rattle.ui_runner.specs.Telling.{outcome_of};
 
 use crate::refusal::LineRefusal;
-use builder_defs::EventError;
+use builder_defs::{EventError, read_event};
 use std::alloc::Global;
-use ui_engine::SessionFault;
+use ui_engine::{Session, SessionFault};
 use ui_machine::Halt;
 
 /// Why an event line was not carried out to its end.
@@ -51,7 +51,7 @@ impl From<SessionFault> for LineFault {
 }
 
 /// Carries out event lines, and keeps a transcript.
-pub trait Listener {
+pub trait LineHandler {
     /// What it may answer to a line, and how it stands then.
     ghost replies: { Replies Self };
 
@@ -70,7 +70,32 @@ pub trait Listener {
         ensures { self.new ≡ forgotten self.old };
 
     /// Carries out one line, neither blank nor past the limit.
-    fn listen(&mut self, alloc: Global, line: &[u8]) -> Result<(), LineFault>
+    fn handle(&mut self, alloc: Global, line: &[u8]) -> Result<(), LineFault>
         ensures grows { length (lines self.old) ≤ length (lines self.new) }
         ensures replies { replies self.old line.now (outcome_of result (drop (length (lines self.old)) (lines self.new))) self.new };
+}
+
+impl LineHandler for Session {
+    ghost use Rattle.ui_engine.specs.SessionView.{without_lines};
+    ghost use Rattle.ui_runner.specs.Events.{event_replies};
+
+    ghost replies = { event_replies };
+
+    ghost lines = { λ s. s.world.transcript };
+
+    ghost forgotten = { without_lines };
+
+    fn transcript(&self) -> &[String] {
+        Session::transcript(self)
+    }
+
+    fn forget(&mut self) {
+        Session::forget(self);
+    }
+
+    fn handle(&mut self, alloc: Global, line: &[u8]) -> Result<(), LineFault> {
+        let event = read_event(alloc, self.definition(), line)?;
+        self.dispatch(event)?;
+        Ok(())
+    }
 }
