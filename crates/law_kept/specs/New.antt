@@ -65,7 +65,8 @@ NewObjectsGood =
 -- handlers stay good, where those that are still to be connected at the new object's place cost no more than is reckoned there
 abbrev pub NewHandlersGood : Type 0
 NewHandlersGood =
-    (d : Definition) (costs depths : Tables) (s z : Standing) (new place last : ℕ) (w : World) (agenda : List Task) → OneMoreStands s z new place →
+    (d : Definition) (costs depths : Tables) (s z : Standing) (new place last : ℕ) (w : World) (agenda : List Task) →
+        OneMoreStands s z new place →
     ((r : Raised) → IsIn r (graph d).raised → place_of_channel r.channel ≡ place →
     total (of_items (connecting_cost d costs r.channel)) agenda ≤ programs_cost costs r.handlers) →
     HandlersGood d costs depths s agenda last w.handlers → HandlersGood d costs depths z agenda last w.handlers

@@ -24,7 +24,8 @@ use Rattle.law_static.specs.Fits.{AllHold}
 -- ** an instruction that is taken
 
 -- what is known of the instruction that a program has come to, and of what it costs
-pub record Taken (d : Definition) (costs depths : Tables) (s : Standing) (f : Frame) (steps frames : ℕ) (r : RunningGood d costs depths s none f steps frames) (i : Instruction) : Type 0 where
+pub record Taken (d : Definition) (costs depths : Tables) (s : Standing) (f : Frame) (steps frames : ℕ)
+    (r : RunningGood d costs depths s none f steps frames) (i : Instruction) : Type 0 where
   -- it keeps its rule, with the kinds that the registers have
   pub typed : typing.typed d r.p r.ks i ≡ Ok (after d r.p r.ks i)
   -- these are the kinds of its place
@@ -74,6 +75,7 @@ registers_with registers args = map (λ (v : Value). Some v) args ++ replicate (
 -- they hold what the first block says, where what is given holds what the parameters say
 abbrev pub FirstRegistersFit : Type 0
 FirstRegistersFit =
-    (d : Definition) → WellRead d → (s : Standing) (number : ℕ) (p : Program) (b : Block) (args : List Value) → program_at d number ≡ Some p →
+    (d : Definition) → WellRead d → (s : Standing) (number : ℕ) (p : Program) (b : Block) (args : List Value) →
+        program_at d number ≡ Some p →
     slice_get p.blocks 0 ≡ Some b → AllHold d s args p.params →
     (length (registers_with p.registers args) ≡ p.registers) × RegistersFit d s b.entry (registers_with p.registers args)

@@ -39,7 +39,8 @@ HoldsKind =
 
 -- a register whose kind says that it is set has a value
 abbrev pub HoldsSet : Type 0
-HoldsSet = (d : Definition) (s : Standing) (k : RegisterKind) (v : Option Value) → is_set k ≡ true → holds d s k v ≡ true → (x : Value) × (v ≡ Some x)
+HoldsSet = (d : Definition) (s : Standing) (k : RegisterKind) (v : Option Value) → is_set k ≡ true → holds d s k v ≡ true →
+    (x : Value) × (v ≡ Some x)
 
 -- ** operands
 

@@ -33,7 +33,8 @@ IsIn x (y ∷ ys) = (x ≡ y) ⊎ IsIn x ys
 -- a rank rises along each edge that leads to the node of a channel
 abbrev pub RanksRise : Type 0
 RanksRise =
-    (g : Graph) (ranks : Table) → IsRanking g ranks → (a : Arrow) → IsIn a (arrows g) → IsIn a.to (nodes g) → entry ranks a.from < entry ranks a.to
+    (g : Graph) (ranks : Table) → IsRanking g ranks → (a : Arrow) → IsIn a (arrows g) → IsIn a.to (nodes g) →
+        entry ranks a.from < entry ranks a.to
 
 -- in the graph of a definition each edge does
 abbrev pub EdgesLeadToNodes : Type 0

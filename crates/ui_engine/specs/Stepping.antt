@@ -32,5 +32,6 @@ Ran (Err halt) d c e = Halts d [] c halt e.world.transcript
 
 -- a whole dispatch, or how far it came
 abbrev pub Carried : Result Reply Halt → Definition → Config → World → Type 0
-Carried (Ok reply) d c new = Dispatches d [] c reply.steps new × (option_map value_view reply.result ≡ new.result) × (reply.dispatches ≡ 1) × IsHeld new []
+Carried (Ok reply) d c new = Dispatches d [] c reply.steps new × (option_map value_view reply.result ≡ new.result)
+    × (reply.dispatches ≡ 1) × IsHeld new []
 Carried (Err halt) d c new = Halts d [] c halt new.transcript

@@ -45,7 +45,8 @@ step_depth depths place (sets slot v) = entry depths.channels (property place sl
 step_depth depths place (runs program) = of_program depths program
 step_depth depths place thaws = 0
 
-pub record ConstructingGood (d : Definition) (costs depths : Tables) (w : View) (id : ℕ) (todo : List Making) (held : Bool) (steps frames : ℕ) : Type 0 where
+pub record ConstructingGood (d : Definition) (costs depths : Tables) (w : View) (id : ℕ) (todo : List Making) (held : Bool)
+    (steps frames : ℕ) : Type 0 where
   pub place : ℕ
   pub is : w.stands id ≡ Some place
   -- what the builder makes is of the place that it comes to next

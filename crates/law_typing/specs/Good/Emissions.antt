@@ -34,13 +34,15 @@ pub record DueGood (d : Definition) (costs depths : Tables) (s : Standing) (belo
   pub shallow : due_depth d depths below (property place slot) ≤ frames
 
 -- a due set: its value is of the property's kind, and lives; whether it is in range is looked at as it is set
-pub record SettingGood (d : Definition) (costs depths : Tables) (s : Standing) (below : List Task) (id slot : ℕ) (v : Value) (steps frames : ℕ) : Type 0 where
+pub record SettingGood (d : Definition) (costs depths : Tables) (s : Standing) (below : List Task) (id slot : ℕ) (v : Value)
+    (steps frames : ℕ) : Type 0 where
   pub due : DueGood d costs depths s below id slot steps frames
   pub kind : has_kind v due.spec.kind ≡ true
   pub lives : lives_by s v ≡ true
 
 -- a due notification: its property is readable
-pub record NotifyingGood (d : Definition) (costs depths : Tables) (s : Standing) (below : List Task) (id slot steps frames : ℕ) : Type 0 where
+pub record NotifyingGood (d : Definition) (costs depths : Tables) (s : Standing) (below : List Task)
+    (id slot steps frames : ℕ) : Type 0 where
   pub due : DueGood d costs depths s below id slot steps frames
   pub readable : is_readable due.spec ≡ true
 
@@ -49,7 +51,8 @@ abbrev pub GoesBack : Definition → (number : ℕ) → (back : Bool) → Type 0
 GoesBack d number back = back ≡ true → (b : Bind) → slice_get d.bindings number ≡ Some b → is_pair b ≡ true
 
 -- a due transfer: its binding does not set
-pub record TransferringGood (d : Definition) (costs depths : Tables) (w : View) (below : List Task) (number : ℕ) (back : Bool) (steps frames : ℕ) : Type 0 where
+pub record TransferringGood (d : Definition) (costs depths : Tables) (w : View) (below : List Task) (number : ℕ) (back : Bool)
+    (steps frames : ℕ) : Type 0 where
   pub still : (b : Binding) → binding_of number w.bindings ≡ Some b → b.busy ≡ false
   pub goes_back : GoesBack d number back
   pub cheap : transfer_cost d costs below back (slice_get d.bindings number) ≤ steps
@@ -76,7 +79,8 @@ TurnGood d w e (config.transfer number back) =
     GoesBack d number back × ((b : Binding) → binding_of number w.bindings ≡ Some b → (slot : ℕ) × (listens e.object slot b ≡ true))
 
 -- the rest of an emission; its program's result, if one comes down, is what the signal wants
-pub record EmittingGood (d : Definition) (costs depths : Tables) (w : View) (up : Down) (below : List Task) (e : Emission) (turns : List PlanEntry) (steps frames : ℕ) : Type 0 where
+pub record EmittingGood (d : Definition) (costs depths : Tables) (w : View) (up : Down) (below : List Task) (e : Emission)
+    (turns : List PlanEntry) (steps frames : ℕ) : Type 0 where
   pub fits : EmissionFits d (w.stands) e
   pub suits : Suits d fits.sig.result up
   pub turns_fit : Each (TurnGood d w e) turns

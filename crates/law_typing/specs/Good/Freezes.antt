@@ -52,7 +52,8 @@ pub record QueueGood (d : Definition) (depths : Tables) (most : ℕ) (agenda : L
   pub deep : Each (λ slot. suc (below_lowest d id agenda) + entry depths.channels (property o.place slot) ≤ most) o.queue
 
 abbrev pub QueuesGood : Definition → Tables → ℕ → List Task → ℕ → Objects → Type 0
-QueuesGood d depths most agenda counted os = (id : ℕ) (o : Object) → heap.living os id ≡ Some o → QueueGood d depths most agenda counted id o
+QueuesGood d depths most agenda counted os = (id : ℕ) (o : Object) → heap.living os id ≡ Some o →
+    QueueGood d depths most agenda counted id o
 
 -- what the queued notifications of an object may still cost
 abbrev pub carried : Definition → Tables → Option Object → ℕ

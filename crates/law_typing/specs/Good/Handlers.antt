@@ -68,16 +68,20 @@ connecting_cost d costs c item = 0
 -- there, cost together no more than the channel's part for them: said as a sum, so that it survives each disconnection. Those of bytecode
 -- are no more than the limit, and each costs no more than
 -- the costliest connectable one. None is deeper than what the channel's depth counts.
-pub record ChannelGood (d : Definition) (costs depths : Tables) (agenda : List Task) (id : ℕ) (hs : List Handler) (r : Raised) : Type 0 where
+pub record ChannelGood (d : Definition) (costs depths : Tables) (agenda : List Task) (id : ℕ) (hs : List Handler)
+    (r : Raised) : Type 0 where
   pub own :
-      total (λ (h : Handler). of_program costs h.program) (running_for d false id r.channel hs) + total (of_items (connecting_cost d costs r.channel)) agenda
+      total (λ (h : Handler). of_program costs h.program) (running_for d false id r.channel hs)
+          + total (of_items (connecting_cost d costs r.channel)) agenda
       ≤ programs_cost costs r.handlers
-  pub connected : Each (λ (h : Handler). of_program costs h.program ≤ greatest (of_program costs) r.connectable) (running_for d true id r.channel hs)
+  pub connected : Each (λ (h : Handler). of_program costs h.program ≤ greatest (of_program costs) r.connectable)
+      (running_for d true id r.channel hs)
   pub own_shallow : Each (λ (h : Handler). of_program depths h.program ≤ depth_within depths r) (running_for d false id r.channel hs)
   pub connected_shallow : Each (λ (h : Handler). of_program depths h.program ≤ depth_within depths r) (running_for d true id r.channel hs)
 
 -- the handlers of a world, of which the last one connected has this number
-pub record HandlersGood (d : Definition) (costs depths : Tables) (s : Standing) (agenda : List Task) (last : ℕ) (hs : List Handler) : Type 0 where
+pub record HandlersGood (d : Definition) (costs depths : Tables) (s : Standing) (agenda : List Task) (last : ℕ)
+    (hs : List Handler) : Type 0 where
   -- each names what lives, and its program takes what it is given
   pub each : Each (HandlerGood d s) hs
   -- their numbers rise

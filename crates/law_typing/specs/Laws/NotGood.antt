@@ -19,7 +19,8 @@ use Rattle.ui_machine.specs.Words.{class_type, property, notify, class_with, blo
 -- two classes that have nothing to do with each other, and a program that is for things of the first
 abbrev pub definition : Definition
 definition = record {
-  types = plain_class (codes "GObject") None [] ∷ class_type (codes "One") 0 false false [] ∷ class_type (codes "Two") 0 false false [] ∷ [];
+  types = plain_class (codes "GObject") None [] ∷ class_type (codes "One") 0 false false []
+      ∷ class_type (codes "Two") 0 false false [] ∷ [];
   classes =
       class_with [] (notify ∷ []) [] None None
       ∷ class_with (property (codes "on") kinds.bool 3 (values.bool false) (pos 0) (pos 0) false ∷ []) (notify ∷ []) [] None None

@@ -27,14 +27,24 @@ definition = record {
   classes =
       class_with [] (notify ∷ []) [] None None
       ∷ class_with [] (notify ∷ []) [] None None
-      ∷ class_with (property (codes "value") (kinds.whole kinds.int) 3 (values.whole kinds.int (pos 0)) (negsuc 2147483647) (pos 2147483647) false ∷ property (codes "secret") (kinds.whole kinds.int) 2 (values.whole kinds.int (pos 0)) (negsuc 2147483647) (pos 2147483647) false ∷ property (codes "level") (kinds.whole kinds.int) 1 (values.whole kinds.int (pos 0)) (negsuc 2147483647) (pos 2147483647) false ∷ property (codes "serial") (kinds.whole kinds.int) 11 (values.whole kinds.int (pos 0)) (negsuc 2147483647) (pos 2147483647) false ∷ property (codes "next") (kinds.object 2) 3 (values.object None) (pos 0) (pos 0) false ∷ []) (notify ∷ signal (codes "turned") [] None 2 None ∷ []) [] None None
+      ∷ class_with (property (codes "value") (kinds.whole kinds.int) 3 (values.whole kinds.int (pos 0)) (negsuc 2147483647)
+          (pos 2147483647) false
+          ∷ property (codes "secret") (kinds.whole kinds.int) 2 (values.whole kinds.int (pos 0)) (negsuc 2147483647)
+          (pos 2147483647) false
+          ∷ property (codes "level") (kinds.whole kinds.int) 1 (values.whole kinds.int (pos 0)) (negsuc 2147483647)
+          (pos 2147483647) false
+          ∷ property (codes "serial") (kinds.whole kinds.int) 11 (values.whole kinds.int (pos 0)) (negsuc 2147483647)
+          (pos 2147483647) false ∷ property (codes "next") (kinds.object 2) 3 (values.object None) (pos 0) (pos 0) false ∷ []) (notify
+          ∷ signal (codes "turned") [] None 2 None ∷ []) [] None None
       ∷ [];
   shapes =
       [];
   programs =
       program (codes "p") ((kinds.some 2) ∷ []) 6 None
-      (block ((kinds.some 2) ∷ kinds.unset ∷ kinds.unset ∷ kinds.unset ∷ kinds.unset ∷ kinds.unset ∷ []) 1 (words.const 1 kinds.text (values.text (Some (codes "x"))) ∷ words.jump 1 ∷ [])
-      ∷ block ((kinds.some 2) ∷ (kinds.plain kinds.text) ∷ kinds.unset ∷ kinds.unset ∷ kinds.unset ∷ kinds.unset ∷ []) 1 (words.return None ∷ [])
+      (block ((kinds.some 2) ∷ kinds.unset ∷ kinds.unset ∷ kinds.unset ∷ kinds.unset ∷ kinds.unset
+          ∷ []) 1 (words.const 1 kinds.text (values.text (Some (codes "x"))) ∷ words.jump 1 ∷ [])
+      ∷ block ((kinds.some 2) ∷ (kinds.plain kinds.text) ∷ kinds.unset ∷ kinds.unset ∷ kinds.unset ∷ kinds.unset
+          ∷ []) 1 (words.return None ∷ [])
       ∷ [])
       ∷ [];
   places =
@@ -54,7 +64,8 @@ p = read (program [] [] 0 None []) definition.programs 0
 -- a knob, a number, a text, a knob or null, and two registers that hold nothing
 abbrev pub before : Kinds
 before =
-    kinds.some 2 ∷ kinds.plain (kinds.whole kinds.int) ∷ kinds.plain kinds.text ∷ kinds.plain (kinds.object 2) ∷ kinds.unset ∷ kinds.unset ∷ []
+    kinds.some 2 ∷ kinds.plain (kinds.whole kinds.int) ∷ kinds.plain kinds.text ∷ kinds.plain (kinds.object 2) ∷ kinds.unset
+        ∷ kinds.unset ∷ []
 
 -- what an instruction answers there
 abbrev pub answer : Instruction → Typing Kinds
@@ -97,5 +108,6 @@ pub record BracketWords : Type 0 where
   pub left_open : is_balanced (words.freeze 0 ∷ words.return None ∷ []) ≡ false
   pub thaw_first : is_balanced (words.thaw 0 ∷ words.freeze 0 ∷ words.return None ∷ []) ≡ false
   pub written_between : is_balanced (words.freeze 0 ∷ words.move 0 0 ∷ words.thaw 0 ∷ words.return None ∷ []) ≡ false
-  pub result_between : is_balanced (words.freeze 0 ∷ words.emit (Some 0) 1 (codes "s") None [] ∷ words.thaw 0 ∷ words.return None ∷ []) ≡ false
+  pub result_between : is_balanced (words.freeze 0 ∷ words.emit (Some 0) 1 (codes "s") None [] ∷ words.thaw 0 ∷ words.return None
+      ∷ []) ≡ false
   pub another_written : is_balanced (words.freeze 0 ∷ words.move 1 0 ∷ words.thaw 0 ∷ words.return None ∷ []) ≡ true

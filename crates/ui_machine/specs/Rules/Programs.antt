@@ -1,5 +1,5 @@
 -- How a program begins: what fits its parameters, and its first registers (GObject manual, closures: g_closure_invoke).
-use Rattle.std.specs.Prelude.{ℕ, ◌-◌, Bool, true, false, ◌&&◌, nat_eq, List, [], ◌∷◌, ◌++◌, length, replicate, Option, None, Some, option_map, slice_get}
+use Rattle.std.specs.Prelude.{ℕ, ◌-◌, Bool, true, false, ◌&&◌, nat_eq, List, [], ◌∷◌, ◌++◌, length, map, replicate, Option, None, Some, option_map, slice_get}
 use Rattle.ui_machine.specs.declared.arm.Arm.TheVariants as arms
 use Rattle.ui_machine.specs.Definition.Kinds.{Kind, RegisterKind}
 use Rattle.ui_machine.specs.Definition.Kinds as kinds
@@ -51,11 +51,7 @@ all_fit fits (v ∷ vs) (k ∷ ks) = fits v k && all_fit fits vs ks
 
 -- the parameters are the first registers, and the others are unset
 abbrev pub first_registers : Program → List Value → Registers
-first_registers p args = given args ++ replicate (p.registers - length args) None
-  where
-    given : List Value → Registers
-    given [] = []
-    given (v ∷ vs) = Some v ∷ given vs
+first_registers p args = map (λ v. Some v) args ++ replicate (p.registers - length args) None
 
 -- how often a block is passed; what a program has no block for is passed once
 abbrev pub passes_of : Option Block → ℕ
