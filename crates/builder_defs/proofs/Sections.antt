@@ -10,7 +10,7 @@ use Rattle.builder_defs.specs.declared.fault.ReadError.{ReadError}
 use Rattle.builder_defs.specs.Refusals.{Refusal, Fails, shape, or_refused}
 use Rattle.builder_defs.specs.Document.{under, nothing_at, entries_at, each, at_entry}
 use Rattle.builder_defs.specs.Denoted.Enums.{three_in, some_items, some_entries_at, enum_at, flags_at}
-use Rattle.builder_defs.specs.Denoted.Classes.{Draft, bare_draft, class_at}
+use Rattle.builder_defs.specs.Denoted.Classes.{bare_draft, class_at}
 use Rattle.builder_defs.specs.Denoted.{unset_before_enums, unset_before_classes, enums_in, flags_in, classes_in}
 use Rattle.builder_defs.proofs.Chains.{fails_as}
 

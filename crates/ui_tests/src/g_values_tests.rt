@@ -2,9 +2,9 @@
 
 use crate::fixtures::{marks_kind, mode_kind, number_of, times, tree_of_members, value_of};
 use g_values::{
-    JsonError, Kind, MOST_TEXT_BYTES, TransformError, TransformFault, Value, from_json, has_number, is_at_most,
-    is_equal, is_known, is_less, is_same, kind_of, known_bits, transform, transformable,
-    wrapping_difference, wrapping_product, wrapping_sum, zero_of,
+    JsonError, Kind, MOST_TEXT_BYTES, TransformError, TransformFault, Value, from_json, has_number,
+    is_at_most, is_equal, is_known, is_less, is_same, kind_of, known_bits, transform,
+    transformable, wrapping_difference, wrapping_product, wrapping_sum, zero_of,
 };
 use std::alloc::Global;
 use std::rc::RcStr;
