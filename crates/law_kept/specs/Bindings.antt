@@ -18,13 +18,13 @@ use Rattle.law_kept.specs.Agenda.{Stays}
 abbrev pub NoMoreFrozen : Standing → Objects → Objects → Type 0
 NoMoreFrozen s os new =
     (id place : ℕ) (o : Object) → s id ≡ Some place → living new id ≡ Some o → (p : Object) × (living os id ≡ Some p)
-        × (p.freezes ≡ 0 → o.freezes ≡ 0)
+    × (p.freezes ≡ 0 → o.freezes ≡ 0)
 
 -- those that are left after others ended stay good, where their ends stand as they stood
 abbrev pub BindingsLeft : Type 0
 BindingsLeft =
     (d : Definition) (s z : Standing) (agenda : List Task) (os new : Objects) (bs : List Binding) (test : Binding → Bool) →
-        NoMoreFrozen s os new →
+    NoMoreFrozen s os new →
     ((b : Binding) → test b ≡ true → Stays s z b.source × Stays s z b.target) → BindingsGood d s agenda os bs →
     BindingsGood d z agenda new (filter test bs)
 
@@ -32,7 +32,7 @@ BindingsLeft =
 abbrev pub LeftBindingsFound : Type 0
 LeftBindingsFound =
     (d : Definition) (s : Standing) (agenda : List Task) (os : Objects) (bs : List Binding) (test : Binding → Bool) →
-        BindingsGood d s agenda os bs →
+    BindingsGood d s agenda os bs →
     (number : ℕ) (b : Binding) → binding_of number (filter test bs) ≡ Some b → binding_of number bs ≡ Some b
 
 -- an agenda with one more task that sets the binding of this number free
@@ -68,6 +68,6 @@ pub record NextBinding (d : Definition) (s : Standing) (agenda rest : List Task)
 abbrev pub BindingMade : Type 0
 BindingMade =
     (d : Definition) (s : Standing) (agenda rest : List Task) (os : Objects) (bs : List Binding) (number : ℕ) (b : Bind)
-        (source target : ℕ) →
+    (source target : ℕ) →
     NextBinding d s agenda rest os number b source target → BindingsGood d s agenda os bs →
     BindingsGood d s rest os (bs ++ new_binding number b source target ∷ [])

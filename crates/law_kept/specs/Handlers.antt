@@ -35,7 +35,7 @@ pub record OnlyBlocks (change : Handler → Handler) : Type 0 where
 abbrev pub HandlersChanged : Type 0
 HandlersChanged =
     (d : Definition) (costs depths : Tables) (s : Standing) (agenda : List Task) (last : ℕ) (hs : List Handler)
-        (change : Handler → Handler) →
+    (change : Handler → Handler) →
     OnlyBlocks change → HandlersGood d costs depths s agenda last hs → HandlersGood d costs depths s agenda last (map change hs)
 
 -- among those that are left a number finds what it found, if it finds something

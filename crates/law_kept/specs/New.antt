@@ -66,7 +66,7 @@ NewObjectsGood =
 abbrev pub NewHandlersGood : Type 0
 NewHandlersGood =
     (d : Definition) (costs depths : Tables) (s z : Standing) (new place last : ℕ) (w : World) (agenda : List Task) →
-        OneMoreStands s z new place →
+    OneMoreStands s z new place →
     ((r : Raised) → IsIn r (graph d).raised → place_of_channel r.channel ≡ place →
     total (of_items (connecting_cost d costs r.channel)) agenda ≤ programs_cost costs r.handlers) →
     HandlersGood d costs depths s agenda last w.handlers → HandlersGood d costs depths z agenda last w.handlers

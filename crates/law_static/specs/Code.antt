@@ -76,6 +76,6 @@ registers_with registers args = map (λ (v : Value). Some v) args ++ replicate (
 abbrev pub FirstRegistersFit : Type 0
 FirstRegistersFit =
     (d : Definition) → WellRead d → (s : Standing) (number : ℕ) (p : Program) (b : Block) (args : List Value) →
-        program_at d number ≡ Some p →
+    program_at d number ≡ Some p →
     slice_get p.blocks 0 ≡ Some b → AllHold d s args p.params →
     (length (registers_with p.registers args) ≡ p.registers) × RegistersFit d s b.entry (registers_with p.registers args)

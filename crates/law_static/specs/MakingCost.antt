@@ -22,4 +22,4 @@ abbrev pub ConstructionCosts : Type 0
 ConstructionCosts =
     (d : Definition) (a : Accepted d) (w : World) (place : ℕ) (p : Place) → place_at d place ≡ Some p → PlaceRead d place p →
     total (step_cost d a.weighed.costs place) (construction d w place p) ≤ making_cost (graph d) a.weighed.costs
-        (raised_by_making d place p)
+    (raised_by_making d place p)

@@ -195,7 +195,7 @@ abbrev pub set_from : (place : ℕ) → List GivenProperty → ℕ → List Spec
 set_from place given slot [] = []
 set_from place given slot (s ∷ specs) =
     cond (is_at_construction s || list_any (is_given place slot) given) (property place slot ∷ []) []
-        ++ set_from place given (suc slot) specs
+    ++ set_from place given (suc slot) specs
 
 -- what the making of a place's object raises: its construction, and its built properties, which are the readable ones of those
 abbrev pub raised_by_making : Definition → ℕ → Place → List Channel

@@ -34,7 +34,7 @@ IsIn x (y ∷ ys) = (x ≡ y) ⊎ IsIn x ys
 abbrev pub RanksRise : Type 0
 RanksRise =
     (g : Graph) (ranks : Table) → IsRanking g ranks → (a : Arrow) → IsIn a (arrows g) → IsIn a.to (nodes g) →
-        entry ranks a.from < entry ranks a.to
+    entry ranks a.from < entry ranks a.to
 
 -- in the graph of a definition each edge does
 abbrev pub EdgesLeadToNodes : Type 0

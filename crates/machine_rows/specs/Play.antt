@@ -67,8 +67,14 @@ has_ended d c = is_empty c.agenda && (is_empty c.world.floating && is_none (next
 abbrev pub played_out : ℕ → Definition → Config → List Scripted → Answer (Played Config)
 played_out zero d c script = Err arms.Steps
 played_out (suc n) d c script =
-    elim (has_ended d c) [ true ↦ Ok (record { at =
-        c; script = script }) | false ↦ played_step d c script >>= (λ p. played_out n d p.at p.script) ]
+    elim (has_ended d c) [
+      | true ↦ Ok (record {
+        at =
+            c;
+        script = script;
+      })
+      | false ↦ played_step d c script >>= (λ p. played_out n d p.at p.script)
+    ]
 
 -- the most steps of a dispatch that is played
 abbrev pub most_played : ℕ

@@ -20,8 +20,8 @@ definition = record {
       class_with [] (notify ∷ []) [] None None
       ∷ class_with [] (notify ∷ []) [] None None
       ∷ class_with (property (codes "value") (kinds.whole kinds.int) 3 (values.whole kinds.int (pos 0)) (negsuc 2147483647)
-          (pos 2147483647) false ∷ property (codes "on") kinds.bool 3 (values.bool false) (pos 0) (pos 0) false ∷ []) (notify
-          ∷ signal (codes "turned") [] None 2 None ∷ []) [] None None
+      (pos 2147483647) false ∷ property (codes "on") kinds.bool 3 (values.bool false) (pos 0) (pos 0) false ∷ []) (notify
+      ∷ signal (codes "turned") [] None 2 None ∷ []) [] None None
       ∷ [];
   shapes =
       [];
@@ -30,7 +30,7 @@ definition = record {
       (block ((kinds.at 0) ∷ kinds.unset ∷ kinds.unset ∷ []) 1 (words.object 1 (codes "b") ∷ words.branch_null 1 1 2 ∷ [])
       ∷ block (kinds.unset ∷ kinds.unset ∷ kinds.unset ∷ []) 1 (words.return None ∷ [])
       ∷ block ((kinds.at 0) ∷ (kinds.at 1) ∷ kinds.unset ∷ []) 1 (words.get 2 0 (codes "value") ∷ words.set 1 (codes "value") 2
-          ∷ words.return None ∷ [])
+      ∷ words.return None ∷ [])
       ∷ [])
       ∷ program (codes "make") ((kinds.at 0) ∷ []) 2 None
       (block ((kinds.at 0) ∷ kinds.unset ∷ []) 1 (words.new 1 (codes "spare") ∷ words.return None ∷ [])
@@ -38,7 +38,7 @@ definition = record {
       ∷ [];
   places =
       object (codes "a") 2 None [] [] (attached (codes "notify") (Some (codes "value")) 0 false false None
-          ∷ attached (codes "turned") None 1 false false None ∷ [])
+      ∷ attached (codes "turned") None 1 false false None ∷ [])
       ∷ object (codes "b") 2 None [] [] []
       ∷ object (codes "c") 2 None [] [] []
       ∷ prototype (codes "spare") 2 (gives 0 (value (values.whole kinds.int (pos 1))) ∷ []) []

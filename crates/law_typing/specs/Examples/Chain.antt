@@ -19,32 +19,32 @@ definition = record {
       class_with [] (notify ∷ []) [] None None
       ∷ class_with [] (notify ∷ []) [] None None
       ∷ class_with (property (codes "p0") (kinds.whole kinds.int) 3 (values.whole kinds.int (pos 0)) (negsuc 2147483647)
-          (pos 2147483647) false
-          ∷ property (codes "p1") (kinds.whole kinds.int) 3 (values.whole kinds.int (pos 0)) (negsuc 2147483647) (pos 2147483647) false
-          ∷ property (codes "p2") (kinds.whole kinds.int) 3 (values.whole kinds.int (pos 0)) (negsuc 2147483647) (pos 2147483647) false
-          ∷ property (codes "p3") (kinds.whole kinds.int) 3 (values.whole kinds.int (pos 0)) (negsuc 2147483647)
-          (pos 2147483647) false ∷ []) (notify ∷ []) [] None None
+      (pos 2147483647) false
+      ∷ property (codes "p1") (kinds.whole kinds.int) 3 (values.whole kinds.int (pos 0)) (negsuc 2147483647) (pos 2147483647) false
+      ∷ property (codes "p2") (kinds.whole kinds.int) 3 (values.whole kinds.int (pos 0)) (negsuc 2147483647) (pos 2147483647) false
+      ∷ property (codes "p3") (kinds.whole kinds.int) 3 (values.whole kinds.int (pos 0)) (negsuc 2147483647)
+      (pos 2147483647) false ∷ []) (notify ∷ []) [] None None
       ∷ [];
   shapes =
       [];
   programs =
       program (codes "g0") ((kinds.some 2) ∷ []) 2 None
       (block ((kinds.some 2) ∷ kinds.unset ∷ []) 1 (words.get 1 0 (codes "p0") ∷ words.set 0 (codes "p1") 1 ∷ words.set 0 (codes "p1") 1
-          ∷ words.return None ∷ [])
+      ∷ words.return None ∷ [])
       ∷ [])
       ∷ program (codes "g1") ((kinds.some 2) ∷ []) 2 None
       (block ((kinds.some 2) ∷ kinds.unset ∷ []) 1 (words.get 1 0 (codes "p1") ∷ words.set 0 (codes "p2") 1 ∷ words.set 0 (codes "p2") 1
-          ∷ words.return None ∷ [])
+      ∷ words.return None ∷ [])
       ∷ [])
       ∷ program (codes "g2") ((kinds.some 2) ∷ []) 2 None
       (block ((kinds.some 2) ∷ kinds.unset ∷ []) 1 (words.get 1 0 (codes "p2") ∷ words.set 0 (codes "p3") 1 ∷ words.set 0 (codes "p3") 1
-          ∷ words.return None ∷ [])
+      ∷ words.return None ∷ [])
       ∷ [])
       ∷ [];
   places =
       object (codes "b") 2 None [] [] (attached (codes "notify") (Some (codes "p0")) 0 false false None
-          ∷ attached (codes "notify") (Some (codes "p1")) 1 false false None
-          ∷ attached (codes "notify") (Some (codes "p2")) 2 false false None ∷ [])
+      ∷ attached (codes "notify") (Some (codes "p1")) 1 false false None
+      ∷ attached (codes "notify") (Some (codes "p2")) 2 false false None ∷ [])
       ∷ [];
   bindings =
       [];

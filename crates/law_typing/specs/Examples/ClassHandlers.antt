@@ -19,19 +19,19 @@ definition = record {
       class_with [] (notify ∷ []) [] None None
       ∷ class_with [] (notify ∷ []) [] None None
       ∷ class_with (property (codes "value") (kinds.whole kinds.int) 3 (values.whole kinds.int (pos 0)) (negsuc 2147483647)
-          (pos 2147483647) false ∷ []) (notify ∷ signal (codes "turned") [] None 5 None ∷ []) (class_handler (codes "turned") 0 ∷ [])
-          (Some 1) None
+      (pos 2147483647) false ∷ []) (notify ∷ signal (codes "turned") [] None 5 None ∷ []) (class_handler (codes "turned") 0 ∷ [])
+      (Some 1) None
       ∷ [];
   shapes =
       [];
   programs =
       program (codes "bump") ((kinds.some 2) ∷ []) 2 None
       (block ((kinds.some 2) ∷ kinds.unset ∷ []) 1 (words.const 1 (kinds.whole kinds.int) (values.whole kinds.int (pos 1))
-          ∷ words.set 0 (codes "value") 1 ∷ words.return None ∷ [])
+      ∷ words.set 0 (codes "value") 1 ∷ words.return None ∷ [])
       ∷ [])
       ∷ program (codes "begin") ((kinds.some 2) ∷ []) 2 None
       (block ((kinds.some 2) ∷ kinds.unset ∷ []) 1
-          (words.connect 1 0 (connects (codes "turned") None (codes "rest") false false None) ∷ words.return None ∷ [])
+      (words.connect 1 0 (connects (codes "turned") None (codes "rest") false false None) ∷ words.return None ∷ [])
       ∷ [])
       ∷ program (codes "rest") ((kinds.some 2) ∷ []) 1 None
       (block ((kinds.some 2) ∷ []) 1 (words.return None ∷ [])

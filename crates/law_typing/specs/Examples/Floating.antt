@@ -26,7 +26,7 @@ definition = record {
   programs =
       program (codes "mk") ((kinds.some 2) ∷ []) 3 None
       (block ((kinds.some 2) ∷ kinds.unset ∷ kinds.unset ∷ []) 1 (words.new 1 (codes "it") ∷ words.new 2 (codes "it")
-          ∷ words.return None ∷ [])
+      ∷ words.return None ∷ [])
       ∷ [])
       ∷ program (codes "keep") ((kinds.some 2) ∷ []) 3 None
       (block ((kinds.some 2) ∷ kinds.unset ∷ kinds.unset ∷ []) 1 (words.new 1 (codes "it") ∷ words.branch_null 1 1 2 ∷ [])

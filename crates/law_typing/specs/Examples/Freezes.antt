@@ -19,17 +19,17 @@ definition = record {
       class_with [] (notify ∷ []) [] None None
       ∷ class_with [] (notify ∷ []) [] None None
       ∷ class_with (property (codes "a") (kinds.whole kinds.int) 3 (values.whole kinds.int (pos 0)) (negsuc 2147483647)
-          (pos 2147483647) false
-          ∷ property (codes "b") (kinds.whole kinds.int) 3 (values.whole kinds.int (pos 0)) (negsuc 2147483647)
-          (pos 2147483647) false ∷ []) (notify ∷ signal (codes "go") [] None 2 None ∷ []) [] None None
+      (pos 2147483647) false
+      ∷ property (codes "b") (kinds.whole kinds.int) 3 (values.whole kinds.int (pos 0)) (negsuc 2147483647)
+      (pos 2147483647) false ∷ []) (notify ∷ signal (codes "go") [] None 2 None ∷ []) [] None None
       ∷ [];
   shapes =
       [];
   programs =
       program (codes "f") ((kinds.some 2) ∷ []) 2 None
       (block ((kinds.some 2) ∷ kinds.unset ∷ []) 1 (words.const 1 (kinds.whole kinds.int) (values.whole kinds.int (pos 1))
-          ∷ words.freeze 0 ∷ words.set 0 (codes "a") 1 ∷ words.freeze 0 ∷ words.set 0 (codes "b") 1 ∷ words.thaw 0
-          ∷ words.set 0 (codes "a") 1 ∷ words.thaw 0 ∷ words.return None ∷ [])
+      ∷ words.freeze 0 ∷ words.set 0 (codes "a") 1 ∷ words.freeze 0 ∷ words.set 0 (codes "b") 1 ∷ words.thaw 0
+      ∷ words.set 0 (codes "a") 1 ∷ words.thaw 0 ∷ words.return None ∷ [])
       ∷ [])
       ∷ [];
   places =

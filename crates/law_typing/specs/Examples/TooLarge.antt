@@ -21,104 +21,104 @@ definition = record {
       class_with [] (notify ∷ []) [] None None
       ∷ class_with [] (notify ∷ []) [] None None
       ∷ class_with (property (codes "p0") (kinds.whole kinds.int) 3 (values.whole kinds.int (pos 0)) (negsuc 2147483647)
-          (pos 2147483647) false
-          ∷ property (codes "p1") (kinds.whole kinds.int) 3 (values.whole kinds.int (pos 0)) (negsuc 2147483647) (pos 2147483647) false
-          ∷ property (codes "p2") (kinds.whole kinds.int) 3 (values.whole kinds.int (pos 0)) (negsuc 2147483647) (pos 2147483647) false
-          ∷ property (codes "p3") (kinds.whole kinds.int) 3 (values.whole kinds.int (pos 0)) (negsuc 2147483647) (pos 2147483647) false
-          ∷ property (codes "p4") (kinds.whole kinds.int) 3 (values.whole kinds.int (pos 0)) (negsuc 2147483647) (pos 2147483647) false
-          ∷ property (codes "p5") (kinds.whole kinds.int) 3 (values.whole kinds.int (pos 0)) (negsuc 2147483647) (pos 2147483647) false
-          ∷ property (codes "p6") (kinds.whole kinds.int) 3 (values.whole kinds.int (pos 0)) (negsuc 2147483647) (pos 2147483647) false
-          ∷ property (codes "p7") (kinds.whole kinds.int) 3 (values.whole kinds.int (pos 0)) (negsuc 2147483647) (pos 2147483647) false
-          ∷ property (codes "p8") (kinds.whole kinds.int) 3 (values.whole kinds.int (pos 0)) (negsuc 2147483647) (pos 2147483647) false
-          ∷ property (codes "p9") (kinds.whole kinds.int) 3 (values.whole kinds.int (pos 0)) (negsuc 2147483647) (pos 2147483647) false
-          ∷ property (codes "p10") (kinds.whole kinds.int) 3 (values.whole kinds.int (pos 0)) (negsuc 2147483647)
-          (pos 2147483647) false ∷ []) (notify ∷ []) [] None None
+      (pos 2147483647) false
+      ∷ property (codes "p1") (kinds.whole kinds.int) 3 (values.whole kinds.int (pos 0)) (negsuc 2147483647) (pos 2147483647) false
+      ∷ property (codes "p2") (kinds.whole kinds.int) 3 (values.whole kinds.int (pos 0)) (negsuc 2147483647) (pos 2147483647) false
+      ∷ property (codes "p3") (kinds.whole kinds.int) 3 (values.whole kinds.int (pos 0)) (negsuc 2147483647) (pos 2147483647) false
+      ∷ property (codes "p4") (kinds.whole kinds.int) 3 (values.whole kinds.int (pos 0)) (negsuc 2147483647) (pos 2147483647) false
+      ∷ property (codes "p5") (kinds.whole kinds.int) 3 (values.whole kinds.int (pos 0)) (negsuc 2147483647) (pos 2147483647) false
+      ∷ property (codes "p6") (kinds.whole kinds.int) 3 (values.whole kinds.int (pos 0)) (negsuc 2147483647) (pos 2147483647) false
+      ∷ property (codes "p7") (kinds.whole kinds.int) 3 (values.whole kinds.int (pos 0)) (negsuc 2147483647) (pos 2147483647) false
+      ∷ property (codes "p8") (kinds.whole kinds.int) 3 (values.whole kinds.int (pos 0)) (negsuc 2147483647) (pos 2147483647) false
+      ∷ property (codes "p9") (kinds.whole kinds.int) 3 (values.whole kinds.int (pos 0)) (negsuc 2147483647) (pos 2147483647) false
+      ∷ property (codes "p10") (kinds.whole kinds.int) 3 (values.whole kinds.int (pos 0)) (negsuc 2147483647)
+      (pos 2147483647) false ∷ []) (notify ∷ []) [] None None
       ∷ [];
   shapes =
       [];
   programs =
       program (codes "g0") ((kinds.some 2) ∷ []) 2 None
       (block ((kinds.some 2) ∷ kinds.unset ∷ []) 1 (words.get 1 0 (codes "p0") ∷ words.set 0 (codes "p1") 1 ∷ words.set 0 (codes "p1") 1
-          ∷ words.set 0 (codes "p1") 1 ∷ words.set 0 (codes "p1") 1 ∷ words.return None ∷ [])
+      ∷ words.set 0 (codes "p1") 1 ∷ words.set 0 (codes "p1") 1 ∷ words.return None ∷ [])
       ∷ [])
       ∷ program (codes "g1") ((kinds.some 2) ∷ []) 2 None
       (block ((kinds.some 2) ∷ kinds.unset ∷ []) 1 (words.get 1 0 (codes "p1") ∷ words.set 0 (codes "p2") 1 ∷ words.set 0 (codes "p2") 1
-          ∷ words.set 0 (codes "p2") 1 ∷ words.set 0 (codes "p2") 1 ∷ words.return None ∷ [])
+      ∷ words.set 0 (codes "p2") 1 ∷ words.set 0 (codes "p2") 1 ∷ words.return None ∷ [])
       ∷ [])
       ∷ program (codes "g2") ((kinds.some 2) ∷ []) 2 None
       (block ((kinds.some 2) ∷ kinds.unset ∷ []) 1 (words.get 1 0 (codes "p2") ∷ words.set 0 (codes "p3") 1 ∷ words.set 0 (codes "p3") 1
-          ∷ words.set 0 (codes "p3") 1 ∷ words.set 0 (codes "p3") 1 ∷ words.return None ∷ [])
+      ∷ words.set 0 (codes "p3") 1 ∷ words.set 0 (codes "p3") 1 ∷ words.return None ∷ [])
       ∷ [])
       ∷ program (codes "g3") ((kinds.some 2) ∷ []) 2 None
       (block ((kinds.some 2) ∷ kinds.unset ∷ []) 1 (words.get 1 0 (codes "p3") ∷ words.set 0 (codes "p4") 1 ∷ words.set 0 (codes "p4") 1
-          ∷ words.set 0 (codes "p4") 1 ∷ words.set 0 (codes "p4") 1 ∷ words.return None ∷ [])
+      ∷ words.set 0 (codes "p4") 1 ∷ words.set 0 (codes "p4") 1 ∷ words.return None ∷ [])
       ∷ [])
       ∷ program (codes "g4") ((kinds.some 2) ∷ []) 2 None
       (block ((kinds.some 2) ∷ kinds.unset ∷ []) 1 (words.get 1 0 (codes "p4") ∷ words.set 0 (codes "p5") 1 ∷ words.set 0 (codes "p5") 1
-          ∷ words.set 0 (codes "p5") 1 ∷ words.set 0 (codes "p5") 1 ∷ words.return None ∷ [])
+      ∷ words.set 0 (codes "p5") 1 ∷ words.set 0 (codes "p5") 1 ∷ words.return None ∷ [])
       ∷ [])
       ∷ program (codes "g5") ((kinds.some 2) ∷ []) 2 None
       (block ((kinds.some 2) ∷ kinds.unset ∷ []) 1 (words.get 1 0 (codes "p5") ∷ words.set 0 (codes "p6") 1 ∷ words.set 0 (codes "p6") 1
-          ∷ words.set 0 (codes "p6") 1 ∷ words.set 0 (codes "p6") 1 ∷ words.return None ∷ [])
+      ∷ words.set 0 (codes "p6") 1 ∷ words.set 0 (codes "p6") 1 ∷ words.return None ∷ [])
       ∷ [])
       ∷ program (codes "g6") ((kinds.some 2) ∷ []) 2 None
       (block ((kinds.some 2) ∷ kinds.unset ∷ []) 1 (words.get 1 0 (codes "p6") ∷ words.set 0 (codes "p7") 1 ∷ words.set 0 (codes "p7") 1
-          ∷ words.set 0 (codes "p7") 1 ∷ words.set 0 (codes "p7") 1 ∷ words.return None ∷ [])
+      ∷ words.set 0 (codes "p7") 1 ∷ words.set 0 (codes "p7") 1 ∷ words.return None ∷ [])
       ∷ [])
       ∷ program (codes "g7") ((kinds.some 2) ∷ []) 2 None
       (block ((kinds.some 2) ∷ kinds.unset ∷ []) 1 (words.get 1 0 (codes "p7") ∷ words.set 0 (codes "p8") 1 ∷ words.set 0 (codes "p8") 1
-          ∷ words.set 0 (codes "p8") 1 ∷ words.set 0 (codes "p8") 1 ∷ words.return None ∷ [])
+      ∷ words.set 0 (codes "p8") 1 ∷ words.set 0 (codes "p8") 1 ∷ words.return None ∷ [])
       ∷ [])
       ∷ program (codes "g8") ((kinds.some 2) ∷ []) 2 None
       (block ((kinds.some 2) ∷ kinds.unset ∷ []) 1 (words.get 1 0 (codes "p8") ∷ words.set 0 (codes "p9") 1 ∷ words.set 0 (codes "p9") 1
-          ∷ words.set 0 (codes "p9") 1 ∷ words.set 0 (codes "p9") 1 ∷ words.return None ∷ [])
+      ∷ words.set 0 (codes "p9") 1 ∷ words.set 0 (codes "p9") 1 ∷ words.return None ∷ [])
       ∷ [])
       ∷ program (codes "g9") ((kinds.some 2) ∷ []) 2 None
       (block ((kinds.some 2) ∷ kinds.unset ∷ []) 1 (words.get 1 0 (codes "p9") ∷ words.set 0 (codes "p10") 1
-          ∷ words.set 0 (codes "p10") 1 ∷ words.set 0 (codes "p10") 1 ∷ words.set 0 (codes "p10") 1 ∷ words.return None ∷ [])
+      ∷ words.set 0 (codes "p10") 1 ∷ words.set 0 (codes "p10") 1 ∷ words.set 0 (codes "p10") 1 ∷ words.return None ∷ [])
       ∷ [])
       ∷ [];
   places =
       object (codes "b") 2 None [] [] (attached (codes "notify") (Some (codes "p0")) 0 false false None
-          ∷ attached (codes "notify") (Some (codes "p0")) 0 false false None
-          ∷ attached (codes "notify") (Some (codes "p0")) 0 false false None
-          ∷ attached (codes "notify") (Some (codes "p0")) 0 false false None
-          ∷ attached (codes "notify") (Some (codes "p1")) 1 false false None
-          ∷ attached (codes "notify") (Some (codes "p1")) 1 false false None
-          ∷ attached (codes "notify") (Some (codes "p1")) 1 false false None
-          ∷ attached (codes "notify") (Some (codes "p1")) 1 false false None
-          ∷ attached (codes "notify") (Some (codes "p2")) 2 false false None
-          ∷ attached (codes "notify") (Some (codes "p2")) 2 false false None
-          ∷ attached (codes "notify") (Some (codes "p2")) 2 false false None
-          ∷ attached (codes "notify") (Some (codes "p2")) 2 false false None
-          ∷ attached (codes "notify") (Some (codes "p3")) 3 false false None
-          ∷ attached (codes "notify") (Some (codes "p3")) 3 false false None
-          ∷ attached (codes "notify") (Some (codes "p3")) 3 false false None
-          ∷ attached (codes "notify") (Some (codes "p3")) 3 false false None
-          ∷ attached (codes "notify") (Some (codes "p4")) 4 false false None
-          ∷ attached (codes "notify") (Some (codes "p4")) 4 false false None
-          ∷ attached (codes "notify") (Some (codes "p4")) 4 false false None
-          ∷ attached (codes "notify") (Some (codes "p4")) 4 false false None
-          ∷ attached (codes "notify") (Some (codes "p5")) 5 false false None
-          ∷ attached (codes "notify") (Some (codes "p5")) 5 false false None
-          ∷ attached (codes "notify") (Some (codes "p5")) 5 false false None
-          ∷ attached (codes "notify") (Some (codes "p5")) 5 false false None
-          ∷ attached (codes "notify") (Some (codes "p6")) 6 false false None
-          ∷ attached (codes "notify") (Some (codes "p6")) 6 false false None
-          ∷ attached (codes "notify") (Some (codes "p6")) 6 false false None
-          ∷ attached (codes "notify") (Some (codes "p6")) 6 false false None
-          ∷ attached (codes "notify") (Some (codes "p7")) 7 false false None
-          ∷ attached (codes "notify") (Some (codes "p7")) 7 false false None
-          ∷ attached (codes "notify") (Some (codes "p7")) 7 false false None
-          ∷ attached (codes "notify") (Some (codes "p7")) 7 false false None
-          ∷ attached (codes "notify") (Some (codes "p8")) 8 false false None
-          ∷ attached (codes "notify") (Some (codes "p8")) 8 false false None
-          ∷ attached (codes "notify") (Some (codes "p8")) 8 false false None
-          ∷ attached (codes "notify") (Some (codes "p8")) 8 false false None
-          ∷ attached (codes "notify") (Some (codes "p9")) 9 false false None
-          ∷ attached (codes "notify") (Some (codes "p9")) 9 false false None
-          ∷ attached (codes "notify") (Some (codes "p9")) 9 false false None
-          ∷ attached (codes "notify") (Some (codes "p9")) 9 false false None ∷ [])
+      ∷ attached (codes "notify") (Some (codes "p0")) 0 false false None
+      ∷ attached (codes "notify") (Some (codes "p0")) 0 false false None
+      ∷ attached (codes "notify") (Some (codes "p0")) 0 false false None
+      ∷ attached (codes "notify") (Some (codes "p1")) 1 false false None
+      ∷ attached (codes "notify") (Some (codes "p1")) 1 false false None
+      ∷ attached (codes "notify") (Some (codes "p1")) 1 false false None
+      ∷ attached (codes "notify") (Some (codes "p1")) 1 false false None
+      ∷ attached (codes "notify") (Some (codes "p2")) 2 false false None
+      ∷ attached (codes "notify") (Some (codes "p2")) 2 false false None
+      ∷ attached (codes "notify") (Some (codes "p2")) 2 false false None
+      ∷ attached (codes "notify") (Some (codes "p2")) 2 false false None
+      ∷ attached (codes "notify") (Some (codes "p3")) 3 false false None
+      ∷ attached (codes "notify") (Some (codes "p3")) 3 false false None
+      ∷ attached (codes "notify") (Some (codes "p3")) 3 false false None
+      ∷ attached (codes "notify") (Some (codes "p3")) 3 false false None
+      ∷ attached (codes "notify") (Some (codes "p4")) 4 false false None
+      ∷ attached (codes "notify") (Some (codes "p4")) 4 false false None
+      ∷ attached (codes "notify") (Some (codes "p4")) 4 false false None
+      ∷ attached (codes "notify") (Some (codes "p4")) 4 false false None
+      ∷ attached (codes "notify") (Some (codes "p5")) 5 false false None
+      ∷ attached (codes "notify") (Some (codes "p5")) 5 false false None
+      ∷ attached (codes "notify") (Some (codes "p5")) 5 false false None
+      ∷ attached (codes "notify") (Some (codes "p5")) 5 false false None
+      ∷ attached (codes "notify") (Some (codes "p6")) 6 false false None
+      ∷ attached (codes "notify") (Some (codes "p6")) 6 false false None
+      ∷ attached (codes "notify") (Some (codes "p6")) 6 false false None
+      ∷ attached (codes "notify") (Some (codes "p6")) 6 false false None
+      ∷ attached (codes "notify") (Some (codes "p7")) 7 false false None
+      ∷ attached (codes "notify") (Some (codes "p7")) 7 false false None
+      ∷ attached (codes "notify") (Some (codes "p7")) 7 false false None
+      ∷ attached (codes "notify") (Some (codes "p7")) 7 false false None
+      ∷ attached (codes "notify") (Some (codes "p8")) 8 false false None
+      ∷ attached (codes "notify") (Some (codes "p8")) 8 false false None
+      ∷ attached (codes "notify") (Some (codes "p8")) 8 false false None
+      ∷ attached (codes "notify") (Some (codes "p8")) 8 false false None
+      ∷ attached (codes "notify") (Some (codes "p9")) 9 false false None
+      ∷ attached (codes "notify") (Some (codes "p9")) 9 false false None
+      ∷ attached (codes "notify") (Some (codes "p9")) 9 false false None
+      ∷ attached (codes "notify") (Some (codes "p9")) 9 false false None ∷ [])
       ∷ [];
   bindings =
       [];

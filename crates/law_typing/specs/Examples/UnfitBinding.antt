@@ -19,8 +19,8 @@ definition = record {
       class_with [] (notify ∷ []) [] None None
       ∷ class_with [] (notify ∷ []) [] None None
       ∷ class_with (property (codes "value") (kinds.whole kinds.int) 3 (values.whole kinds.int (pos 0)) (negsuc 2147483647)
-          (pos 2147483647) false ∷ property (codes "on") kinds.bool 3 (values.bool false) (pos 0) (pos 0) false ∷ [])
-          (notify ∷ []) [] None None
+      (pos 2147483647) false ∷ property (codes "on") kinds.bool 3 (values.bool false) (pos 0) (pos 0) false ∷ [])
+      (notify ∷ []) [] None None
       ∷ [];
   shapes =
       [];

@@ -64,7 +64,7 @@ transfer_depth d depths below back None = 0
 transfer_depth d depths below back (Some b) =
     cond (is_pair b)
     (cond (is_setting_below d below (source_of b)) 0
-        (1 + depth_within_if depths (raised_of (graph d) (cond back (source_of b) (target_of b)))))
+    (1 + depth_within_if depths (raised_of (graph d) (cond back (source_of b) (target_of b)))))
     (entry depths.channels (target_of b))
 
 -- what a turn of an emission may cost; a handler that is gone costs nothing

@@ -72,7 +72,7 @@ pub record ChannelGood (d : Definition) (costs depths : Tables) (agenda : List T
     (r : Raised) : Type 0 where
   pub own :
       total (λ (h : Handler). of_program costs h.program) (running_for d false id r.channel hs)
-          + total (of_items (connecting_cost d costs r.channel)) agenda
+      + total (of_items (connecting_cost d costs r.channel)) agenda
       ≤ programs_cost costs r.handlers
   pub connected : Each (λ (h : Handler). of_program costs h.program ≤ greatest (of_program costs) r.connectable)
       (running_for d true id r.channel hs)

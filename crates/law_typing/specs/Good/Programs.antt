@@ -63,7 +63,7 @@ pub record RunningGood (d : Definition) (costs depths : Tables) (s : Standing) (
   -- it costs no more than the steps, and its program goes no deeper than the frames
   pub cheap :
       code_cost (graph d) costs (stretches_of d p) (starts_of d p (awaited ks f.into up) (drop f.at b.code))
-          (flat_map next_of (drop f.at b.code)) ≤ steps
+      (flat_map next_of (drop f.at b.code)) ≤ steps
   pub shallow : program_depth depths (stretches_of d p) ≤ frames
 
 -- a call that is due: the object's own open or closed peer has the method, the arguments fit, and the program that waits is the next task,

@@ -14,8 +14,11 @@ at_property slot programs =
 
 -- a program that reads a property, sets the next one twice, and returns
 abbrev pub sets_next : ℕ → List Stretch
-sets_next slot = record { starts = nothing ∷ raises (property 0 (suc slot) ∷ []) ∷ raises (property 0 (suc slot) ∷ []) ∷ nothing
-    ∷ []; next = [] } ∷ []
+sets_next slot = record {
+  starts = nothing ∷ raises (property 0 (suc slot) ∷ []) ∷ raises (property 0 (suc slot) ∷ []) ∷ nothing
+      ∷ [];
+  next = [];
+} ∷ []
 
 -- so many links
 pub record IsChain (g : Graph) (links : ℕ) : Type 0 where

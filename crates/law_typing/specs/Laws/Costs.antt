@@ -85,7 +85,7 @@ SetsCover =
 abbrev pub EmitsCover : Type 0
 EmitsCover =
     (d : Definition) (g : Graph) (t : Tables) (ks : Kinds) (into : Option ℕ) (object : ℕ) (name : List ℕ) (detail : Option (List ℕ))
-        (args : List ℕ) (place class number : ℕ) →
+    (args : List ℕ) (place class number : ℕ) →
     covers d (kind_in ks object) place ≡ true → class_at d place ≡ Some class → signal_number d class name ≡ Some number →
     is_channel d (signal place number) ≡ true →
     node_cost g t (signal place number) ≤ start_cost g t (start_of d ks (words.emit into object name detail args))
@@ -97,11 +97,11 @@ EmitsCover =
 abbrev pub DepthsCover : Type 0
 DepthsCover =
     ((t : Tables) (stretches : List Stretch) (s : Stretch) (i : Start) → IsIn s stretches → IsIn i s.starts →
-        1 + start_depth t i ≤ program_depth t stretches)
+    1 + start_depth t i ≤ program_depth t stretches)
     × ((g : Graph) (t : Tables) (r : Raised) (place slot : ℕ) (q : ℕ) → r.channel ≡ property place slot → IsIn q (running_at r) →
-        1 + of_program t q ≤ channel_depth g t r)
+    1 + of_program t q ≤ channel_depth g t r)
     × ((g : Graph) (t : Tables) (r : Raised) (place number : ℕ) (q : ℕ) → r.channel ≡ signal place number → IsIn q (running_at r) →
-        1 + of_program t q ≤ channel_depth g t r)
+    1 + of_program t q ≤ channel_depth g t r)
     × ((g : Graph) (t : Tables) (r : Raised) (place slot : ℕ) (c : Channel) → r.channel ≡ property place slot → IsIn c r.targets →
-        1 + entry t.channels c ≤ channel_depth g t r)
+    1 + entry t.channels c ≤ channel_depth g t r)
     × ((t : Tables) (cs : List Channel) (c : Channel) → IsIn c cs → 1 + entry t.channels c ≤ making_depth t cs)

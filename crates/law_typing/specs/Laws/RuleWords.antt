@@ -28,23 +28,23 @@ definition = record {
       class_with [] (notify ∷ []) [] None None
       ∷ class_with [] (notify ∷ []) [] None None
       ∷ class_with (property (codes "value") (kinds.whole kinds.int) 3 (values.whole kinds.int (pos 0)) (negsuc 2147483647)
-          (pos 2147483647) false
-          ∷ property (codes "secret") (kinds.whole kinds.int) 2 (values.whole kinds.int (pos 0)) (negsuc 2147483647)
-          (pos 2147483647) false
-          ∷ property (codes "level") (kinds.whole kinds.int) 1 (values.whole kinds.int (pos 0)) (negsuc 2147483647)
-          (pos 2147483647) false
-          ∷ property (codes "serial") (kinds.whole kinds.int) 11 (values.whole kinds.int (pos 0)) (negsuc 2147483647)
-          (pos 2147483647) false ∷ property (codes "next") (kinds.object 2) 3 (values.object None) (pos 0) (pos 0) false ∷ []) (notify
-          ∷ signal (codes "turned") [] None 2 None ∷ []) [] None None
+      (pos 2147483647) false
+      ∷ property (codes "secret") (kinds.whole kinds.int) 2 (values.whole kinds.int (pos 0)) (negsuc 2147483647)
+      (pos 2147483647) false
+      ∷ property (codes "level") (kinds.whole kinds.int) 1 (values.whole kinds.int (pos 0)) (negsuc 2147483647)
+      (pos 2147483647) false
+      ∷ property (codes "serial") (kinds.whole kinds.int) 11 (values.whole kinds.int (pos 0)) (negsuc 2147483647)
+      (pos 2147483647) false ∷ property (codes "next") (kinds.object 2) 3 (values.object None) (pos 0) (pos 0) false ∷ []) (notify
+      ∷ signal (codes "turned") [] None 2 None ∷ []) [] None None
       ∷ [];
   shapes =
       [];
   programs =
       program (codes "p") ((kinds.some 2) ∷ []) 6 None
       (block ((kinds.some 2) ∷ kinds.unset ∷ kinds.unset ∷ kinds.unset ∷ kinds.unset ∷ kinds.unset
-          ∷ []) 1 (words.const 1 kinds.text (values.text (Some (codes "x"))) ∷ words.jump 1 ∷ [])
+      ∷ []) 1 (words.const 1 kinds.text (values.text (Some (codes "x"))) ∷ words.jump 1 ∷ [])
       ∷ block ((kinds.some 2) ∷ (kinds.plain kinds.text) ∷ kinds.unset ∷ kinds.unset ∷ kinds.unset ∷ kinds.unset
-          ∷ []) 1 (words.return None ∷ [])
+      ∷ []) 1 (words.return None ∷ [])
       ∷ [])
       ∷ [];
   places =
@@ -65,7 +65,7 @@ p = read (program [] [] 0 None []) definition.programs 0
 abbrev pub before : Kinds
 before =
     kinds.some 2 ∷ kinds.plain (kinds.whole kinds.int) ∷ kinds.plain kinds.text ∷ kinds.plain (kinds.object 2) ∷ kinds.unset
-        ∷ kinds.unset ∷ []
+    ∷ kinds.unset ∷ []
 
 -- what an instruction answers there
 abbrev pub answer : Instruction → Typing Kinds

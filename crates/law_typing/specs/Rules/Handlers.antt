@@ -48,7 +48,7 @@ abbrev pub class_handler_faults : Definition → (class number : ℕ) → List C
 class_handler_faults d class number [] = []
 class_handler_faults d class number (h ∷ hs) =
     unless (class_handler_fits d class h) (handler_signature (faults.class_handler class number))
-        ++ class_handler_faults d class (suc number) hs
+    ++ class_handler_faults d class (suc number) hs
 
 -- of a class's `constructed` program
 abbrev pub constructed_faults : Definition → ℕ → Option ℕ → List Fault

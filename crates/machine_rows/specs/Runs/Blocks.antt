@@ -23,21 +23,21 @@ definition = record {
       class_with [] (notify ∷ []) [] None None
       ∷ class_with [] (notify ∷ []) [] None None
       ∷ class_with [] (notify ∷ signal (codes "go") [] None 2 None
-          ∷ signal (codes "s") ((kinds.whole kinds.int) ∷ []) None 22 None ∷ []) (class_handler (codes "s") 2 ∷ []) None None
+      ∷ signal (codes "s") ((kinds.whole kinds.int) ∷ []) None 22 None ∷ []) (class_handler (codes "s") 2 ∷ []) None None
       ∷ [];
   shapes =
       [];
   programs =
       program (codes "f") ((kinds.some 2) ∷ []) 4 None
       (block ((kinds.some 2) ∷ kinds.unset ∷ kinds.unset
-          ∷ kinds.unset ∷ []) 1 (words.const 1 (kinds.whole kinds.int) (values.whole kinds.int (pos 7)) ∷ words.block 0 (codes "h")
-          ∷ words.block 0 (codes "h") ∷ words.unblock 0 (codes "h") ∷ words.emit None 0 (codes "s") (Some (codes "d")) (1 ∷ [])
-          ∷ words.unblock 0 (codes "h") ∷ words.unblock 0 (codes "h") ∷ words.emit None 0 (codes "s") (Some (codes "e")) (1 ∷ [])
-          ∷ words.emit None 0 (codes "s") None (1 ∷ []) ∷ words.disconnect 0 (codes "h")
-          ∷ words.emit None 0 (codes "s") (Some (codes "d")) (1 ∷ [])
-          ∷ words.connect 3 0 (connects (codes "notify") None (codes "n") true false None)
-          ∷ words.connect 3 0 (connects (codes "s") (Some (codes "d")) (codes "m") true true (Some 0))
-          ∷ words.emit None 0 (codes "s") (Some (codes "d")) (1 ∷ []) ∷ words.return None ∷ [])
+      ∷ kinds.unset ∷ []) 1 (words.const 1 (kinds.whole kinds.int) (values.whole kinds.int (pos 7)) ∷ words.block 0 (codes "h")
+      ∷ words.block 0 (codes "h") ∷ words.unblock 0 (codes "h") ∷ words.emit None 0 (codes "s") (Some (codes "d")) (1 ∷ [])
+      ∷ words.unblock 0 (codes "h") ∷ words.unblock 0 (codes "h") ∷ words.emit None 0 (codes "s") (Some (codes "e")) (1 ∷ [])
+      ∷ words.emit None 0 (codes "s") None (1 ∷ []) ∷ words.disconnect 0 (codes "h")
+      ∷ words.emit None 0 (codes "s") (Some (codes "d")) (1 ∷ [])
+      ∷ words.connect 3 0 (connects (codes "notify") None (codes "n") true false None)
+      ∷ words.connect 3 0 (connects (codes "s") (Some (codes "d")) (codes "m") true true (Some 0))
+      ∷ words.emit None 0 (codes "s") (Some (codes "d")) (1 ∷ []) ∷ words.return None ∷ [])
       ∷ [])
       ∷ program (codes "h") ((kinds.some 2) ∷ (kinds.plain (kinds.whole kinds.int)) ∷ []) 2 None
       (block ((kinds.some 2) ∷ (kinds.plain (kinds.whole kinds.int)) ∷ []) 1 (words.return None ∷ [])
@@ -57,7 +57,7 @@ definition = record {
       ∷ [];
   places =
       object (codes "b") 2 None [] [] (attached (codes "go") None 0 false false None ∷ attached (codes "s") None 1 true false None
-          ∷ attached (codes "s") (Some (codes "d")) 1 false false None ∷ attached (codes "s") None 5 false true (Some 1) ∷ [])
+      ∷ attached (codes "s") (Some (codes "d")) 1 false false None ∷ attached (codes "s") None 5 false true (Some 1) ∷ [])
       ∷ object (codes "o") 2 None [] [] []
       ∷ [];
   bindings =

@@ -22,31 +22,31 @@ definition = record {
       class_with [] (notify ∷ []) [] None None
       ∷ class_with [] (notify ∷ []) [] None None
       ∷ class_with [] (notify ∷ signal (codes "s") [] (Some (kinds.whole kinds.int)) 4 None ∷ [])
-          (class_handler (codes "s") 0 ∷ []) None None
+      (class_handler (codes "s") 0 ∷ []) None None
       ∷ [];
   shapes =
       [];
   programs =
       program (codes "last") ((kinds.some 2) ∷ []) 2 (Some (kinds.whole kinds.int))
       (block ((kinds.some 2) ∷ kinds.unset ∷ []) 1 (words.const 1 (kinds.whole kinds.int) (values.whole kinds.int (pos 9))
-          ∷ words.return (Some 1) ∷ [])
+      ∷ words.return (Some 1) ∷ [])
       ∷ [])
       ∷ program (codes "one") ((kinds.some 2) ∷ []) 2 (Some (kinds.whole kinds.int))
       (block ((kinds.some 2) ∷ kinds.unset ∷ []) 1 (words.const 1 (kinds.whole kinds.int) (values.whole kinds.int (pos 1))
-          ∷ words.return (Some 1) ∷ [])
+      ∷ words.return (Some 1) ∷ [])
       ∷ [])
       ∷ program (codes "two") ((kinds.some 2) ∷ []) 2 (Some (kinds.whole kinds.int))
       (block ((kinds.some 2) ∷ kinds.unset ∷ []) 1 (words.stop ∷ words.const 1 (kinds.whole kinds.int) (values.whole kinds.int (pos 2))
-          ∷ words.return (Some 1) ∷ [])
+      ∷ words.return (Some 1) ∷ [])
       ∷ [])
       ∷ program (codes "three") ((kinds.some 2) ∷ []) 2 (Some (kinds.whole kinds.int))
       (block ((kinds.some 2) ∷ kinds.unset ∷ []) 1 (words.const 1 (kinds.whole kinds.int) (values.whole kinds.int (pos 3))
-          ∷ words.return (Some 1) ∷ [])
+      ∷ words.return (Some 1) ∷ [])
       ∷ [])
       ∷ [];
   places =
       object (codes "b") 2 None [] [] (attached (codes "s") None 1 false false None ∷ attached (codes "s") None 2 false false None
-          ∷ attached (codes "s") None 3 false false None ∷ [])
+      ∷ attached (codes "s") None 3 false false None ∷ [])
       ∷ [];
   bindings =
       [];

@@ -27,7 +27,7 @@ definition = record {
   programs =
       program (codes "h1") ((kinds.some 2) ∷ []) 2 None
       (block ((kinds.some 2) ∷ kinds.unset ∷ []) 1 (words.disconnect 0 (codes "h2") ∷ words.block 0 (codes "h3")
-          ∷ words.connect 1 0 (connects (codes "s") None (codes "n") false false None) ∷ words.return None ∷ [])
+      ∷ words.connect 1 0 (connects (codes "s") None (codes "n") false false None) ∷ words.return None ∷ [])
       ∷ [])
       ∷ program (codes "h2") ((kinds.some 2) ∷ []) 1 None
       (block ((kinds.some 2) ∷ []) 1 (words.return None ∷ [])
@@ -41,7 +41,7 @@ definition = record {
       ∷ [];
   places =
       object (codes "b") 2 None [] [] (attached (codes "s") None 0 false false None ∷ attached (codes "s") None 1 false false None
-          ∷ attached (codes "s") None 2 false false None ∷ [])
+      ∷ attached (codes "s") None 2 false false None ∷ [])
       ∷ [];
   bindings =
       [];

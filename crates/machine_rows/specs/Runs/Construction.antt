@@ -22,12 +22,12 @@ definition = record {
       class_with [] (notify ∷ []) [] None None
       ∷ class_with [] (notify ∷ []) [] None None
       ∷ class_with (property (codes "x") (kinds.whole kinds.int) 7 (values.whole kinds.int (pos 3)) (negsuc 2147483647)
-          (pos 2147483647) false ∷ []) (notify ∷ []) [] None None
+      (pos 2147483647) false ∷ []) (notify ∷ []) [] None None
       ∷ class_with (property (codes "x") (kinds.whole kinds.int) 7 (values.whole kinds.int (pos 3)) (negsuc 2147483647)
-          (pos 2147483647) false
-          ∷ property (codes "y") (kinds.whole kinds.int) 7 (values.whole kinds.int (pos 4)) (negsuc 2147483647) (pos 2147483647) false
-          ∷ property (codes "z") (kinds.whole kinds.int) 3 (values.whole kinds.int (pos 0)) (negsuc 2147483647)
-          (pos 2147483647) false ∷ []) (notify ∷ []) [] None None
+      (pos 2147483647) false
+      ∷ property (codes "y") (kinds.whole kinds.int) 7 (values.whole kinds.int (pos 4)) (negsuc 2147483647) (pos 2147483647) false
+      ∷ property (codes "z") (kinds.whole kinds.int) 3 (values.whole kinds.int (pos 0)) (negsuc 2147483647)
+      (pos 2147483647) false ∷ []) (notify ∷ []) [] None None
       ∷ [];
   shapes =
       [];
@@ -35,7 +35,7 @@ definition = record {
       [];
   places =
       object (codes "o") 3 None (gives 2 (value (values.whole kinds.int (pos 1)))
-          ∷ gives 1 (value (values.whole kinds.int (pos 9))) ∷ []) [] []
+      ∷ gives 1 (value (values.whole kinds.int (pos 9))) ∷ []) [] []
       ∷ [];
   bindings =
       [];

@@ -23,9 +23,9 @@ definition = record {
       class_with [] (notify ∷ []) [] None None
       ∷ class_with [] (notify ∷ []) [] None None
       ∷ class_with (property (codes "to") (kinds.object 2) 3 (values.object None) (pos 0) (pos 0) false
-          ∷ property (codes "w") (kinds.object 2) 3 (values.object None) (pos 0) (pos 0) true
-          ∷ property (codes "n") (kinds.whole kinds.int) 3 (values.whole kinds.int (pos 0)) (negsuc 2147483647)
-          (pos 2147483647) false ∷ []) (notify ∷ signal (codes "go") [] None 2 None ∷ []) [] (Some 0) None
+      ∷ property (codes "w") (kinds.object 2) 3 (values.object None) (pos 0) (pos 0) true
+      ∷ property (codes "n") (kinds.whole kinds.int) 3 (values.whole kinds.int (pos 0)) (negsuc 2147483647)
+      (pos 2147483647) false ∷ []) (notify ∷ signal (codes "go") [] None 2 None ∷ []) [] (Some 0) None
       ∷ [];
   shapes =
       [];

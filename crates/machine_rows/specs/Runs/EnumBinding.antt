@@ -24,8 +24,8 @@ definition = record {
       ∷ class_with [] (notify ∷ []) [] None None
       ∷ bare
       ∷ class_with (property (codes "n") (kinds.whole kinds.int) 3 (values.whole kinds.int (pos 0)) (negsuc 2147483647)
-          (pos 2147483647) false ∷ property (codes "e") (kinds.enum 2) 3 (values.enum 2 (pos 0)) (pos 0) (pos 0) false ∷ [])
-          (notify ∷ []) [] None None
+      (pos 2147483647) false ∷ property (codes "e") (kinds.enum 2) 3 (values.enum 2 (pos 0)) (pos 0) (pos 0) false ∷ [])
+      (notify ∷ []) [] None None
       ∷ [];
   shapes =
       [];

@@ -25,13 +25,13 @@ definition = record {
       ∷ [];
   shapes =
       shape (codes "Tally") (method (codes "add") ((kinds.whole kinds.int64) ∷ []) (kinds.whole kinds.int64)
-          ∷ method (codes "read") [] (kinds.whole kinds.int64) ∷ [])
+      ∷ method (codes "read") [] (kinds.whole kinds.int64) ∷ [])
       ∷ [];
   programs =
       program (codes "later") ((kinds.some 2) ∷ []) 3 None
       (block ((kinds.some 2) ∷ kinds.unset ∷ kinds.unset ∷ []) 1
-          (words.const 1 (kinds.whole kinds.int64) (values.whole kinds.int64 (pos 2)) ∷ words.call 2 0 (codes "add") (1 ∷ [])
-          ∷ words.return None ∷ [])
+      (words.const 1 (kinds.whole kinds.int64) (values.whole kinds.int64 (pos 2)) ∷ words.call 2 0 (codes "add") (1 ∷ [])
+      ∷ words.return None ∷ [])
       ∷ [])
       ∷ [];
   places =
@@ -46,7 +46,7 @@ definition = record {
 abbrev pub peers : List Peer
 peers =
     peer (codes "t") (method (codes "add") ((kinds.whole kinds.int64) ∷ []) (kinds.whole kinds.int64)
-        ∷ method (codes "read") [] (kinds.whole kinds.int64) ∷ []) (values.whole kinds.int64 (pos 0) ∷ [])
+    ∷ method (codes "read") [] (kinds.whole kinds.int64) ∷ []) (values.whole kinds.int64 (pos 0) ∷ [])
     ∷ []
 
 abbrev pub events : List Event

@@ -23,7 +23,7 @@ definition = record {
       class_with [] (notify ∷ []) [] None None
       ∷ class_with [] (notify ∷ []) [] None None
       ∷ class_with (property (codes "on") kinds.bool 3 (values.bool false) (pos 0) (pos 0) false ∷ []) (notify
-          ∷ signal (codes "go") ((kinds.object 2) ∷ []) None 2 None ∷ []) [] None None
+      ∷ signal (codes "go") ((kinds.object 2) ∷ []) None 2 None ∷ []) [] None None
       ∷ [];
   shapes =
       [];
@@ -32,7 +32,7 @@ definition = record {
       (block ((kinds.some 2) ∷ (kinds.plain (kinds.object 2)) ∷ kinds.unset ∷ []) 1 (words.branch_null 1 1 2 ∷ [])
       ∷ block (kinds.unset ∷ kinds.unset ∷ kinds.unset ∷ []) 1 (words.return None ∷ [])
       ∷ block ((kinds.some 2) ∷ (kinds.some 2) ∷ kinds.unset ∷ []) 1 (words.const 2 kinds.bool (values.bool true) ∷ words.freeze 0
-          ∷ words.freeze 1 ∷ words.set 0 (codes "on") 2 ∷ words.thaw 0 ∷ words.thaw 1 ∷ words.return None ∷ [])
+      ∷ words.freeze 1 ∷ words.set 0 (codes "on") 2 ∷ words.thaw 0 ∷ words.thaw 1 ∷ words.return None ∷ [])
       ∷ [])
       ∷ [];
   places =

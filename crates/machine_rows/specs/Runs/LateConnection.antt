@@ -30,7 +30,7 @@ definition = record {
       ∷ [])
       ∷ program (codes "f") ((kinds.some 2) ∷ []) 2 None
       (block ((kinds.some 2) ∷ kinds.unset ∷ []) 1 (words.dispose 0
-          ∷ words.connect 1 0 (connects (codes "go") None (codes "n") false false None) ∷ words.return None ∷ [])
+      ∷ words.connect 1 0 (connects (codes "go") None (codes "n") false false None) ∷ words.return None ∷ [])
       ∷ [])
       ∷ [];
   places =

@@ -22,7 +22,7 @@ definition = record {
       class_with [] (notify ∷ []) [] None None
       ∷ class_with [] (notify ∷ []) [] None None
       ∷ class_with (property (codes "n") (kinds.whole kinds.int) 19 (values.whole kinds.int (pos 0)) (negsuc 2)
-          (pos 2147483647) false ∷ []) (notify ∷ []) [] None None
+      (pos 2147483647) false ∷ []) (notify ∷ []) [] None None
       ∷ [];
   shapes =
       [];

@@ -24,11 +24,11 @@ definition = record {
       class_with [] (notify ∷ []) [] None None
       ∷ class_with [] (notify ∷ []) [] None None
       ∷ class_with (property (codes "cur") (kinds.object 3) 3 (values.object None) (pos 0) (pos 0) false ∷ []) (notify
-          ∷ signal (codes "go") [] None 2 None ∷ []) [] None None
+      ∷ signal (codes "go") [] None 2 None ∷ []) [] None None
       ∷ class_with (property (codes "x") (kinds.whole kinds.int) 7 (values.whole kinds.int (pos 0)) (negsuc 2147483647)
-          (pos 2147483647) false
-          ∷ property (codes "y") (kinds.whole kinds.int) 7 (values.whole kinds.int (pos 0)) (negsuc 2147483647)
-          (pos 2147483647) false ∷ []) (notify ∷ []) (class_handler (codes "notify") 0 ∷ []) None None
+      (pos 2147483647) false
+      ∷ property (codes "y") (kinds.whole kinds.int) 7 (values.whole kinds.int (pos 0)) (negsuc 2147483647)
+      (pos 2147483647) false ∷ []) (notify ∷ []) (class_handler (codes "notify") 0 ∷ []) None None
       ∷ [];
   shapes =
       [];

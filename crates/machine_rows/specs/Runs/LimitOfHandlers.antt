@@ -23,9 +23,9 @@ definition = record {
       class_with [] (notify ∷ []) [] None None
       ∷ class_with [] (notify ∷ []) [] None None
       ∷ class_with (property (codes "x") (kinds.whole kinds.int) 3 (values.whole kinds.int (pos 0)) (negsuc 2147483647)
-          (pos 2147483647) false
-          ∷ property (codes "y") (kinds.whole kinds.int) 3 (values.whole kinds.int (pos 0)) (negsuc 2147483647)
-          (pos 2147483647) false ∷ []) (notify ∷ signal (codes "go") [] None 2 None ∷ []) [] None None
+      (pos 2147483647) false
+      ∷ property (codes "y") (kinds.whole kinds.int) 3 (values.whole kinds.int (pos 0)) (negsuc 2147483647)
+      (pos 2147483647) false ∷ []) (notify ∷ signal (codes "go") [] None 2 None ∷ []) [] None None
       ∷ [];
   shapes =
       [];
@@ -35,10 +35,10 @@ definition = record {
       ∷ [])
       ∷ program (codes "f") ((kinds.some 2) ∷ []) 2 None
       (block ((kinds.some 2) ∷ kinds.unset ∷ []) 1
-          (words.connect 1 0 (connects (codes "notify") (Some (codes "x")) (codes "n") false false None)
-          ∷ words.connect 1 0 (connects (codes "notify") (Some (codes "y")) (codes "n") false false None)
-          ∷ words.disconnect 0 (codes "n")
-          ∷ words.connect 1 0 (connects (codes "notify") (Some (codes "y")) (codes "n") false false None) ∷ words.return None ∷ [])
+      (words.connect 1 0 (connects (codes "notify") (Some (codes "x")) (codes "n") false false None)
+      ∷ words.connect 1 0 (connects (codes "notify") (Some (codes "y")) (codes "n") false false None)
+      ∷ words.disconnect 0 (codes "n")
+      ∷ words.connect 1 0 (connects (codes "notify") (Some (codes "y")) (codes "n") false false None) ∷ words.return None ∷ [])
       ∷ [])
       ∷ [];
   places =

@@ -22,7 +22,7 @@ definition = record {
       class_with [] (notify ∷ []) [] None None
       ∷ class_with [] (notify ∷ []) [] None None
       ∷ class_with (property (codes "to") (kinds.object 2) 3 (values.object None) (pos 0) (pos 0) false
-          ∷ property (codes "w") (kinds.object 2) 3 (values.object None) (pos 0) (pos 0) true ∷ []) (notify ∷ []) [] None None
+      ∷ property (codes "w") (kinds.object 2) 3 (values.object None) (pos 0) (pos 0) true ∷ []) (notify ∷ []) [] None None
       ∷ [];
   shapes =
       [];

@@ -24,7 +24,7 @@ definition = record {
       ∷ class_with [] (notify ∷ []) [] None None
       ∷ class_with [] (notify ∷ signal (codes "go") [] None 2 None ∷ []) [] None None
       ∷ class_with (property (codes "n") (kinds.whole kinds.int) 7 (values.whole kinds.int (pos 0)) (negsuc 2147483647)
-          (pos 2147483647) false ∷ []) (notify ∷ []) [] None None
+      (pos 2147483647) false ∷ []) (notify ∷ []) [] None None
       ∷ [];
   shapes =
       [];

@@ -24,9 +24,9 @@ definition = record {
       class_with [] (notify ∷ []) [] None None
       ∷ class_with [] (notify ∷ []) [] None None
       ∷ class_with (property (codes "n") (kinds.whole kinds.int) 3 (values.whole kinds.int (pos 0)) (negsuc 2147483647)
-          (pos 2147483647) false ∷ []) (notify ∷ []) [] None None
+      (pos 2147483647) false ∷ []) (notify ∷ []) [] None None
       ∷ class_with (property (codes "n") (kinds.whole kinds.int) 3 (values.whole kinds.int (pos 0)) (negsuc 2147483647)
-          (pos 2147483647) false ∷ []) (notify ∷ signal (codes "go") [] None 2 None ∷ []) [] None None
+      (pos 2147483647) false ∷ []) (notify ∷ signal (codes "go") [] None 2 None ∷ []) [] None None
       ∷ [];
   shapes =
       [];
@@ -36,7 +36,7 @@ definition = record {
       ∷ [])
       ∷ program (codes "f") ((kinds.some 2) ∷ []) 2 None
       (block ((kinds.some 2) ∷ kinds.unset ∷ []) 1
-          (words.connect 1 0 (connects (codes "notify") (Some (codes "n")) (codes "say") false false None) ∷ words.return None ∷ [])
+      (words.connect 1 0 (connects (codes "notify") (Some (codes "n")) (codes "say") false false None) ∷ words.return None ∷ [])
       ∷ [])
       ∷ [];
   places =

@@ -22,7 +22,7 @@ definition = record {
       class_with [] (notify ∷ []) [] None None
       ∷ class_with [] (notify ∷ []) [] None None
       ∷ class_with (property (codes "n") (kinds.whole kinds.int) 7 (values.whole kinds.int (pos 3)) (pos 1) (pos 2147483647) false ∷ [])
-          (notify ∷ []) [] None None
+      (notify ∷ []) [] None None
       ∷ [];
   shapes =
       [];

@@ -22,16 +22,16 @@ definition = record {
       class_with [] (notify ∷ []) [] None None
       ∷ class_with [] (notify ∷ []) [] None None
       ∷ class_with (property (codes "n") (kinds.whole kinds.int) 3 (values.whole kinds.int (pos 0)) (negsuc 2147483647)
-          (pos 2147483647) false ∷ []) (notify ∷ signal (codes "go") [] None 2 None ∷ []) [] None None
+      (pos 2147483647) false ∷ []) (notify ∷ signal (codes "go") [] None 2 None ∷ []) [] None None
       ∷ [];
   shapes =
       [];
   programs =
       program (codes "f") ((kinds.some 2) ∷ []) 3 None
       (block ((kinds.some 2) ∷ kinds.unset ∷ kinds.unset ∷ []) 1 (words.const 1 (kinds.whole kinds.int) (values.whole kinds.int (pos 1))
-          ∷ words.const 2 (kinds.whole kinds.int) (values.whole kinds.int (pos 0)) ∷ words.jump 1 ∷ [])
+      ∷ words.const 2 (kinds.whole kinds.int) (values.whole kinds.int (pos 0)) ∷ words.jump 1 ∷ [])
       ∷ block ((kinds.some 2) ∷ (kinds.plain (kinds.whole kinds.int))
-          ∷ (kinds.plain (kinds.whole kinds.int)) ∷ []) 3 (words.arithmetic words.add 2 2 1 ∷ words.set 0 (codes "n") 2 ∷ words.jump 2 ∷ [])
+      ∷ (kinds.plain (kinds.whole kinds.int)) ∷ []) 3 (words.arithmetic words.add 2 2 1 ∷ words.set 0 (codes "n") 2 ∷ words.jump 2 ∷ [])
       ∷ block ((kinds.some 2) ∷ kinds.unset ∷ kinds.unset ∷ []) 1 (words.return None ∷ [])
       ∷ [])
       ∷ [];

@@ -25,23 +25,23 @@ definition = record {
       ∷ [];
   shapes =
       shape (codes "Screen") (method (codes "show") (kinds.text ∷ []) (kinds.whole kinds.uint)
-          ∷ method (codes "line") ((kinds.whole kinds.uint) ∷ []) kinds.text ∷ [])
+      ∷ method (codes "line") ((kinds.whole kinds.uint) ∷ []) kinds.text ∷ [])
       ∷ [];
   programs =
       program (codes "p") ((kinds.some 2) ∷ []) 4 None
       (block ((kinds.some 2) ∷ kinds.unset ∷ kinds.unset
-          ∷ kinds.unset ∷ []) 1 (words.const 1 kinds.text (values.text (Some (codes "hi"))) ∷ words.call 2 0 (codes "show") (1 ∷ [])
-          ∷ words.const 3 (kinds.whole kinds.uint) (values.whole kinds.uint (pos 0)) ∷ words.call 1 0 (codes "line") (3 ∷ [])
-          ∷ words.return None ∷ [])
+      ∷ kinds.unset ∷ []) 1 (words.const 1 kinds.text (values.text (Some (codes "hi"))) ∷ words.call 2 0 (codes "show") (1 ∷ [])
+      ∷ words.const 3 (kinds.whole kinds.uint) (values.whole kinds.uint (pos 0)) ∷ words.call 1 0 (codes "line") (3 ∷ [])
+      ∷ words.return None ∷ [])
       ∷ [])
       ∷ program (codes "q") ((kinds.some 2) ∷ []) 3 None
       (block ((kinds.some 2) ∷ kinds.unset ∷ kinds.unset ∷ []) 1 (words.const 1 kinds.text (values.text (Some (codes "hi")))
-          ∷ words.dispose 0 ∷ words.call 2 0 (codes "show") (1 ∷ []) ∷ words.return None ∷ [])
+      ∷ words.dispose 0 ∷ words.call 2 0 (codes "show") (1 ∷ []) ∷ words.return None ∷ [])
       ∷ [])
       ∷ [];
   places =
       object (codes "o") 2 None [] ((codes "scr") ∷ []) (attached (codes "go") None 0 false false None
-          ∷ attached (codes "bye") None 1 false false None ∷ [])
+      ∷ attached (codes "bye") None 1 false false None ∷ [])
       ∷ [];
   bindings =
       [];
@@ -52,7 +52,7 @@ definition = record {
 abbrev pub peers : List Peer
 peers =
     peer (codes "scr") (method (codes "show") (kinds.text ∷ []) (kinds.whole kinds.uint)
-        ∷ method (codes "line") ((kinds.whole kinds.uint) ∷ []) kinds.text ∷ []) []
+    ∷ method (codes "line") ((kinds.whole kinds.uint) ∷ []) kinds.text ∷ []) []
     ∷ []
 
 abbrev pub events : List Event

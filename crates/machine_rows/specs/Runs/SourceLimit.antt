@@ -30,8 +30,8 @@ definition = record {
       (block ((kinds.some 2) ∷ kinds.unset ∷ []) 1 (words.jump 1 ∷ [])
       ∷ block ((kinds.some 2) ∷ kinds.unset ∷ []) 256 (words.idle 1 (codes "rest") (pos 200) None ∷ words.jump 2 ∷ [])
       ∷ block ((kinds.some 2) ∷ kinds.unset ∷ []) 1 (words.idle 1 (codes "rest") (pos 0) None
-          ∷ words.timeout 1 (codes "rest") (pos 0) 5 None ∷ words.remove (codes "rest") ∷ words.timeout 1 (codes "rest") (pos 0) 5 None
-          ∷ words.return None ∷ [])
+      ∷ words.timeout 1 (codes "rest") (pos 0) 5 None ∷ words.remove (codes "rest") ∷ words.timeout 1 (codes "rest") (pos 0) 5 None
+      ∷ words.return None ∷ [])
       ∷ [])
       ∷ program (codes "rest") [] 1 (Some kinds.bool)
       (block (kinds.unset ∷ []) 1 (words.const 0 kinds.bool (values.bool false) ∷ words.return (Some 0) ∷ [])

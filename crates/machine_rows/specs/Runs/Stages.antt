@@ -40,7 +40,7 @@ definition = record {
       ∷ [];
   places =
       object (codes "b") 2 None [] [] (attached (codes "s") None 1 false false None ∷ attached (codes "s") None 2 false false None
-          ∷ attached (codes "s") None 3 true false None ∷ [])
+      ∷ attached (codes "s") None 3 true false None ∷ [])
       ∷ [];
   bindings =
       [];

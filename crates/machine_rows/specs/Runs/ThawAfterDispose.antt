@@ -22,14 +22,14 @@ definition = record {
       class_with [] (notify ∷ []) [] None None
       ∷ class_with [] (notify ∷ []) [] None None
       ∷ class_with (property (codes "n") (kinds.whole kinds.int) 3 (values.whole kinds.int (pos 0)) (negsuc 2147483647)
-          (pos 2147483647) false ∷ []) (notify ∷ signal (codes "go") [] None 2 None ∷ []) (class_handler (codes "notify") 1 ∷ []) None None
+      (pos 2147483647) false ∷ []) (notify ∷ signal (codes "go") [] None 2 None ∷ []) (class_handler (codes "notify") 1 ∷ []) None None
       ∷ [];
   shapes =
       [];
   programs =
       program (codes "f") ((kinds.some 2) ∷ []) 2 None
       (block ((kinds.some 2) ∷ kinds.unset ∷ []) 1 (words.const 1 (kinds.whole kinds.int) (values.whole kinds.int (pos 1))
-          ∷ words.freeze 0 ∷ words.set 0 (codes "n") 1 ∷ words.dispose 0 ∷ words.thaw 0 ∷ words.return None ∷ [])
+      ∷ words.freeze 0 ∷ words.set 0 (codes "n") 1 ∷ words.dispose 0 ∷ words.thaw 0 ∷ words.return None ∷ [])
       ∷ [])
       ∷ program (codes "say") ((kinds.some 2) ∷ []) 1 None
       (block ((kinds.some 2) ∷ []) 1 (words.return None ∷ [])
@@ -40,7 +40,7 @@ definition = record {
       ∷ [];
   places =
       object (codes "b") 2 None [] [] (attached (codes "go") None 0 false false None
-          ∷ attached (codes "notify") None 2 false false None ∷ [])
+      ∷ attached (codes "notify") None 2 false false None ∷ [])
       ∷ [];
   bindings =
       [];

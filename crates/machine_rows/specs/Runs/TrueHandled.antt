@@ -36,7 +36,7 @@ definition = record {
       ∷ [];
   places =
       object (codes "b") 2 None [] [] (attached (codes "q") None 0 false false None ∷ attached (codes "q") None 1 false false None
-          ∷ attached (codes "q") None 1 false false None ∷ [])
+      ∷ attached (codes "q") None 1 false false None ∷ [])
       ∷ [];
   bindings =
       [];

@@ -24,8 +24,8 @@ definition = record {
       ∷ class_with [] (notify ∷ []) [] None None
       ∷ bare
       ∷ class_with (property (codes "f") (kinds.flags 2) 3 (values.flags 2 0) (pos 0) (pos 0) false
-          ∷ property (codes "g") (kinds.flags 2) 19 (values.flags 2 0) (pos 0) (pos 0) false ∷ []) (notify
-          ∷ signal (codes "s") ((kinds.flags 2) ∷ []) None 2 None ∷ []) [] None None
+      ∷ property (codes "g") (kinds.flags 2) 19 (values.flags 2 0) (pos 0) (pos 0) false ∷ []) (notify
+      ∷ signal (codes "s") ((kinds.flags 2) ∷ []) None 2 None ∷ []) [] None None
       ∷ [];
   shapes =
       [];

@@ -23,8 +23,8 @@ definition = record {
       class_with [] (notify ∷ []) [] None None
       ∷ class_with [] (notify ∷ []) [] None None
       ∷ class_with (property (codes "w") (kinds.object 2) 1073741827 (values.object None) (pos 0) (pos 0) true
-          ∷ property (codes "to") (kinds.object 2) 3 (values.object None) (pos 0) (pos 0) false ∷ []) (notify
-          ∷ signal (codes "go") [] None 2 None ∷ []) [] None None
+      ∷ property (codes "to") (kinds.object 2) 3 (values.object None) (pos 0) (pos 0) false ∷ []) (notify
+      ∷ signal (codes "go") [] None 2 None ∷ []) [] None None
       ∷ [];
   shapes =
       [];

@@ -10,4 +10,4 @@ use Rattle.ui_machine.specs.Definition.{Definition}
 abbrev pub NoFurtherStep : Type 0
 NoFurtherStep =
     (d : Definition) (w : World) (object slot : ℕ) (rest : List Task)
-        → act d w None (Notifying object slot ∷ rest) most_steps ≡ Err arms.Steps
+    → act d w None (Notifying object slot ∷ rest) most_steps ≡ Err arms.Steps

@@ -23,14 +23,14 @@ definition = record {
       class_with [] (notify ∷ []) [] None None
       ∷ class_with [] (notify ∷ []) [] None None
       ∷ class_with [] (notify ∷ signal (codes "go") [] None 2 None
-          ∷ signal (codes "s") ((kinds.whole kinds.int) ∷ []) None 2 None ∷ []) [] None None
+      ∷ signal (codes "s") ((kinds.whole kinds.int) ∷ []) None 2 None ∷ []) [] None None
       ∷ [];
   shapes =
       [];
   programs =
       program (codes "f") ((kinds.some 2) ∷ []) 2 None
       (block ((kinds.some 2) ∷ kinds.unset ∷ []) 1 (words.const 1 kinds.bool (values.bool true)
-          ∷ words.emit None 0 (codes "s") None (1 ∷ []) ∷ words.return None ∷ [])
+      ∷ words.emit None 0 (codes "s") None (1 ∷ []) ∷ words.return None ∷ [])
       ∷ [])
       ∷ [];
   places =

@@ -22,7 +22,7 @@ definition = record {
       class_with [] (notify ∷ []) [] None None
       ∷ class_with [] (notify ∷ []) [] None None
       ∷ class_with (property (codes "o") (kinds.object 2) 1 (values.object None) (pos 0) (pos 0) false ∷ []) (notify
-          ∷ signal (codes "go") [] None 2 None ∷ []) [] None None
+      ∷ signal (codes "go") [] None 2 None ∷ []) [] None None
       ∷ [];
   shapes =
       [];
