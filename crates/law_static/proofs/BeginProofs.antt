@@ -8,7 +8,7 @@ use Rattle.ui_machine.specs.Definition.Kinds.{RegisterKind}
 use Rattle.ui_machine.specs.Definition.Kinds as kinds
 use Rattle.ui_machine.specs.Definition.Values.{Value}
 use Rattle.ui_machine.specs.Definition.Programs.{Instruction}
-use Rattle.ui_machine.specs.Rules.Programs.{passes_of}
+use Rattle.ui_machine.specs.Rules.Programs.{first_registers, passes_of}
 use Rattle.law_typing.specs.Rules.RegisterKinds.{Kinds}
 use Rattle.law_typing.specs.Rules.Brackets.{is_bracketed, is_empty, opened}
 use Rattle.law_typing.specs.Graph.{graph, stretch_of, stretches_of, next_of}
@@ -18,7 +18,7 @@ use Rattle.law_typing.specs.Good.Standing.{Standing, holds}
 use Rattle.law_typing.proofs.Lists.{both_parts, each_in, each_flat}
 use Rattle.law_typing.proofs.CostProofs.{costs_solved, depths_solved, blocks_cover}
 use Rattle.law_static.specs.Fits.{AllHold}
-use Rattle.law_static.specs.Code.{ProgramsBegin, registers_with, FirstRegistersFit}
+use Rattle.law_static.specs.Code.{ProgramsBegin, FirstRegistersFit}
 use Rattle.law_static.proofs.SiteProofs.{blocks_keep}
 
 pub get_map : {A B : Type 0} (f : A → B) (xs : List A) (i : ℕ) (x : A) → slice_get xs i ≡ Some x → slice_get (map f xs) i ≡ Some (f x)
@@ -113,6 +113,6 @@ first_registers_fit d read_well s number p b args is has all =
     let room = program.params in
     let long = length_both args n in (
       omega (arith, count, room, long),
-      λ r. subst (λ entry. holds d s (read kinds.unset entry r) (read None (registers_with p.registers args) r) ≡ true) (sym first.1)
+      λ r. subst (λ entry. holds d s (read kinds.unset entry r) (read None (first_registers p args) r) ≡ true) (sym first.1)
           (fit_from d s args p.params first.0 n r all first.2),
     )

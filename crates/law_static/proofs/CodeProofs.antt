@@ -26,7 +26,7 @@ use Rattle.law_static.proofs.SubclassProofs.{get_in}
 
 -- ** the code from an instruction on
 
-from_at : (code : List Instruction) (at : ℕ) (i : Instruction) → slice_get code at ≡ Some i → drop at code ≡ i ∷ drop (suc at) code
+pub from_at : (code : List Instruction) (at : ℕ) (i : Instruction) → slice_get code at ≡ Some i → drop at code ≡ i ∷ drop (suc at) code
 from_at [] at i e = absurd (cc)
 from_at (j ∷ code) zero i e = let s : j ≡ i = cc in ap (λ j. j ∷ code) s
 from_at (j ∷ code) (suc at) i e = from_at code at i e

@@ -1,11 +1,11 @@
 -- How a program's rest goes on past an instruction, and where a program begins.
-use Rattle.std.specs.Prelude.{◌≡◌, ℕ, suc, ◌+◌, ◌-◌, ◌≤◌, true, false, List, [], ◌++◌, length, map, drop, replicate, None, Ok, Some, slice_get}
+use Rattle.std.specs.Prelude.{◌≡◌, ℕ, suc, ◌+◌, ◌-◌, ◌≤◌, true, false, List, [], length, drop, None, Ok, Some, slice_get}
 use Rattle.ui_machine.specs.Definition.{Definition}
 use Rattle.ui_machine.specs.Definition.Values.{Value}
 use Rattle.ui_machine.specs.Definition.Programs.{Instruction, Block, Program}
 use Rattle.ui_machine.specs.Definition.Lookups.{program_at}
 use Rattle.ui_machine.specs.State.Tasks.{Registers, Frame}
-use Rattle.ui_machine.specs.Rules.Programs.{first_frame}
+use Rattle.ui_machine.specs.Rules.Programs.{first_registers, first_frame}
 use Rattle.law_typing.specs.Rules.Typing as typing
 use Rattle.law_typing.specs.Rules.Typing.{after}
 use Rattle.law_typing.specs.Rules.Brackets.{opened, keeps_brackets}
@@ -68,14 +68,10 @@ ProgramsBegin =
     RunningGood d a.weighed.costs a.weighed.depths s none (begun number p registers) (of_program a.weighed.costs number)
     (of_program a.weighed.depths number)
 
--- the registers that begin with what is given, and then are unset
-abbrev pub registers_with : ℕ → List Value → Registers
-registers_with registers args = map (λ (v : Value). Some v) args ++ replicate (registers - length args) None
-
--- they hold what the first block says, where what is given holds what the parameters say
+-- the first registers hold what the first block says, where what is given holds what the parameters say
 abbrev pub FirstRegistersFit : Type 0
 FirstRegistersFit =
     (d : Definition) → WellRead d → (s : Standing) (number : ℕ) (p : Program) (b : Block) (args : List Value) →
     program_at d number ≡ Some p →
     slice_get p.blocks 0 ≡ Some b → AllHold d s args p.params →
-    (length (registers_with p.registers args) ≡ p.registers) × RegistersFit d s b.entry (registers_with p.registers args)
+    (length (first_registers p args) ≡ p.registers) × RegistersFit d s b.entry (first_registers p args)
