@@ -2,6 +2,7 @@ pub mod WriteProofs
 pub mod ServedProofs
 pub mod AgendaProofs
 pub mod Left
+pub mod AlikeProofs
 pub mod HandlersProofs
 pub mod BindingsProofs
 pub mod SourcesProofs

@@ -1,4 +1,5 @@
 pub mod Write
+pub mod Alike
 pub mod Agenda
 pub mod Handlers
 pub mod Bindings

@@ -11,6 +11,7 @@ ghost use Rattle.law_kept.specs.Dispose.{DisposeKeeps};
 ghost use Rattle.law_kept.specs.Finalise.{FinalisationIsFine};
 ghost use Rattle.law_kept.specs.Connect.{HandlerConnects};
 ghost use Rattle.law_kept.specs.Write.{WriteKeeps};
+ghost use Rattle.law_kept.specs.Alike.{WholeStays, BuildStays};
 
 /// Where one object is written over by another of the same place, class, family and peer, the rest of the world stays good, and the
 /// agenda reads the same of it.
@@ -22,6 +23,12 @@ pub fn write()
 /// the handlers and bindings are some of those that were there, and peers keep their shapes.
 pub fn agenda()
     ensures served { AgendaServed }
+{}
+
+/// Where agendas are alike in what handlers, bindings, pairs and the build read of them, what is good with one is good with the other.
+pub fn alike()
+    ensures stays { WholeStays }
+    ensures build { BuildStays }
 {}
 
 /// Handlers that are left after others are disconnected stay good, and so do those that are blocked or unblocked; a number finds among them
