@@ -273,7 +273,7 @@ holds_fits d types s a b None e h = none_fits d types s a b e h
 holds_fits d types s a b (Some v) e h = set_fits d types s a b v e h
 
 -- a value that fits a kind is one of it
-of_kind : (f : ℕ → Option ℕ) (types : List GType) (v : Value) (kind : Kind) → kind_fits f types v kind ≡ true → has_kind v kind ≡ true
+pub of_kind : (f : ℕ → Option ℕ) (types : List GType) (v : Value) (kind : Kind) → kind_fits f types v kind ≡ true → has_kind v kind ≡ true
 of_kind f types (values.bool b) kinds.bool e = refl
 of_kind f types (values.whole k n) (kinds.whole l) e = (both_parts (same_whole k l) (is_between (least l) (greatest l) n) e).0
 of_kind f types (values.text t) kinds.text e = refl

@@ -1,0 +1,6 @@
+pub mod Frozen
+pub mod Around
+pub mod Written
+pub mod Inverse
+pub mod Typed
+pub mod RegisterProofs
