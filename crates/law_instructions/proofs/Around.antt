@@ -8,10 +8,11 @@ use Rattle.ui_machine.specs.Definition.Lookups.{program_at}
 use Rattle.ui_machine.specs.Definition.Programs.{Instruction, Block}
 use Rattle.ui_machine.specs.State.Objects.{live}
 use Rattle.ui_machine.specs.State.Tasks.{Registers, Frame, Running, Task}
-use Rattle.ui_machine.specs.State.Config.{World}
+use Rattle.ui_machine.specs.State.Config.{World, Config}
 use Rattle.ui_machine.specs.Outcome.{only_if}
 use Rattle.ui_machine.specs.Instructions.{instructed, running}
 use Rattle.ui_machine.specs.Instructions.Jumps.{block_in, is_past_first, has_pass, is_at_last, in_pass, past}
+use Rattle.ui_machine.specs.Rules.Build.{to_make}
 use Rattle.ui_machine.specs.Steps.{most_steps, left, counted_left}
 use Rattle.law_typing.specs.Rules.Typing.{after}
 use Rattle.law_typing.specs.Graph.{graph, start_of}
@@ -23,10 +24,11 @@ use Rattle.law_typing.specs.Laws.WellRead.{WellRead, ends}
 use Rattle.law_typing.specs.Laws.StepsKeepGood.{IsGood, Fine}
 use Rattle.law_typing.specs.Good.Standing.{Standing, standing, view, RegistersFit}
 use Rattle.law_typing.specs.Good.Objects.{PeersGood}
-use Rattle.law_typing.specs.Good.ComingDown.{none, down, Comes}
+use Rattle.law_typing.specs.Good.ComingDown.{Down, none, given, down, result_of_program, Comes, TakesNone}
 use Rattle.law_typing.specs.Good.Programs.{RunningGood, code_of, code_of_block}
+use Rattle.law_typing.specs.Good.Agenda.{AgendaGood}
 use Rattle.law_typing.specs.Good.Builds.{is_for_builder, BuildGood}
-use Rattle.law_typing.specs.Good.Freezes.{QueuesGood, carried}
+use Rattle.law_typing.specs.Good.Freezes.{QueuesGood, carried, SetsGood}
 use Rattle.law_static.specs.Code.{Taken, gone_on}
 use Rattle.law_static.proofs.CodeProofs.{instructions_taken, programs_go_on}
 use Rattle.law_kept.specs.Agenda.{Serves}
@@ -100,65 +102,122 @@ module _ {d : Definition} {i : Instruction} (t : Due d i) where
   pub room : most_counted ≤ most_steps → n < most_steps
   room within = (let a = g.spent in let b = taken.cheap in let c = g.agenda.5 in omega (arith, a, b, c, within))
 
-  -- ** what is to be shown of the world that is left, and of the registers
+  -- ** what is to be shown of what is left
 
-  pub record Around (v : World) (registers : Registers) : Type 0 where
-    -- what is good of it
+  -- the world and the agenda that an instruction leaves
+  pub record Rests (v : World) (agenda : List Task) : Type 0 where
+    -- what is good of the world, where the agenda is alike in what it reads of it
     pub whole : Whole d costs depths (Running f ∷ rest) v
-    -- the rest of the agenda is served, and finds the peers
-    pub served : Serves d rest (view w) (view v)
-    pub pool : PeersGood d v.peers (length v.builder + total is_for_builder (Running f ∷ rest))
-    -- the registers fit the kinds after the instruction
-    pub counted : length registers ≡ r.p.registers
-    pub fit : RegistersFit d (standing v.objects) (after d r.p r.ks i) registers
-    -- freeze counts are the open brackets
-    pub queues : QueuesGood d depths most (Running (gone_on f registers) ∷ rest) (suc n) v.objects
-    -- no more live, and what is queued may cost what the instruction may start
-    pub few : live v.objects ≤ live w.objects
-    pub queued : total (carried d costs) v.objects ≤ start_cost (graph d) costs (start_of d r.ks i) + total (carried d costs) w.objects
+    pub alike : Alike (Running f ∷ rest) agenda
+    pub pool : PeersGood d v.peers (length v.builder + total is_for_builder agenda)
+    pub builder : v.builder ≡ w.builder
+    pub build : BuildGood d w.builder agenda rest → BuildGood d w.builder agenda agenda
+    pub sets : SetsGood d (record { world = v; agenda = agenda; counted = suc n })
+    -- the agenda, and what it may still cost, with what is queued and what lives
+    pub budget : ℕ
+    pub good : AgendaGood d costs depths (view v) most none agenda budget
+    pub queues : QueuesGood d depths most agenda (suc n) v.objects
+    pub few : live v.objects + to_make agenda ≤ d.most_objects
+    pub spent :
+        suc (budget + (total (carried d costs) v.objects + (live v.objects + to_make agenda)))
+        ≤ g.agenda.0 + g.agenda.2 + (total (carried d costs) w.objects + (live w.objects + to_make (Running f ∷ rest)))
 
-  alike : (registers : Registers) → Alike (Running f ∷ rest) (Running (gone_on f registers) ∷ rest)
-  alike registers = record { items = λ f. refl; unset = λ number. refl; carrying = refl; makes = refl; constructs = λ id. refl }
-
-  pub goes_on : (v : World) (registers : Registers) → ends i ≡ false → Around v registers → IsGood d a most_counted (at_top v (gone_on f registers) rest (suc n))
-  goes_on v registers more e =
-      let whole = whole_stays d costs depths (Running f ∷ rest) (Running (gone_on f registers) ∷ rest) v (alike registers) e.whole in
-      let start = start_cost (graph d) costs (start_of d r.ks i) in
+  pub good_of : (v : World) (agenda : List Task) → Rests v agenda → IsGood d a most_counted (record { world = v; agenda = agenda; counted = suc n })
+  good_of v agenda e =
+      let whole = whole_stays d costs depths (Running f ∷ rest) agenda v e.alike e.whole in
       record {
         objects = whole.objects;
         handlers = whole.handlers;
         bindings = whole.bindings;
         sources = whole.sources;
         peers = e.pool;
-        build = subst (λ b. BuildGood d b (Running (gone_on f registers) ∷ rest) rest) (sym e.served.builder) (build_stays d w.builder (Running f ∷ rest) (Running (gone_on f registers) ∷ rest) rest refl g.build);
+        build = subst (λ b. BuildGood d b agenda agenda) (sym e.builder) (e.build (build_stays d w.builder (Running f ∷ rest) agenda rest e.alike.makes g.build));
         held = whole.held;
         floating = whole.floating;
-        sets = record { alone = g.sets.alone; first = g.sets.first; held = λ some. absurd (let none = g.sets.first in omega (arith, some, none)) };
+        sets = e.sets;
         pairs = whole.pairs;
-        budget = (g.agenda.0 - (1 + start)) + g.agenda.2;
-        agenda = (
-          g.agenda.0 - (1 + start),
-          g.agenda.1,
-          g.agenda.2,
-          (tt, programs_go_on d well costs depths s (standing v.objects) f g.agenda.0 g.agenda.1 r i here more registers e.counted e.fit),
-          g.agenda.4,
-          omega arith,
-          agenda_served d costs depths most (down d (view w) (Running f)) rest g.agenda.2 (view w) (view v) e.served g.agenda.6,
-        );
+        budget = e.budget;
+        agenda = e.good;
         queues = e.queues;
-        few = (let old = g.few in let few = e.few in omega (arith, old, few));
-        spent = (let old = g.spent in let few = e.few in let queued = e.queued in let cheap = taken.cheap in let split = g.agenda.5 in omega (arith, old, few, queued, cheap, split));
+        few = e.few;
+        spent = (let old = g.spent in let new = e.spent in let split = g.agenda.5 in omega (arith, old, new, split));
       }
 
-  -- the frame that the machine leaves is that one, since no register waits
-  pub fine_by : most_counted ≤ most_steps → (v : World) (registers : Registers) →
-      left (suc n) (instructed d w rest (past f) i) ≡ Ok (record { world = v; agenda = Running (record (past f) { registers = registers }) ∷ rest; counted = suc n }) →
-      IsGood d a most_counted (at_top v (gone_on f registers) rest (suc n)) →
+  -- the program goes on in this frame, above what was below it
+  pub above : (v : World) (next : Frame) (up : Down) (steps : ℕ) → next.program ≡ f.program → Serves d rest (view w) (view v) → TakesNone up →
+      RunningGood d costs depths (standing v.objects) up next steps g.agenda.1 → AgendaGood d costs depths (view v) most up (Running next ∷ rest) (steps + g.agenda.2)
+  above v next up steps same served takes good = (
+    steps,
+    g.agenda.1,
+    g.agenda.2,
+    (takes, good),
+    g.agenda.4,
+    omega arith,
+    subst (λ up. AgendaGood d costs depths (view v) most up rest g.agenda.2) (ap (λ program. given (result_of_program (program_at d program))) (sym same))
+        (agenda_served d costs depths most (down d (view w) (Running f)) rest g.agenda.2 (view w) (view v) served g.agenda.6),
+  )
+
+  -- ** the program goes on alone
+
+  -- what is to be shown where it does, in this frame and with these steps left
+  pub record Around (v : World) (next : Frame) (steps : ℕ) : Type 0 where
+    pub whole : Whole d costs depths (Running f ∷ rest) v
+    -- the rest of the agenda is served, and finds the peers
+    pub served : Serves d rest (view w) (view v)
+    pub pool : PeersGood d v.peers (length v.builder + total is_for_builder (Running f ∷ rest))
+    -- the program
+    pub same : next.program ≡ f.program
+    pub running : RunningGood d costs depths (standing v.objects) none next steps g.agenda.1
+    -- freeze counts are the open brackets
+    pub queues : QueuesGood d depths most (Running next ∷ rest) (suc n) v.objects
+    -- no more live, and what is queued may cost what the steps taken leave
+    pub few : live v.objects ≤ live w.objects
+    pub queued : suc (steps + total (carried d costs) v.objects) ≤ g.agenda.0 + total (carried d costs) w.objects
+
+  pub alike : (next : Frame) → Alike (Running f ∷ rest) (Running next ∷ rest)
+  alike next = record { items = λ f. refl; unset = λ number. refl; carrying = refl; makes = refl; constructs = λ id. refl }
+
+  pub goes_to : (v : World) (next : Frame) (steps : ℕ) → Around v next steps → IsGood d a most_counted (at_top v next rest (suc n))
+  goes_to v next steps e =
+      good_of v (Running next ∷ rest)
+      (record {
+        whole = e.whole;
+        alike = alike next;
+        pool = e.pool;
+        builder = e.served.builder;
+        build = λ b. b;
+        sets = record { alone = g.sets.alone; first = g.sets.first; held = λ some. absurd (let none = g.sets.first in omega (arith, some, none)) };
+        budget = steps + g.agenda.2;
+        good = above v next none steps e.same e.served tt e.running;
+        queues = e.queues;
+        few = (let old = g.few in let few = e.few in omega (arith, old, few));
+        spent = (let few = e.few in let queued = e.queued in omega (arith, few, queued));
+      })
+
+  -- the registers past an instruction that does not end its block, and what it leaves of the steps
+  pub left_steps : ℕ
+  left_steps = g.agenda.0 - (1 + start_cost (graph d) costs (start_of d r.ks i))
+
+  pub past_good : (z : Standing) (registers : Registers) → ends i ≡ false → length registers ≡ r.p.registers → RegistersFit d z (after d r.p r.ks i) registers →
+      RunningGood d costs depths z none (gone_on f registers) left_steps g.agenda.1
+  unfolding left_steps
+  past_good z registers more counted fit = programs_go_on d well costs depths s z f g.agenda.0 g.agenda.1 r i here more registers counted fit
+
+  pub steps_left : suc (left_steps + start_cost (graph d) costs (start_of d r.ks i)) ≤ g.agenda.0
+  unfolding left_steps
+  steps_left = (let cheap = taken.cheap in omega (arith, cheap))
+
+  -- the step is fine where what the instruction leaves is good
+  pub fine_where : most_counted ≤ most_steps → (c : Config) → left (suc n) (instructed d w rest (past f) i) ≡ Ok c → IsGood d a most_counted c →
       Fine d a.weighed.costs a.weighed.depths most_counted (depth (graph d) a.weighed.depths) (counted_left n (running d w rest f))
-  fine_by within v registers leads good =
+  fine_where within c leads good =
       subst (λ b. Fine d costs depths most_counted most (only_if b arms.Steps (left (suc n) (running d w rest f)))) (sym (lt-ltb n most_steps (room within)))
-      (subst (Fine d costs depths most_counted most) (sym (ap (left (suc n)) running_is ∙ leads))
-      (subst (λ into. IsGood d a most_counted (at_top v (record (past f) { into = into; registers = registers }) rest (suc n))) (sym none_into) good))
+      (subst (Fine d costs depths most_counted most) (sym (ap (left (suc n)) running_is ∙ leads)) good)
+
+  -- a frame of the machine is one in which no register waits
+  pub waits_not : (v : World) (next : Frame) → IsGood d a most_counted (at_top v (record next { into = None }) rest (suc n)) →
+      IsGood d a most_counted (at_top v (record next { into = f.into }) rest (suc n))
+  waits_not v next good = subst (λ into. IsGood d a most_counted (at_top v (record next { into = into }) rest (suc n))) (sym none_into) good
 
 -- the step of a due instruction is fine
 abbrev pub StepIsFine : {d : Definition} {i : Instruction} → Due d i → Type 0

@@ -131,7 +131,7 @@ module _ (d : Definition) (s : Standing) where
 
   -- ** what may be compared
 
-  object_at : (k : RegisterKind) (v : Value) → holds_objects d k ≡ true → holds d s k (Some v) ≡ true → (o : Option ℕ) × (v ≡ values.object o)
+  pub object_at : (k : RegisterKind) (v : Value) → holds_objects d k ≡ true → holds d s k (Some v) ≡ true → (o : Option ℕ) × (v ≡ values.object o)
   object_at k (values.object o) e h = (o, refl)
   object_at (kinds.plain (kinds.object t)) (values.bool b) e h = absurd (cc)
   object_at (kinds.plain (kinds.object t)) (values.whole l n) e h = absurd (cc)

@@ -4,3 +4,5 @@ pub mod Written
 pub mod Inverse
 pub mod Typed
 pub mod RegisterProofs
+pub mod Landing
+pub mod JumpProofs

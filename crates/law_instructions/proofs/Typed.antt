@@ -1,13 +1,16 @@
 -- What it says of the instructions on registers that they keep their rules: the kinds of what they read, and those after them.
-use Rattle.std.proofs.Common.{◌≡◌, refl, sym, ap, ◌∙◌, ℕ, true, Ok}
+use Rattle.std.proofs.Common.{◌≡◌, refl, sym, ap, subst, ◌∙◌, ℕ, true, Some, Ok, slice_get}
 use Rattle.ui_machine.specs.Seq.{write}
 use Rattle.ui_machine.specs.Definition.Kinds.{RegisterKind}
 use Rattle.ui_machine.specs.Definition.Kinds as kinds
 use Rattle.ui_machine.specs.Definition.{Definition}
-use Rattle.law_typing.specs.Rules.RegisterKinds.{Kinds, kind_in}
-use Rattle.law_typing.specs.Rules.Typing.{set_in, passing, two_numbers, two_passing, is_bool, is_text, is_whole, is_same, is_comparable, moving, comparing, reckoning, sameness, negating, combining, joining, converting, converts_to}
+use Rattle.ui_machine.specs.Definition.Programs.{Block, Program}
+use Rattle.ui_machine.specs.Outcome.{known}
+use Rattle.law_typing.specs.Rules.Answers as rules
+use Rattle.law_typing.specs.Rules.RegisterKinds.{Kinds, kind_in, never_null, kinds_fit}
+use Rattle.law_typing.specs.Rules.Typing.{set_in, passing, two_numbers, two_passing, is_bool, is_text, is_whole, is_same, is_comparable, moving, comparing, reckoning, sameness, negating, combining, joining, converting, converts_to, entering, branching, branching_null, may_be_null}
 use Rattle.law_typing.specs.Laws.WellRead.{is_set}
-use Rattle.law_instructions.proofs.Inverse.{bound, set_is, passing_is, numbers_are, two_are}
+use Rattle.law_instructions.proofs.Inverse.{bound, only, known_is, set_is, passing_is, numbers_are, two_are}
 
 -- the kinds with one written
 abbrev pub with_kind : Kinds → ℕ → RegisterKind → Kinds
@@ -84,3 +87,38 @@ converting_is d ks to a kind next e =
     let x = bound (passing ks a (converts_to d kind)) _ next e in
     let k = passing_is ks a (converts_to d kind) x.0 x.1 in
     (k.1, k.2, (let f = x.2 in let s : with_kind ks to (kinds.plain kind) ≡ next = cc in sym s))
+
+-- ** jumps
+
+-- the block that is gone to, which the kinds fit
+pub record Enters (d : Definition) (p : Program) (ks : Kinds) (to : ℕ) : Type 0 where
+  pub b : Block
+  pub is : slice_get p.blocks to ≡ Some b
+  pub fit : kinds_fit d ks b.entry ≡ true
+
+pub entering_is : (d : Definition) (p : Program) (ks : Kinds) (to : ℕ) (next : Kinds) → entering d p ks to ≡ Ok next → Enters d p ks to
+unfolding entering
+entering_is d p ks to next e =
+    let x = bound (known rules.block (slice_get p.blocks to)) _ next e in
+    let o = only (kinds_fit d ks x.0.entry) rules.block (Ok ks) next x.2 in
+    record { b = x.0; is = known_is rules.block (slice_get p.blocks to) x.0 x.1; fit = o.0 }
+
+pub branching_is : (d : Definition) (p : Program) (ks : Kinds) (on then_to else_to : ℕ) (next : Kinds) → branching d p ks on then_to else_to ≡ Ok next →
+    (is_bool (kind_in ks on) ≡ true) × Enters d p ks then_to × Enters d p ks else_to
+unfolding branching
+branching_is d p ks on then_to else_to next e =
+    let x = bound (passing ks on is_bool) _ next e in
+    let y = bound (entering d p ks then_to) _ next x.2 in
+    ((passing_is ks on is_bool x.0 x.1).2, entering_is d p ks then_to y.0 y.1, entering_is d p ks else_to next y.2)
+
+pub branching_null_is : (d : Definition) (p : Program) (ks : Kinds) (on then_to else_to : ℕ) (next : Kinds) → branching_null d p ks on then_to else_to ≡ Ok next →
+    (may_be_null d (kind_in ks on) ≡ true) × Enters d p ks then_to × Enters d p (with_kind ks on (never_null (kind_in ks on))) else_to
+unfolding branching_null
+branching_null_is d p ks on then_to else_to next e =
+    let x = bound (passing ks on (may_be_null d)) _ next e in
+    let k = passing_is ks on (may_be_null d) x.0 x.1 in
+    let y = bound (entering d p ks then_to) _ next x.2 in (
+      k.2,
+      entering_is d p ks then_to y.0 y.1,
+      subst (λ k. Enters d p (with_kind ks on (never_null k)) else_to) (sym k.0) (entering_is d p (with_kind ks on (never_null x.0)) else_to next y.2),
+    )

@@ -34,7 +34,7 @@ use Rattle.law_kept.specs.Agenda.{Serves}
 use Rattle.law_kept.proofs.WriteProofs.{read_here, read_apart}
 use Rattle.law_instructions.specs.Running.{at_top}
 use Rattle.law_instructions.proofs.Frozen.{is_bracket, opened_past, frozen_same}
-use Rattle.law_instructions.proofs.Around.{Due, goes_on, r, here, taken, code_is, fine_by}
+use Rattle.law_instructions.proofs.Around.{Due, goes_to, past_good, left_steps, steps_left, r, here, taken, code_is, fine_where, waits_not}
 
 pub length_write : {A : Type 0} (x : A) (xs : List A) (i : ℕ) (y : A) → i < length xs → length (write x xs i y) ≡ length xs
 length_write x [] i y low = absurd (omega (arith, low))
@@ -96,7 +96,7 @@ not_among xs to r kept among e = let s = ap (is_among xs) e in let t = ap not (s
 module _ {d : Definition} {i : Instruction} (t : Due d i) (plain : is_bracket i ≡ false) where
   open t use {well, a, most_counted, w, f, rest, n, g, is}
 
-  code_here : code_left d f ≡ i ∷ drop (suc f.at) (r t).b.code
+  pub code_here : code_left d f ≡ i ∷ drop (suc f.at) (r t).b.code
   code_here = ap (drop f.at) (code_is t) ∙ from_at (r t).b.code f.at i (here t)
 
   code_next : (registers : Registers) → code_left d (gone_on f registers) ≡ drop (suc f.at) (r t).b.code
@@ -138,7 +138,7 @@ module _ {d : Definition} {i : Instruction} (t : Due d i) (plain : is_bracket i 
       after d (r t).p (r t).ks i ≡ write kinds.unset (r t).ks to k → holds d (standing w.objects) k x ≡ true →
       IsGood d a most_counted (at_top (record w { transcript = lines }) (gone_on f (write None f.registers to x)) rest (suc n))
   written_well lines to k x more e kinds_are h =
-      goes_on t (record w { transcript = lines }) (write None f.registers to x) more
+      goes_to t (record w { transcript = lines }) (gone_on f (write None f.registers to x)) (left_steps t)
       (record {
         whole = record {
           objects = objects_said d w lines g.objects;
@@ -151,12 +151,14 @@ module _ {d : Definition} {i : Instruction} (t : Due d i) (plain : is_bracket i 
         };
         served = serves_itself d rest (view w);
         pool = g.peers;
-        counted = length_write None f.registers to x (low to e) ∙ (r t).counted;
-        fit = subst (λ ks. RegistersFit d (standing w.objects) ks (write None f.registers to x)) (sym kinds_are) (fit_written d (standing w.objects) (r t).ks f.registers to k x (r t).fit h);
+        same = refl;
+        running =
+            past_good t (standing w.objects) (write None f.registers to x) more (length_write None f.registers to x (low to e) ∙ (r t).counted)
+            (subst (λ ks. RegistersFit d (standing w.objects) ks (write None f.registers to x)) (sym kinds_are) (fit_written d (standing w.objects) (r t).ks f.registers to k x (r t).fit h));
         queues = queues_stay (write None f.registers to x)
             (λ r among. read_apart None f.registers to x r (not_among (opened (code_left d f)) to r (kept to e) among));
         few = omega arith;
-        queued = omega arith;
+        queued = (let left = steps_left t in omega (arith, left));
       })
 
   pub written_fine : most_counted ≤ most_steps → (lines : List (List ℕ)) (to : ℕ) (k : RegisterKind) (x : Option Value) → ends i ≡ false →
@@ -164,5 +166,6 @@ module _ {d : Definition} {i : Instruction} (t : Due d i) (plain : is_bracket i 
       instructed d w rest (past f) i ≡ in_front rest (written_to (record w { transcript = lines }) to x (past f)) →
       Fine d a.weighed.costs a.weighed.depths most_counted (depth (graph d) a.weighed.depths) (counted_left n (running d w rest f))
   written_fine within lines to k x more e kinds_are h does =
-      fine_by t within (record w { transcript = lines }) (write None f.registers to x) (ap (left (suc n)) does ∙ writes (record w { transcript = lines }) rest (past f) (suc n) to x (low to e))
-      (written_well lines to k x more e kinds_are h)
+      fine_where t within (at_top (record w { transcript = lines }) (record (past f) { registers = write None f.registers to x }) rest (suc n))
+      (ap (left (suc n)) does ∙ writes (record w { transcript = lines }) rest (past f) (suc n) to x (low to e))
+      (waits_not t (record w { transcript = lines }) (gone_on f (write None f.registers to x)) (written_well lines to k x more e kinds_are h))

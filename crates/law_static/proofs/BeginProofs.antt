@@ -26,11 +26,11 @@ get_map f [] i x e = absurd (cc)
 get_map {A} f (y ∷ ys) zero x e = let s : y ≡ x = cc in ap (λ (y : A). Some (f y)) s
 get_map f (y ∷ ys) (suc i) x e = get_map f ys i x e
 
-some_code : (code : List Instruction) → Ends code → 0 < length code
+pub some_code : (code : List Instruction) → Ends code → 0 < length code
 some_code [] block = absurd block
 some_code (i ∷ code) block = omega arith
 
-later : (code : List Instruction) (n most : ℕ) → Each (λ i. Each (λ to. (n < to) × (to < most)) (next_of i)) code → Each (λ to. n < to) (flat_map next_of code)
+pub later : (code : List Instruction) (n most : ℕ) → Each (λ i. Each (λ to. (n < to) × (to < most)) (next_of i)) code → Each (λ to. n < to) (flat_map next_of code)
 later code n most all =
     each_flat (λ to. n < to) next_of code (λ i h. narrow (next_of i) (each_in (λ i. Each (λ to. (n < to) × (to < most)) (next_of i)) code all i h))
   where

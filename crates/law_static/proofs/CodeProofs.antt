@@ -59,7 +59,7 @@ awaited_none ks (Some to) = refl
 
 module _ (d : Definition) (costs depths : Tables) (s : Standing) (f : Frame) (steps frames : ℕ) (r : RunningGood d costs depths s none f steps frames)
     (i : Instruction) (is : slice_get r.b.code f.at ≡ Some i) where
-  abbrev rest : List Instruction
+  abbrev pub rest : List Instruction
   rest = drop (suc f.at) r.b.code
 
   here : drop f.at r.b.code ≡ i ∷ rest
@@ -71,7 +71,7 @@ module _ (d : Definition) (costs depths : Tables) (s : Standing) (f : Frame) (st
   kept : (keeps_brackets (opened rest) i && is_bracketed rest) ≡ true
   kept = subst (λ code. is_bracketed code ≡ true) here r.bracketed
 
-  cheap : code_cost (graph d) costs (stretches_of d r.p) (starts_of d r.p r.ks (i ∷ rest)) (flat_map next_of (i ∷ rest)) ≤ steps
+  pub cheap : code_cost (graph d) costs (stretches_of d r.p) (starts_of d r.p r.ks (i ∷ rest)) (flat_map next_of (i ∷ rest)) ≤ steps
   cheap =
       subst (λ code. code_cost (graph d) costs (stretches_of d r.p) (starts_of d r.p r.ks code) (flat_map next_of code) ≤ steps) here
       (subst (λ ks. code_cost (graph d) costs (stretches_of d r.p) (starts_of d r.p ks (drop f.at r.b.code)) (flat_map next_of (drop f.at r.b.code)) ≤ steps)
