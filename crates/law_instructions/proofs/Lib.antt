@@ -6,3 +6,4 @@ pub mod Typed
 pub mod RegisterProofs
 pub mod Landing
 pub mod JumpProofs
+pub mod Operand

@@ -104,34 +104,34 @@ join_writes d w rest f to a b s t e g = rw (e, g) refl
 
 module _ {d : Definition} where
   const_fine : (to : ℕ) (kind : Kind) (v : Value) (t : Due d (words.const to kind v)) → StepIsFine t
-  const_fine to kind v t within =
-      written_fine t refl within t.w.transcript to (kinds.plain kind) (Some v) refl refl refl
+  const_fine to kind v t =
+      written_fine t refl t.w.transcript to (kinds.plain kind) (Some v) refl refl refl
       (fits_anywhere (class_by d (standing t.w.objects)) d.types v kind
       (each_in (ConstantFits d) (r t).b.code ((t.well.programs t.f.program (r t).p (r t).is).blocks t.f.block (r t).b (r t).in_block).constants (words.const to kind v) (get_in (r t).b.code t.f.at (words.const to kind v) (here t))))
       refl
 
   clear_fine : (to : ℕ) (t : Due d (words.clear to)) → StepIsFine t
-  clear_fine to t within = written_fine t refl within t.w.transcript to kinds.unset None refl refl refl refl refl
+  clear_fine to t = written_fine t refl t.w.transcript to kinds.unset None refl refl refl refl refl
 
   move_fine : (to from : ℕ) (t : Due d (words.move to from)) → StepIsFine t
-  move_fine to from t within =
+  move_fine to from t =
       let ks = (r t).ks in
       let k = moving_is ks to from (after d (r t).p ks (words.move to from)) (taken t).typed in
       let v = holds_set d (standing t.w.objects) (kind_in ks from) (read None t.f.registers from) k.0 ((r t).fit from) in
-      written_fine t refl within t.w.transcript to (kind_in ks from) (Some v.0) refl refl k.1
+      written_fine t refl t.w.transcript to (kind_in ks from) (Some v.0) refl refl k.1
       (subst (λ x. holds d (standing t.w.objects) (kind_in ks from) x ≡ true) v.1 ((r t).fit from))
       (move_writes t.w t.rest (past t.f) to from v.0 v.1)
 
   compare_fine : (c : Comparison) (to a b : ℕ) (t : Due d (words.compare c to a b)) → StepIsFine t
-  compare_fine c to a b t within =
+  compare_fine c to a b t =
       let ks = (r t).ks in
       let k = comparing_is ks to a b (after d (r t).p ks (words.compare c to a b)) (taken t).typed in
       let n = numbers_at d (standing t.w.objects) (kind_in ks a) (kind_in ks b) (read None t.f.registers a) (read None t.f.registers b) k.0 k.1 ((r t).fit a) ((r t).fit b) in
-      written_fine t refl within t.w.transcript to (kinds.plain kinds.bool) (Some (values.bool (arithmetic.holds c n.x n.y))) refl refl k.2 refl
+      written_fine t refl t.w.transcript to (kinds.plain kinds.bool) (Some (values.bool (arithmetic.holds c n.x n.y))) refl refl k.2 refl
       (compare_writes t.w t.rest (past t.f) c to a b n.kind n.x n.y n.first n.second)
 
   same_fine : (to a b : ℕ) (t : Due d (words.same to a b)) → StepIsFine t
-  same_fine to a b t within =
+  same_fine to a b t =
       let s = standing t.w.objects in
       let ks = (r t).ks in
       let k = sameness_is d ks to a b (after d (r t).p ks (words.same to a b)) (taken t).typed in
@@ -139,42 +139,42 @@ module _ {d : Definition} where
       let v = holds_set d s (kind_in ks b) (read None t.f.registers b) k.1 ((r t).fit b) in
       let kind = comparable d s (kind_in ks a) (kind_in ks b) u.0 v.0 k.2
       (subst (λ x. holds d s (kind_in ks a) x ≡ true) u.1 ((r t).fit a)) (subst (λ x. holds d s (kind_in ks b) x ≡ true) v.1 ((r t).fit b)) in
-      written_fine t refl within t.w.transcript to (kinds.plain kinds.bool) (Some (values.bool (same_value u.0 v.0))) refl refl k.3 refl
+      written_fine t refl t.w.transcript to (kinds.plain kinds.bool) (Some (values.bool (same_value u.0 v.0))) refl refl k.3 refl
       (same_writes t.w t.rest (past t.f) to a b u.0 v.0 u.1 v.1 kind)
 
   negate_fine : (to a : ℕ) (t : Due d (words.negate to a)) → StepIsFine t
-  negate_fine to a t within =
+  negate_fine to a t =
       let ks = (r t).ks in
       let k = negating_is ks to a (after d (r t).p ks (words.negate to a)) (taken t).typed in
       let p = truth_at d (standing t.w.objects) (kind_in ks a) (read None t.f.registers a) k.0 ((r t).fit a) in
-      written_fine t refl within t.w.transcript to (kinds.plain kinds.bool) (Some (values.bool (not p.0))) refl refl k.1 refl
+      written_fine t refl t.w.transcript to (kinds.plain kinds.bool) (Some (values.bool (not p.0))) refl refl k.1 refl
       (negate_writes t.w t.rest (past t.f) to a p.0 (truth_is (past t.f) a p.0 p.1))
 
   both_fine : (to a b : ℕ) (t : Due d (words.both to a b)) → StepIsFine t
-  both_fine to a b t within =
+  both_fine to a b t =
       let ks = (r t).ks in
       let k = combining_is ks to a b (after d (r t).p ks (words.both to a b)) (taken t).typed in
       let p = truth_at d (standing t.w.objects) (kind_in ks a) (read None t.f.registers a) k.0 ((r t).fit a) in
       let q = truth_at d (standing t.w.objects) (kind_in ks b) (read None t.f.registers b) k.1 ((r t).fit b) in
-      written_fine t refl within t.w.transcript to (kinds.plain kinds.bool) (Some (values.bool (p.0 && q.0))) refl refl k.2 refl
+      written_fine t refl t.w.transcript to (kinds.plain kinds.bool) (Some (values.bool (p.0 && q.0))) refl refl k.2 refl
       (both_writes t.w t.rest (past t.f) to a b p.0 q.0 (truth_is (past t.f) a p.0 p.1) (truth_is (past t.f) b q.0 q.1))
 
   either_fine : (to a b : ℕ) (t : Due d (words.either to a b)) → StepIsFine t
-  either_fine to a b t within =
+  either_fine to a b t =
       let ks = (r t).ks in
       let k = combining_is ks to a b (after d (r t).p ks (words.either to a b)) (taken t).typed in
       let p = truth_at d (standing t.w.objects) (kind_in ks a) (read None t.f.registers a) k.0 ((r t).fit a) in
       let q = truth_at d (standing t.w.objects) (kind_in ks b) (read None t.f.registers b) k.1 ((r t).fit b) in
-      written_fine t refl within t.w.transcript to (kinds.plain kinds.bool) (Some (values.bool (p.0 || q.0))) refl refl k.2 refl
+      written_fine t refl t.w.transcript to (kinds.plain kinds.bool) (Some (values.bool (p.0 || q.0))) refl refl k.2 refl
       (either_writes t.w t.rest (past t.f) to a b p.0 q.0 (truth_is (past t.f) a p.0 p.1) (truth_is (past t.f) b q.0 q.1))
 
   join_by : (to a b : ℕ) (t : Due d (words.join to a b)) (s : List ℕ) → after d (r t).p (r t).ks (words.join to a b) ≡ write kinds.unset (r t).ks to (kinds.plain kinds.text) →
       (long : Bool) → instructed d t.w t.rest (past t.f) (words.join to a b)
       ≡ in_front t.rest (gives_from (cond long (record { state = said d t.w (lines.limit (codes "join")); answer = values.text None }) (record { state = t.w; answer = values.text (Some s) })) to (past t.f)) →
       StepIsFine t
-  join_by to a b t s k true does within =
-      written_fine t refl within (t.w.transcript ++ text_of_line d.types (lines.limit (codes "join")) ∷ []) to (kinds.plain kinds.text) (Some (values.text None)) refl refl k refl does
-  join_by to a b t s k false does within = written_fine t refl within t.w.transcript to (kinds.plain kinds.text) (Some (values.text (Some s))) refl refl k refl does
+  join_by to a b t s k true does =
+      written_fine t refl (t.w.transcript ++ text_of_line d.types (lines.limit (codes "join")) ∷ []) to (kinds.plain kinds.text) (Some (values.text None)) refl refl k refl does
+  join_by to a b t s k false does = written_fine t refl t.w.transcript to (kinds.plain kinds.text) (Some (values.text (Some s))) refl refl k refl does
 
   join_fine : (to a b : ℕ) (t : Due d (words.join to a b)) → StepIsFine t
   join_fine to a b t =

@@ -1,40 +1,48 @@
 -- An instruction that writes one register and moves nothing else: what it leaves is good where the register holds what its kind says.
-use Rattle.std.proofs.Common.{◌≡◌, refl, sym, ap, subst, ◌∙◌, ℕ, zero, suc, ◌<◌, ◌≤◌, Bool, true, false, List, [], ◌∷◌, length, drop, Option, None, Some, Ok, inr, arith, lt-ltb}
+use Rattle.std.proofs.Common.{◌≡◌, refl, sym, ap, subst, ◌∙◌, ℕ, zero, suc, ◌+◌, ◌<◌, ◌≤◌, Bool, true, false, List, [], ◌∷◌, length, drop, Option, None, Some, Ok, inr, arith, lt-ltb}
 use Rattle.std.specs.Prelude.{not, nat_eq}
 use Rattle.std.proofs.lemmas.Bool.{eqb-true, eqb-false}
-use Rattle.ui_machine.specs.Seq.{read, write}
+use Rattle.ui_machine.specs.Seq.{read, write, total}
 use Rattle.ui_machine.specs.Definition.Kinds.{RegisterKind}
 use Rattle.ui_machine.specs.Definition.Kinds as kinds
 use Rattle.ui_machine.specs.Definition.Values.{Value}
 use Rattle.ui_machine.specs.Definition.{Definition}
 use Rattle.ui_machine.specs.Definition.Programs.{Instruction}
 use Rattle.ui_machine.specs.Definition.Programs as words
+use Rattle.ui_machine.specs.State.Objects.{Object, living, live}
 use Rattle.ui_machine.specs.State.Tasks.{Registers, Frame, Running, Task}
 use Rattle.ui_machine.specs.State.Config.{World}
-use Rattle.ui_machine.specs.Instructions.{in_front, instructed, running}
+use Rattle.ui_machine.specs.Instructions.{in_front, instructed}
 use Rattle.ui_machine.specs.Instructions.Registers.{written_to}
+use Rattle.ui_machine.specs.Instructions.Registers as machine
 use Rattle.ui_machine.specs.Instructions.Jumps.{past}
-use Rattle.ui_machine.specs.Steps.{most_steps, left, counted_left}
+use Rattle.ui_machine.specs.Steps.{left}
 use Rattle.law_typing.specs.Rules.RegisterKinds.{Kinds}
 use Rattle.law_typing.specs.Rules.Typing.{after}
 use Rattle.law_typing.specs.Rules.Brackets.{opened, is_among, written, keeps, keeps_brackets}
-use Rattle.law_typing.specs.Graph.{graph}
+use Rattle.law_typing.specs.Graph.Channels.{property}
+use Rattle.law_typing.specs.Graph.{graph, start_of}
+use Rattle.law_typing.specs.Graph.Tables.{entry}
+use Rattle.law_typing.specs.Graph.Costs.{start_cost}
 use Rattle.law_typing.specs.Graph.Depths.{depth}
+use Rattle.law_typing.specs.Verdict.Accepted.{Each}
 use Rattle.law_typing.specs.Laws.WellRead.{Within, ends}
-use Rattle.law_typing.specs.Laws.StepsKeepGood.{IsGood, Fine}
+use Rattle.law_typing.specs.Laws.StepsKeepGood.{IsGood}
 use Rattle.law_typing.specs.Good.Standing.{Standing, standing, view, View, holds, RegistersFit}
-use Rattle.law_typing.specs.Good.Objects.{ObjectsGood}
+use Rattle.law_typing.specs.Good.Objects.{ObjectsGood, PeersGood}
+use Rattle.law_typing.specs.Good.Builds.{is_for_builder}
 use Rattle.law_typing.specs.Good.Programs.{code_left}
-use Rattle.law_typing.specs.Good.Freezes.{QueuesGood}
+use Rattle.law_typing.specs.Good.Freezes.{QueuesGood, below_lowest, carried}
 use Rattle.law_typing.proofs.Lists.{each_in}
 use Rattle.law_static.specs.Code.{gone_on}
 use Rattle.law_static.proofs.CodeProofs.{from_at}
 use Rattle.law_static.proofs.SubclassProofs.{get_in}
 use Rattle.law_kept.specs.Agenda.{Serves}
+use Rattle.law_kept.specs.Write.{Whole}
 use Rattle.law_kept.proofs.WriteProofs.{read_here, read_apart}
 use Rattle.law_instructions.specs.Running.{at_top}
 use Rattle.law_instructions.proofs.Frozen.{is_bracket, opened_past, frozen_same}
-use Rattle.law_instructions.proofs.Around.{Due, goes_to, past_good, left_steps, steps_left, r, here, taken, code_is, fine_where, waits_not}
+use Rattle.law_instructions.proofs.Around.{Due, goes_to, past_good, left_steps, steps_left, r, here, taken, code_is, fine_where, waits_not, StepIsFine}
 
 pub length_write : {A : Type 0} (x : A) (xs : List A) (i : ℕ) (y : A) → i < length xs → length (write x xs i y) ≡ length xs
 length_write x [] i y low = absurd (omega (arith, low))
@@ -89,7 +97,11 @@ writes : (w : World) (rest : List Task) (f : Frame) (n to : ℕ) (x : Option Val
 unfolding written_to in_front left
 writes w rest f n to x low = rw (lt-ltb to (length f.registers) low) refl
 
--- an answer for what follows of a number that is read at another
+stays : (v : World) (rest : List Task) (f : Frame) (n : ℕ) → left n (in_front rest (machine.goes_on v [] f)) ≡ Ok (at_top v f rest n)
+unfolding in_front left
+stays v rest f n = refl
+
+-- an open register is not the one that is written
 not_among : (xs : List ℕ) (to r : ℕ) → keeps xs (Some to) ≡ true → is_among xs r ≡ true → to ≡ r → ⊥
 not_among xs to r kept among e = let s = ap (is_among xs) e in let t = ap not (s ∙ among) in cc
 
@@ -111,16 +123,32 @@ module _ {d : Definition} {i : Instruction} (t : Due d i) (plain : is_bracket i 
       ∙ (ap (keeps (opened (drop (suc f.at) (r t).b.code))) (sym e)
       ∙ (sym (keeps_past (opened (drop (suc f.at) (r t).b.code)) i plain) ∙ (taken t).brackets))
 
+  -- ** the world is another
+
+  -- a world in which all stands where it stood, as often frozen and with the same queues
+  pub record Moved (v : World) : Type 0 where
+    pub whole : Whole d a.weighed.costs a.weighed.depths (Running f ∷ rest) v
+    pub stands : standing v.objects ≡ standing w.objects
+    pub served : Serves d rest (view w) (view v)
+    pub pool : PeersGood d v.peers (length v.builder + total is_for_builder (Running f ∷ rest))
+    pub queues : (id : ℕ) (x : Object) → living v.objects id ≡ Some x →
+        (o : Object) × (living w.objects id ≡ Some o) × (x.place ≡ o.place) × (x.freezes ≡ o.freezes) × (x.queue ≡ o.queue)
+    pub few : live v.objects ≤ live w.objects
+    pub queued : total (carried d a.weighed.costs) v.objects ≤ start_cost (graph d) a.weighed.costs (start_of d (r t).ks i) + total (carried d a.weighed.costs) w.objects
+
   -- what was frozen is, as often, where the open registers hold what they held
-  pub queues_stay : (registers : Registers) → ((r : ℕ) → is_among (opened (code_left d f)) r ≡ true → read None registers r ≡ read None f.registers r) →
-      QueuesGood d a.weighed.depths (depth (graph d) a.weighed.depths) (Running (gone_on f registers) ∷ rest) (suc n) w.objects
-  queues_stay registers hold id o is =
-      let q = g.queues id o is in
+  queues_stay : (v : World) → Moved v → (registers : Registers) → ((r : ℕ) → is_among (opened (code_left d f)) r ≡ true → read None registers r ≡ read None f.registers r) →
+      QueuesGood d a.weighed.depths (depth (graph d) a.weighed.depths) (Running (gone_on f registers) ∷ rest) (suc n) v.objects
+  queues_stay v moved registers hold id x e =
+      let o = moved.queues id x e in
+      let q = g.queues id o.0 o.1 in
       record {
-        count = (let same = frozen_same d id f (gone_on f registers) (open_same registers) hold in let old = q.count in omega (arith, same, old));
-        few = (let old = q.few in omega (arith, old));
-        none = q.none;
-        deep = q.deep;
+        count = o.3 ∙ (let same = frozen_same d id f (gone_on f registers) (open_same registers) hold in let old = q.count in omega (arith, same, old));
+        few = (let old = q.few in let same = o.3 in omega (arith, old, same));
+        none = λ e. o.4 ∙ q.none (sym o.3 ∙ e);
+        deep =
+            subst (λ place. Each (λ slot. suc (below_lowest d id (Running f ∷ rest)) + entry a.weighed.depths.channels (property place slot) ≤ depth (graph d) a.weighed.depths) x.queue) (sym o.2)
+            (subst (Each (λ slot. suc (below_lowest d id (Running f ∷ rest)) + entry a.weighed.depths.channels (property o.0.place slot) ≤ depth (graph d) a.weighed.depths)) (sym o.4) q.deep);
       }
 
   -- the register is one of the program's
@@ -132,40 +160,65 @@ module _ {d : Definition} {i : Instruction} (t : Due d i) (plain : is_bracket i 
       let counted = (r t).counted in
       omega (arith, below, counted)
 
-  -- ** a register is written, and perhaps a line said
-
-  pub written_well : (lines : List (List ℕ)) (to : ℕ) (k : RegisterKind) (x : Option Value) → ends i ≡ false → written i ≡ Some to →
-      after d (r t).p (r t).ks i ≡ write kinds.unset (r t).ks to k → holds d (standing w.objects) k x ≡ true →
-      IsGood d a most_counted (at_top (record w { transcript = lines }) (gone_on f (write None f.registers to x)) rest (suc n))
-  written_well lines to k x more e kinds_are h =
-      goes_to t (record w { transcript = lines }) (gone_on f (write None f.registers to x)) (left_steps t)
+  -- the program goes on in it, with these registers
+  moves : (v : World) → Moved v → (registers : Registers) → ends i ≡ false → length registers ≡ (r t).p.registers →
+      RegistersFit d (standing w.objects) (after d (r t).p (r t).ks i) registers → ((r : ℕ) → is_among (opened (code_left d f)) r ≡ true → read None registers r ≡ read None f.registers r) →
+      IsGood d a most_counted (at_top v (gone_on f registers) rest (suc n))
+  moves v moved registers more counted fit hold =
+      goes_to t v (gone_on f registers) (left_steps t)
       (record {
-        whole = record {
-          objects = objects_said d w lines g.objects;
-          handlers = g.handlers;
-          bindings = g.bindings;
-          sources = g.sources;
-          held = g.held;
-          floating = g.floating;
-          pairs = g.pairs;
-        };
-        served = serves_itself d rest (view w);
-        pool = g.peers;
+        whole = moved.whole;
+        served = moved.served;
+        pool = moved.pool;
         same = refl;
-        running =
-            past_good t (standing w.objects) (write None f.registers to x) more (length_write None f.registers to x (low to e) ∙ (r t).counted)
-            (subst (λ ks. RegistersFit d (standing w.objects) ks (write None f.registers to x)) (sym kinds_are) (fit_written d (standing w.objects) (r t).ks f.registers to k x (r t).fit h));
-        queues = queues_stay (write None f.registers to x)
-            (λ r among. read_apart None f.registers to x r (not_among (opened (code_left d f)) to r (kept to e) among));
-        few = omega arith;
-        queued = (let left = steps_left t in omega (arith, left));
+        running = past_good t (standing v.objects) registers more counted (subst (λ s. RegistersFit d s (after d (r t).p (r t).ks i) registers) (sym moved.stands) fit);
+        queues = queues_stay v moved registers hold;
+        few = moved.few;
+        queued = (let left = steps_left t in let queued = moved.queued in omega (arith, left, queued));
       })
 
-  pub written_fine : most_counted ≤ most_steps → (lines : List (List ℕ)) (to : ℕ) (k : RegisterKind) (x : Option Value) → ends i ≡ false →
-      written i ≡ Some to → after d (r t).p (r t).ks i ≡ write kinds.unset (r t).ks to k → holds d (standing w.objects) k x ≡ true →
-      instructed d w rest (past f) i ≡ in_front rest (written_to (record w { transcript = lines }) to x (past f)) →
-      Fine d a.weighed.costs a.weighed.depths most_counted (depth (graph d) a.weighed.depths) (counted_left n (running d w rest f))
-  written_fine within lines to k x more e kinds_are h does =
-      fine_where t within (at_top (record w { transcript = lines }) (record (past f) { registers = write None f.registers to x }) rest (suc n))
-      (ap (left (suc n)) does ∙ writes (record w { transcript = lines }) rest (past f) (suc n) to x (low to e))
-      (waits_not t (record w { transcript = lines }) (gone_on f (write None f.registers to x)) (written_well lines to k x more e kinds_are h))
+  -- no register is written
+  pub moved_fine : (v : World) → Moved v → ends i ≡ false → after d (r t).p (r t).ks i ≡ (r t).ks →
+      instructed d w rest (past f) i ≡ in_front rest (machine.goes_on v [] (past f)) → StepIsFine t
+  moved_fine v moved more kinds_are does within =
+      fine_where t within (at_top v (past f) rest (suc n)) (ap (left (suc n)) does ∙ stays v rest (past f) (suc n))
+      (waits_not t v (gone_on f f.registers)
+      (moves v moved f.registers more (r t).counted (subst (λ ks. RegistersFit d (standing w.objects) ks f.registers) (sym kinds_are) (r t).fit) (λ r among. refl)))
+
+  -- one register is written
+  pub moved_written : (v : World) → Moved v → (to : ℕ) (k : RegisterKind) (x : Option Value) → ends i ≡ false → written i ≡ Some to →
+      after d (r t).p (r t).ks i ≡ write kinds.unset (r t).ks to k → holds d (standing w.objects) k x ≡ true →
+      instructed d w rest (past f) i ≡ in_front rest (written_to v to x (past f)) → StepIsFine t
+  moved_written v moved to k x more e kinds_are h does within =
+      fine_where t within (at_top v (record (past f) { registers = write None f.registers to x }) rest (suc n))
+      (ap (left (suc n)) does ∙ writes v rest (past f) (suc n) to x (low to e))
+      (waits_not t v (gone_on f (write None f.registers to x))
+      (moves v moved (write None f.registers to x) more (length_write None f.registers to x (low to e) ∙ (r t).counted)
+      (subst (λ ks. RegistersFit d (standing w.objects) ks (write None f.registers to x)) (sym kinds_are) (fit_written d (standing w.objects) (r t).ks f.registers to k x (r t).fit h))
+      (λ r among. read_apart None f.registers to x r (not_among (opened (code_left d f)) to r (kept to e) among))))
+
+  -- ** a line is perhaps said, and nothing else
+
+  said_moved : (lines : List (List ℕ)) → Moved (record w { transcript = lines })
+  said_moved lines = record {
+    whole = record {
+      objects = objects_said d w lines g.objects;
+      handlers = g.handlers;
+      bindings = g.bindings;
+      sources = g.sources;
+      held = g.held;
+      floating = g.floating;
+      pairs = g.pairs;
+    };
+    stands = refl;
+    served = serves_itself d rest (view w);
+    pool = g.peers;
+    queues = λ id x is. (x, is, refl, refl, refl);
+    few = omega arith;
+    queued = omega arith;
+  }
+
+  pub written_fine : (lines : List (List ℕ)) (to : ℕ) (k : RegisterKind) (x : Option Value) → ends i ≡ false → written i ≡ Some to →
+      after d (r t).p (r t).ks i ≡ write kinds.unset (r t).ks to k → holds d (standing w.objects) k x ≡ true →
+      instructed d w rest (past f) i ≡ in_front rest (written_to (record w { transcript = lines }) to x (past f)) → StepIsFine t
+  written_fine lines to k x more e kinds_are h does = moved_written (record w { transcript = lines }) (said_moved lines) to k x more e kinds_are h does
