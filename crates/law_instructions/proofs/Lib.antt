@@ -7,3 +7,7 @@ pub mod RegisterProofs
 pub mod Landing
 pub mod JumpProofs
 pub mod Operand
+pub mod Lists
+pub mod ReadProofs
+pub mod ReleaseProofs
+pub mod DisposeStep

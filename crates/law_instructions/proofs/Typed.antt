@@ -1,14 +1,20 @@
 -- What it says of the instructions on registers that they keep their rules: the kinds of what they read, and those after them.
-use Rattle.std.proofs.Common.{◌≡◌, refl, sym, ap, subst, ◌∙◌, ℕ, true, Some, Ok, slice_get}
+use Rattle.std.proofs.Common.{◌≡◌, refl, sym, ap, subst, ◌∙◌, ℕ, Bool, true, cond, List, Some, Ok, slice_get}
+use Rattle.std.specs.Prelude.{not}
 use Rattle.ui_machine.specs.Seq.{write}
 use Rattle.ui_machine.specs.Definition.Kinds.{RegisterKind}
 use Rattle.ui_machine.specs.Definition.Kinds as kinds
 use Rattle.ui_machine.specs.Definition.{Definition}
 use Rattle.ui_machine.specs.Definition.Programs.{Block, Program}
+use Rattle.ui_machine.specs.Definition.Places.{Place}
+use Rattle.ui_machine.specs.Definition.Properties.{Spec, is_readable}
+use Rattle.ui_machine.specs.Definition.Lookups.{slot_of, spec_of, place_of, place_at, program_of, program_at}
 use Rattle.ui_machine.specs.Outcome.{known}
+use Rattle.law_typing.specs.Rules.Answers.{Typing}
 use Rattle.law_typing.specs.Rules.Answers as rules
 use Rattle.law_typing.specs.Rules.RegisterKinds.{Kinds, kind_in, never_null, kinds_fit}
-use Rattle.law_typing.specs.Rules.Typing.{set_in, passing, two_numbers, two_passing, is_bool, is_text, is_whole, is_same, is_comparable, moving, comparing, reckoning, sameness, negating, combining, joining, converting, converts_to, entering, branching, branching_null, may_be_null}
+use Rattle.law_typing.specs.Rules.Typing.{set_in, passing, two_numbers, two_passing, is_bool, is_text, is_whole, is_same, is_comparable, moving, comparing, reckoning, sameness, negating, combining, joining, converting, converts_to, entering, branching, branching_null, may_be_null, property_of, getting, changing_none, place_for, naming, program_named, on_handlers}
+use Rattle.law_typing.specs.Rules.Typing as typing
 use Rattle.law_typing.specs.Laws.WellRead.{is_set}
 use Rattle.law_instructions.proofs.Inverse.{bound, only, known_is, set_is, passing_is, numbers_are, two_are}
 
@@ -122,3 +128,93 @@ branching_null_is d p ks on then_to else_to next e =
       entering_is d p ks then_to y.0 y.1,
       subst (λ k. Enters d p (with_kind ks on (never_null k)) else_to) (sym k.0) (entering_is d p (with_kind ks on (never_null x.0)) else_to next y.2),
     )
+
+-- ** objects
+
+-- a property that a name finds in a class
+pub record Found (d : Definition) (ks : Kinds) (object : ℕ) (name : List ℕ) (s : Spec) : Type 0 where
+  pub class : ℕ
+  pub operand : typing.operand d ks object ≡ Ok class
+  pub slot : ℕ
+  pub is : slot_of d class name ≡ Some slot
+  pub has : spec_of d class slot ≡ Some s
+
+pub property_is : (d : Definition) (ks : Kinds) (object : ℕ) (name : List ℕ) (s : Spec) → property_of d ks object name ≡ Ok s → Found d ks object name s
+unfolding property_of
+property_is d ks object name s e =
+    let x = bound (typing.operand d ks object) _ s e in
+    let y = bound (known rules.unknown (slot_of d x.0 name)) _ s x.2 in
+    record {
+      class = x.0;
+      operand = x.1;
+      slot = y.0;
+      is = known_is rules.unknown (slot_of d x.0 name) y.0 y.1;
+      has = known_is rules.unknown (spec_of d x.0 y.0) s y.2;
+    }
+
+-- a readable one is got
+pub record Got (d : Definition) (ks : Kinds) (to object : ℕ) (name : List ℕ) (next : Kinds) : Type 0 where
+  pub spec : Spec
+  pub found : Found d ks object name spec
+  pub readable : is_readable spec ≡ true
+  pub kinds_are : next ≡ with_kind ks to (kinds.plain spec.kind)
+
+pub getting_is : (d : Definition) (ks : Kinds) (to object : ℕ) (name : List ℕ) (next : Kinds) → getting d ks to object name ≡ Ok next → Got d ks to object name next
+unfolding getting
+getting_is d ks to object name next e =
+    let x = bound (property_of d ks object name) _ next e in
+    let o = only (is_readable x.0) rules.flags (Ok (with_kind ks to (kinds.plain x.0.kind))) next x.2 in
+    record {
+      spec = x.0;
+      found = property_is d ks object name x.0 x.1;
+      readable = o.0;
+      kinds_are = (let f = o.1 in let s : with_kind ks to (kinds.plain x.0.kind) ≡ next = cc in sym s);
+    }
+
+pub changing_none_is : {A : Type 0} (ks : Kinds) (tested : Typing A) (next : Kinds) → changing_none ks tested ≡ Ok next → (x : A) × (tested ≡ Ok x) × (next ≡ ks)
+unfolding changing_none
+changing_none_is ks tested next e =
+    let x = bound tested _ next e in
+    (x.0, x.1, (let f = x.2 in let s : ks ≡ next = cc in sym s))
+
+-- the place of an id
+pub record Placed (d : Definition) (ks : Kinds) (to : ℕ) (id : List ℕ) (of_prototype : Bool) (next : Kinds) : Type 0 where
+  pub place : ℕ
+  pub p : Place
+  pub is : place_of d id ≡ Some place
+  pub has : place_at d place ≡ Some p
+  pub allowed : cond of_prototype p.is_prototype (not p.is_prototype) ≡ true
+  pub kinds_are : next ≡ with_kind ks to (kinds.at_or_null place)
+
+pub naming_is : (d : Definition) (ks : Kinds) (to : ℕ) (id : List ℕ) (of_prototype : Bool) (next : Kinds) → naming d ks to id of_prototype ≡ Ok next → Placed d ks to id of_prototype next
+unfolding naming place_for
+naming_is d ks to id of_prototype next e =
+    let x = bound (place_for d id of_prototype) _ next e in
+    let y = bound (known rules.unknown (place_of d id)) _ x.0 x.1 in
+    let z = bound (known rules.unknown (place_at d y.0)) _ x.0 y.2 in
+    let o = only (cond of_prototype z.0.is_prototype (not z.0.is_prototype)) rules.unknown (Ok y.0) x.0 z.2 in
+    record {
+      place = y.0;
+      p = z.0;
+      is = known_is rules.unknown (place_of d id) y.0 y.1;
+      has = known_is rules.unknown (place_at d y.0) z.0 z.1;
+      allowed = o.0;
+      kinds_are = (let f = x.2 in let g = o.1 in let s : with_kind ks to (kinds.at_or_null x.0) ≡ next = cc in let q : y.0 ≡ x.0 = cc in sym s ∙ ap (λ p. with_kind ks to (kinds.at_or_null p)) (sym q));
+    }
+
+-- the program of a name
+pub program_is : (d : Definition) (name : List ℕ) (p : Program) → program_named d name ≡ Ok p → (number : ℕ) × (program_of d name ≡ Some number) × (program_at d number ≡ Some p)
+unfolding program_named
+program_is d name p e =
+    let x = bound (known rules.unknown (program_of d name)) _ p e in
+    (x.0, known_is rules.unknown (program_of d name) x.0 x.1, known_is rules.unknown (program_at d x.0) p x.2)
+
+-- an object operand and a program
+pub on_handlers_is : (d : Definition) (ks : Kinds) (object : ℕ) (program : List ℕ) (next : Kinds) → on_handlers d ks object program ≡ Ok next →
+    (class : ℕ) × (typing.operand d ks object ≡ Ok class) × (number : ℕ) × (program_of d program ≡ Some number) × (next ≡ ks)
+unfolding on_handlers
+on_handlers_is d ks object program next e =
+    let x = bound (typing.operand d ks object) _ next e in
+    let y = changing_none_is ks (program_named d program) next x.2 in
+    let p = program_is d program y.0 y.1 in
+    (x.0, x.1, p.0, p.1, y.2)

@@ -199,7 +199,7 @@ module _ {d : Definition} {i : Instruction} (t : Due d i) (plain : is_bracket i 
 
   -- ** a line is perhaps said, and nothing else
 
-  said_moved : (lines : List (List ℕ)) → Moved (record w { transcript = lines })
+  pub said_moved : (lines : List (List ℕ)) → Moved (record w { transcript = lines })
   said_moved lines = record {
     whole = record {
       objects = objects_said d w lines g.objects;

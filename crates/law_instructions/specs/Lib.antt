@@ -1,3 +1,5 @@
 pub mod Running
 pub mod OfRegisters
 pub mod Jumps
+pub mod OfObjects
+pub mod Disposing

@@ -3,6 +3,8 @@
 
 ghost use Rattle.law_instructions.specs.OfRegisters.{RegistersAreFine};
 ghost use Rattle.law_instructions.specs.Jumps.{JumpsAreFine};
+ghost use Rattle.law_instructions.specs.OfObjects.{ReadsAreFine, ReleasesAreFine};
+ghost use Rattle.law_instructions.specs.Disposing.{DisposesAreFine};
 
 /// Constants, copies, truth values, comparisons and texts: from what is good, the step is not stuck and leads to what is good.
 pub fn of_registers()
@@ -12,4 +14,15 @@ pub fn of_registers()
 /// Jumps: the program goes on at the beginning of another block, which is good with what is left of the steps.
 pub fn jumps()
     ensures fine { JumpsAreFine }
+{}
+
+/// Reads of a property and of what the builder holds; and what lets go of a float, of handlers, bindings and sources, or blocks handlers.
+pub fn of_objects()
+    ensures reads { ReadsAreFine }
+    ensures releases { ReleasesAreFine }
+{}
+
+/// A program disposes an object.
+pub fn disposing()
+    ensures fine { DisposesAreFine }
 {}
