@@ -11,3 +11,5 @@ pub mod Lists
 pub mod ReadProofs
 pub mod ReleaseProofs
 pub mod DisposeStep
+pub mod Data
+pub mod AttachProofs

@@ -1,5 +1,5 @@
 -- What it says of the instructions on registers that they keep their rules: the kinds of what they read, and those after them.
-use Rattle.std.proofs.Common.{◌≡◌, refl, sym, ap, subst, ◌∙◌, ℕ, Bool, true, cond, List, Some, Ok, slice_get}
+use Rattle.std.proofs.Common.{◌≡◌, refl, sym, ap, subst, ◌∙◌, ℕ, Bool, true, cond, List, Option, None, Some, Ok, slice_get}
 use Rattle.std.specs.Prelude.{not}
 use Rattle.ui_machine.specs.Seq.{write}
 use Rattle.ui_machine.specs.Definition.Kinds.{RegisterKind}
@@ -13,8 +13,9 @@ use Rattle.ui_machine.specs.Outcome.{known}
 use Rattle.law_typing.specs.Rules.Answers.{Typing}
 use Rattle.law_typing.specs.Rules.Answers as rules
 use Rattle.law_typing.specs.Rules.RegisterKinds.{Kinds, kind_in, never_null, kinds_fit}
-use Rattle.law_typing.specs.Rules.Typing.{set_in, passing, two_numbers, two_passing, is_bool, is_text, is_whole, is_same, is_comparable, moving, comparing, reckoning, sameness, negating, combining, joining, converting, converts_to, entering, branching, branching_null, may_be_null, property_of, getting, changing_none, place_for, naming, program_named, on_handlers}
+use Rattle.law_typing.specs.Rules.Typing.{set_in, passing, two_numbers, two_passing, is_bool, is_text, is_whole, is_same, is_comparable, moving, comparing, reckoning, sameness, negating, combining, joining, converting, converts_to, entering, branching, branching_null, may_be_null, property_of, getting, changing_none, place_for, naming, program_named, on_handlers, attaching, data_in}
 use Rattle.law_typing.specs.Rules.Typing as typing
+use Rattle.law_typing.specs.Rules.Signatures.{takes, data_kinds}
 use Rattle.law_typing.specs.Laws.WellRead.{is_set}
 use Rattle.law_instructions.proofs.Inverse.{bound, only, known_is, set_is, passing_is, numbers_are, two_are}
 
@@ -218,3 +219,46 @@ on_handlers_is d ks object program next e =
     let y = changing_none_is ks (program_named d program) next x.2 in
     let p = program_is d program y.0 y.1 in
     (x.0, x.1, p.0, p.1, y.2)
+
+-- ** sources
+
+-- the program of a source, and the kind of its data
+pub record Attaches (d : Definition) (ks : Kinds) (to : ℕ) (program : List ℕ) (with : Option ℕ) (next : Kinds) : Type 0 where
+  pub number : ℕ
+  pub p : Program
+  pub data_kind : Option RegisterKind
+  pub is : program_of d program ≡ Some number
+  pub there : program_at d number ≡ Some p
+  pub given : data_in d ks with ≡ Ok data_kind
+  pub takes : takes d p (data_kinds data_kind) (Some kinds.bool) ≡ true
+  pub kinds_are : next ≡ with_kind ks to (kinds.plain kinds.bool)
+
+pub attaching_is : (d : Definition) (ks : Kinds) (to : ℕ) (program : List ℕ) (with : Option ℕ) (next : Kinds) → attaching d ks to program with ≡ Ok next → Attaches d ks to program with next
+unfolding attaching
+attaching_is d ks to program with next e =
+    let x = bound (program_named d program) _ next e in
+    let y = bound (data_in d ks with) _ next x.2 in
+    let o = only (takes d x.0 (data_kinds y.0) (Some kinds.bool)) rules.signature (Ok (with_kind ks to (kinds.plain kinds.bool))) next y.2 in
+    let p = program_is d program x.0 x.1 in
+    record {
+      number = p.0;
+      p = x.0;
+      data_kind = y.0;
+      is = p.1;
+      there = p.2;
+      given = y.1;
+      takes = o.0;
+      kinds_are = (let f = o.1 in let s : with_kind ks to (kinds.plain kinds.bool) ≡ next = cc in sym s);
+    }
+
+-- the data operand, where there is one
+pub data_is : (d : Definition) (ks : Kinds) (register : ℕ) (k : Option RegisterKind) → data_in d ks (Some register) ≡ Ok k →
+    (class : ℕ) × (typing.operand d ks register ≡ Ok class) × (k ≡ Some (kind_in ks register))
+unfolding data_in
+data_is d ks register k e =
+    let x = bound (typing.operand d ks register) _ k e in
+    (x.0, x.1, (let f = x.2 in let s : Some (kind_in ks register) ≡ k = cc in sym s))
+
+pub no_data_is : (d : Definition) (ks : Kinds) (k : Option RegisterKind) → data_in d ks None ≡ Ok k → k ≡ None
+unfolding data_in
+no_data_is d ks k e = let s : None ≡ k = cc in sym s

@@ -3,3 +3,4 @@ pub mod OfRegisters
 pub mod Jumps
 pub mod OfObjects
 pub mod Disposing
+pub mod Attaching

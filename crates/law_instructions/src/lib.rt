@@ -4,6 +4,7 @@
 ghost use Rattle.law_instructions.specs.OfRegisters.{RegistersAreFine};
 ghost use Rattle.law_instructions.specs.Jumps.{JumpsAreFine};
 ghost use Rattle.law_instructions.specs.OfObjects.{ReadsAreFine, ReleasesAreFine};
+ghost use Rattle.law_instructions.specs.Attaching.{AttachmentsAreFine};
 ghost use Rattle.law_instructions.specs.Disposing.{DisposesAreFine};
 
 /// Constants, copies, truth values, comparisons and texts: from what is good, the step is not stuck and leads to what is good.
@@ -25,4 +26,9 @@ pub fn of_objects()
 /// A program disposes an object.
 pub fn disposing()
     ensures fine { DisposesAreFine }
+{}
+
+/// A program attaches a source, or is told that there is no room.
+pub fn attaching()
+    ensures fine { AttachmentsAreFine }
 {}

@@ -34,7 +34,7 @@ use Rattle.law_static.proofs.Same.{kind_same}
 
 -- ** classes
 
-one_further : (d : Definition) → TypesRead d → (t u : ℕ) (o : Option ℕ) → is_a d.types t u ≡ true → is_one d.types t o ≡ true → is_one d.types u o ≡ true
+pub one_further : (d : Definition) → TypesRead d → (t u : ℕ) (o : Option ℕ) → is_a d.types t u ≡ true → is_one d.types t o ≡ true → is_one d.types u o ≡ true
 one_further d types t u None a e = absurd (cc)
 one_further d types t u (Some c) a e = types.transitive c t u e a
 
