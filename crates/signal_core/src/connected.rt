@@ -1,0 +1,88 @@
+//! A handler that is connected.
+
+ghost use Rattle.std.specs.Prelude.{◌≡◌};
+ghost use Rattle.ui_machine.specs.Rules.Connections.{blocked, by_code_to, is_on, unblocked};
+ghost use Rattle.ui_machine.specs.Rules.Disposal.{is_identity, is_of_object};
+
+use crate::connection::Connection;
+use std::marker::Model;
+use ui_machine::ObjectId;
+
+/// A connection under its number, and how often it is blocked.
+#[derive(Debug, Drop)]
+pub(crate) struct Handler {
+    number: u64,
+    connection: Connection,
+    blocks: u64,
+}
+
+impl Model for Handler {
+    ghost use Rattle.ui_machine.specs.State.Handlers as machine;
+
+    ghost Value = { machine.Handler };
+
+    ghost use Rattle.signal_core.specs.Connected.{handler_of};
+
+    ghost view = { λ h. handler_of h.number h.blocks h.connection };
+}
+
+impl Handler {
+    ghost use Rattle.signal_core.specs.Connected.{connection_of};
+    ghost use Rattle.ui_machine.specs.Rules.Connections.{new_handler};
+
+    /// A handler that nothing blocks.
+    pub(crate) fn new(number: u64, connection: Connection) -> Self
+        ensures { result ≡ new_handler number (connection_of connection) }
+    {
+        Handler {
+            number,
+            connection,
+            blocks: 0,
+        }
+    }
+
+    /// Whether bytecode connected it to this signal of the object.
+    pub(crate) fn is_by_code_to(&self, object: ObjectId, signal: u16) -> bool
+        ensures { result ≡ by_code_to object.0 signal self.now }
+    {
+        let to = &self.connection;
+        to.by_code && (to.object == object && to.signal == signal)
+    }
+
+    /// Whether it is on the object and runs the program.
+    pub(crate) fn is_on(&self, object: ObjectId, program: u16) -> bool
+        ensures { result ≡ is_on object.0 program self.now }
+    {
+        self.connection.object == object && self.connection.program == program
+    }
+
+    /// Whether it is on the object, or has it as data.
+    pub(crate) fn is_of_object(&self, object: ObjectId) -> bool
+        ensures { result ≡ is_of_object object.0 self.now }
+    {
+        self.connection.object == object || self.has_data(object)
+    }
+
+    fn has_data(&self, object: ObjectId) -> bool
+        ensures { result ≡ is_identity object.0 self.now.arg }
+    {
+        match self.connection.data {
+            Some(data) => data == object,
+            None => false,
+        }
+    }
+
+    /// Blocks it once more, or leaves it at the greatest count.
+    pub(crate) fn block(&mut self)
+        ensures { self.new ≡ blocked self.old }
+    {
+        self.blocks = self.blocks.saturating_add(1);
+    }
+
+    /// Blocks it once less, if it is blocked.
+    pub(crate) fn unblock(&mut self)
+        ensures { self.new ≡ unblocked self.old }
+    {
+        self.blocks = self.blocks.saturating_sub(1);
+    }
+}
