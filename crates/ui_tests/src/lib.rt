@@ -19,6 +19,8 @@ mod notify_queue_tests;
 #[cfg(test)]
 mod param_specs_tests;
 #[cfg(test)]
+mod signal_core_tests;
+#[cfg(test)]
 mod type_tree_tests;
 #[cfg(test)]
 mod ui_engine_tests;
