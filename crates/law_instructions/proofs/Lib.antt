@@ -13,3 +13,6 @@ pub mod ReleaseProofs
 pub mod DisposeStep
 pub mod Data
 pub mod AttachProofs
+pub mod Below
+pub mod Ended
+pub mod ReturnProofs

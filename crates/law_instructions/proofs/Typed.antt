@@ -1,8 +1,8 @@
 -- What it says of the instructions on registers that they keep their rules: the kinds of what they read, and those after them.
 use Rattle.std.proofs.Common.{◌≡◌, refl, sym, ap, subst, ◌∙◌, ℕ, Bool, true, cond, List, Option, None, Some, Ok, slice_get}
-use Rattle.std.specs.Prelude.{not}
+use Rattle.std.specs.Prelude.{not, is_none}
 use Rattle.ui_machine.specs.Seq.{write}
-use Rattle.ui_machine.specs.Definition.Kinds.{RegisterKind}
+use Rattle.ui_machine.specs.Definition.Kinds.{Kind, RegisterKind}
 use Rattle.ui_machine.specs.Definition.Kinds as kinds
 use Rattle.ui_machine.specs.Definition.{Definition}
 use Rattle.ui_machine.specs.Definition.Programs.{Block, Program}
@@ -13,7 +13,7 @@ use Rattle.ui_machine.specs.Outcome.{known}
 use Rattle.law_typing.specs.Rules.Answers.{Typing}
 use Rattle.law_typing.specs.Rules.Answers as rules
 use Rattle.law_typing.specs.Rules.RegisterKinds.{Kinds, kind_in, never_null, kinds_fit}
-use Rattle.law_typing.specs.Rules.Typing.{set_in, passing, two_numbers, two_passing, is_bool, is_text, is_whole, is_same, is_comparable, moving, comparing, reckoning, sameness, negating, combining, joining, converting, converts_to, entering, branching, branching_null, may_be_null, property_of, getting, changing_none, place_for, naming, program_named, on_handlers, attaching, data_in}
+use Rattle.law_typing.specs.Rules.Typing.{set_in, passing, two_numbers, two_passing, is_bool, is_text, is_whole, is_same, is_comparable, moving, comparing, reckoning, sameness, negating, combining, joining, converting, converts_to, entering, branching, branching_null, may_be_null, property_of, getting, changing_none, place_for, naming, program_named, on_handlers, attaching, data_in, returning, is_result}
 use Rattle.law_typing.specs.Rules.Typing as typing
 use Rattle.law_typing.specs.Rules.Signatures.{takes, data_kinds}
 use Rattle.law_typing.specs.Laws.WellRead.{is_set}
@@ -87,7 +87,7 @@ joining_is ks to a b next e =
     let k = two_are ks a b is_text x.0 x.1 in
     (k.0, k.1, (let f = x.2 in let s : with_kind ks to x.0 ≡ next = cc in sym s ∙ ap (with_kind ks to) (sym k.2 ∙ text_kind (kind_in ks b) k.1)))
 
-pub converting_is : (d : Definition) (ks : Kinds) (to a : ℕ) (kind : kinds.Kind) (next : Kinds) → converting d ks to a kind ≡ Ok next →
+pub converting_is : (d : Definition) (ks : Kinds) (to a : ℕ) (kind : Kind) (next : Kinds) → converting d ks to a kind ≡ Ok next →
     (is_set (kind_in ks a) ≡ true) × (converts_to d kind (kind_in ks a) ≡ true) × (next ≡ with_kind ks to (kinds.plain kind))
 unfolding converting
 converting_is d ks to a kind next e =
@@ -262,3 +262,19 @@ data_is d ks register k e =
 pub no_data_is : (d : Definition) (ks : Kinds) (k : Option RegisterKind) → data_in d ks None ≡ Ok k → k ≡ None
 unfolding data_in
 no_data_is d ks k e = let s : None ≡ k = cc in sym s
+
+-- ** returns
+
+-- what a return says of the result
+abbrev pub Returned : Definition → Kinds → Option ℕ → Option Kind → Type 0
+Returned d ks None result = is_none result ≡ true
+Returned d ks (Some from) result = (is_set (kind_in ks from) ≡ true) × (is_result d (kind_in ks from) result ≡ true)
+
+pub returning_is : (d : Definition) (p : Program) (ks : Kinds) (from : Option ℕ) (next : Kinds) → returning d p ks from ≡ Ok next → Returned d ks from p.result
+unfolding returning
+returning_is d p ks None next e = (only (is_none p.result) rules.result (Ok ks) next e).0
+returning_is d p ks (Some from) next e =
+    let x = bound (set_in ks from) _ next e in
+    let k = set_is ks from x.0 x.1 in
+    let o = only (is_result d x.0 p.result) rules.result (Ok ks) next x.2 in
+    (k.1, ap (λ k. is_result d k p.result) k.0 ∙ o.0)

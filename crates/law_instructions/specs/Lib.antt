@@ -4,3 +4,4 @@ pub mod Jumps
 pub mod OfObjects
 pub mod Disposing
 pub mod Attaching
+pub mod Returning

@@ -5,6 +5,7 @@ ghost use Rattle.law_instructions.specs.OfRegisters.{RegistersAreFine};
 ghost use Rattle.law_instructions.specs.Jumps.{JumpsAreFine};
 ghost use Rattle.law_instructions.specs.OfObjects.{ReadsAreFine, ReleasesAreFine};
 ghost use Rattle.law_instructions.specs.Attaching.{AttachmentsAreFine};
+ghost use Rattle.law_instructions.specs.Returning.{ReturnsAreFine};
 ghost use Rattle.law_instructions.specs.Disposing.{DisposesAreFine};
 
 /// Constants, copies, truth values, comparisons and texts: from what is good, the step is not stuck and leads to what is good.
@@ -31,4 +32,9 @@ pub fn disposing()
 /// A program attaches a source, or is told that there is no room.
 pub fn attaching()
     ensures fine { AttachmentsAreFine }
+{}
+
+/// A program ends, and what it gives goes to the emission or the source below it, or is nothing.
+pub fn ends()
+    ensures fine { ReturnsAreFine }
 {}
