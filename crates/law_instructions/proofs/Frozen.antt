@@ -11,7 +11,7 @@ use Rattle.law_typing.specs.Rules.Brackets.{opened, is_among}
 use Rattle.law_typing.specs.Good.Programs.{code_left}
 use Rattle.law_typing.specs.Good.Freezes.{frozen_by}
 
-total_same : {A : Type 0} (f g : A → ℕ) (xs : List A) → ((x : A) → f x ≡ g x) → total f xs ≡ total g xs
+pub total_same : {A : Type 0} (f g : A → ℕ) (xs : List A) → ((x : A) → f x ≡ g x) → total f xs ≡ total g xs
 total_same f g [] same = refl
 total_same f g (x ∷ xs) same = let h = same x in let rest = total_same f g xs same in omega (arith, h, rest)
 

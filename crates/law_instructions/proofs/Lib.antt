@@ -16,3 +16,5 @@ pub mod AttachProofs
 pub mod Below
 pub mod Ended
 pub mod ReturnProofs
+pub mod StopProofs
+pub mod Counts

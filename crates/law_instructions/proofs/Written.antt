@@ -111,10 +111,10 @@ module _ {d : Definition} {i : Instruction} (t : Due d i) (plain : is_bracket i 
   pub code_here : code_left d f ≡ i ∷ drop (suc f.at) (r t).b.code
   code_here = ap (drop f.at) (code_is t) ∙ from_at (r t).b.code f.at i (here t)
 
-  code_next : (registers : Registers) → code_left d (gone_on f registers) ≡ drop (suc f.at) (r t).b.code
+  pub code_next : (registers : Registers) → code_left d (gone_on f registers) ≡ drop (suc f.at) (r t).b.code
   code_next registers = ap (drop (suc f.at)) (code_is t)
 
-  open_same : (registers : Registers) → opened (code_left d (gone_on f registers)) ≡ opened (code_left d f)
+  pub open_same : (registers : Registers) → opened (code_left d (gone_on f registers)) ≡ opened (code_left d f)
   open_same registers = ap opened (code_next registers) ∙ (sym (opened_past i (drop (suc f.at) (r t).b.code) plain) ∙ ap opened (sym code_here))
 
   kept : (to : ℕ) → written i ≡ Some to → keeps (opened (code_left d f)) (Some to) ≡ true

@@ -5,3 +5,4 @@ pub mod OfObjects
 pub mod Disposing
 pub mod Attaching
 pub mod Returning
+pub mod Stopping

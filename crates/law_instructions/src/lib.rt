@@ -6,6 +6,7 @@ ghost use Rattle.law_instructions.specs.Jumps.{JumpsAreFine};
 ghost use Rattle.law_instructions.specs.OfObjects.{ReadsAreFine, ReleasesAreFine};
 ghost use Rattle.law_instructions.specs.Attaching.{AttachmentsAreFine};
 ghost use Rattle.law_instructions.specs.Returning.{ReturnsAreFine};
+ghost use Rattle.law_instructions.specs.Stopping.{StopsAreFine};
 ghost use Rattle.law_instructions.specs.Disposing.{DisposesAreFine};
 
 /// Constants, copies, truth values, comparisons and texts: from what is good, the step is not stuck and leads to what is good.
@@ -37,4 +38,9 @@ pub fn attaching()
 /// A program ends, and what it gives goes to the emission or the source below it, or is nothing.
 pub fn ends()
     ensures fine { ReturnsAreFine }
+{}
+
+/// A program stops the emission that runs it.
+pub fn stopping()
+    ensures fine { StopsAreFine }
 {}
