@@ -1,11 +1,11 @@
 -- A source is attached, or past the limit its line said.
-use Rattle.std.proofs.Common.{◌≡◌, refl, sym, ap, subst, ◌∙◌, ℕ, suc, Bool, true, false, cond, List, [], ◌∷◌, ◌++◌, Option, None, Some, Ok, arith}
-use Rattle.std.specs.Prelude.{ℤ, ◌&&◌, codes}
+use Rattle.std.proofs.Common.{◌≡◌, refl, ap, ◌∙◌, ℕ, suc, Bool, true, false, cond, List, [], ◌∷◌, ◌++◌, Option, None, Some, Ok, arith}
+use Rattle.std.specs.Prelude.{◌&&◌, codes}
 use Rattle.ui_machine.specs.Definition.Kinds.{RegisterKind}
 use Rattle.ui_machine.specs.Definition.Kinds as kinds
 use Rattle.ui_machine.specs.Definition.Values as values
 use Rattle.ui_machine.specs.Definition.{Definition}
-use Rattle.ui_machine.specs.Definition.Lookups.{program_of, program_at}
+use Rattle.ui_machine.specs.Definition.Lookups.{program_of}
 use Rattle.ui_machine.specs.Definition.Programs.{Instruction, Program}
 use Rattle.ui_machine.specs.Definition.Programs as words
 use Rattle.ui_machine.specs.State.Sources as sources
@@ -14,7 +14,7 @@ use Rattle.ui_machine.specs.State.Config.{World, said}
 use Rattle.ui_machine.specs.Output.Lines as lines
 use Rattle.ui_machine.specs.Output.Text.{text_of_line}
 use Rattle.ui_machine.specs.Instructions.{instructed, in_front}
-use Rattle.ui_machine.specs.Instructions.Registers.{data_in, written_to, tells}
+use Rattle.ui_machine.specs.Instructions.Registers.{data_in, tells}
 use Rattle.ui_machine.specs.Instructions.Sources.{Attach, with_source, attached_to, attaching}
 use Rattle.ui_machine.specs.Instructions.Jumps.{past}
 use Rattle.law_typing.specs.Rules.RegisterKinds.{fits}
@@ -32,7 +32,7 @@ use Rattle.law_static.specs.Sites.{BlockIs, site}
 use Rattle.law_static.proofs.SiteProofs.{sites_keep}
 use Rattle.law_static.proofs.RaisesProofs.{sources_known}
 use Rattle.law_kept.proofs.SourcesProofs.{sources_attached}
-use Rattle.law_instructions.specs.Attaching.{attaches, AttachmentsAreFine}
+use Rattle.law_instructions.specs.Attaching.{AttachmentsAreFine}
 use Rattle.law_instructions.proofs.Frozen.{is_bracket}
 use Rattle.law_instructions.proofs.Around.{Due, r, here, taken, StepIsFine, fine_of}
 use Rattle.law_instructions.proofs.Written.{Moved, moved_written, said_moved}
@@ -99,7 +99,7 @@ module _ {d : Definition} {i : Instruction} (t : Due d i) (plain : is_bracket i 
       }
 
       go : (room : Bool) → instructed d w rest (past f) i
-              ≡ in_front rest (tells (cond room (record { state = with_source w x k.number datum.arg; answer = true }) (record { state = said d w (lines.limit x.word); answer = false })) to (past f)) →
+          ≡ in_front rest (tells (cond room (record { state = with_source w x k.number datum.arg; answer = true }) (record { state = said d w (lines.limit x.word); answer = false })) to (past f)) →
           StepIsFine t
       go true does = moved_written t plain (with_source w x k.number datum.arg) (source_moved x k.number datum.arg good) to (kinds.plain kinds.bool) (Some (values.bool true)) more writes k.kinds_are refl does
       go false does =

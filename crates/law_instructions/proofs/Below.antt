@@ -1,32 +1,29 @@
 -- What stands below a program takes its result: an emission, a source, or none.
-use Rattle.std.proofs.Common.{◌≡◌, inl, inr, refl, sym, ap, subst, ◌∙◌, ℕ, ◌+◌, ◌≤◌, Bool, true, false, cond, List, [], ◌∷◌, Option, None, Some, Ok, slice_get, arith}
+use Rattle.std.proofs.Common.{◌≡◌, inl, inr, refl, sym, ap, subst, ◌∙◌, ℕ, ◌+◌, ◌≤◌, Bool, true, false, cond, List, [], ◌∷◌, Option, None, Some, Ok, arith}
 use Rattle.std.specs.Prelude.{option_map}
 use Rattle.std.specs.List.{filter}
-use Rattle.ui_machine.specs.declared.arm.Arm.TheVariants as arms
 use Rattle.ui_machine.specs.Seq.{total}
 use Rattle.ui_machine.specs.Definition.Kinds.{Kind}
 use Rattle.ui_machine.specs.Definition.Kinds as kinds
 use Rattle.ui_machine.specs.Definition.Values.{Value}
-use Rattle.ui_machine.specs.Definition.Values as values
 use Rattle.ui_machine.specs.Definition.{Definition}
-use Rattle.ui_machine.specs.Definition.Signals.{Accumulator, Signal}
+use Rattle.ui_machine.specs.Definition.Signals.{Signal}
 use Rattle.ui_machine.specs.Definition.Places.{Place}
 use Rattle.ui_machine.specs.State.Objects.{Object, living, class_in}
 use Rattle.ui_machine.specs.State.Tasks.{PlanEntry, class_handler, handler, Emission, Frame, Task, Emitting, Running}
 use Rattle.ui_machine.specs.State.Tasks as config
 use Rattle.ui_machine.specs.State.Config.{World}
-use Rattle.ui_machine.specs.Outcome.{only_if}
 use Rattle.ui_machine.specs.Rules.Transform.{kind_fits}
-use Rattle.ui_machine.specs.Rules.Accumulation.{suits, is_last, is_of_cleanup, left_by_stop, entries_after, accumulated, collected, collecting}
+use Rattle.ui_machine.specs.Rules.Accumulation.{suits, is_last, is_of_cleanup, left_by_stop, entries_after, collected, collecting}
 use Rattle.ui_machine.specs.Rules.EmissionPlan.{signal_of, signal_at}
 use Rattle.law_typing.specs.Rules.RegisterKinds.{Kinds, class_at}
 use Rattle.law_typing.specs.Rules.Signatures.{result_fits}
 use Rattle.law_typing.specs.Graph.Tables.{Tables}
 use Rattle.law_typing.specs.Verdict.Accepted.{Each}
 use Rattle.law_typing.specs.Laws.WellRead.{TypesRead}
-use Rattle.law_typing.specs.Good.Standing.{Standing, standing, view, View, class_by}
+use Rattle.law_typing.specs.Good.Standing.{Standing, standing, view, class_by}
 use Rattle.law_typing.specs.Good.Objects.{ObjectsGood}
-use Rattle.law_typing.specs.Good.DueCosts.{turn_cost, turn_depth}
+use Rattle.law_typing.specs.Good.DueCosts.{turn_cost}
 use Rattle.law_typing.specs.Good.ComingDown.{none, given, awaited, Comes}
 use Rattle.law_typing.specs.Good.Programs.{RunningGood}
 use Rattle.law_typing.specs.Good.Emissions.{TurnGood, EmittingGood}
@@ -201,10 +198,10 @@ module _ (d : Definition) (types : TypesRead d) (costs depths : Tables) (w : Wor
           let x = at_place w.objects e.object g.fits.place g.fits.is in
           let o = objects e.object x.0 x.1 in
           let class : x.0.class ≡ g.fits.class = (
-            let at : class_at d x.0.place ≡ Some o.place.class = ap (option_map (λ (p : Place). p.class)) o.is in
-            let f : class_at d x.0.place ≡ Some g.fits.class = ap (class_at d) x.2 ∙ g.fits.of_class in
-            let c = o.class in
-            cc) in
+          let at : class_at d x.0.place ≡ Some o.place.class = ap (option_map (λ (p : Place). p.class)) o.is in
+          let f : class_at d x.0.place ≡ Some g.fits.class = ap (class_at d) x.2 ∙ g.fits.of_class in
+          let c = o.class in
+          cc) in
           collects e turns v x.0 g.fits.sig x.1 (ap (λ c. signal_of d c e.signal) class ∙ g.fits.has)
           (ap (λ f. suits (kind_fits f d.types) v g.fits.sig.result) (classes_agree d w objects) ∙ suited)
 

@@ -1,25 +1,23 @@
 -- Data of handlers and sources: the object of an operand at its place, and what a program takes of it.
-use Rattle.std.proofs.Common.{◌≡◌, inl, inr, ◌⊎◌, refl, sym, ap, subst, ◌∙◌, ℕ, Bool, true, false, List, [], ◌∷◌, Option, None, Some, Ok}
-use Rattle.std.specs.Prelude.{◌&&◌, ◌||◌, nat_eq, is_some, option_map}
+use Rattle.std.proofs.Common.{◌≡◌, refl, sym, ap, subst, ◌∙◌, ℕ, Bool, true, Option, None, Some, Ok}
+use Rattle.std.specs.Prelude.{◌&&◌, option_map}
 use Rattle.std.proofs.lemmas.Bool.{eqb-true}
 use Rattle.ui_machine.specs.Definition.Kinds.{Kind, RegisterKind}
 use Rattle.ui_machine.specs.Definition.Kinds as kinds
 use Rattle.ui_machine.specs.Definition.{Definition}
 use Rattle.ui_machine.specs.Definition.Programs.{Instruction}
-use Rattle.ui_machine.specs.State.Objects.{Object, living}
+use Rattle.ui_machine.specs.State.Objects.{Object}
 use Rattle.ui_machine.specs.State.Tasks.{Frame}
 use Rattle.ui_machine.specs.State.Config.{World}
-use Rattle.ui_machine.specs.Rules.Ancestry.{is_a}
 use Rattle.ui_machine.specs.Rules.Transform.{is_one}
 use Rattle.ui_machine.specs.Instructions.Registers.{operand_in, data_in}
 use Rattle.ui_machine.specs.Instructions.Jumps.{past}
-use Rattle.law_typing.specs.Rules.RegisterKinds.{Kinds, kind_in, class_at, class_of_plain, is_at, is_at_or_null, is_plain, is_of_class, is_never_null, covers, fits}
+use Rattle.law_typing.specs.Rules.RegisterKinds.{kind_in, class_at, covers, fits}
 use Rattle.law_typing.specs.Rules.Typing.{class_of_operand}
 use Rattle.law_typing.specs.Rules.Typing as typing
 use Rattle.law_typing.specs.Laws.WellRead.{TypesRead}
 use Rattle.law_typing.specs.Good.Standing.{standing, LivesIf}
 use Rattle.law_typing.specs.Good.Handlers.{data_kind}
-use Rattle.law_typing.proofs.Lists.{both_parts, either_part}
 use Rattle.law_static.proofs.FitsProofs.{one_further}
 use Rattle.law_instructions.proofs.Around.{Due, r}
 use Rattle.law_instructions.proofs.Operand.{named}

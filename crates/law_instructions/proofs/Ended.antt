@@ -1,19 +1,14 @@
 -- The agenda that is left where a program ends: what stood below it, of which the first task has perhaps changed or ended.
-use Rattle.std.proofs.Common.{◌≡◌, refl, sym, ap, subst, ◌∙◌, ℕ, suc, ◌+◌, ◌<◌, ◌≤◌, Bool, true, false, cond, List, [], ◌∷◌, length, drop, arith}
+use Rattle.std.proofs.Common.{◌≡◌, refl, sym, subst, ◌∙◌, ℕ, suc, ◌+◌, ◌≤◌, Bool, true, false, cond, List, [], ◌∷◌, length, drop, arith}
 use Rattle.std.specs.Prelude.{nat_eq}
-use Rattle.std.proofs.lemmas.Bool.{eqb-true}
 use Rattle.ui_machine.specs.Seq.{total}
 use Rattle.ui_machine.specs.Definition.{Definition}
 use Rattle.ui_machine.specs.Definition.Programs.{Instruction}
-use Rattle.ui_machine.specs.State.Objects.{Object, living}
 use Rattle.ui_machine.specs.State.Tasks.{Running, Task}
-use Rattle.ui_machine.specs.State.Config.{Held, World}
+use Rattle.ui_machine.specs.State.Config.{Held}
 use Rattle.ui_machine.specs.Rules.Build.{is_making}
 use Rattle.law_typing.specs.Graph.{graph}
-use Rattle.law_typing.specs.Graph.Channels.{property}
-use Rattle.law_typing.specs.Graph.Tables.{entry}
 use Rattle.law_typing.specs.Graph.Depths.{depth}
-use Rattle.law_typing.specs.Verdict.Accepted.{Each}
 use Rattle.law_typing.specs.Laws.WellRead.{ends}
 use Rattle.law_typing.specs.Laws.StepsKeepGood.{IsGood}
 use Rattle.law_typing.specs.Good.Standing.{view}
@@ -25,7 +20,7 @@ use Rattle.law_typing.specs.Good.Freezes.{frozen_by, below_lowest, QueuesGood, i
 use Rattle.law_kept.specs.Alike.{Alike}
 use Rattle.law_kept.proofs.Left.{each_to}
 use Rattle.law_instructions.proofs.Frozen.{is_bracket}
-use Rattle.law_instructions.proofs.Around.{Due, r, taken, good_of}
+use Rattle.law_instructions.proofs.Around.{Due, taken, good_of}
 use Rattle.law_instructions.proofs.Landing.{none_open}
 use Rattle.law_instructions.proofs.Lists.{Lists, with_lists, ListsGood, lists_moved}
 

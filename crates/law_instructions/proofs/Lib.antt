@@ -18,3 +18,4 @@ pub mod Ended
 pub mod ReturnProofs
 pub mod StopProofs
 pub mod Counts
+pub mod FreezeProofs

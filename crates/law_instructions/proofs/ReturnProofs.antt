@@ -1,7 +1,6 @@
 -- A program ends: what it gives is of the kind that it says, and goes to what stands below it.
-use Rattle.std.proofs.Common.{◌≡◌, inl, refl, sym, ap, subst, ◌∙◌, ℕ, suc, ◌+◌, ◌≤◌, Bool, true, false, List, [], ◌∷◌, Option, None, Some, Ok, arith}
+use Rattle.std.proofs.Common.{◌≡◌, inl, refl, sym, ap, subst, ◌∙◌, ℕ, suc, ◌≤◌, Bool, true, List, [], ◌∷◌, Option, None, Some, Ok, arith}
 use Rattle.std.specs.Prelude.{is_none}
-use Rattle.ui_machine.specs.declared.arm.Arm.TheVariants as arms
 use Rattle.ui_machine.specs.Seq.{read, total}
 use Rattle.ui_machine.specs.Definition.Kinds.{Kind, RegisterKind}
 use Rattle.ui_machine.specs.Definition.Kinds as kinds
@@ -17,16 +16,14 @@ use Rattle.ui_machine.specs.State.Config.{Held, World, leaves}
 use Rattle.ui_machine.specs.Rules.Accumulation.{suits, given_down, down_to_emission, down_to_source, collecting}
 use Rattle.ui_machine.specs.Rules.MainLoop.{answered}
 use Rattle.ui_machine.specs.Rules.Transform.{kind_fits}
-use Rattle.ui_machine.specs.Instructions.{instructed}
 use Rattle.ui_machine.specs.Instructions.Jumps.{given_by, returned, returning, past}
 use Rattle.ui_machine.specs.Steps.{left}
-use Rattle.law_typing.specs.Rules.RegisterKinds.{Kinds, kind_in, fits}
+use Rattle.law_typing.specs.Rules.RegisterKinds.{kind_in, fits}
 use Rattle.law_typing.specs.Rules.Typing.{is_result}
-use Rattle.law_typing.specs.Rules.Typing as typing
 use Rattle.law_typing.specs.Graph.Tables.{Tables}
-use Rattle.law_typing.specs.Good.Standing.{standing, view, View, class_by, holds}
-use Rattle.law_typing.specs.Good.ComingDown.{Down, none, given, down, result_of_program}
-use Rattle.law_typing.specs.Good.Agenda.{TaskGood, AgendaGood}
+use Rattle.law_typing.specs.Good.Standing.{standing, view, class_by, holds}
+use Rattle.law_typing.specs.Good.ComingDown.{none, given, down, result_of_program}
+use Rattle.law_typing.specs.Good.Agenda.{AgendaGood}
 use Rattle.ui_machine.specs.State.Sources.{Source}
 use Rattle.law_typing.specs.Verdict.Accepted.{Each}
 use Rattle.law_typing.specs.Laws.WellRead.{TypesRead}
@@ -44,10 +41,10 @@ use Rattle.law_static.proofs.FitsProofs.{holds_set, holds_kind, classes_agree}
 use Rattle.law_kept.specs.Alike.{Alike}
 use Rattle.law_instructions.proofs.Around.{r, taken, fine_where, StepIsFine, fine_of}
 use Rattle.law_instructions.proofs.Around as around
-use Rattle.law_instructions.proofs.Lists.{Lists, lists_of, with_lists, ListsGood}
+use Rattle.law_instructions.proofs.Lists.{lists_of}
 use Rattle.law_instructions.proofs.Typed.{returning_is}
-use Rattle.law_instructions.proofs.Below.{suits_further, running_none, Collected, collect}
-use Rattle.law_instructions.proofs.Ended.{Ended, ended_well, lowest_falls}
+use Rattle.law_instructions.proofs.Below.{suits_further, running_none, collect}
+use Rattle.law_instructions.proofs.Ended.{ended_well, lowest_falls}
 use Rattle.law_instructions.specs.Returning.{ReturnsAreFine}
 
 -- ** where it goes

@@ -1,10 +1,8 @@
 -- A program stops the emission below it.
-use Rattle.std.proofs.Common.{◌≡◌, inl, inr, ◌⊎◌, refl, sym, ap, subst, ◌∙◌, ℕ, suc, ◌+◌, ◌≤◌, false, List, [], ◌∷◌, length, Option, None, Ok, arith}
-use Rattle.ui_machine.specs.Seq.{read, total}
-use Rattle.ui_machine.specs.Definition.Kinds.{Kind}
+use Rattle.std.proofs.Common.{◌≡◌, inl, inr, ◌⊎◌, refl, sym, ap, subst, ◌∙◌, ℕ, suc, ◌+◌, ◌≤◌, List, [], ◌∷◌, length, Ok, arith}
+use Rattle.ui_machine.specs.Seq.{total}
 use Rattle.ui_machine.specs.Definition.{Definition}
 use Rattle.ui_machine.specs.Definition.Programs as words
-use Rattle.ui_machine.specs.State.Objects.{Object, living}
 use Rattle.ui_machine.specs.State.Tasks.{PlanEntry, Emission, Frame, Task, Setting, Notifying, Beginning, Emitting, Transferring, Unsetting, Thawing, Running, Answering, Calling, Constructing, Building, Carrying, Due}
 use Rattle.ui_machine.specs.State.Config.{World, leaves}
 use Rattle.ui_machine.specs.Rules.Accumulation.{stopped, left_by_stop}
@@ -22,7 +20,7 @@ use Rattle.law_typing.specs.Laws.StepsKeepGood.{IsGood}
 use Rattle.law_typing.specs.Good.Standing.{standing, view, View}
 use Rattle.law_typing.specs.Good.Objects.{PeersGood}
 use Rattle.law_typing.specs.Good.DueCosts.{unsets, turn_cost}
-use Rattle.law_typing.specs.Good.ComingDown.{Down, down, none}
+use Rattle.law_typing.specs.Good.ComingDown.{Down, down}
 use Rattle.law_typing.specs.Good.Emissions.{TurnGood, EmittingGood}
 use Rattle.law_typing.specs.Good.Builds.{is_for_builder, BuildGood}
 use Rattle.law_typing.specs.Good.Agenda.{AgendaGood, frames}
@@ -117,10 +115,10 @@ module _ {d : Definition} (t : around.Due d words.stop) (x : Emits t.rest) where
       let q = g.queues id o is in
       record {
         count = (
-          let same = frozen_same d id f next (open_same t refl f.registers) (λ r among. refl) in
-          let old = q.count in
-          let s = sums (frozen_by d id) (λ turns. refl) in
-          omega (arith, same, old, s));
+            let same = frozen_same d id f next (open_same t refl f.registers) (λ r among. refl) in
+            let old = q.count in
+            let s = sums (frozen_by d id) (λ turns. refl) in
+            omega (arith, same, old, s));
         few = (let old = q.few in omega (arith, old));
         none = q.none;
         deep = subst (λ rest. Each (λ slot. suc (below_lowest d id (Running f ∷ rest)) + entry a.weighed.depths.channels (property o.place slot) ≤ depth (graph d) a.weighed.depths) o.queue) x.is q.deep;

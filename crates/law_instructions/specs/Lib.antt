@@ -6,3 +6,4 @@ pub mod Disposing
 pub mod Attaching
 pub mod Returning
 pub mod Stopping
+pub mod Freezing

@@ -7,6 +7,7 @@ ghost use Rattle.law_instructions.specs.OfObjects.{ReadsAreFine, ReleasesAreFine
 ghost use Rattle.law_instructions.specs.Attaching.{AttachmentsAreFine};
 ghost use Rattle.law_instructions.specs.Returning.{ReturnsAreFine};
 ghost use Rattle.law_instructions.specs.Stopping.{StopsAreFine};
+ghost use Rattle.law_instructions.specs.Freezing.{FreezesAreFine};
 ghost use Rattle.law_instructions.specs.Disposing.{DisposesAreFine};
 
 /// Constants, copies, truth values, comparisons and texts: from what is good, the step is not stuck and leads to what is good.
@@ -43,4 +44,9 @@ pub fn ends()
 /// A program stops the emission that runs it.
 pub fn stopping()
     ensures fine { StopsAreFine }
+{}
+
+/// A program freezes an object.
+pub fn freezing()
+    ensures fine { FreezesAreFine }
 {}

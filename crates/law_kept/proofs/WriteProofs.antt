@@ -43,11 +43,11 @@ read_apart n (x ∷ xs) zero y (suc j) h = refl
 read_apart n (x ∷ xs) (suc i) y zero h = refl
 read_apart n (x ∷ xs) (suc i) y (suc j) h = read_apart n xs i y j (λ e. h (ap suc e))
 
-find_here : (os : Objects) (id : ℕ) (o new : Object) → living os id ≡ Some o → living (put os id (Some new)) id ≡ Some new
+pub find_here : (os : Objects) (id : ℕ) (o new : Object) → living os id ≡ Some o → living (put os id (Some new)) id ≡ Some new
 find_here os zero o new e = absurd (cc)
 find_here os (suc i) o new e = read_here None os i (Some new)
 
-find_apart : (os : Objects) (id : ℕ) (new : Object) (other : ℕ) → (id ≡ other → ⊥) → living (put os id (Some new)) other ≡ living os other
+pub find_apart : (os : Objects) (id : ℕ) (new : Object) (other : ℕ) → (id ≡ other → ⊥) → living (put os id (Some new)) other ≡ living os other
 find_apart os zero new other h = refl
 find_apart os (suc i) new zero h = refl
 find_apart os (suc i) new (suc j) h = read_apart None os i (Some new) j (λ e. h (ap suc e))
