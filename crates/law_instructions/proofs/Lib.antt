@@ -3,6 +3,7 @@ pub mod Around
 pub mod Written
 pub mod Inverse
 pub mod Typed
+pub mod Wrapped
 pub mod RegisterProofs
 pub mod Landing
 pub mod JumpProofs

@@ -1,5 +1,5 @@
 -- Constants, copies, truth values, comparisons and texts.
-use Rattle.std.proofs.Common.{◌≡◌, refl, subst, ℕ, Bool, true, false, cond, List, [], ◌∷◌, ◌++◌, length, Option, None, Some, Ok}
+use Rattle.std.proofs.Common.{◌≡◌, refl, ap, subst, ◌∙◌, ℕ, Bool, true, false, cond, List, [], ◌∷◌, ◌++◌, length, Option, None, Some, Ok}
 use Rattle.std.specs.Prelude.{ℤ, not, ◌&&◌, ◌||◌, nat_lt, codes}
 use Rattle.ui_machine.specs.Seq.{read, write}
 use Rattle.ui_machine.specs.Definition.Kinds.{Whole, int, uint, int64, uint64, Kind, RegisterKind}
@@ -15,10 +15,10 @@ use Rattle.ui_machine.specs.State.Config.{World, said}
 use Rattle.ui_machine.specs.Output.Lines as lines
 use Rattle.ui_machine.specs.Output.Text.{text_of_line}
 use Rattle.ui_machine.specs.Rules.Sets.{has_kind}
-use Rattle.ui_machine.specs.Rules.Transform.{kind_fits, same_value, same_whole}
+use Rattle.ui_machine.specs.Rules.Transform.{kind_fits, same_value, same_whole, wrapped}
 use Rattle.ui_machine.specs.Instructions.{instructed, in_front}
 use Rattle.ui_machine.specs.Instructions.Registers.{truth_in, text_in, whole_in, written_to, moving}
-use Rattle.ui_machine.specs.Instructions.Arithmetic.{comparing, sameness, negating, conjunction, disjunction, joining, of_one_kind, kind_of, bytes_of, most_bytes, within_bytes, gives_from}
+use Rattle.ui_machine.specs.Instructions.Arithmetic.{comparing, reckoning, sameness, negating, conjunction, disjunction, joining, of_one_kind, kind_of, bytes_of, most_bytes, within_bytes, gives_from}
 use Rattle.ui_machine.specs.Instructions.Arithmetic as arithmetic
 use Rattle.ui_machine.specs.Instructions.Jumps.{past}
 use Rattle.law_typing.specs.Rules.RegisterKinds.{kind_in}
@@ -32,7 +32,8 @@ use Rattle.law_instructions.specs.OfRegisters.{RegistersAreFine}
 use Rattle.law_instructions.proofs.Around.{Due, r, here, taken, StepIsFine, fine_of}
 use Rattle.law_instructions.proofs.Written.{written_fine}
 use Rattle.law_instructions.proofs.Inverse.{truth_at, text_at, numbers_at, comparable}
-use Rattle.law_instructions.proofs.Typed.{moving_is, comparing_is, sameness_is, negating_is, combining_is, joining_is}
+use Rattle.law_instructions.proofs.Wrapped.{whole_fits}
+use Rattle.law_instructions.proofs.Typed.{moving_is, comparing_is, reckoning_is, sameness_is, negating_is, combining_is, joining_is}
 
 -- a value that fits where nothing lives fits everywhere
 pub fits_anywhere : (f : ℕ → Option ℕ) (types : List GType) (v : Value) (kind : Kind) → kind_fits no_class_of types v kind ≡ true → kind_fits f types v kind ≡ true
@@ -74,6 +75,11 @@ compare_writes : (w : World) (rest : List Task) (f : Frame) (c : Comparison) (to
     read None f.registers b ≡ Some (values.whole k y) → in_front rest (comparing w f c to a b) ≡ in_front rest (written_to w to (Some (values.bool (arithmetic.holds c x y))) f)
 unfolding comparing
 compare_writes w rest f c to a b k x y e g = rw (whole_is f a k x e, whole_is f b k y g, same_whole_itself k) refl
+
+reckon_writes : (w : World) (rest : List Task) (f : Frame) (o : Arithmetic) (to a b : ℕ) (k : Whole) (x y : ℤ) → read None f.registers a ≡ Some (values.whole k x) →
+    read None f.registers b ≡ Some (values.whole k y) → in_front rest (reckoning w f o to a b) ≡ in_front rest (written_to w to (Some (values.whole k (wrapped k (arithmetic.reckoned o x y)))) f)
+unfolding reckoning
+reckon_writes w rest f o to a b k x y e g = rw (whole_is f a k x e, whole_is f b k y g, same_whole_itself k) refl
 
 same_writes : (w : World) (rest : List Task) (f : Frame) (to a b : ℕ) (u v : Value) → read None f.registers a ≡ Some u → read None f.registers b ≡ Some v →
     has_kind v (kind_of u) ≡ true → in_front rest (sameness w f to a b) ≡ in_front rest (written_to w to (Some (values.bool (same_value u v))) f)
@@ -129,6 +135,16 @@ module _ {d : Definition} where
       let n = numbers_at d (standing t.w.objects) (kind_in ks a) (kind_in ks b) (read None t.f.registers a) (read None t.f.registers b) k.0 k.1 ((r t).fit a) ((r t).fit b) in
       written_fine t refl t.w.transcript to (kinds.plain kinds.bool) (Some (values.bool (arithmetic.holds c n.x n.y))) refl refl k.2 refl
       (compare_writes t.w t.rest (past t.f) c to a b n.kind n.x n.y n.first n.second)
+
+  reckon_fine : (o : Arithmetic) (to a b : ℕ) (t : Due d (words.arithmetic o to a b)) → StepIsFine t
+  reckon_fine o to a b t =
+      let ks = (r t).ks in
+      let k = reckoning_is ks to a b (after d (r t).p ks (words.arithmetic o to a b)) (taken t).typed in
+      let n = numbers_at d (standing t.w.objects) (kind_in ks a) (kind_in ks b) (read None t.f.registers a) (read None t.f.registers b) k.0 k.1 ((r t).fit a) ((r t).fit b) in
+      let z = arithmetic.reckoned o n.x n.y in
+      written_fine t refl t.w.transcript to (kind_in ks a) (Some (values.whole n.kind (wrapped n.kind z))) refl refl k.2
+      (ap (λ k. holds d (standing t.w.objects) k (Some (values.whole n.kind (wrapped n.kind z)))) n.is ∙ whole_fits n.kind z)
+      (reckon_writes t.w t.rest (past t.f) o to a b n.kind n.x n.y n.first n.second)
 
   same_fine : (to a b : ℕ) (t : Due d (words.same to a b)) → StepIsFine t
   same_fine to a b t =
@@ -190,6 +206,7 @@ registers_are_fine (words.const to kind v) e = fine_of (λ d t. const_fine to ki
 registers_are_fine (words.move to from) e = fine_of (λ d t. move_fine to from t)
 registers_are_fine (words.clear to) e = fine_of (λ d t. clear_fine to t)
 registers_are_fine (words.compare c to a b) e = fine_of (λ d t. compare_fine c to a b t)
+registers_are_fine (words.arithmetic o to a b) e = fine_of (λ d t. reckon_fine o to a b t)
 registers_are_fine (words.same to a b) e = fine_of (λ d t. same_fine to a b t)
 registers_are_fine (words.negate to a) e = fine_of (λ d t. negate_fine to a t)
 registers_are_fine (words.both to a b) e = fine_of (λ d t. both_fine to a b t)

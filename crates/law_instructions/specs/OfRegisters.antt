@@ -4,11 +4,12 @@ use Rattle.ui_machine.specs.Definition.Programs.{Instruction}
 use Rattle.ui_machine.specs.Definition.Programs as words
 use Rattle.law_instructions.specs.Running.{IsFine}
 
--- constants, copies, truth values, comparisons and texts
+-- constants, copies, arithmetic, comparisons, truth values and texts
 abbrev pub writes_register : Instruction → Bool
 writes_register (words.const to kind v) = true
 writes_register (words.move to from) = true
 writes_register (words.clear to) = true
+writes_register (words.arithmetic operation to a b) = true
 writes_register (words.compare comparison to a b) = true
 writes_register (words.same to a b) = true
 writes_register (words.negate to a) = true
