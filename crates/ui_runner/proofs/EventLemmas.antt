@@ -9,7 +9,7 @@ use Rattle.ui_engine.specs.declared.dispatches.Reply.{Reply}
 use Rattle.ui_engine.specs.declared.session.SessionFault.{SessionFault}
 use Rattle.ui_engine.specs.declared.session.SessionFault.TheVariants as ends
 use Rattle.ui_engine.specs.SessionView.{SessionState, tally_of, AnswersEvent}
-use Rattle.ui_runner.specs.Telling.{outcome_of, reading_fault, dispatch_fault}
+use Rattle.ui_runner.specs.LineOutcome.{outcome_of, reading_fault, dispatch_fault}
 use Rattle.ui_runner.specs.Events.{Says, event_replies}
 
 drop_front : {A : Type 0} (xs ys : List A) → drop (length xs) (xs ++ ys) ≡ ys

@@ -1,7 +1,6 @@
 -- How a run opens, and what follows.
-use Rattle.std.proofs.Common.{◌≡◌, ℕ, Bool, true, false, List, [], ◌∷◌, ◌++◌, take, append_assoc, append-nil, codes, String, Global, Option, Some, None, Result, Ok, Err, refl, sym, ap, subst, ◌∙◌, inl, inr}
+use Rattle.std.proofs.Common.{◌≡◌, ℕ, ◌+◌, ◌-◌, ◌/◌, Bool, true, false, List, [], ◌∷◌, ◌++◌, take, length, length-append, arith, append_assoc, append-nil, codes, String, Global, Option, Some, None, Result, Ok, Err, refl, sym, ap, subst, ◌∙◌, inl, inr}
 use Rattle.std.specs.Prelude.{IfSome, string_bytes, ◌⊎◌}
-use Rattle.std.specs.Io.KnownBytes.{Appends}
 use Rattle.std.proofs.KnownBytes.{Appends-trans}
 use Rattle.ui_machine.specs.declared.arm.Halt.{Halt}
 use Rattle.ui_machine.specs.declared.arm.Halt.TheVariants as halts
@@ -17,10 +16,11 @@ use Rattle.builder_defs.specs.FaultText.{refusal_text}
 use Rattle.ui_runner.specs.declared.opening.Opening.TheVariants as code
 use Rattle.ui_runner.specs.OpeningView.{IsOpening, Opened, halt_of}
 use Rattle.ui_runner.specs.Texts.{joined, lines_text, nothing_begun, build_stopped}
-use Rattle.ui_runner.specs.Story.{Story, InStep, text_from}
+use Rattle.ui_runner.specs.EventFileRun.{EventFileRun, InStep, text_from}
 use Rattle.ui_runner.specs.Events.{event_replies}
+use Rattle.ui_runner.proofs.Runs.{few_writes, few_after}
 use Rattle.ui_runner.proofs.RunOver.{runs_over}
-use Rattle.ui_runner.specs.Writing.{Passes, Tears, Finishes}
+use Rattle.ui_runner.specs.Writing.{Sent, Passes, Tears, Finishes, Sends}
 use Rattle.ui_machine.specs.Prefix.{IsPrefix}
 use Rattle.ui_runner.specs.Lines.{lines_of}
 use Rattle.ui_runner.specs.Opening.{Opening, refused, unbegun, built, stopped, Opens, Concludes, Plays, Proceeds, Ran}
@@ -64,23 +64,39 @@ any_bytes None = ([], tt)
 any_bytes (Some xs) = (xs, refl)
 
 -- a text was said where nothing was gathered, and the run ends
-pub concludes : (failed : Bool) (a b c : Option (List ℕ)) (p q whole : List ℕ) (answer status : ℕ) → p ≡ [] → Passes a p b q whole → Finishes answer status failed b q c
-    → (out : List ℕ) × Concludes whole answer status failed out × Appends a c out
+pub concludes : (failed : Bool) (a b c : Sent) (p q whole : List ℕ) (answer status : ℕ) → p ≡ [] → Passes a p b q whole → Finishes answer status failed b q c
+    → (out : List ℕ) × Concludes whole answer status failed out × Sends 0 0 a c out
 concludes false a b c p q whole answer status none h f =
     let w = f.whole refl in
-    let said : whole ≡ h.moved ++ q = ap (λ t. t ++ whole) (sym none) ∙ h.whole in
-    (h.moved ++ q, inr (w.0, refl, sym said), Appends-trans a b c h.moved q h.appends w.1)
+    let said : whole ≡ h.moved ++ q = ap (λ t. t ++ whole) (sym none) ∙ h.whole in (
+      h.moved ++ q,
+      inr (w.0, refl, sym said),
+      record {
+        appends = Appends-trans a.bytes b.bytes c.bytes h.moved q h.appends w.1;
+        few = let n = length-append h.moved q in few_writes 0 0 a.writes c.writes (length (h.moved ++ q)) (omega arith) (omega (arith, h.full, f.once, n));
+      },
+    )
 concludes true a b c p q whole answer status none h f =
     let w = f.part refl in
     let said : whole ≡ h.moved ++ q = ap (λ t. t ++ whole) (sym none) ∙ h.whole in (
       h.moved ++ w.1.part,
       inl (w.0, refl, record { more = w.1.more; whole = said ∙ ap (λ t. h.moved ++ t) w.1.split ∙ sym (append_assoc h.moved w.1.part w.1.more) }),
-      Appends-trans a b c h.moved w.1.part h.appends w.1.appends,
+      record {
+        appends = Appends-trans a.bytes b.bytes c.bytes h.moved w.1.part h.appends w.1.appends;
+        few = let n = length-append h.moved w.1.part in few_writes 0 0 a.writes c.writes (length (h.moved ++ w.1.part)) (omega arith) (omega (arith, h.full, f.once, n));
+      },
     )
 
-pub concludes_torn : (failed : Bool) (a b : Option (List ℕ)) (p whole : List ℕ) (answer : ℕ) → p ≡ [] → failed ≡ true → Tears a p b whole → (out : List ℕ) × Concludes whole answer 4 failed out × Appends a b out
-concludes_torn failed a b p whole answer none torn h =
-    (h.moved, inl (refl, torn, record { more = h.lost; whole = ap (λ t. t ++ whole) (sym none) ∙ h.whole }), h.appends)
+pub concludes_torn : (failed : Bool) (a b : Sent) (p whole : List ℕ) (answer : ℕ) → p ≡ [] → failed ≡ true → Tears a p b whole → (out : List ℕ) × Concludes whole answer 4 failed out × Sends 0 0 a b out
+concludes_torn failed a b p whole answer none torn h = (
+  h.moved,
+  inl (refl, torn, record { more = h.lost; whole = ap (λ t. t ++ whole) (sym none) ∙ h.whole }),
+  record { appends = h.appends; few = few_writes 0 0 a.writes b.writes (length h.moved) (omega arith) (omega (arith, h.full)) },
+)
+
+-- also where something is read meanwhile
+sends_more : (r r' : ℕ) (a b : Sent) (text : List ℕ) → Sends 0 0 a b text → Sends r r' a b text
+sends_more r r' a b text h = record { appends = h.appends; few = omega (arith, h.few) }
 
 -- some of what came before was written, and then what is left of it and more
 left_and_more : (moved left before more : List ℕ) → before ≡ moved ++ left → before ++ more ≡ moved ++ (left ++ more)
@@ -98,40 +114,40 @@ module _ (s : SessionState) (lines : List (List ℕ)) (status : ℕ) (torn : Boo
   build = lines_text s.world.transcript
 
   -- the build's lines were said, and the events told
-  plays_on : (moved left text : List ℕ) (new : SessionState) → build ≡ moved ++ left → Story event_replies without_lines (without_lines s) left lines status torn unread first last text new
+  plays_on : (moved left text : List ℕ) (new : SessionState) → build ≡ moved ++ left → EventFileRun event_replies without_lines (without_lines s) left lines status torn unread first last text new
       → Plays s lines status torn unread first last (moved ++ text)
-  plays_on moved left text new is story = record {
+  plays_on moved left text new is file_run = record {
     new = new;
-    story = record {
-      outcomes = story.outcomes;
-      told = story.told;
-      broke = λ failed. prefix_after moved left build (text_from 1 story.outcomes) text is (story.broke failed);
-      whole = λ fine. ap (λ t. moved ++ t) (story.whole fine) ∙ sym (left_and_more moved left build (text_from 1 story.outcomes) is);
-      over = story.over;
-      answer = story.answer;
-      order = by story.order;
-      heard = story.heard;
+    file_run = record {
+      outcomes = file_run.outcomes;
+      told = file_run.told;
+      broke = λ failed. prefix_after moved left build (text_from 1 file_run.outcomes) text is (file_run.broke failed);
+      whole = λ fine. ap (λ t. moved ++ t) (file_run.whole fine) ∙ sym (left_and_more moved left build (text_from 1 file_run.outcomes) is);
+      over = file_run.over;
+      answer = file_run.answer;
+      order = by file_run.order;
+      heard = file_run.heard;
     };
-    run = λ stands. runs_over s lines story.outcomes new stands story.told;
+    run = λ stands. runs_over s lines file_run.outcomes new stands file_run.told;
   }
     where
-      by : unread ⊎ InStep left story.outcomes first last text → unread ⊎ InStep build story.outcomes first last (moved ++ text)
+      by : unread ⊎ InStep left file_run.outcomes first last text → unread ⊎ InStep build file_run.outcomes first last (moved ++ text)
       by (inl un) = inl un
       by (inr step) = inr (record {
         count = step.count;
         within = step.within;
         goes_on = step.goes_on;
-        written = after_prefix moved left build (text_from 1 (take step.count story.outcomes)) text is step.written;
+        written = after_prefix moved left build (text_from 1 (take step.count file_run.outcomes)) text is step.written;
         near = step.near;
       })
 
-module _ (s : SessionState) (torn : Bool) (unread : Type 0) (first last a b c : Option (List ℕ)) (p q : List ℕ) where
-  abbrev PlaysOver : ℕ → Option (List ℕ) → Type 0
-  PlaysOver status end = (input : List ℕ) × IfSome first (λ known. known ≡ input) × (text : List ℕ) × Proceeds (built s) (lines_of input) status torn unread first last text × Appends a end text
+module _ (s : SessionState) (torn : Bool) (unread : Type 0) (first last : Option (List ℕ)) (r r' : ℕ) (a b c : Sent) (p q : List ℕ) where
+  abbrev PlaysOver : ℕ → Sent → Type 0
+  PlaysOver status end = (input : List ℕ) × IfSome first (λ known. known ≡ input) × (text : List ℕ) × Proceeds (built s) (lines_of input) status torn unread first last text × Sends r r' a end text
 
   -- the build's lines broke off
-  pub breaks_off : p ≡ [] → torn ≡ true → unread → Tears a p b (lines_text s.world.transcript) → PlaysOver 4 b
-  breaks_off none failed un h =
+  pub breaks_off : r ≡ r' → p ≡ [] → torn ≡ true → unread → Tears a p b (lines_text s.world.transcript) → PlaysOver 4 b
+  breaks_off same none failed un h =
       let input = any_bytes first in
       let is : lines_text s.world.transcript ≡ h.moved ++ h.lost = ap (λ t. t ++ lines_text s.world.transcript) (sym none) ∙ h.whole in (
         input.0,
@@ -139,7 +155,7 @@ module _ (s : SessionState) (torn : Bool) (unread : Type 0) (first last a b c : 
         h.moved,
         record {
           new = without_lines s;
-          story = record {
+          file_run = record {
             outcomes = [];
             told = refl;
             broke = λ _. record { more = h.lost; whole = append-nil (lines_text s.world.transcript) ∙ is };
@@ -151,12 +167,12 @@ module _ (s : SessionState) (torn : Bool) (unread : Type 0) (first last a b c : 
           };
           run = λ stands. runs_over s (lines_of input.0) [] (without_lines s) stands refl;
         },
-        h.appends,
+        record { appends = h.appends; few = few_writes r r' a.writes b.writes (length h.moved) (omega (arith, same)) (omega (arith, h.full, same)) },
       )
 
   -- they were said, and then the events told
   pub plays : (status : ℕ) (new : SessionState) → p ≡ [] → Passes a p b q (lines_text s.world.transcript)
-      → (input : List ℕ) × IfSome first (λ known. known ≡ input) × (text : List ℕ) × Story event_replies without_lines (without_lines s) q (lines_of input) status torn unread first last text new × Appends b c text
+      → (input : List ℕ) × IfSome first (λ known. known ≡ input) × (text : List ℕ) × EventFileRun event_replies without_lines (without_lines s) q (lines_of input) status torn unread first last text new × Sends r r' b c text
       → PlaysOver status c
   plays status new none h told =
       let is : lines_text s.world.transcript ≡ h.moved ++ q = ap (λ t. t ++ lines_text s.world.transcript) (sym none) ∙ h.whole in (
@@ -164,7 +180,10 @@ module _ (s : SessionState) (torn : Bool) (unread : Type 0) (first last a b c : 
         told.1,
         h.moved ++ told.2,
         plays_on s (lines_of told.0) status torn unread first last h.moved q told.2 new is told.3,
-        Appends-trans a b c h.moved told.2 h.appends told.4,
+        record {
+          appends = Appends-trans a.bytes b.bytes c.bytes h.moved told.2 h.appends told.4.appends;
+          few = rw (length-append h.moved told.2) (few_after r r' a.writes b.writes c.writes (length h.moved) (length told.2) h.full told.4.few);
+        },
       )
 
 -- ** which opening the code's is
@@ -188,30 +207,30 @@ open_refused bytes text unbegun is opens = absurd is
 open_refused bytes text (stopped s h) is opens = absurd is
 open_refused bytes text (built s) is opens = absurd is
 
-module _ (bytes : List ℕ) (first last a c : Option (List ℕ)) (status : ℕ) (torn : Bool) (unread : Type 0) where
+module _ (bytes : List ℕ) (first last : Option (List ℕ)) (r r' : ℕ) (a c : Sent) (status : ℕ) (torn : Bool) (unread : Type 0) where
   abbrev pub IsWritten : List ℕ → ℕ → Type 0
-  IsWritten whole answer = (out : List ℕ) × Concludes whole answer status torn out × Appends a c out
+  IsWritten whole answer = (out : List ℕ) × Concludes whole answer status torn out × Sends 0 0 a c out
 
   abbrev pub RanOver : Type 0
-  RanOver = (input : List ℕ) × IfSome first (λ known. known ≡ input) × (text : List ℕ) × Ran bytes (lines_of input) status torn unread first last text × Appends a c text
+  RanOver = (input : List ℕ) × IfSome first (λ known. known ≡ input) × (text : List ℕ) × Ran bytes (lines_of input) status torn unread first last text × Sends r r' a c text
 
   pub ran_stopped : (session : SessionState) (halt : Halt) → Opened bytes (code.Stopped session halt) → unread → IsWritten (lines_text session.world.transcript ++ build_stopped halt) 3 → RanOver
   ran_stopped session halt o un w =
       let input = any_bytes first in
-      (input.0, input.1, w.0, record { opening = stopped session halt; opens = open_stopped bytes session halt o.opening o.is o.opens; proceeds = (un, w.1) }, w.2)
+      (input.0, input.1, w.0, record { opening = stopped session halt; opens = open_stopped bytes session halt o.opening o.is o.opens; proceeds = (un, w.1) }, sends_more r r' a c w.0 w.2)
 
   pub ran_unbegun : unread → IsWritten nothing_begun 3 → RanOver
   ran_unbegun un w =
       let input = any_bytes first in
-      (input.0, input.1, w.0, record { opening = unbegun; opens = tt; proceeds = (un, w.1) }, w.2)
+      (input.0, input.1, w.0, record { opening = unbegun; opens = tt; proceeds = (un, w.1) }, sends_more r r' a c w.0 w.2)
 
   pub ran_refused : (text : String Global) → Opened bytes (code.Refused text) → unread → IsWritten (joined (codes "refused: " ∷ string_bytes text ∷ codes "\n" ∷ [])) 1 → RanOver
   ran_refused text o un w =
-      let r = open_refused bytes text o.opening o.is o.opens in
-      let concludes = rw r.2 at w.1 in
+      let denied = open_refused bytes text o.opening o.is o.opens in
+      let concludes = rw denied.2 at w.1 in
       let input = any_bytes first in
-      (input.0, input.1, w.0, record { opening = refused r.0; opens = r.1; proceeds = (un, concludes) }, w.2)
+      (input.0, input.1, w.0, record { opening = refused denied.0; opens = denied.1; proceeds = (un, concludes) }, sends_more r r' a c w.0 w.2)
 
   pub ran_built : (session : SessionState) → Opened bytes (code.Built session)
-      → (input : List ℕ) × IfSome first (λ known. known ≡ input) × (text : List ℕ) × Proceeds (built session) (lines_of input) status torn unread first last text × Appends a c text → RanOver
+      → (input : List ℕ) × IfSome first (λ known. known ≡ input) × (text : List ℕ) × Proceeds (built session) (lines_of input) status torn unread first last text × Sends r r' a c text → RanOver
   ran_built session o t = (t.0, t.1, t.2, record { opening = built session; opens = open_built bytes session o.opening o.is o.opens; proceeds = t.3 }, t.4)

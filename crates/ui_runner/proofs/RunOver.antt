@@ -9,8 +9,8 @@ use Rattle.machine_laws.specs.FrontLaws.{fronted}
 use Rattle.machine_laws.proofs.FrontRuns.{event_appends, event_halt_appends}
 use Rattle.builder_defs.specs.EventMeaning.{event_denoted}
 use Rattle.ui_engine.specs.SessionView.{SessionState, without_lines}
-use Rattle.ui_runner.specs.Story as story
-use Rattle.ui_runner.specs.Story.{Outcome, said, refused, cut_off, stopped, Fate, too_many, too_long, skipped, fate, ends, Meets, Tells, Tale}
+use Rattle.ui_runner.specs.EventFileRun as file_run
+use Rattle.ui_runner.specs.EventFileRun.{Outcome, said, refused, cut_off, stopped, LineSort, too_many, too_long, skipped, sort_of_line, ends, Meets, LineComesTo, LinesComeTo}
 use Rattle.ui_runner.specs.Events.{event_replies}
 use Rattle.ui_runner.specs.RunOver.{event_of_line, event_served, events_served, said_of, said_in, HaltsNext, RunsOver}
 use Rattle.ui_runner.specs.Opening.{IsBuilt}
@@ -54,10 +54,10 @@ module _ (d : Definition) where
   }
 
   -- what a line of the session's came to
-  replied : (old mid : SessionState) (n : ℕ) (line : List ℕ) (outcome : Outcome) → old.definition ≡ d → fate n line ≡ story.event → event_replies old line outcome mid → Lined d old n line outcome mid
+  replied : (old mid : SessionState) (n : ℕ) (line : List ℕ) (outcome : Outcome) → old.definition ≡ d → sort_of_line n line ≡ file_run.event → event_replies old line outcome mid → Lined d old n line outcome mid
   replied old mid n line (said lines) is event says = record {
     came = one_event says.event says.tally
-        (ap (λ f. event_of_line f (event_denoted d line)) event ∙ ap (event_of_line story.event) (subst (λ (e : Definition). event_denoted e line ≡ Ok says.event) is says.denotes))
+        (ap (λ f. event_of_line f (event_denoted d line)) event ∙ ap (event_of_line file_run.event) (subst (λ (e : Definition). event_denoted e line ≡ Ok says.event) is says.denotes))
         (subst (λ (e : Definition). Serves e says.event [] old.world says.tally mid.world) is says.serves);
     says = says.shows;
     definition = says.definition ∙ is;
@@ -74,14 +74,14 @@ module _ (d : Definition) where
   unserved : (n : ℕ) (line : List ℕ) (outcome found : Outcome) → outcome ≡ found → event_served d n line found ≡ [] → event_served d n line outcome ≡ []
   unserved n line outcome found same none = ap (event_served d n line) same ∙ none
 
-  met : (old mid : SessionState) (n : ℕ) (line : List ℕ) (outcome : Outcome) → old.definition ≡ d → (f : Fate) → fate n line ≡ f → Meets event_replies f old line outcome mid → Lined d old n line outcome mid
+  met : (old mid : SessionState) (n : ℕ) (line : List ℕ) (outcome : Outcome) → old.definition ≡ d → (f : LineSort) → sort_of_line n line ≡ f → Meets event_replies f old line outcome mid → Lined d old n line outcome mid
   met old mid n line outcome is too_many f m = untouched old mid n line outcome is (unserved n line outcome _ m.0 refl) (ap said_of m.0) m.1
   met old mid n line outcome is too_long f m = untouched old mid n line outcome is (unserved n line outcome _ m.0 refl) (ap said_of m.0) m.1
   met old mid n line outcome is skipped f m = untouched old mid n line outcome is (unserved n line outcome _ m.0 (ap (λ found. event_of_line found (event_denoted d line)) f)) (ap said_of m.0) m.1
-  met old mid n line outcome is story.event f m = replied old mid n line outcome is f m
+  met old mid n line outcome is file_run.event f m = replied old mid n line outcome is f m
 
-  told : (old mid : SessionState) (n : ℕ) (line : List ℕ) (outcome : Outcome) → old.definition ≡ d → Tells event_replies old n line outcome mid → Lined d old n line outcome mid
-  told old mid n line outcome is (inl m) = met old mid n line outcome is (fate n line) refl m
+  told : (old mid : SessionState) (n : ℕ) (line : List ℕ) (outcome : Outcome) → old.definition ≡ d → LineComesTo event_replies old n line outcome mid → Lined d old n line outcome mid
+  told old mid n line outcome is (inl m) = met old mid n line outcome is (sort_of_line n line) refl m
   told old mid n line outcome is (inr wants) = untouched old mid n line outcome is (unserved n line outcome _ wants.0 refl) (ap said_of wants.0) wants.1
 
   -- what a line came to is the same behind what was said before
@@ -132,16 +132,16 @@ module _ (d : Definition) where
           }))
 
   -- after an end nothing comes
-  over : (outcomes : List Outcome) (n : ℕ) (lines : List (List ℕ)) (front : List (List ℕ)) (mid new : SessionState) → outcomes ≡ [] → Tale event_replies without_lines (without_lines mid) n lines outcomes new
+  over : (outcomes : List Outcome) (n : ℕ) (lines : List (List ℕ)) (front : List (List ℕ)) (mid new : SessionState) → outcomes ≡ [] → LinesComeTo event_replies without_lines (without_lines mid) n lines outcomes new
       → (events_served d n lines outcomes ≡ []) × (said_in outcomes ≡ []) × (given_up : List (List ℕ)) × (fronted given_up new.world ≡ fronted front mid.world)
-  over [] n lines front mid new none tale =
-      (refl, refl, front ++ mid.world.transcript, ap (λ (s : SessionState). fronted (front ++ mid.world.transcript) s.world) tale ∙ all_in_front front mid.world)
-  over (outcome ∷ outcomes) n lines front mid new none tale = cc none
+  over [] n lines front mid new none come =
+      (refl, refl, front ++ mid.world.transcript, ap (λ (s : SessionState). fronted (front ++ mid.world.transcript) s.world) come ∙ all_in_front front mid.world)
+  over (outcome ∷ outcomes) n lines front mid new none come = cc none
 
-  served : (outcomes : List Outcome) (n : ℕ) (lines : List (List ℕ)) (front : List (List ℕ)) (old new : SessionState) → old.definition ≡ d → Tale event_replies without_lines old n lines outcomes new
+  served : (outcomes : List Outcome) (n : ℕ) (lines : List (List ℕ)) (front : List (List ℕ)) (old new : SessionState) → old.definition ≡ d → LinesComeTo event_replies without_lines old n lines outcomes new
       → Served d (fronted front old.world) (events_served d n lines outcomes) (said_in outcomes) new.world
-  served [] n lines front old new is tale =
-      subst (λ (w : World). Served d (fronted front old.world) [] [] w) (ap (λ (s : SessionState). s.world) (sym tale)) (record {
+  served [] n lines front old new is come =
+      subst (λ (w : World). Served d (fronted front old.world) [] [] w) (ap (λ (s : SessionState). s.world) (sym come)) (record {
         tally = no_dispatch;
         last = fronted front old.world;
         serves = record { replied = refl; counts = refl; same = refl };
@@ -149,23 +149,23 @@ module _ (d : Definition) where
         after = inl refl;
         shows = sym (append-nil (front ++ old.world.transcript));
       })
-  served (outcome ∷ outcomes) n [] front old new is tale = absurd tale
-  served (outcome ∷ outcomes) n (line ∷ lines) front old new is tale =
-      let mid = tale.0 in
-      let one = told old mid n line outcome is tale.1 in
+  served (outcome ∷ outcomes) n [] front old new is come = absurd come
+  served (outcome ∷ outcomes) n (line ∷ lines) front old new is come =
+      let mid = come.0 in
+      let one = told old mid n line outcome is come.1 in
       on (fronted front old.world) (fronted front mid.world) new.world (event_served d n line outcome) (events_served d (n + 1) lines outcomes) (said_of outcome) (said_in outcomes) outcome
       (behind front old.world mid.world (event_served d n line outcome) outcome one.came)
       (ap (λ all. front ++ all) one.says ∙ sym (append_assoc front old.world.transcript (said_of outcome)))
-      (λ ending. over outcomes (n + 1) lines front mid new (tale.2 ending) tale.3)
+      (λ ending. over outcomes (n + 1) lines front mid new (come.2 ending) come.3)
       (subst (λ (w : World). Served d w (events_served d (n + 1) lines outcomes) (said_in outcomes) new.world) (all_in_front front mid.world)
-      (served outcomes (n + 1) lines (front ++ mid.world.transcript) (without_lines mid) new one.definition tale.3))
+      (served outcomes (n + 1) lines (front ++ mid.world.transcript) (without_lines mid) new one.definition come.3))
 
 -- the build and the lines of the events are a run of the machine
-pub runs_over : (s : SessionState) (lines : List (List ℕ)) (outcomes : List Outcome) (new : SessionState) → IsBuilt s → Tale event_replies without_lines (without_lines s) 1 lines outcomes new
+pub runs_over : (s : SessionState) (lines : List (List ℕ)) (outcomes : List Outcome) (new : SessionState) → IsBuilt s → LinesComeTo event_replies without_lines (without_lines s) 1 lines outcomes new
     → RunsOver s lines outcomes new
-runs_over s lines outcomes new built tale =
+runs_over s lines outcomes new built come =
     let events = subst (λ (w : World). Served s.definition w (events_served s.definition 1 lines outcomes) (said_in outcomes) new.world) (all_in_front [] s.world)
-    (served s.definition outcomes 1 lines s.world.transcript (without_lines s) new refl tale) in
+    (served s.definition outcomes 1 lines s.world.transcript (without_lines s) new refl come) in
     record {
       tally = tallied built.tally events.tally;
       last = events.last;

@@ -1,5 +1,5 @@
 -- How far a run has come.
-use Rattle.std.proofs.Common.{◌≡◌, ◌≢◌, ◌≤◌, ℕ, ◌+◌, Bool, true, false, List, [], ◌∷◌, ◌++◌, length, take, drop, ◌-◌, refl, sym, ap, subst, ◌∙◌, append_assoc, append-nil, length-append, add-one, arith, inl, inr}
+use Rattle.std.proofs.Common.{◌≡◌, ◌≢◌, ◌≤◌, ℕ, ◌+◌, ◌*◌, ◌/◌, Bool, true, false, List, [], ◌∷◌, ◌++◌, length, take, drop, ◌-◌, refl, sym, ap, subst, ◌∙◌, append_assoc, append-nil, length-append, add-one, arith, inl, inr}
 use Rattle.std.specs.Prelude.{◌⊎◌, ◌||◌, map, min, Option, Some, None, IfSome}
 use Rattle.std.specs.List.{list_any}
 use Rattle.std.specs.Io.KnownBytes.{Appends, prepend_known}
@@ -12,8 +12,8 @@ use Rattle.ui_machine.specs.Prefix.{IsPrefix}
 use Rattle.ui_machine.specs.Limits.{most_line_bytes}
 use Rattle.ui_runner.specs.Lines.{lines_of, line_ends, has_end}
 use Rattle.ui_runner.specs.Reading.{WhereKnown, IsFirst, IsBegun, most_ahead}
-use Rattle.ui_runner.specs.Story.{Outcome, said, refused, cut_off, stopped, Replies, Tells, Tale, Story, InStep, AllTold, IsOver, ends, text_at, text_from, status_after, status_of, reach}
-use Rattle.ui_runner.specs.Writing.{Passes, Tears, Waits, Finishes}
+use Rattle.ui_runner.specs.EventFileRun.{Outcome, said, refused, cut_off, stopped, Replies, LineComesTo, LinesComeTo, EventFileRun, InStep, AllTold, IsOver, ends, text_at, text_from, status_after, status_of, reach}
+use Rattle.ui_runner.specs.Writing.{Sent, Passes, Tears, Waits, Finishes, Sends}
 use Rattle.ui_runner.specs.declared.line_reader.Found.{Found}
 use Rattle.ui_runner.specs.declared.line_reader.Found.TheVariants as founds
 use Rattle.ui_runner.proofs.LineLemmas.{or_false, first_line, begun_line, line_ends_append, no_more_ends}
@@ -32,24 +32,20 @@ pub record IsAt (done : List (List ℕ)) (xs ys : List ℕ) : Type 0 where
   pub split : xs ≡ part ++ ys
   pub told : line_ends part ≤ length done
 
--- the lines told so far, and what was said of them: what was written, and what is held
-pub record Came {S : Type 0} (replies : Replies S) (forgotten : S → S) (old : S) (before : List ℕ) (now : S) (number status : ℕ) (ended : Bool) (unread : Type 0) (first last taken new : Option (List ℕ)) (held : List ℕ) (done : List (List ℕ)) (outcomes : List Outcome) : Type 0 where
-  pub told : Tale replies forgotten old 1 done outcomes now
+-- the lines told so far, and what was said of them: what was written, and what is held; and how many writes there were
+pub record Came {S : Type 0} (replies : Replies S) (forgotten : S → S) (old : S) (before : List ℕ) (now : S) (number status : ℕ) (ended : Bool) (unread : Type 0) (first last : Option (List ℕ)) (reads reads_after : ℕ) (taken new : Sent) (more : ℕ) (held : List ℕ) (done : List (List ℕ)) (outcomes : List Outcome) : Type 0 where
+  pub told : LinesComeTo replies forgotten old 1 done outcomes now
   pub counts : length outcomes ≡ length done
   pub next : number ≡ 1 + length outcomes
   pub over : list_any ends outcomes ≡ ended
   pub answers : status ≡ status_of outcomes
   pub clean : AreClean done
   pub moved : List ℕ
-  pub appends : Appends taken new moved
+  pub appends : Appends taken.bytes new.bytes moved
+  pub later : reads ≤ reads_after
+  pub few : 4096 * (new.writes + reads) ≤ 4096 * (taken.writes + reads_after + more) + length moved
   pub writes : before ++ text_from 1 outcomes ≡ moved ++ held
   pub order : unread ⊎ InStep before outcomes first last moved
-
--- what a run over these bytes came to
-abbrev pub Ended : {S : Type 0} → Replies S → (S → S) → S → List ℕ → ℕ → Bool → Type 0 → Option (List ℕ) → Option (List ℕ) → Option (List ℕ) → Option (List ℕ) → S → Type 0
-Ended replies forgotten old before status torn unread first last taken new now =
-    (input : List ℕ) × IfSome first (λ known. known ≡ input) × (text : List ℕ)
-    × Story replies forgotten old before (lines_of input) status torn unread first last text now × Appends taken new text
 
 text_more : (n : ℕ) (os : List Outcome) (o : Outcome) → text_from n (os ++ o ∷ []) ≡ text_from n os ++ text_at (n + length os) o
 text_more n [] o = append-nil (text_at n o) ∙ ap (λ k. text_at k o) (omega arith)
@@ -213,28 +209,37 @@ step_now before done outcomes first last text counts over writes near =
       near = subst (λ n. WhereKnown first last (λ input rest. length input ≤ length rest + (reach (take (n + 1) (lines_of input)) + most_ahead))) (sym counts) near;
     }
 
+-- ** how many writes
+
+pub few_writes : (r r' w w' n : ℕ) → r ≤ r' → 4096 * (w' + r) ≤ 4096 * (w + r' + 1) + n → w' ≤ w + (n / 4096 + (r' - r) + 1)
+few_writes r r' w w' n h k = omega (arith, h, k)
+
+-- whole pieces were written, and then few more
+pub few_after : (r r' w w' w'' m n : ℕ) → 4096 * w' ≤ 4096 * w + m → w'' ≤ w' + (n / 4096 + (r' - r) + 1) → w'' ≤ w + ((m + n) / 4096 + (r' - r) + 1)
+few_after r r' w w' w'' m n h k = omega (arith, h, k)
+
 module _ {S : Type 0} (replies : Replies S) (forgotten : S → S) where
-  tale_more : (n : ℕ) (done : List (List ℕ)) (os : List Outcome) (old mid new : S) (line : List ℕ) (o : Outcome) → length os ≡ length done
-      → list_any ends os ≡ false → Tale replies forgotten old n done os mid → Tells replies mid (n + length os) line o new
-      → Tale replies forgotten old n (done ++ line ∷ []) (os ++ o ∷ []) (forgotten new)
-  tale_more n [] [] old mid new line o c e told tells =
+  come_more : (n : ℕ) (done : List (List ℕ)) (os : List Outcome) (old mid new : S) (line : List ℕ) (o : Outcome) → length os ≡ length done
+      → list_any ends os ≡ false → LinesComeTo replies forgotten old n done os mid → LineComesTo replies mid (n + length os) line o new
+      → LinesComeTo replies forgotten old n (done ++ line ∷ []) (os ++ o ∷ []) (forgotten new)
+  come_more n [] [] old mid new line o c e told comes =
       let z : n + 0 ≡ n = omega arith in
-      (new, subst (λ s. Tells replies s n line o new) told (subst (λ k. Tells replies mid k line o new) z tells), λ x. refl, refl)
-  tale_more n [] (p ∷ os) old mid new line o c e told tells = absurd (omega arith)
-  tale_more n (d ∷ done) [] old mid new line o c e told tells = absurd (omega arith)
-  tale_more n (d ∷ done) (p ∷ os) old mid new line o c e told tells =
+      (new, subst (λ s. LineComesTo replies s n line o new) told (subst (λ k. LineComesTo replies mid k line o new) z comes), λ x. refl, refl)
+  come_more n [] (p ∷ os) old mid new line o c e told comes = absurd (omega arith)
+  come_more n (d ∷ done) [] old mid new line o c e told comes = absurd (omega arith)
+  come_more n (d ∷ done) (p ∷ os) old mid new line o c e told comes =
       let f = or_false (ends p) (list_any ends os) e in
       let z : n + length (p ∷ os) ≡ (n + 1) + length os = omega arith in
       let c' : length os ≡ length done = omega arith in
-      (told.0, told.1, λ x. cc (x, f.0), tale_more (n + 1) done os (forgotten told.0) mid new line o c' f.1 told.3 (subst (λ k. Tells replies mid k line o new) z tells))
+      (told.0, told.1, λ x. cc (x, f.0), come_more (n + 1) done os (forgotten told.0) mid new line o c' f.1 told.3 (subst (λ k. LineComesTo replies mid k line o new) z comes))
 
-  tale_longer : (n : ℕ) (done left : List (List ℕ)) (os : List Outcome) (old new : S) → Tale replies forgotten old n done os new → Tale replies forgotten old n (done ++ left) os new
-  tale_longer n done left [] old new told = told
-  tale_longer n [] left (o ∷ os) old new told = absurd told
-  tale_longer n (d ∷ done) left (o ∷ os) old new told = (told.0, told.1, told.2, tale_longer (n + 1) done left os (forgotten told.0) new told.3)
+  come_longer : (n : ℕ) (done left : List (List ℕ)) (os : List Outcome) (old new : S) → LinesComeTo replies forgotten old n done os new → LinesComeTo replies forgotten old n (done ++ left) os new
+  come_longer n done left [] old new told = told
+  come_longer n [] left (o ∷ os) old new told = absurd told
+  come_longer n (d ∷ done) left (o ∷ os) old new told = (told.0, told.1, told.2, come_longer (n + 1) done left os (forgotten told.0) new told.3)
 
-  pub came_start : (old : S) (before : List ℕ) (unread : Type 0) (first taken : Option (List ℕ)) → unread → Came replies forgotten old before old 1 0 false unread first first taken taken before [] []
-  came_start old before unread first taken un = record {
+  pub came_start : (old : S) (before : List ℕ) (unread : Type 0) (first : Option (List ℕ)) (reads : ℕ) (taken : Sent) → unread → Came replies forgotten old before old 1 0 false unread first first reads reads taken taken 0 before [] []
+  came_start old before unread first reads taken un = record {
     told = refl;
     counts = refl;
     next = refl;
@@ -242,17 +247,19 @@ module _ {S : Type 0} (replies : Replies S) (forgotten : S → S) where
     answers = refl;
     clean = tt;
     moved = [];
-    appends = Appends-nil taken;
+    appends = Appends-nil taken.bytes;
+    later = omega arith;
+    few = omega arith;
     writes = append-nil before;
     order = inl un;
   }
 
   -- nothing was said, and perhaps something was read
-  pub came_on : {old now : S} {before : List ℕ} {number status : ℕ} {U unread unread' : Type 0} {failed : Bool} {first last last' taken mid new : Option (List ℕ)} {held after : List ℕ} {done : List (List ℕ)} {outcomes : List Outcome}
-      → Came replies forgotten old before now number status false unread first last taken mid held done outcomes → (w : Waits U failed mid held new after)
+  pub came_on : {old now : S} {before : List ℕ} {number status : ℕ} {U unread unread' : Type 0} {failed : Bool} {first last last' : Option (List ℕ)} {reads reads_before reads_after : ℕ} {taken mid new : Sent} {held after : List ℕ} {done : List (List ℕ)} {outcomes : List Outcome}
+      → Came replies forgotten old before now number status false unread first last reads reads_before taken mid 0 held done outcomes → (w : Waits U reads_before reads_after failed mid held new after)
       → (U → (last ≡ last') × (unread → unread')) → WhereKnown first last' (λ xs zs. IsNear done most_ahead xs zs)
-      → Came replies forgotten old before now number status false unread' first last' taken new w.held done outcomes
-  came_on {before = before} {U = U} {unread = unread} {unread' = unread'} {first = first} {last = last} {last' = last'} {taken = taken} {mid = mid} {new = new} {done = done} {outcomes = outcomes} c w same near =
+      → (more : ℕ) → new.writes + reads_before ≤ mid.writes + reads_after + more → Came replies forgotten old before now number status false unread' first last' reads reads_after taken new more w.held done outcomes
+  came_on {before = before} {U = U} {unread = unread} {unread' = unread'} {first = first} {last = last} {last' = last'} {taken = taken} {mid = mid} {new = new} {done = done} {outcomes = outcomes} c w same near more paced =
       let writes : before ++ text_from 1 outcomes ≡ (c.moved ++ w.moved) ++ w.held = c.writes ∙ ap (λ t. c.moved ++ t) w.whole ∙ sym (append_assoc c.moved w.moved w.held) in
       record {
         told = c.told;
@@ -262,7 +269,9 @@ module _ {S : Type 0} (replies : Replies S) (forgotten : S → S) where
         answers = c.answers;
         clean = c.clean;
         moved = c.moved ++ w.moved;
-        appends = Appends-trans taken mid new c.moved w.moved c.appends w.appends;
+        appends = Appends-trans taken.bytes mid.bytes new.bytes c.moved w.moved c.appends w.appends;
+        later = omega (arith, c.later, w.later);
+        few = let n = length-append c.moved w.moved in omega (arith, c.few, paced, n);
         writes = writes;
         order = by w.out c.order writes;
       }
@@ -273,27 +282,30 @@ module _ {S : Type 0} (replies : Replies S) (forgotten : S → S) where
       by (inl u) (inr step) writes = inr (step_on before outcomes first last last' c.moved w.moved (same u).0 step)
 
   -- the same where the writer has not failed
-  pub came_fine : {old now : S} {before : List ℕ} {number status : ℕ} {U unread unread' : Type 0} {failed : Bool} {first last last' taken mid new : Option (List ℕ)} {held after : List ℕ} {done : List (List ℕ)} {outcomes : List Outcome}
-      → failed ≡ false → Came replies forgotten old before now number status false unread first last taken mid held done outcomes → (w : Waits U failed mid held new after)
+  pub came_fine : {old now : S} {before : List ℕ} {number status : ℕ} {U unread unread' : Type 0} {failed : Bool} {first last last' : Option (List ℕ)} {reads reads_before reads_after : ℕ} {taken mid new : Sent} {held after : List ℕ} {done : List (List ℕ)} {outcomes : List Outcome}
+      → failed ≡ false → Came replies forgotten old before now number status false unread first last reads reads_before taken mid 0 held done outcomes → (w : Waits U reads_before reads_after failed mid held new after)
       → (U → (last ≡ last') × (unread → unread')) → WhereKnown first last' (λ xs zs. IsNear done most_ahead xs zs)
-      → Came replies forgotten old before now number status false unread' first last' taken new after done outcomes
-  came_fine {old = old} {now = now} {before = before} {number = number} {status = status} {unread' = unread'} {first = first} {last' = last'} {taken = taken} {new = new} {done = done} {outcomes = outcomes} fine c w same near =
-      subst (λ h. Came replies forgotten old before now number status false unread' first last' taken new h done outcomes) (sym (w.kept fine)) (came_on c w same near)
+      → Came replies forgotten old before now number status false unread' first last' reads reads_after taken new 0 after done outcomes
+  came_fine {old = old} {now = now} {before = before} {number = number} {status = status} {unread' = unread'} {first = first} {last' = last'} {reads = reads} {reads_after = reads_after} {taken = taken} {new = new} {done = done} {outcomes = outcomes} fine c w same near =
+      let paced = w.paced fine in
+      subst (λ h. Came replies forgotten old before now number status false unread' first last' reads reads_after taken new 0 h done outcomes) (sym (w.kept fine)) (came_on c w same near 0 (omega (arith, paced)))
 
   -- one more line was told, and its outcome said
-  pub came_told : {old now then : S} {before : List ℕ} {number status : ℕ} {unread : Type 0} {first last taken mid new : Option (List ℕ)} {held after : List ℕ} {done : List (List ℕ)} {outcomes : List Outcome}
-      (line : List ℕ) (o : Outcome) → Came replies forgotten old before now number status false unread first last taken mid held done outcomes → Tells replies now number line o then → has_end line ≡ false
+  pub came_told : {old now then : S} {before : List ℕ} {number status : ℕ} {unread : Type 0} {first last : Option (List ℕ)} {reads reads_after : ℕ} {taken mid new : Sent} {held after : List ℕ} {done : List (List ℕ)} {outcomes : List Outcome}
+      (line : List ℕ) (o : Outcome) → Came replies forgotten old before now number status false unread first last reads reads_after taken mid 0 held done outcomes → LineComesTo replies now number line o then → has_end line ≡ false
       → Passes mid held new after (text_at number o)
-      → Came replies forgotten old before (forgotten then) (number + 1) (status_after status o) (ends o) unread first last taken new after (done ++ line ∷ []) (outcomes ++ o ∷ [])
-  came_told {old} {now} {then} {before} {number} {status} {unread} {first} {last} {taken} {mid} {new} {held} {after} {done} {outcomes} line o c tells clean p = record {
-    told = tale_more 1 done outcomes old now then line o c.counts c.over c.told (subst (λ k. Tells replies now k line o then) c.next tells);
+      → Came replies forgotten old before (forgotten then) (number + 1) (status_after status o) (ends o) unread first last reads reads_after taken new 0 after (done ++ line ∷ []) (outcomes ++ o ∷ [])
+  came_told {old} {now} {then} {before} {number} {status} {unread} {first} {last} {reads} {reads_after} {taken} {mid} {new} {held} {after} {done} {outcomes} line o c comes clean p = record {
+    told = come_more 1 done outcomes old now then line o c.counts c.over c.told (subst (λ k. LineComesTo replies now k line o then) c.next comes);
     counts = let n = length-append outcomes (o ∷ []) in let m = length-append done (line ∷ []) in omega (arith, c.counts, n, m);
     next = let n = length-append outcomes (o ∷ []) in omega (arith, c.next, n);
     over = list_any-append ends outcomes (o ∷ []) ∙ ap (λ b. b || (ends o || false)) c.over ∙ or-false (ends o);
     answers = ap (λ s. status_after s o) c.answers ∙ sym (fold-append status_after 0 outcomes (o ∷ []));
     clean = clean_more done line c.clean clean;
     moved = c.moved ++ p.moved;
-    appends = Appends-trans taken mid new c.moved p.moved c.appends p.appends;
+    appends = Appends-trans taken.bytes mid.bytes new.bytes c.moved p.moved c.appends p.appends;
+    later = c.later;
+    few = let n = length-append c.moved p.moved in omega (arith, c.few, p.full, n);
     writes = ap (λ t. before ++ t) (said_more c.next) ∙ joined_moves before (text_from 1 outcomes) (text_at number o) c.moved held p.moved after c.writes p.whole;
     order = by c.order;
   }
@@ -307,19 +319,20 @@ module _ {S : Type 0} (replies : Replies S) (forgotten : S → S) where
 
   -- ** the ends of a run
 
-  abbrev pub Told : S → List ℕ → List (List ℕ) → ℕ → Bool → Type 0 → Option (List ℕ) → Option (List ℕ) → Option (List ℕ) → Option (List ℕ) → S → Type 0
-  Told old before lines status torn unread first last taken new now = (text : List ℕ) × Story replies forgotten old before lines status torn unread first last text now × Appends taken new text
+  abbrev pub Told : S → List ℕ → List (List ℕ) → ℕ → Bool → Type 0 → Option (List ℕ) → Option (List ℕ) → ℕ → ℕ → Sent → Sent → S → Type 0
+  Told old before lines status torn unread first last reads reads_after taken new now =
+      (text : List ℕ) × EventFileRun replies forgotten old before lines status torn unread first last text now × Sends reads reads_after taken new text
 
   -- the writer failed while an outcome was said
-  pub told_torn : {old now then : S} {before : List ℕ} {number status : ℕ} {unread : Type 0} {first last taken mid new : Option (List ℕ)} {held : List ℕ} {done : List (List ℕ)} {outcomes : List Outcome}
-      (lines left : List (List ℕ)) (line : List ℕ) (o : Outcome) (torn : Bool) → torn ≡ true → Came replies forgotten old before now number status false unread first last taken mid held done outcomes
-      → Tells replies now number line o then → Tears mid held new (text_at number o) → lines ≡ (done ++ line ∷ []) ++ left → Told old before lines 4 torn unread first last taken new (forgotten then)
-  told_torn {old} {now} {then} {before} {number} {status} {unread} {first} {last} {taken} {mid} {new} {held} {done} {outcomes} lines left line o torn failed c tells p is = (
+  pub told_torn : {old now then : S} {before : List ℕ} {number status : ℕ} {unread : Type 0} {first last : Option (List ℕ)} {reads reads_after : ℕ} {taken mid new : Sent} {held : List ℕ} {done : List (List ℕ)} {outcomes : List Outcome}
+      (lines left : List (List ℕ)) (line : List ℕ) (o : Outcome) (torn : Bool) → torn ≡ true → Came replies forgotten old before now number status false unread first last reads reads_after taken mid 0 held done outcomes
+      → LineComesTo replies now number line o then → Tears mid held new (text_at number o) → lines ≡ (done ++ line ∷ []) ++ left → Told old before lines 4 torn unread first last reads reads_after taken new (forgotten then)
+  told_torn {old} {now} {then} {before} {number} {status} {unread} {first} {last} {reads} {reads_after} {taken} {mid} {new} {held} {done} {outcomes} lines left line o torn failed c comes p is = (
     c.moved ++ p.moved,
     record {
       outcomes = outcomes ++ o ∷ [];
-      told = subst (λ ls. Tale replies forgotten old 1 ls (outcomes ++ o ∷ []) (forgotten then)) (sym is)
-          (tale_longer 1 (done ++ line ∷ []) left (outcomes ++ o ∷ []) old (forgotten then) (tale_more 1 done outcomes old now then line o c.counts c.over c.told (subst (λ k. Tells replies now k line o then) c.next tells)));
+      told = subst (λ ls. LinesComeTo replies forgotten old 1 ls (outcomes ++ o ∷ []) (forgotten then)) (sym is)
+          (come_longer 1 (done ++ line ∷ []) left (outcomes ++ o ∷ []) old (forgotten then) (come_more 1 done outcomes old now then line o c.counts c.over c.told (subst (λ k. LineComesTo replies now k line o then) c.next comes)));
       broke = λ _. record {
         more = p.lost;
         whole = ap (λ t. before ++ t) (text_more 1 outcomes o ∙ ap (λ k. text_from 1 outcomes ++ text_at k o) (sym c.next))
@@ -331,7 +344,10 @@ module _ {S : Type 0} (replies : Replies S) (forgotten : S → S) where
       order = by c.order;
       heard = λ _ fine. cc (failed, fine);
     },
-    Appends-trans taken mid new c.moved p.moved c.appends p.appends,
+    record {
+      appends = Appends-trans taken.bytes mid.bytes new.bytes c.moved p.moved c.appends p.appends;
+      few = let n = length-append c.moved p.moved in few_writes reads reads_after taken.writes new.writes (length (c.moved ++ p.moved)) c.later (omega (arith, c.few, p.full, n));
+    },
   )
     where
       by : unread ⊎ InStep before outcomes first last c.moved → unread ⊎ InStep before (outcomes ++ o ∷ []) first last (c.moved ++ p.moved)
@@ -339,14 +355,14 @@ module _ {S : Type 0} (replies : Replies S) (forgotten : S → S) where
       by (inr step) = inr (step_more before outcomes o first last c.moved p.moved step)
 
   -- a device failed before the next line was found
-  pub told_cut : {old now : S} {before : List ℕ} {number status : ℕ} {unread : Type 0} {first last taken new : Option (List ℕ)} {held : List ℕ} {done : List (List ℕ)} {outcomes : List Outcome}
-      (lines left : List (List ℕ)) (torn : Bool) → Came replies forgotten old before now number status false unread first last taken new held done outcomes → (torn ≡ false → held ≡ [])
-      → (torn ≡ false → WhereKnown first last (λ xs zs. AllTold outcomes xs zs)) → lines ≡ done ++ left → Told old before lines 4 torn unread first last taken new now
-  told_cut {old} {now} {before} {done = done} {outcomes = outcomes} lines left torn c none heard is = (
+  pub told_cut : {old now : S} {before : List ℕ} {number status : ℕ} {unread : Type 0} {first last : Option (List ℕ)} {reads reads_after : ℕ} {taken new : Sent} {held : List ℕ} {done : List (List ℕ)} {outcomes : List Outcome}
+      (lines left : List (List ℕ)) (torn : Bool) → Came replies forgotten old before now number status false unread first last reads reads_after taken new 1 held done outcomes → (torn ≡ false → held ≡ [])
+      → (torn ≡ false → WhereKnown first last (λ xs zs. AllTold outcomes xs zs)) → lines ≡ done ++ left → Told old before lines 4 torn unread first last reads reads_after taken new now
+  told_cut {old} {now} {before} {reads = reads} {reads_after = reads_after} {taken = taken} {new = new} {done = done} {outcomes = outcomes} lines left torn c none heard is = (
     c.moved,
     record {
       outcomes = outcomes;
-      told = subst (λ ls. Tale replies forgotten old 1 ls outcomes now) (sym is) (tale_longer 1 done left outcomes old now c.told);
+      told = subst (λ ls. LinesComeTo replies forgotten old 1 ls outcomes now) (sym is) (come_longer 1 done left outcomes old now c.told);
       broke = λ _. record { more = _; whole = c.writes };
       whole = λ fine. sym (c.writes ∙ ap (λ t. c.moved ++ t) (none fine) ∙ append-nil c.moved);
       over = λ ne. absurd (ne refl);
@@ -354,19 +370,19 @@ module _ {S : Type 0} (replies : Replies S) (forgotten : S → S) where
       order = c.order;
       heard = λ _ fine. heard fine;
     },
-    c.appends,
+    record { appends = c.appends; few = few_writes reads reads_after taken.writes new.writes (length c.moved) c.later c.few },
   )
 
   -- the run came to its end, and what is held is written
-  pub told_whole : {old now : S} {before : List ℕ} {number status : ℕ} {ended : Bool} {unread : Type 0} {first last taken mid new : Option (List ℕ)} {held : List ℕ} {done : List (List ℕ)} {outcomes : List Outcome}
-      (lines left : List (List ℕ)) (answer : ℕ) (torn : Bool) → Came replies forgotten old before now number status ended unread first last taken mid held done outcomes → status ≢ 4
-      → Finishes status answer torn mid held new → lines ≡ done ++ left → IsOver lines outcomes → Told old before lines answer torn unread first last taken new now
-  told_whole {old} {now} {before} {number} {status} {ended} {unread} {first} {last} {taken} {mid} {new} {held} {done} {outcomes} lines left answer false c fine f is over =
+  pub told_whole : {old now : S} {before : List ℕ} {number status : ℕ} {ended : Bool} {unread : Type 0} {first last : Option (List ℕ)} {reads reads_after : ℕ} {taken mid new : Sent} {held : List ℕ} {done : List (List ℕ)} {outcomes : List Outcome}
+      (lines left : List (List ℕ)) (answer : ℕ) (torn : Bool) → Came replies forgotten old before now number status ended unread first last reads reads_after taken mid 0 held done outcomes → status ≢ 4
+      → Finishes status answer torn mid held new → lines ≡ done ++ left → IsOver lines outcomes → Told old before lines answer torn unread first last reads reads_after taken new now
+  told_whole {old} {now} {before} {number} {status} {ended} {unread} {first} {last} {reads} {reads_after} {taken} {mid} {new} {held} {done} {outcomes} lines left answer false c fine f is over =
       let whole = f.whole refl in (
         c.moved ++ held,
         record {
           outcomes = outcomes;
-          told = subst (λ ls. Tale replies forgotten old 1 ls outcomes now) (sym is) (tale_longer 1 done left outcomes old now c.told);
+          told = subst (λ ls. LinesComeTo replies forgotten old 1 ls outcomes now) (sym is) (come_longer 1 done left outcomes old now c.told);
           broke = λ torn. cc torn;
           whole = λ _. sym c.writes;
           over = λ _. over;
@@ -374,18 +390,21 @@ module _ {S : Type 0} (replies : Replies S) (forgotten : S → S) where
           order = by c.order;
           heard = λ four _. absurd (fine (sym whole.0 ∙ four));
         },
-        Appends-trans taken mid new c.moved held c.appends whole.1,
+        record {
+          appends = Appends-trans taken.bytes mid.bytes new.bytes c.moved held c.appends whole.1;
+          few = let n = length-append c.moved held in few_writes reads reads_after taken.writes new.writes (length (c.moved ++ held)) c.later (omega (arith, c.few, f.once, n));
+        },
       )
     where
       by : unread ⊎ InStep before outcomes first last c.moved → unread ⊎ InStep before outcomes first last (c.moved ++ held)
       by (inl un) = inl un
       by (inr step) = inr (step_on before outcomes first last last c.moved held refl step)
-  told_whole {old} {now} {before} {number} {status} {ended} {unread} {first} {last} {taken} {mid} {new} {held} {done} {outcomes} lines left answer true c fine f is over =
+  told_whole {old} {now} {before} {number} {status} {ended} {unread} {first} {last} {reads} {reads_after} {taken} {mid} {new} {held} {done} {outcomes} lines left answer true c fine f is over =
       let part = f.part refl in (
         c.moved ++ part.1.part,
         record {
           outcomes = outcomes;
-          told = subst (λ ls. Tale replies forgotten old 1 ls outcomes now) (sym is) (tale_longer 1 done left outcomes old now c.told);
+          told = subst (λ ls. LinesComeTo replies forgotten old 1 ls outcomes now) (sym is) (come_longer 1 done left outcomes old now c.told);
           broke = λ _. record { more = part.1.more; whole = c.writes ∙ ap (λ t. c.moved ++ t) part.1.split ∙ sym (append_assoc c.moved part.1.part part.1.more) };
           whole = λ whole. cc whole;
           over = λ ne. absurd (ne part.0);
@@ -393,7 +412,10 @@ module _ {S : Type 0} (replies : Replies S) (forgotten : S → S) where
           order = by c.order;
           heard = λ _ whole. cc whole;
         },
-        Appends-trans taken mid new c.moved part.1.part c.appends part.1.appends,
+        record {
+          appends = Appends-trans taken.bytes mid.bytes new.bytes c.moved part.1.part c.appends part.1.appends;
+          few = let n = length-append c.moved part.1.part in few_writes reads reads_after taken.writes new.writes (length (c.moved ++ part.1.part)) c.later (omega (arith, c.few, f.once, n));
+        },
       )
     where
       by : unread ⊎ InStep before outcomes first last c.moved → unread ⊎ InStep before outcomes first last (c.moved ++ (f.part refl).1.part)

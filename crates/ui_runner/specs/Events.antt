@@ -7,7 +7,7 @@ use Rattle.ui_machine.specs.Runs.{Tally, Serves, HaltsIn}
 use Rattle.builder_defs.specs.EventMeaning.{EventRefusal, event_denoted}
 use Rattle.ui_engine.specs.SessionView.{SessionState}
 use Rattle.ui_runner.specs.Texts.{line_refusal}
-use Rattle.ui_runner.specs.Story.{Replies, said, refused, cut_off, stopped}
+use Rattle.ui_runner.specs.EventFileRun.{Replies, said, refused, cut_off, stopped}
 
 -- the line is an event, which the machine serves, and these lines are said
 pub record Says (old : SessionState) (line : List ℕ) (lines : List (List ℕ)) (new : SessionState) : Type 0 where

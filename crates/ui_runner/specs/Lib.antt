@@ -1,9 +1,9 @@
 pub mod Lines
 pub mod Texts
-pub mod Story
+pub mod EventFileRun
 pub mod Writing
 pub mod Reading
-pub mod Telling
+pub mod LineOutcome
 pub mod Events
 pub mod RunOver
 pub mod Opening

@@ -1,4 +1,4 @@
--- How a run opens, before it tells the event lines, and the whole run.
+-- How a run opens, before it comes to the event lines, and the whole run.
 use Rattle.std.specs.Prelude.{◌≡◌, ◌⊎◌, ℕ, Bool, true, false, List, [], ◌++◌, Option, Ok, Err}
 use Rattle.ui_machine.specs.declared.arm.Halt.{Halt}
 use Rattle.ui_machine.specs.Prefix.{IsPrefix}
@@ -7,7 +7,7 @@ use Rattle.builder_defs.specs.Refusals.{Refusal}
 use Rattle.builder_defs.specs.Denoted.{denoted}
 use Rattle.ui_engine.specs.SessionView.{SessionState, without_lines}
 use Rattle.ui_runner.specs.Texts.{lines_text, definition_refused, nothing_begun, build_stopped}
-use Rattle.ui_runner.specs.Story.{Story}
+use Rattle.ui_runner.specs.EventFileRun.{EventFileRun}
 use Rattle.ui_runner.specs.Events.{event_replies}
 use Rattle.ui_runner.specs.RunOver.{RunsOver}
 
@@ -50,9 +50,9 @@ Concludes whole answer status torn text =
 -- the lines of the build were said, and then the event lines told
 pub record Plays (s : SessionState) (lines : List (List ℕ)) (status : ℕ) (torn : Bool) (unread : Type 0) (first last : Option (List ℕ)) (text : List ℕ) : Type 0 where
   pub new : SessionState
-  pub story : Story event_replies without_lines (without_lines s) (lines_text s.world.transcript) lines status torn unread first last text new
+  pub file_run : EventFileRun event_replies without_lines (without_lines s) (lines_text s.world.transcript) lines status torn unread first last text new
   -- what was carried out is a run of the machine
-  pub run : IsBuilt s → RunsOver s lines story.outcomes new
+  pub run : IsBuilt s → RunsOver s lines file_run.outcomes new
 
 -- What a run comes to after its opening: 1 where the definition is refused, 3 for want of memory and where the build stopped. Nothing is
 -- read unless the build stands.

@@ -8,20 +8,20 @@ use Rattle.ui_machine.specs.Runs.{Tally, IsRun, HaltsIn}
 use Rattle.machine_laws.specs.FrontLaws.{fronted}
 use Rattle.builder_defs.specs.EventMeaning.{EventRefusal, event_denoted}
 use Rattle.ui_engine.specs.SessionView.{SessionState}
-use Rattle.ui_runner.specs.Story as story
-use Rattle.ui_runner.specs.Story.{Outcome, said, refused, cut_off, stopped, Fate, too_many, too_long, skipped, fate}
+use Rattle.ui_runner.specs.EventFileRun as file_run
+use Rattle.ui_runner.specs.EventFileRun.{Outcome, said, refused, cut_off, stopped, LineSort, too_many, too_long, skipped, sort_of_line}
 
 -- the event of a line that is the session's to serve
-abbrev pub event_of_line : Fate → Result Event EventRefusal → List Event
+abbrev pub event_of_line : LineSort → Result Event EventRefusal → List Event
 event_of_line too_many denoted = []
 event_of_line too_long denoted = []
 event_of_line skipped denoted = []
-event_of_line story.event (Ok event) = event ∷ []
-event_of_line story.event (Err refusal) = []
+event_of_line file_run.event (Ok event) = event ∷ []
+event_of_line file_run.event (Err refusal) = []
 
 -- the event that a line came to, where it was served to its end
 abbrev pub event_served : Definition → ℕ → List ℕ → Outcome → List Event
-event_served d n line (said lines) = event_of_line (fate n line) (event_denoted d line)
+event_served d n line (said lines) = event_of_line (sort_of_line n line) (event_denoted d line)
 event_served d n line (refused r) = []
 event_served d n line (cut_off r) = []
 event_served d n line (stopped halt lines) = []

@@ -5,9 +5,10 @@ ghost use Rattle.std.specs.Io.KnownBytes.{Keeps, Consumes, IsAtEnd, prepend_know
 ghost use Rattle.ui_runner.specs.Writing.{Waits, IsFine};
 ghost use Rattle.ui_runner.specs.declared.chunk.TheConstants.{CHUNK_SIZE};
 
-use crate::output::Output;
+use crate::devices::{Reader, Writer};
+use crate::gather::Gather;
 use std::marker::Model;
-use ui_machine::{DeviceFault, Feed, Sink};
+use ui_machine::DeviceFault;
 
 /// The most bytes that are read ahead.
 pub const CHUNK_SIZE: usize = 4096;
@@ -42,48 +43,50 @@ impl Chunk {
 
     /// Takes the next byte, and reads where there is none; None at the end. Before a read all that was said is written. Neither a read
     /// nor a write is tried again.
-    pub fn next<R: Feed, W: Sink + Drop>(
+    pub fn next<R: Reader, W: Writer>(
         &mut self,
         reader: &mut R,
-        output: &mut Output<W>,
+        gather: &mut Gather,
+        writer: &mut W,
     ) -> Result<Option<u8>, DeviceFault>
         requires reader { R.failed reader.old ≡ false }
-        requires writer { W.failed output.old.writer ≡ false }
+        requires writer { W.failed writer.old ≡ false }
         ensures byte { IfOk result (λ next. MatchOption next
             (Keeps (prepend_known self.old (R.left reader.old)) (prepend_known self.new (R.left reader.new))
             × IsAtEnd (prepend_known self.new (R.left reader.new)))
             (λ b. Consumes (prepend_known self.old (R.left reader.old)) (prepend_known self.new (R.left reader.new)) (b ∷ []))) }
         ensures kept { OnErr result (Keeps (prepend_known self.old (R.left reader.old)) (R.left reader.new) × (self.new ≡ [])) }
         ensures small { length self.new ≤ CHUNK_SIZE }
-        ensures waits { Waits (reader.new ≡ reader.old) (W.failed output.new.writer)
-            (W.taken output.old.writer) output.old.gather (W.taken output.new.writer) output.new.gather }
-        ensures marks { IsFine result (R.failed reader.new) (W.failed output.new.writer) }
+        ensures waits { Waits (reader.new ≡ reader.old) (R.reads reader.old) (R.reads reader.new) (W.failed writer.new)
+            (W.sent writer.old) gather.old (W.sent writer.new) gather.new }
+        ensures marks { IsFine result (R.failed reader.new) (W.failed writer.new) }
     {
-        self.fill(reader, output)?;
+        self.fill(reader, gather, writer)?;
         let next = self.pop();
         Ok(next)
     }
 
     // Reads where there is no byte.
-    fn fill<R: Feed, W: Sink + Drop>(
+    fn fill<R: Reader, W: Writer>(
         &mut self,
         reader: &mut R,
-        output: &mut Output<W>,
+        gather: &mut Gather,
+        writer: &mut W,
     ) -> Result<(), DeviceFault>
         requires reader { R.failed reader.old ≡ false }
-        requires writer { W.failed output.old.writer ≡ false }
+        requires writer { W.failed writer.old ≡ false }
         ensures keeps { OnOk result (Keeps (prepend_known self.old (R.left reader.old)) (prepend_known self.new (R.left reader.new))) }
         ensures kept { OnErr result (Keeps (prepend_known self.old (R.left reader.old)) (R.left reader.new) × (self.new ≡ [])) }
         ensures small { length self.new ≤ CHUNK_SIZE }
         ensures end { OnOk result (self.new ≡ [] → IsAtEnd (R.left reader.new)) }
-        ensures waits { Waits (reader.new ≡ reader.old) (W.failed output.new.writer)
-            (W.taken output.old.writer) output.old.gather (W.taken output.new.writer) output.new.gather }
-        ensures marks { IsFine result (R.failed reader.new) (W.failed output.new.writer) }
+        ensures waits { Waits (reader.new ≡ reader.old) (R.reads reader.old) (R.reads reader.new) (W.failed writer.new)
+            (W.sent writer.old) gather.old (W.sent writer.new) gather.new }
+        ensures marks { IsFine result (R.failed reader.new) (W.failed writer.new) }
     {
         if self.at < self.end {
             return Ok(());
         }
-        output.flush()?;
+        gather.flush(writer)?;
         let count = reader.read(&mut self.bytes)?;
         self.at = 0;
         self.end = count;

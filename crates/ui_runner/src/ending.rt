@@ -4,9 +4,10 @@ ghost use Rattle.std.specs.Prelude.{◌≡◌, [], true, false, MatchResult};
 ghost use Rattle.ui_runner.specs.Endings.{ending_line, ending_status};
 ghost use Rattle.ui_runner.specs.Writing.{Writes, Puts, IsTold};
 
-use crate::output::Output;
+use crate::devices::Writer;
+use crate::gather::Gather;
 use crate::writing::put_parts;
-use ui_machine::{DeviceFault, Sink};
+use ui_machine::DeviceFault;
 
 /// Why nothing is run.
 #[derive(Clone, Copy, Debug, PartialEq, Eq)]
@@ -22,44 +23,50 @@ pub enum Ending {
 impl Ending {
     /// Writes the line, with the name of the file that can't be read, and answers the status: 2 for the words of the command line and
     /// 4 for a file, whether or not the line was lost; 3 for want of memory, and 4 where its line was lost.
-    pub fn tell<W: Sink + Drop>(self, output: &mut Output<W>, name: &str) -> u8
-        requires works { W.failed output.old.writer ≡ false }
-        requires empty { output.old.gather ≡ [] }
-        ensures text { IsTold (W.failed output.new.writer) (W.taken output.old.writer) (W.taken output.new.writer) (ending_line self name.now) }
-        ensures status { result ≡ ending_status self (W.failed output.new.writer) }
+    pub fn tell<W: Writer>(self, writer: &mut W, name: &str) -> u8
+        requires works { W.failed writer.old ≡ false }
+        ensures text { IsTold (W.failed writer.new) (W.sent writer.old).bytes (W.sent writer.new).bytes (ending_line self name.now) }
+        ensures status { result ≡ ending_status self (W.failed writer.new) }
     {
-        let Ok(()) = self.write(output, name) else {
+        let Ok(()) = self.write(writer, name) else {
             return self.status(true);
         };
         self.status(false)
     }
 
-    fn write<W: Sink + Drop>(self, output: &mut Output<W>, name: &str) -> Result<(), DeviceFault>
-        requires works { W.failed output.old.writer ≡ false }
-        requires empty { output.old.gather ≡ [] }
-        ensures writes { Writes result (W.taken output.old.writer) (W.taken output.new.writer) (ending_line self name.now) }
-        ensures marks { MatchResult result (λ _. W.failed output.new.writer ≡ false) (λ _. W.failed output.new.writer ≡ true) }
+    fn write<W: Writer>(self, writer: &mut W, name: &str) -> Result<(), DeviceFault>
+        requires works { W.failed writer.old ≡ false }
+        ensures writes { Writes result (W.sent writer.old).bytes (W.sent writer.new).bytes (ending_line self name.now) }
+        ensures marks { MatchResult result (λ _. W.failed writer.new ≡ false) (λ _. W.failed writer.new ≡ true) }
     {
-        let Ok(()) = self.put(output, name) else {
+        let mut gather = Gather::new();
+        let Ok(()) = self.put(&mut gather, writer, name) else {
             return Err(DeviceFault);
         };
-        output.flush()
+        gather.flush(writer)
     }
 
-    fn put<W: Sink + Drop>(self, output: &mut Output<W>, name: &str) -> Result<(), DeviceFault>
-        requires works { W.failed output.old.writer ≡ false }
-        ensures puts { Puts result (W.taken output.old.writer) output.old.gather (W.taken output.new.writer) output.new.gather (ending_line self name.now) }
-        ensures marks { MatchResult result (λ _. W.failed output.new.writer ≡ false) (λ _. W.failed output.new.writer ≡ true) }
+    fn put<W: Writer>(
+        self,
+        gather: &mut Gather,
+        writer: &mut W,
+        name: &str,
+    ) -> Result<(), DeviceFault>
+        requires works { W.failed writer.old ≡ false }
+        ensures puts { Puts result (W.sent writer.old) gather.old (W.sent writer.new) gather.new (ending_line self name.now) }
+        ensures marks { MatchResult result (λ _. W.failed writer.new ≡ false) (λ _. W.failed writer.new ≡ true) }
     {
         let name = name.as_bytes();
         match self {
             Ending::Usage => return put_parts(
-                output,
+                gather,
+                writer,
                 &[b"usage: ui verify DEF | ui run DEF EVENTS", name, b"\n"],
             ),
-            Ending::Unreadable => return put_parts(output, &[b"cannot read ", name, b"\n"]),
+            Ending::Unreadable => return put_parts(gather, writer, &[b"cannot read ", name, b"\n"]),
             Ending::OutOfMemory => return put_parts(
-                output,
+                gather,
+                writer,
                 &[b"refused: OutOfMemory", name, b"\n"],
             ),
         }

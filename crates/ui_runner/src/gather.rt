@@ -1,6 +1,6 @@
 //! Bytes that were said and not yet written.
 
-ghost use Rattle.std.specs.Prelude.{◌≡◌, ◌≤◌, ◌<◌, ◌++◌, [], ℕ, List, take, length, true, false};
+ghost use Rattle.std.specs.Prelude.{◌≡◌, ◌≤◌, ◌<◌, ◌-◌, min, ◌++◌, [], ℕ, List, take, length, true, false};
 ghost use Rattle.ui_runner.specs.declared.gather.TheConstants.{GATHER_SIZE};
 
 use std::marker::Model;
@@ -58,9 +58,8 @@ impl Gather {
 
     /// Takes as many of the bytes as there is room for, and answers how many.
     pub fn push_front_of(&mut self, bytes: &[u8]) -> usize
-        ensures bound { result ≤ length bytes.now }
+        ensures count { result ≡ min (length bytes.now) (GATHER_SIZE - length self.old) }
         ensures grows { self.new ≡ self.old ++ take result bytes.now }
-        ensures some { length self.old < GATHER_SIZE → 0 < length bytes.now → 0 < result }
     {
         let count = bytes.len().min(GATHER_SIZE - self.len);
         let end = self.len + count;

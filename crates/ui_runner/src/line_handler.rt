@@ -1,8 +1,8 @@
 //! What handles the lines of a run: a session, which carries out the events that they denote.
 
 ghost use Rattle.std.specs.Prelude.{◌≡◌, ◌≤◌, ℕ, List, map, length, drop, string_bytes};
-ghost use Rattle.ui_runner.specs.Story.{Replies};
-ghost use Rattle.ui_runner.specs.Telling.{outcome_of};
+ghost use Rattle.ui_runner.specs.EventFileRun.{Replies};
+ghost use Rattle.ui_runner.specs.LineOutcome.{outcome_of};
 
 use crate::refusal::LineRefusal;
 use builder_defs::{EventError, read_event};
@@ -21,7 +21,7 @@ pub enum LineFault {
 
 impl From<EventError> for LineFault {
     ghost use Rattle.std.specs.Prelude.{◌≡◌};
-    ghost use Rattle.ui_runner.specs.Telling.{reading_fault};
+    ghost use Rattle.ui_runner.specs.LineOutcome.{reading_fault};
 
     ghost from_gives = { λ error fault. fault ≡ reading_fault error };
 
@@ -35,7 +35,7 @@ impl From<EventError> for LineFault {
 
 impl From<SessionFault> for LineFault {
     ghost use Rattle.std.specs.Prelude.{◌≡◌};
-    ghost use Rattle.ui_runner.specs.Telling.{dispatch_fault};
+    ghost use Rattle.ui_runner.specs.LineOutcome.{dispatch_fault};
 
     ghost from_gives = { λ error fault. fault ≡ dispatch_fault error };
 

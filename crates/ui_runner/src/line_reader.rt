@@ -7,8 +7,9 @@ ghost use Rattle.ui_runner.specs.Writing.{Waits, IsFine};
 
 use crate::LINE_LIMIT;
 use crate::chunk::{CHUNK_SIZE, Chunk};
-use crate::output::Output;
-use ui_machine::{DeviceFault, Feed, Sink};
+use crate::devices::{Reader, Writer};
+use crate::gather::Gather;
+use ui_machine::DeviceFault;
 
 /// A line that was found.
 #[derive(Clone, Copy, Debug, PartialEq, Eq)]
@@ -31,24 +32,25 @@ pub struct LineReader {
 impl LineReader {
     /// Reads the next line into the buffer; None at the end. It reads no further than a chunk past the line, and where a line is too
     /// long no further than a chunk past the limit. Before each read all that was said is written.
-    pub fn next_line<R: Feed, W: Sink + Drop>(
+    pub fn next_line<R: Reader, W: Writer>(
         &mut self,
         reader: &mut R,
-        output: &mut Output<W>,
+        gather: &mut Gather,
+        writer: &mut W,
     ) -> Result<Option<Found>, DeviceFault>
         requires reader { R.failed reader.old ≡ false }
-        requires writer { W.failed output.old.writer ≡ false }
+        requires writer { W.failed writer.old ≡ false }
         ensures reads { IfOk result (λ found.
             Reads found self.new.line.items (prepend_known self.old.chunk (R.left reader.old)) (prepend_known self.new.chunk (R.left reader.new))) }
         ensures begun { OnErr result (WhereKnown (prepend_known self.old.chunk (R.left reader.old)) (R.left reader.new) (λ xs ys. IsBegun xs ys)) }
         ensures small { length self.new.chunk ≤ CHUNK_SIZE }
-        ensures waits { Waits (reader.new ≡ reader.old) (W.failed output.new.writer)
-            (W.taken output.old.writer) output.old.gather (W.taken output.new.writer) output.new.gather }
-        ensures marks { IsFine result (R.failed reader.new) (W.failed output.new.writer) }
+        ensures waits { Waits (reader.new ≡ reader.old) (R.reads reader.old) (R.reads reader.new) (W.failed writer.new)
+            (W.sent writer.old) gather.old (W.sent writer.new) gather.new }
+        ensures marks { IsFine result (R.failed reader.new) (W.failed writer.new) }
     {
         self.line.clear();
         loop {
-            let Some(byte) = self.chunk.next(reader, output)? else {
+            let Some(byte) = self.chunk.next(reader, gather, writer)? else {
                 if self.line.is_empty() {
                     return Ok(None);
                 }

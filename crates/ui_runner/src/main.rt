@@ -1,34 +1,34 @@
 //! The program: `ui run DEF EVENTS`.
 #![tactic(auto)]
 
-ghost use Rattle.std.specs.Prelude.{◌≡◌, [], false};
+ghost use Rattle.std.specs.Prelude.{◌≡◌, false};
 
 mod chunk;
 mod command_line;
 mod definition_file;
+mod devices;
 mod ending;
 mod event_file;
 #[cfg(test)]
 mod fakes;
 mod gather;
 mod line_handler;
+mod line_outcome;
 mod line_reader;
 mod opening;
 mod output;
 mod refusal;
 mod run;
-mod telling;
 #[cfg(test)]
 mod tests;
 mod writing;
 
 use command_line::{Request, WordsFault, given_words, read_words};
 use definition_file::{FileFault, definition_bytes};
+use devices::Counted;
 use ending::Ending;
-use output::Output;
 use run::run;
 use std::fs::File;
-use std::io::Write;
 use std::process::ExitCode;
 use ui_machine::Device;
 
@@ -42,12 +42,12 @@ fn main(rt: HostRuntime) -> ExitCode {
     ExitCode::from(status(&rt))
 }
 
-// Nothing was said yet to a writer of std.
-fn to<T: Write + Drop>(writer: T) -> Output<Device<T>>
-    ensures works { result.writer.failed ≡ false }
-    ensures empty { result.gather ≡ [] }
+// A reader or a writer of std, of which nothing was asked.
+fn device<T: Drop>(inner: T) -> Counted<Device<T>>
+    ensures works { result.device.failed ≡ false }
+    ensures uncalled { result.calls ≡ 0 }
 {
-    Output::new(Device::new(writer))
+    Counted::new(Device::new(inner))
 }
 
 // Reads the words and does what they ask for.
@@ -64,7 +64,7 @@ fn status(rt: &HostRuntime) -> u8 {
 
 fn refuse_words(rt: &HostRuntime, fault: WordsFault) -> u8 {
     match fault {
-        WordsFault::Usage => Ending::Usage.tell(&mut to(rt.stderr()), ""),
+        WordsFault::Usage => Ending::Usage.tell(&mut device(rt.stderr()), ""),
         WordsFault::OutOfMemory => out_of_memory(rt),
     }
 }
@@ -79,9 +79,9 @@ fn perform(rt: &HostRuntime, request: Request<'_>) -> u8 {
     let Ok(events) = File::open(rt, request.events) else {
         return unreadable(rt, request.events);
     };
-    let mut reader = Device::new(events);
-    let mut output = to(rt.stdout());
-    run(rt.alloc(), bytes.as_slice(), &mut reader, &mut output)
+    let mut reader = device(events);
+    let mut writer = device(rt.stdout());
+    run(rt.alloc(), bytes.as_slice(), &mut reader, &mut writer)
 }
 
 fn definition_at(rt: &HostRuntime, name: &str) -> Result<Vec<u8>, FileFault> {
@@ -93,9 +93,9 @@ fn definition_at(rt: &HostRuntime, name: &str) -> Result<Vec<u8>, FileFault> {
 }
 
 fn unreadable(rt: &HostRuntime, name: &str) -> u8 {
-    Ending::Unreadable.tell(&mut to(rt.stderr()), name)
+    Ending::Unreadable.tell(&mut device(rt.stderr()), name)
 }
 
 fn out_of_memory(rt: &HostRuntime) -> u8 {
-    Ending::OutOfMemory.tell(&mut to(rt.stdout()), "")
+    Ending::OutOfMemory.tell(&mut device(rt.stdout()), "")
 }

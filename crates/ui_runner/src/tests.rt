@@ -1,8 +1,8 @@
 //! Whole runs, over devices that move few bytes a call and fail. They stand here and not above, since no crate can use a program's.
 
 use crate::definition_file::{FileFault, definition_bytes};
+use crate::devices::Counted;
 use crate::fakes::{Pace, Source, Target};
-use crate::output::Output;
 use crate::run::run;
 use std::alloc::{AllocError, Global};
 use std::process::Abort;
@@ -43,6 +43,8 @@ struct Ran {
     reads: u64,
     writes: u64,
     failed: bool,
+    // Whether all reads were counted.
+    counted: bool,
 }
 
 fn run_over(
@@ -52,143 +54,42 @@ fn run_over(
     reading: Pace,
     writing: Pace,
 ) -> Result<Ran, AllocError> {
-    let mut reader = Device::new(Source {
+    let mut reader = Counted::new(Device::new(Source {
         bytes: Vec::from_slice(alloc, events)?,
         at: 0,
         pace: reading,
         calls: 0,
-    });
-    let mut output = Output::new(Device::new(Target {
+    }));
+    let mut writer = Counted::new(Device::new(Target {
         bytes: Vec::with_capacity(alloc, 4096)?,
         pace: writing,
         calls: 0,
     }));
-    let status = run(alloc, definition, &mut reader, &mut output);
-    let failed = Feed::has_failed(&reader) || Sink::has_failed(&output.writer);
+    let status = run(alloc, definition, &mut reader, &mut writer);
+    let failed = Feed::has_failed(&reader.device) || Sink::has_failed(&writer.device);
     Ok(Ran {
         status,
-        reads: reader.inner.calls,
-        writes: output.writer.inner.calls,
-        text: output.writer.inner.bytes,
+        reads: reader.device.inner.calls,
+        writes: writer.device.inner.calls,
+        text: writer.device.inner.bytes,
         failed,
+        counted: reader.calls == reader.device.inner.calls,
     })
 }
 
-// Tests a run at a byte a call, and at many.
-fn check(
-    rt: &impl Abort,
-    alloc: Global,
-    definition: &str,
-    events: &str,
-    status: u8,
-    text: &str,
-) -> Result<(), Fail> {
-    for pace in [slow(0), FAST] {
-        let got = run_over(alloc, definition.as_bytes(), events.as_bytes(), pace, pace)?;
-        assert_eq!(rt; str::from_utf8(got.text.as_slice())?, text);
-        assert_eq!(rt; (got.status, got.failed), (status, false), "{text}");
-    }
-    Ok(())
-}
-
-// A byte many times over.
-fn times(alloc: Global, byte: u8, count: usize) -> Result<Vec<u8>, Fail> {
-    let mut bytes = Vec::new(alloc);
-    for _ in 0..count {
-        bytes.push(byte)?;
-    }
-    Ok(bytes)
-}
-
-// A class with a text and a bool, and an object of it.
-const LABEL: &str =
-    r#"{"format":1,"classes":[{"name":"Label","properties":[{"name":"t","kind":"text"},{"name":"f","kind":"bool"}]}],"objects":[{"id":"l","class":"Label"}]}"#;
-
-const LABEL_EVENTS: &str = r#"{"set":["l","t","hi"]}
-{"set":["l","t",null]}
-{"set":["l","f",true]}
-{"get":["l","f"]}
-"#;
-
-const LABEL_RUN: &str = r#"build
-construct #1 Label
-end 0
-set #1.t "hi"
-notify #1.t
-end 1
-set #1.t null
-notify #1.t
-end 1
-set #1.f TRUE
-notify #1.f
-end 1
-get #1.f TRUE
-end 0
-"#;
-
-// Blank lines count. The last line has no end.
-const BAD_EVENTS: &str =
-    "\n \t\r\nx\n{\"get\":[\"c\",\"n\"]}\n\n{\"set\":[\"b\",\"n\",2.5]}\n[]\n{\"get\":[\"b\",\"n\"]}";
-
-const BAD_EVENTS_RUN: &str =
-    "build\nconstruct #1 Box\nend 0\nline 3 refused: NotJson\nline 4 refused: Unknown\nline 6 refused: ValueFault\nline 7 refused: Shape\nget #1.n 0\nend 0\n";
-
+// A byte a call, and many.
 #[test]
 fn runs(rt: HostRuntime) -> Result<(), Fail> {
-    for (definition, events, status, text) in [
-        (BOX, SET_AND_GET, 0, FIRST_RUN),
-        (r#"{"format":1}"#, "", 0, "build\nend 0\n"),
-        (LABEL, LABEL_EVENTS, 0, LABEL_RUN),
-        (BOX, BAD_EVENTS, 5, BAD_EVENTS_RUN),
-    ] {
-        check(&rt, rt.alloc(), definition, events, status, text)?;
-    }
-    Ok(())
-}
-
-// What is said is gathered: a write for each 4,096 bytes, and one before each read and at the end.
-#[test]
-fn gathers_what_it_writes(rt: HostRuntime) -> Result<(), Fail> {
-    let alloc = rt.alloc();
-    let mut events = Vec::new(alloc);
-    for _ in 0..1000 {
-        events.extend_from_slice(SET_AND_GET.as_bytes())?;
-    }
-    let got = run_over(alloc, BOX.as_bytes(), events.as_slice(), FAST, FAST)?;
-    assert_eq!(rt; (got.status, got.text.len(), got.reads), (0, 46_029, 11));
-    assert!(rt;
-        got.writes <= 46_029 / 4096 + 11 + 1,
-        "{} writes",
-        got.writes
-    );
-    Ok(())
-}
-
-// Of a definition that is refused nothing is read.
-#[test]
-fn refuses_each_beginning(rt: HostRuntime) -> Result<(), Fail> {
-    for end in 0..BOX.len() {
-        let beginning = BOX.as_bytes().get(..end).ok_or("no beginning")?;
-        let got = run_over(rt.alloc(), beginning, SET_AND_GET.as_bytes(), FAST, FAST)?;
-        assert_eq!(rt; str::from_utf8(got.text.as_slice())?, "refused: NotJson\n");
-        assert_eq!(rt; (got.status, got.reads), (1, 0), "{end} bytes");
-    }
-    Ok(())
-}
-
-// A byte a call: nothing is read past the byte by which a line is too long, or by which there is a line too many.
-#[test]
-fn reads_to_the_limits(rt: HostRuntime) -> Result<(), Fail> {
-    let alloc = rt.alloc();
-    for (byte, count, status, reads) in [
-        (b' ', 65_536, 0, 65_538),
-        (b' ', 65_537, 5, 65_537),
-        (b'\n', 65_536, 0, 65_537),
-        (b'\n', 65_537, 5, 65_537),
-    ] {
-        let events = times(alloc, byte, count)?;
-        let got = run_over(alloc, BOX.as_bytes(), events.as_slice(), slow(0), FAST)?;
-        assert_eq!(rt; (got.status, got.reads), (status, reads), "{byte} {count}");
+    for pace in [slow(0), FAST] {
+        let got = run_over(
+            rt.alloc(),
+            BOX.as_bytes(),
+            SET_AND_GET.as_bytes(),
+            pace,
+            pace,
+        )?;
+        assert_eq!(rt; str::from_utf8(got.text.as_slice())?, FIRST_RUN);
+        assert_eq!(rt; (got.status, got.failed, got.counted), (0, false, true));
     }
     Ok(())
 }
@@ -272,25 +173,19 @@ fn stands_want_of_memory(rt: HostRuntime) -> Result<(), Fail> {
     Ok(())
 }
 
-// What is read of so many blanks: how many bytes, or why none.
-fn read_blanks(alloc: Global, count: usize, pace: Pace) -> Result<Result<usize, FileFault>, Fail> {
-    let mut reader = Device::new(Source {
-        bytes: times(alloc, b' ', count)?,
-        at: 0,
-        pace,
-        calls: 0,
-    });
-    Ok(definition_bytes(alloc, &mut reader).map(|bytes| bytes.len()))
-}
-
+// A byte a call, and the call that fails.
 #[test]
 fn reads_definition_files(rt: HostRuntime) -> Result<(), Fail> {
-    for (count, pace, want) in [
-        (118, slow(0), Ok(118)),
-        (118, slow(9), Err(FileFault::Unreadable)),
-        (4_194_310, FAST, Ok(4_194_305)),
-    ] {
-        assert_eq!(rt; read_blanks(rt.alloc(), count, pace)?, want, "{count}");
+    let alloc = rt.alloc();
+    for (fails_at, want) in [(0, Ok(BOX.len())), (9, Err(FileFault::Unreadable))] {
+        let mut reader = Device::new(Source {
+            bytes: Vec::from_slice(alloc, BOX.as_bytes())?,
+            at: 0,
+            pace: slow(fails_at),
+            calls: 0,
+        });
+        let got = definition_bytes(alloc, &mut reader).map(|bytes| bytes.len());
+        assert_eq!(rt; got, want, "{fails_at}");
     }
     Ok(())
 }

@@ -3,23 +3,28 @@
 ghost use Rattle.std.specs.Prelude.{◌≡◌, true, List, map, flat_map, MatchResult, string_bytes, false};
 ghost use Rattle.ui_runner.specs.Writing.{Puts};
 ghost use Rattle.ui_runner.specs.Texts.{joined, lines_text, refused_line, stopped_line, stop_name};
-ghost use Rattle.ui_runner.specs.Story.{text_at};
-ghost use Rattle.ui_runner.specs.Telling.{told_of};
+ghost use Rattle.ui_runner.specs.EventFileRun.{text_at};
+ghost use Rattle.ui_runner.specs.LineOutcome.{outcome_with};
 
-use crate::output::Output;
+use crate::devices::Writer;
+use crate::gather::Gather;
+use crate::line_outcome::LineOutcome;
 use crate::refusal::LineRefusal;
-use crate::telling::Telling;
 use itoa::Buffer;
-use ui_machine::{Arm, DeviceFault, Halt, Sink};
+use ui_machine::{Arm, DeviceFault, Halt};
 
 /// Says texts one after the other.
-pub fn put_parts<W: Sink + Drop>(output: &mut Output<W>, parts: &[&[u8]]) -> Result<(), DeviceFault>
-    requires works { W.failed output.old.writer ≡ false }
-    ensures puts { Puts result (W.taken output.old.writer) output.old.gather (W.taken output.new.writer) output.new.gather (flat_map (λ part. part.now) parts.now) }
-    ensures marks { MatchResult result (λ _. W.failed output.new.writer ≡ false) (λ _. W.failed output.new.writer ≡ true) }
+pub fn put_parts<W: Writer>(
+    gather: &mut Gather,
+    writer: &mut W,
+    parts: &[&[u8]],
+) -> Result<(), DeviceFault>
+    requires works { W.failed writer.old ≡ false }
+    ensures puts { Puts result (W.sent writer.old) gather.old (W.sent writer.new) gather.new (flat_map (λ part. part.now) parts.now) }
+    ensures marks { MatchResult result (λ _. W.failed writer.new ≡ false) (λ _. W.failed writer.new ≡ true) }
 {
     for part in parts {
-        let Ok(()) = output.put(part) else {
+        let Ok(()) = gather.put(writer, part) else {
             return Err(DeviceFault);
         };
     }
@@ -27,16 +32,17 @@ pub fn put_parts<W: Sink + Drop>(output: &mut Output<W>, parts: &[&[u8]]) -> Res
 }
 
 /// Says lines, each with its LF.
-pub fn put_lines<W: Sink + Drop>(
-    output: &mut Output<W>,
+pub fn put_lines<W: Writer>(
+    gather: &mut Gather,
+    writer: &mut W,
     lines: &[String],
 ) -> Result<(), DeviceFault>
-    requires works { W.failed output.old.writer ≡ false }
-    ensures puts { Puts result (W.taken output.old.writer) output.old.gather (W.taken output.new.writer) output.new.gather (lines_text (map string_bytes lines.now)) }
-    ensures marks { MatchResult result (λ _. W.failed output.new.writer ≡ false) (λ _. W.failed output.new.writer ≡ true) }
+    requires works { W.failed writer.old ≡ false }
+    ensures puts { Puts result (W.sent writer.old) gather.old (W.sent writer.new) gather.new (lines_text (map string_bytes lines.now)) }
+    ensures marks { MatchResult result (λ _. W.failed writer.new ≡ false) (λ _. W.failed writer.new ≡ true) }
 {
     for line in lines {
-        let Ok(()) = put_parts(output, &[line.as_bytes(), b"\n"]) else {
+        let Ok(()) = put_parts(gather, writer, &[line.as_bytes(), b"\n"]) else {
             return Err(DeviceFault);
         };
     }
@@ -65,19 +71,21 @@ pub fn stop_name(halt: Halt) -> &'static str
     }
 }
 
-fn put_refused<W: Sink + Drop>(
-    output: &mut Output<W>,
+fn put_refused<W: Writer>(
+    gather: &mut Gather,
+    writer: &mut W,
     number: u64,
     refusal: LineRefusal,
 ) -> Result<(), DeviceFault>
-    requires works { W.failed output.old.writer ≡ false }
-    ensures puts { Puts result (W.taken output.old.writer) output.old.gather (W.taken output.new.writer) output.new.gather (refused_line number refusal) }
-    ensures marks { MatchResult result (λ _. W.failed output.new.writer ≡ false) (λ _. W.failed output.new.writer ≡ true) }
+    requires works { W.failed writer.old ≡ false }
+    ensures puts { Puts result (W.sent writer.old) gather.old (W.sent writer.new) gather.new (refused_line number refusal) }
+    ensures marks { MatchResult result (λ _. W.failed writer.new ≡ false) (λ _. W.failed writer.new ≡ true) }
 {
     let mut digits = Buffer::new();
     let number = digits.format(number).as_bytes();
     put_parts(
-        output,
+        gather,
+        writer,
         &[
             b"line ",
             number,
@@ -88,19 +96,21 @@ fn put_refused<W: Sink + Drop>(
     )
 }
 
-fn put_stopped<W: Sink + Drop>(
-    output: &mut Output<W>,
+fn put_stopped<W: Writer>(
+    gather: &mut Gather,
+    writer: &mut W,
     number: u64,
     halt: Halt,
 ) -> Result<(), DeviceFault>
-    requires works { W.failed output.old.writer ≡ false }
-    ensures puts { Puts result (W.taken output.old.writer) output.old.gather (W.taken output.new.writer) output.new.gather (stopped_line number halt) }
-    ensures marks { MatchResult result (λ _. W.failed output.new.writer ≡ false) (λ _. W.failed output.new.writer ≡ true) }
+    requires works { W.failed writer.old ≡ false }
+    ensures puts { Puts result (W.sent writer.old) gather.old (W.sent writer.new) gather.new (stopped_line number halt) }
+    ensures marks { MatchResult result (λ _. W.failed writer.new ≡ false) (λ _. W.failed writer.new ≡ true) }
 {
     let mut digits = Buffer::new();
     let number = digits.format(number).as_bytes();
     put_parts(
-        output,
+        gather,
+        writer,
         &[
             b"line ",
             number,
@@ -112,25 +122,26 @@ fn put_stopped<W: Sink + Drop>(
 }
 
 /// Says what a line came to, the lines that were said with it among them.
-pub fn put_telling<W: Sink + Drop>(
-    output: &mut Output<W>,
+pub fn put_outcome<W: Writer>(
+    gather: &mut Gather,
+    writer: &mut W,
     number: u64,
-    telling: Telling,
+    outcome: LineOutcome,
     lines: &[String],
 ) -> Result<(), DeviceFault>
-    requires works { W.failed output.old.writer ≡ false }
-    ensures puts { Puts result (W.taken output.old.writer) output.old.gather (W.taken output.new.writer) output.new.gather (text_at number (told_of telling (map string_bytes lines.now))) }
-    ensures marks { MatchResult result (λ _. W.failed output.new.writer ≡ false) (λ _. W.failed output.new.writer ≡ true) }
+    requires works { W.failed writer.old ≡ false }
+    ensures puts { Puts result (W.sent writer.old) gather.old (W.sent writer.new) gather.new (text_at number (outcome_with outcome (map string_bytes lines.now))) }
+    ensures marks { MatchResult result (λ _. W.failed writer.new ≡ false) (λ _. W.failed writer.new ≡ true) }
 {
-    match telling {
-        Telling::Said => put_lines(output, lines),
-        Telling::Refused(refusal) => put_refused(output, number, refusal),
-        Telling::CutOff(refusal) => put_refused(output, number, refusal),
-        Telling::Stopped(halt) => {
-            let Ok(()) = put_lines(output, lines) else {
+    match outcome {
+        LineOutcome::Said => put_lines(gather, writer, lines),
+        LineOutcome::Refused(refusal) => put_refused(gather, writer, number, refusal),
+        LineOutcome::CutOff(refusal) => put_refused(gather, writer, number, refusal),
+        LineOutcome::Stopped(halt) => {
+            let Ok(()) = put_lines(gather, writer, lines) else {
                 return Err(DeviceFault);
             };
-            put_stopped(output, number, halt)
+            put_stopped(gather, writer, number, halt)
         }
     }
 }

@@ -5,10 +5,10 @@ use Rattle.ui_runner.proofs.run.play.Goals as goal
 pub returns-in_default-clause-plays : goal.returns-in_default-clause-plays
 returns-in_default-clause-plays g c =
     let first = rw c.transcript.ensures at c.in_default.ensures.puts in
-    breaks_off c.args.session _ _ _ _ _ _ (g.W.Sink.taken c.args.output.now.writer) _ [] c.requires.empty c.in_default.ensures.marks refl first
+    breaks_off c.args.session _ _ _ _ _ _ _ _ (g.W.Writer.sent c.args.writer.now) _ [] refl c.new-gather.ensures c.in_default.ensures.marks refl first
 
 pub returns-clause-plays : goal.returns-clause-plays
 returns-clause-plays g c =
     let first = rw c.transcript.ensures at c.in-Ok.ensures.puts in
-    let story = rw c.forget.ensures at c.tell_lines.ensures.story in
-    plays c.args.session _ _ _ _ _ _ _ _ _ c.tell_lines.result c.tell_lines.new.handler c.requires.empty first story
+    let file_run = rw c.forget.ensures at c.handle_lines.ensures.file_run in
+    plays c.args.session _ _ _ _ _ _ _ _ _ _ _ c.handle_lines.result c.handle_lines.new.handler c.new-gather.ensures first file_run

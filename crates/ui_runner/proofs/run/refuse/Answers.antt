@@ -4,9 +4,9 @@ use Rattle.ui_runner.proofs.run.refuse.Goals as goal
 pub returns-in_default-clause-concludes : goal.returns-in_default-clause-concludes
 returns-in_default-clause-concludes g c =
     let puts = rw c.as_bytes.ensures.value at c.in_default.ensures.puts in
-    concludes_torn _ _ _ _ _ 1 c.requires.empty c.in_default.ensures.marks puts
+    concludes_torn _ _ _ _ _ 1 c.new-gather.ensures c.in_default.ensures.marks puts
 
 pub returns-clause-concludes : goal.returns-clause-concludes
 returns-clause-concludes g c =
     let puts = rw c.as_bytes.ensures.value at c.in-Ok.ensures.puts in
-    concludes _ _ _ _ _ _ _ _ _ c.requires.empty puts c.finish.ensures.finishes
+    concludes _ _ _ _ _ _ _ _ _ c.new-gather.ensures puts c.finish.ensures.finishes

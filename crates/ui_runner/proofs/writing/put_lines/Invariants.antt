@@ -6,6 +6,6 @@ use Rattle.ui_runner.proofs.writing.put_lines.Given as goal
 
 abbrev pub invariant-loop-line : goal.invariant-loop-line
 invariant-loop-line g l = record {
-  passes : Passes (g.W.Sink.taken l.fn.output.writer) l.fn.output.gather (g.W.Sink.taken l.output.writer) l.output.gather (lines_text (map string_bytes (take l.line-index l.lines)));
-  works : g.W.Sink.failed l.output.writer ≡ false;
+  passes : Passes (g.W.Writer.sent l.fn.writer) l.fn.gather (g.W.Writer.sent l.writer) l.gather (lines_text (map string_bytes (take l.line-index l.lines)));
+  works : g.W.Writer.failed l.writer ≡ false;
 }

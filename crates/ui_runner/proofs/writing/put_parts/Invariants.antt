@@ -5,6 +5,6 @@ use Rattle.ui_runner.proofs.writing.put_parts.Given as goal
 
 abbrev pub invariant-loop-part : goal.invariant-loop-part
 invariant-loop-part g l = record {
-  passes : Passes (g.W.Sink.taken l.fn.output.writer) l.fn.output.gather (g.W.Sink.taken l.output.writer) l.output.gather (flat_map (λ part. part.now) (take l.part-index l.parts));
-  works : g.W.Sink.failed l.output.writer ≡ false;
+  passes : Passes (g.W.Writer.sent l.fn.writer) l.fn.gather (g.W.Writer.sent l.writer) l.gather (flat_map (λ part. part.now) (take l.part-index l.parts));
+  works : g.W.Writer.failed l.writer ≡ false;
 }

@@ -3,10 +3,10 @@ use Rattle.ui_runner.proofs.ending.Ending.write.Goals as goal
 
 pub returns-in_default-clause-writes : goal.returns-in_default-clause-writes
 returns-in_default-clause-writes g c =
-    let puts = rw c.requires.empty at c.in_default.ensures.puts in
+    let puts = rw c.new-gather.ensures at c.in_default.ensures.puts in
     said_and_torn _ _ _ puts
 
 pub returns-clause-writes : goal.returns-clause-writes
 returns-clause-writes g c =
-    let puts = rw c.requires.empty at c.in-Ok.ensures.puts in
-    said_and_out _ _ _ _ _ _ _ puts c.flush.ensures.puts c.flush.ensures.empty
+    let puts = rw c.new-gather.ensures at c.in-Ok.ensures.puts in
+    said_and_out _ _ _ _ _ _ puts c.flush.ensures.writes

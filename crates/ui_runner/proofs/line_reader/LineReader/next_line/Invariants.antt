@@ -7,12 +7,12 @@ use Rattle.ui_runner.proofs.line_reader.LineReader.next_line.Given as goal
 
 abbrev pub invariant-loop-byte : goal.invariant-loop-byte
 invariant-loop-byte g l = record {
-  consumed : Consumes (prepend_known l.fn.self.chunk (g.R.Feed.left l.fn.reader)) (prepend_known l.self.chunk (g.R.Feed.left l.reader)) l.self.line.items;
+  consumed : Consumes (prepend_known l.fn.self.chunk (g.R.Reader.left l.fn.reader)) (prepend_known l.self.chunk (g.R.Reader.left l.reader)) l.self.line.items;
   within : length l.self.line.items ≤ most_line_bytes;
   no_end : has_end l.self.line.items ≡ false;
-  reader_works : g.R.Feed.failed l.reader ≡ false;
-  writer_works : g.W.Sink.failed l.output.writer ≡ false;
-  waits : Waits (l.reader ≡ l.fn.reader) false (g.W.Sink.taken l.fn.output.writer) l.fn.output.gather (g.W.Sink.taken l.output.writer) l.output.gather;
+  reader_works : g.R.Reader.failed l.reader ≡ false;
+  writer_works : g.W.Writer.failed l.writer ≡ false;
+  waits : Waits (l.reader ≡ l.fn.reader) (g.R.Reader.reads l.fn.reader) (g.R.Reader.reads l.reader) false (g.W.Writer.sent l.fn.writer) l.fn.gather (g.W.Writer.sent l.writer) l.gather;
 }
 
 abbrev pub decreases-loop-byte : goal.decreases-loop-byte

@@ -1,5 +1,5 @@
 use Rattle.ui_runner.proofs.Pieces.{tears_early, puts_after}
-use Rattle.ui_runner.proofs.writing.put_telling.Goals as goal
+use Rattle.ui_runner.proofs.writing.put_outcome.Goals as goal
 
 pub returns-in_default-clause-puts : goal.returns-in_default-clause-puts
 returns-in_default-clause-puts g c = rw c.in-Stopped.is (tears_early _ c.in_default.ensures.puts)

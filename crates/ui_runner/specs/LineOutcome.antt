@@ -7,11 +7,11 @@ use Rattle.builder_defs.specs.declared.event_fault.EventError.TheVariants as err
 use Rattle.ui_engine.specs.declared.session.SessionFault.{SessionFault}
 use Rattle.ui_engine.specs.declared.session.SessionFault.TheVariants as ends
 use Rattle.ui_runner.specs.Texts.{line_refusal}
-use Rattle.ui_runner.specs.Story.{Outcome, said, refused, cut_off, stopped}
+use Rattle.ui_runner.specs.EventFileRun.{Outcome, said, refused, cut_off, stopped}
 use Rattle.ui_runner.specs.declared.line_handler.LineFault.{LineFault}
 use Rattle.ui_runner.specs.declared.line_handler.LineFault.TheVariants as faults
-use Rattle.ui_runner.specs.declared.telling.Telling.{Telling}
-use Rattle.ui_runner.specs.declared.telling.Telling.TheVariants as tellings
+use Rattle.ui_runner.specs.declared.line_outcome.LineOutcome.{LineOutcome}
+use Rattle.ui_runner.specs.declared.line_outcome.LineOutcome.TheVariants as line_outcomes
 
 -- why a line is not carried out that is no event, or for whose reading no memory was found
 abbrev pub reading_fault : EventError → LineFault
@@ -30,8 +30,8 @@ outcome_of (Ok _) lines = said lines
 outcome_of (Err (faults.Refused refusal)) lines = refused refusal
 outcome_of (Err (faults.Stopped halt)) lines = stopped halt lines
 
-abbrev pub told_of : Telling → List (List ℕ) → Outcome
-told_of tellings.Said lines = said lines
-told_of (tellings.Refused refusal) lines = refused refusal
-told_of (tellings.CutOff refusal) lines = cut_off refusal
-told_of (tellings.Stopped halt) lines = stopped halt lines
+abbrev pub outcome_with : LineOutcome → List (List ℕ) → Outcome
+outcome_with line_outcomes.Said lines = said lines
+outcome_with (line_outcomes.Refused refusal) lines = refused refusal
+outcome_with (line_outcomes.CutOff refusal) lines = cut_off refusal
+outcome_with (line_outcomes.Stopped halt) lines = stopped halt lines

@@ -1,8 +1,8 @@
 //! One line of the event file, handed to its handler.
 
 ghost use Rattle.std.specs.Prelude.{◌≡◌, ◌≤◌, ℕ, List, false, length, drop};
-ghost use Rattle.ui_runner.specs.Story.{Tells, ends, status_after, is_blank};
-ghost use Rattle.ui_runner.specs.Telling.{told_of};
+ghost use Rattle.ui_runner.specs.EventFileRun.{LineComesTo, ends, status_after, is_blank};
+ghost use Rattle.ui_runner.specs.LineOutcome.{outcome_with};
 ghost use Rattle.ui_runner.specs.Reading.{IsOf};
 ghost use Rattle.ui_machine.specs.Limits.{most_lines};
 
@@ -15,7 +15,7 @@ use ui_machine::Halt;
 
 /// What a line came to, beside the lines that were said.
 #[derive(Clone, Copy, Debug, PartialEq, Eq)]
-pub enum Telling {
+pub enum LineOutcome {
     Said,
     Refused(LineRefusal),
     /// It was refused, and the run ends.
@@ -24,25 +24,25 @@ pub enum Telling {
     Stopped(Halt),
 }
 
-impl Telling {
+impl LineOutcome {
     /// Whether the run ends here.
     pub fn ends(self) -> bool
-        ensures { (said : List (List ℕ)) → result ≡ ends (told_of self said) }
+        ensures { (said : List (List ℕ)) → result ≡ ends (outcome_with self said) }
     {
         match self {
-            Telling::Said | Telling::Refused(_) => false,
-            Telling::CutOff(_) | Telling::Stopped(_) => true,
+            LineOutcome::Said | LineOutcome::Refused(_) => false,
+            LineOutcome::CutOff(_) | LineOutcome::Stopped(_) => true,
         }
     }
 
     /// The status of the run so far, from the one before.
     pub fn status_after(self, status: u8) -> u8
-        ensures { (said : List (List ℕ)) → result ≡ status_after status (told_of self said) }
+        ensures { (said : List (List ℕ)) → result ≡ status_after status (outcome_with self said) }
     {
         match self {
-            Telling::Said => status,
-            Telling::Refused(_) | Telling::CutOff(_) => 5,
-            Telling::Stopped(_) => 3,
+            LineOutcome::Said => status,
+            LineOutcome::Refused(_) | LineOutcome::CutOff(_) => 5,
+            LineOutcome::Stopped(_) => 3,
         }
     }
 }
@@ -55,33 +55,33 @@ fn is_blank(line: &[u8]) -> bool
 }
 
 /// Hands the handler the line that was found, unless the run refuses it or passes over it.
-pub fn tell<L: LineHandler>(
+pub fn handle_line<L: LineHandler>(
     alloc: Global,
     handler: &mut L,
     number: u64,
     found: Found,
     buffer: &[u8],
-) -> Telling
-    ensures tells { (line : List ℕ) → IsOf found buffer.now line →
-        Tells L.replies handler.old number line (told_of result (drop (length (L.lines handler.old)) (L.lines handler.new))) handler.new }
+) -> LineOutcome
+    ensures comes { (line : List ℕ) → IsOf found buffer.now line →
+        LineComesTo L.replies handler.old number line (outcome_with result (drop (length (L.lines handler.old)) (L.lines handler.new))) handler.new }
     ensures grows { length (L.lines handler.old) ≤ length (L.lines handler.new) }
-    ensures goes_on { (said : List (List ℕ)) → ends (told_of result said) ≡ false → (number ≤ most_lines) × (found ≡ Found.Whole) }
+    ensures goes_on { (said : List (List ℕ)) → ends (outcome_with result said) ≡ false → (number ≤ most_lines) × (found ≡ Found.Whole) }
 {
     if found == Found::NoMemory {
-        return Telling::Stopped(Halt::OutOfMemory);
+        return LineOutcome::Stopped(Halt::OutOfMemory);
     }
     if number > MOST_LINES {
-        return Telling::CutOff(LineRefusal::TooMany);
+        return LineOutcome::CutOff(LineRefusal::TooMany);
     }
     if found == Found::TooLong {
-        return Telling::CutOff(LineRefusal::TooLong);
+        return LineOutcome::CutOff(LineRefusal::TooLong);
     }
     if is_blank(buffer) {
-        return Telling::Said;
+        return LineOutcome::Said;
     }
     match handler.handle(alloc, buffer) {
-        Ok(()) => return Telling::Said,
-        Err(LineFault::Refused(refusal)) => return Telling::Refused(refusal),
-        Err(LineFault::Stopped(halt)) => return Telling::Stopped(halt),
+        Ok(()) => return LineOutcome::Said,
+        Err(LineFault::Refused(refusal)) => return LineOutcome::Refused(refusal),
+        Err(LineFault::Stopped(halt)) => return LineOutcome::Stopped(halt),
     }
 }

@@ -50,14 +50,14 @@ abbrev pub is_blank : List ℕ → Bool
 is_blank line = list_all (λ b. (nat_eq b 32 || nat_eq b 9) || nat_eq b 13) line
 
 -- which lines a run takes for itself, and which are the session's
-pub data Fate : Type 0 where
-  too_many : Fate
-  too_long : Fate
-  skipped : Fate
-  event : Fate
+pub data LineSort : Type 0 where
+  too_many : LineSort
+  too_long : LineSort
+  skipped : LineSort
+  event : LineSort
 
-abbrev pub fate : ℕ → List ℕ → Fate
-fate n line =
+abbrev pub sort_of_line : ℕ → List ℕ → LineSort
+sort_of_line n line =
     if nat_lt most_lines n then too_many
     else (if nat_lt most_line_bytes (length line) then too_long
     else (if is_blank line then skipped else event))
@@ -71,24 +71,24 @@ reach (line ∷ lines) = (min (length line) most_line_bytes + 1) + reach lines
 abbrev pub Replies : Type 0 → Type 1
 Replies S = S → List ℕ → Outcome → S → Type 0
 
-abbrev pub Meets : {S : Type 0} → Replies S → Fate → S → List ℕ → Outcome → S → Type 0
+abbrev pub Meets : {S : Type 0} → Replies S → LineSort → S → List ℕ → Outcome → S → Type 0
 Meets replies too_many old line outcome new = (outcome ≡ cut_off refusals.TooMany) × (new ≡ old)
 Meets replies too_long old line outcome new = (outcome ≡ cut_off refusals.TooLong) × (new ≡ old)
 Meets replies skipped old line outcome new = (outcome ≡ said []) × (new ≡ old)
 Meets replies event old line outcome new = replies old line outcome new
 
--- the line numbered n may come to this outcome: its fate's, or want of memory before that
-abbrev pub Tells : {S : Type 0} → Replies S → S → ℕ → List ℕ → Outcome → S → Type 0
-Tells replies old n line outcome new = Meets replies (fate n line) old line outcome new ⊎ ((outcome ≡ stopped halts.OutOfMemory []) × (new ≡ old))
+-- the line numbered n may come to this outcome: its sort's, or want of memory before that
+abbrev pub LineComesTo : {S : Type 0} → Replies S → S → ℕ → List ℕ → Outcome → S → Type 0
+LineComesTo replies old n line outcome new = Meets replies (sort_of_line n line) old line outcome new ⊎ ((outcome ≡ stopped halts.OutOfMemory []) × (new ≡ old))
 
 -- the first of these lines, the first of all numbered n, come to these outcomes, one after the other, and none comes after an end; what
 -- was said of a line is forgotten before the next
-abbrev pub Tale : {S : Type 0} → Replies S → (S → S) → S → ℕ → List (List ℕ) → List Outcome → S → Type 0
-Tale replies forgotten old n lines [] new = new ≡ old
-Tale replies forgotten old n [] (outcome ∷ outcomes) new = ⊥
-Tale {S} replies forgotten old n (line ∷ lines) (outcome ∷ outcomes) new =
-    (mid : S) × Tells replies old n line outcome mid × (ends outcome ≡ true → outcomes ≡ [])
-    × Tale replies forgotten (forgotten mid) (n + 1) lines outcomes new
+abbrev pub LinesComeTo : {S : Type 0} → Replies S → (S → S) → S → ℕ → List (List ℕ) → List Outcome → S → Type 0
+LinesComeTo replies forgotten old n lines [] new = new ≡ old
+LinesComeTo replies forgotten old n [] (outcome ∷ outcomes) new = ⊥
+LinesComeTo {S} replies forgotten old n (line ∷ lines) (outcome ∷ outcomes) new =
+    (mid : S) × LineComesTo replies old n line outcome mid × (ends outcome ≡ true → outcomes ≡ [])
+    × LinesComeTo replies forgotten (forgotten mid) (n + 1) lines outcomes new
 
 -- no line is left to be told
 abbrev pub IsOver : List (List ℕ) → List Outcome → Type 0
@@ -111,9 +111,9 @@ pub record AllTold (outcomes : List Outcome) (input rest : List ℕ) : Type 0 wh
 
 -- a run over these lines that ended in this status, where the writer failed or not: their outcomes, and what it wrote from the bytes before
 -- them on; nothing was read, or from the first bytes to the last
-pub record Story {S : Type 0} (replies : Replies S) (forgotten : S → S) (old : S) (before : List ℕ) (lines : List (List ℕ)) (status : ℕ) (torn : Bool) (unread : Type 0) (first last : Option (List ℕ)) (text : List ℕ) (new : S) : Type 0 where
+pub record EventFileRun {S : Type 0} (replies : Replies S) (forgotten : S → S) (old : S) (before : List ℕ) (lines : List (List ℕ)) (status : ℕ) (torn : Bool) (unread : Type 0) (first last : Option (List ℕ)) (text : List ℕ) (new : S) : Type 0 where
   pub outcomes : List Outcome
-  pub told : Tale replies forgotten old 1 lines outcomes new
+  pub told : LinesComeTo replies forgotten old 1 lines outcomes new
   -- the writer failed: the text broke off
   pub broke : torn ≡ true → IsPrefix text (before ++ text_from 1 outcomes)
   -- it did not: the whole text of the outcomes so far, also where the reader failed

@@ -1,12 +1,12 @@
 use Rattle.std.proofs.Common.{length, take, ◌-◌, ◌≡◌, ◌≤◌, false}
 use Rattle.ui_runner.specs.Writing.{Passes}
-use Rattle.ui_runner.proofs.output.Output.put.Given as goal
+use Rattle.ui_runner.proofs.gather.Gather.put.Given as goal
 
 abbrev pub invariant-loop-done : goal.invariant-loop-done
 invariant-loop-done g l = record {
   within : l.done ≤ length l.bytes;
-  passes : Passes (g.W.Sink.taken l.fn.self.writer) l.fn.self.gather (g.W.Sink.taken l.self.writer) l.self.gather (take l.done l.bytes);
-  works : g.W.Sink.failed l.self.writer ≡ false;
+  passes : Passes (g.W.Writer.sent l.fn.writer) l.fn.self (g.W.Writer.sent l.writer) l.self (take l.done l.bytes);
+  works : g.W.Writer.failed l.writer ≡ false;
 }
 
 abbrev pub decreases-loop-done : goal.decreases-loop-done
