@@ -4,6 +4,7 @@ pub mod Written
 pub mod Inverse
 pub mod Typed
 pub mod Wrapped
+pub mod Converted
 pub mod RegisterProofs
 pub mod Landing
 pub mod JumpProofs

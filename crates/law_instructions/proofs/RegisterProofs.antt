@@ -15,17 +15,18 @@ use Rattle.ui_machine.specs.State.Config.{World, said}
 use Rattle.ui_machine.specs.Output.Lines as lines
 use Rattle.ui_machine.specs.Output.Text.{text_of_line}
 use Rattle.ui_machine.specs.Rules.Sets.{has_kind}
-use Rattle.ui_machine.specs.Rules.Transform.{kind_fits, same_value, same_whole, wrapped}
+use Rattle.ui_machine.specs.Rules.Transform.{kind_fits, is_transformable, transformed, same_value, same_whole, wrapped}
+use Rattle.ui_machine.specs.Rules.Accumulation.{or_zero}
 use Rattle.ui_machine.specs.Instructions.{instructed, in_front}
 use Rattle.ui_machine.specs.Instructions.Registers.{truth_in, text_in, whole_in, written_to, moving}
-use Rattle.ui_machine.specs.Instructions.Arithmetic.{comparing, reckoning, sameness, negating, conjunction, disjunction, joining, of_one_kind, kind_of, bytes_of, most_bytes, within_bytes, gives_from}
+use Rattle.ui_machine.specs.Instructions.Arithmetic.{comparing, reckoning, converting, is_convertible, is_object_kind, sameness, negating, conjunction, disjunction, joining, of_one_kind, kind_of, bytes_of, most_bytes, within_bytes, gives_from}
 use Rattle.ui_machine.specs.Instructions.Arithmetic as arithmetic
 use Rattle.ui_machine.specs.Instructions.Jumps.{past}
 use Rattle.law_typing.specs.Rules.RegisterKinds.{kind_in}
-use Rattle.law_typing.specs.Rules.Typing.{after}
-use Rattle.law_typing.specs.Laws.WellRead.{ConstantFits, no_class_of}
-use Rattle.law_typing.specs.Good.Standing.{standing, class_by, holds}
-use Rattle.law_typing.proofs.Lists.{each_in}
+use Rattle.law_typing.specs.Rules.Typing.{after, converts_to}
+use Rattle.law_typing.specs.Laws.WellRead.{ConstantFits, no_class_of, has_values}
+use Rattle.law_typing.specs.Good.Standing.{Standing, standing, class_by, holds}
+use Rattle.law_typing.proofs.Lists.{both_parts, each_in}
 use Rattle.law_static.proofs.SubclassProofs.{get_in}
 use Rattle.law_static.proofs.FitsProofs.{holds_set}
 use Rattle.law_instructions.specs.OfRegisters.{RegistersAreFine}
@@ -33,7 +34,8 @@ use Rattle.law_instructions.proofs.Around.{Due, r, here, taken, StepIsFine, fine
 use Rattle.law_instructions.proofs.Written.{written_fine}
 use Rattle.law_instructions.proofs.Inverse.{truth_at, text_at, numbers_at, comparable}
 use Rattle.law_instructions.proofs.Wrapped.{whole_fits}
-use Rattle.law_instructions.proofs.Typed.{moving_is, comparing_is, reckoning_is, sameness_is, negating_is, combining_is, joining_is}
+use Rattle.law_instructions.proofs.Converted.{own_kind, transformed_fits, or_zero_fits}
+use Rattle.law_instructions.proofs.Typed.{moving_is, comparing_is, reckoning_is, converting_is, sameness_is, negating_is, combining_is, joining_is}
 
 -- a value that fits where nothing lives fits everywhere
 pub fits_anywhere : (f : ℕ → Option ℕ) (types : List GType) (v : Value) (kind : Kind) → kind_fits no_class_of types v kind ≡ true → kind_fits f types v kind ≡ true
@@ -106,6 +108,24 @@ join_writes : (d : Definition) (w : World) (rest : List Task) (f : Frame) (to a 
 unfolding joining
 join_writes d w rest f to a b s t e g = rw (e, g) refl
 
+convert_writes : (d : Definition) (w : World) (rest : List Task) (f : Frame) (to a : ℕ) (kind : Kind) (v : Value) → read None f.registers a ≡ Some v → is_convertible d (kind_of v) kind ≡ true →
+    in_front rest (converting d w f to a kind) ≡ in_front rest (written_to w to (Some (or_zero d kind (transformed d.types (kind_of v) kind v))) f)
+unfolding converting
+convert_writes d w rest f to a kind v e is = rw (e, is) refl
+
+-- a value that may be converted, and what becomes of it
+converts : (d : Definition) (kind : Kind) (k : RegisterKind) (s : Standing) (v : Value) → converts_to d kind k ≡ true → has_values d kind ≡ true → holds d s k (Some v) ≡ true →
+    (is_convertible d (kind_of v) kind ≡ true) × (kind_fits (class_by d s) d.types (or_zero d kind (transformed d.types (kind_of v) kind v)) kind ≡ true)
+converts d kind (kinds.plain from) s v e some h =
+    let x = both_parts (not (is_object_kind from)) _ e in
+    let y = both_parts (not (is_object_kind kind)) (is_transformable d.types from kind) x.1 in
+    let own = own_kind (class_by d s) d.types v from x.0 h in
+    let fit = transformed_fits (class_by d s) d.types kind v y.0 (ap (λ k. is_transformable d.types k kind) own ∙ y.1) (ap (kind_fits (class_by d s) d.types v) own ∙ h) in (
+      ap (λ k. is_convertible d k kind) own ∙ e,
+      or_zero_fits (class_by d s) d.types d refl kind (transformed d.types (kind_of v) kind v) fit (λ t is. subst (λ k. has_values d k ≡ true) is some),
+    )
+converts d kind _ s v e some h = absurd (cc)
+
 -- ** each is fine
 
 module _ {d : Definition} where
@@ -145,6 +165,18 @@ module _ {d : Definition} where
       written_fine t refl t.w.transcript to (kind_in ks a) (Some (values.whole n.kind (wrapped n.kind z))) refl refl k.2
       (ap (λ k. holds d (standing t.w.objects) k (Some (values.whole n.kind (wrapped n.kind z)))) n.is ∙ whole_fits n.kind z)
       (reckon_writes t.w t.rest (past t.f) o to a b n.kind n.x n.y n.first n.second)
+
+  convert_fine : (to a : ℕ) (kind : Kind) (t : Due d (words.convert to a kind)) → StepIsFine t
+  convert_fine to a kind t =
+      let s = standing t.w.objects in
+      let ks = (r t).ks in
+      let k = converting_is d ks to a kind (after d (r t).p ks (words.convert to a kind)) (taken t).typed in
+      let v = holds_set d s (kind_in ks a) (read None t.f.registers a) k.0 ((r t).fit a) in
+      let some = each_in (ConstantFits d) (r t).b.code ((t.well.programs t.f.program (r t).p (r t).is).blocks t.f.block (r t).b (r t).in_block).constants (words.convert to a kind)
+      (get_in (r t).b.code t.f.at (words.convert to a kind) (here t)) in
+      let c = converts d kind (kind_in ks a) s v.0 k.1 some (subst (λ x. holds d s (kind_in ks a) x ≡ true) v.1 ((r t).fit a)) in
+      written_fine t refl t.w.transcript to (kinds.plain kind) (Some (or_zero d kind (transformed d.types (kind_of v.0) kind v.0))) refl refl k.2 c.1
+      (convert_writes d t.w t.rest (past t.f) to a kind v.0 v.1 c.0)
 
   same_fine : (to a b : ℕ) (t : Due d (words.same to a b)) → StepIsFine t
   same_fine to a b t =
@@ -207,6 +239,7 @@ registers_are_fine (words.move to from) e = fine_of (λ d t. move_fine to from t
 registers_are_fine (words.clear to) e = fine_of (λ d t. clear_fine to t)
 registers_are_fine (words.compare c to a b) e = fine_of (λ d t. compare_fine c to a b t)
 registers_are_fine (words.arithmetic o to a b) e = fine_of (λ d t. reckon_fine o to a b t)
+registers_are_fine (words.convert to a kind) e = fine_of (λ d t. convert_fine to a kind t)
 registers_are_fine (words.same to a b) e = fine_of (λ d t. same_fine to a b t)
 registers_are_fine (words.negate to a) e = fine_of (λ d t. negate_fine to a t)
 registers_are_fine (words.both to a b) e = fine_of (λ d t. both_fine to a b t)

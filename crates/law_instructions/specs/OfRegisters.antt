@@ -4,7 +4,7 @@ use Rattle.ui_machine.specs.Definition.Programs.{Instruction}
 use Rattle.ui_machine.specs.Definition.Programs as words
 use Rattle.law_instructions.specs.Running.{IsFine}
 
--- constants, copies, arithmetic, comparisons, truth values and texts
+-- constants, copies, arithmetic, comparisons, truth values, texts and conversions
 abbrev pub writes_register : Instruction → Bool
 writes_register (words.const to kind v) = true
 writes_register (words.move to from) = true
@@ -16,6 +16,7 @@ writes_register (words.negate to a) = true
 writes_register (words.both to a b) = true
 writes_register (words.either to a b) = true
 writes_register (words.join to a b) = true
+writes_register (words.convert to a kind) = true
 writes_register _ = false
 
 -- each of them is taken well

@@ -102,6 +102,7 @@ is_ended (i ∷ j ∷ rest) = not (ends i) && is_ended (j ∷ rest)
 
 abbrev pub is_constant_fit : Definition → Instruction → Bool
 is_constant_fit d (words.const to kind v) = kind_fits no_class_of d.types v kind
+is_constant_fit d (words.convert to a kind) = has_values d kind
 is_constant_fit d i = true
 
 abbrev pub is_within : ℕ → Option ℕ → Bool

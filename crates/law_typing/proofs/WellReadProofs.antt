@@ -260,6 +260,7 @@ ended (i ∷ j ∷ rest) e = let a = both_parts (not (ends i)) (tests.is_ended (
 
 constant_fits : (d : Definition) (i : Instruction) → tests.is_constant_fit d i ≡ true → ConstantFits d i
 constant_fits d (words.const to kind v) e = e
+constant_fits d (words.convert to a kind) e = e
 constant_fits d _ e = tt
 
 within : (registers : ℕ) (o : Option ℕ) → tests.is_within registers o ≡ true → Within registers o

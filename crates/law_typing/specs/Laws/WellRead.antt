@@ -120,9 +120,10 @@ abbrev pub Within : ℕ → Option ℕ → Type 0
 Within registers None = ⊤
 Within registers (Some r) = r < registers
 
--- a constant is of its kind
+-- a constant is of its kind, and what is converted to has values
 abbrev pub ConstantFits : Definition → Instruction → Type 0
 ConstantFits d (words.const to kind v) = kind_fits no_class_of d.types v kind ≡ true
+ConstantFits d (words.convert to a kind) = has_values d kind ≡ true
 ConstantFits d _ = ⊤
 
 -- a block of a program, by its number
