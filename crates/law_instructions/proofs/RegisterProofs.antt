@@ -1,4 +1,4 @@
--- Constants, copies, truth values, comparisons and texts.
+-- Constants, copies, arithmetic, comparisons, truth values, texts and conversions.
 use Rattle.std.proofs.Common.{◌≡◌, refl, ap, subst, ◌∙◌, ℕ, Bool, true, false, cond, List, [], ◌∷◌, ◌++◌, length, Option, None, Some, Ok}
 use Rattle.std.specs.Prelude.{ℤ, not, ◌&&◌, ◌||◌, nat_lt, codes}
 use Rattle.ui_machine.specs.Seq.{read, write}

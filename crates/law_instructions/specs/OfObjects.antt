@@ -1,4 +1,5 @@
--- The instructions that read what an object has or what the builder holds, and those that let go of a handler, a binding, a source or a float.
+-- The instructions that read what an object has or what the builder holds, and those that let go of a handler, a binding, a source or a
+-- float.
 use Rattle.std.specs.Prelude.{◌≡◌, Bool, true, false}
 use Rattle.ui_machine.specs.Definition.Programs.{Instruction}
 use Rattle.ui_machine.specs.Definition.Programs as words

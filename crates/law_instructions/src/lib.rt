@@ -10,7 +10,7 @@ ghost use Rattle.law_instructions.specs.Stopping.{StopsAreFine};
 ghost use Rattle.law_instructions.specs.Freezing.{FreezesAreFine};
 ghost use Rattle.law_instructions.specs.Disposing.{DisposesAreFine};
 
-/// Constants, copies, arithmetic, comparisons, truth values and texts: from what is good, the step is not stuck and leads to what is good.
+/// Constants, copies, arithmetic, comparisons, truth values, texts and conversions: from what is good, the step is not stuck and leads to what is good.
 pub fn of_registers()
     ensures fine { RegistersAreFine }
 {}

@@ -23,7 +23,9 @@ pub record Alike (a b : List Task) : Type 0 where
 
 -- what is good of a world with one of them is good with the other
 abbrev pub WholeStays : Type 0
-WholeStays = (d : Definition) (costs depths : Tables) (a b : List Task) (w : World) → Alike a b → Whole d costs depths a w → Whole d costs depths b w
+WholeStays =
+    (d : Definition) (costs depths : Tables) (a b : List Task) (w : World) → Alike a b → Whole d costs depths a w →
+    Whole d costs depths b w
 
 -- where the builder makes as many objects the build goes on as it did
 abbrev pub BuildStays : Type 0
