@@ -8,9 +8,9 @@ use Rattle.builder_defs.specs.declared.fault.ReadError.{ReadError}
 use Rattle.builder_defs.specs.declared.fault.ReadError.TheVariants as errors
 use Rattle.ui_machine.specs.Outcome.{◌>>=◌}
 use Rattle.builder_defs.specs.Refusals.{Refusal, Fails}
-use Rattle.builder_defs.specs.Document.{members_at, nothing_at, only_at}
+use Rattle.builder_defs.specs.Document.{members_at, only_at}
 use Rattle.builder_defs.specs.Denoted.Properties.{spec_at, installed, property_at}
-use Rattle.builder_defs.specs.Denoted.Classes.{Draft, draft_of, declared_at, properties_at, class_at, unset_after_properties, keys_of_class}
+use Rattle.builder_defs.specs.Denoted.Classes.{Draft, draft_of, declared_at, answering_at, properties_at, class_at, keys_of_class}
 use Rattle.builder_defs.proofs.Installing.{property_at_is}
 
 pub fails_first : {A B : Type 0} (e : ReadError) (r : Result A Refusal) (f : A → Result B Refusal) → Fails e r → Fails e (r >>= f)
@@ -39,13 +39,13 @@ module _ (path : List ℕ) (first : ℕ) (types : List GType) (table : List (Lis
   draft_with gs own = record { types = gs; own = own }
 
   finish : (ℕ → List Spec) → Result Draft Refusal
-  finish own = nothing_at path d unset_after_properties >>= λ unset. only_at path ms keys_of_class >>= λ only. Ok (draft_with new own)
+  finish own = answering_at path d >>= λ unset. only_at path ms keys_of_class >>= λ only. Ok (draft_with new own)
 
   class_is : class_at path first (draft_of types table) d ≡ (properties_at path new t (own_of table) d >>= finish)
   unfolding class_at finish draft_with
   class_is =
-      ap (λ (r : Result Members Refusal). r >>= λ m. declared_at path first types d >>= λ gs. properties_at path gs (length types) (own_of table) d >>= λ own. nothing_at path d unset_after_properties >>= λ unset. only_at path m keys_of_class >>= λ only. Ok (draft_with gs own)) members
-      ∙ ap (λ (r : Result (List GType) Refusal). r >>= λ gs. properties_at path gs (length types) (own_of table) d >>= λ own. nothing_at path d unset_after_properties >>= λ unset. only_at path ms keys_of_class >>= λ only. Ok (draft_with gs own)) declared
+      ap (λ (r : Result Members Refusal). r >>= λ m. declared_at path first types d >>= λ gs. properties_at path gs (length types) (own_of table) d >>= λ own. answering_at path d >>= λ unset. only_at path m keys_of_class >>= λ only. Ok (draft_with gs own)) members
+      ∙ ap (λ (r : Result (List GType) Refusal). r >>= λ gs. properties_at path gs (length types) (own_of table) d >>= λ own. answering_at path d >>= λ unset. only_at path ms keys_of_class >>= λ only. Ok (draft_with gs own)) declared
       ∙ ap (λ n. properties_at path new n (own_of table) d >>= finish) (sym class)
 
   pub properties_fail : (e : ReadError) → Fails e (properties_at path new t (own_of table) d) → Fails e (class_at path first (draft_of types table) d)
@@ -55,17 +55,17 @@ module _ (path : List ℕ) (first : ℕ) (types : List GType) (table : List (Lis
     class_given : class_at path first (draft_of types table) d ≡ finish own
     class_given = class_is ∙ ap (λ r. r >>= finish) given
 
-    pub unset_fails : (e : ReadError) → Fails e (nothing_at path d unset_after_properties) → Fails e (class_at path first (draft_of types table) d)
+    pub unset_fails : (e : ReadError) → Fails e (answering_at path d) → Fails e (class_at path first (draft_of types table) d)
     unfolding finish
-    unset_fails e h = fails_as e _ _ class_given (fails_first e (nothing_at path d unset_after_properties) (λ unset. only_at path ms keys_of_class >>= λ only. Ok (draft_with new own)) h)
+    unset_fails e h = fails_as e _ _ class_given (fails_first e (answering_at path d) (λ unset. only_at path ms keys_of_class >>= λ only. Ok (draft_with new own)) h)
 
-    class_unset : nothing_at path d unset_after_properties ≡ Ok tt → class_at path first (draft_of types table) d ≡ (only_at path ms keys_of_class >>= λ only. Ok (draft_with new own))
+    class_unset : answering_at path d ≡ Ok tt → class_at path first (draft_of types table) d ≡ (only_at path ms keys_of_class >>= λ only. Ok (draft_with new own))
     unfolding finish
     class_unset h = class_given ∙ ap (λ (r : Result (Unit {0}) Refusal). r >>= λ unset. only_at path ms keys_of_class >>= λ only. Ok (draft_with new own)) h
 
-    pub only_fails : (e : ReadError) → nothing_at path d unset_after_properties ≡ Ok tt → Fails e (only_at path ms keys_of_class) → Fails e (class_at path first (draft_of types table) d)
+    pub only_fails : (e : ReadError) → answering_at path d ≡ Ok tt → Fails e (only_at path ms keys_of_class) → Fails e (class_at path first (draft_of types table) d)
     only_fails e n h = fails_as e _ _ (class_unset n) (fails_first e (only_at path ms keys_of_class) (λ only. Ok (draft_with new own)) h)
 
-    pub class_done : nothing_at path d unset_after_properties ≡ Ok tt → only_at path ms keys_of_class ≡ Ok tt → class_at path first (draft_of types table) d ≡ Ok (record { types = new; own = own })
+    pub class_done : answering_at path d ≡ Ok tt → only_at path ms keys_of_class ≡ Ok tt → class_at path first (draft_of types table) d ≡ Ok (record { types = new; own = own })
     unfolding draft_with
     class_done n h = class_unset n ∙ ap (λ (r : Result (Unit {0}) Refusal). r >>= λ only. Ok (draft_with new own)) h

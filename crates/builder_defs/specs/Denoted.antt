@@ -2,6 +2,9 @@
 pub mod Names
 pub mod Types
 pub mod Enums
+pub mod Kinds
+pub mod Ranges
+pub mod Defaults
 pub mod Properties
 pub mod Classes
 pub mod Objects
@@ -15,7 +18,7 @@ use Rattle.ui_machine.specs.Definition.Places as machine
 use Rattle.ui_machine.specs.Definition as definition
 use Rattle.builder_defs.specs.Meaning.{class_with, default_objects}
 use Rattle.builder_defs.specs.Refusals.{Refusal, shape}
-use Rattle.builder_defs.specs.Document.{under, members_at, entries_at, nothing_at, only_at, each, at_entry, document}
+use Rattle.builder_defs.specs.Document.{under, members_at, entries_at, absent_at, nothing_at, only_at, each, at_entry, document}
 use Rattle.builder_defs.specs.Denoted.Properties.{specs_by}
 use Rattle.builder_defs.specs.Denoted.Enums.{enum_at, flags_at}
 use Rattle.builder_defs.specs.Denoted.Classes.{Draft, bare_draft, class_at}
@@ -25,9 +28,6 @@ use Rattle.builder_defs.specs.Denoted.Objects.{object_at}
 abbrev pub format_of : Option ℕ → Result (Unit {0}) Refusal
 format_of None = Err (shape (codes "/format"))
 format_of (Some n) = if n == 1 then Ok tt else Err (shape (codes "/format"))
-
-abbrev pub unset_before_enums : List (List ℕ)
-unset_before_enums = codes "limits" ∷ []
 
 abbrev pub unset_before_classes : List (List ℕ)
 unset_before_classes = codes "interfaces" ∷ codes "shapes" ∷ []
@@ -54,7 +54,7 @@ definition_with draft places = record {
 -- the predeclared types with the enums of a definition
 unfoldable pub enums_in : Data → Result (List GType) Refusal
 enums_in d = do
-  unset ← nothing_at [] d unset_before_enums
+  limits ← absent_at [] d (codes "limits" ∷ [])
   list ← entries_at [] d (codes "enums")
   each (at_entry (λ path. enum_at path (length predeclared)) (under [] (codes "enums"))) 0 predeclared list
 

@@ -1,5 +1,5 @@
 -- The parts of a JSON document, by their paths: JSON pointers (RFC 6901).
-use Rattle.std.specs.Prelude.{ℕ, ◌+◌, List, [], ◌∷◌, ◌++◌, codes, decimal, Bool, true, false, cond, not, nat_eq, nat_lt, length, if◌then◌else◌, Option, None, Some, option_and_then, Result, Ok, Err}
+use Rattle.std.specs.Prelude.{ℕ, ◌+◌, List, [], ◌∷◌, ◌++◌, codes, decimal, Bool, true, false, cond, not, nat_eq, nat_lt, length, if◌then◌else◌, Option, None, Some, is_some, option_and_then, Result, Ok, Err}
 use Rattle.std.specs.List.{find, flat_map, list_any}
 use Rattle.std.specs.Str.{bytes_eq, is_utf8}
 use Rattle.serde_json.specs.Data.{Data, Items, no_items, item, Members, no_members, member}
@@ -52,9 +52,13 @@ abbrev pub is_absent_or_empty : Option Data → Bool
 is_absent_or_empty None = true
 is_absent_or_empty (Some d) = is_empty_list (as_array d)
 
--- these members, of which there is nothing so far, are absent or empty lists
+-- these lists, of which there is nothing so far, are absent or empty
 abbrev pub nothing_at : List ℕ → Data → List (List ℕ) → Result (Unit {0}) Refusal
 nothing_at path d keys = refused_if (λ key. shape (under path key)) (find (λ key. not (is_absent_or_empty (get key d))) keys)
+
+-- these members, which are no lists, are absent so far
+abbrev pub absent_at : List ℕ → Data → List (List ℕ) → Result (Unit {0}) Refusal
+absent_at path d keys = refused_if (λ key. shape (under path key)) (find (λ key. is_some (get key d)) keys)
 
 -- ** unknown members
 

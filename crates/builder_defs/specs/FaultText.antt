@@ -6,11 +6,13 @@ use Rattle.type_tree.specs.declared.error.TypeLimit.{TypeLimit}
 use Rattle.type_tree.specs.declared.error.TypeLimit.TheVariants as limits
 use Rattle.builder_defs.specs.Causes.{Cause}
 use Rattle.builder_defs.specs.Causes as causes
+use Rattle.g_values.specs.declared.error.JsonFault.{JsonFault}
+use Rattle.g_values.specs.declared.error.JsonFault.TheVariants as values
 use Rattle.param_specs.specs.declared.error.SpecFault.{SpecFault}
 use Rattle.param_specs.specs.declared.error.SpecFault.TheVariants as specs
 use Rattle.builder_defs.specs.declared.fault.DefinitionLimit.{DefinitionLimit}
 use Rattle.builder_defs.specs.declared.fault.DefinitionLimit.TheVariants.{Types, Properties, Objects}
-use Rattle.builder_defs.specs.Refusals.{Refusal, too_long, not_utf8, not_json, shape, unknown, duplicate, bad_type, bad_spec, limit}
+use Rattle.builder_defs.specs.Refusals.{Refusal, too_long, not_utf8, not_json, shape, unknown, duplicate, bad_type, bad_spec, value_fault, limit}
 
 -- ** paths and names
 
@@ -49,6 +51,13 @@ spec_cause_text specs.RangeEmpty = codes "RangeEmpty"
 spec_cause_text specs.DefaultInvalid = codes "DefaultInvalid"
 spec_cause_text specs.Limit = codes "Limit"
 
+-- why JSON stands for no value
+abbrev pub value_cause_text : JsonFault → List ℕ
+value_cause_text values.WrongJson = codes "WrongJson"
+value_cause_text values.OutOfRange = codes "OutOfRange"
+value_cause_text values.UnknownMember = codes "UnknownMember"
+value_cause_text values.TextTooLong = codes "TextTooLong"
+
 -- ** refusals
 
 abbrev pub limit_name : DefinitionLimit → List ℕ
@@ -66,4 +75,5 @@ refusal_text (unknown path name) = codes "Unknown " ++ (printed path ++ (codes "
 refusal_text (duplicate path) = codes "Duplicate " ++ printed path
 refusal_text (bad_type path cause) = codes "BadType " ++ (printed path ++ (codes " " ++ type_cause_text cause))
 refusal_text (bad_spec path cause) = codes "BadSpec " ++ (printed path ++ (codes " " ++ spec_cause_text cause))
+refusal_text (value_fault path cause) = codes "ValueFault " ++ (printed path ++ (codes " " ++ value_cause_text cause))
 refusal_text (limit l) = codes "Limit " ++ limit_name l

@@ -1,5 +1,6 @@
 -- Why bytes denote no definition.
 use Rattle.std.specs.Prelude.{◌≡◌, ℕ, List, Option, None, Some, Result, Ok, Err, string_bytes}
+use Rattle.g_values.specs.declared.error.JsonFault.{JsonFault}
 use Rattle.param_specs.specs.declared.error.SpecFault.{SpecFault}
 use Rattle.builder_defs.specs.Causes.{Cause, cause_view}
 use Rattle.builder_defs.specs.declared.fault.DefinitionLimit.{DefinitionLimit}
@@ -17,6 +18,7 @@ pub data Refusal : Type 0 where
   duplicate : (path : List ℕ) → Refusal
   bad_type : (path : List ℕ) (cause : Cause) → Refusal
   bad_spec : (path : List ℕ) (cause : SpecFault) → Refusal
+  value_fault : (path : List ℕ) (cause : JsonFault) → Refusal
   limit : DefinitionLimit → Refusal
 
 -- a fault without where its text lies in memory
@@ -29,6 +31,7 @@ refusal (faults.Unknown path name) = unknown (string_bytes path) (string_bytes n
 refusal (faults.Duplicate path) = duplicate (string_bytes path)
 refusal (faults.BadType path cause) = bad_type (string_bytes path) (cause_view cause)
 refusal (faults.BadSpec path cause) = bad_spec (string_bytes path) cause
+refusal (faults.ValueFault path cause) = value_fault (string_bytes path) cause
 refusal (faults.Limit l) = limit l
 
 -- What a function returned, seen by view, is what reading gives, unless memory ran out.
@@ -59,3 +62,8 @@ or_refused refusal (Some x) = Ok x
 abbrev pub refused_if : {A : Type 0} → (A → Refusal) → Option A → Result (Unit {0}) Refusal
 refused_if refusal None = Ok tt
 refused_if refusal (Some x) = Err (refusal x)
+
+-- a value, or the refusal for the cause why there is none
+abbrev pub or_value_fault : {A : Type 0} → List ℕ → Result A JsonFault → Result A Refusal
+or_value_fault path (Ok x) = Ok x
+or_value_fault path (Err cause) = Err (value_fault path cause)

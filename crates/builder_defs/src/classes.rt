@@ -5,7 +5,7 @@ ghost use Rattle.serde_json.specs.View.{view, items_view};
 ghost use Rattle.param_specs.specs.Table.{own_of};
 ghost use Rattle.builder_defs.specs.Refusals.{Gives, Leads};
 ghost use Rattle.builder_defs.specs.Document.{under, path_of, each, at_entry};
-ghost use Rattle.builder_defs.specs.Denoted.Classes.{draft_of, with_class, declared_at, properties_at, class_at};
+ghost use Rattle.builder_defs.specs.Denoted.Classes.{draft_of, with_class, declared_at, kin_at, answering_at, properties_at, class_at};
 
 use crate::document::{Entries, Part, path_under};
 use crate::fault::{DefinitionFault, ReadError};
@@ -14,10 +14,6 @@ use crate::reads::{Reads, read_each};
 use crate::types::{check_room, is_from, named_cause};
 use param_specs::SpecTable;
 use type_tree::{TypeError, TypeFlags, TypeId, TypeTree};
-
-const UNSET_BEFORE_PROPERTIES: [&str; 4] = ["parent", "abstract", "final", "implements"];
-
-const UNSET_AFTER_PROPERTIES: [&str; 4] = ["signals", "class-handlers", "constructed", "shape"];
 
 const MEMBERS: [&str; 10] = [
     "name",
@@ -70,6 +66,26 @@ fn declare(part: Part<'_>, first: usize, types: &mut TypeTree) -> Result<TypeId,
     Ok(class)
 }
 
+// Tests that a class says nothing of its kin.
+#[tactic(auto, unfolding(crate::specs::Denoted::Classes::kin_at))]
+fn check_kin(part: Part<'_>) -> Result<(), ReadError>
+    ensures { Gives (λ _. tt) result (kin_at (path_of part.entry.path) (view part.entry.value.now)) }
+{
+    part.check_absent(&["parent", "abstract", "final"])?;
+    part.check_nothing(&["implements"])?;
+    Ok(())
+}
+
+// Tests that a class has nothing that programs or peers answer.
+#[tactic(auto, unfolding(crate::specs::Denoted::Classes::answering_at))]
+fn check_answering(part: Part<'_>) -> Result<(), ReadError>
+    ensures { Gives (λ _. tt) result (answering_at (path_of part.entry.path) (view part.entry.value.now)) }
+{
+    part.check_nothing(&["signals", "class-handlers"])?;
+    part.check_absent(&["constructed", "shape"])?;
+    Ok(())
+}
+
 // Gives a class the properties of its entry.
 #[tactic(auto, unfolding(crate::specs::Denoted::Classes::properties_at))]
 fn give_properties(
@@ -80,7 +96,7 @@ fn give_properties(
 ) -> Result<(), ReadError>
     ensures { Leads result (properties_at (path_of part.entry.path) types.now class (own_of specs.old) (view part.entry.value.now)) (own_of specs.new) }
 {
-    part.check_nothing(&UNSET_BEFORE_PROPERTIES)?;
+    check_kin(part)?;
     let items = part.entries("properties")?;
     let path = path_under(part.alloc, part.path, "properties")?;
     let list = Entries {
@@ -105,7 +121,7 @@ fn read_class(
     let members = part.members()?;
     let class = declare(part, first, types)?;
     give_properties(part, types, specs, class)?;
-    part.check_nothing(&UNSET_AFTER_PROPERTIES)?;
+    check_answering(part)?;
     part.check_only(members, &MEMBERS)?;
     Ok(())
 }

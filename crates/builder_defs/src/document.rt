@@ -1,16 +1,17 @@
 //! The parts of a JSON document, with their paths.
 
-ghost use Rattle.std.specs.Prelude.{◌≡◌, ◌∷◌, [], map, not, string_bytes, option_copied, option_map, IfOk, ◌++◌, OnOk};
+ghost use Rattle.std.specs.Prelude.{◌≡◌, ◌∷◌, [], map, not, is_some, string_bytes, option_copied, option_map, IfOk, ◌++◌, OnOk};
 ghost use Rattle.std.specs.Char.{encode_utf8};
 ghost use Rattle.std.specs.List.{find, list_any};
 ghost use Rattle.std.specs.Str.{bytes_eq};
 ghost use Rattle.std.specs.BTreeMap.{keys};
 ghost use Rattle.serde_json.specs.View.{view, items_view, members_view};
 ghost use Rattle.serde_json.specs.Find.{get};
-ghost use Rattle.builder_defs.specs.Refusals.{Gives, IsRefusal, shape};
-ghost use Rattle.builder_defs.specs.Document.{under, nth, path_of, members_at, text_at, entries_at, is_absent_or_empty, nothing_at, escaped, only_at, document};
+ghost use Rattle.builder_defs.specs.Refusals.{Gives, IsRefusal, shape, value_fault};
+ghost use Rattle.builder_defs.specs.Document.{under, nth, path_of, members_at, text_at, entries_at, is_absent_or_empty, nothing_at, absent_at, escaped, only_at, document};
 
 use crate::fault::{DefinitionFault, ReadError};
+use g_values::JsonFault;
 use serde_json::{Map, Value};
 use std::alloc::{AllocError, Global};
 
@@ -99,6 +100,19 @@ pub(crate) fn bad_shape(alloc: Global, path: Path<'_>, key: &str) -> Result<Read
     Ok(ReadError::Refused(DefinitionFault::Shape(path_under(alloc, path, key)?)))
 }
 
+// A fault of a value at a member.
+pub(crate) fn bad_value(
+    alloc: Global,
+    path: Path<'_>,
+    key: &str,
+    cause: JsonFault,
+) -> Result<ReadError, ReadError>
+    ensures { IsRefusal (value_fault (under (path_of path.entry) key.now) cause) result }
+{
+    let path = path_under(alloc, path, key)?;
+    Ok(ReadError::Refused(DefinitionFault::ValueFault(path, cause)))
+}
+
 // Whether a member is absent or an empty list.
 #[tactic(auto, using(crate::proofs::Members::no_items_is))]
 fn is_absent_or_empty(member: Option<&Value>) -> bool
@@ -149,12 +163,23 @@ impl<'a> Part<'a> {
         }
     }
 
-    // Tests that members, of which there is nothing so far, are absent or empty lists.
+    // Tests that lists, of which there is nothing so far, are absent or empty.
     #[tactic(auto, using(crate::proofs::Members::find_map))]
     pub(crate) fn check_nothing(self, keys: &[&str]) -> Result<(), ReadError>
         ensures { Gives (λ _. tt) result (nothing_at (path_of self.entry.path) (view self.entry.value.now) (map (λ k. k.now) keys.now)) }
     {
         match first_given(self.value, keys) {
+            None => Ok(()),
+            Some(key) => Err(bad_shape(self.alloc, self.path, key)?),
+        }
+    }
+
+    // Tests that members, which are no lists, are absent so far.
+    #[tactic(auto, using(crate::proofs::Members::find_map))]
+    pub(crate) fn check_absent(self, keys: &[&str]) -> Result<(), ReadError>
+        ensures { Gives (λ _. tt) result (absent_at (path_of self.entry.path) (view self.entry.value.now) (map (λ k. k.now) keys.now)) }
+    {
+        match first_present(self.value, keys) {
             None => Ok(()),
             Some(key) => Err(bad_shape(self.alloc, self.path, key)?),
         }
@@ -177,6 +202,13 @@ impl<'a> Part<'a> {
             }
         }
     }
+}
+
+// The first member of these that is there.
+fn first_present<'a>(value: &Value, keys: &[&'a str]) -> Option<&'a str>
+    ensures { result ≡ find (λ k. is_some (get k.now (view value.now))) keys.now }
+{
+    keys.iter().copied().find(|key| value.get(*key).is_some())
 }
 
 // The first member of these that is neither absent nor an empty list.

@@ -15,6 +15,7 @@ ghost use Rattle.builder_defs.specs.Denoted.Enums.{three_in, parts_at, name_if, 
 use crate::document::{Entries, Part, bad_shape, path_text, path_under, path_within};
 use crate::fault::{DefinitionFault, ReadError};
 use crate::names::is_name;
+use crate::numbers::whole_number;
 use crate::reads::{Reads, read_each};
 use crate::types::{check_room, check_type_name};
 use g_values::has_number;
@@ -80,7 +81,7 @@ fn number_in(value: &Value, low: i128, high: i128) -> Option<i128>
     ensures low { IfSome result (λ n. low ≤ℤ n) }
     ensures high { IfSome result (λ n. n ≤ℤ high) }
 {
-    let number = value.as_number()?.as_i128()?;
+    let number = whole_number(value)?;
     if number < low || number > high {
         return None;
     }

@@ -3,6 +3,7 @@
 ghost use Rattle.std.specs.Prelude.{◌≡◌};
 ghost use Rattle.builder_defs.specs.declared.fault.ReadError.TheVariants.{OutOfMemory};
 
+use g_values::JsonFault;
 use param_specs::SpecFault;
 use std::alloc::{AllocError, AllocFailed};
 use type_tree::TypeLimit;
@@ -55,6 +56,8 @@ pub enum DefinitionFault {
     BadType(String, TypeCause),
     /// A property is not installed.
     BadSpec(String, SpecFault),
+    /// At the path stands no value of the kind.
+    ValueFault(String, JsonFault),
     /// There is too much of something.
     Limit(DefinitionLimit),
 }

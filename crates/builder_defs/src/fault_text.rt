@@ -3,9 +3,10 @@
 ghost use Rattle.std.specs.Prelude.{◌≡◌, ◌<◌, ◌++◌, IfOk, OnOk, string_bytes};
 ghost use Rattle.builder_defs.specs.Causes.{cause_view};
 ghost use Rattle.builder_defs.specs.Refusals.{refusal};
-ghost use Rattle.builder_defs.specs.FaultText.{hex_digit, printed_byte, printed, type_limit_name, type_cause_text, spec_cause_text, limit_name, refusal_text};
+ghost use Rattle.builder_defs.specs.FaultText.{hex_digit, printed_byte, printed, type_limit_name, type_cause_text, spec_cause_text, value_cause_text, limit_name, refusal_text};
 
 use crate::fault::{DefinitionFault, DefinitionLimit, TypeCause};
+use g_values::JsonFault;
 use param_specs::SpecFault;
 use std::alloc::{AllocError, Global};
 use type_tree::TypeLimit;
@@ -42,6 +43,11 @@ impl DefinitionFault {
                 let path = printed(alloc, path.as_str())?;
                 let cause = spec_cause_text(*cause);
                 format!(in alloc; "BadSpec {path} {cause}")
+            }
+            DefinitionFault::ValueFault(path, cause) => {
+                let path = printed(alloc, path.as_str())?;
+                let cause = value_cause_text(*cause);
+                format!(in alloc; "ValueFault {path} {cause}")
             }
             DefinitionFault::Limit(limit) => {
                 let name = limit_name(*limit);
@@ -103,6 +109,18 @@ fn spec_cause_text(cause: SpecFault) -> &'static str
         SpecFault::RangeEmpty => "RangeEmpty",
         SpecFault::DefaultInvalid => "DefaultInvalid",
         SpecFault::Limit => "Limit",
+    }
+}
+
+// Why JSON stands for no value.
+fn value_cause_text(cause: JsonFault) -> &'static str
+    ensures { result.now ≡ value_cause_text cause }
+{
+    match cause {
+        JsonFault::WrongJson => "WrongJson",
+        JsonFault::OutOfRange => "OutOfRange",
+        JsonFault::UnknownMember => "UnknownMember",
+        JsonFault::TextTooLong => "TextTooLong",
     }
 }
 

@@ -4,6 +4,7 @@
 #![tactic(auto)]
 
 mod classes;
+mod defaults;
 mod definition;
 mod document;
 mod enums;
@@ -12,10 +13,13 @@ mod event_fault;
 mod event_reading;
 mod fault;
 mod fault_text;
+mod kinds;
 mod names;
+mod numbers;
 mod object_entry;
 mod objects;
 mod properties;
+mod ranges;
 mod reading;
 mod reads;
 mod types;

@@ -6,7 +6,7 @@ ghost use Rattle.ui_machine.specs.Definition.Names.{place_named};
 ghost use Rattle.builder_defs.specs.Meaning.{bare_place, plain_object};
 ghost use Rattle.builder_defs.specs.Refusals.{Gives};
 ghost use Rattle.builder_defs.specs.Document.{under, path_of, each, at_entry};
-ghost use Rattle.builder_defs.specs.Denoted.Objects.{room_for_object, new_id, class_at_key, place_at, object_at};
+ghost use Rattle.builder_defs.specs.Denoted.Objects.{room_for_object, new_id, class_at_key, bare_at, place_at, object_at};
 
 use crate::definition::{MOST_OBJECTS, position_of};
 use crate::document::{Entries, Part, bad_shape, path_under};
@@ -15,8 +15,6 @@ use crate::names::is_name;
 use crate::reads::{Reads, read_each};
 use indexmap::IndexMap;
 use type_tree::{TypeId, TypeTree};
-
-const UNSET_MEMBERS: [&str; 4] = ["peer", "properties", "signals", "children"];
 
 const MEMBERS: [&str; 6] = ["id", "class", "peer", "properties", "signals", "children"];
 
@@ -77,6 +75,16 @@ struct NewObject {
     class: TypeId,
 }
 
+// Tests that an object has no peer, given values, signals and children.
+#[tactic(auto, unfolding(crate::specs::Denoted::Objects::bare_at))]
+fn check_bare(part: Part<'_>) -> Result<(), ReadError>
+    ensures { Gives (λ _. tt) result (bare_at (path_of part.entry.path) (view part.entry.value.now)) }
+{
+    part.check_absent(&["peer"])?;
+    part.check_nothing(&["properties", "signals", "children"])?;
+    Ok(())
+}
+
 // The object of an entry.
 #[tactic(auto, unfolding(crate::specs::Denoted::Objects::place_at))]
 fn read_object(
@@ -92,7 +100,7 @@ fn read_object(
     let id = part.text("id")?;
     check_id(part, objects, id)?;
     let class = class_of(part, types)?;
-    part.check_nothing(&UNSET_MEMBERS)?;
+    check_bare(part)?;
     part.check_only(members, &MEMBERS)?;
     let id = String::from_str(part.alloc, id)?;
     Ok(NewObject { id, class })

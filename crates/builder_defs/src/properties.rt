@@ -1,118 +1,39 @@
 //! The properties of a class, read from a definition.
 
-ghost use Rattle.std.specs.Prelude.{◌≡◌, false, codes, List, option_map, string_bytes, IfOk, IfSome};
+ghost use Rattle.std.specs.Prelude.{◌≡◌, codes, string_bytes, IfOk};
 ghost use Rattle.serde_json.specs.View.{view, items_view};
 ghost use Rattle.g_values.specs.View.{kind_view, value_view, IsKnown};
-ghost use Rattle.ui_machine.specs.Rules.Transform.{zero_value};
-ghost use Rattle.type_tree.specs.Adding.{find_type};
-ghost use Rattle.ui_machine.specs.Definition.Types.{GType};
-ghost use Rattle.ui_machine.specs.Definition.Properties as properties;
 ghost use Rattle.param_specs.specs.View.{spec_view};
 ghost use Rattle.param_specs.specs.Table.{own_of, specs_of};
 ghost use Rattle.builder_defs.specs.Refusals.{Gives, Leads};
 ghost use Rattle.builder_defs.specs.Document.{under, path_of, each, at_entry};
-ghost use Rattle.builder_defs.specs.Denoted.Properties.{kind_named, kind_at, lowest, highest, room_for_property, new_property, spec_at, installed, property_at};
+ghost use Rattle.builder_defs.specs.Denoted.Properties.{property_spec, room_for_property, new_property, valued_at, spec_at, installed, property_at};
 
-use crate::document::{Entries, Part, bad_shape, path_text, path_under};
+use crate::defaults::{check_default, default_of};
+use crate::document::{Entries, Part, path_text, path_under};
 use crate::fault::{DefinitionFault, DefinitionLimit, ReadError};
+use crate::kinds::kind_of;
+use crate::ranges::{NumberRange, range_of};
 use crate::reads::{Reads, read_each};
-use g_values::{Kind, zero_of};
+use g_values::Kind;
 use param_specs::{
     MOST_PROPERTIES, PropertyFlags, Spec, SpecError, SpecFault, SpecTable, is_property_name,
 };
-use serde_json::Value;
-use std::alloc::Global;
 use type_tree::{TypeId, TypeTree};
-
-const UNSET_MEMBERS: [&str; 5] = ["flags", "default", "min", "max", "weak"];
 
 const MEMBERS: [&str; 7] = ["name", "kind", "flags", "default", "min", "max", "weak"];
 
-// The kind of a word, of the kinds that there are so far.
-fn kind_named(word: &str) -> Option<Kind>
-    ensures kind { option_map kind_view result ≡ kind_named word.now }
-    ensures known { IfSome result (λ k. (types : List GType) → IsKnown types k) }
+// The spec of a property that is read and written, with this default and range.
+fn property_spec(name: String, kind: Kind, default: g_values::Value, range: NumberRange) -> Spec
+    ensures { spec_view result ≡ property_spec (string_bytes name) (kind_view kind) (value_view default) (record { low = range.min; high = range.max }) }
 {
-    if word == "bool" {
-        Some(Kind::Bool)
-    } else if word == "int" {
-        Some(Kind::Int)
-    } else if word == "uint" {
-        Some(Kind::UInt)
-    } else if word == "int64" {
-        Some(Kind::Int64)
-    } else if word == "uint64" {
-        Some(Kind::UInt64)
-    } else if word == "text" {
-        Some(Kind::Text)
-    } else {
-        None
-    }
-}
-
-// The kind of a property.
-fn kind_of(part: Part<'_>) -> Result<Kind, ReadError>
-    ensures kind { Gives kind_view result (kind_at (path_of part.entry.path) (view part.entry.value.now)) }
-    ensures known { IfOk result (λ k. (types : List GType) → IsKnown types k) }
-{
-    let word = part.text("kind")?;
-    match kind_named(word) {
-        Some(kind) => Ok(kind),
-        None => Err(bad_shape(part.alloc, part.path, "kind")?),
-    }
-}
-
-// The least number of a kind.
-fn lowest(kind: &Kind) -> i128
-    ensures { result ≡ lowest (kind_view kind.now) }
-{
-    match kind {
-        Kind::Int => i128::from(i32::MIN),
-        Kind::Int64 => i128::from(i64::MIN),
-        _ => 0,
-    }
-}
-
-// The greatest number of a kind.
-fn highest(kind: &Kind) -> i128
-    ensures { result ≡ highest (kind_view kind.now) }
-{
-    match kind {
-        Kind::Int => i128::from(i32::MAX),
-        Kind::UInt => i128::from(u32::MAX),
-        Kind::Int64 => i128::from(i64::MAX),
-        Kind::UInt64 => i128::from(u64::MAX),
-        _ => 0,
-    }
-}
-
-// The zero value of a kind.
-fn zero_for(types: &TypeTree, kind: &Kind) -> g_values::Value
-    requires { IsKnown types.now kind.now }
-    ensures { value_view result ≡ zero_value types.now (kind_view kind.now) }
-{
-    zero_of(types, *kind)
-}
-
-// The spec of a property of which nothing is said but its name and kind.
-fn property_spec(name: String, kind: Kind, default: g_values::Value) -> Spec
-    ensures name { string_bytes result.name ≡ string_bytes name }
-    ensures kind { result.kind ≡ kind }
-    ensures flags { result.flags.0 ≡ 3 }
-    ensures default { result.default ≡ default }
-    ensures min { result.min ≡ lowest (kind_view kind) }
-    ensures max { result.max ≡ highest (kind_view kind) }
-    ensures weak { result.weak ≡ false }
-{
-    let min = lowest(&kind);
-    let max = highest(&kind);
     Spec {
         name,
         kind,
         flags: PropertyFlags(3),
         default,
-        min,
-        max,
+        min: range.min,
+        max: range.max,
         weak: false,
     }
 }
@@ -148,6 +69,21 @@ fn check_name(
     Ok(())
 }
 
+// The spec of a property of this name and kind.
+#[tactic(auto, unfolding(crate::specs::Denoted::Properties::valued_at))]
+fn valued(part: Part<'_>, types: &TypeTree, name: &str, kind: Kind) -> Result<Spec, ReadError>
+    requires { IsKnown types.now kind }
+    ensures spec { Gives spec_view result (valued_at (path_of part.entry.path) types.now name.now (kind_view kind) (view part.entry.value.now)) }
+    ensures kind { IfOk result (λ s. s.kind ≡ kind) }
+{
+    let default = default_of(part, types, kind)?;
+    let range = range_of(part, &kind)?;
+    let name = String::from_str(part.alloc, name)?;
+    let spec = property_spec(name, kind, default, range);
+    check_default(part, types, &spec)?;
+    Ok(spec)
+}
+
 // The spec of a property that a class has not yet.
 #[tactic(auto, unfolding(crate::specs::Denoted::Properties::spec_at))]
 fn spec_in(
@@ -164,11 +100,11 @@ fn spec_in(
     let name = part.text("name")?;
     check_name(part, types, specs, class, name)?;
     let kind = kind_of(part)?;
-    part.check_nothing(&UNSET_MEMBERS)?;
+    part.check_absent(&["flags"])?;
+    let spec = valued(part, types, name, kind)?;
+    part.check_absent(&["weak"])?;
     part.check_only(members, &MEMBERS)?;
-    let name = String::from_str(part.alloc, name)?;
-    let default = zero_for(types, &kind);
-    Ok(property_spec(name, kind, default))
+    Ok(spec)
 }
 
 // Gives a class a property.

@@ -22,8 +22,6 @@ use serde_json::Value;
 use std::alloc::Global;
 use type_tree::{TypeId, TypeTree};
 
-const UNSET_BEFORE_ENUMS: [&str; 1] = ["limits"];
-
 const UNSET_BEFORE_CLASSES: [&str; 2] = ["interfaces", "shapes"];
 
 const UNSET_BEFORE_OBJECTS: [&str; 2] = ["programs", "prototypes"];
@@ -65,7 +63,7 @@ fn enums_of(part: Part<'_>, types: &mut TypeTree) -> Result<(), ReadError>
     requires first { types.old ≡ predeclared }
     ensures { Leads result (enums_in (view part.entry.value.now)) types.new }
 {
-    part.check_nothing(&UNSET_BEFORE_ENUMS)?;
+    part.check_absent(&["limits"])?;
     let items = part.entries("enums")?;
     let list = Entries {
         alloc: part.alloc,

@@ -17,4 +17,4 @@ pub use flags::PropertyFlags;
 pub use name::is_property_name;
 pub use spec::Spec;
 pub use table::{MOST_PROPERTIES, SpecTable};
-pub use validating::{takes, validate};
+pub use validating::{is_valid_default, takes, validate};

@@ -9,7 +9,7 @@ use Rattle.type_tree.specs.declared.error.TypeFault.{TypeFault}
 use Rattle.param_specs.specs.Table.{own_of}
 use Rattle.builder_defs.specs.Causes.{named_cause}
 use Rattle.builder_defs.specs.Refusals.{Refusal, duplicate, bad_type}
-use Rattle.builder_defs.specs.Document.{under, members_at, text_at, entries_at, nothing_at, only_at, each, at_entry}
+use Rattle.builder_defs.specs.Document.{under, members_at, text_at, entries_at, absent_at, nothing_at, only_at, each, at_entry}
 use Rattle.builder_defs.specs.Denoted.Types.{is_from, room_for_type}
 use Rattle.builder_defs.specs.Denoted.Properties.{property_at}
 
@@ -36,12 +36,6 @@ with_class path first types name =
     added_or path types (class_fault types name (codes "GObject") [])
     (types ++ new_class types name (codes "GObject") (record { is_abstract = false; is_final = false }) [] ∷ [])
 
-abbrev pub unset_before_properties : List (List ℕ)
-unset_before_properties = codes "parent" ∷ codes "abstract" ∷ codes "final" ∷ codes "implements" ∷ []
-
-abbrev pub unset_after_properties : List (List ℕ)
-unset_after_properties = codes "signals" ∷ codes "class-handlers" ∷ codes "constructed" ∷ codes "shape" ∷ []
-
 abbrev pub keys_of_class : List (List ℕ)
 keys_of_class = codes "name" ∷ codes "parent" ∷ codes "abstract" ∷ codes "final" ∷ codes "implements" ∷ codes "properties" ∷ codes "signals" ∷ codes "class-handlers" ∷ codes "constructed" ∷ codes "shape" ∷ []
 
@@ -52,10 +46,22 @@ declared_at path first types d = do
   name ← text_at path d (codes "name")
   with_class (under path (codes "name")) first types name
 
+-- of its parent and interfaces a class says nothing so far
+unfoldable pub kin_at : List ℕ → Data → Result (Unit {0}) Refusal
+kin_at path d = do
+  kin ← absent_at path d (codes "parent" ∷ codes "abstract" ∷ codes "final" ∷ [])
+  nothing_at path d (codes "implements" ∷ [])
+
+-- and it has no signals, handlers, programs and shape
+unfoldable pub answering_at : List ℕ → Data → Result (Unit {0}) Refusal
+answering_at path d = do
+  signals ← nothing_at path d (codes "signals" ∷ codes "class-handlers" ∷ [])
+  absent_at path d (codes "constructed" ∷ codes "shape" ∷ [])
+
 -- each type's own properties, with those that an entry gives to a class
 unfoldable pub properties_at : List ℕ → List GType → ℕ → (ℕ → List Spec) → Data → Result (ℕ → List Spec) Refusal
 properties_at path types t own d = do
-  unset ← nothing_at path d unset_before_properties
+  unset ← kin_at path d
   list ← entries_at path d (codes "properties")
   each (at_entry (λ entry. property_at entry types t) (under path (codes "properties"))) 0 own list
 
@@ -64,6 +70,6 @@ class_at path first draft d = do
   members ← members_at path d
   types ← declared_at path first draft.types d
   own ← properties_at path types (length draft.types) draft.own d
-  unset ← nothing_at path d unset_after_properties
+  unset ← answering_at path d
   only ← only_at path members keys_of_class
   Ok (record { types = types; own = own })

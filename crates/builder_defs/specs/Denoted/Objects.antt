@@ -9,7 +9,7 @@ use Rattle.type_tree.specs.Adding.{class_named}
 use Rattle.builder_defs.specs.declared.fault.DefinitionLimit.TheVariants.{Objects}
 use Rattle.builder_defs.specs.Meaning.{bare_place}
 use Rattle.builder_defs.specs.Refusals.{Refusal, shape, unknown, duplicate, limit, or_refused}
-use Rattle.builder_defs.specs.Document.{under, members_at, text_at, nothing_at, only_at}
+use Rattle.builder_defs.specs.Document.{under, members_at, text_at, absent_at, nothing_at, only_at}
 use Rattle.builder_defs.specs.Denoted.Names.{is_name}
 
 abbrev pub room_for_object : List machine.Place → Result (Unit {0}) Refusal
@@ -25,11 +25,14 @@ class_at_key path types d = do
   name ← text_at path d (codes "class")
   or_refused (unknown (under path (codes "class")) name) (class_named types name)
 
-abbrev pub unset_of_object : List (List ℕ)
-unset_of_object = codes "peer" ∷ codes "properties" ∷ codes "signals" ∷ codes "children" ∷ []
-
 abbrev pub keys_of_object : List (List ℕ)
 keys_of_object = codes "id" ∷ codes "class" ∷ codes "peer" ∷ codes "properties" ∷ codes "signals" ∷ codes "children" ∷ []
+
+-- an object has no peer, given values, signals and children so far
+unfoldable pub bare_at : List ℕ → Data → Result (Unit {0}) Refusal
+bare_at path d = do
+  peer ← absent_at path d (codes "peer" ∷ [])
+  nothing_at path d (codes "properties" ∷ codes "signals" ∷ codes "children" ∷ [])
 
 -- the object that an entry gives beside these
 unfoldable pub place_at : List ℕ → List GType → List machine.Place → Data → Result machine.Place Refusal
@@ -39,7 +42,7 @@ place_at path types places d = do
   id ← text_at path d (codes "id")
   new ← new_id (under path (codes "id")) places id
   class ← class_at_key path types d
-  unset ← nothing_at path d unset_of_object
+  bare ← bare_at path d
   only ← only_at path members keys_of_object
   Ok (bare_place id class)
 

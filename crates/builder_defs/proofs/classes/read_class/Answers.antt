@@ -10,15 +10,15 @@ returns-in_err-give_properties c =
     let p = err_from_is_err_and c.from_residual-in_err-give_properties.result c.from_residual-in_err-give_properties.ensures.1 in
     rw (p.1, p.2) (properties_fail (path_of c.args.part.path) c.args.first c.args.types.now c.args.specs.now (view c.args.part.value.now) (members_view c.in_ok-members.members.now.entries) c.declare.new.types c.in_ok-class.class c.in_ok-members.ensures c.in_ok-class.ensures.types c.in_ok-class.ensures.class c.in_err-give_properties.field-0.0 c.in_err-give_properties.ensures)
 
-pub returns-in_err-check_nothing : goal.returns-in_err-check_nothing
-returns-in_err-check_nothing c =
-    let p = err_from_is_err_and c.from_residual-in_err-check_nothing.result c.from_residual-in_err-check_nothing.ensures.1 in
-    rw (p.1, p.2) (unset_fails (path_of c.args.part.path) c.args.first c.args.types.now c.args.specs.now (view c.args.part.value.now) (members_view c.in_ok-members.members.now.entries) c.declare.new.types c.in_ok-class.class c.in_ok-members.ensures c.in_ok-class.ensures.types c.in_ok-class.ensures.class (own_of c.give_properties.new.specs) c.in_ok-give_properties.ensures c.in_err-check_nothing.field-0.0 c.in_err-check_nothing.ensures)
+pub returns-in_err-check_answering : goal.returns-in_err-check_answering
+returns-in_err-check_answering c =
+    let p = err_from_is_err_and c.from_residual-in_err-check_answering.result c.from_residual-in_err-check_answering.ensures.1 in
+    rw (p.1, p.2) (unset_fails (path_of c.args.part.path) c.args.first c.args.types.now c.args.specs.now (view c.args.part.value.now) (members_view c.in_ok-members.members.now.entries) c.declare.new.types c.in_ok-class.class c.in_ok-members.ensures c.in_ok-class.ensures.types c.in_ok-class.ensures.class (own_of c.give_properties.new.specs) c.in_ok-give_properties.ensures c.in_err-check_answering.field-0.0 c.in_err-check_answering.ensures)
 
 pub returns-in_err-check_only : goal.returns-in_err-check_only
 returns-in_err-check_only c =
     let p = err_from_is_err_and c.from_residual-in_err-check_only.result c.from_residual-in_err-check_only.ensures.1 in
-    rw (p.1, p.2) (only_fails (path_of c.args.part.path) c.args.first c.args.types.now c.args.specs.now (view c.args.part.value.now) (members_view c.in_ok-members.members.now.entries) c.declare.new.types c.in_ok-class.class c.in_ok-members.ensures c.in_ok-class.ensures.types c.in_ok-class.ensures.class (own_of c.give_properties.new.specs) c.in_ok-give_properties.ensures c.in_err-check_only.field-0.0 c.in_ok-check_nothing.ensures c.in_err-check_only.ensures)
+    rw (p.1, p.2) (only_fails (path_of c.args.part.path) c.args.first c.args.types.now c.args.specs.now (view c.args.part.value.now) (members_view c.in_ok-members.members.now.entries) c.declare.new.types c.in_ok-class.class c.in_ok-members.ensures c.in_ok-class.ensures.types c.in_ok-class.ensures.class (own_of c.give_properties.new.specs) c.in_ok-give_properties.ensures c.in_err-check_only.field-0.0 c.in_ok-check_answering.ensures c.in_err-check_only.ensures)
 
 pub returns : goal.returns
-returns c = class_done (path_of c.args.part.path) c.args.first c.args.types.now c.args.specs.now (view c.args.part.value.now) (members_view c.in_ok-members.members.now.entries) c.declare.new.types c.in_ok-class.class c.in_ok-members.ensures c.in_ok-class.ensures.types c.in_ok-class.ensures.class (own_of c.give_properties.new.specs) c.in_ok-give_properties.ensures c.in_ok-check_nothing.ensures c.in_ok-check_only.ensures
+returns c = class_done (path_of c.args.part.path) c.args.first c.args.types.now c.args.specs.now (view c.args.part.value.now) (members_view c.in_ok-members.members.now.entries) c.declare.new.types c.in_ok-class.class c.in_ok-members.ensures c.in_ok-class.ensures.types c.in_ok-class.ensures.class (own_of c.give_properties.new.specs) c.in_ok-give_properties.ensures c.in_ok-check_answering.ensures c.in_ok-check_only.ensures
