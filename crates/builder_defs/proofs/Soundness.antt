@@ -29,6 +29,7 @@ use Rattle.builder_defs.specs.declared.fault.DefinitionLimit.TheVariants.{Object
 use Rattle.ui_machine.specs.Outcome.{◌>>=◌}
 use Rattle.builder_defs.specs.Document.{each, at_entry, under, nth, members_at, text_at, entries_at, absent_at, nothing_at, only_at}
 use Rattle.builder_defs.specs.Denoted.Kinds.{kind_named, kind_at, lowest, highest}
+use Rattle.builder_defs.specs.Denoted.PropertyFlags.{flags_at}
 use Rattle.builder_defs.specs.Denoted.Ranges.{Range, end_given, end_or, check_filled, range_at}
 use Rattle.builder_defs.specs.Denoted.Defaults.{default_at, check_default}
 use Rattle.builder_defs.specs.Denoted.Properties.{specs_by, property_spec, room_for_property, new_property, keys_of_property, valued_at, spec_at, add_own, installed_or, installed, property_at}
@@ -180,12 +181,12 @@ valid_anywhere types all (kinds.enum u) v s known = absurd known
 valid_anywhere types all (kinds.flags u) v s known = absurd known
 valid_anywhere types all (kinds.object u) v s known = absurd known
 
-default_plain : (path : List ℕ) (types : List GType) (s : Spec) → IsOpen s.kind → IsPlainKind s.kind s → s.flags ≡ 3 → s.weak ≡ false
+default_plain : (path : List ℕ) (types : List GType) (s : Spec) → IsOpen s.kind → IsPlainKind s.kind s → s.weak ≡ false
     → OnRead (λ u. IsPlain s) (check_default path types s)
-default_plain path types s known kind flags strong = by (is_valid (λ id. None) types s s.default) refl
+default_plain path types s known kind strong = by (is_valid (λ id. None) types s s.default) refl
   where
     by : (b : Bool) → is_valid (λ id. None) types s s.default ≡ b → OnRead {A = Unit {0}} (λ u. IsPlain s) (if b then Ok tt else Err (bad_spec path DefaultInvalid))
-    by true is = record { kind = kind; flags = flags; strong = strong; default = λ all. sym (valid_anywhere types all s.kind s.default s known) ∙ is }
+    by true is = record { kind = kind; strong = strong; default = λ all. sym (valid_anywhere types all s.kind s.default s known) ∙ is }
     by false is = tt
 
 whole_within : (kind : Kind) (s : Spec) → IsOpen kind → IsOf kind s.low → IsOf kind s.high → IsPlainKind kind s
@@ -196,13 +197,13 @@ whole_within (kinds.enum t) s known low high = absurd known
 whole_within (kinds.flags t) s known low high = absurd known
 whole_within (kinds.object t) s known low high = absurd known
 
-valued_plain : (path : List ℕ) (types : List GType) (name : List ℕ) (kind : Kind) (d : Data) → IsOpen kind → OnRead IsPlain (valued_at path types name kind d)
+valued_plain : (path : List ℕ) (types : List GType) (name : List ℕ) (kind : Kind) (flags : ℕ) (d : Data) → IsOpen kind → OnRead IsPlain (valued_at path types name kind flags d)
 unfolding valued_at
-valued_plain path types name kind d known =
+valued_plain path types name kind flags d known =
     on_bind (λ x. Unit {0}) IsPlain (default_at path types kind d) _ (on_all _) λ default u.
     on_bind (IsRangeOf kind) IsPlain (range_at path kind d) _ (range_is path kind d) λ range within.
-    on_bind (λ u. IsPlain (property_spec name kind default range)) IsPlain (check_default (under path (codes "default")) types (property_spec name kind default range)) _
-    (default_plain (under path (codes "default")) types (property_spec name kind default range) known (whole_within kind (property_spec name kind default range) known within.0 within.1) refl refl)
+    on_bind (λ u. IsPlain (property_spec name kind flags default range)) IsPlain (check_default (under path (codes "default")) types (property_spec name kind flags default range)) _
+    (default_plain (under path (codes "default")) types (property_spec name kind flags default range) known (whole_within kind (property_spec name kind flags default range) known within.0 within.1) refl)
     λ valid plain. plain
 
 spec_plain : (path : List ℕ) (types : List GType) (specs : List Spec) (d : Data) → OnRead IsPlain (spec_at path types specs d)
@@ -213,8 +214,8 @@ spec_plain path types specs d =
     on_bind (λ x. Unit {0}) IsPlain (text_at path d (codes "name")) _ (on_all _) λ name u.
     on_bind (λ x. Unit {0}) IsPlain (new_property (under path (codes "name")) specs name) _ (on_all _) λ new u.
     on_bind IsOpen IsPlain (kind_at path d) _ (kind_open path d) λ kind known.
-    on_bind (λ x. Unit {0}) IsPlain (absent_at path d (codes "flags" ∷ [])) _ (on_all _) λ flags u.
-    on_bind IsPlain IsPlain (valued_at path types name kind d) _ (valued_plain path types name kind d known) λ spec plain.
+    on_bind (λ x. Unit {0}) IsPlain (flags_at path d) _ (on_all _) λ flags u.
+    on_bind IsPlain IsPlain (valued_at path types name kind flags d) _ (valued_plain path types name kind flags d known) λ spec plain.
     on_bind (λ x. Unit {0}) IsPlain (absent_at path d (codes "weak" ∷ [])) _ (on_all _) λ weak u.
     on_bind (λ x. Unit {0}) IsPlain (only_at path ms keys_of_property) _ (on_all _) λ only u. plain
 
@@ -244,7 +245,7 @@ property_plain : (path : List ℕ) (types : List GType) (t : ℕ) (own : ℕ →
 unfolding property_at
 property_plain path types t own d all =
     on_bind IsPlain AllOwn (spec_at path types (specs_by types own t) d) (λ spec. installed path types t own spec) (spec_plain path types (specs_by types own t) d)
-    λ spec plain. installed_plain path (install_fault types (specs_by types own t) spec) (add_own own t (canonical_spec spec)) (added_plain own t (canonical_spec spec) all (record { kind = canonical_kind spec.kind spec plain.kind; flags = plain.flags; strong = plain.strong; default = plain.default }))
+    λ spec plain. installed_plain path (install_fault types (specs_by types own t) spec) (add_own own t (canonical_spec spec)) (added_plain own t (canonical_spec spec) all (record { kind = canonical_kind spec.kind spec plain.kind; strong = plain.strong; default = plain.default }))
 
 properties_plain : (path : List ℕ) (types : List GType) (t : ℕ) (own : ℕ → List Spec) (d : Data) → AllOwn own → OnRead AllOwn (properties_at path types t own d)
 unfolding properties_at

@@ -3,6 +3,7 @@ pub mod Names
 pub mod Types
 pub mod Enums
 pub mod Kinds
+pub mod PropertyFlags
 pub mod Ranges
 pub mod Defaults
 pub mod Properties

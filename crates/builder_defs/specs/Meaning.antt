@@ -63,10 +63,9 @@ IsPlainKind (kinds.enum t) s = ⊥
 IsPlainKind (kinds.flags t) s = ⊥
 IsPlainKind (kinds.object t) s = ⊥
 
--- and with the default flags, readable and writable, and a valid default
+-- and with a valid default
 pub record IsPlain (s : Spec) : Type 0 where
   pub kind : IsPlainKind s.kind s
-  pub flags : s.flags ≡ 3
   pub strong : s.weak ≡ false
   pub default : (types : List GType) → is_valid (λ id. None) types s s.default ≡ true
 

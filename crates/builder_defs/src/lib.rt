@@ -19,6 +19,7 @@ mod numbers;
 mod object_entry;
 mod objects;
 mod properties;
+mod property_flags;
 mod ranges;
 mod reading;
 mod reads;

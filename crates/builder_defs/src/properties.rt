@@ -13,6 +13,7 @@ use crate::defaults::{check_default, default_of};
 use crate::document::{Entries, Part, path_text, path_under};
 use crate::fault::{DefinitionFault, DefinitionLimit, ReadError};
 use crate::kinds::kind_of;
+use crate::property_flags::flags_of;
 use crate::ranges::{NumberRange, range_of};
 use crate::reads::{Reads, read_each};
 use g_values::Kind;
@@ -23,14 +24,20 @@ use type_tree::{TypeId, TypeTree};
 
 const MEMBERS: [&str; 7] = ["name", "kind", "flags", "default", "min", "max", "weak"];
 
-// The spec of a property that is read and written, with this default and range.
-fn property_spec(name: String, kind: Kind, default: g_values::Value, range: NumberRange) -> Spec
-    ensures { spec_view result ≡ property_spec (string_bytes name) (kind_view kind) (value_view default) (record { low = range.min; high = range.max }) }
+// The spec of a property with this default and range.
+fn property_spec(
+    name: String,
+    kind: Kind,
+    flags: PropertyFlags,
+    default: g_values::Value,
+    range: NumberRange,
+) -> Spec
+    ensures { spec_view result ≡ property_spec (string_bytes name) (kind_view kind) flags.0 (value_view default) (record { low = range.min; high = range.max }) }
 {
     Spec {
         name,
         kind,
-        flags: PropertyFlags(3),
+        flags,
         default,
         min: range.min,
         max: range.max,
@@ -69,17 +76,23 @@ fn check_name(
     Ok(())
 }
 
-// The spec of a property of this name and kind.
+// The spec of a property of this name and kind, with these flags.
 #[tactic(auto, unfolding(crate::specs::Denoted::Properties::valued_at))]
-fn valued(part: Part<'_>, types: &TypeTree, name: &str, kind: Kind) -> Result<Spec, ReadError>
+fn valued(
+    part: Part<'_>,
+    types: &TypeTree,
+    name: &str,
+    kind: Kind,
+    flags: PropertyFlags,
+) -> Result<Spec, ReadError>
     requires { IsKnown types.now kind }
-    ensures spec { Gives spec_view result (valued_at (path_of part.entry.path) types.now name.now (kind_view kind) (view part.entry.value.now)) }
+    ensures spec { Gives spec_view result (valued_at (path_of part.entry.path) types.now name.now (kind_view kind) flags.0 (view part.entry.value.now)) }
     ensures kind { IfOk result (λ s. s.kind ≡ kind) }
 {
     let default = default_of(part, types, kind)?;
     let range = range_of(part, &kind)?;
     let name = String::from_str(part.alloc, name)?;
-    let spec = property_spec(name, kind, default, range);
+    let spec = property_spec(name, kind, flags, default, range);
     check_default(part, types, &spec)?;
     Ok(spec)
 }
@@ -100,8 +113,8 @@ fn spec_in(
     let name = part.text("name")?;
     check_name(part, types, specs, class, name)?;
     let kind = kind_of(part)?;
-    part.check_absent(&["flags"])?;
-    let spec = valued(part, types, name, kind)?;
+    let flags = flags_of(part)?;
+    let spec = valued(part, types, name, kind, flags)?;
     part.check_absent(&["weak"])?;
     part.check_only(members, &MEMBERS)?;
     Ok(spec)

@@ -10,7 +10,7 @@ use Rattle.ui_machine.specs.Definition.{Definition}
 use Rattle.ui_machine.specs.Definition.Places.{Place, value}
 use Rattle.ui_machine.specs.Rules.Ancestry.{is_a}
 use Rattle.ui_machine.specs.Output.Lines as lines
-use Rattle.ui_machine.specs.Definition.Lookups.{type_of, program_at}
+use Rattle.ui_machine.specs.Definition.Lookups.{type_of, program_at, place_at, specs_of}
 use Rattle.ui_machine.specs.State.Tasks as config
 use Rattle.ui_machine.specs.State.Objects.{Object, Objects, living, changed, object_at}
 use Rattle.ui_machine.specs.State.Tasks.{Making, Item, makes, Emission, Task, Setting, Notifying, Beginning, Emitting, Transferring, Unsetting, Thawing, Running, Answering, Calling, Constructing, Building, Carrying, Due}
@@ -36,12 +36,13 @@ use Rattle.ui_engine.specs.EngineView.{is_counted}
 use Rattle.ui_machine.specs.Prefix.{IsPrefix}
 use Rattle.ui_machine.proofs.Prefixes.{prefix_same, prefix_one}
 use Rattle.ui_engine.specs.Holding.{making_of, IsHeld}
-use Rattle.ui_engine.specs.Measure.{weight, waiting_in, waiting}
+use Rattle.ui_engine.specs.Measure.{slots_of_place, weight, waiting_in, waiting}
+use Rattle.ui_engine.specs.MakingView.{construct_defaults}
 use Rattle.ui_engine.proofs.Lists.{total-append}
 use Rattle.ui_engine.proofs.Held.{Quietly, keeps_quietly, if_ok_at, bind_ok, changed_lives, made_held, ended_held}
 use Rattle.ui_engine.proofs.Quiet.{Calm, notifying_calm, setting_calm, carrying_set_calm, carrying_get_calm, thawing_calm}
 use Rattle.ui_engine.proofs.Falls.{Falls, setting_falls, thawing_falls, thawing_made_falls, carrying_set_falls, carrying_get_falls}
-use Rattle.ui_engine.proofs.Building.{builds_nothing, builds_next, next_made, made_there, abstract_there}
+use Rattle.ui_engine.proofs.Building.{few_steps, builds_nothing, builds_next, next_made, made_there, abstract_there}
 
 -- what the step of a task leads to
 pub record Passes (d : Definition) (w : World) (t : Task) (rest : List Task) (n : ℕ) (e : Config) : Type 0 where
@@ -260,13 +261,16 @@ module _ (d : Definition) (w : World) (rest : List Task) (n : ℕ) where
   made : (place : ℕ) (p : Place) (items : List Item) → slice_get d.places place ≡ Some p → IsHeld w (Building (makes place ∷ items) ∷ rest)
       → Passes d w (Building (makes place ∷ items)) rest n (record {
         world = said d (with_object d w (new_object d place p None)) (lines.construct (suc (length w.objects)) (type_of d p.class).name);
-        agenda = Constructing (suc (length w.objects)) (config.thaws ∷ []) true ∷ Building items ∷ rest;
+        agenda = Constructing (suc (length w.objects)) (construct_defaults 0 (specs_of d p.class)) true ∷ Building items ∷ rest;
         counted = n;
       })
   made place p items at held = record {
     held = made_held w (said d (with_object d w (new_object d place p None)) (lines.construct (suc (length w.objects)) (type_of d p.class).name)) (Building (makes place ∷ items)) rest
-        (new_object d place p None) (is_a d.types p.class initially_unowned) (config.thaws ∷ []) (Building items) held (λ q. refl) refl refl refl;
-    falls = λ _. omega (arith, waiting_more w.objects (new_object d place p None) refl);
+        (new_object d place p None) (is_a d.types p.class initially_unowned) (construct_defaults 0 (specs_of d p.class)) (Building items) held (λ q. refl) refl refl refl;
+    falls = λ _.
+        let few = few_steps 0 (specs_of d p.class) in
+        let slots : slots_of_place d (place_at d place) ≡ length (specs_of d p.class) = ap (slots_of_place d) at in
+        omega (arith, few, slots, waiting_more w.objects (new_object d place p None) refl);
     stays = λ _. refl;
     counts = λ yes. cc yes;
     grows = (prefix_one w.transcript _);
@@ -290,7 +294,7 @@ module _ (d : Definition) (w : World) (rest : List Task) (n : ℕ) where
         by false is = rw (made_there d basic w place p at is)
             (subst (λ (xs : List Item). Passes d w (Building xs) rest n (record {
               world = said d (with_object d w (new_object d place p None)) (lines.construct (suc (length w.objects)) (type_of d p.class).name);
-              agenda = Constructing (suc (length w.objects)) (config.thaws ∷ []) true ∷ Building items ∷ rest;
+              agenda = Constructing (suc (length w.objects)) (construct_defaults 0 (specs_of d p.class)) true ∷ Building items ∷ rest;
               counted = n;
             })) (sym next) (made place p items at (subst (λ (xs : List Item). IsHeld w (Building xs ∷ rest)) next held)))
 

@@ -1,16 +1,16 @@
 -- The build of a basic definition: what each step of it starts.
-use Rattle.std.proofs.Common.{◌≡◌, ℕ, zero, suc, ◌<◌, ◌≤◌, Bool, true, false, cond, ◌||◌, not, nat_eq, List, [], ◌∷◌, ◌++◌, length, map, reverse, take, drop, Option, Some, None, is_some, option_map, Ok, Err, slice_get, refl, sym, ap, ◌∙◌, arith}
+use Rattle.std.proofs.Common.{◌≡◌, ℕ, zero, suc, ◌<◌, ◌≤◌, Bool, true, false, cond, ◌||◌, not, nat_eq, List, [], ◌∷◌, ◌++◌, length, map, reverse, take, drop, Option, Some, None, is_some, option_map, Ok, Err, slice_get, refl, sym, ap, ◌∙◌, arith, append_assoc}
 use Rattle.std.specs.List.{filter, flat_map, list_all}
 use Rattle.std.proofs.lemmas.Option.{slice_get_within, get_or_from_slice_get, slice_get-map}
-use Rattle.std.proofs.lemmas.List.{length-map}
+use Rattle.std.proofs.lemmas.List.{length-map, reverse-append}
 use Rattle.std.proofs.Math.Seq.{drop-cons}
 use Rattle.ui_machine.specs.declared.arm.Arm.TheVariants as arms
-use Rattle.ui_machine.specs.Definition.Properties.{Spec, has_flags}
+use Rattle.ui_machine.specs.Definition.Properties.{Spec}
 use Rattle.ui_machine.specs.Definition.{Definition}
 use Rattle.ui_machine.specs.Definition.Places.{Place, GivenProperty}
 use Rattle.ui_machine.specs.Definition.Lookups.{type_of, class_of, specs_of}
 use Rattle.ui_machine.specs.Output.Lines as lines
-use Rattle.ui_machine.specs.State.Tasks.{thaws, Item, makes, Task, Constructing, Building}
+use Rattle.ui_machine.specs.State.Tasks.{Making, sets, thaws, Item, makes, Task, Constructing, Building}
 use Rattle.ui_machine.specs.State.Config.{World, Started, starts, said, without}
 use Rattle.ui_machine.specs.Outcome.{Answer, ◌>>=◌, known, only_if}
 use Rattle.ui_machine.specs.Rules.Construction.{not_forward, is_at_construction, construct_sets, constructed_runs, run_of, given_sets, construction, new_object, with_object, making, has_valid_default, has_shape}
@@ -22,6 +22,8 @@ use Rattle.g_values.specs.declared.value.Value.{Value}
 use Rattle.g_values.specs.View.{value_view}
 use Rattle.builder_defs.specs.Meaning.{IsPlain, IsBasic}
 use Rattle.ui_engine.specs.TaskView.{build_from}
+use Rattle.ui_engine.specs.declared.task.Making as code
+use Rattle.ui_engine.specs.MakingView.{making_of_code, making_steps, set_if_construct, construct_defaults}
 use Rattle.ui_engine.proofs.Notified.{none_given}
 
 -- ** lists
@@ -49,14 +51,21 @@ drop_past (x ∷ xs) (suc i) past = drop_past xs i (omega arith)
 
 -- ** constructions
 
-not_at_construction : (s : Spec) → IsPlain s → is_at_construction s ≡ false
-not_at_construction s plain = ap (λ f. has_flags 4 f || has_flags 8 f) plain.flags
+-- where nothing is given, the construct properties get their defaults
+defaults_set : (w : World) (slot : ℕ) (specs : List Spec) → construct_sets w [] slot specs ++ thaws ∷ [] ≡ construct_defaults slot specs
+defaults_set w slot [] = refl
+defaults_set w slot (s ∷ specs) =
+    append_assoc (set_if_construct slot s) (construct_sets w [] (suc slot) specs) (thaws ∷ [])
+    ∙ ap (λ steps. set_if_construct slot s ++ steps) (defaults_set w (suc slot) specs)
 
-no_construct_sets : (w : World) (given : List GivenProperty) (slot : ℕ) (specs : List Spec) → ((i : ℕ) (s : Spec) → slice_get specs i ≡ Some s → IsPlain s)
-    → construct_sets w given slot specs ≡ []
-no_construct_sets w given slot [] plain = refl
-no_construct_sets w given slot (s ∷ specs) plain =
-    rw (not_at_construction s (plain 0 s refl)) (no_construct_sets w given (suc slot) specs (λ i t at. plain (suc i) t at))
+one_set : (b : Bool) (slot : ℕ) (s : Spec) (steps : List Making) → length (cond b (sets slot s.default ∷ []) [] ++ steps) ≤ suc (length steps)
+one_set true slot s steps = omega arith
+one_set false slot s steps = omega arith
+
+-- no more than one for each property, and the thaw
+pub few_steps : (slot : ℕ) (specs : List Spec) → length (construct_defaults slot specs) ≤ suc (length specs)
+few_steps slot [] = omega arith
+few_steps slot (s ∷ specs) = let one = one_set (is_at_construction s) slot s (construct_defaults (suc slot) specs) in let more = few_steps (suc slot) specs in omega (arith, one, more)
 
 each_valid : (d : Definition) (specs : List Spec) → ((i : ℕ) (s : Spec) → slice_get specs i ≡ Some s → IsPlain s) → list_all (has_valid_default d) specs ≡ true
 each_valid d [] plain = refl
@@ -75,22 +84,21 @@ module _ (d : Definition) (basic : IsBasic d) where
   no_runs class = no_runs_in (reverse (lineage d.types class))
 
   module _ (w : World) (place : ℕ) (p : Place) (at : slice_get d.places place ≡ Some p) where
-    only_thaws : construction d w place p ≡ thaws ∷ []
-    only_thaws =
-        ap (λ steps. steps ++ (constructed_runs d p.class ++ (given_sets w (specs_of d p.class) (not_forward place p.given) ++ thaws ∷ [])))
-        (no_construct_sets w (not_forward place p.given) 0 (specs_of d p.class) (λ i s has. basic.plain p.class i s has))
-        ∙ ap (λ steps. steps ++ (given_sets w (specs_of d p.class) (not_forward place p.given) ++ thaws ∷ [])) (no_runs p.class)
-        ∙ ap (λ given. given_sets w (specs_of d p.class) (not_forward place given) ++ thaws ∷ []) (basic.given place p at)
+    only_defaults : construction d w place p ≡ construct_defaults 0 (specs_of d p.class)
+    only_defaults =
+        ap (λ given. construct_sets w (not_forward place given) 0 (specs_of d p.class) ++ (constructed_runs d p.class ++ (given_sets w (specs_of d p.class) (not_forward place given) ++ thaws ∷ []))) (basic.given place p at)
+        ∙ ap (λ runs. construct_sets w [] 0 (specs_of d p.class) ++ (runs ++ thaws ∷ [])) (no_runs p.class)
+        ∙ defaults_set w 0 (specs_of d p.class)
 
     valid_defaults : list_all (has_valid_default d) (specs_of d p.class) ≡ true
     valid_defaults = each_valid d (specs_of d p.class) (λ i s has. basic.plain p.class i s has)
 
     pub made_there : (type_of d p.class).is_abstract ≡ false
-        → making d w place None true ≡ starts (said d (with_object d w (new_object d place p None)) (lines.construct (suc (length w.objects)) (type_of d p.class).name)) (Constructing (suc (length w.objects)) (thaws ∷ []) true ∷ [])
+        → making d w place None true ≡ starts (said d (with_object d w (new_object d place p None)) (lines.construct (suc (length w.objects)) (type_of d p.class).name)) (Constructing (suc (length w.objects)) (construct_defaults 0 (specs_of d p.class)) true ∷ [])
     unfolding making
     made_there concrete =
         rw (at, concrete, valid_defaults)
-        (ap (λ steps. starts (said d (with_object d w (new_object d place p None)) (lines.construct (suc (length w.objects)) (type_of d p.class).name)) (Constructing (suc (length w.objects)) steps true ∷ [])) only_thaws)
+        (ap (λ steps. starts (said d (with_object d w (new_object d place p None)) (lines.construct (suc (length w.objects)) (type_of d p.class).name)) (Constructing (suc (length w.objects)) steps true ∷ [])) only_defaults)
 
     pub abstract_there : (type_of d p.class).is_abstract ≡ true → making d w place None true ≡ Err arms.Abstract
     unfolding making
@@ -129,6 +137,23 @@ no_place d w place none = rw none refl
 pub builds_nothing : (d : Definition) (w : World) (place : ℕ) → length d.places ≤ place → building d w (build_from d place) ≡ starts w []
 builds_nothing d w place past = ap (λ ps. building d w (made_items place ps)) (drop_past d.places place past)
 
+-- ** the steps of a construction
+
+pub mapped_more : {A B : Type 0} (f : A → B) (xs : List A) (x : A) → map f (xs ++ x ∷ []) ≡ map f xs ++ f x ∷ []
+mapped_more f [] x = refl
+mapped_more f (y ∷ xs) x = ap (λ ys. f y ∷ ys) (mapped_more f xs x)
+
+pub one_step_more : (steps : List code.Making) (step : code.Making) → making_steps (steps ++ step ∷ []) ≡ making_of_code step ∷ making_steps steps
+one_step_more steps step = ap reverse (mapped_more making_of_code steps step) ∙ reverse-append (map making_of_code steps) (making_of_code step ∷ [])
+
+-- the steps from the slot before on
+pub defaults_from : (specs : List Spec) (slot : ℕ) (s : Spec) → slice_get specs slot ≡ Some s
+    → construct_defaults slot (drop slot specs) ≡ set_if_construct slot s ++ construct_defaults (suc slot) (drop (suc slot) specs)
+defaults_from specs slot s at = ap (construct_defaults slot) (drop_at specs slot s at)
+
+pub defaults_past : (specs : List Spec) (slot : ℕ) → length specs ≤ slot → construct_defaults slot (drop slot specs) ≡ thaws ∷ []
+defaults_past specs slot past = ap (construct_defaults slot) (drop_past specs slot past)
+
 -- ** the defaults of a class
 
 pub all_taken : (specs : List Spec) (slot : ℕ) → slice_get specs slot ≡ None → take slot specs ≡ specs
@@ -141,10 +166,6 @@ one_taken : (specs : List Spec) (slot : ℕ) (s : Spec) → slice_get specs slot
 one_taken [] slot s at = cc
 one_taken (t ∷ specs) zero s at = cc
 one_taken (t ∷ specs) (suc slot) s at = ap (λ ss. t ∷ ss) (one_taken specs slot s at)
-
-pub mapped_more : {A B : Type 0} (f : A → B) (xs : List A) (x : A) → map f (xs ++ x ∷ []) ≡ map f xs ++ f x ∷ []
-mapped_more f [] x = refl
-mapped_more f (y ∷ xs) x = ap (λ ys. f y ∷ ys) (mapped_more f xs x)
 
 pub one_default_more : (specs : List Spec) (slot : ℕ) (s : Spec) (values : List Value) (v : Value) → slice_get specs slot ≡ Some s → value_view v ≡ s.default
     → map value_view values ≡ map (λ (t : Spec). t.default) (take slot specs) → map value_view (values ++ v ∷ []) ≡ map (λ (t : Spec). t.default) (take (suc slot) specs)

@@ -7,13 +7,13 @@ pub mod Strings
 pub mod Values
 pub mod Falls
 pub mod SpecAt
-pub mod Settable
 pub mod PlainSets
 pub mod Left
 pub mod Notified
 pub mod Built
 pub mod Acts
 pub mod Building
+pub mod MakingSteps
 pub mod Stepping
 pub mod Reaching
 pub mod Beginning

@@ -1,4 +1,4 @@
--- A set of a plain property, by what validation says of the value.
+-- A set of a plain property, by what validation says of the value and the property's flags.
 use Rattle.std.proofs.Common.{◌≡◌, ℕ, Bool, true, false, cond, ◌&&◌, ◌||◌, not, List, [], Option, Ok, Err, refl, sym, ap, subst, ◌∙◌, ℤ, pos}
 use Rattle.ui_machine.specs.declared.arm.Arm.{Arm}
 use Rattle.ui_machine.specs.declared.arm.Arm.TheVariants as arms
@@ -8,13 +8,13 @@ use Rattle.ui_machine.specs.Definition.Values as values
 use Rattle.ui_machine.specs.Definition.Types.{GType}
 use Rattle.ui_machine.specs.Rules.Transform.{same_value, same_whole}
 use Rattle.ui_machine.specs.Rules.Validation.{clamp}
-use Rattle.ui_machine.specs.Definition.Properties.{Spec, is_explicit_notify, is_lax, has_flags}
+use Rattle.ui_machine.specs.Definition.Properties.{Spec, is_lax}
 use Rattle.ui_machine.specs.Definition.{Definition}
 use Rattle.ui_machine.specs.Output.Lines as lines
-use Rattle.ui_machine.specs.State.Objects.{Objects, class_in, changed, with_value}
-use Rattle.ui_machine.specs.State.Config.{World, starts, said, with_objects}
+use Rattle.ui_machine.specs.State.Objects.{Objects, class_in}
+use Rattle.ui_machine.specs.State.Config.{World, starts, said}
 use Rattle.ui_machine.specs.Outcome.{Answer, ◌>>=◌, only_if}
-use Rattle.ui_machine.specs.Rules.Sets.{spec_at, has_kind, lives, raising, raising_if, kept, unless_disposed, written, settled, setting}
+use Rattle.ui_machine.specs.Rules.Sets.{spec_at, has_kind, lives, kept, unless_disposed, written, settled, setting}
 use Rattle.g_values.specs.declared.value.Value as coded
 use Rattle.g_values.specs.declared.value.Value.TheVariants as of_value
 use Rattle.g_values.specs.View.{value_view}
@@ -22,7 +22,6 @@ use Rattle.param_specs.specs.declared.spec.Spec as specs
 use Rattle.param_specs.specs.View.{spec_view}
 use Rattle.param_specs.specs.Validation.{IsWithin, Takes, KnowsClass}
 use Rattle.builder_defs.specs.Meaning.{IsPlainKind, IsPlain}
-use Rattle.ui_engine.specs.PlainSets.{told_write}
 
 -- ** a value of a plain kind
 
@@ -132,6 +131,20 @@ takes types k s (of_value.Enum t n) p h = absurd (not_other (of_value.Enum t n) 
 takes types k s (of_value.Flags t n) p h = absurd (not_other (of_value.Flags t n) k (spec_view s) p h tt)
 takes types k s (of_value.Object t o) p h = tt
 
+-- ** flags that code finds
+
+flag_off : (b : Bool) → not b ≡ true → b ≡ false
+flag_off false h = refl
+flag_off true h = cc
+
+flag_on : (b : Bool) → not b ≡ false → b ≡ true
+flag_on true h = refl
+flag_on false h = cc
+
+refuses_is : (refuses is_changed same lax : Bool) → refuses ≡ (is_changed && not lax) → is_changed ≡ not same → refuses ≡ not (same || lax)
+refuses_is refuses is_changed true lax e f = e ∙ ap (λ x. x && not lax) f
+refuses_is refuses is_changed false lax e f = e ∙ ap (λ x. x && not lax) f
+
 -- ** the set
 
 module _ (d : Definition) (w : World) (id slot : ℕ) (v : Value) where
@@ -153,41 +166,27 @@ module _ (d : Definition) (w : World) (id slot : ℕ) (v : Value) where
           by_spec ∙ ap (λ b. only_if (b && lives w.objects v) arms.Value (settled d w id slot s v (clamp (class_in w.objects) d.types s v))) kind
           ∙ ap (λ b. only_if b arms.Value (settled d w id slot s v (clamp (class_in w.objects) d.types s v))) (lives_plain w.objects v s.kind s plain.kind kind)
 
-      flag : (f : ℕ) → has_flags f s.flags ≡ has_flags f 3
-      flag f = ap (has_flags f) plain.flags
+      refused_set : (same_value (clamp (class_in w.objects) d.types s v) v || is_lax s) ≡ false → setting d w id slot v ≡ starts (said d w (lines.refused id s.name v)) []
+      refused_set bad =
+          by_value ∙ ap (λ b. cond b (written d w id slot s (kept w.objects s (clamp (class_in w.objects) d.types s v))) (starts (said d w (lines.refused id s.name v)) [])) bad
 
-      pub refused_set : same_value (clamp (class_in w.objects) d.types s v) v ≡ false → setting d w id slot v ≡ starts (said d w (lines.refused id s.name v)) []
-      refused_set other =
-          by_value ∙ ap (λ b. cond (b || is_lax s) (written d w id slot s (kept w.objects s (clamp (class_in w.objects) d.types s v))) (starts (said d w (lines.refused id s.name v)) [])) other
-          ∙ ap (λ b. cond b (written d w id slot s (kept w.objects s (clamp (class_in w.objects) d.types s v))) (starts (said d w (lines.refused id s.name v)) [])) (flag 16)
-
-      written_plain : (x : Value) → written d w id slot s x ≡ told_write d w id slot s.name x
-      unfolding written told_write
-      written_plain x = ap (λ b. changed w.objects id (with_value slot x) >>= λ new.
-          raising_if (b && (not (is_explicit_notify s) || not (same_value new.answer x))) (said d (with_objects w new.state) (lines.set id s.name x)) id slot) (flag 1)
-          ∙ ap (λ b. changed w.objects id (with_value slot x) >>= λ new.
-          raising_if (not b || not (same_value new.answer x)) (said d (with_objects w new.state) (lines.set id s.name x)) id slot) (flag 1073741824)
-
-      pub written_set : (x : Value) → x ≡ clamp (class_in w.objects) d.types s v → same_value (clamp (class_in w.objects) d.types s v) v ≡ true → setting d w id slot v ≡ told_write d w id slot s.name x
-      written_set x valid same =
-          by_value ∙ ap (λ b. cond (b || is_lax s) (written d w id slot s (kept w.objects s (clamp (class_in w.objects) d.types s v))) (starts (said d w (lines.refused id s.name v)) [])) same
+      written_set : (x : Value) → x ≡ clamp (class_in w.objects) d.types s v → (same_value (clamp (class_in w.objects) d.types s v) v || is_lax s) ≡ true
+          → setting d w id slot v ≡ written d w id slot s x
+      written_set x valid good =
+          by_value ∙ ap (λ b. cond b (written d w id slot s (kept w.objects s (clamp (class_in w.objects) d.types s v))) (starts (said d w (lines.refused id s.name v)) [])) good
           ∙ ap (λ b. written d w id slot s (cond b (unless_disposed w.objects (clamp (class_in w.objects) d.types s v)) (clamp (class_in w.objects) d.types s v))) plain.strong
-          ∙ ap (written d w id slot s) (sym valid) ∙ written_plain x
+          ∙ ap (written d w id slot s) (sym valid)
 
       -- as code finds it, with a flag for what was changed
-      pub refused_by_flag : (is_changed : Bool) (same_v : Value) → is_changed ≡ true → is_changed ≡ not (same_value (clamp (class_in w.objects) d.types s v) v) → same_v ≡ v
+      pub refused_by_flag : (refuses is_changed : Bool) (same_v : Value) → refuses ≡ true → refuses ≡ (is_changed && not (is_lax s))
+          → is_changed ≡ not (same_value (clamp (class_in w.objects) d.types s v) v) → same_v ≡ v
           → setting d w id slot v ≡ starts (said d w (lines.refused id s.name same_v)) []
-      refused_by_flag is_changed same_v is e same =
-          refused_set (flag_off (same_value (clamp (class_in w.objects) d.types s v) v) (sym e ∙ is)) ∙ ap (λ x. starts (said d w (lines.refused id s.name x)) []) (sym same)
-        where
-          flag_off : (b : Bool) → not b ≡ true → b ≡ false
-          flag_off false h = refl
-          flag_off true h = cc
+      refused_by_flag refuses is_changed same_v is e f same =
+          refused_set (flag_off (same_value (clamp (class_in w.objects) d.types s v) v || is_lax s) (sym (refuses_is refuses is_changed (same_value (clamp (class_in w.objects) d.types s v) v) (is_lax s) e f) ∙ is))
+          ∙ ap (λ x. starts (said d w (lines.refused id s.name x)) []) (sym same)
 
-      pub written_by_flag : (is_changed : Bool) (x : Value) → is_changed ≡ false → is_changed ≡ not (same_value (clamp (class_in w.objects) d.types s v) v)
-          → x ≡ clamp (class_in w.objects) d.types s v → setting d w id slot v ≡ told_write d w id slot s.name x
-      written_by_flag is_changed x is e valid = written_set x valid (flag_on (same_value (clamp (class_in w.objects) d.types s v) v) (sym e ∙ is))
-        where
-          flag_on : (b : Bool) → not b ≡ false → b ≡ true
-          flag_on true h = refl
-          flag_on false h = cc
+      pub written_by_flag : (refuses is_changed : Bool) (x : Value) → refuses ≡ false → refuses ≡ (is_changed && not (is_lax s))
+          → is_changed ≡ not (same_value (clamp (class_in w.objects) d.types s v) v)
+          → x ≡ clamp (class_in w.objects) d.types s v → setting d w id slot v ≡ written d w id slot s x
+      written_by_flag refuses is_changed x is e f valid =
+          written_set x valid (flag_on (same_value (clamp (class_in w.objects) d.types s v) v || is_lax s) (sym (refuses_is refuses is_changed (same_value (clamp (class_in w.objects) d.types s v) v) (is_lax s) e f) ∙ is))

@@ -7,6 +7,5 @@ pub mod LineView
 pub mod TaskView
 pub mod Measure
 pub mod EngineView
-pub mod PlainSets
 pub mod Stepping
 pub mod SessionView

@@ -1,5 +1,5 @@
 -- What the engine's types stand for in the machine.
-use Rattle.std.specs.Prelude.{ℕ, [], map, Option, Some, None, option_map, string_bytes}
+use Rattle.std.specs.Prelude.{ℕ, List, [], ◌∷◌, ◌++◌, map, Option, Some, None, option_map, string_bytes}
 use Rattle.ui_machine.specs.State.Config as config
 use Rattle.g_values.specs.View.{value_view}
 use Rattle.ui_engine.specs.declared.world.World.{World}
@@ -24,3 +24,7 @@ world_of w = record {
   transcript = map string_bytes w.transcript.items;
   result = option_map value_view w.result;
 }
+
+-- the world with one line more
+abbrev pub with_line : List ℕ → config.World → config.World
+with_line text w = record w { transcript = w.transcript ++ text ∷ [] }

@@ -1,10 +1,11 @@
 //! The build: how objects are made, and how their construction goes on and ends.
 
-ghost use Rattle.std.specs.Prelude.{◌≡◌, true, suc, length, None, cond, [], ◌∷◌, ◌++◌, map, OnOk, OnErr, IfOk};
+ghost use Rattle.std.specs.Prelude.{◌≡◌, true, suc, length, None, Some, cond, [], ◌∷◌, ◌++◌, map, OnOk, OnErr, IfOk};
 ghost use Rattle.ui_machine.specs.Outcome.{Goes};
 ghost use Rattle.ui_machine.specs.Definition.Properties.{Spec};
-ghost use Rattle.ui_machine.specs.Definition.Lookups.{specs_of};
+ghost use Rattle.ui_machine.specs.Definition.Lookups.{specs_of, spec_of};
 ghost use Rattle.ui_engine.specs.ObjectView.{made_object};
+ghost use Rattle.ui_engine.specs.MakingView.{making_steps, set_if_construct, construct_defaults};
 ghost use Rattle.ui_machine.specs.Rules.Construction.{with_object, constructed, thawing_made, making, making_set, constructing};
 ghost use Rattle.ui_machine.specs.State.Tasks.{Constructing};
 ghost use Rattle.ui_machine.specs.Steps.{uncounted};
@@ -70,7 +71,7 @@ impl Engine {
         Ok(())
     }
 
-    // A set of a construction. Each property so far is writable.
+    // A set of a construction.
     #[tactic(auto, unfolding(ui_machine::specs::Rules::Construction::making_set))]
     fn making_set(
         &mut self,
@@ -85,7 +86,10 @@ impl Engine {
             (config_of definition.now self.new) }
         ensures quiet { OnErr result ((world_of self.new.world).transcript ≡ (world_of self.old.world).transcript) }
     {
-        self.spec_of(definition, object, slot)?;
+        let spec = self.spec_of(definition, object, slot)?;
+        if !spec.is_writable() {
+            return Err(Halt::Stuck(Arm::Flags));
+        }
         self.stack.push(Task::Constructing { object, steps })?;
         self.stack.push(Task::Setting {
             object,
@@ -161,18 +165,14 @@ impl Engine {
             return Err(Halt::Stuck(Arm::Abstract));
         }
         let values = defaults(self.alloc, definition, class)?;
-        let mut steps = Vec::new(self.alloc);
-        steps.push(Making::Thaw)?;
+        let steps = construction(self.alloc, definition, class)?;
         let object = self.add(definition, class, place, values)?;
         let told = Line::Construct {
             object,
             class: definition.class_name(class),
         };
         let line = told.text(self.alloc, types)?;
-        self.stack.push(Task::Constructing {
-            object,
-            steps: Makings::new(steps),
-        })?;
+        self.stack.push(Task::Constructing { object, steps })?;
         self.world.say(line)?;
         Ok(())
     }
@@ -218,4 +218,41 @@ fn defaults(alloc: Global, definition: &Definition, class: TypeId) -> Result<Vec
         values.push(spec.default.copied()?)?;
         slot += 1;
     }
+}
+
+// Puts the set of a construct property before what a construction does.
+fn add_set(
+    steps: &mut Vec<Making>,
+    definition: &Definition,
+    class: TypeId,
+    slot: u16,
+) -> Result<(), AllocError>
+    ensures { (s : Spec) → spec_of definition.now class slot ≡ Some s → OnOk result (making_steps steps.new.items ≡ set_if_construct slot s ++ making_steps steps.old.items) }
+{
+    let Some(spec) = definition.spec(class, slot) else {
+        return Ok(());
+    };
+    if spec.is_at_construction() {
+        let value = spec.default.copied()?;
+        steps.push(Making::Set { slot, value })?;
+    }
+    Ok(())
+}
+
+// What a construction does: the sets of the construct properties by slot, each to its default, and the thaw.
+fn construction(
+    alloc: Global,
+    definition: &Definition,
+    class: TypeId,
+) -> Result<Makings, AllocError>
+    ensures { IfOk result (λ steps. steps ≡ construct_defaults 0 (specs_of definition.now class)) }
+{
+    let mut steps = Vec::new(alloc);
+    steps.push(Making::Thaw)?;
+    let mut slot = definition.slots(class);
+    'slots: while slot > 0 {
+        slot -= 1;
+        add_set(&mut steps, definition, class, slot as u16)?;
+    }
+    Ok(Makings::new(steps))
 }

@@ -28,7 +28,7 @@ impl Engine {
         self.world.built(usize::from(place.0)).ok_or(Arm::Operand)
     }
 
-    // A set by an event. Each property so far may be set.
+    // A set by an event.
     #[tactic(auto, unfolding(ui_machine::specs::Rules::Events::carrying_set, ui_machine::specs::Rules::Events::set_given))]
     fn carrying_set(
         &mut self,
@@ -43,7 +43,13 @@ impl Engine {
         ensures quiet { OnErr result ((world_of self.new.world).transcript ≡ (world_of self.old.world).transcript) }
     {
         let object = self.built(place)?;
-        self.spec_of(definition, object, slot)?;
+        let spec = self.spec_of(definition, object, slot)?;
+        if !spec.is_writable() {
+            return Err(Halt::Stuck(Arm::Flags));
+        }
+        if spec.is_construct_only() {
+            return Err(Halt::Stuck(Arm::ConstructOnly));
+        }
         self.stack.push(Task::Setting {
             object,
             slot,
@@ -52,7 +58,7 @@ impl Engine {
         Ok(())
     }
 
-    // A get by an event. Each property so far is readable.
+    // A get by an event.
     #[tactic(auto, unfolding(ui_machine::specs::Rules::Events::carrying_get))]
     fn carrying_get(&mut self, definition: &Definition, place: Place, slot: u16) -> Result<(), Halt>
         ensures step { Goes result
@@ -62,7 +68,11 @@ impl Engine {
     {
         let object = self.built(place)?;
         let spec = self.spec_of(definition, object, slot)?;
-        let value = self.world.heap.value(object, slot)?.copied()?;
+        let value = self.world.heap.value(object, slot)?;
+        if !spec.is_readable() {
+            return Err(Halt::Stuck(Arm::Flags));
+        }
+        let value = value.copied()?;
         let told = Line::Get {
             object,
             property: spec.name.as_str(),

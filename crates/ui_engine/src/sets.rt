@@ -1,25 +1,25 @@
 //! Sets of properties, and the notifications that they raise.
 
-ghost use Rattle.std.specs.Prelude.{◌≡◌, OnOk, OnErr, IfOk};
+ghost use Rattle.std.specs.Prelude.{◌≡◌, ◌&&◌, not, string_bytes, OnOk, OnErr, IfOk};
 ghost use Rattle.ui_machine.specs.Outcome.{Goes};
-ghost use Rattle.ui_machine.specs.Rules.Sets.{setting, spec_at, has_kind};
+ghost use Rattle.ui_machine.specs.Rules.Sets.{setting, written, raising_if, notifies, spec_at, has_kind};
+ghost use Rattle.ui_machine.specs.Definition.Properties.{is_lax};
 ghost use Rattle.ui_machine.specs.State.Config.{said};
 ghost use Rattle.ui_machine.specs.Output.Lines as lines;
 ghost use Rattle.ui_machine.specs.Steps.{uncounted};
 ghost use Rattle.g_values.specs.View.{kind_view, value_view};
 ghost use Rattle.param_specs.specs.View.{spec_view};
 ghost use Rattle.builder_defs.specs.Meaning.{IsPlain};
-ghost use Rattle.ui_engine.specs.View.{world_of};
+ghost use Rattle.ui_engine.specs.View.{world_of, with_line};
 ghost use Rattle.ui_engine.specs.ObjectView.{Shows};
 ghost use Rattle.ui_engine.specs.TaskView.{agenda_of};
 ghost use Rattle.ui_engine.specs.EngineView.{config_of};
-ghost use Rattle.ui_engine.specs.PlainSets.{told_write};
 
 use crate::engine::Engine;
 use crate::lines::Line;
 use crate::task::Task;
 use builder_defs::Definition;
-use g_values::{Kind, Value};
+use g_values::{Kind, Value, is_same};
 use param_specs::{Spec, validate};
 use std::alloc::AllocError;
 use ui_machine::{Arm, Halt};
@@ -42,6 +42,20 @@ fn has_kind(value: &Value, kind: Kind) -> bool
     }
 }
 
+// Whether a write of a property is notified.
+fn notifies(spec: &Spec, old: &Value, new: &Value) -> bool
+    ensures { result ≡ notifies (spec_view spec.now) (value_view old.now) (value_view new.now) }
+{
+    spec.is_readable() && (!spec.is_explicit_notify() || !is_same(old, new))
+}
+
+// Whether a set is refused, whose value validation changes or not.
+fn refuses(spec: &Spec, is_changed: bool) -> bool
+    ensures { result ≡ (is_changed && not (is_lax (spec_view spec.now))) }
+{
+    is_changed && !spec.is_lax()
+}
+
 impl Engine {
     // The spec of a living object's property.
     #[tactic(auto, unfolding(ui_machine::specs::Rules::Sets::spec_at))]
@@ -62,28 +76,26 @@ impl Engine {
         Ok(spec)
     }
 
-    // Writes a value and tells of it, and raises the notification.
-    #[tactic(auto, unfolding(crate::specs::PlainSets::told_write, ui_machine::specs::Rules::Sets::raising))]
-    fn put(
+    // Says a line, and raises the notification of a property if it is to be told.
+    #[tactic(auto, unfolding(ui_machine::specs::Rules::Sets::raising))]
+    fn say_and_raise(
         &mut self,
         definition: &Definition,
         object: u64,
         slot: u16,
-        name: &str,
-        value: Value,
+        line: String,
+        is_told: bool,
     ) -> Result<(), Halt>
         ensures step { Goes result
-            (uncounted (agenda_of definition.now self.old.stack) self.old.counted (told_write definition.now (world_of self.old.world) object slot name.now (value_view value)))
+            (uncounted (agenda_of definition.now self.old.stack) self.old.counted (raising_if is_told (with_line (string_bytes line) (world_of self.old.world)) object slot))
             (config_of definition.now self.new) }
         ensures quiet { OnErr result ((world_of self.new.world).transcript ≡ (world_of self.old.world).transcript) }
     {
-        let told = Line::Set {
-            object,
-            property: name,
-            value: &value,
-        };
-        let line = told.text(self.alloc, definition.types())?;
-        self.world.heap.write(object, slot, value)?;
+        let _ = definition;
+        if !is_told {
+            self.world.say(line)?;
+            return Ok(());
+        }
         if self.world.heap.raise(object, slot)? {
             self.stack.push(Task::Notifying { object, slot })?;
             self.world.say(line)?;
@@ -91,6 +103,32 @@ impl Engine {
         }
         self.world.say(line)?;
         Ok(())
+    }
+
+    // Writes a value and tells of it, and raises the notification.
+    #[tactic(auto, unfolding(ui_machine::specs::Rules::Sets::written))]
+    fn put(
+        &mut self,
+        definition: &Definition,
+        object: u64,
+        slot: u16,
+        spec: &Spec,
+        value: Value,
+    ) -> Result<(), Halt>
+        ensures step { Goes result
+            (uncounted (agenda_of definition.now self.old.stack) self.old.counted (written definition.now (world_of self.old.world) object slot (spec_view spec.now) (value_view value)))
+            (config_of definition.now self.new) }
+        ensures quiet { OnErr result ((world_of self.new.world).transcript ≡ (world_of self.old.world).transcript) }
+    {
+        let told = Line::Set {
+            object,
+            property: spec.name.as_str(),
+            value: &value,
+        };
+        let line = told.text(self.alloc, definition.types())?;
+        let old = self.world.heap.write(object, slot, value.copied()?)?;
+        let is_told = notifies(spec, &old, &value);
+        self.say_and_raise(definition, object, slot, line, is_told)
     }
 
     // Tells of a value that the property does not take.
@@ -115,7 +153,7 @@ impl Engine {
         Ok(())
     }
 
-    // A set writes the value. Where validation would change it, the set is refused with a line.
+    // A set writes the value. Where validation would change it, the set is refused with a line, unless the property is lax.
     pub(crate) fn setting(
         &mut self,
         definition: &Definition,
@@ -134,11 +172,11 @@ impl Engine {
         }
         let original = value.copied()?;
         let (valid, is_changed) = validate(definition.types(), spec, value);
-        if is_changed {
+        if refuses(spec, is_changed) {
             self.refuse(definition, object, spec.name.as_str(), &original)?;
             return Ok(());
         }
-        self.put(definition, object, slot, spec.name.as_str(), valid)?;
+        self.put(definition, object, slot, spec, valid)?;
         Ok(())
     }
 }

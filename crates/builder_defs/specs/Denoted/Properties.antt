@@ -16,6 +16,7 @@ use Rattle.builder_defs.specs.declared.fault.DefinitionLimit.TheVariants.{Proper
 use Rattle.builder_defs.specs.Refusals.{Refusal, bad_spec, limit}
 use Rattle.builder_defs.specs.Document.{under, members_at, text_at, absent_at, only_at}
 use Rattle.builder_defs.specs.Denoted.Kinds.{kind_at}
+use Rattle.builder_defs.specs.Denoted.PropertyFlags.{flags_at}
 use Rattle.builder_defs.specs.Denoted.Ranges.{Range, range_at}
 use Rattle.builder_defs.specs.Denoted.Defaults.{default_at, check_default}
 
@@ -23,10 +24,10 @@ use Rattle.builder_defs.specs.Denoted.Defaults.{default_at, check_default}
 abbrev pub specs_by : List GType → (ℕ → List Spec) → ℕ → List Spec
 specs_by types own t = flat_map own (reverse (lineage types t))
 
--- the spec of a property that is read and written, with this default and range
-abbrev pub property_spec : List ℕ → Kind → Value → Range → Spec
-property_spec name kind default range =
-    record { name = name; kind = kind; flags = 3; default = default; low = range.low; high = range.high; weak = false }
+-- the spec of a property with this default and range
+abbrev pub property_spec : List ℕ → Kind → ℕ → Value → Range → Spec
+property_spec name kind flags default range =
+    record { name = name; kind = kind; flags = flags; default = default; low = range.low; high = range.high; weak = false }
 
 abbrev pub room_for_property : List Spec → Result (Unit {0}) Refusal
 room_for_property specs = if nat_le 64 (length specs) then Err (limit Properties) else Ok tt
@@ -39,13 +40,13 @@ new_property path specs name =
 abbrev pub keys_of_property : List (List ℕ)
 keys_of_property = codes "name" ∷ codes "kind" ∷ codes "flags" ∷ codes "default" ∷ codes "min" ∷ codes "max" ∷ codes "weak" ∷ []
 
--- The spec of a property of this name and kind. The default is tested against a range that is not at fault itself.
-unfoldable pub valued_at : List ℕ → List GType → List ℕ → Kind → Data → Result Spec Refusal
-valued_at path types name kind d = do
+-- The spec of a property of this name and kind, with these flags. The default is tested against a range that is not at fault itself.
+unfoldable pub valued_at : List ℕ → List GType → List ℕ → Kind → ℕ → Data → Result Spec Refusal
+valued_at path types name kind flags d = do
   default ← default_at path types kind d
   range ← range_at path kind d
-  valid ← check_default (under path (codes "default")) types (property_spec name kind default range)
-  Ok (property_spec name kind default range)
+  valid ← check_default (under path (codes "default")) types (property_spec name kind flags default range)
+  Ok (property_spec name kind flags default range)
 
 -- the spec of a property beside these
 unfoldable pub spec_at : List ℕ → List GType → List Spec → Data → Result Spec Refusal
@@ -55,8 +56,8 @@ spec_at path types specs d = do
   name ← text_at path d (codes "name")
   new ← new_property (under path (codes "name")) specs name
   kind ← kind_at path d
-  flags ← absent_at path d (codes "flags" ∷ [])
-  spec ← valued_at path types name kind d
+  flags ← flags_at path d
+  spec ← valued_at path types name kind flags d
   weak ← absent_at path d (codes "weak" ∷ [])
   only ← only_at path members keys_of_property
   Ok spec

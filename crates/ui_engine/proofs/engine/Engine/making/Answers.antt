@@ -24,11 +24,11 @@ returns-clause-step c =
     let object : world_of c.add.new.self.world ≡ with_object d w (new_object d c.args.place place None) =
     c.in_ok-object.ensures.world ∙ ap (λ (vs : List Value). with_object d w (made_object class c.args.place vs)) c.in_ok-values.ensures in
     let line : string_bytes c.in_ok-line.line ≡ text_of_line d.types (lines.construct (suc (length w.objects)) (type_of d class).name) = rw (c.class_name.ensures, c.in_ok-object.ensures.identity) at c.in_ok-line.ensures in
-    let pushed = c.in_ok-push-2.ensures d in
+    let pushed = c.in_ok-push.ensures d in
     let world : world_of c.say.new.self ≡ said d (with_object d w (new_object d c.args.place place None)) (lines.construct (suc (length w.objects)) (type_of d class).name) =
     c.in_ok-say.ensures.ok
     ∙ ap (λ (v : World). record v { transcript = v.transcript ++ string_bytes c.in_ok-line.line ∷ [] }) object
     ∙ ap (λ text. record (with_object d w (new_object d c.args.place place None)) { transcript = w.transcript ++ text ∷ [] }) line in
-    left_with d (world_of c.say.new.self) c.push-2.new.self _ _ _ _ _ _ made world
-    (pushed ∙ rw (c.in_ok-object.ensures.same.0, c.in_ok-object.ensures.identity, c.new.ensures, c.in_ok-push.ensures.items, c.new-steps.ensures.items) refl)
+    left_with d (world_of c.say.new.self) c.push.new.self _ _ _ _ _ _ made world
+    (pushed ∙ rw (c.in_ok-object.ensures.same.0, c.in_ok-object.ensures.identity, c.in_ok-steps.ensures) refl)
     c.in_ok-object.ensures.same.1

@@ -1,11 +1,13 @@
-use Rattle.std.proofs.Common.{rules}
+use Rattle.std.proofs.Common.{◌≡◌, true, false, sym, rules, ◌∙◌}
+use Rattle.ui_machine.specs.Definition.Properties.{is_writable}
+use Rattle.param_specs.specs.View.{spec_view}
 use Rattle.ui_machine.specs.Rules.Construction.{making_set}
-use Rattle.ui_engine.proofs.Settable.{writable}
 use Rattle.ui_engine.proofs.engine.Engine.making_set.Goals as goal
 
 pub returns-clause-step : goal.returns-clause-step
 unfolding making_set
 returns-clause-step c =
+    let writable : is_writable (spec_view c.in_ok-spec.spec.now) ≡ true = search rules in
     let first = c.in_ok-push.ensures c.args.definition.now in
     let second = c.in_ok-push-2.ensures c.args.definition.now in
-    rw (c.in_ok-spec_of.ensures.spec, writable _ c.in_ok-spec_of.ensures.plain, second, first) (search rules)
+    rw (c.in_ok-spec.ensures.spec, writable, second, first) (search rules)

@@ -1,4 +1,4 @@
-use Rattle.std.proofs.Common.{◌≡◌, true, sym, ap, ◌∙◌}
+use Rattle.std.proofs.Common.{◌≡◌, true, false, refl, sym, ap, ◌∙◌}
 use Rattle.std.proofs.lemmas.Result.{err_from_is_err_and}
 use Rattle.ui_machine.specs.State.Objects.{class_in}
 use Rattle.ui_machine.specs.Rules.Sets.{has_kind}
@@ -27,8 +27,8 @@ returns-in_err-refuse-clause-step c =
     let p = err_from_is_err_and c.from_residual-in_err-refuse.result c.from_residual-in_err-refuse.ensures.1 in
     rw (p.1, p.2) tt
 
-pub returns-then-is_changed-clause-step : goal.returns-then-is_changed-clause-step
-returns-then-is_changed-clause-step c =
+pub returns-then-refuses-clause-step : goal.returns-then-refuses-clause-step
+returns-then-refuses-clause-step c =
     let d = c.args.definition.now in
     let w = world_of c.args.self.now.world in
     let s = spec_view c.in_ok-spec.spec.now in
@@ -36,7 +36,7 @@ returns-then-is_changed-clause-step c =
     let plain = c.in_ok-spec.ensures.plain in
     let kind : has_kind v s.kind ≡ true = sym c.if-not-has_kind.ensures in
     let knows = knows_class (class_in w.objects) c.args.value s.kind s plain.kind kind in
-    let told = refused_by_flag d w c.args.object c.args.slot v s c.in_ok-spec.ensures.spec plain kind _ (value_view c.in_ok-original.original) c.if-is_changed.true (rw c.types.ensures.types at (c.validate-valid.ensures.changed (class_in w.objects) knows)) c.in_ok-original.ensures.value in
+    let told = refused_by_flag d w c.args.object c.args.slot v s c.in_ok-spec.ensures.spec plain kind true _ (value_view c.in_ok-original.original) refl c.if-refuses.ensures (rw c.types.ensures.types at (c.validate-valid.ensures.changed (class_in w.objects) knows)) c.in_ok-original.ensures.value in
     left_alone d c.args.self.now c.refuse.new.self _ _ told (rw c.as_str.ensures.value at c.in_ok-refuse.ensures.ok) c.in_ok-refuse.ensures.same.0 c.in_ok-refuse.ensures.same.1
 
 pub returns-in_err-put-clause-step : goal.returns-in_err-put-clause-step
@@ -48,9 +48,9 @@ returns-in_err-put-clause-step c =
     let plain = c.in_ok-spec.ensures.plain in
     let kind : has_kind v s.kind ≡ true = sym c.if-not-has_kind.ensures in
     let knows = knows_class (class_in w.objects) c.args.value s.kind s plain.kind kind in
-    let told = written_by_flag d w c.args.object c.args.slot v s c.in_ok-spec.ensures.spec plain kind _ (value_view c.validate-valid.result.0) c.if-is_changed.false (rw c.types.ensures.types at (c.validate-valid.ensures.changed (class_in w.objects) knows)) (rw c.types.ensures.types at (c.validate-valid.ensures.value (class_in w.objects) knows)) in
+    let told = written_by_flag d w c.args.object c.args.slot v s c.in_ok-spec.ensures.spec plain kind false _ (value_view c.validate-valid.result.0) refl c.if-refuses.ensures (rw c.types.ensures.types at (c.validate-valid.ensures.changed (class_in w.objects) knows)) (rw c.types.ensures.types at (c.validate-valid.ensures.value (class_in w.objects) knows)) in
     let p = err_from_is_err_and c.from_residual-in_err-put.result c.from_residual-in_err-put.ensures.1 in
-    rw (p.1, p.2, told) (rw c.as_str-2.ensures.value at c.in_err-put.ensures.step)
+    rw (p.1, p.2, told) c.in_err-put.ensures.step
 
 pub returns-clause-step : goal.returns-clause-step
 returns-clause-step c =
@@ -61,5 +61,5 @@ returns-clause-step c =
     let plain = c.in_ok-spec.ensures.plain in
     let kind : has_kind v s.kind ≡ true = sym c.if-not-has_kind.ensures in
     let knows = knows_class (class_in w.objects) c.args.value s.kind s plain.kind kind in
-    let told = written_by_flag d w c.args.object c.args.slot v s c.in_ok-spec.ensures.spec plain kind _ (value_view c.validate-valid.result.0) c.if-is_changed.false (rw c.types.ensures.types at (c.validate-valid.ensures.changed (class_in w.objects) knows)) (rw c.types.ensures.types at (c.validate-valid.ensures.value (class_in w.objects) knows)) in
-    ap (uncounted (agenda_of d c.args.self.now.stack) c.args.self.now.counted) told ∙ (rw c.as_str-2.ensures.value at c.in_ok-put.ensures.step)
+    let told = written_by_flag d w c.args.object c.args.slot v s c.in_ok-spec.ensures.spec plain kind false _ (value_view c.validate-valid.result.0) refl c.if-refuses.ensures (rw c.types.ensures.types at (c.validate-valid.ensures.changed (class_in w.objects) knows)) (rw c.types.ensures.types at (c.validate-valid.ensures.value (class_in w.objects) knows)) in
+    ap (uncounted (agenda_of d c.args.self.now.stack) c.args.self.now.counted) told ∙ c.in_ok-put.ensures.step

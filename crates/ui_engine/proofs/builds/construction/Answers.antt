@@ -1,0 +1,13 @@
+use Rattle.std.proofs.Common.{◌-◌, arith}
+use Rattle.ui_machine.specs.Definition.Lookups.{specs_of}
+use Rattle.ui_engine.proofs.MakingSteps.{slot_before}
+use Rattle.ui_engine.proofs.builds.construction.Goals as goal
+
+pub slots-preserved : goal.slots-preserved
+slots-preserved c =
+    let i = c.slots.invariant in
+    record {
+      within = omega (arith, i.within);
+      few = omega (arith, i.few);
+      steps = slot_before (specs_of c.args.definition.now c.args.class) c.slots.slot (c.slots.slot - 1) _ _ (omega (arith, c.slots-test.true)) i.within i.steps (λ s at. c.in_ok-add_set.ensures s at);
+    }
