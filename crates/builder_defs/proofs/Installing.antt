@@ -3,12 +3,13 @@ use Rattle.std.proofs.Common.{◌≡◌, ℕ, List, Some, Ok, Err, refl, sym, ap
 use Rattle.std.proofs.Math.Path.{fun_ext}
 use Rattle.ui_machine.specs.Definition.Types.{GType}
 use Rattle.ui_machine.specs.Definition.Properties.{Spec}
+use Rattle.ui_machine.specs.Rules.Ancestry.{parent_of}
 use Rattle.param_specs.specs.declared.error.SpecFault.{SpecFault}
 use Rattle.param_specs.specs.declared.error.SpecError.{SpecError}
 use Rattle.param_specs.specs.declared.error.SpecError.TheVariants.{OutOfMemory, Refused}
 use Rattle.param_specs.specs.Table.{own_of, specs_of, install_fault, canonical_spec, Installs}
 use Rattle.builder_defs.specs.Refusals.{bad_spec}
-use Rattle.builder_defs.specs.Denoted.Properties.{specs_by, add_own, installed_or, installed, spec_at, property_at}
+use Rattle.builder_defs.specs.Denoted.Properties.{specs_by, inherited_of, add_own, installed_or, installed, spec_at, property_at}
 use Rattle.ui_machine.specs.Outcome.{◌>>=◌}
 use Rattle.serde_json.specs.Data.{Data}
 
@@ -34,8 +35,13 @@ module _ (path : List ℕ) (types : List GType) (old new : List (List Spec)) (t 
       ap (λ (specs : List Spec). installed_or path (install_fault types specs spec) (add_own (own_of old) t (canonical_spec spec))) (sym (specs_of-is types old t))
       ∙ ap (λ f. installed_or path f (add_own (own_of old) t (canonical_spec spec))) (cause-is error cause is h)
 
+-- the specs that a type of a table inherits
+abbrev pub inherited_in : List GType → List (List Spec) → ℕ → List Spec
+inherited_in types table t = inherited_of (specs_of types table) (parent_of types t)
+
 -- reading a property beside those of a table
 pub property_at_is : (path : List ℕ) (types : List GType) (t : ℕ) (table : List (List Spec)) (d : Data)
-    → property_at path types t (own_of table) d ≡ (spec_at path types (specs_of types table t) d >>= λ spec. installed path types t (own_of table) spec)
+    → property_at path types t (own_of table) d ≡ (spec_at path types (inherited_in types table t) (specs_of types table t) d >>= λ spec. installed path types t (own_of table) spec)
 unfolding property_at
-property_at_is path types t table d = ap (λ (specs : List Spec). spec_at path types specs d >>= λ spec. installed path types t (own_of table) spec) (sym (specs_of-is types table t))
+property_at_is path types t table d =
+    ap (λ (specs : ℕ → List Spec). spec_at path types (inherited_of specs (parent_of types t)) (specs t) d >>= λ spec. installed path types t (own_of table) spec) (fun_ext (λ u. sym (specs_of-is types table u)))

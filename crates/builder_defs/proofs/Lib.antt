@@ -8,6 +8,7 @@ pub mod Installing
 pub mod Escapes
 pub mod Words
 pub mod Members
+pub mod Parents
 pub mod Ids
 pub mod Values
 pub mod Printing

@@ -40,9 +40,9 @@ flags_fail types d list e read fails =
     fails_as e _ _ (ap (λ (r : Result Items Refusal). r >>= λ list. each (at_entry (λ path. flags_at path (length types)) (codes "/flags")) 0 types list) read) fails
 
 pub classes_fail : (types : List GType) (d : Data) (list : Items) (e : ReadError) → nothing_at [] d unset_before_classes ≡ Ok tt → entries_at [] d (codes "classes") ≡ Ok list
-    → Fails e (each (at_entry (λ path. class_at path (length types)) (codes "/classes")) 0 (bare_draft types) list) → Fails e (classes_in types d)
+    → Fails e (each (at_entry (λ path. class_at path (length types) list) (codes "/classes")) 0 (bare_draft types) list) → Fails e (classes_in types d)
 unfolding classes_in
 classes_fail types d list e unset read fails =
     fails_as e _ _
-    (ap (λ (r : Result (Unit {0}) Refusal). r >>= λ u. entries_at [] d (codes "classes") >>= λ list. each (at_entry (λ path. class_at path (length types)) (codes "/classes")) 0 (bare_draft types) list) unset
-    ∙ ap (λ (r : Result Items Refusal). r >>= λ list. each (at_entry (λ path. class_at path (length types)) (codes "/classes")) 0 (bare_draft types) list) read) fails
+    (ap (λ (r : Result (Unit {0}) Refusal). r >>= λ u. entries_at [] d (codes "classes") >>= λ list. each (at_entry (λ path. class_at path (length types) list) (codes "/classes")) 0 (bare_draft types) list) unset
+    ∙ ap (λ (r : Result Items Refusal). r >>= λ list. each (at_entry (λ path. class_at path (length types) list) (codes "/classes")) 0 (bare_draft types) list) read) fails

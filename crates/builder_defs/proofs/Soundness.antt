@@ -32,8 +32,8 @@ use Rattle.builder_defs.specs.Denoted.Kinds.{kind_named, kind_at, lowest, highes
 use Rattle.builder_defs.specs.Denoted.PropertyFlags.{flags_at}
 use Rattle.builder_defs.specs.Denoted.Ranges.{Range, end_given, end_or, check_filled, range_at}
 use Rattle.builder_defs.specs.Denoted.Defaults.{default_at, check_default}
-use Rattle.builder_defs.specs.Denoted.Properties.{specs_by, property_spec, room_for_property, new_property, keys_of_property, valued_at, spec_at, add_own, installed_or, installed, property_at}
-use Rattle.builder_defs.specs.Denoted.Classes.{Draft, draft_of, bare_draft, keys_of_class, declared_at, kin_at, answering_at, properties_at, class_at}
+use Rattle.builder_defs.specs.Denoted.Properties.{specs_by, inherited_by, property_spec, room_for_property, new_property, keys_of_property, valued_at, spec_at, add_own, installed_or, installed, property_at}
+use Rattle.builder_defs.specs.Denoted.Classes.{Draft, draft_of, bare_draft, keys_of_class, declared_at, answering_at, properties_at, class_at}
 use Rattle.builder_defs.specs.Denoted.Objects.{room_for_object, new_id, class_at_key, bare_at, keys_of_object, place_at, object_at}
 use Rattle.builder_defs.specs.Denoted.{unset_before_classes, unset_before_objects, enums_in, flags_in, classes_in, draft_in, objects_in}
 use Rattle.builder_defs.proofs.Installing.{specs_of-is}
@@ -206,13 +206,13 @@ valued_plain path types name kind flags d known =
     (default_plain (under path (codes "default")) types (property_spec name kind flags default range) known (whole_within kind (property_spec name kind flags default range) known within.0 within.1) refl)
     λ valid plain. plain
 
-spec_plain : (path : List ℕ) (types : List GType) (specs : List Spec) (d : Data) → OnRead IsPlain (spec_at path types specs d)
+spec_plain : (path : List ℕ) (types : List GType) (inherited specs : List Spec) (d : Data) → OnRead IsPlain (spec_at path types inherited specs d)
 unfolding spec_at
-spec_plain path types specs d =
+spec_plain path types inherited specs d =
     on_bind (λ x. Unit {0}) IsPlain (members_at path d) _ (on_all _) λ ms u.
     on_bind (λ x. Unit {0}) IsPlain (room_for_property specs) _ (on_all _) λ room u.
     on_bind (λ x. Unit {0}) IsPlain (text_at path d (codes "name")) _ (on_all _) λ name u.
-    on_bind (λ x. Unit {0}) IsPlain (new_property (under path (codes "name")) specs name) _ (on_all _) λ new u.
+    on_bind (λ x. Unit {0}) IsPlain (new_property (under path (codes "name")) inherited specs name) _ (on_all _) λ new u.
     on_bind IsOpen IsPlain (kind_at path d) _ (kind_open path d) λ kind known.
     on_bind (λ x. Unit {0}) IsPlain (flags_at path d) _ (on_all _) λ flags u.
     on_bind IsPlain IsPlain (valued_at path types name kind flags d) _ (valued_plain path types name kind flags d known) λ spec plain.
@@ -244,24 +244,24 @@ canonical_kind (kinds.object t) s p = p
 property_plain : (path : List ℕ) (types : List GType) (t : ℕ) (own : ℕ → List Spec) (d : Data) → AllOwn own → OnRead AllOwn (property_at path types t own d)
 unfolding property_at
 property_plain path types t own d all =
-    on_bind IsPlain AllOwn (spec_at path types (specs_by types own t) d) (λ spec. installed path types t own spec) (spec_plain path types (specs_by types own t) d)
+    on_bind IsPlain AllOwn (spec_at path types (inherited_by types own t) (specs_by types own t) d) (λ spec. installed path types t own spec) (spec_plain path types (inherited_by types own t) (specs_by types own t) d)
     λ spec plain. installed_plain path (install_fault types (specs_by types own t) spec) (add_own own t (canonical_spec spec)) (added_plain own t (canonical_spec spec) all (record { kind = canonical_kind spec.kind spec plain.kind; strong = plain.strong; default = plain.default }))
 
 properties_plain : (path : List ℕ) (types : List GType) (t : ℕ) (own : ℕ → List Spec) (d : Data) → AllOwn own → OnRead AllOwn (properties_at path types t own d)
 unfolding properties_at
 properties_plain path types t own d all =
-    on_bind (λ x. Unit {0}) AllOwn (kin_at path d) _ (on_all _) λ kin u.
+    on_bind (λ x. Unit {0}) AllOwn (nothing_at path d (codes "implements" ∷ [])) _ (on_all _) λ unset u.
     on_bind (λ x. Unit {0}) AllOwn (entries_at path d (codes "properties")) _ (on_all _) λ list u.
     on_each AllOwn (at_entry (λ entry. property_at entry types t) (under path (codes "properties"))) (λ i own d all. property_plain (nth (under path (codes "properties")) i) types t own d all) 0 own list all
 
 abbrev pub PlainDraft : Draft → Type 0
 PlainDraft draft = AllOwn draft.own
 
-class_plain : (path : List ℕ) (first : ℕ) (draft : Draft) (d : Data) → PlainDraft draft → OnRead PlainDraft (class_at path first draft d)
+class_plain : (path : List ℕ) (first : ℕ) (list : Items) (draft : Draft) (d : Data) → PlainDraft draft → OnRead PlainDraft (class_at path first list draft d)
 unfolding class_at
-class_plain path first draft d all =
+class_plain path first list draft d all =
     on_bind (λ x. Unit {0}) PlainDraft (members_at path d) _ (on_all _) λ ms u.
-    on_bind (λ x. Unit {0}) PlainDraft (declared_at path first draft.types d) _ (on_all _) λ types u.
+    on_bind (λ x. Unit {0}) PlainDraft (declared_at path first list draft.types d) _ (on_all _) λ types u.
     on_bind AllOwn PlainDraft (properties_at path types (length draft.types) draft.own d) _ (properties_plain path types (length draft.types) draft.own d all) λ own plain.
     on_bind (λ x. Unit {0}) PlainDraft (answering_at path d) _ (on_all _) λ answering u.
     on_bind (λ x. Unit {0}) PlainDraft (only_at path ms keys_of_class) _ (on_all _) λ only u. plain
@@ -271,7 +271,7 @@ unfolding classes_in
 classes_plain types d =
     on_bind (λ x. Unit {0}) PlainDraft (nothing_at [] d unset_before_classes) _ (on_all _) λ unset u.
     on_bind (λ x. Unit {0}) PlainDraft (entries_at [] d (codes "classes")) _ (on_all _) λ list u.
-    on_each PlainDraft (at_entry (λ path. class_at path (length types)) (under [] (codes "classes"))) (λ i draft d all. class_plain (nth (under [] (codes "classes")) i) (length types) draft d all) 0 (bare_draft types) list (λ t. tt)
+    on_each PlainDraft (at_entry (λ path. class_at path (length types) list) (under [] (codes "classes"))) (λ i draft d all. class_plain (nth (under [] (codes "classes")) i) (length types) list draft d all) 0 (bare_draft types) list (λ t. tt)
 
 draft_plain : (d : Data) → OnRead PlainDraft (draft_in d)
 unfolding draft_in

@@ -1,4 +1,4 @@
--- Why a type is not added, with the names of types.
+-- Why a type is not added or has no objects, with the names of types.
 use Rattle.std.specs.Prelude.{ℕ, List, string_bytes}
 use Rattle.ui_machine.specs.Seq.{read}
 use Rattle.ui_machine.specs.Definition.Types.{GType}
@@ -16,6 +16,7 @@ pub data Cause : Type 0 where
   final_parent : Cause
   prerequisite : (name : List ℕ) → Cause
   limit : TypeLimit → Cause
+  abstract_class : Cause
 
 -- a cause without where its text lies in memory
 abbrev pub cause_view : TypeCause → Cause
@@ -25,6 +26,7 @@ cause_view of_cause.UnknownParent = unknown_parent
 cause_view of_cause.FinalParent = final_parent
 cause_view (of_cause.Prerequisite name) = prerequisite (string_bytes name)
 cause_view (of_cause.Limit l) = limit l
+cause_view of_cause.Abstract = abstract_class
 
 -- the cause of a fault among these types
 abbrev pub named_cause : List GType → TypeFault → Cause

@@ -70,7 +70,7 @@ unfoldable pub classes_in : List GType → Data → Result Draft Refusal
 classes_in types d = do
   unset ← nothing_at [] d unset_before_classes
   list ← entries_at [] d (codes "classes")
-  each (at_entry (λ path. class_at path (length types)) (under [] (codes "classes"))) 0 (bare_draft types) list
+  each (at_entry (λ path. class_at path (length types) list) (under [] (codes "classes"))) 0 (bare_draft types) list
 
 -- the types of a definition, with their properties
 unfoldable pub draft_in : Data → Result Draft Refusal

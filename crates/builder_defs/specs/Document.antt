@@ -3,7 +3,7 @@ use Rattle.std.specs.Prelude.{ℕ, ◌+◌, List, [], ◌∷◌, ◌++◌, codes
 use Rattle.std.specs.List.{find, flat_map, list_any}
 use Rattle.std.specs.Str.{bytes_eq, is_utf8}
 use Rattle.serde_json.specs.Data.{Data, Items, no_items, item, Members, no_members, member}
-use Rattle.serde_json.specs.Find.{get, as_str, as_array, as_object}
+use Rattle.serde_json.specs.Find.{get, as_bool, as_str, as_array, as_object}
 use Rattle.serde_json.specs.Read.{read}
 use Rattle.ui_machine.specs.Outcome.{◌>>=◌}
 use Rattle.builder_defs.specs.Refusals.{Refusal, shape, too_long, not_utf8, not_json, or_refused, refused_if}
@@ -33,6 +33,14 @@ members_at path d = or_refused (shape path) (as_object d)
 -- a member that must be a text
 abbrev pub text_at : List ℕ → Data → List ℕ → Result (List ℕ) Refusal
 text_at path d key = or_refused (shape (under path key)) (option_and_then as_str (get key d))
+
+-- a truth value, which is false where it is absent
+abbrev pub truth_or : List ℕ → Option Data → Result Bool Refusal
+truth_or path None = Ok false
+truth_or path (Some d) = or_refused (shape path) (as_bool d)
+
+abbrev pub truth_at : List ℕ → Data → List ℕ → Result Bool Refusal
+truth_at path d key = truth_or (under path key) (get key d)
 
 -- the entries of a list, which may be absent
 abbrev pub entries : List ℕ → Option Data → Result Items Refusal

@@ -11,7 +11,7 @@ use Rattle.g_values.specs.declared.error.JsonFault.TheVariants as values
 use Rattle.param_specs.specs.declared.error.SpecFault.{SpecFault}
 use Rattle.param_specs.specs.declared.error.SpecFault.TheVariants as specs
 use Rattle.builder_defs.specs.declared.fault.DefinitionLimit.{DefinitionLimit}
-use Rattle.builder_defs.specs.declared.fault.DefinitionLimit.TheVariants.{Types, Properties, Objects}
+use Rattle.builder_defs.specs.declared.fault.DefinitionLimit.TheVariants.{Types, Depth, Properties, Objects}
 use Rattle.builder_defs.specs.Refusals.{Refusal, too_long, not_utf8, not_json, shape, unknown, duplicate, bad_type, bad_spec, value_fault, limit}
 
 -- ** paths and names
@@ -41,6 +41,7 @@ type_cause_text causes.unknown_parent = codes "UnknownParent"
 type_cause_text causes.final_parent = codes "FinalParent"
 type_cause_text (causes.prerequisite name) = codes "Prerequisite " ++ printed name
 type_cause_text (causes.limit l) = codes "Limit " ++ type_limit_name l
+type_cause_text causes.abstract_class = codes "Abstract"
 
 -- why a property is not installed
 abbrev pub spec_cause_text : SpecFault → List ℕ
@@ -62,6 +63,7 @@ value_cause_text values.TextTooLong = codes "TextTooLong"
 
 abbrev pub limit_name : DefinitionLimit → List ℕ
 limit_name Types = codes "types"
+limit_name Depth = codes "depth"
 limit_name Properties = codes "properties"
 limit_name Objects = codes "objects"
 

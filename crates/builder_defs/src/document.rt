@@ -8,7 +8,7 @@ ghost use Rattle.std.specs.BTreeMap.{keys};
 ghost use Rattle.serde_json.specs.View.{view, items_view, members_view};
 ghost use Rattle.serde_json.specs.Find.{get};
 ghost use Rattle.builder_defs.specs.Refusals.{Gives, IsRefusal, shape, value_fault};
-ghost use Rattle.builder_defs.specs.Document.{under, nth, path_of, members_at, text_at, entries_at, is_absent_or_empty, nothing_at, absent_at, escaped, only_at, document};
+ghost use Rattle.builder_defs.specs.Document.{under, nth, path_of, members_at, text_at, truth_at, entries_at, is_absent_or_empty, nothing_at, absent_at, escaped, only_at, document};
 
 use crate::fault::{DefinitionFault, ReadError};
 use g_values::JsonFault;
@@ -146,6 +146,19 @@ impl<'a> Part<'a> {
     {
         match self.value.get(key).and_then(Value::as_str) {
             Some(text) => Ok(text),
+            None => Err(bad_shape(self.alloc, self.path, key)?),
+        }
+    }
+
+    // A truth value, which is false where it is absent.
+    pub(crate) fn truth(self, key: &str) -> Result<bool, ReadError>
+        ensures { Gives (λ b. b) result (truth_at (path_of self.entry.path) (view self.entry.value.now) key.now) }
+    {
+        let Some(value) = self.value.get(key) else {
+            return Ok(false);
+        };
+        match value.as_bool() {
+            Some(truth) => Ok(truth),
             None => Err(bad_shape(self.alloc, self.path, key)?),
         }
     }

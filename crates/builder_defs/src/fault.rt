@@ -13,7 +13,9 @@ use type_tree::TypeLimit;
 pub enum DefinitionLimit {
     /// More than 256 types, with the two that are there from the beginning.
     Types,
-    /// More than 64 properties of one class.
+    /// A class that would stand more than 16 deep under `GObject`, which stands 1 deep.
+    Depth,
+    /// More than 64 properties of one class, the inherited ones among them.
     Properties,
     /// More than 64 objects.
     Objects,
@@ -34,6 +36,8 @@ pub enum TypeCause {
     Prerequisite(String),
     /// The tree is full, or the class would stand too deep.
     Limit(TypeLimit),
+    /// An object is of a class that has none.
+    Abstract,
 }
 
 /// Why bytes denote no definition. A path is a JSON pointer (RFC 6901). The fault is the first one in document order, and at one path the first
@@ -50,9 +54,9 @@ pub enum DefinitionFault {
     Shape(String),
     /// At the path stands a name that nothing has.
     Unknown(String, String),
-    /// An earlier entry of the section has the name.
+    /// An earlier entry of the section has the name, or an ancestor has the property.
     Duplicate(String),
-    /// A type is not added.
+    /// A type is not added, or has no objects.
     BadType(String, TypeCause),
     /// A property is not installed.
     BadSpec(String, SpecFault),

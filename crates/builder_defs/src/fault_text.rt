@@ -63,6 +63,7 @@ fn limit_name(limit: DefinitionLimit) -> &'static str
 {
     match limit {
         DefinitionLimit::Types => "types",
+        DefinitionLimit::Depth => "depth",
         DefinitionLimit::Properties => "properties",
         DefinitionLimit::Objects => "objects",
     }
@@ -78,7 +79,7 @@ fn type_limit_name(limit: TypeLimit) -> &'static str
     }
 }
 
-// Why a type is not added: the name of the cause and its own fields.
+// Why a type is not added or has no objects: the name of the cause and its own fields.
 fn type_cause_text(alloc: Global, cause: &TypeCause) -> Result<String, AllocError>
     ensures { IfOk result (λ text. string_bytes text ≡ type_cause_text (cause_view cause.now)) }
 {
@@ -95,6 +96,7 @@ fn type_cause_text(alloc: Global, cause: &TypeCause) -> Result<String, AllocErro
             let name = type_limit_name(*limit);
             format!(in alloc; "Limit {name}")
         }
+        TypeCause::Abstract => String::from_str(alloc, "Abstract"),
     }
 }
 

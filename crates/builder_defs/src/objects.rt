@@ -6,11 +6,11 @@ ghost use Rattle.ui_machine.specs.Definition.Names.{place_named};
 ghost use Rattle.builder_defs.specs.Meaning.{bare_place, plain_object};
 ghost use Rattle.builder_defs.specs.Refusals.{Gives};
 ghost use Rattle.builder_defs.specs.Document.{under, path_of, each, at_entry};
-ghost use Rattle.builder_defs.specs.Denoted.Objects.{room_for_object, new_id, class_at_key, bare_at, place_at, object_at};
+ghost use Rattle.builder_defs.specs.Denoted.Objects.{room_for_object, new_id, unless_abstract, class_at_key, bare_at, place_at, object_at};
 
 use crate::definition::{MOST_OBJECTS, position_of};
 use crate::document::{Entries, Part, bad_shape, path_under};
-use crate::fault::{DefinitionFault, DefinitionLimit, ReadError};
+use crate::fault::{DefinitionFault, DefinitionLimit, ReadError, TypeCause};
 use crate::names::is_name;
 use crate::reads::{Reads, read_each};
 use indexmap::IndexMap;
@@ -51,13 +51,27 @@ fn check_id(part: Part<'_>, objects: &IndexMap<String, TypeId>, id: &str) -> Res
     Ok(())
 }
 
+// Tests that a class has objects.
+fn check_concrete(part: Part<'_>, types: &TypeTree, class: TypeId) -> Result<TypeId, ReadError>
+    ensures { Gives (λ t. t) result (unless_abstract (under (path_of part.entry.path) (codes "class")) types.now class) }
+{
+    if types.flags(class).is_abstract {
+        let path = path_under(part.alloc, part.path, "class")?;
+        return Err(ReadError::Refused(DefinitionFault::BadType(path, TypeCause::Abstract)));
+    }
+    Ok(class)
+}
+
 // The class of an object.
 fn class_of(part: Part<'_>, types: &TypeTree) -> Result<TypeId, ReadError>
     ensures { Gives (λ t. t) result (class_at_key (path_of part.entry.path) types.now (view part.entry.value.now)) }
 {
     let name = part.text("class")?;
     match types.find_class(name) {
-        Some(class) => Ok(class),
+        Some(class) => {
+            let class = check_concrete(part, types, class)?;
+            Ok(class)
+        }
         None => {
             let path = path_under(part.alloc, part.path, "class")?;
             Err(ReadError::Refused(DefinitionFault::Unknown(

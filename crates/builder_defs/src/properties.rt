@@ -1,13 +1,14 @@
 //! The properties of a class, read from a definition.
 
-ghost use Rattle.std.specs.Prelude.{◌≡◌, codes, string_bytes, IfOk};
+ghost use Rattle.std.specs.Prelude.{◌≡◌, codes, is_some, string_bytes, IfOk};
 ghost use Rattle.serde_json.specs.View.{view, items_view};
+ghost use Rattle.ui_machine.specs.Rules.Ancestry.{parent_of};
 ghost use Rattle.g_values.specs.View.{kind_view, value_view, IsKnown};
 ghost use Rattle.param_specs.specs.View.{spec_view};
-ghost use Rattle.param_specs.specs.Table.{own_of, specs_of};
+ghost use Rattle.param_specs.specs.Table.{own_of, specs_of, slot_named};
 ghost use Rattle.builder_defs.specs.Refusals.{Gives, Leads};
 ghost use Rattle.builder_defs.specs.Document.{under, path_of, each, at_entry};
-ghost use Rattle.builder_defs.specs.Denoted.Properties.{property_spec, room_for_property, new_property, valued_at, spec_at, installed, property_at};
+ghost use Rattle.builder_defs.specs.Denoted.Properties.{inherited_of, property_spec, room_for_property, new_name, new_property, valued_at, spec_at, installed, property_at};
 
 use crate::defaults::{check_default, default_of};
 use crate::document::{Entries, Part, path_text, path_under};
@@ -55,7 +56,38 @@ fn check_room(types: &TypeTree, specs: &SpecTable, class: TypeId) -> Result<(), 
     Ok(())
 }
 
-// A fault of a property at its name.
+// Whether an ancestor of a class has a property of this name.
+fn is_inherited(types: &TypeTree, specs: &SpecTable, class: TypeId, name: &str) -> bool
+    ensures { result ≡ is_some (slot_named (inherited_of (specs_of types.now specs.now) (parent_of types.now class)) name.now) }
+{
+    match types.parent(class) {
+        Some(parent) => specs.find(types, parent, name).is_some(),
+        None => false,
+    }
+}
+
+// Tests that a class has no property of this name.
+fn check_new_name(
+    part: Part<'_>,
+    types: &TypeTree,
+    specs: &SpecTable,
+    class: TypeId,
+    name: &str,
+) -> Result<(), ReadError>
+    ensures { Gives (λ _. tt) result (new_name (under (path_of part.entry.path) (codes "name")) (inherited_of (specs_of types.now specs.now) (parent_of types.now class)) (specs_of types.now specs.now class) name.now) }
+{
+    if is_inherited(types, specs, class, name) {
+        let path = path_under(part.alloc, part.path, "name")?;
+        return Err(ReadError::Refused(DefinitionFault::Duplicate(path)));
+    }
+    if specs.find(types, class, name).is_some() {
+        let path = path_under(part.alloc, part.path, "name")?;
+        return Err(ReadError::Refused(DefinitionFault::BadSpec(path, SpecFault::Duplicate)));
+    }
+    Ok(())
+}
+
+// Tests the name of a property beside those of its class.
 fn check_name(
     part: Part<'_>,
     types: &TypeTree,
@@ -63,17 +95,13 @@ fn check_name(
     class: TypeId,
     name: &str,
 ) -> Result<(), ReadError>
-    ensures { Gives (λ _. tt) result (new_property (under (path_of part.entry.path) (codes "name")) (specs_of types.now specs.now class) name.now) }
+    ensures { Gives (λ _. tt) result (new_property (under (path_of part.entry.path) (codes "name")) (inherited_of (specs_of types.now specs.now) (parent_of types.now class)) (specs_of types.now specs.now class) name.now) }
 {
     if !is_property_name(name) {
         let path = path_under(part.alloc, part.path, "name")?;
         return Err(ReadError::Refused(DefinitionFault::BadSpec(path, SpecFault::BadName)));
     }
-    if specs.find(types, class, name).is_some() {
-        let path = path_under(part.alloc, part.path, "name")?;
-        return Err(ReadError::Refused(DefinitionFault::BadSpec(path, SpecFault::Duplicate)));
-    }
-    Ok(())
+    check_new_name(part, types, specs, class, name)
 }
 
 // The spec of a property of this name and kind, with these flags.
@@ -105,7 +133,7 @@ fn spec_in(
     specs: &SpecTable,
     class: TypeId,
 ) -> Result<Spec, ReadError>
-    ensures spec { Gives spec_view result (spec_at (path_of part.entry.path) types.now (specs_of types.now specs.now class) (view part.entry.value.now)) }
+    ensures spec { Gives spec_view result (spec_at (path_of part.entry.path) types.now (inherited_of (specs_of types.now specs.now) (parent_of types.now class)) (specs_of types.now specs.now class) (view part.entry.value.now)) }
     ensures known { IfOk result (λ s. IsKnown types.now s.kind) }
 {
     let members = part.members()?;

@@ -5,10 +5,13 @@ use Rattle.ui_machine.specs.Outcome.{◌>>=◌}
 use Rattle.ui_machine.specs.Definition.Types.{GType}
 use Rattle.ui_machine.specs.Definition.Names.{place_named}
 use Rattle.ui_machine.specs.Definition.Places as machine
+use Rattle.ui_machine.specs.Seq.{read}
+use Rattle.ui_machine.specs.Output.Text.{no_type}
 use Rattle.type_tree.specs.Adding.{class_named}
+use Rattle.builder_defs.specs.Causes.{abstract_class}
 use Rattle.builder_defs.specs.declared.fault.DefinitionLimit.TheVariants.{Objects}
 use Rattle.builder_defs.specs.Meaning.{bare_place}
-use Rattle.builder_defs.specs.Refusals.{Refusal, shape, unknown, duplicate, limit, or_refused}
+use Rattle.builder_defs.specs.Refusals.{Refusal, shape, unknown, duplicate, bad_type, limit, or_refused}
 use Rattle.builder_defs.specs.Document.{under, members_at, text_at, absent_at, nothing_at, only_at}
 use Rattle.builder_defs.specs.Denoted.Names.{is_name}
 
@@ -20,10 +23,15 @@ abbrev pub new_id : List ℕ → List machine.Place → List ℕ → Result (Uni
 new_id path places id =
     if is_name id then (if is_some (place_named (λ (p : machine.Place). p.id) places id) then Err (duplicate path) else Ok tt) else Err (shape path)
 
+-- a class that has objects
+abbrev pub unless_abstract : List ℕ → List GType → ℕ → Result ℕ Refusal
+unless_abstract path types t = if (read no_type types t).is_abstract then Err (bad_type path abstract_class) else Ok t
+
 abbrev pub class_at_key : List ℕ → List GType → Data → Result ℕ Refusal
 class_at_key path types d = do
   name ← text_at path d (codes "class")
-  or_refused (unknown (under path (codes "class")) name) (class_named types name)
+  class ← or_refused (unknown (under path (codes "class")) name) (class_named types name)
+  unless_abstract (under path (codes "class")) types class
 
 abbrev pub keys_of_object : List (List ℕ)
 keys_of_object = codes "id" ∷ codes "class" ∷ codes "peer" ∷ codes "properties" ∷ codes "signals" ∷ codes "children" ∷ []

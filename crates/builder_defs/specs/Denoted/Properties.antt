@@ -6,14 +6,14 @@ use Rattle.ui_machine.specs.Outcome.{◌>>=◌}
 use Rattle.ui_machine.specs.Definition.Kinds.{Kind}
 use Rattle.ui_machine.specs.Definition.Values.{Value}
 use Rattle.ui_machine.specs.Definition.Types.{GType}
-use Rattle.ui_machine.specs.Rules.Ancestry.{lineage}
+use Rattle.ui_machine.specs.Rules.Ancestry.{lineage, parent_of}
 use Rattle.ui_machine.specs.Definition.Properties.{Spec}
 use Rattle.param_specs.specs.Table.{slot_named, install_fault, canonical_spec}
 use Rattle.param_specs.specs.PropertyName.{is_property_name}
 use Rattle.param_specs.specs.declared.error.SpecFault.{SpecFault}
 use Rattle.param_specs.specs.declared.error.SpecFault.TheVariants.{BadName, Duplicate}
 use Rattle.builder_defs.specs.declared.fault.DefinitionLimit.TheVariants.{Properties}
-use Rattle.builder_defs.specs.Refusals.{Refusal, bad_spec, limit}
+use Rattle.builder_defs.specs.Refusals.{Refusal, duplicate, bad_spec, limit}
 use Rattle.builder_defs.specs.Document.{under, members_at, text_at, absent_at, only_at}
 use Rattle.builder_defs.specs.Denoted.Kinds.{kind_at}
 use Rattle.builder_defs.specs.Denoted.PropertyFlags.{flags_at}
@@ -24,6 +24,14 @@ use Rattle.builder_defs.specs.Denoted.Defaults.{default_at, check_default}
 abbrev pub specs_by : List GType → (ℕ → List Spec) → ℕ → List Spec
 specs_by types own t = flat_map own (reverse (lineage types t))
 
+-- the properties that a type inherits
+abbrev pub inherited_of : (ℕ → List Spec) → Option ℕ → List Spec
+inherited_of specs None = []
+inherited_of specs (Some parent) = specs parent
+
+abbrev pub inherited_by : List GType → (ℕ → List Spec) → ℕ → List Spec
+inherited_by types own t = inherited_of (specs_by types own) (parent_of types t)
+
 -- the spec of a property with this default and range
 abbrev pub property_spec : List ℕ → Kind → ℕ → Value → Range → Spec
 property_spec name kind flags default range =
@@ -32,10 +40,15 @@ property_spec name kind flags default range =
 abbrev pub room_for_property : List Spec → Result (Unit {0}) Refusal
 room_for_property specs = if nat_le 64 (length specs) then Err (limit Properties) else Ok tt
 
--- the name of a property beside these
-abbrev pub new_property : List ℕ → List Spec → List ℕ → Result (Unit {0}) Refusal
-new_property path specs name =
-    if is_property_name name then (if is_some (slot_named specs name) then Err (bad_spec path Duplicate) else Ok tt) else Err (bad_spec path BadName)
+-- a name that a type has not yet: what an ancestor has is told as such
+abbrev pub new_name : List ℕ → List Spec → List Spec → List ℕ → Result (Unit {0}) Refusal
+new_name path inherited specs name =
+    if is_some (slot_named inherited name) then Err (duplicate path) else
+    (if is_some (slot_named specs name) then Err (bad_spec path Duplicate) else Ok tt)
+
+-- the name of a property, where a type inherits some of these and has all of them
+abbrev pub new_property : List ℕ → List Spec → List Spec → List ℕ → Result (Unit {0}) Refusal
+new_property path inherited specs name = if is_property_name name then new_name path inherited specs name else Err (bad_spec path BadName)
 
 abbrev pub keys_of_property : List (List ℕ)
 keys_of_property = codes "name" ∷ codes "kind" ∷ codes "flags" ∷ codes "default" ∷ codes "min" ∷ codes "max" ∷ codes "weak" ∷ []
@@ -48,13 +61,13 @@ valued_at path types name kind flags d = do
   valid ← check_default (under path (codes "default")) types (property_spec name kind flags default range)
   Ok (property_spec name kind flags default range)
 
--- the spec of a property beside these
-unfoldable pub spec_at : List ℕ → List GType → List Spec → Data → Result Spec Refusal
-spec_at path types specs d = do
+-- the spec of a property of a type that inherits some of these and has all of them
+unfoldable pub spec_at : List ℕ → List GType → List Spec → List Spec → Data → Result Spec Refusal
+spec_at path types inherited specs d = do
   members ← members_at path d
   room ← room_for_property specs
   name ← text_at path d (codes "name")
-  new ← new_property (under path (codes "name")) specs name
+  new ← new_property (under path (codes "name")) inherited specs name
   kind ← kind_at path d
   flags ← flags_at path d
   spec ← valued_at path types name kind flags d
@@ -75,5 +88,5 @@ installed path types t own spec = installed_or path (install_fault types (specs_
 
 unfoldable pub property_at : List ℕ → List GType → ℕ → (ℕ → List Spec) → Data → Result (ℕ → List Spec) Refusal
 property_at path types t own d = do
-  spec ← spec_at path types (specs_by types own t) d
+  spec ← spec_at path types (inherited_by types own t) (specs_by types own t) d
   installed path types t own spec

@@ -14,4 +14,4 @@ returns-in_err-read_classes c =
     rw (p.1, p.2) (classes_fail c.args.draft.now.types (view c.args.part.value.now) (items_view c.in_ok-items.items.now) c.in_err-read_classes.field-0.0
     (subst (λ path. nothing_at path (view c.args.part.value.now) unset_before_classes ≡ Ok tt) c.requires.root c.in_ok-check_nothing.ensures)
     (subst (λ path. entries_at path (view c.args.part.value.now) (codes "classes") ≡ Ok (items_view c.in_ok-items.items.now)) c.requires.root c.in_ok-items.ensures)
-    (subst (λ specs. Fails c.in_err-read_classes.field-0.0 (each (at_entry (λ path. class_at path (length c.args.draft.now.types)) (codes "/classes")) 0 (draft_of c.args.draft.now.types specs) (items_view c.in_ok-items.items.now))) c.requires.bare c.in_err-read_classes.ensures))
+    (subst (λ specs. Fails c.in_err-read_classes.field-0.0 (each (at_entry (λ path. class_at path (length c.args.draft.now.types) (items_view c.in_ok-items.items.now)) (codes "/classes")) 0 (draft_of c.args.draft.now.types specs) (items_view c.in_ok-items.items.now))) c.requires.bare c.in_err-read_classes.ensures))
