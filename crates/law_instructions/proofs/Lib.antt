@@ -21,3 +21,5 @@ pub mod ReturnProofs
 pub mod StopProofs
 pub mod Counts
 pub mod FreezeProofs
+pub mod Started
+pub mod EmitProofs

@@ -7,3 +7,4 @@ pub mod Attaching
 pub mod Returning
 pub mod Stopping
 pub mod Freezing
+pub mod Emitting

@@ -8,6 +8,7 @@ ghost use Rattle.law_instructions.specs.Attaching.{AttachmentsAreFine};
 ghost use Rattle.law_instructions.specs.Returning.{ReturnsAreFine};
 ghost use Rattle.law_instructions.specs.Stopping.{StopsAreFine};
 ghost use Rattle.law_instructions.specs.Freezing.{FreezesAreFine};
+ghost use Rattle.law_instructions.specs.Emitting.{EmitsAreFine};
 ghost use Rattle.law_instructions.specs.Disposing.{DisposesAreFine};
 
 /// Constants, copies, arithmetic, comparisons, truth values, texts and conversions: from what is good, the step is not stuck and leads to what is good.
@@ -49,4 +50,9 @@ pub fn stopping()
 /// A program freezes an object.
 pub fn freezing()
     ensures fine { FreezesAreFine }
+{}
+
+/// A program emits a signal; it waits for the result, if it takes it.
+pub fn emissions()
+    ensures fine { EmitsAreFine }
 {}

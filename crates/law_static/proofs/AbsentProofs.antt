@@ -61,7 +61,7 @@ module _ (d : Definition) where
       go true e = (e, tt)
       go false e = tt
 
-  all_there : Each There (channels d)
+  pub all_there : Each There (channels d)
   all_there =
       each_flat There (channels_at d) (place_numbers d)
       (λ place h.
@@ -72,7 +72,7 @@ module _ (d : Definition) where
 
   -- ** what is not there is in no table
 
-  no_entry : (f : Raised → ℕ) (cs : List Channel) (c : Channel) → Each There cs → is_channel d c ≡ false →
+  pub no_entry : (f : Raised → ℕ) (cs : List Channel) (c : Channel) → Each There cs → is_channel d c ≡ false →
       entry (map (λ (r : Raised). (r.channel, f r)) (map (raised_at d (connections d (sites d))) cs)) c ≡ 0
   no_entry f [] c all e = refl
   no_entry f (x ∷ cs) c all e = go (same_channel x c) refl (no_entry f cs c all.1 e)
@@ -86,7 +86,7 @@ module _ (d : Definition) where
 
   -- ** nor in a pair
 
-  end_there : (xs : List Bind) (c e : Channel) → Each (λ b. word_of d b ≡ None) xs → other_end_in (pairs_of xs) c ≡ Some e → is_channel d c ≡ true
+  pub end_there : (xs : List Bind) (c e : Channel) → Each (λ b. word_of d b ≡ None) xs → other_end_in (pairs_of xs) c ≡ Some e → is_channel d c ≡ true
   end_there [] c e words is = absurd (cc)
   end_there (x ∷ xs) c e words is = go (is_pair x) refl is (λ is. end_there xs c e words.1 is)
     where

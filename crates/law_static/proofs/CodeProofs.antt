@@ -8,19 +8,19 @@ use Rattle.ui_machine.specs.Definition.Programs as words
 use Rattle.ui_machine.specs.State.Tasks.{Registers, Frame}
 use Rattle.law_typing.specs.Rules.RegisterKinds.{Kinds}
 use Rattle.law_typing.specs.Rules.Typing.{after, first_broken}
-use Rattle.law_typing.specs.Rules.Brackets.{opened, keeps_brackets, is_bracketed}
+use Rattle.law_typing.specs.Rules.Brackets.{opened, keeps, keeps_brackets, is_bracketed}
 use Rattle.law_typing.specs.Graph.{graph, start_of, starts_of, stretch_of, stretches_of, next_of}
 use Rattle.law_typing.specs.Graph.Tables.{Tables}
 use Rattle.law_typing.specs.Graph.Costs.{start_cost, code_cost}
 use Rattle.law_typing.specs.Laws.{IsIn}
 use Rattle.law_typing.specs.Laws.WellRead.{WellRead, ends, Ends}
 use Rattle.law_typing.specs.Good.Standing.{Standing, RegistersFit}
-use Rattle.law_typing.specs.Good.ComingDown.{none, awaited}
+use Rattle.law_typing.specs.Good.ComingDown.{Down, none, awaited, Comes}
 use Rattle.law_typing.specs.Good.Programs.{RunningGood, kinds_before}
 use Rattle.law_typing.proofs.Lists.{both_parts, map_in}
 use Rattle.law_typing.proofs.CostProofs.{depths_cover}
 use Rattle.law_static.specs.Sites.{kinds_at}
-use Rattle.law_static.specs.Code.{Taken, InstructionsTaken, gone_on, ProgramsGoOn}
+use Rattle.law_static.specs.Code.{Taken, InstructionsTaken, gone_on, ProgramsGoOn, ProgramsWait}
 use Rattle.law_static.proofs.SiteProofs.{first_typed, started_at}
 use Rattle.law_static.proofs.SubclassProofs.{get_in}
 
@@ -118,9 +118,36 @@ module _ (d : Definition) (costs depths : Tables) (s : Standing) (f : Frame) (st
     shallow = r.shallow;
   }
 
+  waits : WellRead d → ends i ≡ false → (z : Standing) (into : Option ℕ) (up : Down) → Comes into up → keeps (opened rest) into ≡ true → awaited r.ks into up ≡ after d r.p r.ks i →
+      RegistersFit d z r.ks f.registers → RunningGood d costs depths z up (record f { at = suc f.at; into = into }) (steps - (1 + start_cost (graph d) costs (start_of d r.ks i))) frames
+  waits read more z into up comes closed comes_down fit = record {
+    p = r.p;
+    is = r.is;
+    b = r.b;
+    in_block = r.in_block;
+    inside = not_last r.b.code f.at i ((read.programs f.program r.p r.is).blocks f.block r.b r.in_block).ends is more;
+    once = r.once;
+    counted = r.counted;
+    ks = r.ks;
+    fit = fit;
+    comes = comes;
+    kept = closed;
+    at_site = comes_down ∙ (ap (λ ks. after d r.p ks i) site_kinds ∙ sym (next_kinds d r.p r.b.entry f.at r.b.code i is));
+    typed = subst (λ ks. first_broken d r.p (suc f.at) ks rest ≡ None) (sym comes_down) (first_typed d r.p f.at r.ks i rest broken).1;
+    bracketed = (both_parts (keeps_brackets (opened rest) i) (is_bracketed rest) kept).1;
+    cheap = subst (λ ks. code_cost (graph d) costs (stretches_of d r.p) (starts_of d r.p ks rest) (flat_map next_of rest) ≤ steps - (1 + start_cost (graph d) costs (start_of d r.ks i))) (sym comes_down) (let c =
+        subst (λ next. code_cost (graph d) costs (stretches_of d r.p) (starts_of d r.p r.ks (i ∷ rest)) (next ++ flat_map next_of rest) ≤ steps) (next_none i more) cheap in
+        omega (arith, c));
+    shallow = r.shallow;
+  }
+
 pub instructions_taken : InstructionsTaken
 instructions_taken d costs depths s f steps frames r i is = taken d costs depths s f steps frames r i is
 
 pub programs_go_on : ProgramsGoOn
 programs_go_on d read costs depths s z f steps frames r i is more registers counted fit =
     goes_on d costs depths s f steps frames r i is read more z registers counted fit
+
+pub programs_wait : ProgramsWait
+programs_wait d read costs depths s z f steps frames r i is more into up comes closed comes_down fit =
+    waits d costs depths s f steps frames r i is read more z into up comes closed comes_down fit

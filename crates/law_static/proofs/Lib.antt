@@ -12,5 +12,6 @@ pub mod PairCostProofs
 pub mod NotifyCostProofs
 pub mod AbsentProofs
 pub mod MakingCostProofs
+pub mod StartProofs
 pub mod RequestProofs
 pub mod BuildCostProofs

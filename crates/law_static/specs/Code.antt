@@ -1,5 +1,5 @@
 -- How a program's rest goes on past an instruction, and where a program begins.
-use Rattle.std.specs.Prelude.{◌≡◌, ℕ, suc, ◌+◌, ◌-◌, ◌≤◌, true, false, List, [], length, drop, None, Ok, Some, slice_get}
+use Rattle.std.specs.Prelude.{◌≡◌, ℕ, suc, ◌+◌, ◌-◌, ◌≤◌, true, false, List, [], length, drop, Option, None, Ok, Some, slice_get}
 use Rattle.ui_machine.specs.Definition.{Definition}
 use Rattle.ui_machine.specs.Definition.Values.{Value}
 use Rattle.ui_machine.specs.Definition.Programs.{Instruction, Block, Program}
@@ -8,7 +8,7 @@ use Rattle.ui_machine.specs.State.Tasks.{Registers, Frame}
 use Rattle.ui_machine.specs.Rules.Programs.{first_registers, first_frame}
 use Rattle.law_typing.specs.Rules.Typing as typing
 use Rattle.law_typing.specs.Rules.Typing.{after}
-use Rattle.law_typing.specs.Rules.Brackets.{opened, keeps_brackets}
+use Rattle.law_typing.specs.Rules.Brackets.{opened, keeps, keeps_brackets}
 use Rattle.law_typing.specs.Graph.{graph, start_of}
 use Rattle.law_typing.specs.Graph.Tables.{Tables, of_program}
 use Rattle.law_typing.specs.Graph.Costs.{start_cost}
@@ -16,7 +16,7 @@ use Rattle.law_typing.specs.Graph.Depths.{start_depth}
 use Rattle.law_typing.specs.Verdict.Accepted.{Accepted}
 use Rattle.law_typing.specs.Laws.WellRead.{WellRead, ends}
 use Rattle.law_typing.specs.Good.Standing.{Standing, RegistersFit}
-use Rattle.law_typing.specs.Good.ComingDown.{none}
+use Rattle.law_typing.specs.Good.ComingDown.{Down, none, awaited, Comes}
 use Rattle.law_typing.specs.Good.Programs.{RunningGood}
 use Rattle.law_static.specs.Sites.{kinds_at}
 use Rattle.law_static.specs.Fits.{AllHold}
@@ -53,6 +53,17 @@ ProgramsGoOn =
     (r : RunningGood d costs depths s none f steps frames) (i : Instruction) → slice_get r.b.code f.at ≡ Some i → ends i ≡ false →
     (registers : Registers) → length registers ≡ r.p.registers → RegistersFit d z (after d r.p r.ks i) registers →
     RunningGood d costs depths z none (gone_on f registers) (steps - (1 + start_cost (graph d) costs (start_of d r.ks i))) frames
+
+-- One that waits for what comes down, in a register whose bracket is not open, goes on as well, where its kinds are those of its next place
+-- once that has come.
+abbrev pub ProgramsWait : Type 0
+ProgramsWait =
+    (d : Definition) → WellRead d → (costs depths : Tables) (s z : Standing) (f : Frame) (steps frames : ℕ)
+    (r : RunningGood d costs depths s none f steps frames) (i : Instruction) → slice_get r.b.code f.at ≡ Some i → ends i ≡ false →
+    (into : Option ℕ) (up : Down) → Comes into up → keeps (opened (drop (suc f.at) r.b.code)) into ≡ true →
+    awaited r.ks into up ≡ after d r.p r.ks i → RegistersFit d z r.ks f.registers →
+    RunningGood d costs depths z up (record f { at = suc f.at; into = into })
+    (steps - (1 + start_cost (graph d) costs (start_of d r.ks i))) frames
 
 -- ** where a program begins
 

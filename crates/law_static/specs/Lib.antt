@@ -7,3 +7,4 @@ pub mod Code
 pub mod Raises
 pub mod NotifyCost
 pub mod MakingCost
+pub mod Starts

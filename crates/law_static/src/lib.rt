@@ -7,8 +7,9 @@ ghost use Rattle.law_static.specs.NotifyCost.{NotifyCosts};
 ghost use Rattle.law_static.specs.Sites.{BlocksKeep, SitesKeep};
 ghost use Rattle.law_static.specs.Subclass.{NamesFind, SpecsInherit, SignalsInherit, EmittedInherit};
 ghost use Rattle.law_static.specs.Fits.{HoldsFits, HoldsLive, HoldsKind, HoldsSet, OperandsStand, ClassesAgree, GivenHold, GivenFit};
-ghost use Rattle.law_static.specs.Code.{InstructionsTaken, ProgramsGoOn, ProgramsBegin, FirstRegistersFit};
+ghost use Rattle.law_static.specs.Code.{InstructionsTaken, ProgramsGoOn, ProgramsWait, ProgramsBegin, FirstRegistersFit};
 ghost use Rattle.law_static.specs.Raises.{ChannelsKnown, ConnectionsKnown, SourcesKnown};
+ghost use Rattle.law_static.specs.Starts.{StartsReach, DueWithin};
 ghost use Rattle.law_static.specs.MakingCost.{AbsentCostsNothing, ConstructionCosts};
 ghost use Rattle.law_typing.specs.Laws.StepsKeepGood.{BuildBegins, RequestsBegin, SourcesBegin};
 
@@ -62,10 +63,11 @@ pub fn registers()
 {}
 
 /// What is known of the instruction that a program has come to, and of what it costs. Past one that does not end its block the rest is good
-/// with what is left of the steps; and a program begins well within its cost and depth.
+/// with what is left of the steps, as is one that waits for what comes down; and a program begins well within its cost and depth.
 pub fn code()
     ensures taken { InstructionsTaken }
     ensures goes_on { ProgramsGoOn }
+    ensures waits { ProgramsWait }
     ensures begins { ProgramsBegin }
     ensures registers { FirstRegistersFit }
 {}
@@ -76,6 +78,12 @@ pub fn raises()
     ensures channels { ChannelsKnown }
     ensures connections { ConnectionsKnown }
     ensures sources { SourcesKnown }
+{}
+
+/// What an instruction raises at the place of its operand's object is within what it may start; and what is due at a property is within its node.
+pub fn starts()
+    ensures reach { StartsReach }
+    ensures due { DueWithin }
 {}
 
 /// What is not raised costs nothing, and a construction costs no more than what the making of its place's object raises.

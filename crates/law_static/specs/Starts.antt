@@ -1,0 +1,32 @@
+-- What is raised at the place of an operand's object is within what the instruction may start; and what is due at a property is within its
+-- node.
+use Rattle.std.specs.Prelude.{◌≡◌, ℕ, ◌≤◌, true, List, Option, Some}
+use Rattle.ui_machine.specs.Definition.{Definition}
+use Rattle.ui_machine.specs.State.Tasks.{Task}
+use Rattle.law_typing.specs.Rules.RegisterKinds.{Kinds, kind_in, class_at, covers, places}
+use Rattle.law_typing.specs.Graph.Channels.{Channel, property}
+use Rattle.law_typing.specs.Graph.{graph, raises, over}
+use Rattle.law_typing.specs.Graph.Tables.{entry}
+use Rattle.law_typing.specs.Graph.Costs.{node_cost, start_cost}
+use Rattle.law_typing.specs.Graph.Depths.{start_depth}
+use Rattle.law_typing.specs.Verdict.Accepted.{Accepted}
+use Rattle.law_typing.specs.Good.DueCosts.{due_cost, due_depth}
+
+-- what a name finds in the class of a covered place costs no more, and is no deeper, than what may be raised over all of them; it need not
+-- be a channel
+abbrev pub StartsReach : Type 0
+StartsReach =
+    (d : Definition) (a : Accepted d) (number_in : ℕ → Option ℕ) (channel : ℕ → ℕ → Channel) (ks : Kinds)
+    (object place class number : ℕ) →
+    covers d (kind_in ks object) place ≡ true → class_at d place ≡ Some class → number_in class ≡ Some number →
+    (node_cost (graph d) a.weighed.costs (channel place number)
+    ≤ start_cost (graph d) a.weighed.costs (raises (over d number_in channel (places d (kind_in ks object)))))
+    × (entry a.weighed.depths.channels (channel place number)
+    ≤ start_depth a.weighed.depths (raises (over d number_in channel (places d (kind_in ks object)))))
+
+-- whatever stands below, what is due at a property costs no more than its node, and is no deeper than its channel
+abbrev pub DueWithin : Type 0
+DueWithin =
+    (d : Definition) (a : Accepted d) (below : List Task) (place slot : ℕ) →
+    (due_cost d a.weighed.costs below (property place slot) ≤ node_cost (graph d) a.weighed.costs (property place slot))
+    × (due_depth d a.weighed.depths below (property place slot) ≤ entry a.weighed.depths.channels (property place slot))
