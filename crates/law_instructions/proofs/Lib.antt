@@ -23,3 +23,4 @@ pub mod Counts
 pub mod FreezeProofs
 pub mod Started
 pub mod EmitProofs
+pub mod SetProofs

@@ -14,6 +14,7 @@ use Rattle.ui_machine.specs.Instructions.Jumps.{past}
 use Rattle.ui_machine.specs.Instructions.Registers as machine
 use Rattle.ui_machine.specs.Rules.Build.{of_items, is_making}
 use Rattle.ui_machine.specs.Steps.{left}
+use Rattle.law_typing.specs.Rules.RegisterKinds.{Kinds}
 use Rattle.law_typing.specs.Rules.Typing.{after}
 use Rattle.law_typing.specs.Rules.Brackets.{opened, keeps}
 use Rattle.law_typing.specs.Graph.{graph, start_of}
@@ -35,7 +36,7 @@ use Rattle.law_static.specs.Code.{gone_on}
 use Rattle.law_static.proofs.CodeProofs.{programs_wait}
 use Rattle.law_kept.specs.Alike.{Alike}
 use Rattle.law_instructions.proofs.Frozen.{is_bracket, frozen_same}
-use Rattle.law_instructions.proofs.Around.{Due, r, here, taken, good_of, above, fine_where, StepIsFine}
+use Rattle.law_instructions.proofs.Around.{Due, r, here, taken, good_of, above, fine_where, none_into, StepIsFine}
 use Rattle.law_instructions.proofs.Written.{serves_itself, open_same}
 
 -- whether a program starts tasks like this
@@ -184,3 +185,34 @@ module _ {d : Definition} {i : Instruction} (t : Due d i) (plain : is_bracket i 
       instructed d w rest (past f) i ≡ in_front rest (machine.goes_on w (task ∷ []) (record (past f) { into = into })) → StepIsFine t
   starts_fine task into cost deep e does within =
       fine_where t within (led_to task into) (ap (left (suc n)) does ∙ starts_leads w task rest (waiting into) (suc n)) (starts_good task into cost deep e)
+
+  -- a task from which nothing comes down, where no register is written
+  pub record Sends (task : Task) (cost deep : ℕ) : Type 0 where
+    pub started : is_started task ≡ true
+    pub more : ends i ≡ false
+    pub good : TaskGood d a.weighed.costs a.weighed.depths (view w) none (Running (waiting f.into) ∷ rest) task cost deep
+    pub cheap : cost ≤ start_cost (graph d) a.weighed.costs (start_of d (r t).ks i)
+    pub shallow : deep ≤ start_depth a.weighed.depths (start_of d (r t).ks i)
+    pub none_down : down d (view w) task ≡ none
+    pub kinds_are : after d (r t).p (r t).ks i ≡ (r t).ks
+    pub held : 0 < is_due_set task → next_unheld (mentions d (led_to task f.into)) w.objects ≡ None
+
+  awaits_none : (ks : Kinds) (into : Option ℕ) → into ≡ None → (up : Down) → up ≡ none → Comes into up × TakesNone up × (awaited ks into up ≡ ks)
+  awaits_none ks into e up is = subst (λ up. Comes into up × TakesNone up × (awaited ks into up ≡ ks)) (sym is) (subst (λ into. Comes into none × TakesNone none × (awaited ks into none ≡ ks)) (sym e) (tt, tt, refl))
+
+  pub sends_fine : (task : Task) (cost deep : ℕ) → Sends task cost deep → instructed d w rest (past f) i ≡ in_front rest (machine.goes_on w (task ∷ []) (past f)) → StepIsFine t
+  sends_fine task cost deep e does =
+      let x = awaits_none (r t).ks f.into (none_into t) (down d (view w) task) e.none_down in
+      starts_fine task f.into cost deep
+      (record {
+        started = e.started;
+        more = e.more;
+        good = e.good;
+        cheap = e.cheap;
+        shallow = e.shallow;
+        comes = x.0;
+        takes = x.1;
+        closed = ap (keeps (opened (drop (suc f.at) (r t).b.code))) (none_into t);
+        comes_down = x.2 ∙ sym e.kinds_are;
+        held = e.held;
+      }) does

@@ -8,3 +8,4 @@ pub mod Returning
 pub mod Stopping
 pub mod Freezing
 pub mod Emitting
+pub mod Setting

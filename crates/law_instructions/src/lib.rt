@@ -9,6 +9,7 @@ ghost use Rattle.law_instructions.specs.Returning.{ReturnsAreFine};
 ghost use Rattle.law_instructions.specs.Stopping.{StopsAreFine};
 ghost use Rattle.law_instructions.specs.Freezing.{FreezesAreFine};
 ghost use Rattle.law_instructions.specs.Emitting.{EmitsAreFine};
+ghost use Rattle.law_instructions.specs.Setting.{SetsAreFine};
 ghost use Rattle.law_instructions.specs.Disposing.{DisposesAreFine};
 
 /// Constants, copies, arithmetic, comparisons, truth values, texts and conversions: from what is good, the step is not stuck and leads to what is good.
@@ -55,4 +56,9 @@ pub fn freezing()
 /// A program emits a signal; it waits for the result, if it takes it.
 pub fn emissions()
     ensures fine { EmitsAreFine }
+{}
+
+/// A program sets a property, where nothing is to be finalised first.
+pub fn assignments()
+    ensures fine { SetsAreFine }
 {}
