@@ -24,3 +24,4 @@ pub mod FreezeProofs
 pub mod Started
 pub mod EmitProofs
 pub mod SetProofs
+pub mod NotifyProofs

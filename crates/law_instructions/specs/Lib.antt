@@ -9,3 +9,4 @@ pub mod Stopping
 pub mod Freezing
 pub mod Emitting
 pub mod Setting
+pub mod Notifying

@@ -10,6 +10,7 @@ ghost use Rattle.law_instructions.specs.Stopping.{StopsAreFine};
 ghost use Rattle.law_instructions.specs.Freezing.{FreezesAreFine};
 ghost use Rattle.law_instructions.specs.Emitting.{EmitsAreFine};
 ghost use Rattle.law_instructions.specs.Setting.{SetsAreFine};
+ghost use Rattle.law_instructions.specs.Notifying.{NotifiesAreFine};
 ghost use Rattle.law_instructions.specs.Disposing.{DisposesAreFine};
 
 /// Constants, copies, arithmetic, comparisons, truth values, texts and conversions: from what is good, the step is not stuck and leads to what is good.
@@ -61,4 +62,9 @@ pub fn emissions()
 /// A program sets a property, where nothing is to be finalised first.
 pub fn assignments()
     ensures fine { SetsAreFine }
+{}
+
+/// A program raises a notification: it is made at once, or waits while the object is frozen.
+pub fn notifications()
+    ensures fine { NotifiesAreFine }
 {}

@@ -53,7 +53,7 @@ value_is_like d w id slot o spec v g is valid = record {
         let old = g.values other own has in
         record { value = old.value; is = get_set_apart o.values slot other v (eqb-false slot other t) ∙ old.is; valid = old.valid }
 
-each_queued : (P : ℕ → Type 0) (queue : List ℕ) (slot : ℕ) → Each P queue → P slot → Each P (queued queue slot)
+pub each_queued : (P : ℕ → Type 0) (queue : List ℕ) (slot : ℕ) → Each P queue → P slot → Each P (queued queue slot)
 each_queued P queue slot all here = go (list_any (λ s. nat_eq s slot) queue)
   where
     last : (xs : List ℕ) → Each P xs → Each P (xs ++ slot ∷ [])
