@@ -2,8 +2,8 @@
 
 use crate::fixtures::times;
 use builder_defs::{
-    Definition, DefinitionFault, EventError, MAX_BYTES, MAX_LINE_BYTES, ReadError, TypeCause,
-    read_definition, read_event,
+    Definition, DefinitionFault, EventError, EventFault, MAX_BYTES, MAX_LINE_BYTES, ReadError,
+    TypeCause, read_definition, read_event,
 };
 use param_specs::SpecFault;
 use std::alloc::Global;
@@ -137,62 +137,25 @@ fn tells_the_fields_of_causes(rt: HostRuntime) -> Result<(), Fail> {
     Ok(())
 }
 
-// An event as it is seen when debugging, or the fault.
-fn told_event(alloc: Global, definition: &Definition, line: &[u8]) -> Result<String, Fail> {
+// Whether a line is refused for its length.
+fn is_too_long(alloc: Global, definition: &Definition, line: &[u8]) -> bool {
     match read_event(alloc, definition, line) {
-        Ok(event) => Ok(format!(in alloc; "{event:?}")?),
-        Err(EventError::Refused(fault)) => Ok(format!(in alloc; "{fault:?}")?),
-        Err(EventError::OutOfMemory) => Ok(String::from_str(alloc, "OutOfMemory")?),
+        Err(EventError::Refused(EventFault::TooLong)) => true,
+        _ => false,
     }
-}
-
-#[test]
-fn reads_events(rt: HostRuntime) -> Result<(), Fail> {
-    let alloc = rt.alloc();
-    let definition = read_definition(alloc, BOXES.as_bytes())?;
-    for (line, want) in [
-        (
-            r#"{"set":["b-1","wide-one",-7]}"#,
-            "Set { place: Place(0), slot: 0, value: Int(-7) }",
-        ),
-        (
-            r#"{"set":["b-1","title",null]}"#,
-            "Set { place: Place(0), slot: 1, value: Text(None) }",
-        ),
-        (
-            r#"{"set":["b-1","title","\u0062"]}"#,
-            "Set { place: Place(0), slot: 1, value: Text(Some(\"b\")) }",
-        ),
-        (
-            r#"{"get":["b-1","title"]}"#,
-            "Get { place: Place(0), slot: 1 }",
-        ),
-        (r#"{"get":["Z","title"]}"#, "Unknown(\"title\")"),
-    ] {
-        assert_eq!(rt;
-            told_event(alloc, &definition, line.as_bytes())?.as_str(),
-            want,
-            "{line}"
-        );
-    }
-    assert_eq!(rt; told_event(alloc, &definition, &[255])?.as_str(), "NotJson");
-    Ok(())
 }
 
 #[test]
 fn knows_the_longest_event(rt: HostRuntime) -> Result<(), Fail> {
     let alloc = rt.alloc();
     let definition = read_definition(alloc, BOXES.as_bytes())?;
-    for (length, want) in [
-        (MAX_LINE_BYTES, "ValueFault"),
-        (MAX_LINE_BYTES + 1, "TooLong"),
-    ] {
-        let letters = times(alloc, "x", length - 26)?;
-        let line = format!(in alloc; "{{\"set\":[\"b-1\",\"title\",\"{letters}\"]}}")?;
+    for (length, is_long) in [(MAX_LINE_BYTES, false), (MAX_LINE_BYTES + 1, true)] {
+        let blanks = times(alloc, " ", length - 14)?;
+        let line = format!(in alloc; "{{\"turn\":[1,2]}}{blanks}")?;
         assert_eq!(rt; line.len(), length);
         assert_eq!(rt;
-            told_event(alloc, &definition, line.as_bytes())?.as_str(),
-            want,
+            is_too_long(alloc, &definition, line.as_bytes()),
+            is_long,
             "{length}"
         );
     }
