@@ -25,3 +25,4 @@ pub mod Started
 pub mod EmitProofs
 pub mod SetProofs
 pub mod NotifyProofs
+pub mod CallProofs

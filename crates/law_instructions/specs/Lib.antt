@@ -10,3 +10,4 @@ pub mod Freezing
 pub mod Emitting
 pub mod Setting
 pub mod Notifying
+pub mod Calling

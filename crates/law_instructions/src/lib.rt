@@ -11,6 +11,7 @@ ghost use Rattle.law_instructions.specs.Freezing.{FreezesAreFine};
 ghost use Rattle.law_instructions.specs.Emitting.{EmitsAreFine};
 ghost use Rattle.law_instructions.specs.Setting.{SetsAreFine};
 ghost use Rattle.law_instructions.specs.Notifying.{NotifiesAreFine};
+ghost use Rattle.law_instructions.specs.Calling.{CallsAreFine};
 ghost use Rattle.law_instructions.specs.Disposing.{DisposesAreFine};
 
 /// Constants, copies, arithmetic, comparisons, truth values, texts and conversions: from what is good, the step is not stuck and leads to what is good.
@@ -67,4 +68,9 @@ pub fn assignments()
 /// A program raises a notification: it is made at once, or waits while the object is frozen.
 pub fn notifications()
     ensures fine { NotifiesAreFine }
+{}
+
+/// A program calls the peer of an object, and waits for its answer.
+pub fn calls()
+    ensures fine { CallsAreFine }
 {}

@@ -17,7 +17,7 @@ use Rattle.ui_machine.specs.Definition.Places.{Given, value, named, GivenPropert
 use Rattle.ui_machine.specs.Definition.Programs as words
 use Rattle.ui_machine.specs.Definition.Lookups.{type_of, spec_of, place_at}
 use Rattle.ui_machine.specs.Rules.EmissionPlan.{signal_of}
-use Rattle.ui_machine.specs.Rules.Construction.{is_forward, has_shape}
+use Rattle.ui_machine.specs.Rules.Construction.{is_forward, nearest_shape, has_shape}
 use Rattle.law_typing.specs.Rules.RegisterKinds.{Kinds}
 use Rattle.law_typing.specs.Rules.Brackets.{written, is_empty}
 use Rattle.law_typing.specs.Graph.{next_of}
@@ -46,6 +46,15 @@ above types t = flat_map (λ s. s ∷ implemented_by types s) (lineage types t)
 abbrev pub is_transitive_at : List GType → ℕ → Bool
 is_transitive_at types a = list_all (λ b. list_all (is_a types a) (above types b)) (above types a)
 
+-- a shape, if there is one, is the other
+abbrev pub is_shape : Option ℕ → Option ℕ → Bool
+is_shape None own = true
+is_shape (Some shape) None = false
+is_shape (Some shape) (Some own) = nat_eq shape own
+
+abbrev pub keeps_shapes_at : Definition → ℕ → Bool
+keeps_shapes_at d class = list_all (λ t. is_shape (nearest_shape d t) (nearest_shape d class)) (above d.types class)
+
 abbrev pub is_notify : Option Signal → Bool
 is_notify None = false
 is_notify (Some s) = same_name s.name (codes "notify") && (nat_eq s.flags 17 && (is_empty s.params && is_none s.result))
@@ -69,7 +78,8 @@ begins_with_notify (s ∷ signals) = is_notify (Some s)
 
 abbrev pub are_types_read : Definition → Bool
 are_types_read d =
-    nat_eq (length d.classes) (length d.types)
+    all_from (λ t (x : GType). keeps_shapes_at d t) 0 d.types
+    && (nat_eq (length d.classes) (length d.types)
     && (all_from (λ t (x : GType). is_below x.parent t) 0 d.types
     && (all_from (λ t (x : GType). is_transitive_at d.types t) 0 d.types
     && (inherits d
@@ -77,7 +87,7 @@ are_types_read d =
     && (all_from (λ t (c : Class). list_all (is_spec_read d) c.specs) 0 d.classes
     && (list_all (λ (c : Class). no_two same_name (map (λ (s : Spec). s.name) c.specs)) d.classes
     && (list_all (λ (c : Class). list_all (result_has_values d) c.signals) d.classes
-    && all_from (λ t (c : Class). begins_with_notify c.signals) 0 d.classes)))))))
+    && all_from (λ t (c : Class). begins_with_notify c.signals) 0 d.classes))))))))
 
 -- ** programs
 

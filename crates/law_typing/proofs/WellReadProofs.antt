@@ -20,7 +20,7 @@ use Rattle.ui_machine.specs.Definition.Places.{Given, value, named, GivenPropert
 use Rattle.ui_machine.specs.Definition.Programs as words
 use Rattle.ui_machine.specs.Definition.Lookups.{no_class, class_of, type_of, spec_of, place_at}
 use Rattle.ui_machine.specs.Rules.EmissionPlan.{signal_of}
-use Rattle.ui_machine.specs.Rules.Construction.{is_forward}
+use Rattle.ui_machine.specs.Rules.Construction.{is_forward, nearest_shape}
 use Rattle.law_typing.specs.Rules.RegisterKinds.{Kinds}
 use Rattle.law_typing.specs.Rules.Brackets.{written, is_empty}
 use Rattle.law_typing.specs.Graph.{next_of}
@@ -193,9 +193,26 @@ first_read d e type number s is = go (all_from_read (λ t (c : Class). tests.beg
     go (inl h) = has_notify d type (begins (class_of d type).signals number is h)
     go (inr past) = absurd (let none : signal_of d type number ≡ None = ap (λ (c : Class). slice_get c.signals number) past in let f = sym none ∙ is in cc)
 
+-- and a class has the shape of what it is
+shapes : (d : Definition) → all_from (λ t (x : GType). tests.keeps_shapes_at d t) 0 d.types ≡ true → (class type shape : ℕ) → is_a d.types class type ≡ true →
+    nearest_shape d type ≡ Some shape → nearest_shape d class ≡ Some shape
+shapes d e class type shape is has = go (all_from_read (λ t (x : GType). tests.keeps_shapes_at d t) no_type d.types class e)
+  where
+    same : (own : Option ℕ) → tests.is_shape (Some shape) own ≡ true → own ≡ Some shape
+    same None h = absurd (cc)
+    same (Some own) h = ap (λ (n : ℕ). Some n) (sym (eqb-true shape own h))
+
+    go : (tests.keeps_shapes_at d class ≡ true) ⊎ (read no_type d.types class ≡ no_type) → nearest_shape d class ≡ Some shape
+    go (inl h) =
+        same (nearest_shape d class)
+        (subst (λ o. tests.is_shape o (nearest_shape d class) ≡ true) has
+        (is_above d.types (λ t. tests.is_shape (nearest_shape d t) (nearest_shape d class)) type (lineage d.types class) is h))
+    go (inr past) = ap (nearest_shape d) (alone d.types class type past is) ∙ has
+
 types_read : (d : Definition) → tests.are_types_read d ≡ true → TypesRead d
 types_read d e =
-    let a = both_parts _ _ e in
+    let z = both_parts _ _ e in
+    let a = both_parts _ _ z.1 in
     let b = both_parts _ _ a.1 in
     let c = both_parts _ _ b.1 in
     let f = both_parts _ _ c.1 in
@@ -208,6 +225,7 @@ types_read d e =
       parents = parents d.types b.0;
       transitive = transitive d.types c.0;
       inherits = f.0;
+      shapes = shapes d z.0;
       notify = λ class below is. notify class below is (all_from_below (tests.has_notify_at d) d.types class g.0 below);
       specs = specs_read d h.0;
       first = first_read d j.1;

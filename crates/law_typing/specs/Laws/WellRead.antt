@@ -18,7 +18,7 @@ use Rattle.ui_machine.specs.Definition.Places.{Given, value, named, GivenPropert
 use Rattle.ui_machine.specs.Definition.Programs as words
 use Rattle.ui_machine.specs.Definition.Lookups.{type_of, spec_of, place_at, program_at}
 use Rattle.ui_machine.specs.Rules.EmissionPlan.{signal_of}
-use Rattle.ui_machine.specs.Rules.Construction.{is_forward, has_shape}
+use Rattle.ui_machine.specs.Rules.Construction.{is_forward, nearest_shape, has_shape}
 use Rattle.law_typing.specs.Rules.RegisterKinds.{Kinds}
 use Rattle.law_typing.specs.Rules.Brackets.{written}
 use Rattle.law_typing.specs.Graph.Channels.{is_filled}
@@ -88,6 +88,9 @@ pub record TypesRead (d : Definition) : Type 0 where
   -- what a type is, its ancestors and interfaces are; a class has what they have
   pub transitive : (a b c : ℕ) → is_a d.types a b ≡ true → is_a d.types b c ≡ true → is_a d.types a c ≡ true
   pub inherits : inherits d ≡ true
+  -- a class has the shape of what it is: none is given to a class whose ancestor has one
+  pub shapes : (class type shape : ℕ) → is_a d.types class type ≡ true → nearest_shape d type ≡ Some shape →
+      nearest_shape d class ≡ Some shape
   -- each class among the types has `notify`
   pub notify : (class : ℕ) → class < length d.types → (type_of d class).sort ≡ sorts.class → HasNotify d class
   -- and so has each type that has signals, as an interface may
