@@ -26,3 +26,4 @@ pub mod EmitProofs
 pub mod SetProofs
 pub mod NotifyProofs
 pub mod CallProofs
+pub mod FamilyProofs

@@ -11,3 +11,4 @@ pub mod Emitting
 pub mod Setting
 pub mod Notifying
 pub mod Calling
+pub mod Families

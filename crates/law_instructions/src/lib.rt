@@ -12,6 +12,7 @@ ghost use Rattle.law_instructions.specs.Emitting.{EmitsAreFine};
 ghost use Rattle.law_instructions.specs.Setting.{SetsAreFine};
 ghost use Rattle.law_instructions.specs.Notifying.{NotifiesAreFine};
 ghost use Rattle.law_instructions.specs.Calling.{CallsAreFine};
+ghost use Rattle.law_instructions.specs.Families.{FamiliesAreFine};
 ghost use Rattle.law_instructions.specs.Disposing.{DisposesAreFine};
 
 /// Constants, copies, arithmetic, comparisons, truth values, texts and conversions: from what is good, the step is not stuck and leads to what is good.
@@ -73,4 +74,9 @@ pub fn notifications()
 /// A program calls the peer of an object, and waits for its answer.
 pub fn calls()
     ensures fine { CallsAreFine }
+{}
+
+/// A program takes an object from its parent, or gives it one.
+pub fn families()
+    ensures fine { FamiliesAreFine }
 {}

@@ -12,3 +12,4 @@ pub mod DisposeProofs
 pub mod DisposedProofs
 pub mod FinaliseProofs
 pub mod ConnectProofs
+pub mod FamilyProofs

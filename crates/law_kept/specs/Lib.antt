@@ -9,3 +9,4 @@ pub mod New
 pub mod Dispose
 pub mod Finalise
 pub mod Connect
+pub mod Family

@@ -10,6 +10,7 @@ ghost use Rattle.law_kept.specs.New.{NewStands, ValuesStay, NewServes, NewObject
 ghost use Rattle.law_kept.specs.Dispose.{DisposeKeeps};
 ghost use Rattle.law_kept.specs.Finalise.{FinalisationIsFine};
 ghost use Rattle.law_kept.specs.Connect.{HandlerConnects};
+ghost use Rattle.law_kept.specs.Family.{FamiliesKeep};
 ghost use Rattle.law_kept.specs.Write.{WriteKeeps};
 ghost use Rattle.law_kept.specs.Alike.{WholeStays, BuildStays};
 
@@ -85,4 +86,9 @@ pub fn disposal()
 /// From what is good, the step that finalises an object without a mention is not stuck, and leads to what is good within the same bound.
 pub fn finalisation()
     ensures fine { FinalisationIsFine }
+{}
+
+/// Where objects get other parents and children, which live and know each other, what is good of a world stays so.
+pub fn families()
+    ensures keep { FamiliesKeep }
 {}

@@ -1,0 +1,72 @@
+-- Families that change: what is good of a world stays so.
+use Rattle.std.proofs.Common.{◌≡◌, refl, sym, ap, subst, ◌∙◌, ℕ, ◌<◌, true, List, [], ◌∷◌, Some}
+use Rattle.ui_machine.specs.Definition.{Definition}
+use Rattle.ui_machine.specs.State.Objects.{Object, Objects, living}
+use Rattle.ui_machine.specs.State.Bindings.{Binding}
+use Rattle.ui_machine.specs.State.Tasks.{Task}
+use Rattle.ui_machine.specs.State.Config.{World}
+use Rattle.law_typing.specs.Graph.Tables.{Tables}
+use Rattle.law_typing.specs.Rules.Brackets.{has_pair}
+use Rattle.law_typing.specs.Verdict.Accepted.{Each}
+use Rattle.law_typing.specs.Good.Standing.{Standing, standing, Lives}
+use Rattle.law_typing.specs.Good.Objects.{ObjectGood, ObjectsGood}
+use Rattle.law_typing.specs.Good.Handlers.{HandlersGood}
+use Rattle.law_typing.specs.Good.Bindings.{BindingGood, BindingsGood, SourceGood, HeldGood}
+use Rattle.law_kept.specs.Write.{Whole}
+use Rattle.law_kept.specs.Family.{Kin, FamiliesGood, with_families, FamiliesKeep}
+use Rattle.law_kept.proofs.BindingsProofs.{binding_kept}
+
+each_of : {A : Type 0} (P Q : A → Type 0) (xs : List A) → ((x : A) → P x → Q x) → Each P xs → Each Q xs
+each_of P Q [] f all = tt
+each_of P Q (x ∷ xs) f all = (f x all.0, each_of P Q xs f all.1)
+
+module _ (d : Definition) (costs depths : Tables) (agenda : List Task) (w : World) (os : Objects) (floating : List ℕ) (lines : List (List ℕ)) (f : FamiliesGood w os)
+    (all : Each (Lives (standing w.objects)) floating) (g : Whole d costs depths agenda w) where
+  abbrev new : World
+  new = with_families w os floating lines
+
+  object : (id : ℕ) (x : Object) → Kin w os id x → ObjectGood d new (standing os) id x
+  object id x k =
+      let o = g.objects id k.old k.was in
+      subst (λ s. ObjectGood d new s id x) (sym f.stands)
+      (subst (ObjectGood d new (standing w.objects) id) (sym k.same)
+      (record {
+        place = o.place;
+        is = o.is;
+        class = o.class;
+        values = o.values;
+        children = k.children;
+        parent = k.parent;
+        queue = o.queue;
+        peer = o.peer;
+      }))
+
+  bindings : BindingsGood d (standing w.objects) agenda os w.bindings
+  bindings = record {
+    each =
+        each_of (BindingGood d (standing w.objects) agenda w.objects) (BindingGood d (standing w.objects) agenda os) w.bindings
+        (λ b good. binding_kept d (standing w.objects) (standing w.objects) agenda w.objects os b
+        (λ id place o stands is. (let k = f.kin id o is in (k.old, k.was, λ zero. ap (λ (o : Object). o.freezes) k.same ∙ zero)))
+        (λ place e. e) (λ place e. e) good) g.bindings.each;
+    rising = g.bindings.rising;
+    made = g.bindings.made;
+  }
+
+  families_keep_them : Whole d costs depths agenda new
+  families_keep_them = record {
+    objects = λ id x is. object id x (f.kin id x is);
+    handlers = subst (λ s. HandlersGood d costs depths s agenda w.last_handler w.handlers) (sym f.stands) g.handlers;
+    bindings = subst (λ s. BindingsGood d s agenda os w.bindings) (sym f.stands) bindings;
+    sources = subst (λ s. Each (SourceGood d s) w.sources) (sym f.stands) g.sources;
+    held = subst (λ s. HeldGood s w.builder) (sym f.stands) g.held;
+    floating = subst (λ s. Each (Lives s) floating) (sym f.stands) all;
+    pairs = record {
+      frozen = λ id x is paired some. (let k = f.kin id x is in
+          g.pairs.frozen id k.old k.was (ap (has_pair d) (sym (ap (λ (o : Object). o.place) k.same)) ∙ paired) (subst (λ n. 0 < n) (ap (λ (o : Object). o.freezes) k.same) some));
+      before = g.pairs.before;
+      one = g.pairs.one;
+    };
+  }
+
+pub families_keep : FamiliesKeep
+families_keep d costs depths agenda w os floating lines f all g = families_keep_them d costs depths agenda w os floating lines f all g
