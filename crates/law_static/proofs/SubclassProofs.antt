@@ -1,7 +1,7 @@
 -- What a class has of the types that it is.
 use Rattle.std.proofs.Common.{◌≡◌, inl, inr, refl, sym, ap, subst, ◌∙◌, ℕ, zero, suc, ◌+◌, ◌<◌, Bool, true, false, cond, List, [], ◌∷◌, length, Option, None, Some, slice_get, arith}
-use Rattle.std.specs.Prelude.{codes}
-use Rattle.std.specs.List.{list_all}
+use Rattle.std.specs.Prelude.{codes, map, not}
+use Rattle.std.specs.List.{list_all, list_any}
 use Rattle.std.proofs.lemmas.Bool.{eq-eqb}
 use Rattle.ui_machine.specs.Seq.{read}
 use Rattle.ui_machine.specs.Definition.Names.{same_name, canonical, place_from, place_named}
@@ -14,10 +14,10 @@ use Rattle.ui_machine.specs.Rules.EmissionPlan.{signal_of}
 use Rattle.ui_machine.specs.Rules.Connections.{signal_number}
 use Rattle.law_typing.specs.Verdict.Inherits.{is_spec, spec_named, is_signal, signal_named, has_all_of, implies, types_of}
 use Rattle.law_typing.specs.Laws.{IsIn}
-use Rattle.law_typing.specs.Laws.WellRead.{TypesRead, HasNotify}
-use Rattle.law_typing.proofs.Lists.{both_parts}
+use Rattle.law_typing.specs.Laws.WellRead.{TypesRead, HasNotify, no_two}
+use Rattle.law_typing.proofs.Lists.{both_parts, any_true, map_in}
 use Rattle.law_typing.proofs.CostProofs.{listed_in}
-use Rattle.law_static.specs.Subclass.{SpecsInherit, SignalsInherit, NamesFind, EmittedInherit}
+use Rattle.law_static.specs.Subclass.{SpecsInherit, SignalsInherit, NamesFind, EmittedInherit, OwnNameFinds}
 use Rattle.law_static.proofs.Same.{names_same, canonical_once, specs_same, signals_same}
 
 -- ** lists
@@ -190,3 +190,35 @@ emitted_inherit d types class type number own name finds own_finds positive = go
     go : (n : ℕ) → own ≡ n → 0 < own
     go zero e = absurd (let z = first (notify_named own own_finds e) in omega (arith, z, positive))
     go (suc n) e = omega (arith, e)
+
+-- ** own names
+
+-- among distinct names the first that is called so is the one
+finds_own : (xs : List Spec) (i slot : ℕ) (name : List ℕ) (s : Spec) → no_two same_name (map (λ (s : Spec). s.name) xs) ≡ true → slice_get xs slot ≡ Some s → s.name ≡ name →
+    place_from (λ (s : Spec). s.name) i xs name ≡ Some (i + slot)
+finds_own [] i slot name s two e called = absurd (cc)
+finds_own (x ∷ xs) i zero name s two e called =
+    let same : s ≡ x = cc in
+    let here : same_name x.name name ≡ true = ap (λ (x : Spec). same_name x.name name) (sym same) ∙ (ap (λ n. same_name n name) called ∙ name_itself name) in
+    ap (λ b. cond b (Some i) (place_from (λ (s : Spec). s.name) (suc i) xs name)) here ∙ ap (λ (n : ℕ). Some n) (let z : i ≡ i + 0 = omega arith in z)
+finds_own (x ∷ xs) i (suc slot) name s two e called = go (finds_own xs (suc i) slot name s parts.1 e called) (same_name x.name name) refl
+  where
+    parts : (not (list_any (same_name x.name) (map (λ (s : Spec). s.name) xs)) ≡ true) × (no_two same_name (map (λ (s : Spec). s.name) xs) ≡ true)
+    parts = both_parts (not (list_any (same_name x.name) (map (λ (s : Spec). s.name) xs))) (no_two same_name (map (λ (s : Spec). s.name) xs)) two
+
+    go : place_from (λ (s : Spec). s.name) (suc i) xs name ≡ Some (suc i + slot) → (b : Bool) → same_name x.name name ≡ b →
+        cond b (Some i) (place_from (λ (s : Spec). s.name) (suc i) xs name) ≡ Some (i + suc slot)
+    go later true t =
+        absurd (let found = any_true (same_name x.name) (map (λ (s : Spec). s.name) xs) s.name (map_in (λ (s : Spec). s.name) xs s (get_in xs slot s e)) (ap (same_name x.name) called ∙ t) in
+        let none = parts.0 in let k = ap not found in let z : true ≡ false = sym none ∙ k in cc)
+    go later false t = later ∙ ap (λ (n : ℕ). Some n) (let z : suc i + slot ≡ i + suc slot = omega arith in z)
+
+class_in : (cs : List Class) (i slot : ℕ) (s : Spec) → list_all (λ (c : Class). no_two same_name (map (λ (s : Spec). s.name) c.specs)) cs ≡ true → slice_get (read no_class cs i).specs slot ≡ Some s →
+    no_two same_name (map (λ (s : Spec). s.name) (read no_class cs i).specs) ≡ true
+class_in [] i slot s all e = absurd (cc)
+class_in (c ∷ cs) zero slot s all e = (both_parts (no_two same_name (map (λ (s : Spec). s.name) c.specs)) _ all).0
+class_in (c ∷ cs) (suc i) slot s all e = class_in cs i slot s (both_parts (no_two same_name (map (λ (s : Spec). s.name) c.specs)) _ all).1 e
+
+pub own_name_finds : OwnNameFinds
+own_name_finds d types class slot name s e called =
+    finds_own (specs_of d class) 0 slot (canonical name) s (class_in d.classes class slot s types.names e) e called ∙ ap (λ (n : ℕ). Some n) (let z : 0 + slot ≡ slot = omega arith in z)

@@ -1,6 +1,7 @@
 -- What a class has of the types that it is: under each name their properties and signals, with the same specs, parameters and results.
 use Rattle.std.specs.Prelude.{◌≡◌, ℕ, ◌<◌, true, List, length, Some}
 use Rattle.ui_machine.specs.Definition.{Definition}
+use Rattle.ui_machine.specs.Definition.Names.{canonical}
 use Rattle.ui_machine.specs.Definition.Properties.{Spec}
 use Rattle.ui_machine.specs.Definition.Signals.{Signal}
 use Rattle.ui_machine.specs.Definition.Lookups.{spec_of, slot_of}
@@ -35,3 +36,9 @@ abbrev pub EmittedInherit : Type 0
 EmittedInherit =
     (d : Definition) → TypesRead d → (class type number own : ℕ) (name : List ℕ) → signal_number d type name ≡ Some number →
     signal_number d class name ≡ Some own → 0 < number → 0 < own
+
+-- a property's own name finds it, since no other of its class has that name
+abbrev pub OwnNameFinds : Type 0
+OwnNameFinds =
+    (d : Definition) → TypesRead d → (class slot : ℕ) (name : List ℕ) (s : Spec) → spec_of d class slot ≡ Some s → s.name ≡ canonical name →
+    slot_of d class name ≡ Some slot

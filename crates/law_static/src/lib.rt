@@ -5,7 +5,7 @@ ghost use Rattle.law_static.specs.Rising.{RisingAreFound, RisingCosts};
 ghost use Rattle.law_static.specs.PlanCost.{PlanCosts};
 ghost use Rattle.law_static.specs.NotifyCost.{NotifyCosts};
 ghost use Rattle.law_static.specs.Sites.{BlocksKeep, SitesKeep};
-ghost use Rattle.law_static.specs.Subclass.{NamesFind, SpecsInherit, SignalsInherit, EmittedInherit};
+ghost use Rattle.law_static.specs.Subclass.{NamesFind, SpecsInherit, SignalsInherit, EmittedInherit, OwnNameFinds};
 ghost use Rattle.law_static.specs.Fits.{HoldsFits, HoldsLive, HoldsKind, HoldsSet, OperandsStand, ClassesAgree, GivenHold, GivenFit};
 ghost use Rattle.law_static.specs.Code.{InstructionsTaken, ProgramsGoOn, ProgramsWait, ProgramsBegin, FirstRegistersFit};
 ghost use Rattle.law_static.specs.Raises.{ChannelsKnown, ConnectionsKnown, SourcesKnown};
@@ -41,12 +41,13 @@ pub fn sites()
     ensures instructions { SitesKeep }
 {}
 
-/// A class has under each name the property and the signal of each type that it is.
+/// A class has under each name the property and the signal of each type that it is; and a property's own name finds it.
 pub fn subclasses()
     ensures finds { NamesFind }
     ensures specs { SpecsInherit }
     ensures signals { SignalsInherit }
     ensures emitted { EmittedInherit }
+    ensures own { OwnNameFinds }
 {}
 
 /// What a register holds is what its kind says, and what fits it is held as well. An object operand lives, and what a program is given fits
