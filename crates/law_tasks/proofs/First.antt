@@ -1,5 +1,5 @@
 -- What is good where a task is the first one, and what is to be shown of the world and the agenda that its step leaves.
-use Rattle.std.proofs.Common.{◌≡◌, refl, sym, ap, subst, ◌∙◌, ℕ, ◌+◌, ◌≤◌, List, [], ◌∷◌, length, drop, Option, None, Some, Ok, arith}
+use Rattle.std.proofs.Common.{◌≡◌, refl, sym, ap, subst, ◌∙◌, ℕ, zero, suc, ◌+◌, ◌<◌, ◌≤◌, List, [], ◌∷◌, length, drop, Option, None, Some, Ok, arith}
 use Rattle.ui_machine.specs.Seq.{total}
 use Rattle.ui_machine.specs.Definition.{Definition}
 use Rattle.ui_machine.specs.Definition.Values.{Value}
@@ -105,9 +105,9 @@ module _ {d : Definition} {task : Task} (t : First d task) where
     pub pool : PeersGood d v.peers (length v.builder + total is_for_builder agenda)
     pub to_make : to_make agenda ≡ to_make (task ∷ rest)
     pub build : BuildGood d w.builder agenda agenda
-    -- as much is frozen, by no higher tasks
+    -- as much is frozen, and what is by no higher task
     pub frozen : (id : ℕ) → total (frozen_by d id) agenda ≡ total (frozen_by d id) (task ∷ rest)
-    pub lowest : (id : ℕ) → below_lowest d id agenda ≤ below_lowest d id (task ∷ rest)
+    pub lowest : (id : ℕ) → 0 < total (frozen_by d id) agenda → below_lowest d id agenda ≤ below_lowest d id (task ∷ rest)
     pub no_set : total is_due_set agenda ≡ 0
     pub no_source : total is_due_source (drop 1 agenda) ≡ 0
     -- the agenda, within the steps that there were
@@ -122,8 +122,19 @@ module _ {d : Definition} {task : Task} (t : First d task) where
         count = (let old = q.count in let same = e.frozen id in omega (arith, old, same));
         few = q.few;
         none = q.none;
-        deep = each_to _ _ o.queue (λ slot low. (let x = e.lowest id in omega (arith, low, x))) q.deep;
+        deep = of o.freezes refl;
       }
+    where
+      of : (k : ℕ) → o.freezes ≡ k → Each (λ slot. suc (below_lowest d id agenda) + entry depths.channels (property o.place slot) ≤ most) o.queue
+      of zero thawed = subst (Each (λ slot. suc (below_lowest d id agenda) + entry depths.channels (property o.place slot) ≤ most)) (sym ((g.queues id o is).none thawed)) tt
+      of (suc k) some =
+          each_to _ _ o.queue
+          (λ slot low. (
+          let old = (g.queues id o is).count in
+          let same = e.frozen id in
+          let x = e.lowest id (omega (arith, old, same, some)) in
+          omega (arith, low, x)))
+          (g.queues id o is).deep
 
   pub good_of : (v : World) (agenda : List Task) → Leaves v agenda → IsGood d a most_counted (record { world = v; agenda = agenda; counted = n })
   good_of v agenda e = record {

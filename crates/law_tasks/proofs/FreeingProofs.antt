@@ -207,7 +207,7 @@ module _ {d : Definition} (number : ℕ) (t : First d (Unsetting number)) where
         to_make = omega arith;
         build = build_stays d w.builder (Unsetting number ∷ rest) rest rest (sym fewer) g.build;
         frozen = λ id. omega arith;
-        lowest = λ id. lowest_falls d id (Unsetting number) rest;
+        lowest = λ id some. lowest_falls d id (Unsetting number) rest;
         no_set = g.sets.first;
         no_source = none_later is_due_source rest g.sets.alone;
         budget = g.agenda.2;

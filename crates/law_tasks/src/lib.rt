@@ -2,8 +2,15 @@
 #![tactic(auto)]
 
 ghost use Rattle.law_tasks.specs.Freeing.{FreeingsAreFine};
+ghost use Rattle.law_tasks.specs.Turns.{ClassHandlersAreFine, HandlersAreFine};
 
 /// A binding is set free.
 pub fn freeing()
     ensures fine { FreeingsAreFine }
+{}
+
+/// A turn of an emission begins the program of a class handler or a handler, or is passed over where the handler is gone or blocked.
+pub fn turns()
+    ensures class_handlers { ClassHandlersAreFine }
+    ensures handlers { HandlersAreFine }
 {}

@@ -1,0 +1,14 @@
+-- The task that is the rest of an emission: its turns, and its end.
+use Rattle.std.specs.Prelude.{ℕ, Bool, List, [], ◌∷◌}
+use Rattle.ui_machine.specs.State.Tasks.{PlanEntry, class_handler, handler, Emission, Emitting}
+use Rattle.ui_machine.specs.State.Tasks as config
+use Rattle.law_tasks.specs.First.{IsFine}
+
+-- a class handler's turn, which begins its program
+abbrev pub ClassHandlersAreFine : Type 0
+ClassHandlersAreFine = (e : Emission) (program : ℕ) (cleanup : Bool) (turns : List PlanEntry) →
+    IsFine (Emitting e (class_handler program cleanup ∷ turns))
+
+-- a handler's turn, which begins its program, or is passed over where the handler is gone or blocked
+abbrev pub HandlersAreFine : Type 0
+HandlersAreFine = (e : Emission) (number : ℕ) (turns : List PlanEntry) → IsFine (Emitting e (handler number ∷ turns))
