@@ -9,7 +9,6 @@ use Rattle.ui_machine.specs.Definition.Values.{Value}
 use Rattle.ui_machine.specs.Definition.Signals.{Signal}
 use Rattle.ui_machine.specs.Outcome.{Answer}
 use Rattle.ui_machine.specs.Output.Lines as lines
-use Rattle.ui_machine.specs.Output.Text.{text_of_line}
 use Rattle.ui_machine.specs.Rules.Accumulation.{instance_of, data_of, given_to, in_stage, running_handler}
 use Rattle.ui_machine.specs.Rules.EmissionPlan.{signal_of}
 use Rattle.ui_machine.specs.Rules.Programs.{all_fit, first_frame}
@@ -34,8 +33,8 @@ use Rattle.law_typing.specs.Good.Freezes.{frozen_by, below_lowest}
 use Rattle.law_kept.specs.Alike.{Alike}
 use Rattle.law_static.specs.Fits.{AllHold}
 use Rattle.law_tasks.proofs.First.{First, good_of, fine_where, StepIsFine, fine_of, whole_told, pool_alike, build_alike, costs, depths, most}
+use Rattle.law_tasks.proofs.Above.{later, begins_above}
 use Rattle.law_tasks.proofs.Begun.{Begun, begun, hold_both, args_hold, stands_hold, each_found}
-use Rattle.law_tasks.proofs.Lowest.{lowest_above}
 use Rattle.law_tasks.specs.Turns.{ClassHandlersAreFine, HandlersAreFine}
 
 some_same : {A : Type 0} (x y : A) → Some x ≡ Some y → x ≡ y
@@ -154,54 +153,26 @@ module _ {d : Definition} {e : Emission} {turn : PlanEntry} {turns : List PlanEn
 
   module _ (cleanup : Bool) (program : ℕ) (args : List Value) (b : Begun d well a w g.objects program args g.agenda.3.fits.sig.result)
       (cheap : of_program (costs t) program ≤ turn_cost d (costs t) (view w) rest turn) (shallow : of_program (depths t) program ≤ turn_depth d (depths t) (view w) rest turn) where
-    abbrev later : List Task
-    later = Running (first_frame program b.p args) ∷ Emitting (staged cleanup) turns ∷ rest
-
-    run_alike : Alike (Emitting e (turn ∷ turns) ∷ rest) later
-    run_alike = record { items = λ f. omega arith; unset = λ number. omega arith; carrying = omega arith; makes = omega arith; constructs = λ id. omega arith }
-
-    abbrev lines_said : List (List ℕ)
-    lines_said = w.transcript ++ text_of_line d.types (lines.run b.p.name) ∷ []
-
-    emission_good : AgendaGood d (costs t) (depths t) (view w) (most t) (given b.p.result) (Emitting (staged cleanup) turns ∷ rest) (total (turn_cost d (costs t) (view w) rest) turns + g.agenda.2)
-    emission_good = (
-      total (turn_cost d (costs t) (view w) rest) turns,
-      g.agenda.1,
-      g.agenda.2,
-      emitting_left cleanup b.p.result b.gives,
-      g.agenda.4,
-      omega arith,
-      g.agenda.6,
-    )
-
-    pub begins_well : IsGood d a t.most_counted (record { world = said d w (lines.run b.p.name); agenda = later; counted = n })
+    pub begins_well : IsGood d a t.most_counted (record { world = said d w (lines.run b.p.name); agenda = later t program args g.agenda.3.fits.sig.result b (Emitting (staged cleanup) turns); counted = n })
     begins_well =
-        good_of t (said d w (lines.run b.p.name)) later
+        begins_above t program args g.agenda.3.fits.sig.result b (Emitting (staged cleanup) turns)
         (record {
-          objects = refl;
-          builder = refl;
-          whole = whole_told t later lines_said w.result run_alike;
-          pool = pool_alike t later run_alike;
-          to_make = omega arith;
-          build = build_alike t later run_alike;
-          frozen = λ id. (let free = b.free id in omega (arith, free));
-          lowest = λ id some. (
-              let free = b.free id in
-              let above = lowest_above d id (Running (first_frame program b.p args)) (Emitting (staged cleanup) turns ∷ rest) (omega (arith, free, some)) in
-              omega (arith, above));
-          no_set = (let none = g.sets.first in omega (arith, none));
-          no_source = (let none = g.sets.alone in omega (arith, none));
-          budget = of_program (costs t) program + (total (turn_cost d (costs t) (view w) rest) turns + g.agenda.2);
-          less = (let c = g.agenda.3.cheap in omega (arith, c, cheap));
+          alike = record { items = λ f. refl; unset = λ number. refl; carrying = refl; makes = refl; constructs = λ id. refl };
+          frozen = λ id. refl;
+          no_set = refl;
+          no_source = refl;
+          build = λ build. build;
+          left = total (turn_cost d (costs t) (view w) rest) turns + g.agenda.2;
+          cheap = (let c = g.agenda.3.cheap in omega (arith, c, cheap));
+          shallow = (let deep = g.agenda.3.shallow.0 in let low = g.agenda.4 in omega (arith, deep, low, shallow));
           good = (
-            of_program (costs t) program,
-            of_program (depths t) program,
-            total (turn_cost d (costs t) (view w) rest) turns + g.agenda.2,
-            (tt, b.good),
-            (let deep = g.agenda.3.shallow.0 in let low = g.agenda.4 in omega (arith, deep, low, shallow)),
+            total (turn_cost d (costs t) (view w) rest) turns,
+            g.agenda.1,
+            g.agenda.2,
+            emitting_left cleanup b.p.result b.gives,
+            g.agenda.4,
             omega arith,
-            subst (λ k. AgendaGood d (costs t) (depths t) (view w) (most t) (given k) (Emitting (staged cleanup) turns ∷ rest) (total (turn_cost d (costs t) (view w) rest) turns + g.agenda.2))
-                (sym (ap result_of_program b.is)) emission_good,
+            g.agenda.6,
           );
         })
 

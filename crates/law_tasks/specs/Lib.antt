@@ -1,3 +1,4 @@
 pub mod First
 pub mod Freeing
 pub mod Turns
+pub mod Starting

@@ -2,6 +2,7 @@
 #![tactic(auto)]
 
 ghost use Rattle.law_tasks.specs.Freeing.{FreeingsAreFine};
+ghost use Rattle.law_tasks.specs.Starting.{SourcesAreFine, RunsAreFine};
 ghost use Rattle.law_tasks.specs.Turns.{ClassHandlersAreFine, HandlersAreFine};
 
 /// A binding is set free.
@@ -13,4 +14,10 @@ pub fn freeing()
 pub fn turns()
     ensures class_handlers { ClassHandlersAreFine }
     ensures handlers { HandlersAreFine }
+{}
+
+/// A due source starts its program, and a construction a `constructed` one.
+pub fn starting()
+    ensures sources { SourcesAreFine }
+    ensures runs { RunsAreFine }
 {}
