@@ -2,6 +2,9 @@ pub mod First
 pub mod Begun
 pub mod Lowest
 pub mod Above
+pub mod Moving
 pub mod FreeingProofs
 pub mod TurnProofs
+pub mod TransferProofs
 pub mod StartingProofs
+pub mod SettlingProofs

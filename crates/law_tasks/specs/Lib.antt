@@ -2,3 +2,4 @@ pub mod First
 pub mod Freeing
 pub mod Turns
 pub mod Starting
+pub mod Settling

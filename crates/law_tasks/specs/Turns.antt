@@ -12,3 +12,7 @@ ClassHandlersAreFine = (e : Emission) (program : ℕ) (cleanup : Bool) (turns : 
 -- a handler's turn, which begins its program, or is passed over where the handler is gone or blocked
 abbrev pub HandlersAreFine : Type 0
 HandlersAreFine = (e : Emission) (number : ℕ) (turns : List PlanEntry) → IsFine (Emitting e (handler number ∷ turns))
+
+-- the turn of a transfer, which is due then, or is passed over where the binding has ended or sets
+abbrev pub TransfersAreFine : Type 0
+TransfersAreFine = (e : Emission) (number : ℕ) (back : Bool) (turns : List PlanEntry) → IsFine (Emitting e (config.transfer number back ∷ turns))

@@ -3,21 +3,29 @@
 
 ghost use Rattle.law_tasks.specs.Freeing.{FreeingsAreFine};
 ghost use Rattle.law_tasks.specs.Starting.{SourcesAreFine, RunsAreFine};
-ghost use Rattle.law_tasks.specs.Turns.{ClassHandlersAreFine, HandlersAreFine};
+ghost use Rattle.law_tasks.specs.Settling.{SettlingIsFine};
+ghost use Rattle.law_tasks.specs.Turns.{ClassHandlersAreFine, HandlersAreFine, TransfersAreFine};
 
 /// A binding is set free.
 pub fn freeing()
     ensures fine { FreeingsAreFine }
 {}
 
-/// A turn of an emission begins the program of a class handler or a handler, or is passed over where the handler is gone or blocked.
+/// A turn of an emission begins the program of a class handler or a handler, or makes a transfer due. It is passed over where the handler is gone
+/// or blocked, and where the binding has ended or sets.
 pub fn turns()
     ensures class_handlers { ClassHandlersAreFine }
     ensures handlers { HandlersAreFine }
+    ensures transfers { TransfersAreFine }
 {}
 
 /// A due source starts its program, and a construction a `constructed` one.
 pub fn starting()
     ensures sources { SourcesAreFine }
     ensures runs { RunsAreFine }
+{}
+
+/// Where nothing is left to do, what floats is let go.
+pub fn settling()
+    ensures fine { SettlingIsFine }
 {}

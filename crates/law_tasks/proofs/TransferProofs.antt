@@ -1,0 +1,120 @@
+-- The turn of an emission that begins a transfer of a binding, or is passed over.
+use Rattle.std.proofs.Common.{◌≡◌, refl, sym, ap, subst, ◌∙◌, ℕ, ◌+◌, ◌<◌, ◌≤◌, Bool, true, false, List, [], ◌∷◌, ◌++◌, length, Option, None, Some, slice_get, arith}
+use Rattle.ui_machine.specs.Seq.{total}
+use Rattle.ui_machine.specs.Definition.{Definition}
+use Rattle.ui_machine.specs.Rules.Build.{of_items}
+use Rattle.ui_machine.specs.Rules.Transfers.{transfer_for}
+use Rattle.ui_machine.specs.State.Bindings.{Binding, binding_of}
+use Rattle.ui_machine.specs.State.Config.{World, starts}
+use Rattle.ui_machine.specs.State.Tasks as config
+use Rattle.ui_machine.specs.State.Tasks.{Item, PlanEntry, Emission, Task, Emitting, Transferring}
+use Rattle.ui_machine.specs.Steps.{uncounted}
+use Rattle.law_typing.specs.Laws.StepsKeepGood.{IsGood}
+use Rattle.law_typing.specs.Good.Standing.{standing, view}
+use Rattle.law_typing.specs.Good.Objects.{PeersGood}
+use Rattle.law_typing.specs.Good.Builds.{is_for_builder, BuildGood}
+use Rattle.law_typing.specs.Good.DueCosts.{unsets, turn_cost, turn_depth}
+use Rattle.law_typing.specs.Good.Freezes.{PairsGood}
+use Rattle.law_kept.proofs.AlikeProofs.{build_stays}
+use Rattle.law_tasks.proofs.First.{First, good_of, fine_where, StepIsFine, fine_of, costs, depths}
+use Rattle.law_tasks.proofs.Lowest.{lowest_above}
+use Rattle.law_tasks.proofs.Moving.{handlers_moved, bindings_moved, cost_same, depth_same}
+use Rattle.law_tasks.proofs.TurnProofs.{passed_over}
+use Rattle.law_tasks.specs.Turns.{TransfersAreFine}
+
+module _ {d : Definition} (e : Emission) (number : ℕ) (back : Bool) (turns : List PlanEntry) (t : First d (Emitting e (config.transfer number back ∷ turns))) where
+  open t use {a, w, rest, n, g}
+
+  abbrev later : List Task
+  later = Transferring number back ∷ Emitting e turns ∷ rest
+
+  items_same : (f : Item → ℕ) → total (of_items f) later ≡ total (of_items f) (Emitting e (config.transfer number back ∷ turns) ∷ rest)
+  items_same f = omega arith
+
+  unset_same : (x : ℕ) → total (unsets x) later ≡ total (unsets x) (Emitting e (config.transfer number back ∷ turns) ∷ rest)
+  unset_same x = omega arith
+
+  unset_above : (x : ℕ) → total (unsets x) (Emitting e turns ∷ rest) ≡ total (unsets x) rest
+  unset_above x = omega arith
+
+  made_same : total is_for_builder later ≡ total is_for_builder (Emitting e (config.transfer number back ∷ turns) ∷ rest)
+  made_same = omega arith
+
+  module _ (b : Binding) (is : binding_of number w.bindings ≡ Some b) (still : b.busy ≡ false) where
+    pairs_later : PairsGood d later w.objects w.bindings
+    pairs_later = record {
+      frozen = λ id o living pair some. (let old = g.pairs.frozen id o living pair some in omega (arith, old));
+      before = λ some. absurd (let none = (g.pairs.before (omega (arith, some))).0 in let found = sym is ∙ ap (binding_of number) none in cc);
+      one = (let old = g.pairs.one in omega (arith, old));
+    }
+
+    no_longer : (x : Binding) → binding_of number w.bindings ≡ Some x → x.busy ≡ false
+    no_longer x found = let same : b ≡ x = (let f = sym is ∙ found in cc) in subst (λ (x : Binding). x.busy ≡ false) same still
+
+    transfer_good : IsGood d a t.most_counted (record { world = w; agenda = later; counted = n })
+    transfer_good =
+        let old = g.agenda.3 in
+        let turn = turn_cost d (costs t) (view w) rest (config.transfer number back) in
+        good_of t w later
+        (record {
+          objects = refl;
+          builder = refl;
+          whole = record {
+            objects = g.objects;
+            handlers = handlers_moved d (costs t) (depths t) (Emitting e (config.transfer number back ∷ turns) ∷ rest) later items_same (standing w.objects) w.last_handler w.handlers g.handlers;
+            bindings = bindings_moved d (costs t) (depths t) (Emitting e (config.transfer number back ∷ turns) ∷ rest) later items_same unset_same (standing w.objects) w.objects w.bindings g.bindings;
+            sources = g.sources;
+            held = g.held;
+            floating = g.floating;
+            pairs = pairs_later;
+          };
+          pool = subst (λ made. PeersGood d w.peers (length w.builder + made)) (sym made_same) g.peers;
+          to_make = omega arith;
+          build = build_stays d w.builder (Emitting e (config.transfer number back ∷ turns) ∷ rest) later rest made_same g.build;
+          frozen = λ id. omega arith;
+          lowest = λ id some. (let above = lowest_above d id (Transferring number back) (Emitting e turns ∷ rest) (omega (arith, some)) in omega (arith, above));
+          no_set = (let none = g.sets.first in omega (arith, none));
+          no_source = (let none = g.sets.alone in omega (arith, none));
+          budget = g.agenda.0 + g.agenda.2;
+          less = omega arith;
+          good = (
+            turn,
+            turn_depth d (depths t) (view w) rest (config.transfer number back),
+            total (turn_cost d (costs t) (view w) rest) turns + g.agenda.2,
+            (
+              tt,
+              record {
+                still = no_longer;
+                goes_back = old.turns_fit.0.0;
+                cheap = (let same = cost_same d rest (Emitting e turns ∷ rest) unset_above (costs t) back (slice_get d.bindings number) in omega (arith, same));
+                shallow = (let same = depth_same d rest (Emitting e turns ∷ rest) unset_above (depths t) back (slice_get d.bindings number) in omega (arith, same));
+              },
+            ),
+            (let deep = old.shallow.0 in let low = g.agenda.4 in omega (arith, deep, low)),
+            (let c = old.cheap in omega (arith, c)),
+            (
+              total (turn_cost d (costs t) (view w) rest) turns,
+              g.agenda.1,
+              g.agenda.2,
+              record { fits = old.fits; suits = old.suits; turns_fit = old.turns_fit.1; cheap = omega arith; shallow = old.shallow.1; one = old.one },
+              g.agenda.4,
+              omega arith,
+              g.agenda.6,
+            ),
+          );
+        })
+
+  does : (o : Option Binding) → binding_of number w.bindings ≡ o →
+      uncounted rest n (starts w (transfer_for (binding_of number w.bindings) number back ++ Emitting e turns ∷ [])) ≡ uncounted rest n (starts w (transfer_for o number back ++ Emitting e turns ∷ []))
+  does o is = ap (λ o. uncounted rest n (starts w (transfer_for o number back ++ Emitting e turns ∷ []))) is
+
+  transfer_fine : (o : Option Binding) → binding_of number w.bindings ≡ o → StepIsFine t
+  transfer_fine None is = fine_where t (record { world = w; agenda = Emitting e turns ∷ rest; counted = n }) (does None is) (passed_over t)
+  transfer_fine (Some b) is = go b.busy refl
+    where
+      go : (busy : Bool) → b.busy ≡ busy → StepIsFine t
+      go true sets = fine_where t (record { world = w; agenda = Emitting e turns ∷ rest; counted = n }) (does (Some b) is ∙ rw sets refl) (passed_over t)
+      go false still = fine_where t (record { world = w; agenda = later; counted = n }) (does (Some b) is ∙ rw still refl) (transfer_good b is still)
+
+pub transfers_are_fine : TransfersAreFine
+transfers_are_fine e number back turns = fine_of (λ d t. transfer_fine e number back turns t (binding_of number t.w.bindings) refl)
