@@ -1,5 +1,6 @@
 -- What is good where a task is the first one, and what is to be shown of the world and the agenda that its step leaves.
 use Rattle.std.proofs.Common.{◌≡◌, refl, sym, ap, subst, ◌∙◌, ℕ, zero, suc, ◌+◌, ◌<◌, ◌≤◌, List, [], ◌∷◌, length, drop, Option, None, Some, Ok, arith}
+use Rattle.std.specs.Prelude.{⊤}
 use Rattle.ui_machine.specs.Seq.{total}
 use Rattle.ui_machine.specs.Definition.{Definition}
 use Rattle.ui_machine.specs.Definition.Values.{Value}
@@ -27,7 +28,7 @@ use Rattle.law_kept.specs.Write.{Whole}
 use Rattle.law_kept.specs.Alike.{Alike}
 use Rattle.law_kept.proofs.AlikeProofs.{whole_stays, build_stays}
 use Rattle.law_kept.proofs.Left.{each_to}
-use Rattle.law_tasks.specs.First.{at_first, IsFine}
+use Rattle.law_tasks.specs.First.{at_first, IsFineAbove, IsFine}
 
 -- a task is the first one, where all is good and nothing is to be finalised before it
 pub record First (d : Definition) (task : Task) : Type 0 where
@@ -48,10 +49,11 @@ abbrev pub StepIsFine : {d : Definition} {task : Task} → First d task → Type
 StepIsFine {d} {task} t =
     Fine d t.a.weighed.costs t.a.weighed.depths t.most_counted (depth (graph d) t.a.weighed.depths) (act d t.w t.reply (task ∷ t.rest) t.n)
 
-pub fine_of : {task : Task} → ((d : Definition) (t : First d task) → StepIsFine t) → IsFine task
-fine_of {task} h d well a most_counted within w rest n g settled reply replies =
+pub fine_above : {task : Task} (Sort : List Task → Type 0) → ((d : Definition) (t : First d task) → Sort t.rest → StepIsFine t) → IsFineAbove Sort task
+fine_above {task} Sort h d well a most_counted within w rest n sort g settled reply replies =
     subst (λ o. Fine d a.weighed.costs a.weighed.depths most_counted (depth (graph d) a.weighed.depths) (first_of d reply (at_first w task rest n) o)) (sym settled)
-    (h d (record {
+    (h d
+    (record {
       well = well;
       a = a;
       most_counted = most_counted;
@@ -63,7 +65,11 @@ fine_of {task} h d well a most_counted within w rest n g settled reply replies =
       settled = settled;
       reply = reply;
       replies = replies;
-    }))
+    })
+    sort)
+
+pub fine_of : {task : Task} → ((d : Definition) (t : First d task) → StepIsFine t) → IsFine task
+fine_of h = fine_above (λ rest. ⊤) (λ d t sort. h d t)
 
 pub none_later : (f : Task → ℕ) (agenda : List Task) → total f agenda ≡ 0 → total f (drop 1 agenda) ≡ 0
 none_later f [] e = e

@@ -3,8 +3,11 @@ pub mod Begun
 pub mod Lowest
 pub mod Above
 pub mod Moving
+pub mod Done
 pub mod FreeingProofs
 pub mod TurnProofs
 pub mod TransferProofs
 pub mod StartingProofs
 pub mod SettlingProofs
+pub mod EndingProofs
+pub mod CarryingProofs

@@ -1,5 +1,5 @@
 -- The step that takes the first task, where nothing is to be finalised before it: what it is to keep.
-use Rattle.std.specs.Prelude.{◌≡◌, ℕ, ◌≤◌, List, ◌∷◌, Option, None}
+use Rattle.std.specs.Prelude.{⊤, ◌≡◌, ℕ, ◌≤◌, List, ◌∷◌, Option, None}
 use Rattle.ui_machine.specs.Definition.{Definition}
 use Rattle.ui_machine.specs.State.Peers.{Reply}
 use Rattle.ui_machine.specs.State.References.{mentions, next_unheld}
@@ -16,10 +16,15 @@ use Rattle.law_typing.specs.Laws.StepsKeepGood.{IsGood, Fine, Replies}
 abbrev pub at_first : World → Task → List Task → ℕ → Config
 at_first w task rest n = record { world = w; agenda = task ∷ rest; counted = n }
 
--- from what is good, the step that takes a task like this is not stuck, and leads to what is good within the same bound
-abbrev pub IsFine : Task → Type 0
-IsFine task =
+-- From what is good, the step that takes a task like this is not stuck, and leads to what is good within the same bound. Here what stands
+-- below is of some sort.
+abbrev pub IsFineAbove : (List Task → Type 0) → Task → Type 0
+IsFineAbove Sort task =
     (d : Definition) → WellRead d → (a : Accepted d) → (most_counted : ℕ) → most_counted ≤ most_steps → (w : World) (rest : List Task)
-    (n : ℕ) → IsGood d a most_counted (at_first w task rest n) → next_unheld (mentions d (at_first w task rest n)) w.objects ≡ None →
+    (n : ℕ) → Sort rest → IsGood d a most_counted (at_first w task rest n) → next_unheld (mentions d (at_first w task rest n)) w.objects ≡ None →
     (reply : Option Reply) → Replies d (at_first w task rest n) reply →
     Fine d a.weighed.costs a.weighed.depths most_counted (depth (graph d) a.weighed.depths) (step d reply (at_first w task rest n))
+
+-- and here it is whatever it may be
+abbrev pub IsFine : Task → Type 0
+IsFine task = IsFineAbove (λ rest. ⊤) task

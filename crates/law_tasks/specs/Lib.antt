@@ -3,3 +3,5 @@ pub mod Freeing
 pub mod Turns
 pub mod Starting
 pub mod Settling
+pub mod Ending
+pub mod Carrying

@@ -4,6 +4,8 @@
 ghost use Rattle.law_tasks.specs.Freeing.{FreeingsAreFine};
 ghost use Rattle.law_tasks.specs.Starting.{SourcesAreFine, RunsAreFine};
 ghost use Rattle.law_tasks.specs.Settling.{SettlingIsFine};
+ghost use Rattle.law_tasks.specs.Ending.{UnawaitedAreFine, ConstructionsEnd};
+ghost use Rattle.law_tasks.specs.Carrying.{GetsAreFine};
 ghost use Rattle.law_tasks.specs.Turns.{ClassHandlersAreFine, HandlersAreFine, TransfersAreFine};
 
 /// A binding is set free.
@@ -28,4 +30,15 @@ pub fn starting()
 /// Where nothing is left to do, what floats is let go.
 pub fn settling()
     ensures fine { SettlingIsFine }
+{}
+
+/// An emission ends for which no program waits, and a construction that is not the builder's.
+pub fn endings()
+    ensures unawaited { UnawaitedAreFine }
+    ensures constructions { ConstructionsEnd }
+{}
+
+/// A request gets a property.
+pub fn carrying()
+    ensures gets { GetsAreFine }
 {}

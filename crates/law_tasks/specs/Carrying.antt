@@ -1,0 +1,9 @@
+-- The task that carries out a request.
+use Rattle.std.specs.Prelude.{ℕ}
+use Rattle.ui_machine.specs.State.Tasks.{Carrying}
+use Rattle.ui_machine.specs.State.Tasks as config
+use Rattle.law_tasks.specs.First.{IsFine}
+
+-- a `get` tells of the value
+abbrev pub GetsAreFine : Type 0
+GetsAreFine = (place slot : ℕ) → IsFine (Carrying (config.get place slot))
