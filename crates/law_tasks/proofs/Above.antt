@@ -57,7 +57,6 @@ module _ {d : Definition} {task : Task} (t : First d task) (program : ℕ) (args
         good_of t (said d w (lines.run b.p.name)) later
         (record {
           objects = refl;
-          builder = refl;
           whole = whole_told t later (w.transcript ++ text_of_line d.types (lines.run b.p.name) ∷ []) w.result alike;
           pool = pool_alike t later alike;
           to_make = alike.items is_making;

@@ -31,7 +31,6 @@ module _ {d : Definition} {task : Task} (t : First d task) where
       good_of t (record w { transcript = lines; result = v }) rest
       (record {
         objects = refl;
-        builder = refl;
         whole = whole_told t rest lines v e.alike;
         pool = pool_alike t rest e.alike;
         to_make = e.alike.items is_making;

@@ -106,11 +106,10 @@ module _ {d : Definition} {task : Task} (t : First d task) where
   -- what is to be shown of the world and the agenda that the step leaves, where no object changes
   pub record Leaves (v : World) (agenda : List Task) : Type 0 where
     pub objects : v.objects ≡ w.objects
-    pub builder : v.builder ≡ w.builder
     pub whole : Whole d costs depths agenda v
     pub pool : PeersGood d v.peers (length v.builder + total is_for_builder agenda)
     pub to_make : to_make agenda ≡ to_make (task ∷ rest)
-    pub build : BuildGood d w.builder agenda agenda
+    pub build : BuildGood d v.builder agenda agenda
     -- as much is frozen, and what is by no higher task
     pub frozen : (id : ℕ) → total (frozen_by d id) agenda ≡ total (frozen_by d id) (task ∷ rest)
     pub lowest : (id : ℕ) → 0 < total (frozen_by d id) agenda → below_lowest d id agenda ≤ below_lowest d id (task ∷ rest)
@@ -149,7 +148,7 @@ module _ {d : Definition} {task : Task} (t : First d task) where
     bindings = e.whole.bindings;
     sources = e.whole.sources;
     peers = e.pool;
-    build = subst (λ b. BuildGood d b agenda agenda) (sym e.builder) e.build;
+    build = e.build;
     held = e.whole.held;
     floating = e.whole.floating;
     sets = record {

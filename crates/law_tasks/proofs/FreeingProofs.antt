@@ -193,7 +193,6 @@ module _ {d : Definition} (number : ℕ) (t : First d (Unsetting number)) where
       good_of t (record w { bindings = bs }) rest
       (record {
         objects = refl;
-        builder = refl;
         whole = record {
           objects = objects_freed d w bs g.objects;
           handlers = handlers_left;

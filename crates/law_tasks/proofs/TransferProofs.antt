@@ -58,7 +58,6 @@ module _ {d : Definition} (e : Emission) (number : ℕ) (back : Bool) (turns : L
         good_of t w later
         (record {
           objects = refl;
-          builder = refl;
           whole = record {
             objects = g.objects;
             handlers = handlers_moved d (costs t) (depths t) (Emitting e (config.transfer number back ∷ turns) ∷ rest) later items_same (standing w.objects) w.last_handler w.handlers g.handlers;

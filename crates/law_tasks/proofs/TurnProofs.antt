@@ -92,7 +92,6 @@ module _ {d : Definition} {e : Emission} {turn : PlanEntry} {turns : List PlanEn
       good_of t w (Emitting e turns ∷ rest)
       (record {
         objects = refl;
-        builder = refl;
         whole = whole_told t (Emitting e turns ∷ rest) w.transcript w.result past_alike;
         pool = pool_alike t (Emitting e turns ∷ rest) past_alike;
         to_make = refl;

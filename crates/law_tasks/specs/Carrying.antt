@@ -7,3 +7,7 @@ use Rattle.law_tasks.specs.First.{IsFine}
 -- a `get` tells of the value
 abbrev pub GetsAreFine : Type 0
 GetsAreFine = (place slot : ℕ) → IsFine (Carrying (config.get place slot))
+
+-- a `release` lets the builder go of the object
+abbrev pub ReleasesAreFine : Type 0
+ReleasesAreFine = (place : ℕ) → IsFine (Carrying (config.release place))

@@ -5,7 +5,7 @@ ghost use Rattle.law_tasks.specs.Freeing.{FreeingsAreFine};
 ghost use Rattle.law_tasks.specs.Starting.{SourcesAreFine, RunsAreFine};
 ghost use Rattle.law_tasks.specs.Settling.{SettlingIsFine};
 ghost use Rattle.law_tasks.specs.Ending.{UnawaitedAreFine, ConstructionsEnd};
-ghost use Rattle.law_tasks.specs.Carrying.{GetsAreFine};
+ghost use Rattle.law_tasks.specs.Carrying.{GetsAreFine, ReleasesAreFine};
 ghost use Rattle.law_tasks.specs.Turns.{ClassHandlersAreFine, HandlersAreFine, TransfersAreFine};
 
 /// A binding is set free.
@@ -38,7 +38,8 @@ pub fn endings()
     ensures constructions { ConstructionsEnd }
 {}
 
-/// A request gets a property.
+/// A request gets a property, or releases an object.
 pub fn carrying()
     ensures gets { GetsAreFine }
+    ensures releases { ReleasesAreFine }
 {}
