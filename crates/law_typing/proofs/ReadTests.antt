@@ -11,7 +11,7 @@ use Rattle.ui_machine.specs.Rules.Ancestry.{is_a, lineage, implemented_by}
 use Rattle.ui_machine.specs.Rules.Validation.{is_valid}
 use Rattle.ui_machine.specs.Definition.Properties.{Spec, is_writable, is_construct, is_construct_only}
 use Rattle.ui_machine.specs.Definition.{Definition, Class}
-use Rattle.ui_machine.specs.Definition.Signals.{Signal}
+use Rattle.ui_machine.specs.Definition.Signals.{Signal, Shape, Method}
 use Rattle.ui_machine.specs.Definition.Programs.{Instruction, Block, Program}
 use Rattle.ui_machine.specs.Definition.Places.{Given, value, named, GivenProperty, Attached, Place, Bind}
 use Rattle.ui_machine.specs.Definition.Programs as words
@@ -78,7 +78,8 @@ begins_with_notify (s ∷ signals) = is_notify (Some s)
 
 abbrev pub are_types_read : Definition → Bool
 are_types_read d =
-    all_from (λ t (x : GType). keeps_shapes_at d t) 0 d.types
+    list_all (λ (s : Shape). list_all (λ (m : Method). has_values d m.result) s.methods) d.shapes
+    && (all_from (λ t (x : GType). keeps_shapes_at d t) 0 d.types
     && (nat_eq (length d.classes) (length d.types)
     && (all_from (λ t (x : GType). is_below x.parent t) 0 d.types
     && (all_from (λ t (x : GType). is_transitive_at d.types t) 0 d.types
@@ -87,7 +88,7 @@ are_types_read d =
     && (all_from (λ t (c : Class). list_all (is_spec_read d) c.specs) 0 d.classes
     && (list_all (λ (c : Class). no_two same_name (map (λ (s : Spec). s.name) c.specs)) d.classes
     && (list_all (λ (c : Class). list_all (result_has_values d) c.signals) d.classes
-    && all_from (λ t (c : Class). begins_with_notify c.signals) 0 d.classes))))))))
+    && all_from (λ t (c : Class). begins_with_notify c.signals) 0 d.classes)))))))))
 
 -- ** programs
 

@@ -211,7 +211,8 @@ shapes d e class type shape is has = go (all_from_read (λ t (x : GType). tests.
 
 types_read : (d : Definition) → tests.are_types_read d ≡ true → TypesRead d
 types_read d e =
-    let z = both_parts _ _ e in
+    let y = both_parts _ _ e in
+    let z = both_parts _ _ y.1 in
     let a = both_parts _ _ z.1 in
     let b = both_parts _ _ a.1 in
     let c = both_parts _ _ b.1 in
@@ -230,6 +231,7 @@ types_read d e =
       specs = specs_read d h.0;
       first = first_read d j.1;
       names = i.0;
+      replies = y.0;
       results = j.0;
     }
   where

@@ -1,14 +1,13 @@
 -- Each task, within its steps and frames, and the agenda, which splits the budget.
 use Rattle.std.specs.Prelude.{◌≡◌, ℕ, ◌+◌, ◌≤◌, List, [], ◌∷◌, Some}
 use Rattle.ui_machine.specs.Seq.{total}
-use Rattle.ui_machine.specs.Definition.Kinds as kinds
 use Rattle.ui_machine.specs.Definition.{Definition}
 use Rattle.ui_machine.specs.State.Sources.{Source}
 use Rattle.ui_machine.specs.State.Tasks.{Task, Setting, Notifying, Beginning, Emitting, Transferring, Unsetting, Thawing, Running, Answering, Calling, Constructing, Building, Carrying, Due}
 use Rattle.law_typing.specs.Graph.Tables.{Tables, of_program}
 use Rattle.law_typing.specs.Verdict.Accepted.{Each}
 use Rattle.law_typing.specs.Good.Standing.{View}
-use Rattle.law_typing.specs.Good.ComingDown.{Down, down, Suits, TakesNone}
+use Rattle.law_typing.specs.Good.ComingDown.{Down, down, Answers, TakesNone}
 use Rattle.law_typing.specs.Good.Programs.{RunningGood, CallingGood}
 use Rattle.law_typing.specs.Good.Emissions.{SettingGood, NotifyingGood, TransferringGood, EmittingGood, BeginningGood, ThawingGood}
 use Rattle.law_typing.specs.Good.Builds.{ConstructingGood, item_cost, item_depth}
@@ -30,7 +29,7 @@ TaskGood d costs depths w up below (Thawing id slots) steps frames =
     TakesNone up × ThawingGood d costs depths (w.stands) below id slots steps frames
 TaskGood d costs depths w up below (Running frame) steps frames =
     TakesNone up × RunningGood d costs depths (w.stands) up frame steps frames
-TaskGood d costs depths w up below (Answering source) steps frames = Suits d (Some kinds.bool) up
+TaskGood d costs depths w up below (Answering source) steps frames = Answers d up
 TaskGood d costs depths w up below (Calling call) steps frames = TakesNone up × CallingGood d w below call
 TaskGood d costs depths w up below (Constructing id todo held) steps frames =
     TakesNone up × ConstructingGood d costs depths w id todo held steps frames

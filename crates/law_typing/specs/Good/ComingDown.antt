@@ -64,10 +64,15 @@ abbrev pub Comes : Option ℕ → Down → Type 0
 Comes None up = ⊤
 Comes (Some to) up = (kind : Kind) × (up ≡ results (Some kind))
 
--- an emission or a source takes what its program gives
+-- an emission takes what its program gives
 abbrev pub Suits : Definition → Option Kind → Down → Type 0
 Suits d wanted (given kind) = result_fits d kind wanted ≡ true
 Suits d wanted up = ⊤
+
+-- a source waits for its program, which gives it a truth value: it has nothing to do by itself
+abbrev pub Answers : Definition → Down → Type 0
+Answers d (given kind) = result_fits d kind (Some kinds.bool) ≡ true
+Answers d up = ⊥
 
 -- where no one takes a program's result there is none
 abbrev pub TakesNone : Down → Type 0

@@ -12,7 +12,7 @@ use Rattle.ui_machine.specs.Rules.Transform.{least, greatest, is_between, kind_f
 use Rattle.ui_machine.specs.Rules.Validation.{is_valid}
 use Rattle.ui_machine.specs.Definition.Properties.{Spec, is_writable, is_construct, is_construct_only}
 use Rattle.ui_machine.specs.Definition.{Definition, Class}
-use Rattle.ui_machine.specs.Definition.Signals.{Signal}
+use Rattle.ui_machine.specs.Definition.Signals.{Signal, Shape, Method}
 use Rattle.ui_machine.specs.Definition.Programs.{Instruction, Block, Program}
 use Rattle.ui_machine.specs.Definition.Places.{Given, value, named, GivenProperty, Attached, Place, Bind}
 use Rattle.ui_machine.specs.Definition.Programs as words
@@ -99,7 +99,9 @@ pub record TypesRead (d : Definition) : Type 0 where
   pub specs : (class slot : ℕ) (s : Spec) → spec_of d class slot ≡ Some s → SpecRead d s
   -- no class has two properties of one name
   pub names : list_all (λ (c : Class). no_two same_name (map (λ (s : Spec). s.name) c.specs)) d.classes ≡ true
-  -- each result has a value
+  -- what each method answers has a value
+  pub replies : list_all (λ (s : Shape). list_all (λ (m : Method). has_values d m.result) s.methods) d.shapes ≡ true
+  -- and so has each result
   pub results : list_all (λ (c : Class). list_all (result_has_values d) c.signals) d.classes ≡ true
 
 -- ** programs
