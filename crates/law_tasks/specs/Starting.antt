@@ -1,7 +1,11 @@
--- The tasks that start a program which no emission runs.
+-- The tasks that start a program which no emission runs, and the one that waits for it.
 use Rattle.std.specs.Prelude.{ℕ, Bool, List, ◌∷◌}
-use Rattle.ui_machine.specs.State.Tasks.{Making, runs, Constructing, Due}
-use Rattle.law_tasks.specs.First.{IsFine}
+use Rattle.ui_machine.specs.Definition.{Definition}
+use Rattle.ui_machine.specs.State.Config.{World}
+use Rattle.ui_machine.specs.State.Tasks.{Making, Task, runs, Answering, Constructing, Due}
+use Rattle.law_typing.specs.Laws.StepsKeepGood.{IsGood}
+use Rattle.law_typing.specs.Verdict.Accepted.{Accepted}
+use Rattle.law_tasks.specs.First.{IsFine, at_first}
 
 -- a due source starts its program
 abbrev pub SourcesAreFine : Type 0
@@ -10,3 +14,8 @@ SourcesAreFine = (source : ℕ) → IsFine (Due source)
 -- a construction starts a `constructed` program
 abbrev pub RunsAreFine : Type 0
 RunsAreFine = (id program : ℕ) (todo : List Making) (held : Bool) → IsFine (Constructing id (runs program ∷ todo) held)
+
+-- a source that waits for its program is never the first task
+abbrev pub AnsweringsWait : Type 0
+AnsweringsWait = (d : Definition) (a : Accepted d) (most_counted : ℕ) (w : World) (rest : List Task) (n source : ℕ) →
+    IsGood d a most_counted (at_first w (Answering source) rest n) → ⊥

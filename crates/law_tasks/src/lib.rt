@@ -2,7 +2,7 @@
 #![tactic(auto)]
 
 ghost use Rattle.law_tasks.specs.Freeing.{FreeingsAreFine};
-ghost use Rattle.law_tasks.specs.Starting.{SourcesAreFine, RunsAreFine};
+ghost use Rattle.law_tasks.specs.Starting.{SourcesAreFine, RunsAreFine, AnsweringsWait};
 ghost use Rattle.law_tasks.specs.Settling.{SettlingIsFine};
 ghost use Rattle.law_tasks.specs.Ending.{UnawaitedAreFine, ConstructionsEnd};
 ghost use Rattle.law_tasks.specs.Carrying.{GetsAreFine, ReleasesAreFine};
@@ -21,10 +21,11 @@ pub fn turns()
     ensures transfers { TransfersAreFine }
 {}
 
-/// A due source starts its program, and a construction a `constructed` one.
+/// A due source starts its program, and a construction a `constructed` one. A source that waits for its program is never the first task.
 pub fn starting()
     ensures sources { SourcesAreFine }
     ensures runs { RunsAreFine }
+    ensures answers { AnsweringsWait }
 {}
 
 /// Where nothing is left to do, what floats is let go.
