@@ -1,7 +1,6 @@
 -- A program calls a peer, and waits for its answer.
-use Rattle.std.proofs.Common.{◌≡◌, refl, sym, ap, subst, ◌∙◌, ℕ, suc, ◌<◌, ◌≤◌, Bool, true, false, List, [], ◌∷◌, length, drop, Option, None, Some, Ok, slice_get, arith, lt-ltb}
+use Rattle.std.proofs.Common.{◌≡◌, refl, sym, ap, subst, ◌∙◌, ℕ, suc, true, List, [], ◌∷◌, length, drop, Option, None, Some, Ok, slice_get, arith, lt-ltb}
 use Rattle.std.specs.Prelude.{nat_lt, option_map}
-use Rattle.ui_machine.specs.Seq.{write}
 use Rattle.ui_machine.specs.Definition.Kinds as kinds
 use Rattle.ui_machine.specs.Definition.Names.{place_named}
 use Rattle.ui_machine.specs.Definition.Signals.{Method, Shape}
@@ -10,9 +9,9 @@ use Rattle.ui_machine.specs.Definition.{Definition}
 use Rattle.ui_machine.specs.Definition.Programs as words
 use Rattle.ui_machine.specs.State.Objects.{Object, living, class_in}
 use Rattle.ui_machine.specs.State.Peers.{Peer, method_number, method_of}
-use Rattle.ui_machine.specs.State.Tasks.{Call, Frame, Task, Calling, Running}
+use Rattle.ui_machine.specs.State.Tasks.{Call, Frame, Task, Calling}
 use Rattle.ui_machine.specs.State.Config.{World, peer_at}
-use Rattle.ui_machine.specs.Outcome.{known, only_if}
+use Rattle.ui_machine.specs.Outcome.{known}
 use Rattle.ui_machine.specs.Rules.Construction.{nearest_shape}
 use Rattle.ui_machine.specs.Rules.Programs.{all_fit}
 use Rattle.ui_machine.specs.Rules.Transform.{kind_fits}
@@ -25,9 +24,9 @@ use Rattle.law_typing.specs.Rules.RegisterKinds.{Kinds}
 use Rattle.law_typing.specs.Rules.Typing as typing
 use Rattle.law_typing.specs.Rules.Typing.{after, arguments, methods_of, methods_for, method_named}
 use Rattle.law_typing.specs.Rules.Brackets.{opened, keeps}
-use Rattle.law_typing.specs.Good.Standing.{standing, class_by, view, View}
+use Rattle.law_typing.specs.Good.Standing.{standing, view, View}
 use Rattle.law_typing.specs.Good.Objects.{PeerGood}
-use Rattle.law_typing.specs.Good.ComingDown.{Down, answers, down, awaited, Comes, TakesNone}
+use Rattle.law_typing.specs.Good.ComingDown.{answers, down, awaited, Comes, TakesNone}
 use Rattle.law_static.proofs.FitsProofs.{classes_agree}
 use Rattle.law_instructions.specs.Calling.{CallsAreFine}
 use Rattle.law_instructions.proofs.Around.{Due, r, taken, none_into, StepIsFine, fine_of}
@@ -35,7 +34,7 @@ use Rattle.law_instructions.proofs.Written.{low, code_next}
 use Rattle.law_instructions.proofs.Inverse.{bound, known_is}
 use Rattle.law_instructions.proofs.Typed.{with_kind}
 use Rattle.law_instructions.proofs.Operand.{Named, named}
-use Rattle.law_instructions.proofs.EmitProofs.{Given, given}
+use Rattle.law_instructions.proofs.EmitProofs.{given}
 use Rattle.law_instructions.proofs.Started.{waiting, starts_fine}
 
 -- ** what typing says

@@ -1,9 +1,9 @@
 -- A program emits a signal, and waits for its result if it takes it.
-use Rattle.std.proofs.Common.{◌≡◌, refl, sym, ap, subst, ◌∙◌, ℕ, ◌+◌, ◌<◌, ◌≤◌, Bool, true, false, cond, List, [], ◌∷◌, Option, None, Some, Ok, arith, lt-ltb}
+use Rattle.std.proofs.Common.{◌≡◌, refl, sym, ap, subst, ◌∙◌, ℕ, ◌<◌, ◌≤◌, Bool, true, false, cond, List, [], ◌∷◌, Option, None, Some, Ok, arith, lt-ltb}
 use Rattle.std.specs.Prelude.{◌&&◌, ◌||◌, not, nat_eq, nat_lt, is_some, option_map}
 use Rattle.std.proofs.lemmas.Bool.{eqb-true, ltb-true}
 use Rattle.ui_machine.specs.declared.arm.Arm.TheVariants as arms
-use Rattle.ui_machine.specs.Seq.{read, write}
+use Rattle.ui_machine.specs.Seq.{read}
 use Rattle.ui_machine.specs.Definition.Kinds.{Kind}
 use Rattle.ui_machine.specs.Definition.Kinds as kinds
 use Rattle.ui_machine.specs.Definition.Properties.{has_flags}
@@ -38,8 +38,7 @@ use Rattle.law_typing.specs.Graph.Costs.{other_end, with_other, start_cost}
 use Rattle.law_typing.specs.Graph.Depths.{start_depth}
 use Rattle.law_typing.specs.Laws.WellRead.{TypesRead}
 use Rattle.law_typing.specs.Good.Standing.{standing, Standing, class_by, view, holds, RegistersFit}
-use Rattle.law_typing.specs.Good.ComingDown.{Down, results, down, awaited, Comes, result_of_emission}
-use Rattle.law_typing.specs.Good.Emissions.{EmissionFits}
+use Rattle.law_typing.specs.Good.ComingDown.{results, down, awaited, Comes, result_of_emission}
 use Rattle.law_static.proofs.FitsProofs.{holds_kind, holds_set}
 use Rattle.law_static.proofs.StartProofs.{starts_reach}
 use Rattle.law_static.proofs.SubclassProofs.{signals_inherit, emitted_inherit}

@@ -1,5 +1,5 @@
 -- A program takes an object from its parent, or gives it one.
-use Rattle.std.proofs.Common.{◌≡◌, inl, inr, ◌⊎◌, refl, sym, ap, subst, ◌∙◌, ℕ, ◌≤◌, Bool, true, false, cond, List, [], ◌∷◌, ◌++◌, Option, None, Some, Ok, arith}
+use Rattle.std.proofs.Common.{◌≡◌, inl, inr, ◌⊎◌, refl, sym, ap, subst, ◌∙◌, ℕ, Bool, true, false, cond, List, [], ◌∷◌, ◌++◌, Option, None, Some, Ok, arith}
 use Rattle.std.specs.Prelude.{nat_eq, option_map, codes}
 use Rattle.std.proofs.Math.Path.{fun_ext}
 use Rattle.std.proofs.lemmas.Bool.{eqb-true, eqb-false}
@@ -9,13 +9,13 @@ use Rattle.ui_machine.specs.Definition.Values as values
 use Rattle.ui_machine.specs.Definition.{Definition}
 use Rattle.ui_machine.specs.Definition.Programs.{Instruction}
 use Rattle.ui_machine.specs.Definition.Programs as words
-use Rattle.ui_machine.specs.State.Objects.{Object, Objects, living, put, one_if, live}
+use Rattle.ui_machine.specs.State.Objects.{Object, Objects, living, put, one_if}
 use Rattle.ui_machine.specs.State.Tasks.{Frame, Running, Task}
 use Rattle.ui_machine.specs.State.Config.{World, said, without}
 use Rattle.ui_machine.specs.Output.Lines as lines
 use Rattle.ui_machine.specs.Output.Text.{text_of_line}
 use Rattle.ui_machine.specs.Rules.Children.{is_unadoptable, updated, with_parent, with_family, orphaned, adopted}
-use Rattle.ui_machine.specs.Instructions.{instructed, in_front}
+use Rattle.ui_machine.specs.Instructions.{in_front}
 use Rattle.ui_machine.specs.Instructions.Registers.{operand_in, goes_on, tells}
 use Rattle.ui_machine.specs.Instructions.Objects.{orphaning, adopting}
 use Rattle.ui_machine.specs.Instructions.Jumps.{past}
@@ -30,7 +30,7 @@ use Rattle.law_typing.specs.Good.Freezes.{carried}
 use Rattle.law_typing.proofs.Lists.{each_append}
 use Rattle.law_typing.proofs.EdgeProofs.{append_left, append_right}
 use Rattle.law_kept.specs.Agenda.{Serves}
-use Rattle.law_kept.specs.Family.{Kin, FamiliesGood, with_families}
+use Rattle.law_kept.specs.Family.{Kin, with_families}
 use Rattle.law_kept.proofs.FamilyProofs.{families_keep}
 use Rattle.law_kept.proofs.DisposeProofs.{changed_here, put_apart, Was, was, place_same, sum_changed}
 use Rattle.law_instructions.specs.Families.{FamiliesAreFine}

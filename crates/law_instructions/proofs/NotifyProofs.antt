@@ -1,8 +1,8 @@
 -- A program raises a notification: it is made at once, or waits in the queue of a frozen object.
-use Rattle.std.proofs.Common.{◌≡◌, refl, sym, ap, subst, ◌∙◌, ℕ, zero, suc, ◌+◌, ◌<◌, ◌≤◌, Bool, true, false, cond, List, [], ◌∷◌, ◌++◌, Option, None, Some, Ok, arith}
+use Rattle.std.proofs.Common.{◌≡◌, refl, sym, ap, subst, ◌∙◌, ℕ, zero, suc, ◌+◌, ◌≤◌, Bool, true, false, cond, List, [], ◌∷◌, ◌++◌, Option, None, Some, Ok, arith}
 use Rattle.std.specs.Prelude.{nat_eq, option_map}
 use Rattle.std.specs.List.{list_any}
-use Rattle.std.proofs.lemmas.Bool.{eqb-true, eqb-false, eq-eqb}
+use Rattle.std.proofs.lemmas.Bool.{eqb-true, eqb-false}
 use Rattle.ui_machine.specs.Seq.{read, write, total}
 use Rattle.ui_machine.specs.Definition.Places.{Place}
 use Rattle.ui_machine.specs.Definition.Properties.{Spec, is_readable}
@@ -14,20 +14,18 @@ use Rattle.ui_machine.specs.State.Tasks.{Frame, Task, Notifying, Running}
 use Rattle.ui_machine.specs.State.Config.{World, with_objects}
 use Rattle.ui_machine.specs.Rules.NotifyQueue.{queued}
 use Rattle.ui_machine.specs.Rules.Sets.{spec_at, raising}
-use Rattle.ui_machine.specs.Instructions.{instructed, in_front}
+use Rattle.ui_machine.specs.Instructions.{in_front}
 use Rattle.ui_machine.specs.Instructions.Registers.{operand_in, goes_on}
 use Rattle.ui_machine.specs.Instructions.Properties.{slot_at, then_goes_on, telling}
 use Rattle.ui_machine.specs.Instructions.Jumps.{past}
 use Rattle.ui_machine.specs.Steps.{left}
 use Rattle.law_typing.specs.Rules.RegisterKinds.{class_at}
-use Rattle.law_typing.specs.Rules.Typing as typing
 use Rattle.law_typing.specs.Rules.Typing.{after, property_of}
 use Rattle.law_typing.specs.Graph.{graph, start_of}
 use Rattle.law_typing.specs.Graph.Channels.{property, spec_if}
 use Rattle.law_typing.specs.Graph.Tables.{entry}
 use Rattle.law_typing.specs.Graph.Costs.{node_cost, start_cost}
 use Rattle.law_typing.specs.Graph.Depths.{depth, start_depth}
-use Rattle.law_typing.specs.Verdict.Accepted.{Each}
 use Rattle.law_typing.specs.Laws.StepsKeepGood.{IsGood}
 use Rattle.law_typing.specs.Good.Standing.{standing, view, View, RegistersFit}
 use Rattle.law_typing.specs.Good.Agenda.{frames}
@@ -47,7 +45,7 @@ use Rattle.law_instructions.specs.Notifying.{NotifiesAreFine}
 use Rattle.law_instructions.proofs.Around.{Due, r, taken, goes_to, past_good, left_steps, steps_left, fine_where, waits_not, StepIsFine, fine_of}
 use Rattle.law_instructions.proofs.Written.{serves_itself, said_moved, moved_fine, open_same}
 use Rattle.law_instructions.proofs.Frozen.{frozen_same}
-use Rattle.law_instructions.proofs.Typed.{Found, property_is, changing_none_is}
+use Rattle.law_instructions.proofs.Typed.{property_is, changing_none_is}
 use Rattle.law_instructions.proofs.Operand.{Named, named}
 use Rattle.law_instructions.proofs.ReadProofs.{slot_is, spec_is}
 use Rattle.law_instructions.proofs.Started.{waiting, sends_fine}

@@ -1,5 +1,5 @@
 -- A program sets a property: the set is due at once.
-use Rattle.std.proofs.Common.{◌≡◌, refl, sym, ap, subst, ◌∙◌, ℕ, suc, ◌+◌, ◌<◌, ◌≤◌, Bool, true, false, cond, List, [], ◌∷◌, Option, None, Some, Ok, arith}
+use Rattle.std.proofs.Common.{◌≡◌, refl, sym, ap, subst, ◌∙◌, ℕ, suc, ◌≤◌, Bool, true, false, cond, List, [], ◌∷◌, None, Some, Ok, arith}
 use Rattle.std.specs.Prelude.{not, nat_eq, option_map}
 use Rattle.std.proofs.lemmas.Bool.{eqb-true, eqb-false}
 use Rattle.ui_machine.specs.declared.arm.Arm.TheVariants as arms
@@ -26,12 +26,11 @@ use Rattle.law_typing.specs.Rules.RegisterKinds.{Kinds, kind_in, class_at, fits}
 use Rattle.law_typing.specs.Rules.Typing as typing
 use Rattle.law_typing.specs.Rules.Typing.{after, property_of, fitting, changing_none}
 use Rattle.law_typing.specs.Graph.{graph, start_of}
-use Rattle.law_typing.specs.Graph.Channels as channels
 use Rattle.law_typing.specs.Graph.Channels.{property, spec_if}
 use Rattle.law_typing.specs.Graph.Costs.{start_cost}
 use Rattle.law_typing.specs.Graph.Depths.{start_depth}
 use Rattle.law_typing.specs.Laws.WellRead.{is_set}
-use Rattle.law_typing.specs.Good.Standing.{standing, Standing, holds}
+use Rattle.law_typing.specs.Good.Standing.{standing, holds}
 use Rattle.law_static.proofs.FitsProofs.{holds_kind, holds_live, holds_set}
 use Rattle.law_static.proofs.StartProofs.{starts_reach, due_within}
 use Rattle.law_static.proofs.SubclassProofs.{specs_inherit}

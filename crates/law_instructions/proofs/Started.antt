@@ -1,18 +1,17 @@
 -- A program starts a task, which stands in front of it: what is to be shown of the task and of the program that waits below it.
-use Rattle.std.proofs.Common.{◌≡◌, refl, sym, ap, subst, ◌∙◌, ℕ, suc, ◌+◌, ◌-◌, ◌<◌, ◌≤◌, Bool, true, false, cond, List, [], ◌∷◌, ◌++◌, length, drop, Option, None, Some, Ok, arith}
+use Rattle.std.proofs.Common.{◌≡◌, refl, sym, ap, subst, ◌∙◌, ℕ, suc, ◌+◌, ◌-◌, ◌<◌, ◌≤◌, Bool, true, false, cond, List, [], ◌∷◌, length, drop, Option, None, Ok, arith}
 use Rattle.std.specs.Prelude.{nat_eq}
 use Rattle.std.proofs.lemmas.Bool.{eqb-true}
 use Rattle.ui_machine.specs.Seq.{total}
 use Rattle.ui_machine.specs.Definition.{Definition}
 use Rattle.ui_machine.specs.Definition.Programs.{Instruction}
-use Rattle.ui_machine.specs.State.Objects.{Object, living}
 use Rattle.ui_machine.specs.State.References.{next_unheld, mentions}
-use Rattle.ui_machine.specs.State.Tasks.{Item, Frame, Task, Setting, Notifying, Beginning, Calling, Thawing, Running}
+use Rattle.ui_machine.specs.State.Tasks.{Frame, Task, Setting, Notifying, Beginning, Calling, Thawing, Running}
 use Rattle.ui_machine.specs.State.Config.{Held, World, Config}
 use Rattle.ui_machine.specs.Instructions.{instructed, in_front}
 use Rattle.ui_machine.specs.Instructions.Jumps.{past}
 use Rattle.ui_machine.specs.Instructions.Registers as machine
-use Rattle.ui_machine.specs.Rules.Build.{of_items, is_making}
+use Rattle.ui_machine.specs.Rules.Build.{is_making}
 use Rattle.ui_machine.specs.Steps.{left}
 use Rattle.law_typing.specs.Rules.RegisterKinds.{Kinds}
 use Rattle.law_typing.specs.Rules.Typing.{after}
@@ -28,11 +27,10 @@ use Rattle.law_typing.specs.Laws.StepsKeepGood.{IsGood}
 use Rattle.law_typing.specs.Good.Standing.{standing, view}
 use Rattle.law_typing.specs.Good.Objects.{PeersGood}
 use Rattle.law_typing.specs.Good.ComingDown.{Down, none, down, awaited, Comes, TakesNone}
-use Rattle.law_typing.specs.Good.Programs.{RunningGood, code_left}
+use Rattle.law_typing.specs.Good.Programs.{RunningGood}
 use Rattle.law_typing.specs.Good.Agenda.{TaskGood, frames}
-use Rattle.law_typing.specs.Good.Builds.{is_for_builder, BuildGood}
-use Rattle.law_typing.specs.Good.Freezes.{QueueGood, QueuesGood, frozen_by, below_lowest, is_due_set, is_due_source}
-use Rattle.law_static.specs.Code.{gone_on}
+use Rattle.law_typing.specs.Good.Builds.{BuildGood}
+use Rattle.law_typing.specs.Good.Freezes.{QueueGood, QueuesGood, frozen_by, below_lowest, is_due_set}
 use Rattle.law_static.proofs.CodeProofs.{programs_wait}
 use Rattle.law_kept.specs.Alike.{Alike}
 use Rattle.law_instructions.proofs.Frozen.{is_bracket, frozen_same}

@@ -1,19 +1,16 @@
 -- Agendas that are alike in what handlers, bindings, pairs and the build read of them.
-use Rattle.std.proofs.Common.{◌≡◌, refl, sym, ap, subst, ◌∙◌, ℕ, ◌+◌, ◌<◌, List, [], ◌∷◌, arith}
-use Rattle.ui_machine.specs.Seq.{total}
+use Rattle.std.proofs.Common.{◌≡◌, ◌∙◌, ℕ, List, [], ◌∷◌, arith}
 use Rattle.ui_machine.specs.Definition.{Definition}
 use Rattle.ui_machine.specs.State.Bindings.{Binding}
 use Rattle.ui_machine.specs.State.Objects.{Objects}
 use Rattle.ui_machine.specs.State.Handlers.{Handler}
 use Rattle.ui_machine.specs.State.Tasks.{Task, Setting, Notifying, Beginning, Emitting, Transferring, Unsetting, Thawing, Running, Answering, Calling, Constructing, Building, Carrying, Due}
-use Rattle.ui_machine.specs.State.Config.{Held, World}
 use Rattle.law_typing.specs.Graph.{Raised, graph, place_of_channel}
 use Rattle.law_typing.specs.Graph.Tables.{Tables}
 use Rattle.law_typing.specs.Good.Standing.{Standing, standing}
 use Rattle.law_typing.specs.Good.Handlers.{connecting_cost, ChannelGood, HandlersGood}
 use Rattle.law_typing.specs.Good.Bindings.{is_binding, BindingGood, BindingsGood}
-use Rattle.law_typing.specs.Good.Builds.{is_for_builder, BuildGood}
-use Rattle.law_typing.specs.Good.Freezes.{constructs_held, is_carrying_over, PairsGood}
+use Rattle.law_typing.specs.Good.Freezes.{PairsGood}
 use Rattle.law_kept.specs.Alike.{Alike, WholeStays, BuildStays}
 use Rattle.law_kept.proofs.Left.{each_to}
 

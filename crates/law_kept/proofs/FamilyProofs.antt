@@ -1,15 +1,14 @@
 -- Families that change: what is good of a world stays so.
-use Rattle.std.proofs.Common.{◌≡◌, refl, sym, ap, subst, ◌∙◌, ℕ, ◌<◌, true, List, [], ◌∷◌, Some}
+use Rattle.std.proofs.Common.{sym, ap, subst, ◌∙◌, ℕ, ◌<◌, List, [], ◌∷◌}
 use Rattle.ui_machine.specs.Definition.{Definition}
-use Rattle.ui_machine.specs.State.Objects.{Object, Objects, living}
-use Rattle.ui_machine.specs.State.Bindings.{Binding}
+use Rattle.ui_machine.specs.State.Objects.{Object, Objects}
 use Rattle.ui_machine.specs.State.Tasks.{Task}
 use Rattle.ui_machine.specs.State.Config.{World}
 use Rattle.law_typing.specs.Graph.Tables.{Tables}
 use Rattle.law_typing.specs.Rules.Brackets.{has_pair}
 use Rattle.law_typing.specs.Verdict.Accepted.{Each}
-use Rattle.law_typing.specs.Good.Standing.{Standing, standing, Lives}
-use Rattle.law_typing.specs.Good.Objects.{ObjectGood, ObjectsGood}
+use Rattle.law_typing.specs.Good.Standing.{standing, Lives}
+use Rattle.law_typing.specs.Good.Objects.{ObjectGood}
 use Rattle.law_typing.specs.Good.Handlers.{HandlersGood}
 use Rattle.law_typing.specs.Good.Bindings.{BindingGood, BindingsGood, SourceGood, HeldGood}
 use Rattle.law_kept.specs.Write.{Whole}

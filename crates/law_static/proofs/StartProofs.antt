@@ -1,6 +1,6 @@
 -- What is raised at the place of an operand's object is within what the instruction may start; and what is due at a property is within its
 -- node.
-use Rattle.std.proofs.Common.{◌≡◌, refl, sym, ap, subst, ◌∙◌, ℕ, suc, ◌+◌, ◌≤◌, Bool, true, false, cond, List, [], ◌∷◌, length, max, Option, None, Some, arith}
+use Rattle.std.proofs.Common.{◌≡◌, refl, sym, ap, ◌∙◌, ℕ, suc, ◌+◌, ◌≤◌, Bool, true, false, cond, List, [], ◌∷◌, length, Option, None, Some, arith}
 use Rattle.std.specs.Prelude.{◌&&◌}
 use Rattle.std.specs.List.{filter_map}
 use Rattle.ui_machine.specs.Definition.{Definition}
@@ -15,7 +15,7 @@ use Rattle.law_typing.specs.Graph.Costs.{other_end, with_other, node_cost, start
 use Rattle.law_typing.specs.Graph.Depths.{depth_within, property_depth, depth_within_if, raised_of, start_depth, channel_depth}
 use Rattle.law_typing.specs.Verdict.Accepted.{Each, Accepted}
 use Rattle.law_typing.specs.Laws.{IsIn}
-use Rattle.law_typing.specs.Good.DueCosts.{has_end, is_setting_at, is_setting_from, is_setting_below, over_cost, due_cost, due_depth}
+use Rattle.law_typing.specs.Good.DueCosts.{has_end, is_setting_at, is_setting_from, is_setting_below, over_cost}
 use Rattle.law_typing.proofs.Lists.{both_parts, same_channel_true, filter_in, greatest_in}
 use Rattle.law_typing.proofs.CostProofs.{listed_in, place_below}
 use Rattle.law_typing.proofs.PairProofs.{no_words, pair_read}

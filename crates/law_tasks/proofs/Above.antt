@@ -1,6 +1,5 @@
 -- A task leads to a program, which begins above what takes its result.
 use Rattle.std.proofs.Common.{◌≡◌, refl, sym, ap, subst, ℕ, ◌+◌, ◌≤◌, List, [], ◌∷◌, ◌++◌, Option, arith}
-use Rattle.ui_machine.specs.Seq.{total}
 use Rattle.ui_machine.specs.Definition.{Definition}
 use Rattle.ui_machine.specs.Definition.Kinds.{Kind}
 use Rattle.ui_machine.specs.Definition.Values.{Value}
@@ -8,7 +7,7 @@ use Rattle.ui_machine.specs.Output.Lines as lines
 use Rattle.ui_machine.specs.Output.Text.{text_of_line}
 use Rattle.ui_machine.specs.Rules.Build.{is_making}
 use Rattle.ui_machine.specs.Rules.Programs.{first_frame}
-use Rattle.ui_machine.specs.State.Config.{World, said}
+use Rattle.ui_machine.specs.State.Config.{said}
 use Rattle.ui_machine.specs.State.Tasks.{Task, Running}
 use Rattle.law_typing.specs.Graph.Tables.{of_program}
 use Rattle.law_typing.specs.Laws.StepsKeepGood.{IsGood}

@@ -1,5 +1,5 @@
 -- A program begins in front of other tasks: it takes what it is given, and is good within its cost and depth.
-use Rattle.std.proofs.Common.{◌≡◌, refl, sym, ap, subst, ◌∙◌, ℕ, Bool, true, false, cond, List, [], ◌∷◌, ◌++◌, length, map, Option, None, Some, arith}
+use Rattle.std.proofs.Common.{◌≡◌, refl, sym, ap, subst, ◌∙◌, ℕ, Bool, true, false, cond, List, [], ◌∷◌, ◌++◌, map, Option, None, Some}
 use Rattle.std.proofs.lemmas.Bool.{eq-eqb}
 use Rattle.std.specs.List.{find}
 use Rattle.ui_machine.specs.Definition.{Definition}
@@ -15,7 +15,7 @@ use Rattle.ui_machine.specs.Rules.Transform.{kind_fits}
 use Rattle.ui_machine.specs.State.Config.{World, said, starts}
 use Rattle.ui_machine.specs.State.Tasks.{Task, Running}
 use Rattle.law_typing.specs.Rules.Brackets.{opened, is_bracketed, is_empty}
-use Rattle.law_typing.specs.Rules.RegisterKinds.{Kinds, covers}
+use Rattle.law_typing.specs.Rules.RegisterKinds.{Kinds}
 use Rattle.law_typing.specs.Rules.Signatures.{is_taken_by, parameters_fit, result_fits, takes}
 use Rattle.law_typing.specs.Graph.Tables.{of_program}
 use Rattle.law_typing.specs.Verdict.Accepted.{Each, Accepted}

@@ -1,6 +1,5 @@
 -- A task is done, and nothing takes its place.
-use Rattle.std.proofs.Common.{◌≡◌, refl, sym, ℕ, ◌+◌, List, ◌∷◌, Option, arith}
-use Rattle.ui_machine.specs.Seq.{total}
+use Rattle.std.proofs.Common.{◌≡◌, refl, ℕ, List, ◌∷◌, Option, arith}
 use Rattle.ui_machine.specs.Definition.{Definition}
 use Rattle.ui_machine.specs.Definition.Values.{Value}
 use Rattle.ui_machine.specs.Rules.Build.{is_making}

@@ -1,16 +1,16 @@
 -- What is good where a task is the first one, and what is to be shown of the world and the agenda that its step leaves.
-use Rattle.std.proofs.Common.{◌≡◌, refl, sym, ap, subst, ◌∙◌, ℕ, zero, suc, ◌+◌, ◌<◌, ◌≤◌, List, [], ◌∷◌, length, drop, Option, None, Some, Ok, arith}
+use Rattle.std.proofs.Common.{◌≡◌, refl, sym, ap, subst, ℕ, zero, suc, ◌+◌, ◌<◌, ◌≤◌, List, [], ◌∷◌, length, drop, Option, None, Ok, arith}
 use Rattle.std.specs.Prelude.{⊤}
 use Rattle.ui_machine.specs.Seq.{total}
 use Rattle.ui_machine.specs.Definition.{Definition}
 use Rattle.ui_machine.specs.Definition.Values.{Value}
-use Rattle.ui_machine.specs.State.Objects.{Object, living, live}
+use Rattle.ui_machine.specs.State.Objects.{live}
 use Rattle.ui_machine.specs.State.Peers.{Reply}
 use Rattle.ui_machine.specs.State.References.{mentions, next_unheld}
 use Rattle.ui_machine.specs.State.Tasks.{Task}
 use Rattle.ui_machine.specs.State.Config.{World, Config}
 use Rattle.ui_machine.specs.Rules.Build.{to_make}
-use Rattle.ui_machine.specs.Steps.{act, first_of, step, most_steps}
+use Rattle.ui_machine.specs.Steps.{act, first_of, most_steps}
 use Rattle.law_typing.specs.Graph.{graph}
 use Rattle.law_typing.specs.Graph.Channels.{property}
 use Rattle.law_typing.specs.Graph.Tables.{Tables, entry}

@@ -1,5 +1,5 @@
 -- A binding is set free: it stands as it stood, but does not set.
-use Rattle.std.proofs.Common.{◌≡◌, refl, sym, ap, subst, ◌∙◌, ℕ, zero, suc, ◌+◌, ◌<◌, ◌≤◌, Bool, true, false, cond, List, [], ◌∷◌, length, Option, None, Some, Ok, arith}
+use Rattle.std.proofs.Common.{◌≡◌, refl, sym, ap, subst, ◌∙◌, ℕ, ◌+◌, Bool, true, false, cond, List, [], ◌∷◌, length, Some, arith}
 use Rattle.std.specs.Prelude.{nat_eq}
 use Rattle.ui_machine.specs.Seq.{total}
 use Rattle.ui_machine.specs.Definition.{Definition}
@@ -12,7 +12,7 @@ use Rattle.law_typing.specs.Verdict.Accepted.{Each}
 use Rattle.law_typing.specs.Good.Standing.{View, view}
 use Rattle.law_typing.specs.Good.Objects.{ObjectsGood, PeersGood}
 use Rattle.law_typing.specs.Good.ComingDown.{Down, none, down}
-use Rattle.law_typing.specs.Good.Emissions.{TurnGood, EmittingGood}
+use Rattle.law_typing.specs.Good.Emissions.{TurnGood}
 use Rattle.law_typing.specs.Good.Agenda.{TaskGood, AgendaGood}
 use Rattle.law_typing.specs.Good.Builds.{is_for_builder}
 use Rattle.law_typing.specs.Good.Handlers.{ChannelGood, HandlersGood}
@@ -24,7 +24,7 @@ use Rattle.law_kept.proofs.BindingsProofs.{binding_unset}
 use Rattle.law_kept.proofs.AlikeProofs.{build_stays}
 use Rattle.law_kept.proofs.Left.{each_to}
 use Rattle.law_instructions.proofs.Ended.{lowest_falls}
-use Rattle.law_tasks.proofs.First.{First, none_later, good_of, fine_where, StepIsFine, fine_of, costs, depths, most}
+use Rattle.law_tasks.proofs.First.{First, none_later, good_of, StepIsFine, fine_of, costs, depths, most}
 use Rattle.law_tasks.specs.Freeing.{FreeingsAreFine}
 
 -- ** the binding that a number finds

@@ -1,5 +1,5 @@
 -- Tasks that hold nothing frozen stand above the lowest one that does.
-use Rattle.std.proofs.Common.{◌≡◌, refl, ap, ℕ, ◌+◌, ◌<◌, Bool, true, false, cond, List, ◌∷◌, arith}
+use Rattle.std.proofs.Common.{◌≡◌, refl, ℕ, ◌<◌, Bool, true, false, cond, List, ◌∷◌, arith}
 use Rattle.std.specs.Prelude.{nat_eq}
 use Rattle.std.proofs.lemmas.Bool.{eqb-true}
 use Rattle.ui_machine.specs.Seq.{total}

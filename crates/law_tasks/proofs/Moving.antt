@@ -1,6 +1,5 @@
 -- Agendas that differ in the transfers that are under way: what handlers and bindings read of them.
-use Rattle.std.proofs.Common.{◌≡◌, refl, ap, ◌∙◌, ℕ, suc, ◌+◌, ◌<◌, Bool, true, false, cond, List, [], ◌∷◌, length, Option, None, Some, arith}
-use Rattle.std.specs.Prelude.{nat_eq, ◌&&◌}
+use Rattle.std.proofs.Common.{◌≡◌, refl, ◌∙◌, ℕ, suc, Bool, List, [], ◌∷◌, Option, None, Some, arith}
 use Rattle.ui_machine.specs.Seq.{total}
 use Rattle.ui_machine.specs.Definition.{Definition}
 use Rattle.ui_machine.specs.Definition.Places.{Bind}
@@ -13,7 +12,7 @@ use Rattle.law_typing.specs.Graph.{Raised, graph, place_of_channel}
 use Rattle.law_typing.specs.Graph.Channels.{Channel, source_of}
 use Rattle.law_typing.specs.Graph.Tables.{Tables}
 use Rattle.law_typing.specs.Good.Standing.{Standing}
-use Rattle.law_typing.specs.Good.DueCosts.{unsets, is_setting_from, is_setting_below, has_end, transfer_cost, transfer_depth}
+use Rattle.law_typing.specs.Good.DueCosts.{unsets, is_setting_from, transfer_cost, transfer_depth}
 use Rattle.law_typing.specs.Good.Handlers.{connecting_cost, ChannelGood, HandlersGood}
 use Rattle.law_typing.specs.Good.Bindings.{is_binding, BindingGood, BindingsGood}
 use Rattle.law_kept.proofs.Left.{each_to}

@@ -1,9 +1,8 @@
 -- Where nothing is left to do, the lowest object that floats is let go.
-use Rattle.std.proofs.Common.{◌≡◌, refl, sym, subst, ℕ, Bool, true, false, cond, List, [], ◌∷◌, Option, None, arith}
+use Rattle.std.proofs.Common.{refl, sym, subst, ℕ, Bool, true, false, cond, List, [], ◌∷◌, arith}
 use Rattle.std.specs.Prelude.{nat_eq}
 use Rattle.ui_machine.specs.Definition.{Definition}
-use Rattle.ui_machine.specs.State.Config.{World, Config, without, sunk}
-use Rattle.ui_machine.specs.State.Peers.{Reply}
+use Rattle.ui_machine.specs.State.Config.{World, without}
 use Rattle.ui_machine.specs.Steps.{first_of, settling}
 use Rattle.law_typing.specs.Graph.Tables.{Tables}
 use Rattle.law_typing.specs.Verdict.Accepted.{Each}

@@ -1,5 +1,5 @@
 -- A due source, and a construction, start a program.
-use Rattle.std.proofs.Common.{◌≡◌, refl, sym, ap, subst, ◌∙◌, ℕ, ◌+◌, ◌≤◌, Bool, true, false, List, [], ◌∷◌, Option, None, Some, arith}
+use Rattle.std.proofs.Common.{◌≡◌, refl, sym, ap, subst, ◌∙◌, ℕ, ◌+◌, Bool, true, List, [], ◌∷◌, Option, None, Some, arith}
 use Rattle.std.specs.Prelude.{option_map}
 use Rattle.ui_machine.specs.Seq.{total}
 use Rattle.ui_machine.specs.Definition.{Definition}
@@ -12,15 +12,15 @@ use Rattle.ui_machine.specs.Rules.MainLoop.{source_data, sourcing}
 use Rattle.ui_machine.specs.Rules.Programs.{program_before}
 use Rattle.ui_machine.specs.State.Config.{World, said}
 use Rattle.ui_machine.specs.State.Sources.{Source, source_of, is_numbered}
-use Rattle.ui_machine.specs.State.Tasks.{Making, runs, Task, Constructing, Due, Answering}
+use Rattle.ui_machine.specs.State.Tasks.{Making, runs, Constructing, Due, Answering}
 use Rattle.ui_machine.specs.Steps.{uncounted}
 use Rattle.law_typing.specs.Rules.Signatures.{data_kinds, result_fits}
-use Rattle.law_typing.specs.Good.Standing.{Standing, standing, view, LivesIf}
+use Rattle.law_typing.specs.Good.Standing.{Standing, standing, LivesIf}
 use Rattle.law_typing.specs.Good.Bindings.{SourceGood}
 use Rattle.law_typing.specs.Good.Builds.{step_cost}
 use Rattle.law_typing.specs.Good.Handlers.{data_kind}
 use Rattle.law_static.specs.Fits.{AllHold}
-use Rattle.law_tasks.proofs.First.{First, fine_where, StepIsFine, fine_of, costs, depths}
+use Rattle.law_tasks.proofs.First.{First, fine_where, StepIsFine, fine_of, costs}
 use Rattle.law_tasks.proofs.Above.{later, begins_above}
 use Rattle.law_tasks.proofs.Begun.{Begun, begun, stands_hold, each_found}
 use Rattle.law_tasks.specs.Starting.{SourcesAreFine, RunsAreFine}

@@ -1,18 +1,18 @@
 -- The turn of an emission that begins a transfer of a binding, or is passed over.
-use Rattle.std.proofs.Common.{◌≡◌, refl, sym, ap, subst, ◌∙◌, ℕ, ◌+◌, ◌<◌, ◌≤◌, Bool, true, false, List, [], ◌∷◌, ◌++◌, length, Option, None, Some, slice_get, arith}
+use Rattle.std.proofs.Common.{◌≡◌, refl, sym, ap, subst, ◌∙◌, ℕ, ◌+◌, Bool, true, false, List, [], ◌∷◌, ◌++◌, length, Option, None, Some, slice_get, arith}
 use Rattle.ui_machine.specs.Seq.{total}
 use Rattle.ui_machine.specs.Definition.{Definition}
 use Rattle.ui_machine.specs.Rules.Build.{of_items}
 use Rattle.ui_machine.specs.Rules.Transfers.{transfer_for}
 use Rattle.ui_machine.specs.State.Bindings.{Binding, binding_of}
-use Rattle.ui_machine.specs.State.Config.{World, starts}
+use Rattle.ui_machine.specs.State.Config.{starts}
 use Rattle.ui_machine.specs.State.Tasks as config
 use Rattle.ui_machine.specs.State.Tasks.{Item, PlanEntry, Emission, Task, Emitting, Transferring}
 use Rattle.ui_machine.specs.Steps.{uncounted}
 use Rattle.law_typing.specs.Laws.StepsKeepGood.{IsGood}
 use Rattle.law_typing.specs.Good.Standing.{standing, view}
 use Rattle.law_typing.specs.Good.Objects.{PeersGood}
-use Rattle.law_typing.specs.Good.Builds.{is_for_builder, BuildGood}
+use Rattle.law_typing.specs.Good.Builds.{is_for_builder}
 use Rattle.law_typing.specs.Good.DueCosts.{unsets, turn_cost, turn_depth}
 use Rattle.law_typing.specs.Good.Freezes.{PairsGood}
 use Rattle.law_kept.proofs.AlikeProofs.{build_stays}

@@ -1,5 +1,5 @@
 -- The turns of an emission that begin programs, and those that are passed over.
-use Rattle.std.proofs.Common.{◌≡◌, refl, sym, ap, subst, ◌∙◌, ℕ, ◌+◌, ◌<◌, ◌≤◌, Bool, true, false, cond, List, [], ◌∷◌, ◌++◌, length, map, Option, None, Some, Ok, arith}
+use Rattle.std.proofs.Common.{◌≡◌, refl, sym, ap, subst, ◌∙◌, ℕ, ◌+◌, ◌≤◌, Bool, true, false, cond, List, [], ◌∷◌, ◌++◌, map, Option, None, Some, arith}
 use Rattle.std.specs.Prelude.{nat_eq, nat_lt, option_map, ◌||◌}
 use Rattle.ui_machine.specs.Seq.{total}
 use Rattle.ui_machine.specs.Definition.{Definition}
@@ -7,13 +7,12 @@ use Rattle.ui_machine.specs.Definition.Kinds.{Kind}
 use Rattle.ui_machine.specs.Definition.Kinds as kinds
 use Rattle.ui_machine.specs.Definition.Values.{Value}
 use Rattle.ui_machine.specs.Definition.Signals.{Signal}
-use Rattle.ui_machine.specs.Outcome.{Answer}
 use Rattle.ui_machine.specs.Output.Lines as lines
 use Rattle.ui_machine.specs.Rules.Accumulation.{instance_of, data_of, given_to, in_stage, running_handler}
 use Rattle.ui_machine.specs.Rules.EmissionPlan.{signal_of}
 use Rattle.ui_machine.specs.Rules.Programs.{all_fit, first_frame}
 use Rattle.ui_machine.specs.Rules.Transform.{kind_fits}
-use Rattle.ui_machine.specs.State.Config.{World, Started, said}
+use Rattle.ui_machine.specs.State.Config.{said}
 use Rattle.ui_machine.specs.State.Handlers.{Handler, handler_of}
 use Rattle.ui_machine.specs.State.Tasks as config
 use Rattle.ui_machine.specs.State.Tasks.{PlanEntry, class_handler, handler, Emission, Task, Emitting, Running}
@@ -24,15 +23,13 @@ use Rattle.law_typing.specs.Graph.Tables.{of_program}
 use Rattle.law_typing.specs.Verdict.Accepted.{Each}
 use Rattle.law_typing.specs.Laws.StepsKeepGood.{IsGood}
 use Rattle.law_typing.specs.Good.Standing.{Standing, standing, view, class_by, LivesIf}
-use Rattle.law_typing.specs.Good.ComingDown.{Down, none, given, down, result_of_program}
+use Rattle.law_typing.specs.Good.ComingDown.{given}
 use Rattle.law_typing.specs.Good.DueCosts.{turn_cost, turn_depth}
-use Rattle.law_typing.specs.Good.Handlers.{Takes, HandlerGood, data_kind}
+use Rattle.law_typing.specs.Good.Handlers.{HandlerGood, data_kind}
 use Rattle.law_typing.specs.Good.Emissions.{EmissionFits, TurnGood, EmittingGood}
-use Rattle.law_typing.specs.Good.Agenda.{AgendaGood}
-use Rattle.law_typing.specs.Good.Freezes.{frozen_by, below_lowest}
 use Rattle.law_kept.specs.Alike.{Alike}
 use Rattle.law_static.specs.Fits.{AllHold}
-use Rattle.law_tasks.proofs.First.{First, good_of, fine_where, StepIsFine, fine_of, whole_told, pool_alike, build_alike, costs, depths, most}
+use Rattle.law_tasks.proofs.First.{First, good_of, fine_where, StepIsFine, fine_of, whole_told, pool_alike, build_alike, costs, depths}
 use Rattle.law_tasks.proofs.Above.{later, begins_above}
 use Rattle.law_tasks.proofs.Begun.{Begun, begun, hold_both, args_hold, stands_hold, each_found}
 use Rattle.law_tasks.specs.Turns.{ClassHandlersAreFine, HandlersAreFine}

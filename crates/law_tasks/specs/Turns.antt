@@ -1,5 +1,5 @@
 -- The task that is the rest of an emission: its turns, and its end.
-use Rattle.std.specs.Prelude.{ℕ, Bool, List, [], ◌∷◌}
+use Rattle.std.specs.Prelude.{ℕ, Bool, List, ◌∷◌}
 use Rattle.ui_machine.specs.State.Tasks.{PlanEntry, class_handler, handler, Emission, Emitting}
 use Rattle.ui_machine.specs.State.Tasks as config
 use Rattle.law_tasks.specs.First.{IsFine}

@@ -4,7 +4,7 @@ use Rattle.std.specs.Prelude.{ℕ, suc, Bool, true, false, cond, not, ◌&&◌, 
 use Rattle.std.specs.List.{list_any, flat_map}
 use Rattle.ui_machine.specs.Definition.{Definition}
 use Rattle.ui_machine.specs.Definition.Programs.{Instruction, Block, Program}
-use Rattle.ui_machine.specs.Definition.Places.{Bind, Place}
+use Rattle.ui_machine.specs.Definition.Places.{Bind}
 use Rattle.ui_machine.specs.Definition.Programs as words
 use Rattle.law_typing.specs.Rules.RegisterKinds.{Kinds, kind_in, places}
 use Rattle.law_typing.specs.Graph.Channels.{is_pair}

@@ -11,7 +11,7 @@ use Rattle.ui_machine.specs.Definition.Properties.{Spec, is_readable, is_writabl
 use Rattle.ui_machine.specs.Definition.{Definition}
 use Rattle.ui_machine.specs.Definition.Signals.{Signal, Method, Shape}
 use Rattle.ui_machine.specs.Definition.Programs.{Connect, Instruction, Block, Program}
-use Rattle.ui_machine.specs.Definition.Places.{Place, Bind}
+use Rattle.ui_machine.specs.Definition.Places.{Bind}
 use Rattle.ui_machine.specs.Definition.Programs as words
 use Rattle.ui_machine.specs.Definition.Lookups.{slot_of, spec_of, program_at, program_of, place_at, place_of}
 use Rattle.ui_machine.specs.Rules.EmissionPlan.{signal_of}
