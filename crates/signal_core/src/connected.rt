@@ -5,6 +5,10 @@ ghost use Rattle.ui_machine.specs.Rules.Connections.{blocked, by_code_to, is_on,
 ghost use Rattle.ui_machine.specs.Rules.Disposal.{is_identity, is_of_object};
 
 use crate::connection::Connection;
+use crate::cursor::Cursor;
+use crate::stage::Stage;
+use crate::step::Step;
+use crate::turn::Turn;
 use std::marker::Model;
 use ui_machine::ObjectId;
 
@@ -28,6 +32,7 @@ impl Model for Handler {
 
 impl Handler {
     ghost use Rattle.signal_core.specs.Connected.{connection_of};
+    ghost use Rattle.signal_core.specs.Emission.{has_next_turn, is_ahead, of_handler};
     ghost use Rattle.ui_machine.specs.Rules.Connections.{new_handler};
 
     /// A handler that nothing blocks.
@@ -69,6 +74,44 @@ impl Handler {
         match self.connection.data {
             Some(data) => data == object,
             None => false,
+        }
+    }
+
+    pub(crate) fn number(&self) -> u64
+        ensures { result ≡ self.now.number }
+    {
+        self.number
+    }
+
+    // Whether it is still to come in an emission, after the number `given`: before the class handler, or after it.
+    fn is_ahead(&self, cursor: &Cursor, given: u64, after: bool) -> bool
+        ensures { result ≡ is_ahead cursor.now given after self.now }
+    {
+        let to = &self.connection;
+        cursor.is_ahead(self.number, given)
+            && (cursor.is_of(to.object, to.signal)
+                && cursor.has_detail_for(&to.detail)
+                && to.after == after)
+    }
+
+    /// Whether it has the next turn of such an emission, if none before it has: it is to come and not blocked.
+    pub(crate) fn has_next_turn(&self, cursor: &Cursor, given: u64, after: bool) -> bool
+        ensures { result ≡ has_next_turn cursor.now given after self.now }
+    {
+        self.is_ahead(cursor, given, after) && self.blocks == 0
+    }
+
+    /// Its step in an emission, which is there once it is taken.
+    pub(crate) fn step(&self, then_at: Stage) -> Step
+        ensures { result ≡ (of_handler (λ number. then_at) self.now).step }
+    {
+        Step {
+            turn: Turn::Handler {
+                program: self.connection.program,
+                swapped: self.connection.swapped,
+                arg: self.connection.data,
+            },
+            then_at,
         }
     }
 

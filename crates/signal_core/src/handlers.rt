@@ -1,11 +1,13 @@
 //! The handlers that are connected.
 
-ghost use Rattle.std.specs.Prelude.{◌≡◌, ◌↔◌, ◌+◌, OnOk, OnErr, IfOk, cond, count_by, false};
+ghost use Rattle.std.specs.Prelude.{◌≡◌, ◌↔◌, ◌+◌, OnOk, OnErr, IfOk, cond, count_by, false, option_map};
+ghost use Rattle.std.specs.List.{find};
 ghost use Rattle.ui_machine.specs.Rules.Connections.{by_code_to, is_on};
 ghost use Rattle.ui_machine.specs.Rules.Disposal.{is_of_object};
 
 use crate::connected::Handler;
 use crate::connection::Connection;
+use crate::cursor::Cursor;
 use crate::fault::ConnectError;
 use std::alloc::Global;
 use std::marker::Model;
@@ -35,6 +37,7 @@ impl Model for Handlers {
 impl Handlers {
     ghost use Rattle.signal_core.specs.Connected.{none_connected, connection_of, has_room, has_room_for_code, with_connection};
     ghost use Rattle.signal_core.specs.Connected.{without_matched, with_blocked, with_unblocked, without_object};
+    ghost use Rattle.signal_core.specs.Emission.{has_next_turn};
 
     /// No handlers. Bytecode may connect so many to one signal of an object, and the builder is to connect so many. It takes no memory.
     pub fn new(alloc: Global, most: u32, to_come: u64) -> Self
@@ -69,6 +72,23 @@ impl Handlers {
             self.to_come = self.to_come.saturating_sub(1);
         }
         Ok(number)
+    }
+
+    /// The number of the handler that was connected last.
+    pub(crate) fn last(&self) -> u64
+        ensures { result ≡ self.now.last }
+    {
+        self.last
+    }
+
+    /// The next handler of an emission after the number `given`, before the class handler or after it, that is not blocked.
+    pub(crate) fn next_handler(&self, cursor: &Cursor, given: u64, after: bool) -> Option<&Handler>
+        ensures { option_map (λ h. h.now) result
+            ≡ find (has_next_turn cursor.now given after) self.now.handlers }
+    {
+        self.connected
+            .iter()
+            .find(|handler| handler.has_next_turn(cursor, given, after))
     }
 
     // The number that a handler would get, if it may be connected.

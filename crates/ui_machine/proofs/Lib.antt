@@ -1,3 +1,4 @@
 pub mod Mapped
 pub mod Listed
 pub mod Prefixes
+pub mod Names

@@ -1,5 +1,5 @@
 use Rattle.std.proofs.Common.{refl}
-use Rattle.bindings.proofs.Names.{pointwise_same_name}
+use Rattle.ui_machine.proofs.Names.{pointwise_same_name}
 use Rattle.bindings.proofs.bound.Bound.is_called.Goals as goal
 
 pub returns-in-Some : goal.returns-in-Some

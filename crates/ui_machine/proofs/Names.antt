@@ -1,4 +1,4 @@
--- Names that are compared.
+-- The comparison of texts, where they are names.
 use Rattle.std.proofs.Common.{◌≡◌, ℕ, Bool, true, false, cond, ◌&&◌, List, [], ◌∷◌, refl, nat_eq}
 use Rattle.std.specs.Cmp.Lexicographic.{pointwise}
 use Rattle.ui_machine.specs.Definition.Names.{same_name}

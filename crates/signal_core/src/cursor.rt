@@ -1,0 +1,176 @@
+//! An emission that goes on.
+
+ghost use Rattle.std.specs.Prelude.{◌≡◌, ◌&&◌, nat_eq, nat_le, nat_lt, option_map, string_bytes};
+ghost use Rattle.g_values.specs.View.{value_view};
+ghost use Rattle.ui_machine.specs.Definition.Properties.{has_flags};
+ghost use Rattle.ui_machine.specs.Rules.Accumulation.{is_last};
+ghost use Rattle.ui_machine.specs.Rules.EmissionPlan.{fits_detail};
+
+use crate::emission::{Accumulator, Emission};
+use crate::flags::SignalFlags;
+use crate::stage::Stage;
+use crate::step::Step;
+use crate::turn::Turn;
+use bitflags::Flags;
+use g_values::Value;
+use std::marker::Model;
+use ui_machine::ObjectId;
+
+/// Where an emission is, and the value that it has accumulated. It has no list of its turns, and takes no memory.
+///
+/// It goes by the numbers of handlers: those above the one that had its turn last are to come, up to the last one that was connected before
+/// the emission began.
+#[derive(Debug, Drop)]
+pub struct Cursor {
+    emission: Emission,
+    greatest: u64,
+    stage: Stage,
+    value: Option<Value>,
+}
+
+impl Model for Cursor {
+    ghost use Rattle.signal_core.specs.Emission.{Walk, walk_of};
+
+    ghost Value = { Walk };
+
+    ghost view = { λ c. walk_of c.emission c.greatest c.stage c.value };
+}
+
+impl Cursor {
+    ghost use Rattle.signal_core.specs.Emission.{begun, first_step, from_cleanup, of_bindings, of_class, stage_after, stopped, with_value};
+
+    /// An emission at its beginning. The last handler that was connected has the number `greatest`.
+    pub(crate) fn new(emission: Emission, greatest: u64) -> Self
+        ensures { result ≡ begun emission greatest }
+    {
+        Cursor {
+            emission,
+            greatest,
+            stage: Stage::First,
+            value: None,
+        }
+    }
+
+    pub(crate) fn stage(&self) -> Stage
+        ensures { result ≡ self.now.stage }
+    {
+        self.stage
+    }
+
+    /// Whether a handler under this number was connected before the emission began, and is after the number `given`.
+    pub(crate) fn is_ahead(&self, number: u64, given: u64) -> bool
+        ensures { result ≡ (nat_lt given number && nat_le number self.now.greatest) }
+    {
+        given < number && number <= self.greatest
+    }
+
+    /// Whether it is an emission of this signal of the object.
+    pub(crate) fn is_of(&self, object: ObjectId, signal: u16) -> bool
+        ensures { result ≡ (nat_eq object.0 self.now.object && nat_eq signal self.now.signal) }
+    {
+        self.emission.object == object && self.emission.signal == signal
+    }
+
+    /// Whether a handler of this detail runs in the emission.
+    pub(crate) fn has_detail_for(&self, detail: &Option<String>) -> bool
+        ensures { result ≡ fits_detail (option_map (λ d. string_bytes d) detail.now) self.now.detail }
+    {
+        let Some(detail) = detail else {
+            return true;
+        };
+        match &self.emission.detail {
+            None => false,
+            Some(own) => detail.as_str() == own.as_str(),
+        }
+    }
+
+    /// The class handler's step, if it runs under these flags.
+    pub(crate) fn class_step(&self, flags: SignalFlags, then_at: Stage) -> Option<Step>
+        ensures { result
+            ≡ first_step (of_class (has_flags flags.0 self.now.flags) self.now.class_program then_at) }
+    {
+        let program = self.emission.class_program?;
+        if self.emission.flags.contains(flags) {
+            Some(Step {
+                turn: Turn::Class(program),
+                then_at,
+            })
+        } else {
+            None
+        }
+    }
+
+    /// The step of the bindings, in a notification.
+    pub(crate) fn transfers_step(&self) -> Option<Step>
+        ensures { result ≡ first_step (of_bindings self.now) }
+    {
+        if self.emission.signal == 0 {
+            Some(Step {
+                turn: Turn::Transfers,
+                then_at: Stage::Before(0),
+            })
+        } else {
+            None
+        }
+    }
+
+    /// The step of the cleanup.
+    pub(crate) fn from_cleanup(&self) -> Option<Step>
+        ensures { result ≡ first_step (from_cleanup self.now) }
+    {
+        self.class_step(SignalFlags::RUN_CLEANUP, Stage::Over)
+    }
+
+    /// Goes on with a step. Without one the emission is over.
+    pub(crate) fn go_on(&mut self, step: Option<Step>)
+        ensures { self.new ≡ record self.old { stage = stage_after step } }
+    {
+        self.stage = match step {
+            Some(step) => step.then_at,
+            None => Stage::Over,
+        };
+    }
+
+    /// Stops the emission: what is left of it is its cleanup stage. In that it does nothing (GObject manual, Signals: `g_signal_stop_emission`).
+    pub fn stop(&mut self)
+        ensures { self.new ≡ stopped self.old }
+    {
+        if self.stage != Stage::Over {
+            self.stage = Stage::Cleanup;
+        }
+    }
+
+    /// Takes the value that the program of the last turn gave. The accumulator may stop the emission by it. In the cleanup stage the value is
+    /// dropped.
+    pub fn accumulate(&mut self, value: Value)
+        ensures { self.new ≡ with_value (value_view value) self.old }
+    {
+        if self.stage == Stage::Over {
+            return;
+        }
+        let is_last = self.ends_by(&value);
+        self.value = Some(value);
+        if is_last {
+            self.stop();
+        }
+    }
+
+    /// The value that the emission has accumulated.
+    pub fn value(self) -> Option<Value>
+        ensures { option_map (λ v. value_view v) result ≡ self.value }
+    {
+        let Cursor { value, .. } = self;
+        value
+    }
+
+    // Whether the accumulator stops the emission by a value.
+    fn ends_by(&self, value: &Value) -> bool
+        ensures { result ≡ is_last self.now.accumulator (value_view value.now) }
+    {
+        match self.emission.accumulator {
+            None => false,
+            Some(Accumulator::FirstWins) => true,
+            Some(Accumulator::TrueHandled) => matches!(value, Value::Bool(true)),
+        }
+    }
+}

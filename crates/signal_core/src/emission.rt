@@ -1,0 +1,31 @@
+//! What an emission begins with.
+
+use crate::flags::SignalFlags;
+use ui_machine::ObjectId;
+
+/// How the results of an emission's programs are put together (GObject manual, Signals: GSignalAccumulator). Without an accumulator the last
+/// one stands.
+#[derive(Clone, Copy, Debug, PartialEq, Eq)]
+pub enum Accumulator {
+    /// The last one, and the emission stops at the first that is TRUE (`g_signal_accumulator_true_handled`).
+    TrueHandled,
+    /// The first one, and the emission stops there (`g_signal_accumulator_first_wins`).
+    FirstWins,
+}
+
+/// An emission that is to begin (GObject manual, Signals: `g_signal_emit`).
+#[derive(Debug, Drop)]
+pub struct Emission {
+    /// The object that emits.
+    pub object: ObjectId,
+    /// The signal, by its number in the list of the object's class; 0 is `notify`.
+    pub signal: u16,
+    /// The detail. Of `notify` it is the canonical name of a property.
+    pub detail: Option<String>,
+    /// The flags of the signal.
+    pub flags: SignalFlags,
+    /// The accumulator of the signal.
+    pub accumulator: Option<Accumulator>,
+    /// The program that the object's class runs for the signal.
+    pub class_program: Option<u16>,
+}

@@ -1,0 +1,11 @@
+//! A step of an emission.
+
+use crate::stage::Stage;
+use crate::turn::Turn;
+
+/// A turn, and where the emission is once it is taken.
+#[derive(Clone, Copy, Debug, PartialEq, Eq)]
+pub(crate) struct Step {
+    pub(crate) turn: Turn,
+    pub(crate) then_at: Stage,
+}
