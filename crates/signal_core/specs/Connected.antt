@@ -1,6 +1,6 @@
 -- What a list of handlers stands for, and what its calls do.
 use Rattle.std.specs.List.{filter}
-use Rattle.std.specs.Prelude.{Bool, List, [], cond, count_by, map, nat_lt, not, option_map, string_bytes, suc, ℕ, ◌&&◌, ◌+◌, ◌++◌, ◌-◌, ◌≤◌, ◌∷◌}
+use Rattle.std.specs.Prelude.{Bool, List, [], cond, count_by, map, nat_lt, not, option_map, string_bytes, suc, ℕ, ◌&&◌, ◌+◌, ◌++◌, ◌-◌, ◌<◌, ◌≤◌, ◌∷◌}
 use Rattle.ui_machine.specs.Rules.Connections.{blocked, by_code_to, greatest_handler, is_on, new_handler, unblocked}
 use Rattle.ui_machine.specs.Rules.Connections as machine
 use Rattle.ui_machine.specs.Rules.Disposal.{is_of_object}
@@ -30,6 +30,11 @@ connection_of c = record {
 -- a handler under its number, with so many blocks
 abbrev pub handler_of : (number blocks : ℕ) → Connection → Handler
 handler_of number blocks c = record (new_handler number (connection_of c)) { blocks = blocks }
+
+-- numbers rise, from above this one up to the last at most
+abbrev pub Numbered : (above : ℕ) → List Handler → (last : ℕ) → Type 0
+Numbered above [] last = above ≤ last
+Numbered above (h ∷ hs) last = (above < h.number) × Numbered h.number hs last
 
 -- no handlers
 abbrev pub none_connected : (most to_come : ℕ) → Connected

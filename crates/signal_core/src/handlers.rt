@@ -25,13 +25,13 @@ pub struct Handlers {
 }
 
 impl Model for Handlers {
-    ghost use Rattle.signal_core.specs.Connected.{Connected, HasNumbers};
+    ghost use Rattle.signal_core.specs.Connected.{Connected, HasNumbers, Numbered};
 
     ghost Value = { Connected };
 
     ghost view = { λ h. record { handlers = h.connected.items; last = h.last; to_come = h.to_come; most = h.most } };
 
-    ghost invariant = { λ h. HasNumbers h.last h.to_come };
+    ghost invariant = { λ h. HasNumbers h.last h.to_come × Numbered 0 h.connected.items h.last };
 }
 
 impl Handlers {
