@@ -59,3 +59,8 @@ pub numbered_next : (hs new : List Handler) (last number : ℕ) (h : Handler) �
     Numbered 0 hs last → Numbered 0 new number
 numbered_next hs new last number h e same next n =
     rw (e, ← same) (numbered_push 0 hs last h (omega (arith, same, next)) n)
+
+-- the last number is above all
+pub numbered_within : (above : ℕ) (hs : List Handler) (last : ℕ) → Numbered above hs last → above ≤ last
+numbered_within above [] last n = n
+numbered_within above (h ∷ hs) last n = let within = numbered_within h.number hs last n.1 in omega (arith, n.0, within)

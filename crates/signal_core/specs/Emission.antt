@@ -114,19 +114,20 @@ from_transfers w hs = of_bindings w ++ from_before 0 w hs
 abbrev pub from_first : Walk → List Handler → List Due
 from_first w hs = of_class (has_flags 1 w.flags) w.class_program stages.Transfers ++ from_transfers w hs
 
--- all that are still to come: the class handler if RUN_FIRST; a notification's transfers; the handlers; the class handler if RUN_LAST;
--- the handlers connected after; the class handler if RUN_CLEANUP
+-- from a stage on: the class handler if RUN_FIRST; a notification's transfers; the handlers; the class handler if RUN_LAST; the handlers
+-- connected after; the class handler if RUN_CLEANUP
+abbrev pub turns_from : Stage → Walk → List Handler → List Due
+turns_from stages.First w hs = from_first w hs
+turns_from stages.Transfers w hs = from_transfers w hs
+turns_from (stages.Before given) w hs = from_before given w hs
+turns_from stages.Last w hs = from_last w hs
+turns_from (stages.After given) w hs = from_after given w hs
+turns_from stages.Cleanup w hs = from_cleanup w
+turns_from stages.Over w hs = []
+
+-- all that are still to come
 abbrev pub to_come : Walk → List Handler → List Due
-to_come w hs = from w.stage
-  where
-    from : Stage → List Due
-    from stages.First = from_first w hs
-    from stages.Transfers = from_transfers w hs
-    from (stages.Before given) = from_before given w hs
-    from stages.Last = from_last w hs
-    from (stages.After given) = from_after given w hs
-    from stages.Cleanup = from_cleanup w
-    from stages.Over = []
+to_come w hs = turns_from w.stage w hs
 
 -- ** what the calls do
 
