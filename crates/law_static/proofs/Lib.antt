@@ -8,6 +8,7 @@ pub mod FitsProofs
 pub mod CodeProofs
 pub mod BeginProofs
 pub mod RaisesProofs
+pub mod MeansProofs
 pub mod PairCostProofs
 pub mod NotifyCostProofs
 pub mod AbsentProofs

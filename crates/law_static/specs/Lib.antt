@@ -8,3 +8,4 @@ pub mod Raises
 pub mod NotifyCost
 pub mod MakingCost
 pub mod Starts
+pub mod Means

@@ -1,0 +1,5 @@
+use Rattle.law_static.proofs.MeansProofs.{handlers_mean, raised_known}
+use Rattle.law_static.proofs.meanings.Goals as goal
+
+pub returns : goal.returns
+returns c = record { handlers = handlers_mean; raised = raised_known }
