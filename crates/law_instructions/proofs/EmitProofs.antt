@@ -127,7 +127,7 @@ given d types s ks f fit (a ∷ more) (p ∷ ps) next e =
 
 -- ** what the machine does
 
-detail_stands : (d : Definition) (w : World) (id number : ℕ) (o : Object) (s : Signal) (detail : Option (List ℕ)) → living w.objects id ≡ Some o → signal_of d o.class number ≡ Some s →
+pub detail_stands : (d : Definition) (w : World) (id number : ℕ) (o : Object) (s : Signal) (detail : Option (List ℕ)) → living w.objects id ≡ Some o → signal_of d o.class number ≡ Some s →
     may_stand d o.class number s detail ≡ true → detail_in d w id number detail ≡ Ok (detail_for number detail)
 unfolding detail_in detail_at signal_at
 detail_stands d w id number o s detail e is stands = rw (e, is, stands) refl
@@ -140,7 +140,7 @@ unfolding emitting signal_to_emit signal_in
 emit_starts d w rest f object e id number o detail vs a b c positive stands given = rw (a, b, c, positive, stands, given) refl
 
 -- a detail that the signal of a type takes may stand at the same one of a class
-stands_too : (d : Definition) (class own type number : ℕ) (s : Signal) (detail : Option (List ℕ)) → 0 < number → 0 < own → takes_detail d type number s detail ≡ true →
+pub stands_too : (d : Definition) (class own type number : ℕ) (s : Signal) (detail : Option (List ℕ)) → 0 < number → 0 < own → takes_detail d type number s detail ≡ true →
     may_stand d class own s detail ≡ true
 stands_too d class own type number s None positive own_positive e = refl
 stands_too d class own type number s (Some x) positive own_positive e =

@@ -27,3 +27,5 @@ pub mod SetProofs
 pub mod NotifyProofs
 pub mod CallProofs
 pub mod FamilyProofs
+pub mod ThawProofs
+pub mod ConnectProofs

@@ -12,3 +12,5 @@ pub mod Setting
 pub mod Notifying
 pub mod Calling
 pub mod Families
+pub mod Thawing
+pub mod Connecting

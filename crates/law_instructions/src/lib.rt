@@ -8,7 +8,9 @@ ghost use Rattle.law_instructions.specs.Attaching.{AttachmentsAreFine};
 ghost use Rattle.law_instructions.specs.Returning.{ReturnsAreFine};
 ghost use Rattle.law_instructions.specs.Stopping.{StopsAreFine};
 ghost use Rattle.law_instructions.specs.Freezing.{FreezesAreFine};
+ghost use Rattle.law_instructions.specs.Thawing.{ThawsAreFine};
 ghost use Rattle.law_instructions.specs.Emitting.{EmitsAreFine};
+ghost use Rattle.law_instructions.specs.Connecting.{ConnectsAreFine};
 ghost use Rattle.law_instructions.specs.Setting.{SetsAreFine};
 ghost use Rattle.law_instructions.specs.Notifying.{NotifiesAreFine};
 ghost use Rattle.law_instructions.specs.Calling.{CallsAreFine};
@@ -56,9 +58,19 @@ pub fn freezing()
     ensures fine { FreezesAreFine }
 {}
 
+/// A program thaws an object: with the last thaw what waited in the queue is due.
+pub fn thawing()
+    ensures fine { ThawsAreFine }
+{}
+
 /// A program emits a signal; it waits for the result, if it takes it.
 pub fn emissions()
     ensures fine { EmitsAreFine }
+{}
+
+/// A program connects a handler, or is told that it was too late or that there is no room.
+pub fn connecting()
+    ensures fine { ConnectsAreFine }
 {}
 
 /// A program sets a property, where nothing is to be finalised first.
