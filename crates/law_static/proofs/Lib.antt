@@ -16,3 +16,5 @@ pub mod MakingCostProofs
 pub mod StartProofs
 pub mod RequestProofs
 pub mod BuildCostProofs
+pub mod AtClass
+pub mod ConstructionProofs

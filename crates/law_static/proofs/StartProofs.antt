@@ -36,7 +36,7 @@ over_has d number_in channel ks object place class number covered is named there
     (in_filter_map (channel_over d number_in channel) ps place (channel place number)
     (ap (λ c. channel_for (channel place) (number_for number_in c)) is ∙ ap (channel_for (channel place)) named) among)
 
-absent_is_flat : (d : Definition) (a : Accepted d) (c : Channel) → is_channel d c ≡ false → entry a.weighed.depths.channels c ≡ 0
+pub absent_is_flat : (d : Definition) (a : Accepted d) (c : Channel) → is_channel d c ≡ false → entry a.weighed.depths.channels c ≡ 0
 absent_is_flat d a c absent =
     ap (λ t. entry t c) a.weighed.solves_depths.channels ∙ no_entry d (channel_depth (graph d) a.weighed.depths) _ c (all_there d) absent
 

@@ -9,3 +9,4 @@ pub mod NotifyCost
 pub mod MakingCost
 pub mod Starts
 pub mod Means
+pub mod Constructions

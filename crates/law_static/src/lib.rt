@@ -12,6 +12,7 @@ ghost use Rattle.law_static.specs.Raises.{ChannelsKnown, ConnectionsKnown, Sourc
 ghost use Rattle.law_static.specs.Means.{HandlersMean, RaisedKnown};
 ghost use Rattle.law_static.specs.Starts.{StartsReach, DueWithin};
 ghost use Rattle.law_static.specs.MakingCost.{AbsentCostsNothing, ConstructionCosts};
+ghost use Rattle.law_static.specs.Constructions.{ConstructionsFit, ConstructionsShallow, ConstructionsThaw};
 ghost use Rattle.law_typing.specs.Laws.StepsKeepGood.{BuildBegins, RequestsBegin, SourcesBegin};
 
 /// What stands under rising numbers is found by its number, and bindings that do cost together no more than those of the definition.
@@ -98,4 +99,12 @@ pub fn starts()
 pub fn making()
     ensures absent { AbsentCostsNothing }
     ensures cheap { ConstructionCosts }
+{}
+
+/// The steps of a construction are good: their values fit and live, their programs take the new object, none goes deeper than what the making
+/// raises, and one of them thaws the object.
+pub fn constructions()
+    ensures fit { ConstructionsFit }
+    ensures shallow { ConstructionsShallow }
+    ensures thaw { ConstructionsThaw }
 {}
