@@ -8,6 +8,7 @@ pub mod BindingsProofs
 pub mod SourcesProofs
 pub mod ChangesProofs
 pub mod NewProofs
+pub mod LentProofs
 pub mod DisposeProofs
 pub mod DisposedProofs
 pub mod FinaliseProofs

@@ -9,4 +9,5 @@ pub mod New
 pub mod Dispose
 pub mod Finalise
 pub mod Connect
+pub mod Lent
 pub mod Family

@@ -6,6 +6,7 @@ ghost use Rattle.law_kept.specs.Handlers.{HandlersLeft, HandlersChanged, LeftAre
 ghost use Rattle.law_kept.specs.Bindings.{BindingsLeft, LeftBindingsFound, BindingSets, BindingUnset, BindingMade};
 ghost use Rattle.law_kept.specs.Sources.{SourceStays, SourcesLeft, SourcesAnswered, SourcesAttached};
 ghost use Rattle.law_kept.specs.Changes.{ValueIsLike, QueueIsLike, FreezeIsLike, ThawIsLike};
+ghost use Rattle.law_kept.specs.Lent.{PeersLent, NewPeerGood};
 ghost use Rattle.law_kept.specs.New.{NewStands, ValuesStay, NewServes, NewObjectsGood, NewHandlersGood, NewBindingsGood};
 ghost use Rattle.law_kept.specs.Dispose.{DisposeKeeps};
 ghost use Rattle.law_kept.specs.Finalise.{FinalisationIsFine};
@@ -91,4 +92,10 @@ pub fn finalisation()
 /// Where objects get other parents and children, which live and know each other, what is good of a world stays so.
 pub fn families()
     ensures keep { FamiliesKeep }
+{}
+
+/// A new object takes a peer that was free: the pool is as good for those that still want a peer, and the object's peer is its own.
+pub fn lending()
+    ensures pool { PeersLent }
+    ensures own { NewPeerGood }
 {}
