@@ -9,6 +9,7 @@ pub mod SourcesProofs
 pub mod ChangesProofs
 pub mod NewProofs
 pub mod LentProofs
+pub mod MadeProofs
 pub mod DisposeProofs
 pub mod DisposedProofs
 pub mod FinaliseProofs

@@ -56,13 +56,13 @@ grown none (y ∷ ys) x (suc i) = go (grown none ys x i)
     go (inr (inl h)) = inr (inl ((let l = h.0 in omega (arith, l)), h.1))
     go (inr (inr h)) = inr (inr ((let l = h.0 in omega (arith, l)), h.1))
 
-past_end : {A : Type 0} (none : A) (xs : List A) (i : ℕ) → length xs ≤ i → read none xs i ≡ none
+pub past_end : {A : Type 0} (none : A) (xs : List A) (i : ℕ) → length xs ≤ i → read none xs i ≡ none
 past_end none [] i h = refl
 past_end none (x ∷ xs) zero h = absurd (omega (arith, h))
 past_end none (x ∷ xs) (suc i) h = past_end none xs i (omega (arith, h))
 
 -- what is found in them
-found : (os : Objects) (o : Object) (id : ℕ) (x : Object) → living (os ++ Some o ∷ []) id ≡ Some x → (living os id ≡ Some x) ⊎ ((id ≡ suc (length os)) × (x ≡ o))
+pub found : (os : Objects) (o : Object) (id : ℕ) (x : Object) → living (os ++ Some o ∷ []) id ≡ Some x → (living os id ≡ Some x) ⊎ ((id ≡ suc (length os)) × (x ≡ o))
 found os o zero x e = absurd (cc)
 found os o (suc i) x e = go (grown None os (Some o) i)
   where

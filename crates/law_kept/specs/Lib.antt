@@ -10,4 +10,5 @@ pub mod Dispose
 pub mod Finalise
 pub mod Connect
 pub mod Lent
+pub mod Made
 pub mod Family

@@ -7,6 +7,7 @@ ghost use Rattle.law_kept.specs.Bindings.{BindingsLeft, LeftBindingsFound, Bindi
 ghost use Rattle.law_kept.specs.Sources.{SourceStays, SourcesLeft, SourcesAnswered, SourcesAttached};
 ghost use Rattle.law_kept.specs.Changes.{ValueIsLike, QueueIsLike, FreezeIsLike, ThawIsLike};
 ghost use Rattle.law_kept.specs.Lent.{PeersLent, NewPeerGood};
+ghost use Rattle.law_kept.specs.Made.{NewWholeGood};
 ghost use Rattle.law_kept.specs.New.{NewStands, ValuesStay, NewServes, NewObjectsGood, NewHandlersGood, NewBindingsGood};
 ghost use Rattle.law_kept.specs.Dispose.{DisposeKeeps};
 ghost use Rattle.law_kept.specs.Finalise.{FinalisationIsFine};
@@ -98,4 +99,9 @@ pub fn families()
 pub fn lending()
     ensures pool { PeersLent }
     ensures own { NewPeerGood }
+{}
+
+/// With a new object of a place all that is good of the world stays so.
+pub fn made()
+    ensures whole { NewWholeGood }
 {}
