@@ -9,16 +9,15 @@ use Rattle.ui_machine.specs.Definition.Programs.{Instruction}
 use Rattle.ui_machine.specs.State.Objects.{Object}
 use Rattle.ui_machine.specs.State.Tasks.{Frame}
 use Rattle.ui_machine.specs.State.Config.{World}
-use Rattle.ui_machine.specs.Rules.Transform.{is_one}
 use Rattle.ui_machine.specs.Instructions.Registers.{operand_in, data_in}
 use Rattle.ui_machine.specs.Instructions.Jumps.{past}
-use Rattle.law_typing.specs.Rules.RegisterKinds.{kind_in, class_at, covers, fits}
+use Rattle.law_typing.specs.Rules.RegisterKinds.{kind_in, covers, fits}
 use Rattle.law_typing.specs.Rules.Typing.{class_of_operand}
 use Rattle.law_typing.specs.Rules.Typing as typing
 use Rattle.law_typing.specs.Laws.WellRead.{TypesRead}
 use Rattle.law_typing.specs.Good.Standing.{standing, LivesIf}
 use Rattle.law_typing.specs.Good.Handlers.{data_kind}
-use Rattle.law_static.proofs.FitsProofs.{one_further}
+use Rattle.law_static.proofs.AtClass.{at_class}
 use Rattle.law_instructions.proofs.Around.{Due, r}
 use Rattle.law_instructions.proofs.Operand.{named}
 use Rattle.law_instructions.proofs.Typed.{data_is, no_data_is}
@@ -27,22 +26,9 @@ both : (a b : Bool) → a ≡ true → b ≡ true → (a && b) ≡ true
 both a b p q = ap (λ x. x && b) p ∙ q
 
 module _ (d : Definition) (types : TypesRead d) where
-  -- what is of a class is of each class that fits it
-  at_class : (place type : ℕ) (k : RegisterKind) → is_one d.types type (class_at d place) ≡ true → fits d (kinds.some type) k ≡ true → fits d (kinds.at place) k ≡ true
-  at_class place type kinds.unset c e = refl
-  at_class place type (kinds.plain (kinds.object u)) c e = one_further d types type u (class_at d place) e c
-  at_class place type (kinds.plain kinds.bool) c e = absurd (cc)
-  at_class place type (kinds.plain (kinds.whole w)) c e = absurd (cc)
-  at_class place type (kinds.plain kinds.text) c e = absurd (cc)
-  at_class place type (kinds.plain (kinds.enum t)) c e = absurd (cc)
-  at_class place type (kinds.plain (kinds.flags t)) c e = absurd (cc)
-  at_class place type (kinds.some u) c e = one_further d types type u (class_at d place) e c
-  at_class place type (kinds.at p) c e = absurd (cc)
-  at_class place type (kinds.at_or_null p) c e = absurd (cc)
-
   -- the object of an operand at its place fits what its kind fits
   pub at_fits : (k l : RegisterKind) (class place : ℕ) → class_of_operand d k ≡ Ok class → covers d k place ≡ true → fits d k l ≡ true → fits d (kinds.at place) l ≡ true
-  at_fits (kinds.some type) l class place o c e = at_class place type l c e
+  at_fits (kinds.some type) l class place o c e = at_class d types place type l c e
   at_fits (kinds.at p) l class place o c e = subst (λ p. fits d (kinds.at p) l ≡ true) (eqb-true p place c) e
   at_fits kinds.unset l class place o c e = absurd (cc)
   at_fits (kinds.plain kinds.bool) l class place o c e = absurd (cc)

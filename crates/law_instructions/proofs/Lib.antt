@@ -29,3 +29,5 @@ pub mod CallProofs
 pub mod FamilyProofs
 pub mod ThawProofs
 pub mod ConnectProofs
+pub mod Unfrozen
+pub mod MakeProofs

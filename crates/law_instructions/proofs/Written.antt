@@ -102,7 +102,7 @@ unfolding in_front left
 stays v rest f n = refl
 
 -- an open register is not the one that is written
-not_among : (xs : List ℕ) (to r : ℕ) → keeps xs (Some to) ≡ true → is_among xs r ≡ true → to ≡ r → ⊥
+pub not_among : (xs : List ℕ) (to r : ℕ) → keeps xs (Some to) ≡ true → is_among xs r ≡ true → to ≡ r → ⊥
 not_among xs to r kept among e = let s = ap (is_among xs) e in let t = ap not (s ∙ among) in cc
 
 module _ {d : Definition} {i : Instruction} (t : Due d i) (plain : is_bracket i ≡ false) where
@@ -117,7 +117,7 @@ module _ {d : Definition} {i : Instruction} (t : Due d i) (plain : is_bracket i 
   pub open_same : (registers : Registers) → opened (code_left d (gone_on f registers)) ≡ opened (code_left d f)
   open_same registers = ap opened (code_next registers) ∙ (sym (opened_past i (drop (suc f.at) (r t).b.code) plain) ∙ ap opened (sym code_here))
 
-  kept : (to : ℕ) → written i ≡ Some to → keeps (opened (code_left d f)) (Some to) ≡ true
+  pub kept : (to : ℕ) → written i ≡ Some to → keeps (opened (code_left d f)) (Some to) ≡ true
   kept to e =
       ap (λ xs. keeps xs (Some to)) (ap opened code_here ∙ opened_past i (drop (suc f.at) (r t).b.code) plain)
       ∙ (ap (keeps (opened (drop (suc f.at) (r t).b.code))) (sym e)

@@ -14,3 +14,4 @@ pub mod Calling
 pub mod Families
 pub mod Thawing
 pub mod Connecting
+pub mod Making

@@ -10,6 +10,7 @@ ghost use Rattle.law_instructions.specs.Stopping.{StopsAreFine};
 ghost use Rattle.law_instructions.specs.Freezing.{FreezesAreFine};
 ghost use Rattle.law_instructions.specs.Thawing.{ThawsAreFine};
 ghost use Rattle.law_instructions.specs.Emitting.{EmitsAreFine};
+ghost use Rattle.law_instructions.specs.Making.{MakesAreFine};
 ghost use Rattle.law_instructions.specs.Connecting.{ConnectsAreFine};
 ghost use Rattle.law_instructions.specs.Setting.{SetsAreFine};
 ghost use Rattle.law_instructions.specs.Notifying.{NotifiesAreFine};
@@ -91,4 +92,9 @@ pub fn calls()
 /// A program takes an object from its parent, or gives it one.
 pub fn families()
     ensures fine { FamiliesAreFine }
+{}
+
+/// A program makes an object of a prototype: its construction is due, or there is no room.
+pub fn makings()
+    ensures fine { MakesAreFine }
 {}

@@ -33,7 +33,7 @@ use Rattle.law_static.proofs.PlanCostProofs.{total_append, total_first, mapped_f
 
 -- ** what is made
 
-read_making : (d : Definition) (n m i : ℕ) (ps : List Place) (p : Place) → m ≡ n + i → slice_get ps i ≡ Some p →
+pub read_making : (d : Definition) (n m i : ℕ) (ps : List Place) (p : Place) → m ≡ n + i → slice_get ps i ≡ Some p →
     (read [] (makings_from d n ps) i ≡ raised_by_making d m p) × (i < length (makings_from d n ps))
 read_making d n m i [] p at e = absurd (cc)
 read_making d n m zero (x ∷ ps) p at e =
