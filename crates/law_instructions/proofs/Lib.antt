@@ -31,3 +31,4 @@ pub mod ThawProofs
 pub mod ConnectProofs
 pub mod Unfrozen
 pub mod MakeProofs
+pub mod AllProofs

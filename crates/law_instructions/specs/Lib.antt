@@ -15,3 +15,4 @@ pub mod Families
 pub mod Thawing
 pub mod Connecting
 pub mod Making
+pub mod All

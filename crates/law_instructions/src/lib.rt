@@ -10,6 +10,7 @@ ghost use Rattle.law_instructions.specs.Stopping.{StopsAreFine};
 ghost use Rattle.law_instructions.specs.Freezing.{FreezesAreFine};
 ghost use Rattle.law_instructions.specs.Thawing.{ThawsAreFine};
 ghost use Rattle.law_instructions.specs.Emitting.{EmitsAreFine};
+ghost use Rattle.law_instructions.specs.All.{InstructionsAreFine, ProgramsKeepGood};
 ghost use Rattle.law_instructions.specs.Making.{MakesAreFine};
 ghost use Rattle.law_instructions.specs.Connecting.{ConnectsAreFine};
 ghost use Rattle.law_instructions.specs.Setting.{SetsAreFine};
@@ -97,4 +98,11 @@ pub fn families()
 /// A program makes an object of a prototype: its construction is due, or there is no room.
 pub fn makings()
     ensures fine { MakesAreFine }
+{}
+
+/// Each instruction is taken well. So where the first task is a program, the step of the machine keeps what is good, whatever the program has
+/// come to.
+pub fn programs()
+    ensures instructions { InstructionsAreFine }
+    ensures programs { ProgramsKeepGood }
 {}
