@@ -9,10 +9,10 @@ use Rattle.ui_machine.specs.State.Tasks.{Running}
 use Rattle.ui_machine.specs.State.Config.{World}
 use Rattle.law_typing.specs.Verdict.Accepted.{Each}
 use Rattle.law_typing.specs.Good.Standing.{standing, view, Lives}
-use Rattle.law_typing.specs.Good.Objects.{ObjectsGood}
 use Rattle.law_typing.specs.Good.Handlers.{HandlersGood}
 use Rattle.law_typing.specs.Good.Bindings.{BindingsGood, SourceGood}
 use Rattle.law_kept.specs.Agenda.{Serves}
+use Rattle.law_kept.proofs.Lists.{objects_stay}
 use Rattle.law_instructions.proofs.Frozen.{is_bracket}
 use Rattle.law_instructions.proofs.Around.{Due}
 use Rattle.law_instructions.proofs.Written.{Moved}
@@ -50,19 +50,6 @@ with_lists w l = record w {
   transcript = l.transcript;
 }
 
--- its objects are as good
-pub objects_stay : (d : Definition) (w : World) (l : Lists) → ObjectsGood d w → ObjectsGood d (with_lists w l)
-objects_stay d w l g id o e = let o = g id o e in record {
-  place = o.place;
-  is = o.is;
-  class = o.class;
-  values = o.values;
-  children = o.children;
-  parent = o.parent;
-  queue = o.queue;
-  peer = o.peer;
-}
-
 module _ {d : Definition} {i : Instruction} (t : Due d i) (plain : is_bracket i ≡ false) where
   open t use {a, w, f, rest, g}
 
@@ -95,7 +82,7 @@ module _ {d : Definition} {i : Instruction} (t : Due d i) (plain : is_bracket i 
   pub lists_moved : (l : Lists) → ListsGood l → Moved t plain (with_lists w l)
   lists_moved l e = record {
     whole = record {
-      objects = objects_stay d w l g.objects;
+      objects = objects_stay d w (with_lists w l) g.objects;
       handlers = e.handlers;
       bindings = e.bindings;
       sources = e.sources;

@@ -55,6 +55,7 @@ use Rattle.law_kept.specs.Made.{IsNew}
 use Rattle.law_kept.specs.New.{next_identity, OneMoreStands}
 use Rattle.law_kept.specs.Write.{Whole}
 use Rattle.law_kept.proofs.LentProofs.{peers_lent, new_peer_good}
+use Rattle.law_kept.proofs.Lists.{objects_stay}
 use Rattle.law_kept.proofs.MadeProofs.{new_whole_good}
 use Rattle.law_kept.proofs.NewProofs.{found, new_stands, new_serves}
 use Rattle.law_kept.proofs.ServedProofs.{registers_kept}
@@ -64,7 +65,7 @@ use Rattle.law_instructions.proofs.Around.{Due, r, taken, good_of, above, past_g
 use Rattle.law_instructions.proofs.Frozen.{frozen_same}
 use Rattle.law_instructions.proofs.Typed.{Placed, naming_is}
 use Rattle.law_instructions.proofs.Unfrozen.{unfrozen}
-use Rattle.law_instructions.proofs.Written.{length_write, fit_written, objects_said, kept, not_among, open_same, low, written_fine}
+use Rattle.law_instructions.proofs.Written.{length_write, fit_written, kept, not_among, open_same, low, written_fine}
 
 -- ** prototypes
 
@@ -208,7 +209,7 @@ module _ {d : Definition} (to : ℕ) (id : List ℕ) (t : Due d (words.new to id
       (λ pair. absurd (unpaired d well k.place k.p k.has k.allowed pair))
       (record { objects = g.objects; handlers = g.handlers; bindings = g.bindings; sources = g.sources; held = g.held; floating = g.floating; pairs = g.pairs }) in
       record {
-        objects = objects_said d made v.transcript x.objects;
+        objects = objects_stay d made v x.objects;
         handlers = x.handlers;
         bindings = x.bindings;
         sources = x.sources;

@@ -29,7 +29,7 @@ use Rattle.law_typing.specs.Verdict.Accepted.{Each}
 use Rattle.law_typing.specs.Laws.WellRead.{Within, ends}
 use Rattle.law_typing.specs.Laws.StepsKeepGood.{IsGood}
 use Rattle.law_typing.specs.Good.Standing.{Standing, standing, view, View, holds, RegistersFit}
-use Rattle.law_typing.specs.Good.Objects.{ObjectsGood, PeersGood}
+use Rattle.law_typing.specs.Good.Objects.{PeersGood}
 use Rattle.law_typing.specs.Good.Builds.{is_for_builder}
 use Rattle.law_typing.specs.Good.Programs.{code_left}
 use Rattle.law_typing.specs.Good.Freezes.{QueuesGood, below_lowest, carried}
@@ -39,6 +39,7 @@ use Rattle.law_static.proofs.CodeProofs.{from_at}
 use Rattle.law_static.proofs.SubclassProofs.{get_in}
 use Rattle.law_kept.specs.Agenda.{Serves}
 use Rattle.law_kept.specs.Write.{Whole}
+use Rattle.law_kept.proofs.Lists.{objects_stay}
 use Rattle.law_kept.proofs.WriteProofs.{read_here, read_apart}
 use Rattle.law_instructions.specs.Running.{at_top}
 use Rattle.law_instructions.proofs.Frozen.{is_bracket, opened_past, frozen_same}
@@ -61,19 +62,6 @@ fit_written d s ks registers to k x fit h r = go (nat_eq to r) refl
     go false e =
         let apart = eqb-false to r e in
         rw (read_apart kinds.unset ks to k r apart, read_apart None registers to x r apart) (fit r)
-
--- what is said is read by nothing
-pub objects_said : (d : Definition) (w : World) (lines : List (List ℕ)) → ObjectsGood d w → ObjectsGood d (record w { transcript = lines })
-objects_said d w lines g id o e = let o = g id o e in record {
-  place = o.place;
-  is = o.is;
-  class = o.class;
-  values = o.values;
-  children = o.children;
-  parent = o.parent;
-  queue = o.queue;
-  peer = o.peer;
-}
 
 pub serves_itself : (d : Definition) (agenda : List Task) (v : View) → Serves d agenda v v
 serves_itself d agenda v = record {
@@ -202,7 +190,7 @@ module _ {d : Definition} {i : Instruction} (t : Due d i) (plain : is_bracket i 
   pub said_moved : (lines : List (List ℕ)) → Moved (record w { transcript = lines })
   said_moved lines = record {
     whole = record {
-      objects = objects_said d w lines g.objects;
+      objects = objects_stay d w (record w { transcript = lines }) g.objects;
       handlers = g.handlers;
       bindings = g.bindings;
       sources = g.sources;

@@ -1,57 +1,24 @@
 -- Agendas that are alike in what handlers, bindings, pairs and the build read of them.
-use Rattle.std.proofs.Common.{◌≡◌, ◌∙◌, ℕ, List, [], ◌∷◌, arith}
+use Rattle.std.proofs.Common.{◌∙◌, ℕ, List, [], ◌∷◌, arith}
 use Rattle.ui_machine.specs.Definition.{Definition}
 use Rattle.ui_machine.specs.State.Bindings.{Binding}
 use Rattle.ui_machine.specs.State.Objects.{Objects}
 use Rattle.ui_machine.specs.State.Handlers.{Handler}
 use Rattle.ui_machine.specs.State.Tasks.{Task, Setting, Notifying, Beginning, Emitting, Transferring, Unsetting, Thawing, Running, Answering, Calling, Constructing, Building, Carrying, Due}
-use Rattle.law_typing.specs.Graph.{Raised, graph, place_of_channel}
 use Rattle.law_typing.specs.Graph.Tables.{Tables}
 use Rattle.law_typing.specs.Good.Standing.{Standing, standing}
-use Rattle.law_typing.specs.Good.Handlers.{connecting_cost, ChannelGood, HandlersGood}
-use Rattle.law_typing.specs.Good.Bindings.{is_binding, BindingGood, BindingsGood}
+use Rattle.law_typing.specs.Good.Handlers.{HandlersGood}
+use Rattle.law_typing.specs.Good.Bindings.{BindingsGood}
 use Rattle.law_typing.specs.Good.Freezes.{PairsGood}
 use Rattle.law_kept.specs.Alike.{Alike, WholeStays, BuildStays}
-use Rattle.law_kept.proofs.Left.{each_to}
+use Rattle.law_kept.proofs.Moved.{handlers_moved, bindings_moved}
 
 module _ (d : Definition) (costs depths : Tables) (a b : List Task) (alike : Alike a b) where
-  channel_stays : (id : ℕ) (hs : List Handler) (r : Raised) → ChannelGood d costs depths a id hs r → ChannelGood d costs depths b id hs r
-  channel_stays id hs r g = record {
-    own = (let same = alike.items (connecting_cost d costs r.channel) in let old = g.own in omega (arith, same, old));
-    connected = g.connected;
-    own_shallow = g.own_shallow;
-    connected_shallow = g.connected_shallow;
-  }
-
   pub handlers_stay : (s : Standing) (last : ℕ) (hs : List Handler) → HandlersGood d costs depths s a last hs → HandlersGood d costs depths s b last hs
-  handlers_stay s last hs g = record {
-    each = g.each;
-    rising = g.rising;
-    numbered = g.numbered;
-    few = g.few;
-    channels = λ id place is.
-        each_to (λ (r : Raised). place_of_channel r.channel ≡ place → ChannelGood d costs depths a id hs r)
-        (λ (r : Raised). place_of_channel r.channel ≡ place → ChannelGood d costs depths b id hs r) (graph d).raised
-        (λ r f same. channel_stays id hs r (f same)) (g.channels id place is);
-  }
-
-  binding_stays : (s : Standing) (os : Objects) (x : Binding) → BindingGood d s a os x → BindingGood d s b os x
-  binding_stays s os x g = record {
-    bind = g.bind;
-    is = g.is;
-    slots = g.slots;
-    source = g.source;
-    target = g.target;
-    setting = alike.unset x.number ∙ g.setting;
-    thawed = g.thawed;
-  }
+  handlers_stay = handlers_moved d costs depths a b alike.items
 
   pub bindings_stay : (s : Standing) (os : Objects) (bs : List Binding) → BindingsGood d s a os bs → BindingsGood d s b os bs
-  bindings_stay s os bs g = record {
-    each = each_to (BindingGood d s a os) (BindingGood d s b os) bs (binding_stays s os) g.each;
-    rising = g.rising;
-    made = each_to _ _ bs (λ x low. (let same = alike.items is_binding in omega (arith, same, low))) g.made;
-  }
+  bindings_stay = bindings_moved d costs depths a b alike.items alike.unset
 
   pub pairs_stay : (os : Objects) (bs : List Binding) → PairsGood d a os bs → PairsGood d b os bs
   pairs_stay os bs g = record {

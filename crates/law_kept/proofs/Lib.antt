@@ -2,6 +2,8 @@ pub mod WriteProofs
 pub mod ServedProofs
 pub mod AgendaProofs
 pub mod Left
+pub mod Lists
+pub mod Moved
 pub mod AlikeProofs
 pub mod HandlersProofs
 pub mod BindingsProofs

@@ -28,6 +28,7 @@ use Rattle.law_kept.specs.Write.{Whole}
 use Rattle.law_kept.specs.Alike.{Alike}
 use Rattle.law_kept.proofs.AlikeProofs.{whole_stays, build_stays}
 use Rattle.law_kept.proofs.Left.{each_to}
+use Rattle.law_kept.proofs.Lists.{objects_stay}
 use Rattle.law_tasks.specs.First.{at_first, IsFineAbove, IsFine}
 
 -- a task is the first one, where all is good and nothing is to be finalised before it
@@ -77,16 +78,7 @@ none_later f (task ∷ agenda) e = omega (arith, e)
 
 -- what is said and told is read by nothing
 pub objects_told : (d : Definition) (w : World) (lines : List (List ℕ)) (v : Option Value) → ObjectsGood d w → ObjectsGood d (record w { transcript = lines; result = v })
-objects_told d w lines v g id o e = let o = g id o e in record {
-  place = o.place;
-  is = o.is;
-  class = o.class;
-  values = o.values;
-  children = o.children;
-  parent = o.parent;
-  queue = o.queue;
-  peer = o.peer;
-}
+objects_told d w lines v g = objects_stay d w (record w { transcript = lines; result = v }) g
 
 module _ {d : Definition} {task : Task} (t : First d task) where
   open t use {well, a, most_counted, w, rest, n, g}

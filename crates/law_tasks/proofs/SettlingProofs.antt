@@ -9,7 +9,7 @@ use Rattle.law_typing.specs.Verdict.Accepted.{Each}
 use Rattle.law_typing.specs.Laws.StepsKeepGood.{Fine}
 use Rattle.law_typing.specs.Good.{Good}
 use Rattle.law_typing.specs.Good.Standing.{standing, Lives}
-use Rattle.law_typing.specs.Good.Objects.{ObjectsGood}
+use Rattle.law_kept.proofs.Lists.{objects_stay}
 use Rattle.law_tasks.specs.Settling.{at_end, SettlingIsFine}
 
 each_without : (P : ℕ → Type 0) (id : ℕ) (ids : List ℕ) → Each P ids → Each P (without id ids)
@@ -20,23 +20,11 @@ each_without P id (i ∷ ids) all = go (nat_eq i id) (each_without P id ids all.
     go true later = later
     go false later = (all.0, later)
 
-objects_sunk : (d : Definition) (w : World) (floating : List ℕ) → ObjectsGood d w → ObjectsGood d (record w { floating = floating })
-objects_sunk d w floating g id o e = let o = g id o e in record {
-  place = o.place;
-  is = o.is;
-  class = o.class;
-  values = o.values;
-  children = o.children;
-  parent = o.parent;
-  queue = o.queue;
-  peer = o.peer;
-}
-
 -- fewer float
 sunk_good : (d : Definition) (costs depths : Tables) (most_counted most : ℕ) (w : World) (n : ℕ) (floating : List ℕ) → Good d costs depths most_counted most (at_end w n) →
     Each (Lives (standing w.objects)) floating → Good d costs depths most_counted most (at_end (record w { floating = floating }) n)
 sunk_good d costs depths most_counted most w n floating g lives = record {
-  objects = objects_sunk d w floating g.objects;
+  objects = objects_stay d w (record w { floating = floating }) g.objects;
   handlers = g.handlers;
   bindings = g.bindings;
   sources = g.sources;
