@@ -70,7 +70,8 @@ pub fn changes()
 {}
 
 /// With a new object all stands that stood, and one more lives. Each agenda is served as before, the new object is good with the defaults of its
-/// class, and objects, handlers and bindings stay so.
+/// class, and objects, handlers and bindings stay so. The peer that it takes was free and is its own, and the pool is as good for those that still
+/// want a peer; so all that is good of the world stays so.
 pub fn makings()
     ensures stands { NewStands }
     ensures values { ValuesStay }
@@ -78,6 +79,9 @@ pub fn makings()
     ensures objects { NewObjectsGood }
     ensures handlers { NewHandlersGood }
     ensures bindings { NewBindingsGood }
+    ensures pool { PeersLent }
+    ensures own { NewPeerGood }
+    ensures whole { NewWholeGood }
 {}
 
 /// A living object is disposed without a fault. All that stood stands, each object stays good, and no weak property names the disposed one.
@@ -93,15 +97,4 @@ pub fn finalisation()
 /// Where objects get other parents and children, which live and know each other, what is good of a world stays so.
 pub fn families()
     ensures keep { FamiliesKeep }
-{}
-
-/// A new object takes a peer that was free: the pool is as good for those that still want a peer, and the object's peer is its own.
-pub fn lending()
-    ensures pool { PeersLent }
-    ensures own { NewPeerGood }
-{}
-
-/// With a new object of a place all that is good of the world stays so.
-pub fn made()
-    ensures whole { NewWholeGood }
 {}

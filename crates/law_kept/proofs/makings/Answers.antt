@@ -1,3 +1,5 @@
+use Rattle.law_kept.proofs.LentProofs.{peers_lent, new_peer_good}
+use Rattle.law_kept.proofs.MadeProofs.{new_whole_good}
 use Rattle.law_kept.proofs.NewProofs.{new_stands, values_stay, new_serves, new_objects_good, new_handlers_good, new_bindings_good}
 use Rattle.law_kept.proofs.makings.Goals as goal
 
@@ -9,4 +11,7 @@ returns c = record {
   objects = new_objects_good;
   handlers = new_handlers_good;
   bindings = new_bindings_good;
+  pool = peers_lent;
+  own = new_peer_good;
+  whole = new_whole_good;
 }
