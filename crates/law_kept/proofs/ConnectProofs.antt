@@ -23,15 +23,15 @@ use Rattle.law_kept.proofs.Left.{each_to}
 -- ** lists with one more
 
 module _ {A : Type 0} where
-  each_last : (P : A → Type 0) (xs : List A) (x : A) → Each P xs → P x → Each P (xs ++ x ∷ [])
+  pub each_last : (P : A → Type 0) (xs : List A) (x : A) → Each P xs → P x → Each P (xs ++ x ∷ [])
   each_last P [] x all here = (here, tt)
   each_last P (y ∷ ys) x all here = (all.0, each_last P ys x all.1 here)
 
-  rising_last : (number : A → ℕ) (k : ℕ) (xs : List A) (x : A) → Rising number k xs → Each (λ y. number y < number x) xs → k ≤ number x → Rising number k (xs ++ x ∷ [])
+  pub rising_last : (number : A → ℕ) (k : ℕ) (xs : List A) (x : A) → Rising number k xs → Each (λ y. number y < number x) xs → k ≤ number x → Rising number k (xs ++ x ∷ [])
   rising_last number k [] x r low least = (least, tt)
   rising_last number k (y ∷ ys) x r low least = (r.0, rising_last number (suc (number y)) ys x r.1 low.1 low.0)
 
-  filter_last : (p : A → Bool) (xs : List A) (x : A) → filter p (xs ++ x ∷ []) ≡ filter p xs ++ cond (p x) (x ∷ []) []
+  pub filter_last : (p : A → Bool) (xs : List A) (x : A) → filter p (xs ++ x ∷ []) ≡ filter p xs ++ cond (p x) (x ∷ []) []
   filter_last p [] x = refl
   filter_last p (y ∷ ys) x = go (p y) (filter_last p ys x)
     where
@@ -45,10 +45,10 @@ module _ {A : Type 0} where
   nothing_more (x ∷ xs) = ap (λ (ys : List A). x ∷ ys) (nothing_more xs)
 
   -- one that does not pass is left out, and of one that does what is wanted holds
-  not_last : (p : A → Bool) (xs : List A) (x : A) → p x ≡ false → filter p (xs ++ x ∷ []) ≡ filter p xs
+  pub not_last : (p : A → Bool) (xs : List A) (x : A) → p x ≡ false → filter p (xs ++ x ∷ []) ≡ filter p xs
   not_last p xs x e = filter_last p xs x ∙ (ap (λ b. filter p xs ++ cond b (x ∷ []) []) e ∙ nothing_more (filter p xs))
 
-  each_passing : (P : A → Type 0) (p : A → Bool) (xs : List A) (x : A) → Each P (filter p xs) → (p x ≡ true → P x) → Each P (filter p (xs ++ x ∷ []))
+  pub each_passing : (P : A → Type 0) (p : A → Bool) (xs : List A) (x : A) → Each P (filter p xs) → (p x ≡ true → P x) → Each P (filter p (xs ++ x ∷ []))
   each_passing P p xs x all here = subst (Each P) (sym (filter_last p xs x)) (go (p x) refl)
     where
       go : (b : Bool) → p x ≡ b → Each P (filter p xs ++ cond b (x ∷ []) [])
@@ -58,6 +58,10 @@ module _ {A : Type 0} where
   length_last : (xs : List A) (x : A) → length (xs ++ x ∷ []) ≡ suc (length xs)
   length_last [] x = refl
   length_last (y ∷ ys) x = let h = length_last ys x in omega (arith, h)
+
+  pub each_inside : (P Q : A → Type 0) (rs : List A) → ((r : A) → IsIn r rs → P r → Q r) → Each P rs → Each Q rs
+  each_inside P Q [] f all = tt
+  each_inside P Q (r ∷ rs) f all = (f r (inl refl) all.0, each_inside P Q rs (λ x k. f x (inr k)) all.1)
 
 -- ** the handlers with it
 
@@ -104,10 +108,6 @@ module _ (d : Definition) (costs depths : Tables) (s : Standing) (agenda : List 
           let p = both_parts h.by_code (nat_eq h.object id && runs_at d h r.channel) e in
           let q = both_parts (nat_eq h.object id) (runs_at d h r.channel) p.1 in
           may.connectable place (ap s (eqb-true h.object id q.0) ∙ stands) r there same q.1
-
-  each_inside : (P Q : Raised → Type 0) (rs : List Raised) → ((r : Raised) → IsIn r rs → P r → Q r) → Each P rs → Each Q rs
-  each_inside P Q [] f all = tt
-  each_inside P Q (r ∷ rs) f all = (f r (inl refl) all.0, each_inside P Q rs (λ x k. f x (inr k)) all.1)
 
   connects_good : HandlersGood d costs depths s agenda (suc last) (hs ++ h ∷ [])
   connects_good = record {

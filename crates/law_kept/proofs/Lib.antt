@@ -16,4 +16,5 @@ pub mod DisposeProofs
 pub mod DisposedProofs
 pub mod FinaliseProofs
 pub mod ConnectProofs
+pub mod AttachProofs
 pub mod FamilyProofs

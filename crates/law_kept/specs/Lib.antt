@@ -11,4 +11,5 @@ pub mod Finalise
 pub mod Connect
 pub mod Lent
 pub mod Made
+pub mod Attach
 pub mod Family

@@ -6,6 +6,7 @@ ghost use Rattle.law_kept.specs.Handlers.{HandlersLeft, HandlersChanged, LeftAre
 ghost use Rattle.law_kept.specs.Bindings.{BindingsLeft, LeftBindingsFound, BindingSets, BindingUnset, BindingMade};
 ghost use Rattle.law_kept.specs.Sources.{SourceStays, SourcesLeft, SourcesAnswered, SourcesAttached};
 ghost use Rattle.law_kept.specs.Changes.{ValueIsLike, QueueIsLike, FreezeIsLike, ThawIsLike};
+ghost use Rattle.law_kept.specs.Attach.{HandlerAttaches, HandlersWaitLess};
 ghost use Rattle.law_kept.specs.Lent.{PeersLent, NewPeerGood};
 ghost use Rattle.law_kept.specs.Made.{NewWholeGood};
 ghost use Rattle.law_kept.specs.New.{NewStands, ValuesStay, NewServes, NewObjectsGood, NewHandlersGood, NewBindingsGood};
@@ -35,12 +36,15 @@ pub fn alike()
 {}
 
 /// Handlers that are left after others are disconnected stay good, and so do those that are blocked or unblocked; a number finds among them
-/// what it found. So are they with one more that bytecode connects, where there is room and its program is connectable.
+/// what it found. So are they with one more that bytecode connects, where there is room and its program is connectable, and with one that the
+/// build connects, whose cost was reckoned for its item.
 pub fn handlers()
     ensures left { HandlersLeft }
     ensures found { LeftAreFound }
     ensures changed { HandlersChanged }
     ensures connects { HandlerConnects }
+    ensures attaches { HandlerAttaches }
+    ensures waits { HandlersWaitLess }
 {}
 
 /// Bindings that are left after others ended stay good, and so do they where one begins to set, is set free, or is made by the build.
