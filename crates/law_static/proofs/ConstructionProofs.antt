@@ -169,7 +169,7 @@ module _ (d : Definition) (types : TypesRead d) (s : Standing) (w : World) (held
 
 -- ** programs
 
-no_fault : (b : Bool) (fault : Fault) → unless b fault ≡ [] → b ≡ true
+pub no_fault : (b : Bool) (fault : Fault) → unless b fault ≡ [] → b ≡ true
 no_fault true fault e = refl
 no_fault false fault e = absurd (cc)
 

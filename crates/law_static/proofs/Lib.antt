@@ -18,3 +18,4 @@ pub mod RequestProofs
 pub mod BuildCostProofs
 pub mod AtClass
 pub mod ConstructionProofs
+pub mod AttachedProofs

@@ -10,3 +10,4 @@ pub mod MakingCost
 pub mod Starts
 pub mod Means
 pub mod Constructions
+pub mod Attached
