@@ -104,7 +104,7 @@ module _ (d : Definition) (a : Accepted d) where
           let z = (adopted n x.parent).0 in
           omega (arith, same, z)
 
-  made_count : (n : ℕ) (ps : List Place) → total is_making (made_items n ps) ≡ total is_object ps
+  pub made_count : (n : ℕ) (ps : List Place) → total is_making (made_items n ps) ≡ total is_object ps
   made_count n [] = refl
   made_count n (x ∷ ps) =
       let h = made_count (suc n) ps in
@@ -157,7 +157,7 @@ module _ (d : Definition) (a : Accepted d) where
       let m = mapped_first node (λ (g : GivenProperty). property n g.slot) (λ (g : GivenProperty). is_forward n g.given) g gs in
       (omega (arith, p, o, t, m), omega (arith, q, z, u))
 
-  forwarded : (n : ℕ) (ps : List Place) → (total price (forward_items n ps) ≡ total node (forwards_from d n ps)) × (total is_making (forward_items n ps) ≡ 0)
+  pub forwarded : (n : ℕ) (ps : List Place) → (total price (forward_items n ps) ≡ total node (forwards_from d n ps)) × (total is_making (forward_items n ps) ≡ 0)
   forwarded n [] = (refl, refl)
   forwarded n (x ∷ ps) =
       let h = forwarded (suc n) ps in
@@ -197,7 +197,7 @@ module _ (d : Definition) (a : Accepted d) where
       go true = let l = less_set (is_setting_below d [] (source_of b)) (1 + entry costs.channels (target_of b)) in let o = own_less (target_of b) in omega (arith, l, o)
       go false = omega arith
 
-  bound : (n : ℕ) (xs : List Bind) → ((i : ℕ) (b : Bind) → slice_get xs i ≡ Some b → slice_get d.bindings (n + i) ≡ Some b) →
+  pub bound : (n : ℕ) (xs : List Bind) → ((i : ℕ) (b : Bind) → slice_get xs i ≡ Some b → slice_get d.bindings (n + i) ≡ Some b) →
       (total price (numbered binds n xs) ≤ total (λ c. 1 + node c) (map target_of (filter (λ (b : Bind). has_flags 2 b.flags) xs))) × (total is_making (numbered binds n xs) ≡ 0)
   bound n [] at = (omega arith, refl)
   bound n (x ∷ xs) at =
@@ -220,7 +220,7 @@ module _ (d : Definition) (a : Accepted d) where
   attached_none place n [] = (refl, refl)
   attached_none place n (x ∷ xs) = let h = attached_none place (suc n) xs in let p = h.0 in let q = h.1 in (omega (arith, p), omega (arith, q))
 
-  connected_none : (n : ℕ) (ps : List Place) → (total price (connected_items n ps) ≡ 0) × (total is_making (connected_items n ps) ≡ 0)
+  pub connected_none : (n : ℕ) (ps : List Place) → (total price (connected_items n ps) ≡ 0) × (total is_making (connected_items n ps) ≡ 0)
   connected_none n [] = (refl, refl)
   connected_none n (x ∷ ps) =
       let h = connected_none (suc n) ps in
@@ -330,7 +330,7 @@ module _ (d : Definition) (a : Accepted d) where
   connected_shallow n (x ∷ ps) = all_both is_shallow (numbered (connects n) 0 x.signals) (connected_items (suc n) ps) (attached_shallow n 0 x.signals) (connected_shallow (suc n) ps)
 
   -- from the first on
-  from_first : {A : Type 0} (xs : List A) (i : ℕ) (x : A) → slice_get xs i ≡ Some x → slice_get xs (0 + i) ≡ Some x
+  pub from_first : {A : Type 0} (xs : List A) (i : ℕ) (x : A) → slice_get xs i ≡ Some x → slice_get xs (0 + i) ≡ Some x
   from_first xs i x e = let s : 0 + i ≡ i = omega arith in ap (slice_get xs) s ∙ e
 
 pub build_begins : BuildBegins

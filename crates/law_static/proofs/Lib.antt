@@ -19,3 +19,4 @@ pub mod BuildCostProofs
 pub mod AtClass
 pub mod ConstructionProofs
 pub mod AttachedProofs
+pub mod ItemsProofs

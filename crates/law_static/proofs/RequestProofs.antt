@@ -45,7 +45,7 @@ among_first (x ∷ xs) (suc k) p e object before =
     let one = ap {B = ℕ} (λ b. cond b 0 1) (before 0 x (omega arith) refl) in
     omega (arith, h, one)
 
-object_below : (d : Definition) → WellRead d → (place : ℕ) → IsObject d place → place < objects_of d
+pub object_below : (d : Definition) → WellRead d → (place : ℕ) → IsObject d place → place < objects_of d
 object_below d well place object = among_first d.places place object.0 object.1 object.2 (λ j q less is. before j q less is q.is_prototype refl)
   where
     before : (j : ℕ) (q : Place) → j < place → slice_get d.places j ≡ Some q → (b : Bool) → q.is_prototype ≡ b → q.is_prototype ≡ false

@@ -11,3 +11,4 @@ pub mod Starts
 pub mod Means
 pub mod Constructions
 pub mod Attached
+pub mod Items

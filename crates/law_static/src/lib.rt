@@ -9,6 +9,7 @@ ghost use Rattle.law_static.specs.Subclass.{NamesFind, SpecsInherit, SignalsInhe
 ghost use Rattle.law_static.specs.Fits.{HoldsFits, HoldsLive, HoldsKind, HoldsSet, OperandsStand, ClassesAgree, GivenHold, GivenFit};
 ghost use Rattle.law_static.specs.Code.{InstructionsTaken, ProgramsGoOn, ProgramsWait, ProgramsBegin, FirstRegistersFit};
 ghost use Rattle.law_static.specs.Raises.{ChannelsKnown, ConnectionsKnown, SourcesKnown};
+ghost use Rattle.law_static.specs.Items.{SignalsComeLast};
 ghost use Rattle.law_static.specs.Attached.{AttachedFit, AttachedArePaid};
 ghost use Rattle.law_static.specs.Means.{HandlersMean, RaisedKnown};
 ghost use Rattle.law_static.specs.Starts.{StartsReach, DueWithin};
@@ -85,12 +86,13 @@ pub fn raises()
 {}
 
 /// A handler runs only at a channel that its signal and its detail can mean; and what the graph has of a channel is what runs there. The program
-/// of a signal of the definition takes what it is given, and is paid for where it runs.
+/// of a signal of the definition takes what it is given, and is paid for where it runs; the build connects it once all objects are made.
 pub fn meanings()
     ensures handlers { HandlersMean }
     ensures raised { RaisedKnown }
     ensures attached { AttachedFit }
     ensures paid { AttachedArePaid }
+    ensures last { SignalsComeLast }
 {}
 
 /// What an instruction raises at the place of its operand's object is within what it may start; and what is due at a property is within its node.
