@@ -11,3 +11,4 @@ pub mod StartingProofs
 pub mod SettlingProofs
 pub mod EndingProofs
 pub mod CarryingProofs
+pub mod ConnectingProofs

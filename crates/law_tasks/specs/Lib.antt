@@ -5,3 +5,4 @@ pub mod Starting
 pub mod Settling
 pub mod Ending
 pub mod Carrying
+pub mod Connecting

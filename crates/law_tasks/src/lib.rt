@@ -6,6 +6,7 @@ ghost use Rattle.law_tasks.specs.Starting.{SourcesAreFine, RunsAreFine, Answerin
 ghost use Rattle.law_tasks.specs.Settling.{SettlingIsFine};
 ghost use Rattle.law_tasks.specs.Ending.{UnawaitedAreFine, ConstructionsEnd};
 ghost use Rattle.law_tasks.specs.Carrying.{GetsAreFine, ReleasesAreFine};
+ghost use Rattle.law_tasks.specs.Connecting.{SignalsAreFine};
 ghost use Rattle.law_tasks.specs.Turns.{ClassHandlersAreFine, HandlersAreFine, TransfersAreFine};
 
 /// A binding is set free.
@@ -43,4 +44,9 @@ pub fn endings()
 pub fn carrying()
     ensures gets { GetsAreFine }
     ensures releases { ReleasesAreFine }
+{}
+
+/// The build connects a signal of the definition, or it is too late for it.
+pub fn connecting()
+    ensures fine { SignalsAreFine }
 {}
