@@ -20,3 +20,4 @@ pub mod AtClass
 pub mod ConstructionProofs
 pub mod AttachedProofs
 pub mod ItemsProofs
+pub mod MakingsProofs

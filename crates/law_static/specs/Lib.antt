@@ -12,3 +12,4 @@ pub mod Means
 pub mod Constructions
 pub mod Attached
 pub mod Items
+pub mod Makings
