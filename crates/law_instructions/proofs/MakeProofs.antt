@@ -122,20 +122,20 @@ all_by : (test : Spec → Bool) (xs : List Spec) → ((i : ℕ) (s : Spec) → s
 all_by test [] h = refl
 all_by test (x ∷ xs) h = ap (λ b. b && list_all test xs) (h 0 x refl) ∙ all_by test xs (λ i s e. h (suc i) s e)
 
-defaults_valid : (d : Definition) → TypesRead d → (class : ℕ) → list_all (has_valid_default d) (specs_of d class) ≡ true
+pub defaults_valid : (d : Definition) → TypesRead d → (class : ℕ) → list_all (has_valid_default d) (specs_of d class) ≡ true
 defaults_valid d types class = all_by (has_valid_default d) (specs_of d class) (λ slot s e. (types.specs class slot s e).default)
 
 -- ** what the machine does
 
-making_begins : (d : Definition) (w : World) (place : ℕ) (p : Place) (peer : Option ℕ) → place_at d place ≡ Some p → (type_of d p.class).is_abstract ≡ false →
+pub making_begins : (d : Definition) (w : World) (place : ℕ) (p : Place) (peer : Option ℕ) (held : Bool) → place_at d place ≡ Some p → (type_of d p.class).is_abstract ≡ false →
     list_all (has_valid_default d) (specs_of d p.class) ≡ true →
-    making d w place peer false
+    making d w place peer held
     ≡ Ok (record {
       world = said d (with_object d w (new_object d place p peer)) (lines.construct (next_identity w) (type_of d p.class).name);
-      tasks = Constructing (next_identity w) (construction d w place p) false ∷ [];
+      tasks = Constructing (next_identity w) (construction d w place p) held ∷ [];
     })
 unfolding making
-making_begins d w place p peer at concrete valid = rw (at, concrete, valid) refl
+making_begins d w place p peer held at concrete valid = rw (at, concrete, valid) refl
 
 made_leads : (d : Definition) (w : World) (rest : List Task) (f : Frame) (n to place : ℕ) (p : Place) (v : World) (task : Task) →
     making d w place (peer_to_take d w p) false ≡ Ok (record { world = v; tasks = task ∷ [] }) → to < length f.registers →
@@ -363,7 +363,7 @@ module _ {d : Definition} (to : ℕ) (id : List ℕ) (t : Due d (words.new to id
           fine_where t within (led f.into)
           (ap (left (suc n)) (creating_is d w rest (past f) to id k.place k.p true k.is k.has k.allowed e)
           ∙ made_leads d w rest (past f) (suc n) to k.place k.p v (Constructing new todo false)
-          (making_begins d w k.place k.p (peer_to_take d w k.p) k.has read_well.concrete (defaults_valid d well.types k.p.class)) (low t refl to refl))
+          (making_begins d w k.place k.p (peer_to_take d w k.p) false k.has read_well.concrete (defaults_valid d well.types k.p.class)) (low t refl to refl))
           (subst (λ into. IsGood d a most_counted (led into)) (sym (none_into t)) (makes_well (room_of e)))
       go false e =
           written_fine t refl (w.transcript ++ text_of_line d.types (lines.limit (codes "new")) ∷ []) to (kinds.at_or_null k.place) (Some (values.object None)) refl refl k.kinds_are refl

@@ -12,3 +12,4 @@ pub mod SettlingProofs
 pub mod EndingProofs
 pub mod CarryingProofs
 pub mod ConnectingProofs
+pub mod MakingProofs

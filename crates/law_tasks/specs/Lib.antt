@@ -6,3 +6,4 @@ pub mod Settling
 pub mod Ending
 pub mod Carrying
 pub mod Connecting
+pub mod Making
