@@ -1,27 +1,27 @@
 -- The build's items for objects.
-use Rattle.std.proofs.Common.{◌≡◌, inl, inr, ◌⊎◌, refl, sym, ap, subst, ◌∙◌, ℕ, zero, suc, ◌+◌, ◌<◌, ◌≤◌, Bool, true, false, cond, List, [], ◌∷◌, ◌++◌, length, map, Option, None, Some, slice_get, arith}
+use Rattle.std.proofs.Common.{◌≡◌, inl, refl, sym, ap, subst, ◌∙◌, ℕ, suc, ◌+◌, ◌<◌, ◌≤◌, Bool, true, false, cond, List, [], ◌∷◌, ◌++◌, length, map, Option, None, Some, slice_get, arith}
 use Rattle.std.specs.Prelude.{nat_eq, nat_le, option_map}
 use Rattle.std.specs.List.{filter, flat_map}
-use Rattle.std.proofs.lemmas.Bool.{eqb-true, eqb-false}
+use Rattle.std.proofs.lemmas.Bool.{eqb-true}
 use Rattle.ui_machine.specs.Seq.{total}
 use Rattle.ui_machine.specs.Definition.{Definition}
 use Rattle.ui_machine.specs.Definition.Places.{Given, value, named, Attached, Place}
 use Rattle.ui_machine.specs.Definition.Lookups.{place_at}
 use Rattle.ui_machine.specs.State.Tasks.{Item, makes, adopts, forwards, binds, connects}
-use Rattle.ui_machine.specs.Rules.Build.{adopts_if, made_items, forward_given, forward_of, forward_items, numbered, connected_items, is_making, build_items}
+use Rattle.ui_machine.specs.Rules.Build.{adopts_if, made_items, forward_given, forward_of, forward_items, numbered, connected_items, is_making}
 use Rattle.law_typing.specs.Rules.RegisterKinds.{class_at}
 use Rattle.law_typing.specs.Graph.Channels.{Channel, constructed, property, signal, of_class}
-use Rattle.law_typing.specs.Graph.{Raised, graph, place_of_channel, can_mean, signals_of, attached_to, attached_for, handlers_for}
+use Rattle.law_typing.specs.Graph.{Raised, place_of_channel, can_mean, signals_of, attached_to, attached_for, handlers_for}
 use Rattle.law_typing.specs.Graph.Tables.{Tables, of_program}
 use Rattle.law_typing.specs.Graph.Costs.{programs_cost}
 use Rattle.law_typing.specs.Verdict.Accepted.{Each}
 use Rattle.law_typing.specs.Laws.{IsIn}
-use Rattle.law_typing.specs.Laws.WellRead.{WellRead, IsObject}
 use Rattle.law_typing.specs.Good.Bindings.{is_binding}
 use Rattle.law_typing.specs.Good.Handlers.{connecting_cost}
 use Rattle.law_typing.proofs.Lists.{each_append, each_flat, each_in}
 use Rattle.law_typing.proofs.EdgeProofs.{append_right}
-use Rattle.law_static.specs.Makings.{ObjectsComeFirst, ItemsCostLess}
+use Rattle.law_static.specs.Makings.{ObjectsComeFirst, ItemsCostLess, AllAreMade}
+use Rattle.law_static.proofs.BuildCostProofs.{made_count}
 use Rattle.law_static.proofs.MeansProofs.{raised_known}
 use Rattle.law_static.proofs.PlanCostProofs.{total_append}
 
@@ -280,3 +280,14 @@ items_cost_less d costs before items e r there =
     let whole = ap (total g) e in
     let own = ap (λ (y : Raised). programs_cost costs y.handlers) known.0 in
     omega (arith, z1, z2, z3, most, u1, u2, u3, split, whole, own)
+
+pub all_are_made : AllAreMade
+all_are_made d a =
+    let l1 = made_items 0 d.places in
+    let l2 = forward_items 0 d.places in
+    let l3 = numbered binds 0 d.bindings in
+    let l4 = connected_items 0 d.places in
+    let count = made_count d a 0 d.places in
+    let late = all_zero is_making (late_items d) (late_make_none d) in
+    let u1 = total_append is_making l1 (late_items d) in
+    omega (arith, count, late, u1)

@@ -1,5 +1,5 @@
 -- The build's items for objects: they come first, in the order of the places, and what is connected later is reckoned at each place.
-use Rattle.std.specs.Prelude.{◌≡◌, ℕ, suc, ◌+◌, ◌≤◌, List, ◌∷◌, ◌++◌, length}
+use Rattle.std.specs.Prelude.{◌≡◌, ℕ, ◌≤◌, List, ◌∷◌, ◌++◌, length}
 use Rattle.ui_machine.specs.Seq.{total}
 use Rattle.ui_machine.specs.Definition.{Definition}
 use Rattle.ui_machine.specs.State.Tasks.{Item, makes}
@@ -8,7 +8,8 @@ use Rattle.law_typing.specs.Graph.{Raised, graph}
 use Rattle.law_typing.specs.Graph.Tables.{Tables}
 use Rattle.law_typing.specs.Graph.Costs.{programs_cost}
 use Rattle.law_typing.specs.Laws.{IsIn}
-use Rattle.law_typing.specs.Laws.WellRead.{WellRead, IsObject}
+use Rattle.law_typing.specs.Laws.WellRead.{WellRead, IsObject, objects_of}
+use Rattle.law_typing.specs.Verdict.Accepted.{Accepted}
 use Rattle.law_typing.specs.Good.Bindings.{is_binding}
 use Rattle.law_typing.specs.Good.Handlers.{connecting_cost}
 
@@ -30,3 +31,7 @@ abbrev pub ItemsCostLess : Type 0
 ItemsCostLess =
     (d : Definition) (costs : Tables) (done items : List Item) → build_items d ≡ done ++ items → (r : Raised) → IsIn r (graph d).raised →
     total (connecting_cost d costs r.channel) items ≤ programs_cost costs r.handlers
+
+-- all of them make the objects of the document
+abbrev pub AllAreMade : Type 0
+AllAreMade = (d : Definition) → Accepted d → total is_making (build_items d) ≡ objects_of d

@@ -9,7 +9,7 @@ ghost use Rattle.law_static.specs.Subclass.{NamesFind, SpecsInherit, SignalsInhe
 ghost use Rattle.law_static.specs.Fits.{HoldsFits, HoldsLive, HoldsKind, HoldsSet, OperandsStand, ClassesAgree, GivenHold, GivenFit};
 ghost use Rattle.law_static.specs.Code.{InstructionsTaken, ProgramsGoOn, ProgramsWait, ProgramsBegin, FirstRegistersFit};
 ghost use Rattle.law_static.specs.Raises.{ChannelsKnown, ConnectionsKnown, SourcesKnown};
-ghost use Rattle.law_static.specs.Makings.{ObjectsComeFirst, ItemsCostLess};
+ghost use Rattle.law_static.specs.Makings.{ObjectsComeFirst, ItemsCostLess, AllAreMade};
 ghost use Rattle.law_static.specs.Items.{SignalsComeLast};
 ghost use Rattle.law_static.specs.Attached.{AttachedFit, AttachedArePaid};
 ghost use Rattle.law_static.specs.Means.{HandlersMean, RaisedKnown};
@@ -120,4 +120,5 @@ pub fn constructions()
 pub fn items()
     ensures first { ObjectsComeFirst }
     ensures less { ItemsCostLess }
+    ensures made { AllAreMade }
 {}

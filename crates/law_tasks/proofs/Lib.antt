@@ -13,3 +13,4 @@ pub mod EndingProofs
 pub mod CarryingProofs
 pub mod ConnectingProofs
 pub mod MakingProofs
+pub mod BuiltProofs

@@ -7,3 +7,4 @@ pub mod Ending
 pub mod Carrying
 pub mod Connecting
 pub mod Making
+pub mod Built

@@ -6,6 +6,7 @@ ghost use Rattle.law_tasks.specs.Starting.{SourcesAreFine, RunsAreFine, Answerin
 ghost use Rattle.law_tasks.specs.Settling.{SettlingIsFine};
 ghost use Rattle.law_tasks.specs.Ending.{UnawaitedAreFine, ConstructionsEnd};
 ghost use Rattle.law_tasks.specs.Carrying.{GetsAreFine, ReleasesAreFine};
+ghost use Rattle.law_tasks.specs.Built.{BuildsEnd};
 ghost use Rattle.law_tasks.specs.Making.{ObjectsAreFine};
 ghost use Rattle.law_tasks.specs.Connecting.{SignalsAreFine};
 ghost use Rattle.law_tasks.specs.Turns.{ClassHandlersAreFine, HandlersAreFine, TransfersAreFine};
@@ -47,8 +48,10 @@ pub fn carrying()
     ensures releases { ReleasesAreFine }
 {}
 
-/// The build makes an object, whose construction is due; and it connects a signal of the definition, or it is too late for it.
+/// The build makes an object, whose construction is due; it connects a signal of the definition, or it is too late for it; and it ends, where
+/// each place is built.
 pub fn building()
     ensures objects { ObjectsAreFine }
     ensures signals { SignalsAreFine }
+    ensures end { BuildsEnd }
 {}

@@ -1,5 +1,5 @@
-use Rattle.law_static.proofs.MakingsProofs.{objects_come_first, items_cost_less}
+use Rattle.law_static.proofs.MakingsProofs.{objects_come_first, items_cost_less, all_are_made}
 use Rattle.law_static.proofs.items.Goals as goal
 
 pub returns : goal.returns
-returns c = record { first = objects_come_first; less = items_cost_less }
+returns c = record { first = objects_come_first; less = items_cost_less; made = all_are_made }
