@@ -11,6 +11,6 @@ pub mod StartingProofs
 pub mod SettlingProofs
 pub mod EndingProofs
 pub mod CarryingProofs
-pub mod ConnectingProofs
-pub mod MakingProofs
-pub mod BuiltProofs
+pub mod BuildSignalsProofs
+pub mod BuildObjectsProofs
+pub mod BuildEndProofs

@@ -5,6 +5,6 @@ pub mod Starting
 pub mod Settling
 pub mod Ending
 pub mod Carrying
-pub mod Connecting
-pub mod Making
-pub mod Built
+pub mod BuildSignals
+pub mod BuildObjects
+pub mod BuildEnd

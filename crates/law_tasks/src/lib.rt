@@ -6,9 +6,9 @@ ghost use Rattle.law_tasks.specs.Starting.{SourcesAreFine, RunsAreFine, Answerin
 ghost use Rattle.law_tasks.specs.Settling.{SettlingIsFine};
 ghost use Rattle.law_tasks.specs.Ending.{UnawaitedAreFine, ConstructionsEnd};
 ghost use Rattle.law_tasks.specs.Carrying.{GetsAreFine, ReleasesAreFine};
-ghost use Rattle.law_tasks.specs.Built.{BuildsEnd};
-ghost use Rattle.law_tasks.specs.Making.{ObjectsAreFine};
-ghost use Rattle.law_tasks.specs.Connecting.{SignalsAreFine};
+ghost use Rattle.law_tasks.specs.BuildEnd.{BuildsEnd};
+ghost use Rattle.law_tasks.specs.BuildObjects.{ObjectsAreFine};
+ghost use Rattle.law_tasks.specs.BuildSignals.{SignalsAreFine};
 ghost use Rattle.law_tasks.specs.Turns.{ClassHandlersAreFine, HandlersAreFine, TransfersAreFine};
 
 /// A binding is set free.

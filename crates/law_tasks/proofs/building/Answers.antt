@@ -1,6 +1,6 @@
-use Rattle.law_tasks.proofs.BuiltProofs.{builds_end}
-use Rattle.law_tasks.proofs.ConnectingProofs.{signals_are_fine}
-use Rattle.law_tasks.proofs.MakingProofs.{objects_are_fine}
+use Rattle.law_tasks.proofs.BuildEndProofs.{builds_end}
+use Rattle.law_tasks.proofs.BuildSignalsProofs.{signals_are_fine}
+use Rattle.law_tasks.proofs.BuildObjectsProofs.{objects_are_fine}
 use Rattle.law_tasks.proofs.building.Goals as goal
 
 pub returns : goal.returns

@@ -40,7 +40,7 @@ use Rattle.law_kept.specs.Attach.{MayAttach}
 use Rattle.law_kept.proofs.AttachProofs.{handler_attaches, handlers_wait_less}
 use Rattle.law_kept.proofs.Left.{each_to}
 use Rattle.law_kept.proofs.Lists.{objects_stay}
-use Rattle.law_tasks.specs.Connecting.{SignalsAreFine}
+use Rattle.law_tasks.specs.BuildSignals.{SignalsAreFine}
 use Rattle.law_tasks.proofs.First.{First, good_of, fine_where, StepIsFine, fine_of, costs, depths, most}
 
 -- ** what is known of the signal

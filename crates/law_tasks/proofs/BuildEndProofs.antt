@@ -16,7 +16,7 @@ use Rattle.law_static.proofs.MakingsProofs.{all_are_made}
 use Rattle.law_static.proofs.PlanCostProofs.{total_append}
 use Rattle.law_kept.proofs.AttachProofs.{handlers_wait_less}
 use Rattle.law_kept.proofs.Left.{each_to}
-use Rattle.law_tasks.specs.Built.{BuildsEnd}
+use Rattle.law_tasks.specs.BuildEnd.{BuildsEnd}
 use Rattle.law_tasks.proofs.First.{First, good_of, fine_where, none_later, StepIsFine, fine_of, costs, depths}
 
 module _ {d : Definition} (t : First d (Building [])) where

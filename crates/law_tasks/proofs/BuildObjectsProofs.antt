@@ -48,7 +48,7 @@ use Rattle.law_kept.proofs.Lists.{objects_stay}
 use Rattle.law_kept.proofs.MadeProofs.{new_whole_good}
 use Rattle.law_kept.proofs.NewProofs.{found, new_stands}
 use Rattle.law_instructions.proofs.MakeProofs.{defaults_valid, making_begins}
-use Rattle.law_tasks.specs.Making.{ObjectsAreFine}
+use Rattle.law_tasks.specs.BuildObjects.{ObjectsAreFine}
 use Rattle.law_tasks.proofs.First.{First, fine_where, StepIsFine, fine_of, costs, depths, most}
 
 -- ** the peer
