@@ -29,8 +29,8 @@ pub record IsNew (d : Definition) (w : World) (place : ℕ) (p : Place) (o : Obj
   pub free : TakesFree w o
   pub peer : PeerGood d (lent o.peer (next_identity w) w.peers) (next_identity w) o
 
--- where what the build has still to connect at its place costs no more than is reckoned there, and it is frozen in the builder's construction
--- if it has a paired property
+-- where what the build has still to connect at its place costs no more than is reckoned there, and it is frozen in the builder's
+-- construction if it has a paired property
 abbrev pub NewWholeGood : Type 0
 NewWholeGood =
     (d : Definition) → TypesRead d → (costs depths : Tables) (agenda : List Task) (w : World) (place : ℕ) (p : Place) (o : Object) →
