@@ -1,14 +1,19 @@
--- An emission ends for which no program waits, and a construction that is not the builder's.
-use Rattle.std.proofs.Common.{◌≡◌, refl, sym, ap, ◌∙◌, ℕ, Bool, true, false, cond, List, [], ◌∷◌, ◌++◌, Option, None, Some, Ok, arith}
+-- An emission ends: the program that waits for its result takes it. And a construction ends that is not the builder's.
+use Rattle.std.proofs.Common.{◌≡◌, refl, sym, ap, subst, ◌∙◌, ℕ, zero, suc, Bool, true, false, cond, List, [], ◌∷◌, ◌++◌, Option, None, Some, Ok, slice_get, arith}
 use Rattle.std.specs.Prelude.{nat_eq, option_map, is_some}
-use Rattle.ui_machine.specs.Definition.{Definition}
+use Rattle.std.specs.List.{list_all}
+use Rattle.ui_machine.specs.Seq.{read, write}
+use Rattle.ui_machine.specs.Definition.{Definition, Class}
+use Rattle.ui_machine.specs.Definition.Lookups.{no_class}
+use Rattle.ui_machine.specs.Definition.Kinds as kinds
 use Rattle.ui_machine.specs.Definition.Kinds.{Kind}
 use Rattle.ui_machine.specs.Definition.Places.{Place}
 use Rattle.ui_machine.specs.Definition.Signals.{Signal}
 use Rattle.ui_machine.specs.Definition.Values.{Value}
 use Rattle.ui_machine.specs.Output.Lines as lines
 use Rattle.ui_machine.specs.Output.Text.{text_of_line}
-use Rattle.ui_machine.specs.Rules.Accumulation.{resulting, result_of, passed_down, told, ending}
+use Rattle.ui_machine.specs.Rules.Accumulation.{resulting, or_zero, result_of, taken, passed_down, told, ending}
+use Rattle.ui_machine.specs.Rules.Transform.{kind_fits}
 use Rattle.ui_machine.specs.Rules.EmissionPlan.{signal_of, signal_at}
 use Rattle.ui_machine.specs.State.Config.{World}
 use Rattle.ui_machine.specs.State.Objects.{Object, living}
@@ -17,16 +22,26 @@ use Rattle.ui_machine.specs.Rules.Construction.{constructed}
 use Rattle.ui_machine.specs.Steps.{left, uncounted}
 use Rattle.law_typing.specs.Rules.RegisterKinds.{Kinds, class_at}
 use Rattle.law_typing.specs.Graph.Tables.{Tables}
-use Rattle.law_typing.specs.Good.Standing.{Standing, standing, view, View}
+use Rattle.law_typing.specs.Laws.WellRead.{WellRead, result_has_values, has_values}
+use Rattle.law_typing.specs.Good.Standing.{Standing, standing, view, View, class_by}
 use Rattle.law_typing.specs.Good.Objects.{ObjectsGood}
 use Rattle.law_typing.specs.Good.ComingDown.{none, results, result_of_emission, awaited, Comes}
 use Rattle.law_typing.specs.Good.Programs.{RunningGood}
 use Rattle.law_typing.specs.Good.Emissions.{EmissionFits}
 use Rattle.law_typing.specs.Good.Agenda.{AgendaGood}
 use Rattle.law_kept.proofs.NewProofs.{at_place}
-use Rattle.law_tasks.proofs.First.{First, fine_where, StepIsFine, fine_of, fine_above, costs, depths, most}
+use Rattle.law_typing.proofs.Lists.{both_parts}
+use Rattle.law_typing.proofs.Numbered.{all_get}
+use Rattle.law_instructions.proofs.Converted.{or_zero_fits}
+use Rattle.law_tasks.proofs.First.{First, fine_where, StepIsFine, fine_of, costs, depths, most}
+use Rattle.law_tasks.proofs.Received.{Above, first, fine_above_these, after_value, goes_on, register_is, kept_of, frozen_still, receives, received}
 use Rattle.law_tasks.proofs.Done.{done}
-use Rattle.law_tasks.specs.Ending.{waits, UnawaitedAreFine, ConstructionsEnd}
+use Rattle.law_tasks.specs.Ending.{EmissionsEnd, ConstructionsEnd}
+
+-- whether the first of these is a program that waits for an emission's result
+abbrev waits : List Task → Bool
+waits (Running f ∷ rest) = is_some f.into
+waits rest = false
 
 -- ** what an emission results in
 
@@ -147,10 +162,10 @@ not_awaited d costs depths v most k (Due source ∷ rest) budget e g = g
 
 -- ** the steps
 
-leads : (d : Definition) (w : World) (e : Emission) (rest : List Task) (n : ℕ) (v : Option Value) → resulting d w e ≡ Ok v → passed_down rest v ≡ Ok rest →
-    left n (ending d w e rest) ≡ Ok (record { world = told d w e.by_event v; agenda = rest; counted = n })
+leads : (d : Definition) (w : World) (e : Emission) (rest : List Task) (n : ℕ) (v : Option Value) (agenda : List Task) → resulting d w e ≡ Ok v → passed_down rest v ≡ Ok agenda →
+    left n (ending d w e rest) ≡ Ok (record { world = told d w e.by_event v; agenda = agenda; counted = n })
 unfolding ending left
-leads d w e rest n v is goes = rw (is, goes) refl
+leads d w e rest n v agenda is goes = rw (is, goes) refl
 
 module _ {d : Definition} (e : Emission) (t : First d (Emitting e [])) where
   open t use {a, w, rest, n, g}
@@ -159,7 +174,7 @@ module _ {d : Definition} (e : Emission) (t : First d (Emitting e [])) where
   emission_fine none_waits =
       let fits = g.agenda.3.fits in
       let v = result_of d fits.sig.result e.value in
-      let does = leads d w e rest n v (results_in d w e fits.sig (emits d w g.objects e fits)) (passes rest v none_waits) in
+      let does = leads d w e rest n v rest (results_in d w e fits.sig (emits d w g.objects e fits)) (passes rest v none_waits) in
       let said = tells d w e.by_event v in
       fine_where t (record { world = record w { transcript = said.lines; result = said.value }; agenda = rest; counted = n })
       (does ∙ ap (λ world. Ok (record { world = world; agenda = rest; counted = n })) said.is)
@@ -171,8 +186,91 @@ module _ {d : Definition} (e : Emission) (t : First d (Emitting e [])) where
         good = not_awaited d (costs t) (depths t) (view w) (most t) (result_of_emission d (standing w.objects) e) rest g.agenda.2 none_waits g.agenda.6;
       }))
 
-pub unawaited_are_fine : UnawaitedAreFine
-unawaited_are_fine e = fine_above (λ rest. waits rest ≡ false) (λ d t none_waits. emission_fine e t none_waits)
+-- ** a program waits for the result
+
+-- whether one does, and which register is to get it
+record Waiting (rest : List Task) : Type 0 where
+  pub f : Frame
+  pub tasks : List Task
+  pub is : rest ≡ Running f ∷ tasks
+  pub to : ℕ
+  pub into : f.into ≡ Some to
+
+waiting : (rest : List Task) → waits rest ≡ true → Waiting rest
+waiting (Running f ∷ tasks) e = go f.into refl e
+  where
+    go : (into : Option ℕ) → f.into ≡ into → is_some into ≡ true → Waiting (Running f ∷ tasks)
+    go None is e = absurd (cc)
+    go (Some to) is e = record { f = f; tasks = tasks; is = refl; to = to; into = is }
+waiting _ e = absurd (cc)
+
+result_is : (d : Definition) (s : Standing) (e : Emission) (fits : EmissionFits d s e) → result_of_emission d s e ≡ fits.sig.result
+result_is d s e fits = rw (fits.is, fits.of_class, fits.has) refl
+
+what_comes : (into : Option ℕ) (to : ℕ) (k : Option Kind) → into ≡ Some to → Comes into (results k) → (kind : Kind) × (k ≡ Some kind)
+what_comes None to k e c = absurd (cc)
+what_comes (Some r) to k e c = (c.0, (let f = c.1 in let s : k ≡ Some c.0 = cc in s))
+
+awaits : (ks : Kinds) (into : Option ℕ) (to : ℕ) (k : Option Kind) (kind : Kind) → into ≡ Some to → k ≡ Some kind → awaited ks into (results k) ≡ write kinds.unset ks to (kinds.plain kind)
+awaits ks into to k kind e is = rw (e, is) refl
+
+-- the zero value of a signal's result is of its kind
+signal_read : (test : Signal → Bool) (cs : List Class) (class number : ℕ) (s : Signal) → list_all (λ (c : Class). list_all test c.signals) cs ≡ true →
+    slice_get (read no_class cs class).signals number ≡ Some s → test s ≡ true
+signal_read test [] class number s all e = absurd (cc)
+signal_read test (c ∷ cs) zero number s all e = all_get test c.signals number s (both_parts (list_all test c.signals) _ all).0 e
+signal_read test (c ∷ cs) (suc class) number s all e = signal_read test cs class number s (both_parts (list_all test c.signals) _ all).1 e
+
+value_fits : (d : Definition) → WellRead d → (s : Standing) (e : Emission) (fits : EmissionFits d s e) (kind : Kind) → fits.sig.result ≡ Some kind →
+    kind_fits (class_by d s) d.types (or_zero d kind e.value) kind ≡ true
+value_fits d well s e fits kind is =
+    let read = signal_read (result_has_values d) d.classes fits.class e.signal fits.sig well.types.results fits.has in
+    let some : has_values d kind ≡ true = rw is at read in
+    or_zero_fits (class_by d s) d.types d refl kind e.value
+    (λ v has. (let x = fits.value v has in let same : x.0 ≡ kind = (let f = sym x.1 ∙ is in cc) in subst (λ kind. kind_fits (class_by d s) d.types v kind ≡ true) same x.2))
+    (λ t of_kind. subst (λ k. has_values d k ≡ true) of_kind some)
+
+module _ {d : Definition} (e : Emission) (f : Frame) (tasks : List Task) (x : Above d (Emitting e []) (Running f ∷ tasks)) (to : ℕ) (into : f.into ≡ Some to) where
+  open x use {well, w, n, g}
+
+  abbrev s : Standing
+  s = standing w.objects
+
+  awaited_fine : StepIsFine (first x)
+  awaited_fine =
+      let fits = g.agenda.3.fits in
+      let below = g.agenda.6 in
+      let kind = what_comes f.into to (result_of_emission d s e) into below.3.1.comes in
+      let is : fits.sig.result ≡ Some kind.0 = sym (result_is d s e fits) ∙ kind.1 in
+      let v = or_zero d kind.0 e.value in
+      let up = results (result_of_emission d s e) in
+      let r = below.3.1 in
+      let comes = awaits r.ks f.into to (result_of_emission d s e) kind.0 into kind.1 in
+      let low = register_is d (costs (first x)) (depths (first x)) s up f below.0 below.1 r to well kind.0 comes in
+      let kept = kept_of d (costs (first x)) (depths (first x)) s up f below.0 below.1 r to into in
+      let gives : result_of d fits.sig.result e.value ≡ Some v = ap (λ k. result_of d k e.value) is in
+      let takes : passed_down (Running f ∷ tasks) (Some v) ≡ Ok (Running (after_value f to v) ∷ tasks) = ap (λ into. taken into f tasks (Some v)) into ∙ goes_on f tasks to v low in
+      let does = leads d w e (Running f ∷ tasks) n (Some v) (Running (after_value f to v) ∷ tasks) (results_in d w e fits.sig (emits d w g.objects e fits) ∙ ap (λ v. Ok v) gives) takes in
+      let said = tells d w e.by_event (Some v) in
+      fine_where (first x) (record { world = record w { transcript = said.lines; result = said.value }; agenda = Running (after_value f to v) ∷ tasks; counted = n })
+      (does ∙ ap (λ world. Ok (record { world = world; agenda = Running (after_value f to v) ∷ tasks; counted = n })) said.is)
+      (received x to v said.lines said.value
+      (record {
+        alike = record { items = λ f. omega arith; unset = λ number. omega arith; carrying = omega arith; makes = omega arith; constructs = λ id. omega arith };
+        unfrozen = λ id. refl;
+        build = λ build. build;
+        kept = λ id. frozen_still d (costs (first x)) (depths (first x)) s up f below.0 below.1 r to v id kept;
+        good = receives d (costs (first x)) (depths (first x)) s up f below.0 below.1 r to kind.0 v comes low (value_fits d well s e fits kind.0 is);
+      }))
+
+pub emissions_end : EmissionsEnd
+emissions_end e = fine_of (λ d t. ends d t (waits t.rest) refl)
+  where
+    ends : (d : Definition) (t : First d (Emitting e [])) (b : Bool) → waits t.rest ≡ b → StepIsFine t
+    ends d t false none_waits = emission_fine e t none_waits
+    ends d t true waits = let p = waiting t.rest waits in fine_above_these t (Running p.f ∷ p.tasks) p.is (λ x. awaited_fine e p.f p.tasks x p.to p.into)
+
+-- ** a construction
 
 no_more : (b : Bool) → ◌≡◌ {A = ℕ} (cond b 0 0) 0
 no_more true = refl

@@ -4,6 +4,8 @@ pub mod Lowest
 pub mod Above
 pub mod Moving
 pub mod Done
+pub mod Registers
+pub mod Received
 pub mod FreeingProofs
 pub mod TurnProofs
 pub mod TransferProofs

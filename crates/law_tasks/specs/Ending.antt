@@ -1,16 +1,11 @@
 -- Tasks that end.
-use Rattle.std.specs.Prelude.{◌≡◌, ℕ, Bool, false, List, [], ◌∷◌, is_some}
-use Rattle.ui_machine.specs.State.Tasks.{Emission, Task, Emitting, Running, Constructing}
-use Rattle.law_tasks.specs.First.{IsFine, IsFineAbove}
+use Rattle.std.specs.Prelude.{ℕ, false, []}
+use Rattle.ui_machine.specs.State.Tasks.{Emission, Emitting, Constructing}
+use Rattle.law_tasks.specs.First.{IsFine}
 
--- whether the first of these is a program that waits for an emission's result
-abbrev pub waits : List Task → Bool
-waits (Running f ∷ rest) = is_some f.into
-waits rest = false
-
--- an emission ends for which no program waits: an event is told of its result, or nobody
-abbrev pub UnawaitedAreFine : Type 0
-UnawaitedAreFine = (e : Emission) → IsFineAbove (λ rest. waits rest ≡ false) (Emitting e [])
+-- an emission ends: the program that waits for its result takes it, an event is told of it, or nobody asks
+abbrev pub EmissionsEnd : Type 0
+EmissionsEnd = (e : Emission) → IsFine (Emitting e [])
 
 -- a construction ends that is not the builder's
 abbrev pub ConstructionsEnd : Type 0

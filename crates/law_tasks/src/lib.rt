@@ -4,7 +4,7 @@
 ghost use Rattle.law_tasks.specs.Freeing.{FreeingsAreFine};
 ghost use Rattle.law_tasks.specs.Starting.{SourcesAreFine, RunsAreFine, AnsweringsWait};
 ghost use Rattle.law_tasks.specs.Settling.{SettlingIsFine};
-ghost use Rattle.law_tasks.specs.Ending.{UnawaitedAreFine, ConstructionsEnd};
+ghost use Rattle.law_tasks.specs.Ending.{EmissionsEnd, ConstructionsEnd};
 ghost use Rattle.law_tasks.specs.Carrying.{GetsAreFine, ReleasesAreFine};
 ghost use Rattle.law_tasks.specs.BuildEnd.{BuildsEnd};
 ghost use Rattle.law_tasks.specs.BuildObjects.{ObjectsAreFine};
@@ -36,9 +36,9 @@ pub fn settling()
     ensures fine { SettlingIsFine }
 {}
 
-/// An emission ends for which no program waits, and a construction that is not the builder's.
+/// An emission ends, with its result to the program that waits for it; and a construction ends that is not the builder's.
 pub fn endings()
-    ensures unawaited { UnawaitedAreFine }
+    ensures emissions { EmissionsEnd }
     ensures constructions { ConstructionsEnd }
 {}
 

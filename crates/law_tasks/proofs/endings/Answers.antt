@@ -1,5 +1,5 @@
-use Rattle.law_tasks.proofs.EndingProofs.{unawaited_are_fine, constructions_end}
+use Rattle.law_tasks.proofs.EndingProofs.{emissions_end, constructions_end}
 use Rattle.law_tasks.proofs.endings.Goals as goal
 
 pub returns : goal.returns
-returns c = record { unawaited = unawaited_are_fine; constructions = constructions_end }
+returns c = record { emissions = emissions_end; constructions = constructions_end }
