@@ -1,6 +1,7 @@
 -- A program calls a peer, and waits for its answer.
 use Rattle.std.proofs.Common.{◌≡◌, refl, sym, ap, subst, ◌∙◌, ℕ, suc, true, List, [], ◌∷◌, length, drop, Option, None, Some, Ok, slice_get, arith, lt-ltb}
 use Rattle.std.specs.Prelude.{nat_lt, option_map}
+use Rattle.std.specs.List.{list_all}
 use Rattle.ui_machine.specs.Definition.Kinds as kinds
 use Rattle.ui_machine.specs.Definition.Names.{place_named}
 use Rattle.ui_machine.specs.Definition.Signals.{Method, Shape}
@@ -24,9 +25,11 @@ use Rattle.law_typing.specs.Rules.RegisterKinds.{Kinds}
 use Rattle.law_typing.specs.Rules.Typing as typing
 use Rattle.law_typing.specs.Rules.Typing.{after, arguments, methods_of, methods_for, method_named}
 use Rattle.law_typing.specs.Rules.Brackets.{opened, keeps}
+use Rattle.law_typing.specs.Laws.WellRead.{WellRead, has_values}
 use Rattle.law_typing.specs.Good.Standing.{standing, view, View}
 use Rattle.law_typing.specs.Good.Objects.{PeerGood}
 use Rattle.law_typing.specs.Good.ComingDown.{answers, down, awaited, Comes, TakesNone}
+use Rattle.law_typing.proofs.Numbered.{all_get}
 use Rattle.law_static.proofs.FitsProofs.{classes_agree}
 use Rattle.law_instructions.specs.Calling.{CallsAreFine}
 use Rattle.law_instructions.proofs.Around.{Due, r, taken, none_into, StepIsFine, fine_of}
@@ -88,6 +91,16 @@ calling_is d ks to object name args next e =
       kinds_are = (let f = u.2 in let s : with_kind ks to (kinds.plain z.0.result) ≡ next = cc in sym s);
     }
 
+-- what a method of a shape answers has a value
+method_read : (d : Definition) → WellRead d → (shape number : ℕ) (m : Method) → slice_get (methods_of (slice_get d.shapes shape)) number ≡ Some m → has_values d m.result ≡ true
+method_read d well shape number m has = go (slice_get d.shapes shape) refl has
+  where
+    go : (o : Option Shape) → slice_get d.shapes shape ≡ o → slice_get (methods_of o) number ≡ Some m → has_values d m.result ≡ true
+    go None is e = absurd (cc)
+    go (Some s) is e =
+        let all = all_get (λ (s : Shape). list_all (λ (m : Method). has_values d m.result) s.methods) d.shapes shape s well.types.replies is in
+        all_get (λ (m : Method). has_values d m.result) s.methods number m all e
+
 -- ** the peer
 
 -- an object of a class with a shape has a peer of it
@@ -139,6 +152,7 @@ module _ {d : Definition} (to object : ℕ) (name : List ℕ) (args : List ℕ) 
             is = x.3;
             has = has;
             args_fit = vs.fit;
+            value = method_read d t.well k.shape k.number k.m k.has;
             waits = (waiting t refl f.into, rest, refl, low, ap (λ code. keeps (opened code) (Some to)) (code_next t refl f.registers) ∙ (taken t).brackets);
           },
         );

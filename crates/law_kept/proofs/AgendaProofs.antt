@@ -145,7 +145,7 @@ module _ (d : Definition) (costs depths : Tables) (v z : View) where
 
   making_kept : (builder : List Held) → ((place id : ℕ) → read unbuilt builder place ≡ built id → Stays v.stands z.stands id) → (place : ℕ) (m : Making) →
       MakingGood d v.stands builder place m → MakingGood d z.stands builder place m
-  making_kept builder held place (sets slot x) g = (g.0, g.1, g.2, given_lives x builder held g.4 g.3, g.4)
+  making_kept builder held place (sets slot x) g = (g.0, g.1, g.2, given_lives x builder held g.4 g.3, g.4, g.5)
   making_kept builder held place (runs program) g = g
   making_kept builder held place thaws g = tt
 
@@ -185,6 +185,7 @@ module _ (d : Definition) (costs depths : Tables) (v z : View) where
       goes_back = g.1.goes_back;
       cheap = g.1.cheap;
       shallow = g.1.shallow;
+      one = g.1.one;
     },
   )
   task_kept (Unsetting number) w up below steps frames g = g
@@ -222,6 +223,7 @@ module _ (d : Definition) (costs depths : Tables) (v z : View) where
           is = peer.1;
           has = ap (λ ms. slice_get ms call.method) peer.2 ∙ g.1.has;
           args_fit = args_kept d v.stands z.stands call.args g.1.m.params (keeps_more v.stands z.stands (λ o. total (in_value o) call.args) (λ o. needed o (Calling call)) (λ o. omega arith) w.stands) g.1.args_fit;
+          value = g.1.value;
           waits = g.1.waits;
         },
       )

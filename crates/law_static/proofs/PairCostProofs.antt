@@ -42,7 +42,7 @@ end_of c x e = go (same_channel (source_of x) c) refl e
     go true t f = inl t
     go false t f = inr f
 
-sharing : (c : Channel) (x y : Bind) → has_end c x ≡ true → has_end c y ≡ true → shares_end x y ≡ true
+pub sharing : (c : Channel) (x y : Bind) → has_end c x ≡ true → has_end c y ≡ true → shares_end x y ≡ true
 sharing c x y e f = go (end_of c x e) (end_of c y f)
   where
     go : (same_channel (source_of x) c ≡ true) ⊎ (same_channel (target_of x) c ≡ true) → (same_channel (source_of y) c ≡ true) ⊎ (same_channel (target_of y) c ≡ true) → shares_end x y ≡ true
@@ -160,7 +160,7 @@ module _ (d : Definition) (costs : Tables) (below : List Task) (c : Channel) whe
 
   -- ** while the pair sets below
 
-  is_set_at : (xs : List Bind) (n : ℕ) → is_setting_from below c n xs ≡ true → (k : ℕ) × (y : Bind) × (slice_get xs k ≡ Some y) × (is_setting_at below c (n + k) y ≡ true)
+  pub is_set_at : (xs : List Bind) (n : ℕ) → is_setting_from below c n xs ≡ true → (k : ℕ) × (y : Bind) × (slice_get xs k ≡ Some y) × (is_setting_at below c (n + k) y ≡ true)
   is_set_at [] n e = absurd (cc)
   is_set_at (x ∷ xs) n e = go (is_setting_at below c n x) refl (λ f. is_set_at xs (suc n) f) e
     where
@@ -175,7 +175,7 @@ module _ (d : Definition) (costs : Tables) (below : List Task) (c : Channel) whe
       go true t rec f = (0, x, refl, (let same : n + 0 ≡ n = omega arith in subst (λ m. is_setting_at below c m x ≡ true) (sym same) t))
       go false t rec f = later (rec f)
 
-set_from : (below : List Task) (c : Channel) (xs : List Bind) (n k m : ℕ) (y : Bind) → m ≡ n + k → slice_get xs k ≡ Some y → is_setting_at below c m y ≡ true → is_setting_from below c n xs ≡ true
+pub set_from : (below : List Task) (c : Channel) (xs : List Bind) (n k m : ℕ) (y : Bind) → m ≡ n + k → slice_get xs k ≡ Some y → is_setting_at below c m y ≡ true → is_setting_from below c n xs ≡ true
 set_from below c [] n k m y at e f = absurd (cc)
 set_from below c (x ∷ xs) n zero m y at e f =
     let s : y ≡ x = cc in

@@ -84,11 +84,12 @@ module _ (d : Definition) (costs depths : Tables) (v : View) (number : ℕ) wher
       goes_back = g.1.goes_back;
       cheap = g.1.cheap;
       shallow = g.1.shallow;
+      one = g.1.one;
     },
   )
   task_freed (Calling call) up below steps frames g = (
     g.0,
-    record { lives = g.1.lives; p = g.1.p; m = g.1.m; is = g.1.is; has = g.1.has; args_fit = g.1.args_fit; waits = g.1.waits },
+    record { lives = g.1.lives; p = g.1.p; m = g.1.m; is = g.1.is; has = g.1.has; args_fit = g.1.args_fit; value = g.1.value; waits = g.1.waits },
   )
   task_freed (Constructing id todo held) up below steps frames g = (
     g.0,

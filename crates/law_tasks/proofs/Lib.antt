@@ -6,6 +6,7 @@ pub mod Moving
 pub mod Done
 pub mod Registers
 pub mod Received
+pub mod Pairs
 pub mod FreeingProofs
 pub mod TurnProofs
 pub mod TransferProofs

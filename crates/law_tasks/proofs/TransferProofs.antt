@@ -1,26 +1,56 @@
 -- The turn of an emission that begins a transfer of a binding, or is passed over.
-use Rattle.std.proofs.Common.{◌≡◌, refl, sym, ap, subst, ◌∙◌, ℕ, ◌+◌, Bool, true, false, List, [], ◌∷◌, ◌++◌, length, Option, None, Some, slice_get, arith}
+use Rattle.std.proofs.Common.{◌≡◌, refl, sym, ap, subst, ◌∙◌, ℕ, ◌+◌, ◌≤◌, Bool, true, false, cond, List, [], ◌∷◌, ◌++◌, length, Option, None, Some, slice_get, arith}
+use Rattle.std.specs.Prelude.{nat_eq}
+use Rattle.std.proofs.lemmas.Bool.{eqb-true}
 use Rattle.ui_machine.specs.Seq.{total}
 use Rattle.ui_machine.specs.Definition.{Definition}
+use Rattle.ui_machine.specs.Definition.Places.{Bind}
 use Rattle.ui_machine.specs.Rules.Build.{of_items}
 use Rattle.ui_machine.specs.Rules.Transfers.{transfer_for}
 use Rattle.ui_machine.specs.State.Bindings.{Binding, binding_of}
+use Rattle.ui_machine.specs.State.Objects.{Objects}
 use Rattle.ui_machine.specs.State.Config.{starts}
 use Rattle.ui_machine.specs.State.Tasks as config
 use Rattle.ui_machine.specs.State.Tasks.{Item, PlanEntry, Emission, Task, Emitting, Transferring}
 use Rattle.ui_machine.specs.Steps.{uncounted}
 use Rattle.law_typing.specs.Laws.StepsKeepGood.{IsGood}
-use Rattle.law_typing.specs.Good.Standing.{standing, view}
+use Rattle.law_typing.specs.Graph.Channels.{is_pair, source_of}
+use Rattle.law_typing.specs.Verdict.Accepted.{Each, Accepted}
+use Rattle.law_typing.specs.Good.Bindings.{BindingGood}
+use Rattle.law_typing.specs.Good.Standing.{Standing, standing, view}
 use Rattle.law_typing.specs.Good.Objects.{PeersGood}
 use Rattle.law_typing.specs.Good.Builds.{is_for_builder}
-use Rattle.law_typing.specs.Good.DueCosts.{unsets, turn_cost, turn_depth}
+use Rattle.law_typing.specs.Good.DueCosts.{unsets, transfer_cost, turn_cost, turn_depth}
 use Rattle.law_typing.specs.Good.Freezes.{PairsGood}
 use Rattle.law_kept.proofs.AlikeProofs.{build_stays}
 use Rattle.law_tasks.proofs.First.{First, good_of, fine_where, StepIsFine, fine_of, costs, depths}
 use Rattle.law_tasks.proofs.Lowest.{lowest_above}
 use Rattle.law_tasks.proofs.Moving.{handlers_moved, bindings_moved, cost_same, depth_same}
 use Rattle.law_tasks.proofs.TurnProofs.{passed_over}
+use Rattle.law_tasks.proofs.Pairs.{source_end, not_setting}
 use Rattle.law_tasks.specs.Turns.{TransfersAreFine}
+
+-- the binding that a number finds is of that number, and good
+binding_found : (d : Definition) (s : Standing) (agenda : List Task) (os : Objects) (bs : List Binding) (number : ℕ) (b : Binding) → Each (BindingGood d s agenda os) bs → binding_of number bs ≡ Some b →
+    BindingGood d s agenda os b × (b.number ≡ number)
+binding_found d s agenda os [] number b all e = absurd (cc)
+binding_found d s agenda os (x ∷ bs) number b all e = go (nat_eq x.number number) refl (λ e. binding_found d s agenda os bs number b all.1 e)
+  where
+    go : (t : Bool) → nat_eq x.number number ≡ t → (binding_of number bs ≡ Some b → BindingGood d s agenda os b × (b.number ≡ number)) → BindingGood d s agenda os b × (b.number ≡ number)
+    go true t later =
+        let f = sym (ap (λ t. cond t (Some x) (binding_of number bs)) t) ∙ e in
+        let same : x ≡ b = cc in
+        (subst (BindingGood d s agenda os) same all.0, ap (λ (b : Binding). b.number) (sym same) ∙ eqb-true x.number number t)
+    go false t later = later (sym (ap (λ t. cond t (Some x) (binding_of number bs)) t) ∙ e)
+
+-- a transfer whose binding is not to be set free below costs its step
+paid : (d : Definition) (a : Accepted d) (below : List Task) (number : ℕ) (back : Bool) (x : Bind) → slice_get d.bindings number ≡ Some x → total (unsets number) below ≡ 0 →
+    1 ≤ transfer_cost d a.weighed.costs below back (slice_get d.bindings number)
+paid d a below number back x is free = subst (λ o. 1 ≤ transfer_cost d a.weighed.costs below back o) (sym is) (go (is_pair x) refl)
+  where
+    go : (p : Bool) → is_pair x ≡ p → 1 ≤ transfer_cost d a.weighed.costs below back (Some x)
+    go false p = rw p (omega arith)
+    go true p = let apart = not_setting d a below number x (record { is = is; pair = p }) (source_of x) (source_end x) free in rw (p, apart) (omega arith)
 
 module _ {d : Definition} (e : Emission) (number : ℕ) (back : Bool) (turns : List PlanEntry) (t : First d (Emitting e (config.transfer number back ∷ turns))) where
   open t use {a, w, rest, n, g}
@@ -47,6 +77,13 @@ module _ {d : Definition} (e : Emission) (number : ℕ) (back : Bool) (turns : L
       before = λ some. absurd (let none = (g.pairs.before (omega (arith, some))).0 in let found = sym is ∙ ap (binding_of number) none in cc);
       one = (let old = g.pairs.one in omega (arith, old));
     }
+
+    -- the transfer of a binding that does not set is paid for
+    counted_step : 1 ≤ turn_cost d (costs t) (view w) rest (config.transfer number back)
+    counted_step =
+        let good = binding_found d (standing w.objects) (Emitting e (config.transfer number back ∷ turns) ∷ rest) w.objects w.bindings number b g.bindings.each is in
+        let free : total (unsets number) rest ≡ 0 = (let none = good.0.setting in let sets = ap {B = ℕ} (λ b. cond b 1 0) still in let same = ap (λ n. total (unsets n) rest) good.1 in omega (arith, none, sets, same)) in
+        paid d a rest number back good.0.bind (sym (ap (slice_get d.bindings) good.1) ∙ good.0.is) free
 
     no_longer : (x : Binding) → binding_of number w.bindings ≡ Some x → x.busy ≡ false
     no_longer x found = let same : b ≡ x = (let f = sym is ∙ found in cc) in subst (λ (x : Binding). x.busy ≡ false) same still
@@ -86,6 +123,7 @@ module _ {d : Definition} (e : Emission) (number : ℕ) (back : Bool) (turns : L
                 still = no_longer;
                 goes_back = old.turns_fit.0.0;
                 cheap = (let same = cost_same d rest (Emitting e turns ∷ rest) unset_above (costs t) back (slice_get d.bindings number) in omega (arith, same));
+                one = (counted_step);
                 shallow = (let same = depth_same d rest (Emitting e turns ∷ rest) unset_above (depths t) back (slice_get d.bindings number) in omega (arith, same));
               },
             ),

@@ -22,7 +22,7 @@ use Rattle.law_typing.specs.Rules.RegisterKinds.{Kinds}
 use Rattle.law_typing.specs.Rules.Brackets.{written, is_empty}
 use Rattle.law_typing.specs.Graph.{next_of}
 use Rattle.law_typing.specs.Verdict.Inherits.{inherits}
-use Rattle.law_typing.specs.Laws.WellRead.{no_class_of, no_two, is_range, has_values, result_has_values, ends, is_set, is_plain, objects_of}
+use Rattle.law_typing.specs.Laws.WellRead.{has_few_bits, no_class_of, no_two, is_range, has_values, result_has_values, ends, is_set, is_plain, objects_of}
 use Rattle.law_typing.proofs.Numbered.{all_from}
 
 -- b holds wherever a does
@@ -78,7 +78,8 @@ begins_with_notify (s ∷ signals) = is_notify (Some s)
 
 abbrev pub are_types_read : Definition → Bool
 are_types_read d =
-    list_all (λ (s : Shape). list_all (λ (m : Method). has_values d m.result) s.methods) d.shapes
+    list_all (λ (t : GType). list_all has_few_bits t.members) d.types
+    && (list_all (λ (s : Shape). list_all (λ (m : Method). has_values d m.result) s.methods) d.shapes
     && (all_from (λ t (x : GType). keeps_shapes_at d t) 0 d.types
     && (nat_eq (length d.classes) (length d.types)
     && (all_from (λ t (x : GType). is_below x.parent t) 0 d.types
@@ -88,7 +89,7 @@ are_types_read d =
     && (all_from (λ t (c : Class). list_all (is_spec_read d) c.specs) 0 d.classes
     && (list_all (λ (c : Class). no_two same_name (map (λ (s : Spec). s.name) c.specs)) d.classes
     && (list_all (λ (c : Class). list_all (result_has_values d) c.signals) d.classes
-    && all_from (λ t (c : Class). begins_with_notify c.signals) 0 d.classes)))))))))
+    && all_from (λ t (c : Class). begins_with_notify c.signals) 0 d.classes))))))))))
 
 -- ** programs
 

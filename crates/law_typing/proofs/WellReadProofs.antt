@@ -211,7 +211,8 @@ shapes d e class type shape is has = go (all_from_read (λ t (x : GType). tests.
 
 types_read : (d : Definition) → tests.are_types_read d ≡ true → TypesRead d
 types_read d e =
-    let y = both_parts _ _ e in
+    let x = both_parts _ _ e in
+    let y = both_parts _ _ x.1 in
     let z = both_parts _ _ y.1 in
     let a = both_parts _ _ z.1 in
     let b = both_parts _ _ a.1 in
@@ -233,6 +234,7 @@ types_read d e =
       names = i.0;
       replies = y.0;
       results = j.0;
+      members = x.0;
     }
   where
     notify : (class : ℕ) → class < length d.types → (type_of d class).sort ≡ sorts.class → tests.has_notify_at d class ≡ true → HasNotify d class

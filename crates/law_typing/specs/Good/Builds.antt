@@ -4,7 +4,7 @@ use Rattle.ui_machine.specs.Seq.{read, total}
 use Rattle.ui_machine.specs.Definition.Kinds as kinds
 use Rattle.ui_machine.specs.Definition.Values.{Value}
 use Rattle.ui_machine.specs.Definition.Values as values
-use Rattle.ui_machine.specs.Definition.Properties.{Spec, has_flags}
+use Rattle.ui_machine.specs.Definition.Properties.{Spec, has_flags, is_writable}
 use Rattle.ui_machine.specs.Definition.{Definition}
 use Rattle.ui_machine.specs.Definition.Places.{Bind}
 use Rattle.ui_machine.specs.Definition.Lookups.{program_at}
@@ -31,7 +31,7 @@ HeldIf builder v = ⊤
 -- a step of a construction, what it may cost and how deep it is; a notification of it waits in the queue and is paid there
 abbrev pub MakingGood : Definition → Standing → List Held → (place : ℕ) → Making → Type 0
 MakingGood d s builder place (sets slot v) = (spec : Spec) × (spec_at d place slot ≡ Some spec) × (has_kind v spec.kind ≡ true)
-    × (lives_by s v ≡ true) × HeldIf builder v
+    × (lives_by s v ≡ true) × HeldIf builder v × (is_writable spec ≡ true)
 MakingGood d s builder place (runs program) = is_taken_by d (program_at d program) (kinds.at place ∷ []) None ≡ true
 MakingGood d s builder place thaws = ⊤
 

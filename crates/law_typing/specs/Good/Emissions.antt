@@ -50,13 +50,14 @@ pub record NotifyingGood (d : Definition) (costs depths : Tables) (s : Standing)
 abbrev pub GoesBack : Definition → (number : ℕ) → (back : Bool) → Type 0
 GoesBack d number back = back ≡ true → (b : Bind) → slice_get d.bindings number ≡ Some b → is_pair b ≡ true
 
--- a due transfer: its binding does not set
+-- a due transfer: its binding does not set; it is a counted step, also where the binding has ended by then
 pub record TransferringGood (d : Definition) (costs depths : Tables) (w : View) (below : List Task) (number : ℕ) (back : Bool)
     (steps frames : ℕ) : Type 0 where
   pub still : (b : Binding) → binding_of number w.bindings ≡ Some b → b.busy ≡ false
   pub goes_back : GoesBack d number back
   pub cheap : transfer_cost d costs below back (slice_get d.bindings number) ≤ steps
   pub shallow : transfer_depth d depths below back (slice_get d.bindings number) ≤ frames
+  pub one : 1 ≤ steps
 
 -- the arguments and the value of an emission are of its signal's kinds
 pub record EmissionFits (d : Definition) (s : Standing) (e : Emission) : Type 0 where

@@ -16,6 +16,7 @@ use Rattle.law_typing.specs.Graph.{graph, starts_of, stretches_of, next_of}
 use Rattle.law_typing.specs.Graph.Tables.{Tables}
 use Rattle.law_typing.specs.Graph.Costs.{code_cost}
 use Rattle.law_typing.specs.Graph.Depths.{program_depth}
+use Rattle.law_typing.specs.Laws.WellRead.{has_values}
 use Rattle.law_typing.specs.Good.Standing.{Standing, Lives, class_by, RegistersFit, View}
 use Rattle.law_typing.specs.Good.ComingDown.{Down, awaited, Comes}
 
@@ -66,8 +67,8 @@ pub record RunningGood (d : Definition) (costs depths : Tables) (s : Standing) (
       (flat_map next_of (drop f.at b.code)) ≤ steps
   pub shallow : program_depth depths (stretches_of d p) ≤ frames
 
--- a call that is due: the object's own open or closed peer has the method, the arguments fit, and the program that waits is the next task,
--- with a register for the answer whose bracket is not open
+-- a call that is due: the object's own open or closed peer has the method, the arguments fit, what it answers has a value, and the program
+-- that waits is the next task, with a register for the answer whose bracket is not open
 pub record CallingGood (d : Definition) (w : View) (below : List Task) (call : Call) : Type 0 where
   pub lives : Lives (w.stands) call.object
   pub p : Peer
@@ -75,5 +76,6 @@ pub record CallingGood (d : Definition) (w : View) (below : List Task) (call : C
   pub is : slice_get w.peers call.peer ≡ Some p
   pub has : method_of p call.method ≡ Some m
   pub args_fit : all_fit (kind_fits (class_by d (w.stands)) d.types) call.args m.params ≡ true
+  pub value : has_values d m.result ≡ true
   pub waits : (frame : Frame) × (rest : List Task) × (below ≡ Running frame ∷ rest) × (call.to < length frame.registers)
       × (keeps (opened (code_left d frame)) (Some call.to) ≡ true)

@@ -7,6 +7,7 @@ use Rattle.ui_machine.specs.Definition.{Definition}
 use Rattle.ui_machine.specs.Definition.Signals.{Signal}
 use Rattle.ui_machine.specs.Definition.Places.{Given}
 use Rattle.ui_machine.specs.Definition.Places as words
+use Rattle.ui_machine.specs.Rules.Connections.{may_stand}
 use Rattle.ui_machine.specs.Rules.EmissionPlan.{signal_of}
 use Rattle.ui_machine.specs.State.Config.{unbuilt, built}
 use Rattle.ui_machine.specs.State.Tasks.{Request}
@@ -43,7 +44,7 @@ RequestRead d (config.set place slot g) =
 RequestRead d (config.get place slot) = IsObject d place × (spec : Spec) × (spec_at d place slot ≡ Some spec) × (is_readable spec ≡ true)
 RequestRead d (config.emit place number args detail) =
     IsObject d place × (class : ℕ) × (sig : Signal) × (class_at d place ≡ Some class) × (signal_of d class number ≡ Some sig) × (0 < number)
-    × AllZip (λ g kind. GivenFits d kind g) args sig.params
+    × AllZip (λ g kind. GivenFits d kind g) args sig.params × (may_stand d class number sig detail ≡ true)
 RequestRead d (config.release place) = IsObject d place
 
 -- the places that a request names; they are held, as reading and the session see to

@@ -1,11 +1,12 @@
 -- What holds of each definition that was read, apart from what it is judged by. The laws of runs stand on it.
-use Rattle.std.specs.Prelude.{◌≡◌, ℕ, ◌<◌, ◌≤◌, ◌^◌, ⊤, ℤ, Bool, true, false, cond, not, ◌&&◌, nat_eq, nat_lt, List, [], ◌∷◌, ◌++◌, length, map, codes, Option, None, Some, slice_get}
+use Rattle.std.specs.Prelude.{◌≡◌, ℕ, ◌<◌, ◌≤◌, ◌^◌, ⊤, ℤ, Bool, true, false, cond, not, ◌&&◌, nat_eq, nat_lt, unsigned_abs, List, [], ◌∷◌, ◌++◌, length, map, codes, Option, None, Some, slice_get}
 use Rattle.std.specs.List.{list_any, list_all, flat_map}
 use Rattle.ui_machine.specs.Seq.{total}
 use Rattle.ui_machine.specs.Definition.Names.{same_name}
 use Rattle.ui_machine.specs.Output.Text.{members_of}
 use Rattle.ui_machine.specs.Definition.Kinds.{Kind, RegisterKind}
 use Rattle.ui_machine.specs.Definition.Kinds as kinds
+use Rattle.ui_machine.specs.Definition.Types.{Member, GType}
 use Rattle.ui_machine.specs.Definition.Types as sorts
 use Rattle.ui_machine.specs.Rules.Ancestry.{is_a, parent_of}
 use Rattle.ui_machine.specs.Rules.Transform.{least, greatest, is_between, kind_fits}
@@ -71,6 +72,10 @@ result_has_values d s = of s.result
     of None = true
     of (Some kind) = has_values d kind
 
+-- whether the number of a member has 32 bits
+abbrev pub has_few_bits : Member → Bool
+has_few_bits m = nat_lt (unsigned_abs m.number) (2 ^ 32)
+
 -- `notify` is the first signal of a class: it runs first and is detailed, and has neither arguments nor a result
 pub record HasNotify (d : Definition) (class : ℕ) : Type 0 where
   pub signal : Signal
@@ -103,6 +108,8 @@ pub record TypesRead (d : Definition) : Type 0 where
   pub replies : list_all (λ (s : Shape). list_all (λ (m : Method). has_values d m.result) s.methods) d.shapes ≡ true
   -- and so has each result
   pub results : list_all (λ (c : Class). list_all (result_has_values d) c.signals) d.classes ≡ true
+  -- the number of each member has 32 bits
+  pub members : list_all (λ (t : GType). list_all has_few_bits t.members) d.types ≡ true
 
 -- ** programs
 
