@@ -53,7 +53,7 @@ use Rattle.law_instructions.proofs.Started.{waiting, sends_fine}
 -- ** objects that are written over
 
 -- by itself
-put_itself : (os : Objects) (id : ℕ) (o : Object) → living os id ≡ Some o → put os id (Some o) ≡ os
+pub put_itself : (os : Objects) (id : ℕ) (o : Object) → living os id ≡ Some o → put os id (Some o) ≡ os
 put_itself os zero o e = refl
 put_itself os (suc i) o e = go os i e
   where
@@ -70,7 +70,7 @@ sum_over f none os (suc i) o new is = let h = sum_put f none (Some new) os i in 
 -- ** queues
 
 -- with one more slot it costs no more than that more
-queued_more : (f : ℕ → ℕ) (queue : List ℕ) (slot : ℕ) → total f (queued queue slot) ≤ total f queue + f slot
+pub queued_more : (f : ℕ → ℕ) (queue : List ℕ) (slot : ℕ) → total f (queued queue slot) ≤ total f queue + f slot
 queued_more f queue slot = go (list_any (λ s. nat_eq s slot) queue)
   where
     go : (b : Bool) → total f (cond b queue (queue ++ slot ∷ [])) ≤ total f queue + f slot

@@ -7,6 +7,9 @@ pub mod Done
 pub mod Registers
 pub mod Received
 pub mod Pairs
+pub mod Changed
+pub mod Validated
+pub mod Queued
 pub mod FreeingProofs
 pub mod TurnProofs
 pub mod TransferProofs
