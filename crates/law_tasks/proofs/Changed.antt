@@ -1,5 +1,5 @@
 -- A step that changes objects or counts: what is to be shown of the world and the agenda that it leaves.
-use Rattle.std.proofs.Common.{◌≡◌, refl, sym, ap, subst, ◌∙◌, ℕ, suc, ◌+◌, ◌<◌, ◌≤◌, Bool, true, false, List, [], ◌∷◌, length, Option, Some, Ok, arith, lt-ltb}
+use Rattle.std.proofs.Common.{◌≡◌, refl, sym, ap, subst, ◌∙◌, ℕ, suc, ◌+◌, ◌<◌, ◌≤◌, Bool, true, false, List, [], ◌∷◌, length, drop, Option, Some, Ok, arith, lt-ltb}
 use Rattle.std.specs.Prelude.{nat_eq, nat_lt}
 use Rattle.std.proofs.lemmas.Bool.{eqb-true, eqb-false}
 use Rattle.ui_machine.specs.declared.arm.Arm.TheVariants as arms
@@ -21,11 +21,11 @@ use Rattle.law_typing.specs.Good.Objects.{PeersGood}
 use Rattle.law_typing.specs.Good.ComingDown.{none}
 use Rattle.law_typing.specs.Good.Agenda.{AgendaGood}
 use Rattle.law_typing.specs.Good.Builds.{is_for_builder, BuildGood}
-use Rattle.law_typing.specs.Good.Freezes.{frozen_by, below_lowest, QueueGood, QueuesGood, carried, SetsGood}
+use Rattle.law_typing.specs.Good.Freezes.{frozen_by, below_lowest, QueueGood, QueuesGood, carried, is_due_set, is_due_source, SetsGood}
 use Rattle.law_kept.specs.Write.{Whole}
 use Rattle.law_kept.proofs.Left.{each_to}
 use Rattle.law_kept.proofs.WriteProofs.{find_here, find_apart}
-use Rattle.law_tasks.proofs.First.{First, objects_told, StepIsFine, fine_where, costs, depths, most}
+use Rattle.law_tasks.proofs.First.{First, none_later, objects_told, StepIsFine, fine_where, costs, depths, most}
 
 -- what is said and told is read by nothing
 pub whole_said : (d : Definition) (costs depths : Tables) (agenda : List Task) (w : World) (lines : List (List ℕ)) (v : Option Value) → Whole d costs depths agenda w →
@@ -39,6 +39,10 @@ whole_said d costs depths agenda w lines v g = record {
   floating = g.floating;
   pairs = g.pairs;
 }
+
+-- where no set is due, and no source below the first task
+pub no_sets : (d : Definition) (c : Config) → total is_due_set c.agenda ≡ 0 → total is_due_source (drop 1 c.agenda) ≡ 0 → SetsGood d c
+no_sets d c unset alone = record { alone = alone; first = none_later is_due_set c.agenda unset; held = λ some. absurd (omega (arith, some, unset)) }
 
 -- ** queues
 

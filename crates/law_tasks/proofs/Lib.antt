@@ -10,6 +10,7 @@ pub mod Pairs
 pub mod Changed
 pub mod Validated
 pub mod Queued
+pub mod SettingProofs
 pub mod FreeingProofs
 pub mod TurnProofs
 pub mod TransferProofs

@@ -8,3 +8,4 @@ pub mod Carrying
 pub mod BuildSignals
 pub mod BuildObjects
 pub mod BuildEnd
+pub mod Setting

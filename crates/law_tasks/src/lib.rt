@@ -4,6 +4,7 @@
 ghost use Rattle.law_tasks.specs.Freeing.{FreeingsAreFine};
 ghost use Rattle.law_tasks.specs.Starting.{SourcesAreFine, RunsAreFine, AnsweringsWait};
 ghost use Rattle.law_tasks.specs.Settling.{SettlingIsFine};
+ghost use Rattle.law_tasks.specs.Setting.{DueSetsAreFine};
 ghost use Rattle.law_tasks.specs.Ending.{EmissionsEnd, ConstructionsEnd};
 ghost use Rattle.law_tasks.specs.Carrying.{GetsAreFine, ReleasesAreFine};
 ghost use Rattle.law_tasks.specs.BuildEnd.{BuildsEnd};
@@ -54,4 +55,7 @@ pub fn building()
     ensures objects { ObjectsAreFine }
     ensures signals { SignalsAreFine }
     ensures end { BuildsEnd }
+/// A due set: the value is refused or written, and a notification is raised at once, or when the object thaws, or not at all.
+pub fn setting()
+    ensures fine { DueSetsAreFine }
 {}
