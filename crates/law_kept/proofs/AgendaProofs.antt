@@ -181,7 +181,7 @@ module _ (d : Definition) (costs depths : Tables) (v z : View) where
   task_kept (Transferring number back) w up below steps frames g = (
     g.0,
     record {
-      still = λ b is. g.1.still b (w.bindings number b is);
+      free = g.1.free;
       goes_back = g.1.goes_back;
       cheap = g.1.cheap;
       shallow = g.1.shallow;

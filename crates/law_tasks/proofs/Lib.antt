@@ -11,6 +11,7 @@ pub mod Changed
 pub mod Validated
 pub mod Queued
 pub mod SettingProofs
+pub mod Bound
 pub mod FreeingProofs
 pub mod TurnProofs
 pub mod TransferProofs

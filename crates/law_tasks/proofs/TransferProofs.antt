@@ -31,7 +31,7 @@ use Rattle.law_tasks.proofs.Pairs.{source_end, not_setting}
 use Rattle.law_tasks.specs.Turns.{TransfersAreFine}
 
 -- the binding that a number finds is of that number, and good
-binding_found : (d : Definition) (s : Standing) (agenda : List Task) (os : Objects) (bs : List Binding) (number : ℕ) (b : Binding) → Each (BindingGood d s agenda os) bs → binding_of number bs ≡ Some b →
+pub binding_found : (d : Definition) (s : Standing) (agenda : List Task) (os : Objects) (bs : List Binding) (number : ℕ) (b : Binding) → Each (BindingGood d s agenda os) bs → binding_of number bs ≡ Some b →
     BindingGood d s agenda os b × (b.number ≡ number)
 binding_found d s agenda os [] number b all e = absurd (cc)
 binding_found d s agenda os (x ∷ bs) number b all e = go (nat_eq x.number number) refl (λ e. binding_found d s agenda os bs number b all.1 e)
@@ -78,15 +78,20 @@ module _ {d : Definition} (e : Emission) (number : ℕ) (back : Bool) (turns : L
       one = (let old = g.pairs.one in omega (arith, old));
     }
 
+    -- what sets is to be set free
+    free : total (unsets number) rest ≡ 0
+    free =
+        let good = binding_found d (standing w.objects) (Emitting e (config.transfer number back ∷ turns) ∷ rest) w.objects w.bindings number b g.bindings.each is in
+        let none = good.0.setting in
+        let sets = ap {B = ℕ} (λ b. cond b 1 0) still in
+        let same = ap (λ n. total (unsets n) rest) good.1 in
+        omega (arith, none, sets, same)
+
     -- the transfer of a binding that does not set is paid for
     counted_step : 1 ≤ turn_cost d (costs t) (view w) rest (config.transfer number back)
     counted_step =
         let good = binding_found d (standing w.objects) (Emitting e (config.transfer number back ∷ turns) ∷ rest) w.objects w.bindings number b g.bindings.each is in
-        let free : total (unsets number) rest ≡ 0 = (let none = good.0.setting in let sets = ap {B = ℕ} (λ b. cond b 1 0) still in let same = ap (λ n. total (unsets n) rest) good.1 in omega (arith, none, sets, same)) in
         paid d a rest number back good.0.bind (sym (ap (slice_get d.bindings) good.1) ∙ good.0.is) free
-
-    no_longer : (x : Binding) → binding_of number w.bindings ≡ Some x → x.busy ≡ false
-    no_longer x found = let same : b ≡ x = (let f = sym is ∙ found in cc) in subst (λ (x : Binding). x.busy ≡ false) same still
 
     transfer_good : IsGood d a t.most_counted (record { world = w; agenda = later; counted = n })
     transfer_good =
@@ -120,7 +125,7 @@ module _ {d : Definition} (e : Emission) (number : ℕ) (back : Bool) (turns : L
             (
               tt,
               record {
-                still = no_longer;
+                free = (let none = free in omega (arith, none));
                 goes_back = old.turns_fit.0.0;
                 cheap = (let same = cost_same d rest (Emitting e turns ∷ rest) unset_above (costs t) back (slice_get d.bindings number) in omega (arith, same));
                 one = (counted_step);

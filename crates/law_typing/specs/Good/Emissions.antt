@@ -20,7 +20,7 @@ use Rattle.law_typing.specs.Graph.Channels.{property, signal, spec_at, is_pair}
 use Rattle.law_typing.specs.Graph.Tables.{Tables, entry}
 use Rattle.law_typing.specs.Verdict.Accepted.{Each}
 use Rattle.law_typing.specs.Good.Standing.{Standing, Stands, class_by, lives_by, View}
-use Rattle.law_typing.specs.Good.DueCosts.{due_cost, transfer_cost, due_depth, transfer_depth, turn_cost, turn_depth}
+use Rattle.law_typing.specs.Good.DueCosts.{unsets, due_cost, transfer_cost, due_depth, transfer_depth, turn_cost, turn_depth}
 use Rattle.law_typing.specs.Good.Handlers.{Takes}
 use Rattle.law_typing.specs.Good.ComingDown.{Down, Suits}
 
@@ -50,10 +50,11 @@ pub record NotifyingGood (d : Definition) (costs depths : Tables) (s : Standing)
 abbrev pub GoesBack : Definition → (number : ℕ) → (back : Bool) → Type 0
 GoesBack d number back = back ≡ true → (b : Bind) → slice_get d.bindings number ≡ Some b → is_pair b ≡ true
 
--- a due transfer: its binding does not set; it is a counted step, also where the binding has ended by then
+-- a due transfer: its binding is not to be set free below, so that it does not set; it is a counted step, also where the binding has ended
+-- by then
 pub record TransferringGood (d : Definition) (costs depths : Tables) (w : View) (below : List Task) (number : ℕ) (back : Bool)
     (steps frames : ℕ) : Type 0 where
-  pub still : (b : Binding) → binding_of number w.bindings ≡ Some b → b.busy ≡ false
+  pub free : total (unsets number) below ≡ 0
   pub goes_back : GoesBack d number back
   pub cheap : transfer_cost d costs below back (slice_get d.bindings number) ≤ steps
   pub shallow : transfer_depth d depths below back (slice_get d.bindings number) ≤ frames
