@@ -45,7 +45,7 @@ use Rattle.law_instructions.proofs.Started.{waiting, sends_fine}
 
 -- ** where more is mentioned no more is unheld
 
-held_from : (m more : ℕ → ℕ) → ((o : ℕ) → m o ≤ more o) → (i : ℕ) (os : Objects) → unheld_from m i os ≡ None → unheld_from more i os ≡ None
+pub held_from : (m more : ℕ → ℕ) → ((o : ℕ) → m o ≤ more o) → (i : ℕ) (os : Objects) → unheld_from m i os ≡ None → unheld_from more i os ≡ None
 held_from m more less i [] e = refl
 held_from m more less i (None ∷ os) e = held_from m more less (suc i) os e
 held_from m more less i (Some o ∷ os) e = go (λ e. held_from m more less (suc i) os e) (nat_eq (m i) 0) (nat_eq (more i) 0) refl refl e

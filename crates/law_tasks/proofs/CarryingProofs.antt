@@ -39,7 +39,7 @@ use Rattle.law_tasks.proofs.First.{First, none_later, good_of, fine_where, StepI
 use Rattle.law_tasks.proofs.Done.{done}
 use Rattle.law_tasks.specs.Carrying.{GetsAreFine, ReleasesAreFine}
 
-value_is : (w : World) (id slot : ℕ) (o : Object) (v : Value) → living w.objects id ≡ Some o → slice_get o.values slot ≡ Some v → asked w.objects id (value_at slot) ≡ Ok v
+pub value_is : (w : World) (id slot : ℕ) (o : Object) (v : Value) → living w.objects id ≡ Some o → slice_get o.values slot ≡ Some v → asked w.objects id (value_at slot) ≡ Ok v
 unfolding asked
 value_is w id slot o v e is = rw (e, is) refl
 

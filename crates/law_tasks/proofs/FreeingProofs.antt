@@ -30,7 +30,7 @@ use Rattle.law_tasks.specs.Freeing.{FreeingsAreFine}
 
 -- ** the step
 
-objects_freed : (d : Definition) (w : World) (bs : List Binding) → ObjectsGood d w → ObjectsGood d (record w { bindings = bs })
+pub objects_freed : (d : Definition) (w : World) (bs : List Binding) → ObjectsGood d w → ObjectsGood d (record w { bindings = bs })
 objects_freed d w bs g id o e = let o = g id o e in record {
   place = o.place;
   is = o.is;

@@ -11,6 +11,8 @@ pub mod Changed
 pub mod Validated
 pub mod Queued
 pub mod SettingProofs
+pub mod Carried
+pub mod TransferringProofs
 pub mod Bound
 pub mod FreeingProofs
 pub mod TurnProofs

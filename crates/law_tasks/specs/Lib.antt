@@ -9,3 +9,4 @@ pub mod BuildSignals
 pub mod BuildObjects
 pub mod BuildEnd
 pub mod Setting
+pub mod Transferring

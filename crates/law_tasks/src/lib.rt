@@ -10,6 +10,7 @@ ghost use Rattle.law_tasks.specs.Carrying.{GetsAreFine, ReleasesAreFine};
 ghost use Rattle.law_tasks.specs.BuildEnd.{BuildsEnd};
 ghost use Rattle.law_tasks.specs.BuildObjects.{ObjectsAreFine};
 ghost use Rattle.law_tasks.specs.BuildSignals.{SignalsAreFine};
+ghost use Rattle.law_tasks.specs.Transferring.{DueTransfersAreFine};
 ghost use Rattle.law_tasks.specs.Turns.{ClassHandlersAreFine, HandlersAreFine, TransfersAreFine};
 
 /// A binding is set free.
@@ -58,4 +59,9 @@ pub fn building()
 /// A due set: the value is refused or written, and a notification is raised at once, or when the object thaws, or not at all.
 pub fn setting()
     ensures fine { DueSetsAreFine }
+{}
+
+/// A due transfer sets the value of one end of its binding at the other; or its binding has ended, or there is nothing to set.
+pub fn transferring()
+    ensures fine { DueTransfersAreFine }
 {}
