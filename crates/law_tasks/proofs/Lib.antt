@@ -13,6 +13,8 @@ pub mod Queued
 pub mod SettingProofs
 pub mod Carried
 pub mod TransferringProofs
+pub mod Answered
+pub mod CallingProofs
 pub mod Bound
 pub mod FreeingProofs
 pub mod TurnProofs

@@ -10,3 +10,4 @@ pub mod BuildObjects
 pub mod BuildEnd
 pub mod Setting
 pub mod Transferring
+pub mod Calling

@@ -6,6 +6,7 @@ ghost use Rattle.law_tasks.specs.Starting.{SourcesAreFine, RunsAreFine, Answerin
 ghost use Rattle.law_tasks.specs.Settling.{SettlingIsFine};
 ghost use Rattle.law_tasks.specs.Setting.{DueSetsAreFine};
 ghost use Rattle.law_tasks.specs.Ending.{EmissionsEnd, ConstructionsEnd};
+ghost use Rattle.law_tasks.specs.Calling.{DueCallsAreFine};
 ghost use Rattle.law_tasks.specs.Carrying.{GetsAreFine, ReleasesAreFine};
 ghost use Rattle.law_tasks.specs.BuildEnd.{BuildsEnd};
 ghost use Rattle.law_tasks.specs.BuildObjects.{ObjectsAreFine};
@@ -64,4 +65,9 @@ pub fn setting()
 /// A due transfer sets the value of one end of its binding at the other; or its binding has ended, or there is nothing to set.
 pub fn transferring()
     ensures fine { DueTransfersAreFine }
+{}
+
+/// A due call: the program that called is given the answer of the peer, or the zero value.
+pub fn calling()
+    ensures fine { DueCallsAreFine }
 {}
