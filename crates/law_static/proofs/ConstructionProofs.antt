@@ -112,7 +112,7 @@ module _ (d : Definition) (types : TypesRead d) (s : Standing) (w : World) (held
   -- a set of a writable property, of a value that fits
   set_good : (slot : ℕ) (spec : Spec) (v : Value) → spec_of d p.class slot ≡ Some spec → is_writable spec ≡ true → ValueFits s w.builder v spec.kind →
       MakingGood d s w.builder place (sets slot v)
-  set_good slot spec v has writable fits = (spec, ap (spec_if d slot) class_is ∙ has, fits.kind_is, fits.lives, fits.held)
+  set_good slot spec v has writable fits = (spec, ap (spec_if d slot) class_is ∙ has, fits.kind_is, fits.lives, fits.held, writable)
 
   found_fits : (gs : List GivenProperty) → Each (GivenRead d place p) gs → (slot : ℕ) (spec : Spec) (v : Value) → spec_of d p.class slot ≡ Some spec → given_at w gs slot ≡ Some v →
       ValueFits s w.builder v spec.kind

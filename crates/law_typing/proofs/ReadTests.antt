@@ -1,7 +1,8 @@
 -- Tests of whether a definition is well read. They compute, so that each worked definition is found to be.
 use Rattle.std.specs.Prelude.{ℕ, ◌^◌, Bool, true, false, cond, not, ◌&&◌, nat_eq, nat_lt, nat_le, List, [], ◌∷◌, length, map, codes, Option, None, Some, slice_get, is_none}
 use Rattle.std.specs.List.{list_all, flat_map}
-use Rattle.ui_machine.specs.Definition.Names.{same_name}
+use Rattle.ui_machine.specs.Definition.Names.{same_name, canonical, place_named}
+use Rattle.ui_machine.specs.Rules.Programs.{is_number}
 use Rattle.ui_machine.specs.Definition.Kinds.{Kind, RegisterKind}
 use Rattle.ui_machine.specs.Definition.Kinds as kinds
 use Rattle.ui_machine.specs.Definition.Types as sorts
@@ -76,9 +77,14 @@ abbrev pub begins_with_notify : List Signal → Bool
 begins_with_notify [] = true
 begins_with_notify (s ∷ signals) = is_notify (Some s)
 
+-- whether the name of each signal of a class finds it
+abbrev pub finds_signals : Class → Bool
+finds_signals c = all_from (λ n (s : Signal). is_number n (place_named (λ (s : Signal). s.name) c.signals (canonical s.name))) 0 c.signals
+
 abbrev pub are_types_read : Definition → Bool
 are_types_read d =
-    list_all (λ (t : GType). list_all has_few_bits t.members) d.types
+    all_from (λ t (c : Class). finds_signals c) 0 d.classes
+    && (list_all (λ (t : GType). list_all has_few_bits t.members) d.types
     && (list_all (λ (s : Shape). list_all (λ (m : Method). has_values d m.result) s.methods) d.shapes
     && (all_from (λ t (x : GType). keeps_shapes_at d t) 0 d.types
     && (nat_eq (length d.classes) (length d.types)
@@ -89,7 +95,7 @@ are_types_read d =
     && (all_from (λ t (c : Class). list_all (is_spec_read d) c.specs) 0 d.classes
     && (list_all (λ (c : Class). no_two same_name (map (λ (s : Spec). s.name) c.specs)) d.classes
     && (list_all (λ (c : Class). list_all (result_has_values d) c.signals) d.classes
-    && all_from (λ t (c : Class). begins_with_notify c.signals) 0 d.classes))))))))))
+    && all_from (λ t (c : Class). begins_with_notify c.signals) 0 d.classes)))))))))))
 
 -- ** programs
 

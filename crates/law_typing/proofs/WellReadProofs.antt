@@ -4,7 +4,9 @@ use Rattle.std.specs.Prelude.{not, ◌&&◌, nat_eq, nat_lt, is_none, codes}
 use Rattle.std.specs.List.{list_any, list_all, flat_map}
 use Rattle.std.proofs.lemmas.Bool.{and_from, leb-true, ltb-true, eqb-true}
 use Rattle.ui_machine.specs.Seq.{read}
-use Rattle.ui_machine.specs.Definition.Names.{same_name}
+use Rattle.ui_machine.specs.Definition.Names.{same_name, canonical, place_named}
+use Rattle.ui_machine.specs.Rules.Programs.{is_number}
+use Rattle.ui_machine.specs.Rules.Connections.{signal_number}
 use Rattle.ui_machine.specs.Definition.Kinds.{Whole, int, uint, int64, uint64, Kind, RegisterKind}
 use Rattle.ui_machine.specs.Definition.Kinds as kinds
 use Rattle.ui_machine.specs.Definition.Types as sorts
@@ -209,9 +211,25 @@ shapes d e class type shape is has = go (all_from_read (λ t (x : GType). tests.
         (is_above d.types (λ t. tests.is_shape (nearest_shape d t) (nearest_shape d class)) type (lineage d.types class) is h))
     go (inr past) = ap (nearest_shape d) (alone d.types class type past is) ∙ has
 
+-- and the name of each signal finds it
+signals_found : (d : Definition) → all_from (λ t (c : Class). tests.finds_signals c) 0 d.classes ≡ true → (class number : ℕ) (s : Signal) → signal_of d class number ≡ Some s →
+    signal_number d class s.name ≡ Some number
+signals_found d e class number s is = go (all_from_read (λ t (c : Class). tests.finds_signals c) no_class d.classes class e)
+  where
+    there : (o : Option ℕ) → is_number number o ≡ true → o ≡ Some number
+    there None h = absurd (cc)
+    there (Some n) h = ap (λ (n : ℕ). Some n) (eqb-true n number h)
+
+    go : (tests.finds_signals (class_of d class) ≡ true) ⊎ (class_of d class ≡ no_class) → signal_number d class s.name ≡ Some number
+    go (inl h) =
+        there (signal_number d class s.name)
+        (all_from_get (λ n (s : Signal). is_number n (place_named (λ (s : Signal). s.name) (class_of d class).signals (canonical s.name))) (class_of d class).signals number s h is)
+    go (inr past) = absurd (let none : signal_of d class number ≡ None = ap (λ (c : Class). slice_get c.signals number) past in let f = sym none ∙ is in cc)
+
 types_read : (d : Definition) → tests.are_types_read d ≡ true → TypesRead d
 types_read d e =
-    let x = both_parts _ _ e in
+    let u = both_parts _ _ e in
+    let x = both_parts _ _ u.1 in
     let y = both_parts _ _ x.1 in
     let z = both_parts _ _ y.1 in
     let a = both_parts _ _ z.1 in
@@ -235,6 +253,7 @@ types_read d e =
       replies = y.0;
       results = j.0;
       members = x.0;
+      signals = signals_found d u.0;
     }
   where
     notify : (class : ℕ) → class < length d.types → (type_of d class).sort ≡ sorts.class → tests.has_notify_at d class ≡ true → HasNotify d class

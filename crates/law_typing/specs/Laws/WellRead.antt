@@ -18,6 +18,7 @@ use Rattle.ui_machine.specs.Definition.Programs.{Instruction, Block, Program}
 use Rattle.ui_machine.specs.Definition.Places.{Given, value, named, GivenProperty, Attached, Place, Bind}
 use Rattle.ui_machine.specs.Definition.Programs as words
 use Rattle.ui_machine.specs.Definition.Lookups.{type_of, spec_of, place_at, program_at}
+use Rattle.ui_machine.specs.Rules.Connections.{signal_number}
 use Rattle.ui_machine.specs.Rules.EmissionPlan.{signal_of}
 use Rattle.ui_machine.specs.Rules.Construction.{is_forward, nearest_shape, has_shape}
 use Rattle.law_typing.specs.Rules.RegisterKinds.{Kinds}
@@ -108,6 +109,8 @@ pub record TypesRead (d : Definition) : Type 0 where
   pub replies : list_all (λ (s : Shape). list_all (λ (m : Method). has_values d m.result) s.methods) d.shapes ≡ true
   -- and so has each result
   pub results : list_all (λ (c : Class). list_all (result_has_values d) c.signals) d.classes ≡ true
+  -- a signal's own name finds it
+  pub signals : (class number : ℕ) (s : Signal) → signal_of d class number ≡ Some s → signal_number d class s.name ≡ Some number
   -- the number of each member has 32 bits
   pub members : list_all (λ (t : GType). list_all has_few_bits t.members) d.types ≡ true
 
