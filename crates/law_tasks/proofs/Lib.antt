@@ -15,6 +15,7 @@ pub mod Carried
 pub mod TransferringProofs
 pub mod Answered
 pub mod CallingProofs
+pub mod ThawingProofs
 pub mod Bound
 pub mod FreeingProofs
 pub mod TurnProofs

@@ -12,7 +12,7 @@ pub use Rattle.law_kept.proofs.Moved.{handlers_moved, bindings_moved}
 -- ** what a transfer may cost, above tasks that set the same bindings free
 
 module _ (d : Definition) (a b : List Task) (unset : (number : ℕ) → total (unsets number) b ≡ total (unsets number) a) where
-  setting_same : (c : Channel) (number : ℕ) (binds : List Bind) → is_setting_from b c number binds ≡ is_setting_from a c number binds
+  pub setting_same : (c : Channel) (number : ℕ) (binds : List Bind) → is_setting_from b c number binds ≡ is_setting_from a c number binds
   setting_same c number [] = refl
   setting_same c number (x ∷ binds) = let same = unset number in let later = setting_same c (suc number) binds in rw (same, later) refl
 

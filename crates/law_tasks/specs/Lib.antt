@@ -11,3 +11,4 @@ pub mod BuildEnd
 pub mod Setting
 pub mod Transferring
 pub mod Calling
+pub mod Thawing

@@ -11,6 +11,7 @@ ghost use Rattle.law_tasks.specs.Carrying.{GetsAreFine, ReleasesAreFine};
 ghost use Rattle.law_tasks.specs.BuildEnd.{BuildsEnd};
 ghost use Rattle.law_tasks.specs.BuildObjects.{ObjectsAreFine};
 ghost use Rattle.law_tasks.specs.BuildSignals.{SignalsAreFine};
+ghost use Rattle.law_tasks.specs.Thawing.{DueThawsAreFine};
 ghost use Rattle.law_tasks.specs.Transferring.{DueTransfersAreFine};
 ghost use Rattle.law_tasks.specs.Turns.{ClassHandlersAreFine, HandlersAreFine, TransfersAreFine};
 
@@ -70,4 +71,9 @@ pub fn transferring()
 /// A due call: the program that called is given the answer of the peer, or the zero value.
 pub fn calling()
     ensures fine { DueCallsAreFine }
+{}
+
+/// What is left of a thaw: the next notification is due, or none is left.
+pub fn thawing()
+    ensures fine { DueThawsAreFine }
 {}
