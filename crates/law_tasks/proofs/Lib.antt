@@ -16,6 +16,8 @@ pub mod TransferringProofs
 pub mod Answered
 pub mod CallingProofs
 pub mod ThawingProofs
+pub mod ClassHandlers
+pub mod Planned
 pub mod Bound
 pub mod FreeingProofs
 pub mod TurnProofs

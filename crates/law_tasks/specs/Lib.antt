@@ -12,3 +12,4 @@ pub mod Setting
 pub mod Transferring
 pub mod Calling
 pub mod Thawing
+pub mod Beginning
