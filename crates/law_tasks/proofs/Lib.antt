@@ -18,6 +18,7 @@ pub mod CallingProofs
 pub mod ThawingProofs
 pub mod ClassHandlers
 pub mod Planned
+pub mod BeginningProofs
 pub mod Bound
 pub mod FreeingProofs
 pub mod TurnProofs

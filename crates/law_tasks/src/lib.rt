@@ -6,6 +6,7 @@ ghost use Rattle.law_tasks.specs.Starting.{SourcesAreFine, RunsAreFine, Answerin
 ghost use Rattle.law_tasks.specs.Settling.{SettlingIsFine};
 ghost use Rattle.law_tasks.specs.Setting.{DueSetsAreFine};
 ghost use Rattle.law_tasks.specs.Ending.{EmissionsEnd, ConstructionsEnd};
+ghost use Rattle.law_tasks.specs.Beginning.{BeginningsAreFine};
 ghost use Rattle.law_tasks.specs.Calling.{DueCallsAreFine};
 ghost use Rattle.law_tasks.specs.Carrying.{GetsAreFine, ReleasesAreFine};
 ghost use Rattle.law_tasks.specs.BuildEnd.{BuildsEnd};
@@ -76,4 +77,9 @@ pub fn calling()
 /// What is left of a thaw: the next notification is due, or none is left.
 pub fn thawing()
     ensures fine { DueThawsAreFine }
+{}
+
+/// A due emission begins: it takes its turns.
+pub fn beginning()
+    ensures fine { BeginningsAreFine }
 {}
