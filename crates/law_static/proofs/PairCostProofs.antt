@@ -81,7 +81,7 @@ module _ (d : Definition) (costs : Tables) (below : List Task) (c : Channel) whe
 
   -- ** the pair costs no more than the way over
 
-  ordered : (x : Bind) (a b : Bool) (rest : Option Channel) → same_channel (source_of x) c ≡ a → same_channel (target_of x) c ≡ b → Differ (source_of x) (target_of x) → cond a true b ≡ true →
+  pub ordered : (x : Bind) (a b : Bool) (rest : Option Channel) → same_channel (source_of x) c ≡ a → same_channel (target_of x) c ≡ b → Differ (source_of x) (target_of x) → cond a true b ≡ true →
       cond (same_channel (in_order (source_of x) (target_of x)).0 c) (Some (in_order (source_of x) (target_of x)).1)
       (cond (same_channel (in_order (source_of x) (target_of x)).1 c) (Some (in_order (source_of x) (target_of x)).0) rest) ≡ Some (cond a (target_of x) (source_of x))
   ordered x a b rest e f differ some = go (is_before (target_of x) (source_of x))
@@ -107,7 +107,7 @@ module _ (d : Definition) (costs : Tables) (below : List Task) (c : Channel) whe
       go true = ap (λ b. cond b (Some (source_of x)) (cond (same_channel (source_of x) c) (Some (target_of x)) rest)) f ∙ (ap (λ a. cond b (Some (source_of x)) (cond a (Some (target_of x)) rest)) e ∙ turned a b e f some)
       go false = ap (λ a. cond a (Some (target_of x)) (cond (same_channel (target_of x) c) (Some (source_of x)) rest)) e ∙ (ap (λ b. cond a (Some (target_of x)) (cond b (Some (source_of x)) rest)) f ∙ plain a b e f some)
 
-  passed : (x : Bind) (rest : Option Channel) → same_channel (source_of x) c ≡ false → same_channel (target_of x) c ≡ false →
+  pub passed : (x : Bind) (rest : Option Channel) → same_channel (source_of x) c ≡ false → same_channel (target_of x) c ≡ false →
       cond (same_channel (in_order (source_of x) (target_of x)).0 c) (Some (in_order (source_of x) (target_of x)).1)
       (cond (same_channel (in_order (source_of x) (target_of x)).1 c) (Some (in_order (source_of x) (target_of x)).0) rest) ≡ rest
   passed x rest e f = go (is_before (target_of x) (source_of x))
@@ -128,7 +128,7 @@ module _ (d : Definition) (costs : Tables) (below : List Task) (c : Channel) whe
       part : pair_part x ≡ cond (is_setting_below d below (source_of x)) 0 (1 + entry costs.channels (other_of c x))
       part = rw (pair, e)
 
-  no_end : (x : Bind) → has_end c x ≡ false → (same_channel (source_of x) c ≡ false) × (same_channel (target_of x) c ≡ false)
+  pub no_end : (x : Bind) → has_end c x ≡ false → (same_channel (source_of x) c ≡ false) × (same_channel (target_of x) c ≡ false)
   no_end x e = go (same_channel (source_of x) c) refl e
     where
       go : (b : Bool) → same_channel (source_of x) c ≡ b → cond b true (same_channel (target_of x) c) ≡ false → (same_channel (source_of x) c ≡ false) × (same_channel (target_of x) c ≡ false)

@@ -19,6 +19,8 @@ pub mod ThawingProofs
 pub mod ClassHandlers
 pub mod Planned
 pub mod BeginningProofs
+pub mod Over
+pub mod NotifyingProofs
 pub mod Bound
 pub mod FreeingProofs
 pub mod TurnProofs

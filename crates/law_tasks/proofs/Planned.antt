@@ -32,7 +32,7 @@ in_first (z ∷ xs) ys x (inl e) = inl e
 in_first (z ∷ xs) ys x (inr h) = inr (in_first xs ys x h)
 
 -- what passes a test, in another form
-each_passing : {A B : Type 0} (P : B → Type 0) (f : A → B) (test : A → Bool) (xs : List A) → ((x : A) → IsIn x xs → test x ≡ true → P (f x)) → Each P (map f (filter test xs))
+pub each_passing : {A B : Type 0} (P : B → Type 0) (f : A → B) (test : A → Bool) (xs : List A) → ((x : A) → IsIn x xs → test x ≡ true → P (f x)) → Each P (map f (filter test xs))
 each_passing P f test [] h = tt
 each_passing {A} {B} P f test (x ∷ xs) h = go (test x) refl (each_passing P f test xs (λ y there. h y (inr there)))
   where

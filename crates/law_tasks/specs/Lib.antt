@@ -13,3 +13,4 @@ pub mod Transferring
 pub mod Calling
 pub mod Thawing
 pub mod Beginning
+pub mod Notifying

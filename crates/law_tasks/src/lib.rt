@@ -12,6 +12,7 @@ ghost use Rattle.law_tasks.specs.Carrying.{GetsAreFine, ReleasesAreFine};
 ghost use Rattle.law_tasks.specs.BuildEnd.{BuildsEnd};
 ghost use Rattle.law_tasks.specs.BuildObjects.{ObjectsAreFine};
 ghost use Rattle.law_tasks.specs.BuildSignals.{SignalsAreFine};
+ghost use Rattle.law_tasks.specs.Notifying.{DueNotificationsAreFine};
 ghost use Rattle.law_tasks.specs.Thawing.{DueThawsAreFine};
 ghost use Rattle.law_tasks.specs.Transferring.{DueTransfersAreFine};
 ghost use Rattle.law_tasks.specs.Turns.{ClassHandlersAreFine, HandlersAreFine, TransfersAreFine};
@@ -82,4 +83,9 @@ pub fn thawing()
 /// A due emission begins: it takes its turns.
 pub fn beginning()
     ensures fine { BeginningsAreFine }
+{}
+
+/// A due notification begins: it takes its turns, with the transfers of the bindings that listen.
+pub fn notifying()
+    ensures fine { DueNotificationsAreFine }
 {}
