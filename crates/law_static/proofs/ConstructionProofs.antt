@@ -98,7 +98,7 @@ module _ (d : Definition) (s : Standing) (builder : List Held) where
       subst (λ v. ValueFits s builder v (kinds.object type)) same
       (record { kind_is = refl; lives = ap (λ o. is_some o) (held place id is); held = (place, is) })
 
-  given_fits : (w : World) → w.builder ≡ builder → HeldGood s builder → (kind : Kind) (g : Given) (v : Value) → GivenFits d kind g → given_value w g ≡ Some v → ValueFits s builder v kind
+  pub given_fits : (w : World) → w.builder ≡ builder → HeldGood s builder → (kind : Kind) (g : Given) (v : Value) → GivenFits d kind g → given_value w g ≡ Some v → ValueFits s builder v kind
   given_fits w same held kind (value u) v fits e = let own : u ≡ v = cc in subst (λ v. ValueFits s builder v kind) own (plain_fits u kind fits)
   given_fits w same held kind (named to) v fits e =
       subst (ValueFits s builder v) (sym fits.4) (held_fits held to fits.1 (held_at w to) v (ap (λ b. read unbuilt b to) (sym same)) e)

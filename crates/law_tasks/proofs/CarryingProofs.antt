@@ -35,9 +35,8 @@ use Rattle.law_kept.proofs.WriteProofs.{read_here, read_apart}
 use Rattle.law_instructions.proofs.Ended.{lowest_falls}
 use Rattle.law_kept.proofs.NewProofs.{at_place}
 use Rattle.law_instructions.proofs.ReadProofs.{spec_is}
-use Rattle.law_tasks.proofs.First.{First, none_later, good_of, fine_where, StepIsFine, fine_of, costs, depths, most}
+use Rattle.law_tasks.proofs.First.{First, none_later, good_of, fine_where, StepIsFine, costs, depths, most}
 use Rattle.law_tasks.proofs.Done.{done}
-use Rattle.law_tasks.specs.Carrying.{GetsAreFine, ReleasesAreFine}
 
 pub value_is : (w : World) (id slot : ℕ) (o : Object) (v : Value) → living w.objects id ≡ Some o → slice_get o.values slot ≡ Some v → asked w.objects id (value_at slot) ≡ Ok v
 unfolding asked
@@ -53,7 +52,7 @@ get_leads d w rest n place slot id s v a b c readable = rw (a, b, c, readable) r
 module _ {d : Definition} (place slot : ℕ) (t : First d (Carrying (config.get place slot))) where
   open t use {w, rest, n, g}
 
-  get_fine : StepIsFine t
+  pub get_fine : StepIsFine t
   get_fine =
       let asks = g.agenda.3.2 in
       let id = asks.held.0.0 in
@@ -75,8 +74,6 @@ module _ {d : Definition} (place slot : ℕ) (t : First d (Carrying (config.get 
         good = g.agenda.6;
       }))
 
-pub gets_are_fine : GetsAreFine
-gets_are_fine place slot = fine_of (λ d t. get_fine place slot t)
 
 -- ** a release
 
@@ -126,7 +123,7 @@ module _ {d : Definition} (place : ℕ) (t : First d (Carrying (config.release p
   now_alike : Alike (Carrying (config.release place) ∷ rest) rest
   now_alike = record { items = λ f. omega arith; unset = λ number. omega arith; carrying = omega arith; makes = omega arith; constructs = λ id. omega arith }
 
-  release_fine : StepIsFine t
+  pub release_fine : StepIsFine t
   release_fine =
       let asks = g.agenda.3.2 in
       let alone = g.agenda.3.1 in
@@ -166,6 +163,3 @@ module _ {d : Definition} (place : ℕ) (t : First d (Carrying (config.release p
         less = omega arith;
         good = subst (λ tasks. AgendaGood d (costs t) (depths t) (view v) (most t) none tasks g.agenda.2) (sym alone) tt;
       }))
-
-pub releases_are_fine : ReleasesAreFine
-releases_are_fine place = fine_of (λ d t. release_fine place t)

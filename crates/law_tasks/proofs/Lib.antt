@@ -21,6 +21,8 @@ pub mod Planned
 pub mod BeginningProofs
 pub mod Over
 pub mod NotifyingProofs
+pub mod AskedProofs
+pub mod RequestProofs
 pub mod Bound
 pub mod FreeingProofs
 pub mod TurnProofs

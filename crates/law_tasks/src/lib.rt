@@ -12,6 +12,7 @@ ghost use Rattle.law_tasks.specs.Carrying.{GetsAreFine, ReleasesAreFine};
 ghost use Rattle.law_tasks.specs.BuildEnd.{BuildsEnd};
 ghost use Rattle.law_tasks.specs.BuildObjects.{ObjectsAreFine};
 ghost use Rattle.law_tasks.specs.BuildSignals.{SignalsAreFine};
+ghost use Rattle.law_tasks.specs.Carrying.{RequestsAreFine};
 ghost use Rattle.law_tasks.specs.Notifying.{DueNotificationsAreFine};
 ghost use Rattle.law_tasks.specs.Thawing.{DueThawsAreFine};
 ghost use Rattle.law_tasks.specs.Transferring.{DueTransfersAreFine};
@@ -48,10 +49,9 @@ pub fn endings()
     ensures constructions { ConstructionsEnd }
 {}
 
-/// A request gets a property, or releases an object.
+/// Each request: a set is due, or an emission; a property is told, or an object released.
 pub fn carrying()
-    ensures gets { GetsAreFine }
-    ensures releases { ReleasesAreFine }
+    ensures fine { RequestsAreFine }
 {}
 
 /// The build makes an object, whose construction is due; it connects a signal of the definition, or it is too late for it; and it ends, where

@@ -1,5 +1,5 @@
-use Rattle.law_tasks.proofs.CarryingProofs.{gets_are_fine, releases_are_fine}
+use Rattle.law_tasks.proofs.RequestProofs.{requests_are_fine}
 use Rattle.law_tasks.proofs.carrying.Goals as goal
 
 pub returns : goal.returns
-returns c = record { gets = gets_are_fine; releases = releases_are_fine }
+returns c = record { fine = requests_are_fine }
