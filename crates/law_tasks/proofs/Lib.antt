@@ -23,6 +23,7 @@ pub mod Over
 pub mod NotifyingProofs
 pub mod AskedProofs
 pub mod RequestProofs
+pub mod MakingProofs
 pub mod Bound
 pub mod FreeingProofs
 pub mod TurnProofs

@@ -1,8 +1,9 @@
--- The tasks that start a program which no emission runs, and the one that waits for it.
+-- The tasks that start a program which no emission runs, and the one that waits for it; and the sets of a construction.
 use Rattle.std.specs.Prelude.{ℕ, Bool, List, ◌∷◌}
 use Rattle.ui_machine.specs.Definition.{Definition}
+use Rattle.ui_machine.specs.Definition.Values.{Value}
 use Rattle.ui_machine.specs.State.Config.{World}
-use Rattle.ui_machine.specs.State.Tasks.{Making, Task, runs, Answering, Constructing, Due}
+use Rattle.ui_machine.specs.State.Tasks.{Making, Task, sets, runs, Answering, Constructing, Due}
 use Rattle.law_typing.specs.Laws.StepsKeepGood.{IsGood}
 use Rattle.law_typing.specs.Verdict.Accepted.{Accepted}
 use Rattle.law_tasks.specs.First.{IsFine, at_first}
@@ -14,6 +15,10 @@ SourcesAreFine = (source : ℕ) → IsFine (Due source)
 -- a construction starts a `constructed` program
 abbrev pub RunsAreFine : Type 0
 RunsAreFine = (id program : ℕ) (todo : List Making) (held : Bool) → IsFine (Constructing id (runs program ∷ todo) held)
+
+-- a construction sets a property, which is due at once
+abbrev pub ConstructionsSet : Type 0
+ConstructionsSet = (id slot : ℕ) (v : Value) (todo : List Making) (held : Bool) → IsFine (Constructing id (sets slot v ∷ todo) held)
 
 -- a source that waits for its program is never the first task
 abbrev pub AnsweringsWait : Type 0
