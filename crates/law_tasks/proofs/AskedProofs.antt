@@ -1,11 +1,10 @@
 -- A request sets a property or emits a signal: what it gives fits, so that the set is due, or the emission.
-use Rattle.std.proofs.Common.{◌≡◌, refl, sym, ap, subst, ◌∙◌, ℕ, ◌+◌, ◌<◌, ◌≤◌, Bool, true, false, cond, List, [], ◌∷◌, ◌++◌, Option, None, Some, Ok, arith}
-use Rattle.std.specs.Prelude.{not, option_map, ◌&&◌}
+use Rattle.std.proofs.Common.{◌≡◌, refl, sym, ap, subst, ◌∙◌, ℕ, ◌+◌, ◌≤◌, true, false, List, [], ◌∷◌, ◌++◌, Option, None, Some, Ok, arith}
+use Rattle.std.specs.Prelude.{option_map, ◌&&◌}
 use Rattle.std.specs.List.{AllZip, flat_map}
-use Rattle.ui_machine.specs.Seq.{read, total}
+use Rattle.ui_machine.specs.Seq.{read}
 use Rattle.ui_machine.specs.Definition.{Definition}
 use Rattle.ui_machine.specs.Definition.Kinds.{Kind}
-use Rattle.ui_machine.specs.Definition.Kinds as kinds
 use Rattle.ui_machine.specs.Definition.Places.{Given, value, named, Place}
 use Rattle.ui_machine.specs.Definition.Properties.{Spec, is_writable, is_construct_only}
 use Rattle.ui_machine.specs.Definition.Signals.{Signal}
@@ -19,7 +18,7 @@ use Rattle.ui_machine.specs.Rules.Events.{set_given, carrying_set, given_values,
 use Rattle.ui_machine.specs.Rules.Programs.{all_fit}
 use Rattle.ui_machine.specs.Rules.Sets.{spec_at}
 use Rattle.ui_machine.specs.Rules.Transform.{is_one, kind_fits}
-use Rattle.ui_machine.specs.State.Config.{World, Held, unbuilt, built, starts}
+use Rattle.ui_machine.specs.State.Config.{World, unbuilt, built, starts}
 use Rattle.ui_machine.specs.State.Objects.{Object, living}
 use Rattle.ui_machine.specs.State.References.{mentions}
 use Rattle.ui_machine.specs.State.Tasks.{Emission, Task, Setting, Beginning, Carrying}
@@ -27,7 +26,7 @@ use Rattle.ui_machine.specs.State.Tasks as config
 use Rattle.ui_machine.specs.Steps.{uncounted}
 use Rattle.law_typing.specs.Rules.RegisterKinds.{class_at}
 use Rattle.law_typing.specs.Graph.{graph, number_for}
-use Rattle.law_typing.specs.Graph.Channels.{Channel, property, signal}
+use Rattle.law_typing.specs.Graph.Channels.{Channel, signal}
 use Rattle.law_typing.specs.Graph.Costs.{with_other, node_cost, other_end}
 use Rattle.law_typing.specs.Graph.Tables.{Tables, entry}
 use Rattle.law_typing.specs.Verdict.Accepted.{Each}
@@ -42,12 +41,12 @@ use Rattle.law_static.proofs.StartProofs.{due_within}
 use Rattle.law_instructions.proofs.ReadProofs.{spec_is}
 use Rattle.law_instructions.proofs.RegisterProofs.{fits_anywhere}
 use Rattle.law_instructions.proofs.SetProofs.{held_from}
-use Rattle.law_tasks.proofs.BeginningProofs.{Placed, placed}
+use Rattle.law_tasks.proofs.BeginningProofs.{placed}
 use Rattle.law_tasks.proofs.Changed.{AsFrozen, no_sets, queue_moved, changed_well}
-use Rattle.law_tasks.proofs.First.{First, StepIsFine, fine_where, fine_of, whole_told, pool_alike, build_alike, costs, depths, most}
+use Rattle.law_tasks.proofs.First.{First, StepIsFine, fine_where, whole_told, pool_alike, build_alike, costs, depths, most}
 use Rattle.law_tasks.proofs.Lowest.{lowest_above}
 use Rattle.law_tasks.proofs.NotifyingProofs.{may_come}
-use Rattle.law_tasks.proofs.SettingProofs.{Owns, owns}
+use Rattle.law_tasks.proofs.SettingProofs.{owns}
 
 -- ** what is given
 

@@ -1,6 +1,6 @@
 -- A due emission begins: it takes its turns.
-use Rattle.std.proofs.Common.{◌≡◌, inl, refl, sym, ap, subst, ◌∙◌, ℕ, zero, suc, ◌+◌, ◌<◌, ◌≤◌, Bool, true, false, cond, List, [], ◌∷◌, ◌++◌, length, Option, None, Some, Ok, slice_get, arith, lt-ltb}
-use Rattle.std.specs.Prelude.{nat_lt, option_map, ◌&&◌}
+use Rattle.std.proofs.Common.{◌≡◌, refl, sym, ap, subst, ◌∙◌, ℕ, zero, suc, ◌+◌, ◌<◌, ◌≤◌, true, List, [], ◌∷◌, ◌++◌, length, Some, slice_get, arith, lt-ltb}
+use Rattle.std.specs.Prelude.{option_map}
 use Rattle.ui_machine.specs.Seq.{total}
 use Rattle.ui_machine.specs.Definition.{Definition}
 use Rattle.ui_machine.specs.Definition.Lookups.{class_of}
@@ -18,19 +18,17 @@ use Rattle.ui_machine.specs.State.Objects.{Object, living, class_in}
 use Rattle.ui_machine.specs.State.Tasks.{PlanEntry, Emission, Task, Beginning, Emitting}
 use Rattle.ui_machine.specs.Steps.{uncounted}
 use Rattle.law_typing.specs.Rules.RegisterKinds.{class_at}
-use Rattle.law_typing.specs.Graph.{Raised, graph, place_of_channel, handler_of_signal, listed_if, stages_of}
-use Rattle.law_typing.specs.Graph.Channels.{Channel, signal, of_class, is_channel}
+use Rattle.law_typing.specs.Graph.{Raised, listed_if, stages_of}
+use Rattle.law_typing.specs.Graph.Channels.{signal, is_channel}
 use Rattle.law_typing.specs.Graph.Depths.{depth_within}
-use Rattle.law_typing.specs.Graph.Tables.{Tables, entry}
-use Rattle.law_typing.specs.Verdict.Accepted.{Each, Accepted}
+use Rattle.law_typing.specs.Verdict.Accepted.{Each}
 use Rattle.law_typing.specs.Laws.WellRead.{WellRead}
 use Rattle.law_typing.specs.Laws.StepsKeepGood.{IsGood}
-use Rattle.law_typing.specs.Good.Standing.{standing, view, View, class_by}
-use Rattle.law_typing.specs.Good.ComingDown.{results, result_of_emission}
+use Rattle.law_typing.specs.Good.Standing.{standing, view}
 use Rattle.law_typing.specs.Good.Objects.{ObjectsGood, ObjectGood}
 use Rattle.law_typing.specs.Good.DueCosts.{turn_cost, turn_depth}
 use Rattle.law_typing.specs.Good.Emissions.{TurnGood}
-use Rattle.law_typing.specs.Good.Handlers.{runs_at, HandlersGood}
+use Rattle.law_typing.specs.Good.Handlers.{runs_at}
 use Rattle.law_typing.proofs.Lists.{both_parts}
 use Rattle.law_static.specs.Raises.{raised_there}
 use Rattle.law_static.proofs.FitsProofs.{classes_agree}
@@ -41,7 +39,7 @@ use Rattle.law_kept.proofs.NewProofs.{at_place}
 use Rattle.law_tasks.proofs.Changed.{AsFrozen, no_sets, queue_moved, changed_well, fine_counted}
 use Rattle.law_tasks.proofs.First.{First, StepIsFine, fine_of, whole_told, pool_alike, build_alike, costs, depths, most}
 use Rattle.law_tasks.proofs.Lowest.{lowest_above}
-use Rattle.law_tasks.proofs.Planned.{Emitted, Planned, plan_good}
+use Rattle.law_tasks.proofs.Planned.{Emitted, plan_good}
 use Rattle.law_tasks.specs.Beginning.{BeginningsAreFine}
 
 -- the object at a place, and its class

@@ -1,31 +1,17 @@
 -- The agenda stays good where a binding begins or ends to set: it reads of a binding who listens, and nothing else.
-use Rattle.std.proofs.Common.{◌≡◌, refl, sym, ap, subst, ◌∙◌, ℕ, ◌+◌, Bool, true, false, cond, List, [], ◌∷◌, length, Some, arith}
+use Rattle.std.proofs.Common.{◌≡◌, refl, sym, ap, subst, ◌∙◌, ℕ, Bool, true, false, cond, List, [], ◌∷◌, Some}
 use Rattle.std.specs.Prelude.{nat_eq}
-use Rattle.ui_machine.specs.Seq.{total}
 use Rattle.ui_machine.specs.Definition.{Definition}
 use Rattle.ui_machine.specs.State.Bindings.{Binding, binding_of, with_busy, listens}
 use Rattle.ui_machine.specs.State.Tasks.{PlanEntry, class_handler, handler, Emission, Task, Setting, Notifying, Beginning, Emitting, Transferring, Unsetting, Thawing, Running, Answering, Calling, Constructing, Building, Carrying, Due}
 use Rattle.ui_machine.specs.State.Tasks as config
-use Rattle.ui_machine.specs.State.Config.{World}
 use Rattle.law_typing.specs.Graph.Tables.{Tables}
 use Rattle.law_typing.specs.Verdict.Accepted.{Each}
-use Rattle.law_typing.specs.Good.Standing.{View, view}
-use Rattle.law_typing.specs.Good.Objects.{ObjectsGood, PeersGood}
-use Rattle.law_typing.specs.Good.ComingDown.{Down, none, down}
+use Rattle.law_typing.specs.Good.Standing.{View}
+use Rattle.law_typing.specs.Good.ComingDown.{Down, down}
 use Rattle.law_typing.specs.Good.Emissions.{TurnGood}
 use Rattle.law_typing.specs.Good.Agenda.{TaskGood, AgendaGood}
-use Rattle.law_typing.specs.Good.Builds.{is_for_builder}
-use Rattle.law_typing.specs.Good.Handlers.{ChannelGood, HandlersGood}
-use Rattle.law_typing.specs.Good.Freezes.{PairsGood, is_due_source}
-use Rattle.law_typing.specs.Graph.{Raised, graph, place_of_channel}
-use Rattle.law_typing.specs.Good.Standing.{standing}
-use Rattle.law_kept.specs.Bindings.{OneMore}
-use Rattle.law_kept.proofs.BindingsProofs.{binding_unset}
-use Rattle.law_kept.proofs.AlikeProofs.{build_stays}
-use Rattle.law_kept.proofs.Left.{each_to}
-use Rattle.law_instructions.proofs.Ended.{lowest_falls}
-use Rattle.law_tasks.proofs.First.{First, none_later, good_of, StepIsFine, fine_of, costs, depths, most}
-use Rattle.law_tasks.specs.Freeing.{FreeingsAreFine}
+use Rattle.law_tasks.proofs.First.{most}
 
 -- ** the binding that a number finds
 

@@ -1,7 +1,7 @@
 -- A due call: the program that called is given what the peer answers, or the zero value.
-use Rattle.std.proofs.Common.{◌≡◌, refl, sym, ap, subst, ◌∙◌, ℕ, zero, suc, ◌+◌, ◌<◌, ◌≤◌, Bool, true, false, cond, List, [], ◌∷◌, ◌++◌, length, Option, None, Some, Ok, slice_get, arith}
-use Rattle.std.specs.Prelude.{option_map, IfSome}
-use Rattle.ui_machine.specs.Seq.{read, write, total}
+use Rattle.std.proofs.Common.{◌≡◌, refl, sym, ap, subst, ◌∙◌, ℕ, zero, suc, ◌<◌, Bool, true, false, cond, List, [], ◌∷◌, ◌++◌, length, Option, None, Some, Ok, slice_get, arith}
+use Rattle.std.specs.Prelude.{IfSome}
+use Rattle.ui_machine.specs.Seq.{read, write}
 use Rattle.ui_machine.specs.Definition.{Definition}
 use Rattle.ui_machine.specs.Definition.Kinds.{Kind}
 use Rattle.ui_machine.specs.Definition.Kinds as kinds
@@ -10,7 +10,7 @@ use Rattle.ui_machine.specs.Definition.Values.{Value}
 use Rattle.ui_machine.specs.Instructions.Peers.{call_line, with_method, left_with, called, uncalled, replied, question_of}
 use Rattle.ui_machine.specs.Output.Lines as lines
 use Rattle.ui_machine.specs.Output.Text.{text_of_line}
-use Rattle.ui_machine.specs.Rules.Accumulation.{or_zero, received_by}
+use Rattle.ui_machine.specs.Rules.Accumulation.{or_zero}
 use Rattle.ui_machine.specs.Rules.Build.{is_making}
 use Rattle.ui_machine.specs.Rules.Transform.{kind_fits, zero_value}
 use Rattle.ui_machine.specs.Runs.{Fits, AnswerFits, question_in}
@@ -23,7 +23,7 @@ use Rattle.law_typing.specs.Rules.Brackets.{opened, keeps}
 use Rattle.law_typing.specs.Laws.WellRead.{has_values}
 use Rattle.law_typing.specs.Laws.StepsKeepGood.{IsGood, Fine}
 use Rattle.law_typing.specs.Good.Standing.{Standing, standing, view, View, class_by}
-use Rattle.law_typing.specs.Good.ComingDown.{Down, none, answers, results, down, awaited, Comes}
+use Rattle.law_typing.specs.Good.ComingDown.{Down, none, answers, down, awaited, Comes}
 use Rattle.law_typing.specs.Good.Programs.{CallingGood, RunningGood, code_left}
 use Rattle.law_typing.specs.Good.Freezes.{frozen_by}
 use Rattle.law_kept.specs.Alike.{Alike}
@@ -33,7 +33,7 @@ use Rattle.law_instructions.proofs.Converted.{or_zero_fits}
 use Rattle.law_instructions.proofs.RegisterProofs.{fits_anywhere}
 use Rattle.law_tasks.proofs.Answered as answered
 use Rattle.law_tasks.proofs.Changed.{AsFrozen, no_sets, queue_moved, changed_well}
-use Rattle.law_tasks.proofs.First.{First, StepIsFine, fine_where, fine_of, pool_alike, build_alike, costs, depths, most}
+use Rattle.law_tasks.proofs.First.{First, StepIsFine, fine_of, pool_alike, build_alike, costs, depths, most}
 use Rattle.law_tasks.proofs.Lowest.{lowest_above}
 use Rattle.law_tasks.proofs.Received.{Above, first, fine_above_these, after_value, goes_on, frozen_still, receives, received}
 use Rattle.law_tasks.specs.Calling.{DueCallsAreFine}

@@ -1,13 +1,12 @@
 -- What a binding carries from one of its ends to the other: the rules that it keeps, and the value that is to be set.
-use Rattle.std.proofs.Common.{◌≡◌, refl, sym, ap, subst, ◌∙◌, ℕ, Bool, true, false, cond, List, [], ◌∷◌, Option, None, Some, ℤ, ◌^◌}
-use Rattle.std.specs.Prelude.{not, nat_eq, nat_lt, unsigned_abs, is_some, ◌&&◌}
+use Rattle.std.proofs.Common.{◌≡◌, refl, sym, ap, subst, ◌∙◌, ℕ, Bool, true, false, cond, Option, None, Some, ℤ, ◌^◌}
+use Rattle.std.specs.Prelude.{not, nat_eq, nat_lt, unsigned_abs, is_some}
 use Rattle.std.proofs.lemmas.Bool.{eq-eqb, eqb-true}
 use Rattle.ui_machine.specs.Definition.{Definition}
 use Rattle.ui_machine.specs.Definition.Kinds.{Whole, int, uint, int64, uint64, Kind}
 use Rattle.ui_machine.specs.Definition.Kinds as kinds
 use Rattle.ui_machine.specs.Definition.Places.{Bind}
 use Rattle.ui_machine.specs.Definition.Properties.{Spec, is_readable, is_writable, is_construct_only, has_flags}
-use Rattle.ui_machine.specs.Definition.Types.{GType}
 use Rattle.ui_machine.specs.Definition.Values.{Value}
 use Rattle.ui_machine.specs.Definition.Values as values
 use Rattle.ui_machine.specs.Output.Text.{members_of}

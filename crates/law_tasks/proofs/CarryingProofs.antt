@@ -74,7 +74,6 @@ module _ {d : Definition} (place slot : ℕ) (t : First d (Carrying (config.get 
         good = g.agenda.6;
       }))
 
-
 -- ** a release
 
 as_long : (builder : List Held) (place id : ℕ) → read unbuilt builder place ≡ built id → length (write unbuilt builder place released) ≡ length builder

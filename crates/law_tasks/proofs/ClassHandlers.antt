@@ -1,5 +1,5 @@
 -- The program that a class runs for a signal takes what an emission at a place of the class gives it.
-use Rattle.std.proofs.Common.{◌≡◌, inl, inr, refl, sym, ap, subst, ◌∙◌, ℕ, zero, suc, ◌+◌, ◌<◌, Bool, true, false, cond, List, [], ◌∷◌, ◌++◌, length, map, Option, None, Some, slice_get, arith}
+use Rattle.std.proofs.Common.{◌≡◌, inl, inr, refl, sym, ap, subst, ◌∙◌, ℕ, zero, suc, ◌+◌, ◌<◌, Bool, true, false, cond, List, [], ◌∷◌, ◌++◌, length, map, Option, None, Some, arith}
 use Rattle.std.specs.Prelude.{nat_eq, ◌&&◌}
 use Rattle.std.specs.List.{list_any}
 use Rattle.std.proofs.lemmas.Bool.{eq-eqb, or_left}
@@ -20,7 +20,7 @@ use Rattle.law_typing.specs.Rules.Faults as faults
 use Rattle.law_typing.specs.Rules.Handlers.{at_signal, unless, class_handler_fits, class_handler_faults, constructed_faults, class_faults, place_faults}
 use Rattle.law_typing.specs.Rules.RegisterKinds.{Kinds, class_at, fits}
 use Rattle.law_typing.specs.Rules.Signatures.{parameters_fit, result_fits, is_taken_by, given_kinds}
-use Rattle.law_typing.specs.Verdict.Accepted.{Each, Accepted}
+use Rattle.law_typing.specs.Verdict.Accepted.{Accepted}
 use Rattle.law_typing.specs.Laws.{IsIn}
 use Rattle.law_typing.specs.Laws.WellRead.{TypesRead}
 use Rattle.law_typing.specs.Good.Handlers.{Takes}

@@ -1,19 +1,13 @@
 -- A binding is set free: it stands as it stood, but does not set.
-use Rattle.std.proofs.Common.{◌≡◌, refl, sym, ap, subst, ◌∙◌, ℕ, ◌+◌, Bool, true, false, cond, List, [], ◌∷◌, length, Some, arith}
-use Rattle.std.specs.Prelude.{nat_eq}
+use Rattle.std.proofs.Common.{◌≡◌, refl, sym, ap, subst, ℕ, ◌+◌, false, List, [], ◌∷◌, length, arith}
 use Rattle.ui_machine.specs.Seq.{total}
 use Rattle.ui_machine.specs.Definition.{Definition}
-use Rattle.ui_machine.specs.State.Bindings.{Binding, binding_of, with_busy, listens}
-use Rattle.ui_machine.specs.State.Tasks.{PlanEntry, class_handler, handler, Emission, Task, Setting, Notifying, Beginning, Emitting, Transferring, Unsetting, Thawing, Running, Answering, Calling, Constructing, Building, Carrying, Due}
-use Rattle.ui_machine.specs.State.Tasks as config
+use Rattle.ui_machine.specs.State.Bindings.{Binding, with_busy}
+use Rattle.ui_machine.specs.State.Tasks.{Unsetting}
 use Rattle.ui_machine.specs.State.Config.{World}
-use Rattle.law_typing.specs.Graph.Tables.{Tables}
-use Rattle.law_typing.specs.Verdict.Accepted.{Each}
-use Rattle.law_typing.specs.Good.Standing.{View, view}
+use Rattle.law_typing.specs.Good.Standing.{view}
 use Rattle.law_typing.specs.Good.Objects.{ObjectsGood, PeersGood}
-use Rattle.law_typing.specs.Good.ComingDown.{Down, none, down}
-use Rattle.law_typing.specs.Good.Emissions.{TurnGood}
-use Rattle.law_typing.specs.Good.Agenda.{TaskGood, AgendaGood}
+use Rattle.law_typing.specs.Good.ComingDown.{none}
 use Rattle.law_typing.specs.Good.Builds.{is_for_builder}
 use Rattle.law_typing.specs.Good.Handlers.{ChannelGood, HandlersGood}
 use Rattle.law_typing.specs.Good.Freezes.{PairsGood, is_due_source}

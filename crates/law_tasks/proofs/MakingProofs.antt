@@ -1,5 +1,5 @@
 -- A construction sets a property: the set is due at once, above the rest of the construction.
-use Rattle.std.proofs.Common.{◌≡◌, refl, sym, ap, ◌∙◌, ℕ, ◌+◌, ◌<◌, ◌≤◌, Bool, true, cond, List, [], ◌∷◌, Some, Ok, arith}
+use Rattle.std.proofs.Common.{◌≡◌, refl, ap, ℕ, ◌+◌, Bool, true, List, [], ◌∷◌, Ok, arith}
 use Rattle.ui_machine.specs.Seq.{total}
 use Rattle.ui_machine.specs.Definition.{Definition}
 use Rattle.ui_machine.specs.Definition.Properties.{Spec, is_writable}
@@ -15,7 +15,7 @@ use Rattle.law_typing.specs.Laws.StepsKeepGood.{IsGood}
 use Rattle.law_typing.specs.Graph.Channels.{property}
 use Rattle.law_typing.specs.Graph.Tables.{entry}
 use Rattle.law_typing.specs.Good.Builds.{step_cost}
-use Rattle.law_typing.specs.Good.DueCosts.{due_cost, due_depth}
+use Rattle.law_typing.specs.Good.DueCosts.{due_cost}
 use Rattle.law_kept.specs.Alike.{Alike}
 use Rattle.law_static.proofs.StartProofs.{due_within}
 use Rattle.law_instructions.proofs.ReadProofs.{spec_is}
@@ -23,7 +23,7 @@ use Rattle.law_instructions.proofs.SetProofs.{held_from}
 use Rattle.law_tasks.proofs.Changed.{AsFrozen, queue_moved, changed_well}
 use Rattle.law_tasks.proofs.First.{First, StepIsFine, fine_where, fine_of, whole_told, pool_alike, build_alike, costs, depths, most}
 use Rattle.law_tasks.proofs.Lowest.{lowest_above}
-use Rattle.law_tasks.proofs.SettingProofs.{Owns, owns}
+use Rattle.law_tasks.proofs.SettingProofs.{owns}
 use Rattle.law_tasks.specs.Starting.{ConstructionsSet}
 
 set_leads : (d : Definition) (w : World) (id slot : ℕ) (v : Value) (tasks : List Task) (s : Spec) → spec_at d w.objects id slot ≡ Ok s → is_writable s ≡ true →

@@ -1,5 +1,5 @@
 -- A due notification begins: it takes its turns, with the transfers of the bindings that listen to the property.
-use Rattle.std.proofs.Common.{◌≡◌, refl, sym, ap, subst, ◌∙◌, ℕ, suc, ◌+◌, ◌<◌, ◌≤◌, Bool, true, false, cond, List, [], ◌∷◌, ◌++◌, length, Option, None, Some, Ok, arith}
+use Rattle.std.proofs.Common.{◌≡◌, refl, sym, ap, ◌∙◌, ℕ, suc, ◌+◌, ◌≤◌, Bool, true, List, [], ◌∷◌, ◌++◌, Option, None, Some, arith}
 use Rattle.std.specs.Prelude.{nat_eq, ◌&&◌}
 use Rattle.ui_machine.specs.Seq.{total}
 use Rattle.ui_machine.specs.Definition.{Definition}
@@ -7,7 +7,6 @@ use Rattle.ui_machine.specs.Definition.Kinds.{Kind}
 use Rattle.ui_machine.specs.Definition.Lookups.{spec_of, type_of}
 use Rattle.ui_machine.specs.Definition.Properties.{Spec}
 use Rattle.ui_machine.specs.Definition.Signals.{Signal}
-use Rattle.ui_machine.specs.Definition.Types as sorts
 use Rattle.ui_machine.specs.Definition.Values.{Value}
 use Rattle.ui_machine.specs.Output.Lines as lines
 use Rattle.ui_machine.specs.Output.Text.{text_of_line}
@@ -21,8 +20,7 @@ use Rattle.ui_machine.specs.State.Handlers.{Handler}
 use Rattle.ui_machine.specs.State.Objects.{Object, living}
 use Rattle.ui_machine.specs.State.Tasks.{PlanEntry, Emission, Frame, Task, Setting, Notifying, Beginning, Emitting, Transferring, Unsetting, Thawing, Running, Answering, Calling, Constructing, Building, Carrying, Due}
 use Rattle.ui_machine.specs.Steps.{uncounted}
-use Rattle.law_typing.specs.Rules.RegisterKinds.{Kinds, class_at}
-use Rattle.law_typing.specs.Graph.{Raised, graph, class_handler_for, listed_if}
+use Rattle.law_typing.specs.Graph.{Raised, class_handler_for, listed_if}
 use Rattle.law_typing.specs.Graph.Channels.{property, of_class, is_channel, is_readable_one}
 use Rattle.law_typing.specs.Graph.Channels as channels
 use Rattle.law_typing.specs.Graph.Tables.{Tables}

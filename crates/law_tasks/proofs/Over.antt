@@ -1,7 +1,7 @@
 -- The transfers of a notification: each listens to the property, and goes no deeper than what is due there.
-use Rattle.std.proofs.Common.{◌≡◌, inl, inr, refl, sym, ap, subst, ◌∙◌, ℕ, zero, suc, ◌+◌, ◌<◌, ◌≤◌, Bool, true, false, cond, List, [], ◌∷◌, ◌++◌, map, Option, None, Some, slice_get, arith}
+use Rattle.std.proofs.Common.{◌≡◌, inl, inr, refl, sym, ap, subst, ◌∙◌, ℕ, zero, suc, ◌+◌, ◌≤◌, Bool, true, false, cond, List, [], ◌∷◌, Option, None, Some, slice_get, arith}
 use Rattle.std.specs.Prelude.{not, nat_eq, ◌&&◌, ◌||◌, ◌⊎◌}
-use Rattle.std.specs.List.{filter, find}
+use Rattle.std.specs.List.{filter}
 use Rattle.std.proofs.lemmas.Bool.{eq-eqb, eqb-true, eqb-false}
 use Rattle.ui_machine.specs.Seq.{total}
 use Rattle.ui_machine.specs.Definition.{Definition}
@@ -9,14 +9,13 @@ use Rattle.ui_machine.specs.Definition.Places.{Bind}
 use Rattle.ui_machine.specs.Definition.Properties.{has_flags}
 use Rattle.ui_machine.specs.State.Bindings.{Binding, binding_of, is_bidirectional, is_source, is_target, listens, goes_back, transfers}
 use Rattle.ui_machine.specs.State.Config.{World}
-use Rattle.ui_machine.specs.State.Objects.{Objects}
 use Rattle.ui_machine.specs.State.Tasks as config
 use Rattle.ui_machine.specs.State.Tasks.{PlanEntry, Emission, Task}
 use Rattle.law_typing.specs.Rules.BindingRules.{word_of, shares_end}
 use Rattle.law_typing.specs.Graph.{Raised, graph, pairs_of}
-use Rattle.law_typing.specs.Graph.Channels.{Channel, property, same_channel, is_pair, source_of, target_of, is_channel}
+use Rattle.law_typing.specs.Graph.Channels.{Channel, property, same_channel, is_pair, source_of, target_of}
 use Rattle.law_typing.specs.Graph.Costs.{other_end_in, other_end}
-use Rattle.law_typing.specs.Graph.Depths.{deepest, depth_within, depth_within_if, raised_of, property_depth}
+use Rattle.law_typing.specs.Graph.Depths.{depth_within, depth_within_if, raised_of, property_depth}
 use Rattle.law_typing.specs.Graph.Tables.{Tables, entry}
 use Rattle.law_typing.specs.Verdict.Accepted.{Each, Accepted}
 use Rattle.law_typing.specs.Laws.{IsIn}
@@ -24,7 +23,7 @@ use Rattle.law_typing.specs.Good.Standing.{standing, view, Rising}
 use Rattle.law_typing.specs.Good.Bindings.{BindingGood, BindingsGood}
 use Rattle.law_typing.specs.Good.DueCosts.{unsets, has_end, is_setting_below, due_depth, transfer_depth, turn_depth}
 use Rattle.law_typing.specs.Good.Emissions.{GoesBack, TurnGood}
-use Rattle.law_typing.proofs.Lists.{both_parts, each_in, filter_in, map_in, greatest_in}
+use Rattle.law_typing.proofs.Lists.{each_in, filter_in, map_in, greatest_in}
 use Rattle.law_typing.proofs.PairProofs.{NoSecond, no_words, no_second, later_apart, pair_read}
 use Rattle.law_static.specs.Raises.{raised_there, ChannelKnown}
 use Rattle.law_static.proofs.SubclassProofs.{get_in}
@@ -206,12 +205,12 @@ module _ (d : Definition) (a : Accepted d) (w : World) (agenda below : List Task
   transfers_good e is =
       each_passing (λ turn. TurnGood d (view w) e turn × (1 + turn_depth d depths (view w) below turn ≤ frames)) (λ (b : Binding). config.transfer b.number (goes_back id slot b)) (listens id slot) w.bindings
       (λ b there hears.
-          (let g = each_in (BindingGood d (standing w.objects) agenda w.objects) w.bindings bindings.each b there in
-          let found = finds_itself 0 w.bindings b bindings.rising there in
-          let low = binding_deep b g hears in (
-            (
-              back_of_pair b g hears,
-              λ x at. (slot, (let same : b ≡ x = (let f = sym found ∙ at in cc) in subst (λ object. listens object slot x ≡ true) (sym is) (subst (λ x. listens id slot x ≡ true) same hears))),
-            ),
-            subst (λ o. 1 + transfer_depth d depths below (goes_back id slot b) o ≤ frames) (sym g.is) low,
-          )))
+      (let g = each_in (BindingGood d (standing w.objects) agenda w.objects) w.bindings bindings.each b there in
+      let found = finds_itself 0 w.bindings b bindings.rising there in
+      let low = binding_deep b g hears in (
+        (
+          back_of_pair b g hears,
+          λ x at. (slot, (let same : b ≡ x = (let f = sym found ∙ at in cc) in subst (λ object. listens object slot x ≡ true) (sym is) (subst (λ x. listens id slot x ≡ true) same hears))),
+        ),
+        subst (λ o. 1 + transfer_depth d depths below (goes_back id slot b) o ≤ frames) (sym g.is) low,
+      )))

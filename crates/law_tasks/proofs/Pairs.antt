@@ -1,18 +1,17 @@
 -- A property is in one pair at most: whether its pair is setting below is told by that one binding.
-use Rattle.std.proofs.Common.{◌≡◌, inl, refl, sym, ap, subst, ◌∙◌, ℕ, zero, suc, ◌+◌, ◌<◌, Bool, true, false, cond, List, [], ◌∷◌, Option, None, Some, slice_get, arith}
+use Rattle.std.proofs.Common.{◌≡◌, inl, refl, ap, ◌∙◌, ℕ, zero, suc, ◌+◌, ◌<◌, Bool, true, false, cond, List, [], ◌∷◌, Some, slice_get, arith}
 use Rattle.std.specs.Prelude.{nat_eq, ◌&&◌}
 use Rattle.std.proofs.lemmas.Bool.{eqb-true}
 use Rattle.ui_machine.specs.Seq.{total}
 use Rattle.ui_machine.specs.Definition.{Definition}
 use Rattle.ui_machine.specs.Definition.Places.{Bind}
 use Rattle.ui_machine.specs.State.Tasks.{Task}
-use Rattle.law_typing.specs.Rules.BindingRules.{word_of, shares_end}
+use Rattle.law_typing.specs.Rules.BindingRules.{shares_end}
 use Rattle.law_typing.specs.Graph.Channels.{Channel, is_pair, source_of, target_of, same_channel}
-use Rattle.law_typing.specs.Graph.Tables.{Tables}
-use Rattle.law_typing.specs.Verdict.Accepted.{Each, Accepted}
-use Rattle.law_typing.specs.Good.DueCosts.{unsets, has_end, is_setting_at, is_setting_from, is_setting_below}
+use Rattle.law_typing.specs.Verdict.Accepted.{Accepted}
+use Rattle.law_typing.specs.Good.DueCosts.{unsets, has_end, is_setting_below}
 use Rattle.law_typing.proofs.Lists.{both_parts, each_in, same_channel_refl}
-use Rattle.law_typing.proofs.PairProofs.{NoSecond, no_words, no_second, later_apart}
+use Rattle.law_typing.proofs.PairProofs.{NoSecond, no_second, later_apart}
 use Rattle.law_static.proofs.SubclassProofs.{get_in}
 use Rattle.law_static.proofs.PairCostProofs.{sharing, is_set_at, set_from}
 

@@ -1,5 +1,5 @@
 -- The turns of an emission that begins: each is of its object and signal, takes what it is given, and is no deeper than what runs at its channel.
-use Rattle.std.proofs.Common.{◌≡◌, inl, inr, refl, sym, ap, subst, ◌∙◌, ℕ, suc, ◌+◌, ◌<◌, ◌≤◌, Bool, true, false, cond, List, [], ◌∷◌, ◌++◌, length, map, Option, None, Some, arith}
+use Rattle.std.proofs.Common.{◌≡◌, inl, inr, refl, sym, ap, subst, ◌∙◌, ℕ, ◌<◌, ◌≤◌, Bool, true, false, cond, List, [], ◌∷◌, ◌++◌, length, map, Option, None, Some, arith}
 use Rattle.std.specs.Prelude.{not, nat_eq, ◌&&◌}
 use Rattle.std.specs.List.{filter}
 use Rattle.std.proofs.lemmas.Bool.{eqb-true}
@@ -13,8 +13,8 @@ use Rattle.ui_machine.specs.State.Tasks.{PlanEntry, class_handler, handler, Emis
 use Rattle.law_typing.specs.Rules.RegisterKinds.{class_at}
 use Rattle.law_typing.specs.Graph.{Raised, graph, place_of_channel, listed_if}
 use Rattle.law_typing.specs.Graph.Ranks.{running_at}
-use Rattle.law_typing.specs.Graph.Tables.{of_program, greatest}
-use Rattle.law_typing.specs.Graph.Depths.{deepest, depth_within}
+use Rattle.law_typing.specs.Graph.Tables.{of_program}
+use Rattle.law_typing.specs.Graph.Depths.{depth_within}
 use Rattle.law_typing.specs.Verdict.Accepted.{Each, Accepted}
 use Rattle.law_typing.specs.Laws.{IsIn}
 use Rattle.law_typing.specs.Laws.WellRead.{TypesRead}
@@ -109,9 +109,9 @@ module _ (d : Definition) (a : Accepted d) (w : World) (agenda below : List Task
         (
           low,
           λ y is. (let same : h ≡ y = (let f = sym found ∙ is in cc) in (
-              ap (λ (h : Handler). h.object) (sym same) ∙ eqb-true h.object e.object q.0,
-              ap (λ (h : Handler). h.signal) (sym same) ∙ eqb-true h.signal e.signal q.1,
-            )),
+            ap (λ (h : Handler). h.object) (sym same) ∙ eqb-true h.object e.object q.0,
+            ap (λ (h : Handler). h.signal) (sym same) ∙ eqb-true h.signal e.signal q.1,
+          )),
         ),
         subst (λ m. m ≤ depth_within a.weighed.depths x.r) (sym (costs_its_program found)) deep,
       )

@@ -8,12 +8,10 @@ use Rattle.ui_machine.specs.Definition.Places.{Bind}
 use Rattle.ui_machine.specs.State.Objects.{Object, Objects, living}
 use Rattle.ui_machine.specs.State.Bindings.{Binding}
 use Rattle.ui_machine.specs.State.Tasks.{Task, Setting, Notifying, Beginning, Emitting, Transferring, Unsetting, Thawing, Running, Answering, Calling, Constructing, Building, Carrying, Due}
-use Rattle.law_typing.specs.Rules.Brackets.{has_pair}
 use Rattle.law_typing.specs.Graph.{graph}
 use Rattle.law_typing.specs.Graph.Channels.{Channel, property, is_pair, source_of, target_of, same_channel}
 use Rattle.law_typing.specs.Graph.Tables.{Tables, entry}
 use Rattle.law_typing.specs.Graph.Costs.{with_other, node_cost, other_end}
-use Rattle.law_typing.specs.Verdict.Accepted.{Accepted}
 use Rattle.law_typing.specs.Good.DueCosts.{unsets, has_end, is_setting_below, over_cost, due_cost, due_depth}
 use Rattle.law_typing.specs.Good.Agenda.{frames}
 use Rattle.law_typing.specs.Good.Builds.{is_for_builder}

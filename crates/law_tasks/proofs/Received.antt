@@ -1,11 +1,10 @@
 -- A program that waits is given a value: its register holds what its kind says, and it goes on above what was below it.
-use Rattle.std.proofs.Common.{◌≡◌, refl, sym, ap, subst, ◌∙◌, ℕ, ◌<◌, ◌≤◌, Bool, true, List, [], ◌∷◌, ◌++◌, length, drop, Option, None, Some, Ok, arith, lt-ltb}
+use Rattle.std.proofs.Common.{◌≡◌, refl, sym, ap, subst, ◌∙◌, ℕ, ◌<◌, ◌≤◌, true, List, ◌∷◌, length, drop, Option, None, Some, Ok, arith, lt-ltb}
 use Rattle.std.specs.Prelude.{not}
-use Rattle.ui_machine.specs.Seq.{write, read, total}
+use Rattle.ui_machine.specs.Seq.{write}
 use Rattle.ui_machine.specs.Definition.{Definition}
 use Rattle.ui_machine.specs.Definition.Kinds.{Kind}
 use Rattle.ui_machine.specs.Definition.Kinds as kinds
-use Rattle.ui_machine.specs.Definition.Lookups.{program_at}
 use Rattle.ui_machine.specs.Definition.Values.{Value}
 use Rattle.ui_machine.specs.Rules.Accumulation.{received_by}
 use Rattle.ui_machine.specs.Rules.Build.{is_making}

@@ -1,5 +1,5 @@
 -- The kinds of a program's registers are as many as its registers, in front of each of its instructions.
-use Rattle.std.proofs.Common.{◌≡◌, refl, sym, ap, subst, ◌∙◌, ℕ, zero, suc, ◌<◌, ◌≤◌, Bool, true, false, List, [], ◌∷◌, length, Option, None, Some, Ok, Err, slice_get, arith}
+use Rattle.std.proofs.Common.{◌≡◌, refl, sym, subst, ◌∙◌, ℕ, zero, suc, ◌<◌, Bool, true, false, List, [], ◌∷◌, length, Option, None, Some, Ok, Err, arith}
 use Rattle.std.specs.Prelude.{⊤, nat_lt, not}
 use Rattle.std.specs.List.{list_any}
 use Rattle.ui_machine.specs.Seq.{write}
@@ -19,7 +19,7 @@ use Rattle.law_typing.specs.Rules.Brackets.{written}
 use Rattle.law_typing.specs.Rules.Typing as typing
 use Rattle.law_typing.specs.Rules.Typing.{typed, after, or_before, takes_result}
 use Rattle.law_typing.specs.Verdict.Accepted.{Each}
-use Rattle.law_typing.specs.Laws.WellRead.{Within, Ends, ends, BlockRead}
+use Rattle.law_typing.specs.Laws.WellRead.{Within, Ends, ends}
 use Rattle.law_typing.specs.Good.Programs.{kinds_before}
 use Rattle.law_instructions.proofs.Written.{length_write}
 

@@ -1,7 +1,7 @@
 -- A due set: the value is refused, or written; and then it is notified at once, or waits in the queue of a frozen object, or nothing is raised.
-use Rattle.std.proofs.Common.{◌≡◌, refl, sym, ap, subst, ◌∙◌, ℕ, suc, ◌+◌, ◌<◌, ◌≤◌, Bool, true, false, cond, List, [], ◌∷◌, ◌++◌, length, Option, None, Some, Ok, slice_get, arith}
-use Rattle.std.specs.Prelude.{nat_eq, slice_set, option_map, is_some, ◌&&◌, ◌||◌}
-use Rattle.std.proofs.lemmas.Bool.{eqb-true, eqb-false}
+use Rattle.std.proofs.Common.{◌≡◌, refl, sym, ap, subst, ◌∙◌, ℕ, suc, ◌+◌, ◌<◌, ◌≤◌, Bool, true, false, List, [], ◌∷◌, ◌++◌, Option, None, Some, Ok, slice_get, arith}
+use Rattle.std.specs.Prelude.{nat_eq, slice_set, option_map, is_some, ◌||◌}
+use Rattle.std.proofs.lemmas.Bool.{eqb-false}
 use Rattle.ui_machine.specs.Seq.{total}
 use Rattle.ui_machine.specs.Definition.{Definition}
 use Rattle.ui_machine.specs.Definition.Lookups.{spec_of}
@@ -27,17 +27,16 @@ use Rattle.law_typing.specs.Graph.Channels as channels
 use Rattle.law_typing.specs.Graph.Costs.{node_cost}
 use Rattle.law_typing.specs.Graph.Tables.{entry}
 use Rattle.law_typing.specs.Laws.StepsKeepGood.{IsGood}
-use Rattle.law_typing.specs.Good.Standing.{Standing, standing, view, View, class_by, lives_by}
-use Rattle.law_typing.specs.Good.Objects.{ObjectsGood, ObjectGood, PeersGood}
+use Rattle.law_typing.specs.Good.Standing.{standing, View, class_by, lives_by}
+use Rattle.law_typing.specs.Good.Objects.{ObjectsGood, ObjectGood}
 use Rattle.law_typing.specs.Good.ComingDown.{none}
 use Rattle.law_typing.specs.Good.Agenda.{AgendaGood}
-use Rattle.law_typing.specs.Good.Builds.{is_for_builder, BuildGood}
 use Rattle.law_typing.specs.Good.DueCosts.{is_setting_below, queued_cost}
 use Rattle.law_typing.specs.Good.Freezes.{below_lowest, QueueGood, QueuesGood, carried, is_due_source}
 use Rattle.law_typing.proofs.Lists.{both_parts}
 use Rattle.law_kept.specs.Alike.{Alike}
 use Rattle.law_kept.specs.Write.{Whole, Kept}
-use Rattle.law_kept.proofs.AlikeProofs.{whole_stays, build_stays}
+use Rattle.law_kept.proofs.AlikeProofs.{whole_stays}
 use Rattle.law_kept.proofs.ChangesProofs.{value_is_like, queue_is_like, each_queued}
 use Rattle.law_kept.proofs.NewProofs.{at_place}
 use Rattle.law_kept.proofs.WriteProofs.{write_keeps, find_here}

@@ -1,20 +1,18 @@
 -- What is left of a thaw: the next notification is due, or none is left.
-use Rattle.std.proofs.Common.{◌≡◌, refl, sym, ap, ℕ, ◌+◌, ◌≤◌, Bool, cond, List, [], ◌∷◌, arith}
+use Rattle.std.proofs.Common.{◌≡◌, refl, ℕ, ◌+◌, List, [], ◌∷◌, arith}
 use Rattle.ui_machine.specs.Seq.{total}
 use Rattle.ui_machine.specs.Definition.{Definition}
 use Rattle.ui_machine.specs.Rules.Build.{is_making}
 use Rattle.ui_machine.specs.State.Tasks.{Task, Notifying, Thawing}
-use Rattle.law_typing.specs.Graph.{graph}
 use Rattle.law_typing.specs.Graph.Channels.{Channel, property}
-use Rattle.law_typing.specs.Graph.Costs.{other_end}
-use Rattle.law_typing.specs.Graph.Tables.{Tables, entry}
+use Rattle.law_typing.specs.Graph.Tables.{Tables}
 use Rattle.law_typing.specs.Laws.StepsKeepGood.{IsGood}
-use Rattle.law_typing.specs.Good.Standing.{Standing, standing, view}
-use Rattle.law_typing.specs.Good.DueCosts.{unsets, over_cost, due_cost, due_depth}
+use Rattle.law_typing.specs.Good.Standing.{Standing, standing}
+use Rattle.law_typing.specs.Good.DueCosts.{unsets, due_cost, due_depth}
 use Rattle.law_typing.specs.Good.Emissions.{ThawingGood}
 use Rattle.law_kept.specs.Alike.{Alike}
 use Rattle.law_tasks.proofs.Done.{done}
-use Rattle.law_tasks.proofs.First.{First, good_of, fine_where, StepIsFine, fine_of, whole_told, pool_alike, build_alike, costs, depths, most}
+use Rattle.law_tasks.proofs.First.{First, good_of, fine_where, StepIsFine, fine_of, whole_told, pool_alike, build_alike, costs, depths}
 use Rattle.law_tasks.proofs.Lowest.{lowest_above}
 use Rattle.law_tasks.proofs.Moving.{setting_same}
 use Rattle.law_tasks.specs.Thawing.{DueThawsAreFine}

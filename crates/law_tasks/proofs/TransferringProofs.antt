@@ -1,6 +1,6 @@
 -- A due transfer: the value of one end of its binding is due at the other, and the binding sets; or nothing is to be set.
-use Rattle.std.proofs.Common.{◌≡◌, refl, sym, ap, subst, ◌∙◌, ℕ, suc, ◌+◌, ◌<◌, ◌≤◌, Bool, true, false, cond, List, [], ◌∷◌, length, drop, Option, None, Some, Ok, slice_get, arith}
-use Rattle.std.specs.Prelude.{not, nat_eq, option_map}
+use Rattle.std.proofs.Common.{◌≡◌, refl, sym, ap, subst, ◌∙◌, ℕ, suc, ◌+◌, ◌<◌, ◌≤◌, Bool, true, false, cond, List, [], ◌∷◌, length, Option, None, Some, Ok, slice_get, arith}
+use Rattle.std.specs.Prelude.{not}
 use Rattle.std.proofs.lemmas.Bool.{eq-eqb}
 use Rattle.ui_machine.specs.Seq.{total}
 use Rattle.ui_machine.specs.Definition.{Definition}
@@ -12,25 +12,23 @@ use Rattle.ui_machine.specs.Rules.Sets.{has_kind, spec_at}
 use Rattle.ui_machine.specs.Rules.Transfers.{End, source_end, target_end, inverts, inverted, set_by, carried, carried_by, transferring}
 use Rattle.ui_machine.specs.Rules.Transform.{kind_fits, transformed}
 use Rattle.ui_machine.specs.State.Bindings.{Binding, binding_of, with_busy}
-use Rattle.ui_machine.specs.State.Config.{World, Started, starts}
+use Rattle.ui_machine.specs.State.Config.{World, starts}
 use Rattle.ui_machine.specs.State.Objects.{asked, value_at}
-use Rattle.ui_machine.specs.State.References.{mentions, next_unheld}
+use Rattle.ui_machine.specs.State.References.{mentions}
 use Rattle.ui_machine.specs.State.Tasks.{Item, Task, Setting, Transferring, Unsetting}
 use Rattle.ui_machine.specs.Steps.{uncounted}
 use Rattle.law_typing.specs.Rules.BindingRules.{word_of}
 use Rattle.law_typing.specs.Graph.Channels.{Channel, property, is_pair, source_of, target_of}
 use Rattle.law_typing.specs.Graph.Channels as channels
-use Rattle.law_typing.specs.Graph.Tables.{Tables}
 use Rattle.law_typing.specs.Verdict.Accepted.{Accepted}
 use Rattle.law_typing.specs.Laws.StepsKeepGood.{IsGood}
 use Rattle.law_typing.specs.Good.Standing.{standing, view, class_by, lives_by}
 use Rattle.law_typing.specs.Good.Objects.{ValueGood, PeersGood}
 use Rattle.law_typing.specs.Good.ComingDown.{none}
-use Rattle.law_typing.specs.Good.Agenda.{AgendaGood}
 use Rattle.law_typing.specs.Good.Bindings.{BindingGood}
 use Rattle.law_typing.specs.Good.Builds.{is_for_builder}
-use Rattle.law_typing.specs.Good.DueCosts.{unsets, has_end, due_cost, due_depth, transfer_cost, transfer_depth, is_setting_below}
-use Rattle.law_typing.specs.Good.Freezes.{PairsGood, QueuesGood}
+use Rattle.law_typing.specs.Good.DueCosts.{unsets, has_end, due_cost, due_depth, transfer_cost, transfer_depth}
+use Rattle.law_typing.specs.Good.Freezes.{PairsGood}
 use Rattle.law_typing.proofs.Lists.{both_parts, each_in}
 use Rattle.law_typing.proofs.PairProofs.{no_words}
 use Rattle.law_static.proofs.SubclassProofs.{get_in}

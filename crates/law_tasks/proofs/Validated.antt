@@ -1,13 +1,12 @@
 -- What validation makes of a value is valid in each property that was read.
 use Rattle.std.proofs.Common.{◌≡◌, refl, sym, ap, subst, ◌∙◌, ℕ, zero, suc, ◌^◌, ◌<◌, Bool, true, false, cond, List, [], ◌∷◌, Option, None, Some, ℤ, arith}
-use Rattle.std.specs.Prelude.{not, ◌&&◌, nat_eq, nat_lt, unsigned_abs, bit_and, bit_or, int_lt}
+use Rattle.std.specs.Prelude.{not, ◌&&◌, unsigned_abs, bit_and, int_lt}
 use Rattle.std.specs.List.{list_all}
 use Rattle.std.specs.Ordering.{int_eq}
 use Rattle.std.specs.Cmp.{signed_Decides}
 use Rattle.std.proofs.lemmas.Bool.{ltb-true}
 use Rattle.std.proofs.lemmas.Int.{ints}
 use Rattle.std.proofs.lemmas.Nat.{or_of_32, and_le_r}
-use Rattle.ui_machine.specs.Seq.{read}
 use Rattle.ui_machine.specs.Definition.{Definition}
 use Rattle.ui_machine.specs.Definition.Kinds.{Whole, Kind}
 use Rattle.ui_machine.specs.Definition.Kinds as kinds

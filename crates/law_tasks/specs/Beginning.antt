@@ -1,5 +1,4 @@
 -- The task that begins an emission.
-use Rattle.std.specs.Prelude.{ℕ}
 use Rattle.ui_machine.specs.State.Tasks.{Emission, Beginning}
 use Rattle.law_tasks.specs.First.{IsFine}
 

@@ -1,5 +1,4 @@
 -- The task that waits for a peer's answer.
-use Rattle.std.specs.Prelude.{ℕ}
 use Rattle.ui_machine.specs.State.Tasks.{Call, Calling}
 use Rattle.law_tasks.specs.First.{IsFine}
 
