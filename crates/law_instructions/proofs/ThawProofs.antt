@@ -75,11 +75,11 @@ each_back : {A : Type 0} (P : A → Type 0) (xs : List A) → Each P xs → Each
 each_back P [] all = tt
 each_back P (x ∷ xs) all = subst (Each P) (sym (back x xs)) (each_append P (reverse xs) (x ∷ []) (each_back P xs all.1) (all.0, tt))
 
-each_two : {A : Type 0} (P Q R : A → Type 0) (xs : List A) → ((x : A) → P x → Q x → R x) → Each P xs → Each Q xs → Each R xs
+pub each_two : {A : Type 0} (P Q R : A → Type 0) (xs : List A) → ((x : A) → P x → Q x → R x) → Each P xs → Each Q xs → Each R xs
 each_two P Q R [] f one two = tt
 each_two P Q R (x ∷ xs) f one two = (f x one.0 two.0, each_two P Q R xs f one.1 two.1)
 
-total_at_most : {A : Type 0} (f g : A → ℕ) (xs : List A) → ((x : A) → f x ≤ g x) → total f xs ≤ total g xs
+pub total_at_most : {A : Type 0} (f g : A → ℕ) (xs : List A) → ((x : A) → f x ≤ g x) → total f xs ≤ total g xs
 total_at_most f g [] less = omega arith
 total_at_most f g (x ∷ xs) less = let h = less x in let rest = total_at_most f g xs less in omega (arith, h, rest)
 
@@ -94,7 +94,7 @@ pub record Thawed (left : ℕ) (o : Object) (new : Object) (slots : List ℕ) : 
   pub due : (P : ℕ → Type 0) → (left ≡ 0 → Each P o.queue) → Each P slots
   pub none : left ≡ 0 → new.queue ≡ []
 
-thaw_leaves : (left : ℕ) (o : Object) → Thawed left o (less_frozen left o).state (less_frozen left o).answer
+pub thaw_leaves : (left : ℕ) (o : Object) → Thawed left o (less_frozen left o).state (less_frozen left o).answer
 thaw_leaves zero o = record {
   place = refl;
   count = refl;
@@ -113,7 +113,7 @@ thaw_leaves (suc n) o = record {
 }
 
 -- what is left of a thaw is good where each notification is, and all of them together cost no more than this
-thawing_good : (d : Definition) (costs depths : Tables) (s : Standing) (below : List Task) (id place steps deep : ℕ) (slots : List ℕ) → s id ≡ Some place →
+pub thawing_good : (d : Definition) (costs depths : Tables) (s : Standing) (below : List Task) (id place steps deep : ℕ) (slots : List ℕ) → s id ≡ Some place →
     total (λ slot. due_cost d costs below (property place slot)) slots ≤ steps →
     Each (λ slot. (due_depth d depths below (property place slot) ≤ deep) × (spec : Spec) × (spec_at d place slot ≡ Some spec) × (is_readable spec ≡ true)) slots →
     ThawingGood d costs depths s below id slots steps deep
@@ -122,7 +122,7 @@ thawing_good d costs depths s below id place steps deep (slot ∷ slots) is chea
 
 -- ** what the machine does
 
-less_is : (o : Object) (less : ℕ) → o.freezes ≡ suc less → frozen_less o ≡ Ok (less_frozen less o)
+pub less_is : (o : Object) (less : ℕ) → o.freezes ≡ suc less → frozen_less o ≡ Ok (less_frozen less o)
 less_is o less count =
     ap (λ b. only_if b arms.Freeze (Ok (less_frozen (o.freezes - 1) o))) (lt-ltb 0 o.freezes (omega (arith, count)))
     ∙ ap (λ (n : ℕ). Ok (less_frozen n o)) (let e : o.freezes - 1 ≡ less = omega (arith, count) in e)

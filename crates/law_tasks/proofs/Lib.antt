@@ -23,7 +23,8 @@ pub mod Over
 pub mod NotifyingProofs
 pub mod AskedProofs
 pub mod RequestProofs
-pub mod MakingProofs
+pub mod ConstructingProofs
+pub mod ThawedProofs
 pub mod Bound
 pub mod FreeingProofs
 pub mod TurnProofs

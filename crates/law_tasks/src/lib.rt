@@ -2,7 +2,7 @@
 #![tactic(auto)]
 
 ghost use Rattle.law_tasks.specs.Freeing.{FreeingsAreFine};
-ghost use Rattle.law_tasks.specs.Starting.{SourcesAreFine, RunsAreFine, ConstructionsSet, AnsweringsWait};
+ghost use Rattle.law_tasks.specs.Starting.{SourcesAreFine, RunsAreFine, ConstructionsSet, ConstructionsThaw, AnsweringsWait};
 ghost use Rattle.law_tasks.specs.Settling.{SettlingIsFine};
 ghost use Rattle.law_tasks.specs.Setting.{DueSetsAreFine};
 ghost use Rattle.law_tasks.specs.Ending.{EmissionsEnd, ConstructionsEnd};
@@ -31,11 +31,12 @@ pub fn turns()
     ensures transfers { TransfersAreFine }
 {}
 
-/// A due source starts its program, and a construction a `constructed` one. What a construction sets is due at once. A source that waits for its program is never the first task.
+/// A due source starts its program, and a construction a `constructed` one. What a construction sets is due at once, and what waited as it thaws. A source that waits for its program is never the first task.
 pub fn starting()
     ensures sources { SourcesAreFine }
     ensures runs { RunsAreFine }
     ensures sets { ConstructionsSet }
+    ensures thaws { ConstructionsThaw }
     ensures answers { AnsweringsWait }
 {}
 
