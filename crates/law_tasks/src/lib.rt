@@ -8,7 +8,6 @@ ghost use Rattle.law_tasks.specs.Setting.{DueSetsAreFine};
 ghost use Rattle.law_tasks.specs.Ending.{EmissionsEnd, ConstructionsEnd};
 ghost use Rattle.law_tasks.specs.Beginning.{BeginningsAreFine};
 ghost use Rattle.law_tasks.specs.Calling.{DueCallsAreFine};
-ghost use Rattle.law_tasks.specs.Carrying.{GetsAreFine, ReleasesAreFine};
 ghost use Rattle.law_tasks.specs.BuildEnd.{BuildsEnd};
 ghost use Rattle.law_tasks.specs.BuildObjects.{ObjectsAreFine};
 ghost use Rattle.law_tasks.specs.BuildSignals.{SignalsAreFine};
@@ -62,6 +61,8 @@ pub fn building()
     ensures objects { ObjectsAreFine }
     ensures signals { SignalsAreFine }
     ensures end { BuildsEnd }
+{}
+
 /// A due set: the value is refused or written, and a notification is raised at once, or when the object thaws, or not at all.
 pub fn setting()
     ensures fine { DueSetsAreFine }
