@@ -1,5 +1,6 @@
 pub mod Tables
 pub mod Whole
+pub mod LaterTypes
 pub mod Soundness
 pub mod Pushed
 pub mod Chains

@@ -1,11 +1,14 @@
 -- All properties of a definition that was read are plain.
-use Rattle.std.proofs.Common.{◌≡◌, ◌≤◌, ◌<◌, ℕ, codes, zero, suc, ◌+◌, ℤ, ◌≤ℤ◌, int_lt, Bool, true, false, not, ◌&&◌, nat_eq, nat_le, arith, map, if◌then◌else◌, List, [], ◌∷◌, ◌++◌, length, reverse, slice_get, Option, Some, None, Result, Ok, Err, refl, sym, subst, ◌∙◌}
+use Rattle.std.proofs.Common.{◌≡◌, ◌≤◌, ◌<◌, ℕ, codes, zero, suc, ◌+◌, ℤ, ◌≤ℤ◌, int_lt, Bool, true, false, cond, option_map, not, ◌&&◌, nat_eq, nat_le, arith, map, if◌then◌else◌, List, [], ◌∷◌, ◌++◌, length, reverse, slice_get, Option, Some, None, Result, Ok, Err, refl, sym, subst, ◌∙◌}
 use Rattle.std.specs.List.{flat_map}
 use Rattle.std.proofs.lemmas.List.{length_push, length-map}
 use Rattle.std.proofs.lemmas.Bool.Decides.{nat_tests}
 use Rattle.ui_machine.specs.Definition.Places.{Place}
 use Rattle.serde_json.specs.Data.{Data, Items, no_items, item}
 use Rattle.ui_machine.specs.Definition.Types.{GType}
+use Rattle.ui_machine.specs.Definition.Types as sorts
+use Rattle.type_tree.specs.Adding.{find_type, sort_of, of_sort, class_fault, new_class}
+use Rattle.type_tree.specs.declared.error.TypeFault.{TypeFault}
 use Rattle.ui_machine.specs.Definition.Kinds.{Kind}
 use Rattle.ui_machine.specs.Definition.Properties.{Spec}
 use Rattle.std.specs.Str.{bytes_eq}
@@ -24,19 +27,21 @@ use Rattle.param_specs.specs.declared.error.SpecFault.{SpecFault}
 use Rattle.param_specs.specs.declared.error.SpecFault.TheVariants.{DefaultInvalid}
 use Rattle.param_specs.specs.Table.{own_of, specs_of, install_fault, canonical_spec}
 use Rattle.builder_defs.specs.Meaning.{Entry, plain_object, IsPlain, IsPlainKind, IsSound}
-use Rattle.builder_defs.specs.Refusals.{Refusal, shape, bad_spec, limit, or_refused, or_value_fault}
+use Rattle.builder_defs.specs.Refusals.{Refusal, shape, unknown, bad_spec, limit, or_refused, or_value_fault}
 use Rattle.builder_defs.specs.declared.fault.DefinitionLimit.TheVariants.{Objects}
 use Rattle.ui_machine.specs.Outcome.{◌>>=◌}
-use Rattle.builder_defs.specs.Document.{each, at_entry, under, nth, members_at, text_at, entries_at, absent_at, nothing_at, only_at}
-use Rattle.builder_defs.specs.Denoted.Kinds.{kind_named, kind_at, lowest, highest}
+use Rattle.builder_defs.specs.Document.{each, at_entry, under, nth, members_at, text_at, truth_at, entries_at, absent_at, nothing_at, only_at}
+use Rattle.builder_defs.specs.Denoted.Kinds.{is_enum, is_flags, enum_named, flags_named, parted, kind_by, kind_at, lowest, highest}
 use Rattle.builder_defs.specs.Denoted.PropertyFlags.{flags_at}
 use Rattle.builder_defs.specs.Denoted.Ranges.{Range, end_given, end_or, check_filled, range_at}
 use Rattle.builder_defs.specs.Denoted.Defaults.{default_at, check_default}
 use Rattle.builder_defs.specs.Denoted.Properties.{specs_by, inherited_by, property_spec, room_for_property, new_property, keys_of_property, valued_at, spec_at, add_own, installed_or, installed, property_at}
-use Rattle.builder_defs.specs.Denoted.Classes.{Draft, draft_of, bare_draft, keys_of_class, declared_at, answering_at, properties_at, class_at}
+use Rattle.builder_defs.specs.Denoted.Types.{room_for_type, new_type_name}
+use Rattle.builder_defs.specs.Denoted.Classes.{Draft, draft_of, bare_draft, added_or, parent_at, parent_ahead, check_depth, keys_of_class, declared_at, answering_at, properties_at, class_at}
 use Rattle.builder_defs.specs.Denoted.Objects.{room_for_object, new_id, class_at_key, bare_at, keys_of_object, place_at, object_at}
 use Rattle.builder_defs.specs.Denoted.{unset_before_classes, unset_before_objects, enums_in, flags_in, classes_in, draft_in, objects_in}
 use Rattle.builder_defs.proofs.Installing.{specs_of-is}
+use Rattle.builder_defs.proofs.LaterTypes.{plain_later}
 
 -- what is so of what was read, if it was
 abbrev pub OnRead : {A : Type 0} → (A → Type 0) → Result A Refusal → Type 0
@@ -57,51 +62,83 @@ unfolding each
 on_each P step keeps i s no_items p = p
 on_each P step keeps i s (item d ds) p = on_bind P P (step i s d) (λ t. each step (i + 1) t ds) (keeps i s d p) (λ t q. on_each P step keeps (i + 1) t ds q)
 
-abbrev pub AllPlain : List Spec → Type 0
-AllPlain [] = Unit {0}
-AllPlain (s ∷ ss) = IsPlain s × AllPlain ss
+abbrev pub AllPlain : List GType → List Spec → Type 0
+AllPlain types [] = Unit {0}
+AllPlain types (s ∷ ss) = IsPlain types s × AllPlain types ss
 
-pub plain_append : (xs ys : List Spec) → AllPlain xs → AllPlain ys → AllPlain (xs ++ ys)
-plain_append [] ys p q = q
-plain_append (x ∷ xs) ys p q = (p.0, plain_append xs ys p.1 q)
+pub plain_append : (types : List GType) (xs ys : List Spec) → AllPlain types xs → AllPlain types ys → AllPlain types (xs ++ ys)
+plain_append types [] ys p q = q
+plain_append types (x ∷ xs) ys p q = (p.0, plain_append types xs ys p.1 q)
 
-pub plain_flat : (own : ℕ → List Spec) → ((t : ℕ) → AllPlain (own t)) → (ts : List ℕ) → AllPlain (flat_map own ts)
-plain_flat own p [] = tt
-plain_flat own p (t ∷ ts) = plain_append (own t) (flat_map own ts) (p t) (plain_flat own p ts)
+pub plain_flat : (types : List GType) (own : ℕ → List Spec) → ((t : ℕ) → AllPlain types (own t)) → (ts : List ℕ) → AllPlain types (flat_map own ts)
+plain_flat types own p [] = tt
+plain_flat types own p (t ∷ ts) = plain_append types (own t) (flat_map own ts) (p t) (plain_flat types own p ts)
 
-pub plain_get : (ss : List Spec) (i : ℕ) (s : Spec) → AllPlain ss → slice_get ss i ≡ Some s → IsPlain s
-plain_get [] i s p h = absurd (cc)
-plain_get (x ∷ ss) zero s p h = let e : x ≡ s = cc in subst IsPlain e p.0
-plain_get (x ∷ ss) (suc i) s p h = plain_get ss i s p.1 h
+pub plain_get : (types : List GType) (ss : List Spec) (i : ℕ) (s : Spec) → AllPlain types ss → slice_get ss i ≡ Some s → IsPlain types s
+plain_get types [] i s p h = absurd (cc)
+plain_get types (x ∷ ss) zero s p h = let e : x ≡ s = cc in subst (IsPlain types) e p.0
+plain_get types (x ∷ ss) (suc i) s p h = plain_get types ss i s p.1 h
 
 -- ** what is read
 
--- a kind that there is so far
-abbrev pub IsOpen : Kind → Type 0
-IsOpen kinds.bool = Unit {0}
-IsOpen (kinds.whole k) = Unit {0}
-IsOpen kinds.text = Unit {0}
-IsOpen (kinds.enum t) = ⊥
-IsOpen (kinds.flags t) = ⊥
-IsOpen (kinds.object t) = ⊥
+-- a kind that there is so far, among these types
+abbrev pub IsOpen : List GType → Kind → Type 0
+IsOpen types kinds.bool = Unit {0}
+IsOpen types (kinds.whole k) = Unit {0}
+IsOpen types kinds.text = Unit {0}
+IsOpen types (kinds.enum t) = sort_of types t ≡ sorts.enum
+IsOpen types (kinds.flags t) = sort_of types t ≡ sorts.flags
+IsOpen types (kinds.object t) = ⊥
 
-named_open : (r : Refusal) (u v w x y z : Bool)
-    → OnRead IsOpen (or_refused r
+named_open : (types : List GType) (r : Refusal) (u v w x y z : Bool)
+    → OnRead (IsOpen types) (or_refused r
     (if u then Some kinds.bool else (if v then Some (kinds.whole kinds.int) else (if w then Some (kinds.whole kinds.uint) else
     (if x then Some (kinds.whole kinds.int64) else (if y then Some (kinds.whole kinds.uint64) else (if z then Some kinds.text else None)))))))
-named_open r true v w x y z = tt
-named_open r false true w x y z = tt
-named_open r false false true x y z = tt
-named_open r false false false true y z = tt
-named_open r false false false false true z = tt
-named_open r false false false false false true = tt
-named_open r false false false false false false = tt
+named_open types r true v w x y z = tt
+named_open types r false true w x y z = tt
+named_open types r false false true x y z = tt
+named_open types r false false false true y z = tt
+named_open types r false false false false true z = tt
+named_open types r false false false false false true = tt
+named_open types r false false false false false false = tt
 
-kind_open : (path : List ℕ) (d : Data) → OnRead IsOpen (kind_at path d)
-kind_open path d =
-    on_bind (λ x. Unit {0}) IsOpen (text_at path d (codes "kind")) (λ word. or_refused (shape (under path (codes "kind"))) (kind_named word)) (on_all _)
-    (λ word u. named_open _ (bytes_eq word (codes "bool")) (bytes_eq word (codes "int")) (bytes_eq word (codes "uint"))
-    (bytes_eq word (codes "int64")) (bytes_eq word (codes "uint64")) (bytes_eq word (codes "text")))
+of_enum : (types : List GType) (r : Refusal) (found : Option ℕ) → OnRead (IsOpen types) (or_refused r (option_map kinds.enum (of_sort is_enum types found)))
+of_enum types r None = tt
+of_enum types r (Some t) = by (sort_of types t) refl
+  where
+    by : (s : sorts.Sort) → sort_of types t ≡ s → OnRead (IsOpen types) (or_refused r (option_map kinds.enum (cond (is_enum s) (Some t) None)))
+    by sorts.class e = tt
+    by sorts.interface e = tt
+    by sorts.enum e = e
+    by sorts.flags e = tt
+
+of_flags : (types : List GType) (r : Refusal) (found : Option ℕ) → OnRead (IsOpen types) (or_refused r (option_map kinds.flags (of_sort is_flags types found)))
+of_flags types r None = tt
+of_flags types r (Some t) = by (sort_of types t) refl
+  where
+    by : (s : sorts.Sort) → sort_of types t ≡ s → OnRead (IsOpen types) (or_refused r (option_map kinds.flags (cond (is_flags s) (Some t) None)))
+    by sorts.class e = tt
+    by sorts.interface e = tt
+    by sorts.enum e = tt
+    by sorts.flags e = e
+
+typed_open : (path : List ℕ) (types : List GType) (name : List ℕ) (e f : Bool)
+    → OnRead (IsOpen types) (if e then or_refused (unknown path name) (option_map kinds.enum (enum_named types name)) else
+    (if f then or_refused (unknown path name) (option_map kinds.flags (flags_named types name)) else Err (shape path)))
+typed_open path types name true f = of_enum types (unknown path name) (find_type types name)
+typed_open path types name false true = of_flags types (unknown path name) (find_type types name)
+typed_open path types name false false = tt
+
+word_open : (path : List ℕ) (types : List GType) (word : List ℕ) (parts : Option (List ℕ × List ℕ)) → OnRead (IsOpen types) (kind_by path types word parts)
+word_open path types word None =
+    named_open types _ (bytes_eq word (codes "bool")) (bytes_eq word (codes "int")) (bytes_eq word (codes "uint"))
+    (bytes_eq word (codes "int64")) (bytes_eq word (codes "uint64")) (bytes_eq word (codes "text"))
+word_open path types word (Some parts) = typed_open path types parts.1 (bytes_eq parts.0 (codes "enum")) (bytes_eq parts.0 (codes "flags"))
+
+kind_open : (path : List ℕ) (types : List GType) (d : Data) → OnRead (IsOpen types) (kind_at path types d)
+kind_open path types d =
+    on_bind (λ x. Unit {0}) (IsOpen types) (text_at path d (codes "kind")) (λ word. kind_by (under path (codes "kind")) types word (parted word)) (on_all _)
+    λ word u. word_open (under path (codes "kind")) types word (parted word)
 
 -- ** ranges
 
@@ -153,116 +190,115 @@ range_is path kind d =
 
 -- ** defaults
 
--- what is valid in a property of such a kind does not depend on the types
-valid_anywhere : (types all : List GType) (kind : Kind) (v : Value) (s : Spec) → IsOpen kind
-    → (kind_fits (λ id. None) types v kind && same_value (clamp (λ id. None) types s v) v) ≡ (kind_fits (λ id. None) all v kind && same_value (clamp (λ id. None) all s v) v)
-valid_anywhere types all kinds.bool (values.bool b) s known = refl
-valid_anywhere types all kinds.bool (values.whole w n) s known = refl
-valid_anywhere types all kinds.bool (values.text t) s known = refl
-valid_anywhere types all kinds.bool (values.enum t n) s known = refl
-valid_anywhere types all kinds.bool (values.flags t bits) s known = refl
-valid_anywhere types all kinds.bool (values.object None) s known = refl
-valid_anywhere types all kinds.bool (values.object (Some o)) s known = refl
-valid_anywhere types all (kinds.whole k) (values.bool b) s known = refl
-valid_anywhere types all (kinds.whole k) (values.whole w n) s known = refl
-valid_anywhere types all (kinds.whole k) (values.text t) s known = refl
-valid_anywhere types all (kinds.whole k) (values.enum t n) s known = refl
-valid_anywhere types all (kinds.whole k) (values.flags t bits) s known = refl
-valid_anywhere types all (kinds.whole k) (values.object None) s known = refl
-valid_anywhere types all (kinds.whole k) (values.object (Some o)) s known = refl
-valid_anywhere types all kinds.text (values.bool b) s known = refl
-valid_anywhere types all kinds.text (values.whole w n) s known = refl
-valid_anywhere types all kinds.text (values.text t) s known = refl
-valid_anywhere types all kinds.text (values.enum t n) s known = refl
-valid_anywhere types all kinds.text (values.flags t bits) s known = refl
-valid_anywhere types all kinds.text (values.object None) s known = refl
-valid_anywhere types all kinds.text (values.object (Some o)) s known = refl
-valid_anywhere types all (kinds.enum u) v s known = absurd known
-valid_anywhere types all (kinds.flags u) v s known = absurd known
-valid_anywhere types all (kinds.object u) v s known = absurd known
-
-default_plain : (path : List ℕ) (types : List GType) (s : Spec) → IsOpen s.kind → IsPlainKind s.kind s → s.weak ≡ false
-    → OnRead (λ u. IsPlain s) (check_default path types s)
-default_plain path types s known kind strong = by (is_valid (λ id. None) types s s.default) refl
+default_plain : (path : List ℕ) (types : List GType) (s : Spec) → IsPlainKind types s.kind s → s.weak ≡ false
+    → OnRead (λ u. IsPlain types s) (check_default path types s)
+default_plain path types s kind strong = by (is_valid (λ id. None) types s s.default) refl
   where
-    by : (b : Bool) → is_valid (λ id. None) types s s.default ≡ b → OnRead {A = Unit {0}} (λ u. IsPlain s) (if b then Ok tt else Err (bad_spec path DefaultInvalid))
-    by true is = record { kind = kind; strong = strong; default = λ all. sym (valid_anywhere types all s.kind s.default s known) ∙ is }
+    by : (b : Bool) → is_valid (λ id. None) types s s.default ≡ b → OnRead {A = Unit {0}} (λ u. IsPlain types s) (if b then Ok tt else Err (bad_spec path DefaultInvalid))
+    by true is = record { kind = kind; strong = strong; default = is }
     by false is = tt
 
-whole_within : (kind : Kind) (s : Spec) → IsOpen kind → IsOf kind s.low → IsOf kind s.high → IsPlainKind kind s
-whole_within kinds.bool s known low high = tt
-whole_within (kinds.whole k) s known low high = (low.0, low.1, high.0, high.1)
-whole_within kinds.text s known low high = tt
-whole_within (kinds.enum t) s known low high = absurd known
-whole_within (kinds.flags t) s known low high = absurd known
-whole_within (kinds.object t) s known low high = absurd known
+whole_within : (types : List GType) (kind : Kind) (s : Spec) → IsOpen types kind → IsOf kind s.low → IsOf kind s.high → IsPlainKind types kind s
+whole_within types kinds.bool s known low high = tt
+whole_within types (kinds.whole k) s known low high = (low.0, low.1, high.0, high.1)
+whole_within types kinds.text s known low high = tt
+whole_within types (kinds.enum t) s known low high = known
+whole_within types (kinds.flags t) s known low high = known
+whole_within types (kinds.object t) s known low high = absurd known
 
-valued_plain : (path : List ℕ) (types : List GType) (name : List ℕ) (kind : Kind) (flags : ℕ) (d : Data) → IsOpen kind → OnRead IsPlain (valued_at path types name kind flags d)
+valued_plain : (path : List ℕ) (types : List GType) (name : List ℕ) (kind : Kind) (flags : ℕ) (d : Data) → IsOpen types kind → OnRead (IsPlain types) (valued_at path types name kind flags d)
 unfolding valued_at
 valued_plain path types name kind flags d known =
-    on_bind (λ x. Unit {0}) IsPlain (default_at path types kind d) _ (on_all _) λ default u.
-    on_bind (IsRangeOf kind) IsPlain (range_at path kind d) _ (range_is path kind d) λ range within.
-    on_bind (λ u. IsPlain (property_spec name kind flags default range)) IsPlain (check_default (under path (codes "default")) types (property_spec name kind flags default range)) _
-    (default_plain (under path (codes "default")) types (property_spec name kind flags default range) known (whole_within kind (property_spec name kind flags default range) known within.0 within.1) refl)
+    on_bind (λ x. Unit {0}) (IsPlain types) (default_at path types kind d) _ (on_all _) λ default u.
+    on_bind (IsRangeOf kind) (IsPlain types) (range_at path kind d) _ (range_is path kind d) λ range within.
+    on_bind (λ u. IsPlain types (property_spec name kind flags default range)) (IsPlain types) (check_default (under path (codes "default")) types (property_spec name kind flags default range)) _
+    (default_plain (under path (codes "default")) types (property_spec name kind flags default range) (whole_within types kind (property_spec name kind flags default range) known within.0 within.1) refl)
     λ valid plain. plain
 
-spec_plain : (path : List ℕ) (types : List GType) (inherited specs : List Spec) (d : Data) → OnRead IsPlain (spec_at path types inherited specs d)
+spec_plain : (path : List ℕ) (types : List GType) (inherited specs : List Spec) (d : Data) → OnRead (IsPlain types) (spec_at path types inherited specs d)
 unfolding spec_at
 spec_plain path types inherited specs d =
-    on_bind (λ x. Unit {0}) IsPlain (members_at path d) _ (on_all _) λ ms u.
-    on_bind (λ x. Unit {0}) IsPlain (room_for_property specs) _ (on_all _) λ room u.
-    on_bind (λ x. Unit {0}) IsPlain (text_at path d (codes "name")) _ (on_all _) λ name u.
-    on_bind (λ x. Unit {0}) IsPlain (new_property (under path (codes "name")) inherited specs name) _ (on_all _) λ new u.
-    on_bind IsOpen IsPlain (kind_at path d) _ (kind_open path d) λ kind known.
-    on_bind (λ x. Unit {0}) IsPlain (flags_at path d) _ (on_all _) λ flags u.
-    on_bind IsPlain IsPlain (valued_at path types name kind flags d) _ (valued_plain path types name kind flags d known) λ spec plain.
-    on_bind (λ x. Unit {0}) IsPlain (absent_at path d (codes "weak" ∷ [])) _ (on_all _) λ weak u.
-    on_bind (λ x. Unit {0}) IsPlain (only_at path ms keys_of_property) _ (on_all _) λ only u. plain
+    on_bind (λ x. Unit {0}) (IsPlain types) (members_at path d) _ (on_all _) λ ms u.
+    on_bind (λ x. Unit {0}) (IsPlain types) (room_for_property specs) _ (on_all _) λ room u.
+    on_bind (λ x. Unit {0}) (IsPlain types) (text_at path d (codes "name")) _ (on_all _) λ name u.
+    on_bind (λ x. Unit {0}) (IsPlain types) (new_property (under path (codes "name")) inherited specs name) _ (on_all _) λ new u.
+    on_bind (IsOpen types) (IsPlain types) (kind_at path types d) _ (kind_open path types d) λ kind known.
+    on_bind (λ x. Unit {0}) (IsPlain types) (flags_at path d) _ (on_all _) λ flags u.
+    on_bind (IsPlain types) (IsPlain types) (valued_at path types name kind flags d) _ (valued_plain path types name kind flags d known) λ spec plain.
+    on_bind (λ x. Unit {0}) (IsPlain types) (absent_at path d (codes "weak" ∷ [])) _ (on_all _) λ weak u.
+    on_bind (λ x. Unit {0}) (IsPlain types) (only_at path ms keys_of_property) _ (on_all _) λ only u. plain
 
-abbrev pub AllOwn : (ℕ → List Spec) → Type 0
-AllOwn own = (t : ℕ) → AllPlain (own t)
+abbrev pub AllOwn : List GType → (ℕ → List Spec) → Type 0
+AllOwn types own = (t : ℕ) → AllPlain types (own t)
 
-added_plain : (own : ℕ → List Spec) (t : ℕ) (s : Spec) → AllOwn own → IsPlain s → AllOwn (add_own own t s)
-added_plain own t s all plain u = by (nat_eq u t)
+added_plain : (types : List GType) (own : ℕ → List Spec) (t : ℕ) (s : Spec) → AllOwn types own → IsPlain types s → AllOwn types (add_own own t s)
+added_plain types own t s all plain u = by (nat_eq u t)
   where
-    by : (b : Bool) → AllPlain (if b then own u ++ s ∷ [] else own u)
-    by true = plain_append (own u) (s ∷ []) (all u) (plain, tt)
+    by : (b : Bool) → AllPlain types (if b then own u ++ s ∷ [] else own u)
+    by true = plain_append types (own u) (s ∷ []) (all u) (plain, tt)
     by false = all u
 
-installed_plain : (path : List ℕ) (fault : Option SpecFault) (own : ℕ → List Spec) → AllOwn own → OnRead AllOwn (installed_or path fault own)
-installed_plain path None own all = all
-installed_plain path (Some cause) own all = tt
+-- ** a type more
 
-canonical_kind : (k : Kind) (s : Spec) → IsPlainKind k s → IsPlainKind k (canonical_spec s)
-canonical_kind kinds.bool s p = p
-canonical_kind (kinds.whole k) s p = p
-canonical_kind kinds.text s p = p
-canonical_kind (kinds.enum t) s p = p
-canonical_kind (kinds.flags t) s p = p
-canonical_kind (kinds.object t) s p = p
+-- a type more than these, behind them
+abbrev pub IsOneMore : List GType → List GType → Type 0
+IsOneMore types all = (g : GType) × (all ≡ types ++ g ∷ [])
 
-property_plain : (path : List ℕ) (types : List GType) (t : ℕ) (own : ℕ → List Spec) (d : Data) → AllOwn own → OnRead AllOwn (property_at path types t own d)
+one_more_added : (path : List ℕ) (old : List GType) (fault : Option TypeFault) (types : List GType) → IsOneMore old types → OnRead (IsOneMore old) (added_or path old fault types)
+one_more_added path old None types more = more
+one_more_added path old (Some fault) types more = tt
+
+one_more_declared : (path : List ℕ) (first : ℕ) (list : Items) (types : List GType) (d : Data) → OnRead (IsOneMore types) (declared_at path first list types d)
+unfolding declared_at
+one_more_declared path first list types d =
+    on_bind (λ x. Unit {0}) (IsOneMore types) (room_for_type types) _ (on_all _) λ room u.
+    on_bind (λ x. Unit {0}) (IsOneMore types) (check_depth types (parent_ahead types (get (codes "parent") d))) _ (on_all _) λ deep u.
+    on_bind (λ x. Unit {0}) (IsOneMore types) (text_at path d (codes "name")) _ (on_all _) λ name u.
+    on_bind (λ x. Unit {0}) (IsOneMore types) (new_type_name (under path (codes "name")) first types name) _ (on_all _) λ new u.
+    on_bind (λ x. Unit {0}) (IsOneMore types) (parent_at path list types d) _ (on_all _) λ parent u.
+    on_bind (λ x. Unit {0}) (IsOneMore types) (truth_at path d (codes "abstract")) _ (on_all _) λ abstract u.
+    on_bind (λ x. Unit {0}) (IsOneMore types) (truth_at path d (codes "final")) _ (on_all _) λ final u.
+    one_more_added (under path (codes "name")) types (class_fault types name parent []) _ (new_class types name parent (record { is_abstract = abstract; is_final = final }) [], refl)
+
+plain_longer : (types all : List GType) → IsOneMore types all → (ss : List Spec) → AllPlain types ss → AllPlain all ss
+plain_longer types all more [] p = tt
+plain_longer types all more (s ∷ ss) p = (subst (λ ts. IsPlain ts s) (sym more.1) (plain_later types more.0 s p.0), plain_longer types all more ss p.1)
+
+installed_plain : (types : List GType) (path : List ℕ) (fault : Option SpecFault) (own : ℕ → List Spec) → AllOwn types own → OnRead (AllOwn types) (installed_or path fault own)
+installed_plain types path None own all = all
+installed_plain types path (Some cause) own all = tt
+
+canonical_kind : (types : List GType) (k : Kind) (s : Spec) → IsPlainKind types k s → IsPlainKind types k (canonical_spec s)
+canonical_kind types kinds.bool s p = p
+canonical_kind types (kinds.whole k) s p = p
+canonical_kind types kinds.text s p = p
+canonical_kind types (kinds.enum t) s p = p
+canonical_kind types (kinds.flags t) s p = p
+canonical_kind types (kinds.object t) s p = p
+
+property_plain : (path : List ℕ) (types : List GType) (t : ℕ) (own : ℕ → List Spec) (d : Data) → AllOwn types own → OnRead (AllOwn types) (property_at path types t own d)
 unfolding property_at
 property_plain path types t own d all =
-    on_bind IsPlain AllOwn (spec_at path types (inherited_by types own t) (specs_by types own t) d) (λ spec. installed path types t own spec) (spec_plain path types (inherited_by types own t) (specs_by types own t) d)
-    λ spec plain. installed_plain path (install_fault types (specs_by types own t) spec) (add_own own t (canonical_spec spec)) (added_plain own t (canonical_spec spec) all (record { kind = canonical_kind spec.kind spec plain.kind; strong = plain.strong; default = plain.default }))
+    on_bind (IsPlain types) (AllOwn types) (spec_at path types (inherited_by types own t) (specs_by types own t) d) (λ spec. installed path types t own spec) (spec_plain path types (inherited_by types own t) (specs_by types own t) d)
+    λ spec plain. installed_plain types path (install_fault types (specs_by types own t) spec) (add_own own t (canonical_spec spec)) (added_plain types own t (canonical_spec spec) all (record { kind = canonical_kind types spec.kind spec plain.kind; strong = plain.strong; default = plain.default }))
 
-properties_plain : (path : List ℕ) (types : List GType) (t : ℕ) (own : ℕ → List Spec) (d : Data) → AllOwn own → OnRead AllOwn (properties_at path types t own d)
+properties_plain : (path : List ℕ) (types : List GType) (t : ℕ) (own : ℕ → List Spec) (d : Data) → AllOwn types own → OnRead (AllOwn types) (properties_at path types t own d)
 unfolding properties_at
 properties_plain path types t own d all =
-    on_bind (λ x. Unit {0}) AllOwn (nothing_at path d (codes "implements" ∷ [])) _ (on_all _) λ unset u.
-    on_bind (λ x. Unit {0}) AllOwn (entries_at path d (codes "properties")) _ (on_all _) λ list u.
-    on_each AllOwn (at_entry (λ entry. property_at entry types t) (under path (codes "properties"))) (λ i own d all. property_plain (nth (under path (codes "properties")) i) types t own d all) 0 own list all
+    on_bind (λ x. Unit {0}) (AllOwn types) (nothing_at path d (codes "implements" ∷ [])) _ (on_all _) λ unset u.
+    on_bind (λ x. Unit {0}) (AllOwn types) (entries_at path d (codes "properties")) _ (on_all _) λ list u.
+    on_each (AllOwn types) (at_entry (λ entry. property_at entry types t) (under path (codes "properties"))) (λ i own d all. property_plain (nth (under path (codes "properties")) i) types t own d all) 0 own list all
 
 abbrev pub PlainDraft : Draft → Type 0
-PlainDraft draft = AllOwn draft.own
+PlainDraft draft = AllOwn draft.types draft.own
 
 class_plain : (path : List ℕ) (first : ℕ) (list : Items) (draft : Draft) (d : Data) → PlainDraft draft → OnRead PlainDraft (class_at path first list draft d)
 unfolding class_at
 class_plain path first list draft d all =
     on_bind (λ x. Unit {0}) PlainDraft (members_at path d) _ (on_all _) λ ms u.
-    on_bind (λ x. Unit {0}) PlainDraft (declared_at path first list draft.types d) _ (on_all _) λ types u.
-    on_bind AllOwn PlainDraft (properties_at path types (length draft.types) draft.own d) _ (properties_plain path types (length draft.types) draft.own d all) λ own plain.
+    on_bind (IsOneMore draft.types) PlainDraft (declared_at path first list draft.types d) _ (one_more_declared path first list draft.types d) λ types more.
+    on_bind (AllOwn types) PlainDraft (properties_at path types (length draft.types) draft.own d) _
+    (properties_plain path types (length draft.types) draft.own d (λ t. plain_longer draft.types types more (draft.own t) (all t))) λ own plain.
     on_bind (λ x. Unit {0}) PlainDraft (answering_at path d) _ (on_all _) λ answering u.
     on_bind (λ x. Unit {0}) PlainDraft (only_at path ms keys_of_class) _ (on_all _) λ only u. plain
 
@@ -317,8 +353,8 @@ objects_few types d =
 
 pub sound : (types : List GType) (table : List (List Spec)) (os : List Entry) (d : Data) → draft_in d ≡ Ok (draft_of types table) → objects_in types d ≡ Ok (map plain_object os) → IsSound types table os
 sound types table os d read objects =
-    let all : AllOwn (own_of table) = subst (OnRead PlainDraft) read (draft_plain d) in
+    let all : AllOwn types (own_of table) = subst (OnRead PlainDraft) read (draft_plain d) in
     record {
-      plain = record { at = λ t slot s h. plain_get (specs_of types table t) slot s (subst AllPlain (sym (specs_of-is types table t)) (plain_flat (own_of table) all (reverse (lineage types t)))) h };
+      plain = record { at = λ t slot s h. plain_get types (specs_of types table t) slot s (subst (AllPlain types) (sym (specs_of-is types table t)) (plain_flat types (own_of table) all (reverse (lineage types t)))) h };
       few = subst (λ n. n ≤ 64) (length-map os plain_object) (subst (OnRead AreFew) objects (objects_few types d));
     }

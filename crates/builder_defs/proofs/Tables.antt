@@ -48,7 +48,7 @@ each_object P all [] p place h = cc
 each_object P all (o ∷ os) zero place h = let e : plain_object o ≡ place = cc in subst P e (all o)
 each_object P all (o ∷ os) (suc p) place h = each_object P all os p place h
 
-plain_spec : (types : List GType) (specs : List (List Spec)) (objects : List Entry) → ArePlain types specs → (t slot : ℕ) (s : Spec) → lookups.spec_of (meaning types specs objects) t slot ≡ Some s → IsPlain s
+plain_spec : (types : List GType) (specs : List (List Spec)) (objects : List Entry) → ArePlain types specs → (t slot : ℕ) (s : Spec) → lookups.spec_of (meaning types specs objects) t slot ≡ Some s → IsPlain types s
 plain_spec types specs objects plain t slot s h = elim (cases_lt t (length types)) [
   | inl known ↦ plain.at t slot s (ap (λ (xs : List Spec). slice_get xs slot) (sym (known_specs types specs objects t known)) ∙ h)
   | inr past ↦ let e : slice_get (lookups.specs_of (meaning types specs objects) t) slot ≡ None = ap (λ (xs : List Spec). slice_get xs slot) (unknown_specs types specs objects t past) in absurd (cc)

@@ -4,6 +4,7 @@ use Rattle.std.specs.Global.{Global}
 use Rattle.ui_machine.specs.Seq.{listed}
 use Rattle.ui_machine.specs.Definition.Kinds as kinds
 use Rattle.ui_machine.specs.Definition.Types.{GType}
+use Rattle.ui_machine.specs.Definition.Types as sorts
 use Rattle.ui_machine.specs.Rules.Transform.{least, greatest}
 use Rattle.ui_machine.specs.Definition.Properties.{Spec}
 use Rattle.ui_machine.specs.Rules.Validation.{is_valid}
@@ -12,6 +13,7 @@ use Rattle.ui_machine.specs.Definition as definition
 use Rattle.ui_machine.specs.Definition.Signals as machine_signals
 use Rattle.ui_machine.specs.Definition.Lookups as lookups
 use Rattle.ui_machine.specs.State.Tasks as config
+use Rattle.type_tree.specs.Adding.{sort_of}
 use Rattle.g_values.specs.View.{value_view}
 use Rattle.param_specs.specs.Table.{specs_of}
 use Rattle.builder_defs.specs.declared.event.Event.{Event}
@@ -54,24 +56,25 @@ meaning types specs objects = record {
   most_handlers = 0;
 }
 
--- a property of a kind that there is so far: a truth value, a number of a range within its kind, or a text
-abbrev pub IsPlainKind : kinds.Kind → Spec → Type 0
-IsPlainKind kinds.bool s = Unit {0}
-IsPlainKind (kinds.whole k) s = (least k ≤ℤ s.low) × (s.low ≤ℤ greatest k) × (least k ≤ℤ s.high) × (s.high ≤ℤ greatest k)
-IsPlainKind kinds.text s = Unit {0}
-IsPlainKind (kinds.enum t) s = ⊥
-IsPlainKind (kinds.flags t) s = ⊥
-IsPlainKind (kinds.object t) s = ⊥
+-- A property of a kind that there is so far, among these types: a truth value, a number of a range within its kind, a text, or a value of an
+-- enum or a flags type.
+abbrev pub IsPlainKind : List GType → kinds.Kind → Spec → Type 0
+IsPlainKind types kinds.bool s = Unit {0}
+IsPlainKind types (kinds.whole k) s = (least k ≤ℤ s.low) × (s.low ≤ℤ greatest k) × (least k ≤ℤ s.high) × (s.high ≤ℤ greatest k)
+IsPlainKind types kinds.text s = Unit {0}
+IsPlainKind types (kinds.enum t) s = sort_of types t ≡ sorts.enum
+IsPlainKind types (kinds.flags t) s = sort_of types t ≡ sorts.flags
+IsPlainKind types (kinds.object t) s = ⊥
 
 -- and with a valid default
-pub record IsPlain (s : Spec) : Type 0 where
-  pub kind : IsPlainKind s.kind s
+pub record IsPlain (types : List GType) (s : Spec) : Type 0 where
+  pub kind : IsPlainKind types s.kind s
   pub strong : s.weak ≡ false
-  pub default : (types : List GType) → is_valid (λ id. None) types s s.default ≡ true
+  pub default : is_valid (λ id. None) types s s.default ≡ true
 
 -- all properties of all types are plain
 pub record ArePlain (types : List GType) (specs : List (List Spec)) : Type 0 where
-  pub at : (t slot : ℕ) (s : Spec) → slice_get (specs_of types specs t) slot ≡ Some s → IsPlain s
+  pub at : (t slot : ℕ) (s : Spec) → slice_get (specs_of types specs t) slot ≡ Some s → IsPlain types s
 
 -- what is so of every definition
 pub record IsSound (types : List GType) (specs : List (List Spec)) (objects : List Entry) : Type 0 where
@@ -91,7 +94,7 @@ pub record IsBasic (d : definition.Definition) : Type 0 where
   pub handlers : (t : ℕ) → (lookups.class_of d t).handlers ≡ []
   pub constructed : (t : ℕ) → (lookups.class_of d t).constructed ≡ None
   pub shapes : (t : ℕ) → (lookups.class_of d t).shape ≡ None
-  pub plain : (t slot : ℕ) (s : Spec) → lookups.spec_of d t slot ≡ Some s → IsPlain s
+  pub plain : (t slot : ℕ) (s : Spec) → lookups.spec_of d t slot ≡ Some s → IsPlain d.types s
   pub parents : (p : ℕ) (place : machine.Place) → slice_get d.places p ≡ Some place → place.parent ≡ None
   pub given : (p : ℕ) (place : machine.Place) → slice_get d.places p ≡ Some place → place.given ≡ []
   pub prototypes : (p : ℕ) (place : machine.Place) → slice_get d.places p ≡ Some place → place.is_prototype ≡ false

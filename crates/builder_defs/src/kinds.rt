@@ -1,18 +1,20 @@
 //! Kinds of properties, by their words.
 
-ghost use Rattle.std.specs.Prelude.{◌≡◌, List, option_map, IfOk, IfSome};
+ghost use Rattle.std.specs.Prelude.{◌≡◌, List, codes, option_map, IfOk, IfSome};
 ghost use Rattle.serde_json.specs.View.{view};
-ghost use Rattle.ui_machine.specs.Definition.Types.{GType};
+ghost use Rattle.ui_machine.specs.Definition.Types.{GType, enum, flags};
+ghost use Rattle.type_tree.specs.Adding.{sort_of};
 ghost use Rattle.g_values.specs.View.{kind_view, is_whole_kind, IsKnown};
-ghost use Rattle.builder_defs.specs.Refusals.{Gives};
-ghost use Rattle.builder_defs.specs.Document.{path_of};
-ghost use Rattle.builder_defs.specs.Denoted.Kinds.{kind_named, kind_at, lowest, highest};
+ghost use Rattle.builder_defs.specs.Refusals.{Gives, IsRefusal, unknown};
+ghost use Rattle.builder_defs.specs.Document.{under, path_of};
+ghost use Rattle.builder_defs.specs.Denoted.Kinds.{kind_named, enum_named, flags_named, parted, kind_of_type, kind_by, kind_at, lowest, highest};
 
-use crate::document::{Part, bad_shape};
-use crate::fault::ReadError;
+use crate::document::{Part, bad_shape, path_under};
+use crate::fault::{DefinitionFault, ReadError};
 use g_values::Kind;
+use type_tree::{TypeId, TypeTree};
 
-// The kind of a word, of the kinds that there are so far.
+// The kind of a word that names no type, of the kinds that there are so far.
 fn kind_named(word: &str) -> Option<Kind>
     ensures kind { option_map kind_view result ≡ kind_named word.now }
     ensures known { IfSome result (λ k. (types : List GType) → IsKnown types k) }
@@ -34,16 +36,90 @@ fn kind_named(word: &str) -> Option<Kind>
     }
 }
 
-// The kind of a property.
-pub(crate) fn kind_of(part: Part<'_>) -> Result<Kind, ReadError>
-    ensures kind { Gives kind_view result (kind_at (path_of part.entry.path) (view part.entry.value.now)) }
-    ensures known { IfOk result (λ k. (types : List GType) → IsKnown types k) }
+// The enum of a name.
+fn enum_named(types: &TypeTree, name: &str) -> Option<TypeId>
+    ensures named { result ≡ enum_named types.now name.now }
+    ensures known { IfSome result (λ t. sort_of types.now t ≡ enum) }
 {
-    let word = part.text("kind")?;
+    let found = types.find(name)?;
+    if types.is_enum(found) {
+        Some(found)
+    } else {
+        None
+    }
+}
+
+// The flags type of a name.
+fn flags_named(types: &TypeTree, name: &str) -> Option<TypeId>
+    ensures named { result ≡ flags_named types.now name.now }
+    ensures known { IfSome result (λ t. sort_of types.now t ≡ flags) }
+{
+    let found = types.find(name)?;
+    if types.is_flags(found) {
+        Some(found)
+    } else {
+        None
+    }
+}
+
+// What stands before the first colon and what stands behind it, if there is one.
+fn parted(word: &str) -> Option<(&str, &str)>
+    ensures { option_map (λ p. (p.0.now, p.1.now)) result ≡ parted word.now }
+{
+    word.split_once(':')
+}
+
+// A name of a type that is not there.
+fn unknown_type(part: Part<'_>, name: &str) -> Result<ReadError, ReadError>
+    ensures { IsRefusal (unknown (under (path_of part.entry.path) (codes "kind")) name.now) result }
+{
+    let path = path_under(part.alloc, part.path, "kind")?;
+    let name = String::from_str(part.alloc, name)?;
+    Ok(ReadError::Refused(DefinitionFault::Unknown(path, name)))
+}
+
+// The kind of a sort and of the type that a name names.
+fn kind_of_type(part: Part<'_>, types: &TypeTree, sort: &str, name: &str) -> Result<Kind, ReadError>
+    ensures kind { Gives kind_view result (kind_of_type (under (path_of part.entry.path) (codes "kind")) types.now sort.now name.now) }
+    ensures known { IfOk result (λ k. IsKnown types.now k) }
+{
+    if sort == "enum" {
+        return match enum_named(types, name) {
+            Some(found) => Ok(Kind::Enum(found)),
+            None => Err(unknown_type(part, name)?),
+        };
+    }
+    if sort == "flags" {
+        return match flags_named(types, name) {
+            Some(found) => Ok(Kind::Flags(found)),
+            None => Err(unknown_type(part, name)?),
+        };
+    }
+    Err(bad_shape(part.alloc, part.path, "kind")?)
+}
+
+// The kind of a word.
+fn kind_of_word(part: Part<'_>, types: &TypeTree, word: &str) -> Result<Kind, ReadError>
+    ensures kind { Gives kind_view result (kind_by (under (path_of part.entry.path) (codes "kind")) types.now word.now (parted word.now)) }
+    ensures known { IfOk result (λ k. IsKnown types.now k) }
+{
+    if let Some((sort, name)) = parted(word) {
+        return kind_of_type(part, types, sort, name);
+    }
     match kind_named(word) {
         Some(kind) => Ok(kind),
         None => Err(bad_shape(part.alloc, part.path, "kind")?),
     }
+}
+
+// The kind of a property, which may name an enum or a flags type of these.
+pub(crate) fn kind_of(part: Part<'_>, types: &TypeTree) -> Result<Kind, ReadError>
+    ensures kind { Gives kind_view result (kind_at (path_of part.entry.path) types.now (view part.entry.value.now)) }
+    ensures known { IfOk result (λ k. IsKnown types.now k) }
+{
+    let word = part.text("kind")?;
+    let kind = kind_of_word(part, types, word)?;
+    Ok(kind)
 }
 
 // The least number of a kind.

@@ -140,7 +140,7 @@ fn spec_in(
     check_room(types, specs, class)?;
     let name = part.text("name")?;
     check_name(part, types, specs, class, name)?;
-    let kind = kind_of(part)?;
+    let kind = kind_of(part, types)?;
     let flags = flags_of(part)?;
     let spec = valued(part, types, name, kind, flags)?;
     part.check_absent(&["weak"])?;

@@ -1,13 +1,13 @@
 -- The build of a basic definition: what each step of it starts.
-use Rattle.std.proofs.Common.{◌≡◌, ℕ, zero, suc, ◌<◌, ◌≤◌, Bool, true, false, cond, ◌||◌, not, nat_eq, List, [], ◌∷◌, ◌++◌, length, map, reverse, take, drop, Option, Some, None, is_some, option_map, Ok, Err, slice_get, refl, sym, ap, ◌∙◌, arith, append_assoc}
+use Rattle.std.proofs.Common.{◌≡◌, ℕ, zero, suc, ◌<◌, ◌≤◌, Bool, true, false, cond, not, nat_eq, List, [], ◌∷◌, ◌++◌, length, map, reverse, take, drop, Option, Some, None, is_some, Ok, Err, slice_get, refl, sym, ap, ◌∙◌, arith, append_assoc}
 use Rattle.std.specs.List.{filter, flat_map, list_all}
-use Rattle.std.proofs.lemmas.Option.{slice_get_within, get_or_from_slice_get, slice_get-map}
-use Rattle.std.proofs.lemmas.List.{length-map, reverse-append}
+use Rattle.std.proofs.lemmas.Option.{slice_get_within, get_or_from_slice_get}
+use Rattle.std.proofs.lemmas.List.{reverse-append}
 use Rattle.std.proofs.Math.Seq.{drop-cons}
 use Rattle.ui_machine.specs.declared.arm.Arm.TheVariants as arms
 use Rattle.ui_machine.specs.Definition.Properties.{Spec}
 use Rattle.ui_machine.specs.Definition.{Definition}
-use Rattle.ui_machine.specs.Definition.Places.{Place, GivenProperty}
+use Rattle.ui_machine.specs.Definition.Places.{Place}
 use Rattle.ui_machine.specs.Definition.Lookups.{type_of, class_of, specs_of}
 use Rattle.ui_machine.specs.Output.Lines as lines
 use Rattle.ui_machine.specs.State.Tasks.{Making, sets, thaws, Item, makes, Task, Constructing, Building}
@@ -67,9 +67,9 @@ pub few_steps : (slot : ℕ) (specs : List Spec) → length (construct_defaults 
 few_steps slot [] = omega arith
 few_steps slot (s ∷ specs) = let one = one_set (is_at_construction s) slot s (construct_defaults (suc slot) specs) in let more = few_steps (suc slot) specs in omega (arith, one, more)
 
-each_valid : (d : Definition) (specs : List Spec) → ((i : ℕ) (s : Spec) → slice_get specs i ≡ Some s → IsPlain s) → list_all (has_valid_default d) specs ≡ true
+each_valid : (d : Definition) (specs : List Spec) → ((i : ℕ) (s : Spec) → slice_get specs i ≡ Some s → IsPlain d.types s) → list_all (has_valid_default d) specs ≡ true
 each_valid d [] plain = refl
-each_valid d (s ∷ specs) plain = rw (let e = (plain 0 s refl).default d.types in e) (each_valid d specs (λ i t at. plain (suc i) t at))
+each_valid d (s ∷ specs) plain = rw (let e = (plain 0 s refl).default in e) (each_valid d specs (λ i t at. plain (suc i) t at))
 
 no_shape : (d : Definition) → IsBasic d → (class : ℕ) → has_shape d class ≡ false
 no_shape d basic class = ap is_some (none_given (λ c. (class_of d c).shape) basic.shapes (lineage d.types class))

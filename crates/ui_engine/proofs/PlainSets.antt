@@ -1,12 +1,16 @@
 -- A set of a plain property, by what validation says of the value and the property's flags.
-use Rattle.std.proofs.Common.{◌≡◌, ℕ, Bool, true, false, cond, ◌&&◌, ◌||◌, not, List, [], Option, Ok, Err, refl, sym, ap, subst, ◌∙◌, ℤ, pos}
+use Rattle.std.proofs.Common.{◌≡◌, ℕ, Bool, true, false, cond, ◌&&◌, ◌||◌, not, List, [], Option, None, Some, Ok, Err, nat_eq, arith, refl, sym, ap, subst, ◌∙◌, ℤ, pos}
+use Rattle.std.proofs.lemmas.Bool.Decides.{nat_tests}
 use Rattle.ui_machine.specs.declared.arm.Arm.{Arm}
 use Rattle.ui_machine.specs.declared.arm.Arm.TheVariants as arms
 use Rattle.ui_machine.specs.Definition.Kinds as kinds
 use Rattle.ui_machine.specs.Definition.Values.{Value}
 use Rattle.ui_machine.specs.Definition.Values as values
 use Rattle.ui_machine.specs.Definition.Types.{GType}
-use Rattle.ui_machine.specs.Rules.Transform.{same_value, same_whole}
+use Rattle.ui_machine.specs.Definition.Types as sorts
+use Rattle.ui_machine.specs.Output.Text.{members_of}
+use Rattle.type_tree.specs.Adding.{sort_of}
+use Rattle.ui_machine.specs.Rules.Transform.{kind_fits, has_number, same_value, same_whole}
 use Rattle.ui_machine.specs.Rules.Validation.{clamp}
 use Rattle.ui_machine.specs.Definition.Properties.{Spec, is_lax}
 use Rattle.ui_machine.specs.Definition.{Definition}
@@ -17,7 +21,7 @@ use Rattle.ui_machine.specs.Outcome.{Answer, ◌>>=◌, only_if}
 use Rattle.ui_machine.specs.Rules.Sets.{spec_at, has_kind, lives, kept, unless_disposed, written, settled, setting}
 use Rattle.g_values.specs.declared.value.Value as coded
 use Rattle.g_values.specs.declared.value.Value.TheVariants as of_value
-use Rattle.g_values.specs.View.{value_view}
+use Rattle.g_values.specs.View.{kind_view, value_view, value_kind}
 use Rattle.param_specs.specs.declared.spec.Spec as specs
 use Rattle.param_specs.specs.View.{spec_view}
 use Rattle.param_specs.specs.Validation.{IsWithin, Takes, KnowsClass}
@@ -25,34 +29,34 @@ use Rattle.builder_defs.specs.Meaning.{IsPlainKind, IsPlain}
 
 -- ** a value of a plain kind
 
-lives_plain : (os : Objects) (v : Value) (k : kinds.Kind) (s : Spec) → IsPlainKind k s → has_kind v k ≡ true → lives os v ≡ true
-lives_plain os (values.bool b) k s p h = refl
-lives_plain os (values.whole w n) k s p h = refl
-lives_plain os (values.text t) k s p h = refl
-lives_plain os (values.enum t n) k s p h = refl
-lives_plain os (values.flags t n) k s p h = refl
-lives_plain os (values.object o) kinds.bool s p h = cc
-lives_plain os (values.object o) (kinds.whole w) s p h = cc
-lives_plain os (values.object o) kinds.text s p h = cc
-lives_plain os (values.object o) (kinds.enum t) s p h = cc
-lives_plain os (values.object o) (kinds.flags t) s p h = cc
-lives_plain os (values.object o) (kinds.object t) s p h = absurd p
+lives_plain : (types : List GType) (os : Objects) (v : Value) (k : kinds.Kind) (s : Spec) → IsPlainKind types k s → has_kind v k ≡ true → lives os v ≡ true
+lives_plain types os (values.bool b) k s p h = refl
+lives_plain types os (values.whole w n) k s p h = refl
+lives_plain types os (values.text t) k s p h = refl
+lives_plain types os (values.enum t n) k s p h = refl
+lives_plain types os (values.flags t n) k s p h = refl
+lives_plain types os (values.object o) kinds.bool s p h = cc
+lives_plain types os (values.object o) (kinds.whole w) s p h = cc
+lives_plain types os (values.object o) kinds.text s p h = cc
+lives_plain types os (values.object o) (kinds.enum t) s p h = cc
+lives_plain types os (values.object o) (kinds.flags t) s p h = cc
+lives_plain types os (values.object o) (kinds.object t) s p h = absurd p
 
-pub knows_class : (living_class : ℕ → Option ℕ) (v : coded.Value) (k : kinds.Kind) (s : Spec) → IsPlainKind k s → has_kind (value_view v) k ≡ true → KnowsClass living_class v
-knows_class f (of_value.Bool b) k s p h = tt
-knows_class f (of_value.Int n) k s p h = tt
-knows_class f (of_value.UInt n) k s p h = tt
-knows_class f (of_value.Int64 n) k s p h = tt
-knows_class f (of_value.UInt64 n) k s p h = tt
-knows_class f (of_value.Text t) k s p h = tt
-knows_class f (of_value.Enum t n) k s p h = tt
-knows_class f (of_value.Flags t n) k s p h = tt
-knows_class f (of_value.Object t o) kinds.bool s p h = cc
-knows_class f (of_value.Object t o) (kinds.whole w) s p h = cc
-knows_class f (of_value.Object t o) kinds.text s p h = cc
-knows_class f (of_value.Object t o) (kinds.enum u) s p h = cc
-knows_class f (of_value.Object t o) (kinds.flags u) s p h = cc
-knows_class f (of_value.Object t o) (kinds.object u) s p h = absurd p
+pub knows_class : (types : List GType) (living_class : ℕ → Option ℕ) (v : coded.Value) (k : kinds.Kind) (s : Spec) → IsPlainKind types k s → has_kind (value_view v) k ≡ true → KnowsClass living_class v
+knows_class types f (of_value.Bool b) k s p h = tt
+knows_class types f (of_value.Int n) k s p h = tt
+knows_class types f (of_value.UInt n) k s p h = tt
+knows_class types f (of_value.Int64 n) k s p h = tt
+knows_class types f (of_value.UInt64 n) k s p h = tt
+knows_class types f (of_value.Text t) k s p h = tt
+knows_class types f (of_value.Enum t n) k s p h = tt
+knows_class types f (of_value.Flags t n) k s p h = tt
+knows_class types f (of_value.Object t o) kinds.bool s p h = cc
+knows_class types f (of_value.Object t o) (kinds.whole w) s p h = cc
+knows_class types f (of_value.Object t o) kinds.text s p h = cc
+knows_class types f (of_value.Object t o) (kinds.enum u) s p h = cc
+knows_class types f (of_value.Object t o) (kinds.flags u) s p h = cc
+knows_class types f (of_value.Object t o) (kinds.object u) s p h = absurd p
 
 whole_same : (w k : kinds.Whole) → same_whole w k ≡ true → w ≡ k
 whole_same kinds.int kinds.int h = refl
@@ -72,64 +76,69 @@ whole_same kinds.uint64 kinds.uint h = cc
 whole_same kinds.uint64 kinds.int64 h = cc
 whole_same kinds.uint64 kinds.uint64 h = refl
 
-takes_whole : (w : kinds.Whole) (k : kinds.Kind) (s : specs.Spec) (n : ℤ) → IsPlainKind k (spec_view s) → has_kind (values.whole w n) k ≡ true → IsWithin w s
-takes_whole w kinds.bool s n p h = cc
-takes_whole w (kinds.whole k) s n p h =
+takes_whole : (types : List GType) (w : kinds.Whole) (k : kinds.Kind) (s : specs.Spec) (n : ℤ) → IsPlainKind types k (spec_view s) → has_kind (values.whole w n) k ≡ true → IsWithin w s
+takes_whole types w kinds.bool s n p h = cc
+takes_whole types w (kinds.whole k) s n p h =
     subst (λ v. IsWithin v s) (sym (whole_same w k h)) (record { min_low = p.0; min_high = p.1; max_low = p.2; max_high = p.3 })
-takes_whole w kinds.text s n p h = cc
-takes_whole w (kinds.enum u) s n p h = absurd p
-takes_whole w (kinds.flags u) s n p h = absurd p
-takes_whole w (kinds.object u) s n p h = absurd p
+takes_whole types w kinds.text s n p h = cc
+takes_whole types w (kinds.enum u) s n p h = cc
+takes_whole types w (kinds.flags u) s n p h = cc
+takes_whole types w (kinds.object u) s n p h = absurd p
 
--- no other value is of a plain kind
-abbrev IsOther : coded.Value → Type 0
-IsOther (of_value.Bool b) = ⊥
-IsOther (of_value.Int n) = ⊥
-IsOther (of_value.UInt n) = ⊥
-IsOther (of_value.Int64 n) = ⊥
-IsOther (of_value.UInt64 n) = ⊥
-IsOther (of_value.Text t) = ⊥
-IsOther (of_value.Enum t n) = Unit {0}
-IsOther (of_value.Flags t n) = Unit {0}
-IsOther (of_value.Object t o) = Unit {0}
+fits_first : (a b : Bool) → (a && b) ≡ true → a ≡ true
+fits_first true b h = refl
+fits_first false b h = cc
 
-not_other : (v : coded.Value) (k : kinds.Kind) (s : Spec) → IsPlainKind k s → has_kind (value_view v) k ≡ true → IsOther v → ⊥
-not_other (of_value.Bool b) k s p h o = o
-not_other (of_value.Int n) k s p h o = o
-not_other (of_value.UInt n) k s p h o = o
-not_other (of_value.Int64 n) k s p h o = o
-not_other (of_value.UInt64 n) k s p h o = o
-not_other (of_value.Text t) k s p h o = o
-not_other (of_value.Enum t n) kinds.bool s p h o = cc
-not_other (of_value.Enum t n) (kinds.whole w) s p h o = cc
-not_other (of_value.Enum t n) kinds.text s p h o = cc
-not_other (of_value.Enum t n) (kinds.enum u) s p h o = p
-not_other (of_value.Enum t n) (kinds.flags u) s p h o = p
-not_other (of_value.Enum t n) (kinds.object u) s p h o = p
-not_other (of_value.Flags t n) kinds.bool s p h o = cc
-not_other (of_value.Flags t n) (kinds.whole w) s p h o = cc
-not_other (of_value.Flags t n) kinds.text s p h o = cc
-not_other (of_value.Flags t n) (kinds.enum u) s p h o = p
-not_other (of_value.Flags t n) (kinds.flags u) s p h o = p
-not_other (of_value.Flags t n) (kinds.object u) s p h o = p
-not_other (of_value.Object t x) kinds.bool s p h o = cc
-not_other (of_value.Object t x) (kinds.whole w) s p h o = cc
-not_other (of_value.Object t x) kinds.text s p h o = cc
-not_other (of_value.Object t x) (kinds.enum u) s p h o = p
-not_other (of_value.Object t x) (kinds.flags u) s p h o = p
-not_other (of_value.Object t x) (kinds.object u) s p h o = p
+-- the default of an enum's property is of the enum
+default_kind : (types : List GType) (t : ℕ) (v : coded.Value) → kind_fits (λ id. None) types (value_view v) (kinds.enum t) ≡ true → value_kind v ≡ kinds.enum t
+default_kind types t (of_value.Bool b) h = cc
+default_kind types t (of_value.Int n) h = cc
+default_kind types t (of_value.UInt n) h = cc
+default_kind types t (of_value.Int64 n) h = cc
+default_kind types t (of_value.UInt64 n) h = cc
+default_kind types t (of_value.Text s) h = cc
+default_kind types t (of_value.Enum u n) h =
+    let same : nat_eq u t ≡ true = fits_first (nat_eq u t) (has_number (members_of types t) n) h in
+    let is : u ≡ t = grind (arith, nat_tests) in
+    ap kinds.enum is
+default_kind types t (of_value.Flags u bits) h = cc
+default_kind types t (of_value.Object u None) h = cc
+default_kind types t (of_value.Object u (Some o)) h = cc
+
+takes_enum : (types : List GType) (t : ℕ) (n : ℤ) (k : kinds.Kind) (s : specs.Spec) → IsPlainKind types k (spec_view s) → kind_fits (λ id. None) types (value_view s.default) k ≡ true
+    → has_kind (values.enum t n) k ≡ true → (sort_of types t ≡ sorts.enum) × (value_kind s.default ≡ kinds.enum t)
+takes_enum types t n kinds.bool s p fits h = cc
+takes_enum types t n (kinds.whole w) s p fits h = cc
+takes_enum types t n kinds.text s p fits h = cc
+takes_enum types t n (kinds.enum u) s p fits h =
+    let is : u ≡ t = grind (arith, nat_tests) in
+    (subst (λ x. sort_of types x ≡ sorts.enum) is p, default_kind types u s.default fits ∙ ap kinds.enum is)
+takes_enum types t n (kinds.flags u) s p fits h = cc
+takes_enum types t n (kinds.object u) s p fits h = absurd p
+
+takes_flags : (types : List GType) (t bits : ℕ) (k : kinds.Kind) (s : Spec) → IsPlainKind types k s → has_kind (values.flags t bits) k ≡ true → sort_of types t ≡ sorts.flags
+takes_flags types t bits kinds.bool s p h = cc
+takes_flags types t bits (kinds.whole w) s p h = cc
+takes_flags types t bits kinds.text s p h = cc
+takes_flags types t bits (kinds.enum u) s p h = cc
+takes_flags types t bits (kinds.flags u) s p h =
+    let is : u ≡ t = grind (arith, nat_tests) in
+    subst (λ x. sort_of types x ≡ sorts.flags) is p
+takes_flags types t bits (kinds.object u) s p h = absurd p
 
 -- what validation asks for holds
-pub takes : (types : List GType) (k : kinds.Kind) (s : specs.Spec) (v : coded.Value) → IsPlainKind k (spec_view s) → has_kind (value_view v) k ≡ true → Takes types s v
-takes types k s (of_value.Bool b) p h = tt
-takes types k s (of_value.Int n) p h = takes_whole kinds.int k s n p h
-takes types k s (of_value.Text t) p h = tt
-takes types k s (of_value.UInt n) p h = takes_whole kinds.uint k s (pos n) p h
-takes types k s (of_value.Int64 n) p h = takes_whole kinds.int64 k s n p h
-takes types k s (of_value.UInt64 n) p h = takes_whole kinds.uint64 k s (pos n) p h
-takes types k s (of_value.Enum t n) p h = absurd (not_other (of_value.Enum t n) k (spec_view s) p h tt)
-takes types k s (of_value.Flags t n) p h = absurd (not_other (of_value.Flags t n) k (spec_view s) p h tt)
-takes types k s (of_value.Object t o) p h = tt
+pub takes : (types : List GType) (s : specs.Spec) (v : coded.Value) → IsPlain types (spec_view s) → has_kind (value_view v) (kind_view s.kind) ≡ true → Takes types s v
+takes types s (of_value.Bool b) p h = tt
+takes types s (of_value.Int n) p h = takes_whole types kinds.int (kind_view s.kind) s n p.kind h
+takes types s (of_value.Text t) p h = tt
+takes types s (of_value.UInt n) p h = takes_whole types kinds.uint (kind_view s.kind) s (pos n) p.kind h
+takes types s (of_value.Int64 n) p h = takes_whole types kinds.int64 (kind_view s.kind) s n p.kind h
+takes types s (of_value.UInt64 n) p h = takes_whole types kinds.uint64 (kind_view s.kind) s (pos n) p.kind h
+takes types s (of_value.Enum t n) p h =
+    takes_enum types t n (kind_view s.kind) s p.kind
+    (fits_first (kind_fits (λ id. None) types (value_view s.default) (kind_view s.kind)) (same_value (clamp (λ id. None) types (spec_view s) (value_view s.default)) (value_view s.default)) p.default) h
+takes types s (of_value.Flags t n) p h = takes_flags types t n (kind_view s.kind) (spec_view s) p.kind h
+takes types s (of_value.Object t o) p h = tt
 
 -- ** flags that code finds
 
@@ -160,11 +169,11 @@ module _ (d : Definition) (w : World) (id slot : ℕ) (v : Value) where
     pub other_kind_set : has_kind v s.kind ≡ false → setting d w id slot v ≡ Err arms.Value
     other_kind_set h = by_spec ∙ ap (λ b. only_if (b && lives w.objects v) arms.Value (settled d w id slot s v (clamp (class_in w.objects) d.types s v))) h
 
-    module _ (plain : IsPlain s) (kind : has_kind v s.kind ≡ true) where
+    module _ (plain : IsPlain d.types s) (kind : has_kind v s.kind ≡ true) where
       by_value : setting d w id slot v ≡ settled d w id slot s v (clamp (class_in w.objects) d.types s v)
       by_value =
           by_spec ∙ ap (λ b. only_if (b && lives w.objects v) arms.Value (settled d w id slot s v (clamp (class_in w.objects) d.types s v))) kind
-          ∙ ap (λ b. only_if b arms.Value (settled d w id slot s v (clamp (class_in w.objects) d.types s v))) (lives_plain w.objects v s.kind s plain.kind kind)
+          ∙ ap (λ b. only_if b arms.Value (settled d w id slot s v (clamp (class_in w.objects) d.types s v))) (lives_plain d.types w.objects v s.kind s plain.kind kind)
 
       refused_set : (same_value (clamp (class_in w.objects) d.types s v) v || is_lax s) ≡ false → setting d w id slot v ≡ starts (said d w (lines.refused id s.name v)) []
       refused_set bad =

@@ -66,7 +66,7 @@ impl Engine {
         slot: u16,
     ) -> Result<&'a Spec, Arm>
         ensures spec { Shows (λ s. spec_view s.now) result (spec_at definition.now (world_of self.now.world).objects object slot) }
-        ensures plain { IfOk result (λ s. IsPlain (spec_view s.now)) }
+        ensures plain { IfOk result (λ s. IsPlain definition.now.types (spec_view s.now)) }
     {
         let _types = definition.types();
         let class = self.world.heap.class_of(object)?;

@@ -1,15 +1,19 @@
 -- Kinds of properties, by their words.
-use Rattle.std.specs.Prelude.{ℕ, ℤ, pos, List, codes, if◌then◌else◌, Option, None, Some, Result}
+use Rattle.std.specs.Prelude.{ℕ, ℤ, pos, ◌==◌, List, length, nat_lt, codes, Bool, true, false, if◌then◌else◌, Option, None, Some, option_map, Result, Err}
+use Rattle.std.specs.List.{position_or_len, before_first, after_first}
 use Rattle.std.specs.Str.{bytes_eq}
 use Rattle.serde_json.specs.Data.{Data}
 use Rattle.ui_machine.specs.Outcome.{◌>>=◌}
 use Rattle.ui_machine.specs.Definition.Kinds.{Kind}
 use Rattle.ui_machine.specs.Definition.Kinds as kinds
+use Rattle.ui_machine.specs.Definition.Types.{GType, Sort}
+use Rattle.ui_machine.specs.Definition.Types as sorts
 use Rattle.ui_machine.specs.Rules.Transform.{least, greatest}
-use Rattle.builder_defs.specs.Refusals.{Refusal, shape, or_refused}
+use Rattle.type_tree.specs.Adding.{find_type, of_sort}
+use Rattle.builder_defs.specs.Refusals.{Refusal, shape, unknown, or_refused}
 use Rattle.builder_defs.specs.Document.{under, text_at}
 
--- a kind by its word
+-- a kind that names no type, by its word
 abbrev pub kind_named : List ℕ → Option Kind
 kind_named word =
     if bytes_eq word (codes "bool") then Some kinds.bool else
@@ -36,8 +40,48 @@ highest (kinds.enum t) = pos 0
 highest (kinds.flags t) = pos 0
 highest (kinds.object t) = pos 0
 
+-- ** kinds that name a type
+
+abbrev pub is_enum : Sort → Bool
+is_enum sorts.class = false
+is_enum sorts.interface = false
+is_enum sorts.enum = true
+is_enum sorts.flags = false
+
+abbrev pub is_flags : Sort → Bool
+is_flags sorts.class = false
+is_flags sorts.interface = false
+is_flags sorts.enum = false
+is_flags sorts.flags = true
+
+-- the enum of a name
+abbrev pub enum_named : List GType → List ℕ → Option ℕ
+enum_named types name = of_sort is_enum types (find_type types name)
+
+-- the flags type of a name
+abbrev pub flags_named : List GType → List ℕ → Option ℕ
+flags_named types name = of_sort is_flags types (find_type types name)
+
+abbrev pub is_colon : ℕ → Bool
+is_colon x = x == 58
+
+-- what stands before the first colon and what stands behind it, if there is one
+abbrev pub parted : List ℕ → Option (List ℕ × List ℕ)
+parted word = if nat_lt (position_or_len is_colon word) (length word) then Some (before_first is_colon word, after_first is_colon word) else None
+
+-- the kind of a sort and of the type that a name names: of the enum, or of the flags type
+abbrev pub kind_of_type : List ℕ → List GType → List ℕ → List ℕ → Result Kind Refusal
+kind_of_type path types sort name =
+    if bytes_eq sort (codes "enum") then or_refused (unknown path name) (option_map kinds.enum (enum_named types name)) else
+    (if bytes_eq sort (codes "flags") then or_refused (unknown path name) (option_map kinds.flags (flags_named types name)) else Err (shape path))
+
+-- the kind of a word, of which these are the parts around the colon
+abbrev pub kind_by : List ℕ → List GType → List ℕ → Option (List ℕ × List ℕ) → Result Kind Refusal
+kind_by path types word None = or_refused (shape path) (kind_named word)
+kind_by path types word (Some parts) = kind_of_type path types parts.0 parts.1
+
 -- the kind of a property
-abbrev pub kind_at : List ℕ → Data → Result Kind Refusal
-kind_at path d = do
+abbrev pub kind_at : List ℕ → List GType → Data → Result Kind Refusal
+kind_at path types d = do
   word ← text_at path d (codes "kind")
-  or_refused (shape (under path (codes "kind"))) (kind_named word)
+  kind_by (under path (codes "kind")) types word (parted word)

@@ -68,7 +68,7 @@ spec_at path types inherited specs d = do
   room ← room_for_property specs
   name ← text_at path d (codes "name")
   new ← new_property (under path (codes "name")) inherited specs name
-  kind ← kind_at path d
+  kind ← kind_at path types d
   flags ← flags_at path d
   spec ← valued_at path types name kind flags d
   weak ← absent_at path d (codes "weak" ∷ [])

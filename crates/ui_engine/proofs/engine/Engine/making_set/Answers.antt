@@ -1,4 +1,4 @@
-use Rattle.std.proofs.Common.{◌≡◌, true, false, sym, rules, ◌∙◌}
+use Rattle.std.proofs.Common.{◌≡◌, true, rules}
 use Rattle.ui_machine.specs.Definition.Properties.{is_writable}
 use Rattle.param_specs.specs.View.{spec_view}
 use Rattle.ui_machine.specs.Rules.Construction.{making_set}

@@ -35,7 +35,7 @@ returns-then-refuses-clause-step c =
     let v = value_view c.args.value in
     let plain = c.in_ok-spec.ensures.plain in
     let kind : has_kind v s.kind ≡ true = sym c.if-not-has_kind.ensures in
-    let knows = knows_class (class_in w.objects) c.args.value s.kind s plain.kind kind in
+    let knows = knows_class d.types (class_in w.objects) c.args.value s.kind s plain.kind kind in
     let told = refused_by_flag d w c.args.object c.args.slot v s c.in_ok-spec.ensures.spec plain kind true _ (value_view c.in_ok-original.original) refl c.if-refuses.ensures (rw c.types.ensures.types at (c.validate-valid.ensures.changed (class_in w.objects) knows)) c.in_ok-original.ensures.value in
     left_alone d c.args.self.now c.refuse.new.self _ _ told (rw c.as_str.ensures.value at c.in_ok-refuse.ensures.ok) c.in_ok-refuse.ensures.same.0 c.in_ok-refuse.ensures.same.1
 
@@ -47,7 +47,7 @@ returns-in_err-put-clause-step c =
     let v = value_view c.args.value in
     let plain = c.in_ok-spec.ensures.plain in
     let kind : has_kind v s.kind ≡ true = sym c.if-not-has_kind.ensures in
-    let knows = knows_class (class_in w.objects) c.args.value s.kind s plain.kind kind in
+    let knows = knows_class d.types (class_in w.objects) c.args.value s.kind s plain.kind kind in
     let told = written_by_flag d w c.args.object c.args.slot v s c.in_ok-spec.ensures.spec plain kind false _ (value_view c.validate-valid.result.0) refl c.if-refuses.ensures (rw c.types.ensures.types at (c.validate-valid.ensures.changed (class_in w.objects) knows)) (rw c.types.ensures.types at (c.validate-valid.ensures.value (class_in w.objects) knows)) in
     let p = err_from_is_err_and c.from_residual-in_err-put.result c.from_residual-in_err-put.ensures.1 in
     rw (p.1, p.2, told) c.in_err-put.ensures.step
@@ -60,6 +60,6 @@ returns-clause-step c =
     let v = value_view c.args.value in
     let plain = c.in_ok-spec.ensures.plain in
     let kind : has_kind v s.kind ≡ true = sym c.if-not-has_kind.ensures in
-    let knows = knows_class (class_in w.objects) c.args.value s.kind s plain.kind kind in
+    let knows = knows_class d.types (class_in w.objects) c.args.value s.kind s plain.kind kind in
     let told = written_by_flag d w c.args.object c.args.slot v s c.in_ok-spec.ensures.spec plain kind false _ (value_view c.validate-valid.result.0) refl c.if-refuses.ensures (rw c.types.ensures.types at (c.validate-valid.ensures.changed (class_in w.objects) knows)) (rw c.types.ensures.types at (c.validate-valid.ensures.value (class_in w.objects) knows)) in
     ap (uncounted (agenda_of d c.args.self.now.stack) c.args.self.now.counted) told ∙ c.in_ok-put.ensures.step
