@@ -1,5 +1,5 @@
 -- What is so of a property among some types stays so where a type is added behind them.
-use Rattle.std.proofs.Common.{◌≡◌, ◌<◌, ◌^◌, nat_lt, ℕ, ℤ, zero, suc, Bool, true, false, cond, ◌&&◌, nat_eq, arith, List, [], ◌∷◌, ◌++◌, length, None, Some, refl, sym, ap, subst, ◌∙◌, inl, inr}
+use Rattle.std.proofs.Common.{◌≡◌, ◌<◌, ◌^◌, nat_lt, ℕ, ℤ, zero, suc, Bool, true, false, cond, ◌&&◌, nat_eq, arith, List, [], ◌∷◌, ◌++◌, length, None, Some, refl, sym, ap, ◌∙◌, inl, inr}
 use Rattle.std.proofs.lemmas.Bool.{cases_lt}
 use Rattle.std.proofs.lemmas.Bool.Decides.{nat_tests}
 use Rattle.ui_machine.specs.Seq.{read}
@@ -12,7 +12,7 @@ use Rattle.ui_machine.specs.Definition.Values.{Value}
 use Rattle.ui_machine.specs.Definition.Values as values
 use Rattle.ui_machine.specs.Definition.Properties.{Spec}
 use Rattle.ui_machine.specs.Rules.Transform.{has_number, kind_fits, same_value}
-use Rattle.ui_machine.specs.Rules.Validation.{clamp, is_valid}
+use Rattle.ui_machine.specs.Rules.Validation.{clamp}
 use Rattle.type_tree.specs.Adding.{sort_of}
 use Rattle.builder_defs.specs.Meaning.{IsPlainKind, IsPlain}
 use Rattle.builder_defs.proofs.Tables.{type_past}

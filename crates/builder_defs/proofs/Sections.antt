@@ -8,7 +8,7 @@ use Rattle.ui_machine.specs.Outcome.{◌>>=◌}
 use Rattle.ui_machine.specs.Definition.Types.{GType, predeclared}
 use Rattle.builder_defs.specs.declared.fault.ReadError.{ReadError}
 use Rattle.builder_defs.specs.Refusals.{Refusal, Fails, shape, or_refused}
-use Rattle.builder_defs.specs.Document.{under, absent_at, nothing_at, entries_at, each, at_entry}
+use Rattle.builder_defs.specs.Document.{under, nothing_at, entries_at, each, at_entry}
 use Rattle.builder_defs.specs.Denoted.Enums.{three_in, some_items, some_entries_at, enum_at, flags_at}
 use Rattle.builder_defs.specs.Denoted.Classes.{bare_draft, class_at}
 use Rattle.builder_defs.specs.Denoted.{unset_before_classes, enums_in, flags_in, classes_in}
@@ -25,13 +25,13 @@ pub some_there : (path key : List ℕ) (d : Data) (vs : List Value) → Some (it
 some_there path key d [] is h = absurd (omega arith)
 some_there path key d (v ∷ vs) is h = ap (λ (o : Option Items). or_refused (shape (under path key)) (option_and_then some_items o)) (sym is)
 
-pub enums_fail : (d : Data) (list : Items) (e : ReadError) → absent_at [] d (codes "limits" ∷ []) ≡ Ok tt → entries_at [] d (codes "enums") ≡ Ok list
+pub enums_fail : (d : Data) (list : Items) (e : ReadError) → entries_at [] d (codes "enums") ≡ Ok list
     → Fails e (each (at_entry (λ path. enum_at path (length predeclared)) (codes "/enums")) 0 predeclared list) → Fails e (enums_in d)
 unfolding enums_in
-enums_fail d list e unset read fails =
+enums_fail d list e read fails =
     fails_as e _ _
-    (ap (λ (r : Result (Unit {0}) Refusal). r >>= λ u. entries_at [] d (codes "enums") >>= λ list. each (at_entry (λ path. enum_at path (length predeclared)) (codes "/enums")) 0 predeclared list) unset
-    ∙ ap (λ (r : Result Items Refusal). r >>= λ list. each (at_entry (λ path. enum_at path (length predeclared)) (codes "/enums")) 0 predeclared list) read) fails
+    (ap (λ (r : Result Items Refusal). r >>= λ list. each (at_entry (λ path. enum_at path (length predeclared)) (codes "/enums")) 0 predeclared list) read)
+    fails
 
 pub flags_fail : (types : List GType) (d : Data) (list : Items) (e : ReadError) → entries_at [] d (codes "flags") ≡ Ok list
     → Fails e (each (at_entry (λ path. flags_at path (length types)) (codes "/flags")) 0 types list) → Fails e (flags_in types d)

@@ -1,5 +1,5 @@
 -- All properties of a definition that was read are plain.
-use Rattle.std.proofs.Common.{◌≡◌, ◌≤◌, ◌<◌, ℕ, codes, zero, suc, ◌+◌, ℤ, ◌≤ℤ◌, int_lt, Bool, true, false, cond, option_map, not, ◌&&◌, nat_eq, nat_le, arith, map, if◌then◌else◌, List, [], ◌∷◌, ◌++◌, length, reverse, slice_get, Option, Some, None, Result, Ok, Err, refl, sym, subst, ◌∙◌}
+use Rattle.std.proofs.Common.{◌≡◌, ◌≤◌, ◌<◌, ℕ, codes, zero, suc, ◌+◌, ℤ, ◌≤ℤ◌, int_lt, Bool, true, false, cond, option_map, not, ◌&&◌, nat_eq, nat_le, arith, map, if◌then◌else◌, List, [], ◌∷◌, ◌++◌, length, reverse, slice_get, Option, Some, None, Result, Ok, Err, refl, sym, subst}
 use Rattle.std.specs.List.{flat_map}
 use Rattle.std.proofs.lemmas.List.{length_push, length-map}
 use Rattle.std.proofs.lemmas.Bool.Decides.{nat_tests}
@@ -14,10 +14,7 @@ use Rattle.ui_machine.specs.Definition.Properties.{Spec}
 use Rattle.std.specs.Str.{bytes_eq}
 use Rattle.ui_machine.specs.Definition.Kinds as kinds
 use Rattle.ui_machine.specs.Rules.Ancestry.{lineage}
-use Rattle.ui_machine.specs.Definition.Values.{Value}
-use Rattle.ui_machine.specs.Definition.Values as values
-use Rattle.ui_machine.specs.Rules.Transform.{kind_fits, same_value}
-use Rattle.ui_machine.specs.Rules.Validation.{clamp, is_valid}
+use Rattle.ui_machine.specs.Rules.Validation.{is_valid}
 use Rattle.serde_json.specs.Find.{get}
 use Rattle.g_values.specs.View.{is_whole_kind}
 use Rattle.g_values.specs.Reading.{whole_number, number_between}
@@ -26,9 +23,10 @@ use Rattle.std.proofs.lemmas.Int.{ints}
 use Rattle.param_specs.specs.declared.error.SpecFault.{SpecFault}
 use Rattle.param_specs.specs.declared.error.SpecFault.TheVariants.{DefaultInvalid}
 use Rattle.param_specs.specs.Table.{own_of, specs_of, install_fault, canonical_spec}
-use Rattle.builder_defs.specs.Meaning.{Entry, plain_object, IsPlain, IsPlainKind, IsSound}
+use Rattle.ui_machine.specs.declared.limits.Limits.{Limits}
+use Rattle.builder_defs.specs.Meaning.{Entry, plain_object, IsPlain, IsPlainKind, AreLimits, IsSound}
 use Rattle.builder_defs.specs.Refusals.{Refusal, shape, unknown, bad_spec, limit, or_refused, or_value_fault}
-use Rattle.builder_defs.specs.declared.fault.DefinitionLimit.TheVariants.{Objects}
+use Rattle.builder_defs.specs.declared.fault.DefinitionLimit.TheVariants.{Places, Objects}
 use Rattle.ui_machine.specs.Outcome.{◌>>=◌}
 use Rattle.builder_defs.specs.Document.{each, at_entry, under, nth, members_at, text_at, truth_at, entries_at, absent_at, nothing_at, only_at}
 use Rattle.builder_defs.specs.Denoted.Kinds.{is_enum, is_flags, enum_named, flags_named, parted, kind_by, kind_at, lowest, highest}
@@ -317,44 +315,68 @@ draft_plain d =
 
 -- ** no more objects than there is room for
 
-abbrev pub AreFew : List Place → Type 0
-AreFew places = length places ≤ 64
+-- not more than there are places, and not more than may live
+pub record AreFew (most : ℕ) (places : List Place) : Type 0 where
+  pub placed : length places ≤ 512
+  pub live : length places ≤ most
 
-room_below : (places : List Place) → OnRead (λ u. length places < 64) (room_for_object places)
-room_below places = by (nat_le 64 (length places)) refl
+-- there is room for one more
+record HasRoom (most : ℕ) (places : List Place) : Type 0 where
+  place : length places < 512
+  life : length places < most
+
+room_below : (most : ℕ) (places : List Place) → OnRead (λ u. HasRoom most places) (room_for_object most places)
+room_below most places = by (nat_le 512 (length places)) (nat_le most (length places)) refl refl
   where
-    by : (b : Bool) → nat_le 64 (length places) ≡ b → OnRead {A = Unit {0}} (λ u. length places < 64) (if b then Err (limit Objects) else Ok tt)
-    by true e = tt
-    by false e = grind (arith, nat_tests)
+    by : (b c : Bool) → nat_le 512 (length places) ≡ b → nat_le most (length places) ≡ c
+        → OnRead {A = Unit {0}} (λ u. HasRoom most places) (if b then Err (limit Places) else (if c then Err (limit Objects) else Ok tt))
+    by true c e f = tt
+    by false true e f = tt
+    by false false e f = record { place = grind (arith, nat_tests); life = grind (arith, nat_tests) }
 
-place_few : (path : List ℕ) (types : List GType) (places : List Place) (d : Data) → OnRead (λ place. length places < 64) (place_at path types places d)
-unfolding place_at
-place_few path types places d =
-    on_bind (λ x. Unit {0}) (λ place. length places < 64) (members_at path d) _ (on_all _) λ ms u.
-    on_bind (λ x. length places < 64) (λ place. length places < 64) (room_for_object places) _ (room_below places) λ room below.
-    on_bind (λ x. Unit {0}) (λ place. length places < 64) (text_at path d (codes "id")) _ (on_all _) λ id u.
-    on_bind (λ x. Unit {0}) (λ place. length places < 64) (new_id (under path (codes "id")) places id) _ (on_all _) λ new u.
-    on_bind (λ x. Unit {0}) (λ place. length places < 64) (class_at_key path types d) _ (on_all _) λ class u.
-    on_bind (λ x. Unit {0}) (λ place. length places < 64) (bare_at path d) _ (on_all _) λ bare u.
-    on_bind (λ x. Unit {0}) (λ place. length places < 64) (only_at path ms keys_of_object) _ (on_all _) λ only u. below
+module _ (types : List GType) (most : ℕ) where
+  place_few : (path : List ℕ) (places : List Place) (d : Data) → OnRead (λ place. HasRoom most places) (place_at path types most places d)
+  unfolding place_at
+  place_few path places d =
+      on_bind (λ x. Unit {0}) (λ place. HasRoom most places) (members_at path d) _ (on_all _) λ ms u.
+      on_bind (λ x. HasRoom most places) (λ place. HasRoom most places) (room_for_object most places) _ (room_below most places) λ u room.
+      on_bind (λ x. Unit {0}) (λ place. HasRoom most places) (text_at path d (codes "id")) _ (on_all _) λ id u.
+      on_bind (λ x. Unit {0}) (λ place. HasRoom most places) (new_id (under path (codes "id")) places id) _ (on_all _) λ new u.
+      on_bind (λ x. Unit {0}) (λ place. HasRoom most places) (class_at_key path types d) _ (on_all _) λ class u.
+      on_bind (λ x. Unit {0}) (λ place. HasRoom most places) (bare_at path d) _ (on_all _) λ bare u.
+      on_bind (λ x. Unit {0}) (λ place. HasRoom most places) (only_at path ms keys_of_object) _ (on_all _) λ only u. room
 
-object_few : (path : List ℕ) (types : List GType) (places : List Place) (d : Data) → AreFew places → OnRead AreFew (object_at path types places d)
-unfolding object_at
-object_few path types places d few =
-    on_bind (λ place. length places < 64) AreFew (place_at path types places d) (λ place. Ok (places ++ place ∷ [])) (place_few path types places d)
-    λ place below. omega (arith, length_push places place)
+  one_place_more : (places : List Place) (place : Place) → HasRoom most places → AreFew most (places ++ place ∷ [])
+  one_place_more places place room =
+      let one = length_push places place in
+      record { placed = omega (arith, one, room.place); live = omega (arith, one, room.life) }
 
-objects_few : (types : List GType) (d : Data) → OnRead AreFew (objects_in types d)
-unfolding objects_in
-objects_few types d =
-    on_bind (λ x. Unit {0}) AreFew (nothing_at [] d unset_before_objects) _ (on_all _) λ unset u.
-    on_bind (λ x. Unit {0}) AreFew (entries_at [] d (codes "objects")) _ (on_all _) λ list u.
-    on_each AreFew (at_entry (λ entry. object_at entry types) (under [] (codes "objects"))) (λ i places d few. object_few (nth (under [] (codes "objects")) i) types places d few) 0 [] list (omega arith)
+  object_few : (path : List ℕ) (places : List Place) (d : Data) → AreFew most places → OnRead (AreFew most) (object_at path types most places d)
+  unfolding object_at
+  object_few path places d few =
+      on_bind (λ place. HasRoom most places) (AreFew most) (place_at path types most places d) (λ place. Ok (places ++ place ∷ [])) (place_few path places d)
+      λ place room. one_place_more places place room
 
-pub sound : (types : List GType) (table : List (List Spec)) (os : List Entry) (d : Data) → draft_in d ≡ Ok (draft_of types table) → objects_in types d ≡ Ok (map plain_object os) → IsSound types table os
-sound types table os d read objects =
+  objects_few : (d : Data) → OnRead (AreFew most) (objects_in types most d)
+  unfolding objects_in
+  objects_few d =
+      on_bind (λ x. Unit {0}) (AreFew most) (nothing_at [] d unset_before_objects) _ (on_all _) λ unset u.
+      on_bind (λ x. Unit {0}) (AreFew most) (entries_at [] d (codes "objects")) _ (on_all _) λ list u.
+      on_each (AreFew most) (at_entry (λ entry. object_at entry types most) (under [] (codes "objects")))
+      (λ i places d few. object_few (nth (under [] (codes "objects")) i) places d few) 0 [] list (record { placed = omega arith; live = omega arith })
+
+pub sound : (types : List GType) (table : List (List Spec)) (os : List Entry) (limits : Limits) (d : Data) → draft_in d ≡ Ok (draft_of types table)
+    → AreLimits limits → objects_in types limits.objects d ≡ Ok (map plain_object os) → IsSound types table os limits
+sound types table os limits d read within objects =
     let all : AllOwn types (own_of table) = subst (OnRead PlainDraft) read (draft_plain d) in
+    let few : AreFew limits.objects (map plain_object os) = subst (OnRead (AreFew limits.objects)) objects (objects_few types limits.objects d) in
     record {
-      plain = record { at = λ t slot s h. plain_get types (specs_of types table t) slot s (subst (AllPlain types) (sym (specs_of-is types table t)) (plain_flat types (own_of table) all (reverse (lineage types t)))) h };
-      few = subst (λ n. n ≤ 64) (length-map os plain_object) (subst (OnRead AreFew) objects (objects_few types d));
+      plain = record {
+        at = λ t slot s h.
+            plain_get types (specs_of types table t) slot s
+            (subst (AllPlain types) (sym (specs_of-is types table t)) (plain_flat types (own_of table) all (reverse (lineage types t)))) h;
+      };
+      declared = within;
+      few = omega (arith, few.live, length-map os plain_object);
+      places = omega (arith, few.placed, length-map os plain_object);
     }

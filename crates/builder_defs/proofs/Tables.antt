@@ -8,6 +8,7 @@ use Rattle.ui_machine.specs.Definition.{Class}
 use Rattle.ui_machine.specs.Definition.Places.{Place}
 use Rattle.ui_machine.specs.Definition.Lookups as lookups
 use Rattle.ui_machine.specs.Definition.Properties.{Spec}
+use Rattle.ui_machine.specs.declared.limits.Limits.{Limits}
 use Rattle.param_specs.specs.Table.{specs_of}
 use Rattle.builder_defs.specs.Meaning.{Entry, class_with, plain_object, meaning, IsPlain, ArePlain, IsBasic}
 use Rattle.ui_machine.proofs.Listed.{read-listed}
@@ -17,12 +18,12 @@ read-past d f zero i h = refl
 read-past d f (suc n) zero h = absurd (omega arith)
 read-past d f (suc n) (suc i) h = read-past d (λ j. f (suc j)) n i (omega arith)
 
-module _ (types : List GType) (specs : List (List Spec)) (objects : List Entry) where
+module _ (types : List GType) (specs : List (List Spec)) (objects : List Entry) (limits : Limits) where
   module _ (class : ℕ) where
-    pub known_specs : class < length types → lookups.specs_of (meaning types specs objects) class ≡ specs_of types specs class
+    pub known_specs : class < length types → lookups.specs_of (meaning types specs objects limits) class ≡ specs_of types specs class
     known_specs known = ap (λ (c : Class). c.specs) (read-listed lookups.no_class (λ t. class_with (specs_of types specs t)) (length types) class (λ past. absurd (omega arith)))
 
-    pub unknown_specs : length types ≤ class → lookups.specs_of (meaning types specs objects) class ≡ []
+    pub unknown_specs : length types ≤ class → lookups.specs_of (meaning types specs objects limits) class ≡ []
     unknown_specs past = ap (λ (c : Class). c.specs) (read-past lookups.no_class (λ t. class_with (specs_of types specs t)) (length types) class past)
 
 -- past the end there is nothing
@@ -48,18 +49,18 @@ each_object P all [] p place h = cc
 each_object P all (o ∷ os) zero place h = let e : plain_object o ≡ place = cc in subst P e (all o)
 each_object P all (o ∷ os) (suc p) place h = each_object P all os p place h
 
-plain_spec : (types : List GType) (specs : List (List Spec)) (objects : List Entry) → ArePlain types specs → (t slot : ℕ) (s : Spec) → lookups.spec_of (meaning types specs objects) t slot ≡ Some s → IsPlain types s
-plain_spec types specs objects plain t slot s h = elim (cases_lt t (length types)) [
-  | inl known ↦ plain.at t slot s (ap (λ (xs : List Spec). slice_get xs slot) (sym (known_specs types specs objects t known)) ∙ h)
-  | inr past ↦ let e : slice_get (lookups.specs_of (meaning types specs objects) t) slot ≡ None = ap (λ (xs : List Spec). slice_get xs slot) (unknown_specs types specs objects t past) in absurd (cc)
+plain_spec : (types : List GType) (specs : List (List Spec)) (objects : List Entry) (limits : Limits) → ArePlain types specs → (t slot : ℕ) (s : Spec) → lookups.spec_of (meaning types specs objects limits) t slot ≡ Some s → IsPlain types s
+plain_spec types specs objects limits plain t slot s h = elim (cases_lt t (length types)) [
+  | inl known ↦ plain.at t slot s (ap (λ (xs : List Spec). slice_get xs slot) (sym (known_specs types specs objects limits t known)) ∙ h)
+  | inr past ↦ let e : slice_get (lookups.specs_of (meaning types specs objects limits) t) slot ≡ None = ap (λ (xs : List Spec). slice_get xs slot) (unknown_specs types specs objects limits t past) in absurd (cc)
 ]
 
-pub basic : (types : List GType) (specs : List (List Spec)) (objects : List Entry) → ArePlain types specs → IsBasic (meaning types specs objects)
-basic types specs objects plain = record {
+pub basic : (types : List GType) (specs : List (List Spec)) (objects : List Entry) (limits : Limits) → ArePlain types specs → IsBasic (meaning types specs objects limits)
+basic types specs objects limits plain = record {
   handlers = λ t. each_class (λ (c : Class). c.handlers ≡ []) lookups.no_class (λ t. class_with (specs_of types specs t)) (length types) t refl (λ t. refl);
   constructed = λ t. each_class (λ (c : Class). c.constructed ≡ None) lookups.no_class (λ t. class_with (specs_of types specs t)) (length types) t refl (λ t. refl);
   shapes = λ t. each_class (λ (c : Class). c.shape ≡ None) lookups.no_class (λ t. class_with (specs_of types specs t)) (length types) t refl (λ t. refl);
-  plain = plain_spec types specs objects plain;
+  plain = plain_spec types specs objects limits plain;
   parents = each_object (λ (p : Place). p.parent ≡ None) (λ o. refl) objects;
   given = each_object (λ (p : Place). p.given ≡ []) (λ o. refl) objects;
   prototypes = each_object (λ (p : Place). p.is_prototype ≡ false) (λ o. refl) objects;

@@ -1,6 +1,7 @@
 -- Which definition bytes denote, or the first fault in document order. A file of the folder has the rows of one part of the format.
 pub mod Names
 pub mod Types
+pub mod SessionLimits
 pub mod Enums
 pub mod Kinds
 pub mod PropertyFlags
@@ -17,10 +18,12 @@ use Rattle.ui_machine.specs.Seq.{listed}
 use Rattle.ui_machine.specs.Definition.Types.{GType, predeclared}
 use Rattle.ui_machine.specs.Definition.Places as machine
 use Rattle.ui_machine.specs.Definition as definition
-use Rattle.builder_defs.specs.Meaning.{class_with, default_objects}
+use Rattle.ui_machine.specs.declared.limits.Limits.{Limits}
+use Rattle.builder_defs.specs.Meaning.{class_with}
 use Rattle.builder_defs.specs.Refusals.{Refusal, shape}
-use Rattle.builder_defs.specs.Document.{under, members_at, entries_at, absent_at, nothing_at, only_at, each, at_entry, document}
+use Rattle.builder_defs.specs.Document.{under, members_at, entries_at, nothing_at, only_at, each, at_entry, document}
 use Rattle.builder_defs.specs.Denoted.Properties.{specs_by}
+use Rattle.builder_defs.specs.Denoted.SessionLimits.{limits_in}
 use Rattle.builder_defs.specs.Denoted.Enums.{enum_at, flags_at}
 use Rattle.builder_defs.specs.Denoted.Classes.{Draft, bare_draft, class_at}
 use Rattle.builder_defs.specs.Denoted.Objects.{object_at}
@@ -39,23 +42,22 @@ unset_before_objects = codes "programs" ∷ codes "prototypes" ∷ []
 abbrev pub keys_of_definition : List (List ℕ)
 keys_of_definition = codes "format" ∷ codes "limits" ∷ codes "enums" ∷ codes "flags" ∷ codes "interfaces" ∷ codes "shapes" ∷ codes "classes" ∷ codes "programs" ∷ codes "prototypes" ∷ codes "objects" ∷ []
 
--- the definition of these classes and objects
-abbrev pub definition_with : Draft → List machine.Place → definition.Definition
-definition_with draft places = record {
+-- the definition of these classes and objects, with these limits
+abbrev pub definition_with : Draft → List machine.Place → Limits → definition.Definition
+definition_with draft places limits = record {
   types = draft.types;
   classes = listed (λ t. class_with (specs_by draft.types draft.own t)) (length draft.types);
   shapes = [];
   programs = [];
   places = places;
   bindings = [];
-  most_objects = default_objects;
-  most_handlers = 0;
+  most_objects = limits.objects;
+  most_handlers = limits.handlers;
 }
 
 -- the predeclared types with the enums of a definition
 unfoldable pub enums_in : Data → Result (List GType) Refusal
 enums_in d = do
-  limits ← absent_at [] d (codes "limits" ∷ [])
   list ← entries_at [] d (codes "enums")
   each (at_entry (λ path. enum_at path (length predeclared)) (under [] (codes "enums"))) 0 predeclared list
 
@@ -79,20 +81,22 @@ draft_in d = do
   types ← flags_in enums d
   classes_in types d
 
-unfoldable pub objects_in : List GType → Data → Result (List machine.Place) Refusal
-objects_in types d = do
+-- the objects of these types, where so many may live
+unfoldable pub objects_in : List GType → ℕ → Data → Result (List machine.Place) Refusal
+objects_in types most d = do
   unset ← nothing_at [] d unset_before_objects
   list ← entries_at [] d (codes "objects")
-  each (at_entry (λ entry. object_at entry types) (under [] (codes "objects"))) 0 [] list
+  each (at_entry (λ entry. object_at entry types most) (under [] (codes "objects"))) 0 [] list
 
 unfoldable pub definition_in : Data → Result definition.Definition Refusal
 definition_in d = do
   members ← members_at [] d
   format ← format_of (option_and_then as_u64 (option_and_then as_number (get (codes "format") d)))
+  limits ← limits_in d
   draft ← draft_in d
-  places ← objects_in draft.types d
+  places ← objects_in draft.types limits.objects d
   only ← only_at [] members keys_of_definition
-  Ok (definition_with draft places)
+  Ok (definition_with draft places limits)
 
 -- the definition that bytes denote
 unfoldable pub denoted : List ℕ → Result definition.Definition Refusal

@@ -11,7 +11,7 @@ use Rattle.g_values.specs.declared.error.JsonFault.TheVariants as values
 use Rattle.param_specs.specs.declared.error.SpecFault.{SpecFault}
 use Rattle.param_specs.specs.declared.error.SpecFault.TheVariants as specs
 use Rattle.builder_defs.specs.declared.fault.DefinitionLimit.{DefinitionLimit}
-use Rattle.builder_defs.specs.declared.fault.DefinitionLimit.TheVariants.{Types, Depth, Properties, Objects}
+use Rattle.builder_defs.specs.declared.fault.DefinitionLimit.TheVariants.{Types, Depth, Properties, Places, Objects, Handlers}
 use Rattle.builder_defs.specs.Refusals.{Refusal, too_long, not_utf8, not_json, shape, unknown, duplicate, bad_type, bad_spec, value_fault, limit}
 
 -- ** paths and names
@@ -65,7 +65,9 @@ abbrev pub limit_name : DefinitionLimit → List ℕ
 limit_name Types = codes "types"
 limit_name Depth = codes "depth"
 limit_name Properties = codes "properties"
+limit_name Places = codes "places"
 limit_name Objects = codes "objects"
+limit_name Handlers = codes "handlers"
 
 -- a refusal as it is printed behind `refused: `
 abbrev pub refusal_text : Refusal → List ℕ

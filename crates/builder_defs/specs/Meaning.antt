@@ -2,6 +2,7 @@
 use Rattle.std.specs.Prelude.{◌≡◌, ℕ, ◌<◌, ◌≤◌, ◌≤ℤ◌, true, false, List, [], ◌∷◌, map, length, Option, None, Some, String, string_bytes, codes, slice_get}
 use Rattle.std.specs.Global.{Global}
 use Rattle.ui_machine.specs.Seq.{listed}
+use Rattle.ui_machine.specs.declared.limits.Limits.{Limits}
 use Rattle.ui_machine.specs.Definition.Kinds as kinds
 use Rattle.ui_machine.specs.Definition.Types.{GType}
 use Rattle.ui_machine.specs.Definition.Types as sorts
@@ -39,21 +40,21 @@ Entry = String Global × ℕ
 abbrev pub plain_object : Entry → machine.Place
 plain_object entry = bare_place (string_bytes entry.0) entry.1
 
--- how many objects may live where a definition sets no limit
-abbrev pub default_objects : ℕ
-default_objects = 64
+-- what a definition has that sets no limits: 64 objects live at a time, and programs connect no handlers
+abbrev pub default_limits : Limits
+default_limits = record { objects = 64; handlers = 0 }
 
--- the definition of these types, specs and objects
-abbrev pub meaning : List GType → List (List Spec) → List Entry → definition.Definition
-meaning types specs objects = record {
+-- the definition of these types, specs and objects, with these limits
+abbrev pub meaning : List GType → List (List Spec) → List Entry → Limits → definition.Definition
+meaning types specs objects limits = record {
   types = types;
   classes = listed (λ t. class_with (specs_of types specs t)) (length types);
   shapes = [];
   programs = [];
   places = map plain_object objects;
   bindings = [];
-  most_objects = default_objects;
-  most_handlers = 0;
+  most_objects = limits.objects;
+  most_handlers = limits.handlers;
 }
 
 -- A property of a kind that there is so far, among these types: a truth value, a number of a range within its kind, a text, or a value of an
@@ -76,10 +77,18 @@ pub record IsPlain (types : List GType) (s : Spec) : Type 0 where
 pub record ArePlain (types : List GType) (specs : List (List Spec)) : Type 0 where
   pub at : (t slot : ℕ) (s : Spec) → slice_get (specs_of types specs t) slot ≡ Some s → IsPlain types s
 
+-- limits that a definition may declare: those that their own test accepts
+pub record AreLimits (limits : Limits) : Type 0 where
+  pub some_objects : 1 ≤ limits.objects
+  pub most_objects : limits.objects ≤ 4096
+  pub most_handlers : limits.handlers ≤ 16
+
 -- what is so of every definition
-pub record IsSound (types : List GType) (specs : List (List Spec)) (objects : List Entry) : Type 0 where
+pub record IsSound (types : List GType) (specs : List (List Spec)) (objects : List Entry) (limits : Limits) : Type 0 where
   pub plain : ArePlain types specs
-  pub few : length objects ≤ 64
+  pub declared : AreLimits limits
+  pub few : length objects ≤ limits.objects
+  pub places : length objects ≤ 512
 
 abbrev pub class_of_place : Option machine.Place → ℕ
 class_of_place None = 0

@@ -4,7 +4,7 @@ ghost use Rattle.std.specs.Prelude.{◌≡◌, ◌<◌, ◌≤◌, length, optio
 ghost use Rattle.ui_machine.specs.Definition.Names.{place_named};
 ghost use Rattle.ui_machine.specs.Definition.Lookups.{place_of, spec_of, specs_of, slot_of, type_of};
 ghost use Rattle.param_specs.specs.View.{spec_view};
-ghost use Rattle.builder_defs.specs.Meaning.{IsBasic, bare_place, class_at, plain_object};
+ghost use Rattle.builder_defs.specs.Meaning.{AreLimits, IsBasic, bare_place, class_at, plain_object};
 
 use crate::object_entry::ObjectEntry;
 use crate::types::type_name;
@@ -12,17 +12,18 @@ use indexmap::IndexMap;
 use param_specs::{Spec, SpecTable};
 use std::marker::Model;
 use type_tree::{TypeId, TypeTree};
-use ui_machine::Place;
+use ui_machine::{Limits, Place};
 
-/// The most objects of a definition.
-pub const MOST_OBJECTS: usize = 64;
+/// The most places of a definition.
+pub const MOST_PLACES: usize = 512;
 
-/// A definition: its types with their properties, and its objects in document order. It is seen as the machine's.
+/// A definition: its types with their properties, its objects in document order, and its limits. It is seen as the machine's.
 #[derive(Drop)]
 pub struct Definition {
     pub(crate) types: TypeTree,
     pub(crate) specs: SpecTable,
     pub(crate) objects: IndexMap<String, TypeId>,
+    pub(crate) limits: Limits,
 }
 
 impl Model for Definition {
@@ -32,9 +33,9 @@ impl Model for Definition {
 
     ghost use Rattle.builder_defs.specs.Meaning.{meaning, IsSound};
 
-    ghost view = { λ d. meaning d.types d.specs d.objects.entries };
+    ghost view = { λ d. meaning d.types d.specs d.objects.entries d.limits };
 
-    ghost invariant = { λ d. IsSound d.types d.specs d.objects.entries };
+    ghost invariant = { λ d. IsSound d.types d.specs d.objects.entries d.limits };
 }
 
 impl Definition {
@@ -46,9 +47,19 @@ impl Definition {
         &self.types
     }
 
-    /// How many objects it has.
+    /// How many objects may live at a time, and how many handlers programs may connect. `Limits::check` accepts them.
+    pub fn limits(&self) -> Limits
+        ensures objects { result.objects ≡ self.now.most_objects }
+        ensures handlers { result.handlers ≡ self.now.most_handlers }
+        ensures checked { AreLimits result }
+    {
+        self.limits
+    }
+
+    /// How many objects it has: not more than may live.
     pub fn object_count(&self) -> usize
-        ensures { result ≡ length self.now.places }
+        ensures count { result ≡ length self.now.places }
+        ensures few { result ≤ self.now.most_objects }
     {
         self.objects.len()
     }

@@ -17,8 +17,12 @@ pub enum DefinitionLimit {
     Depth,
     /// More than 64 properties of one class, the inherited ones among them.
     Properties,
-    /// More than 64 objects.
+    /// More than 512 places: objects and prototypes.
+    Places,
+    /// More objects than the definition allows to live at a time, or a limit of them that is not 1 to 4,096.
     Objects,
+    /// A limit of handlers above 16.
+    Handlers,
 }
 
 /// Why a type is not added, in the order in which the tests are made, with the names of types.

@@ -65,7 +65,9 @@ fn limit_name(limit: DefinitionLimit) -> &'static str
         DefinitionLimit::Types => "types",
         DefinitionLimit::Depth => "depth",
         DefinitionLimit::Properties => "properties",
+        DefinitionLimit::Places => "places",
         DefinitionLimit::Objects => "objects",
+        DefinitionLimit::Handlers => "handlers",
     }
 }
 

@@ -14,6 +14,7 @@ mod event_reading;
 mod fault;
 mod fault_text;
 mod kinds;
+mod limits;
 mod names;
 mod numbers;
 mod object_entry;

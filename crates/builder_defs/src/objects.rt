@@ -8,7 +8,7 @@ ghost use Rattle.builder_defs.specs.Refusals.{Gives};
 ghost use Rattle.builder_defs.specs.Document.{under, path_of, each, at_entry};
 ghost use Rattle.builder_defs.specs.Denoted.Objects.{room_for_object, new_id, unless_abstract, class_at_key, bare_at, place_at, object_at};
 
-use crate::definition::{MOST_OBJECTS, position_of};
+use crate::definition::{MOST_PLACES, position_of};
 use crate::document::{Entries, Part, bad_shape, path_under};
 use crate::fault::{DefinitionFault, DefinitionLimit, ReadError, TypeCause};
 use crate::names::is_name;
@@ -18,11 +18,14 @@ use type_tree::{TypeId, TypeTree};
 
 const MEMBERS: [&str; 6] = ["id", "class", "peer", "properties", "signals", "children"];
 
-// Tests that there is room for a further object.
-fn check_room(objects: &IndexMap<String, TypeId>) -> Result<(), ReadError>
-    ensures { Gives (λ _. tt) result (room_for_object (map plain_object objects.now.entries)) }
+// Tests that there is room for a further object, where so many may live.
+fn check_room(objects: &IndexMap<String, TypeId>, most: usize) -> Result<(), ReadError>
+    ensures { Gives (λ _. tt) result (room_for_object most (map plain_object objects.now.entries)) }
 {
-    if objects.len() >= MOST_OBJECTS {
+    if objects.len() >= MOST_PLACES {
+        return Err(ReadError::Refused(DefinitionFault::Limit(DefinitionLimit::Places)));
+    }
+    if objects.len() >= most {
         return Err(ReadError::Refused(DefinitionFault::Limit(DefinitionLimit::Objects)));
     }
     Ok(())
@@ -104,13 +107,14 @@ fn check_bare(part: Part<'_>) -> Result<(), ReadError>
 fn read_object(
     part: Part<'_>,
     types: &TypeTree,
+    most: usize,
     objects: &IndexMap<String, TypeId>,
 ) -> Result<NewObject, ReadError>
-    ensures object { Gives (λ o. bare_place (string_bytes o.id) o.class) result (place_at (path_of part.entry.path) types.now (map plain_object objects.now.entries) (view part.entry.value.now)) }
+    ensures object { Gives (λ o. bare_place (string_bytes o.id) o.class) result (place_at (path_of part.entry.path) types.now most (map plain_object objects.now.entries) (view part.entry.value.now)) }
     ensures new { IfOk result (λ o. place_named (λ p. p.id) (map plain_object objects.now.entries) (string_bytes o.id) ≡ None) }
 {
     let members = part.members()?;
-    check_room(objects)?;
+    check_room(objects, most)?;
     let id = part.text("id")?;
     check_id(part, objects, id)?;
     let class = class_of(part, types)?;
@@ -120,10 +124,11 @@ fn read_object(
     Ok(NewObject { id, class })
 }
 
-// How the entries of the objects are read, among these types.
+// How the entries of the objects are read, among these types, where so many may live.
 #[derive(Clone, Copy)]
 struct ObjectEntries<'a> {
     types: &'a TypeTree,
+    most: usize,
 }
 
 impl<'a> Reads<IndexMap<String, TypeId>> for ObjectEntries<'a> {
@@ -136,28 +141,29 @@ impl<'a> Reads<IndexMap<String, TypeId>> for ObjectEntries<'a> {
 
     ghost seen = { λ objects. map plain_object objects.entries };
 
-    ghost step = { λ r path places d. object_at path r.types.now places d };
+    ghost step = { λ r path places d. object_at path r.types.now r.most places d };
 
     fn read(
         &self,
         part: Part<'_>,
         objects: &mut IndexMap<String, TypeId>,
     ) -> Result<(), ReadError> {
-        let object = read_object(part, self.types, objects)?;
+        let object = read_object(part, self.types, self.most, objects)?;
         objects.insert(object.id, object.class)?;
         Ok(())
     }
 }
 
-// The objects of a list.
+// The objects of a list, where so many may live.
 pub(crate) fn read_objects(
     list: Entries<'_>,
     types: &TypeTree,
+    most: usize,
 ) -> Result<IndexMap<String, TypeId>, ReadError>
-    ensures { Gives (λ v. map plain_object v.entries) result (each (at_entry (λ path. object_at path types.now) list.entry.path.now) 0 [] (items_view list.entry.items.now)) }
+    ensures { Gives (λ v. map plain_object v.entries) result (each (at_entry (λ path. object_at path types.now most) list.entry.path.now) 0 [] (items_view list.entry.items.now)) }
 {
     let mut objects = IndexMap::new(list.alloc);
-    let reader = ObjectEntries { types };
+    let reader = ObjectEntries { types, most };
     read_each(&reader, list, &mut objects)?;
     Ok(objects)
 }

@@ -15,6 +15,7 @@ use crate::definition::Definition;
 use crate::document::{Entries, Part, Path, parsed};
 use crate::enums::{read_enums, read_flags_types};
 use crate::fault::{DefinitionFault, ReadError};
+use crate::limits::limits_of;
 use crate::objects::read_objects;
 use indexmap::IndexMap;
 use param_specs::SpecTable;
@@ -63,7 +64,6 @@ fn enums_of(part: Part<'_>, types: &mut TypeTree) -> Result<(), ReadError>
     requires first { types.old ≡ predeclared }
     ensures { Leads result (enums_in (view part.entry.value.now)) types.new }
 {
-    part.check_absent(&["limits"])?;
     let items = part.entries("enums")?;
     let list = Entries {
         alloc: part.alloc,
@@ -123,11 +123,15 @@ fn read_draft(part: Part<'_>) -> Result<Draft, ReadError>
     Ok(draft)
 }
 
-// The objects of a definition.
+// The objects of a definition, where so many may live.
 #[tactic(auto, unfolding(crate::specs::Denoted::objects_in))]
-fn objects_of(part: Part<'_>, types: &TypeTree) -> Result<IndexMap<String, TypeId>, ReadError>
+fn objects_of(
+    part: Part<'_>,
+    types: &TypeTree,
+    most: usize,
+) -> Result<IndexMap<String, TypeId>, ReadError>
     requires { path_of part.path ≡ [] }
-    ensures { Gives (λ v. map plain_object v.entries) result (objects_in types.now (view part.entry.value.now)) }
+    ensures { Gives (λ v. map plain_object v.entries) result (objects_in types.now most (view part.entry.value.now)) }
 {
     part.check_nothing(&UNSET_BEFORE_OBJECTS)?;
     let items = part.entries("objects")?;
@@ -136,7 +140,7 @@ fn objects_of(part: Part<'_>, types: &TypeTree) -> Result<IndexMap<String, TypeI
         path: "/objects",
         items,
     };
-    let objects = read_objects(list, types)?;
+    let objects = read_objects(list, types, most)?;
     Ok(objects)
 }
 
@@ -155,13 +159,15 @@ fn definition_of(alloc: Global, value: &Value) -> Result<Definition, ReadError>
     };
     let members = part.members()?;
     check_format(alloc, format_in(value))?;
+    let limits = limits_of(part)?;
     let draft = read_draft(part)?;
-    let objects = objects_of(part, &draft.types)?;
+    let objects = objects_of(part, &draft.types, limits.objects as usize)?;
     part.check_only(members, &MEMBERS)?;
     Ok(Definition {
         types: draft.types,
         specs: draft.specs,
         objects,
+        limits,
     })
 }
 

@@ -9,14 +9,16 @@ use Rattle.ui_machine.specs.Seq.{read}
 use Rattle.ui_machine.specs.Output.Text.{no_type}
 use Rattle.type_tree.specs.Adding.{class_named}
 use Rattle.builder_defs.specs.Causes.{abstract_class}
-use Rattle.builder_defs.specs.declared.fault.DefinitionLimit.TheVariants.{Objects}
+use Rattle.builder_defs.specs.declared.fault.DefinitionLimit.TheVariants.{Places, Objects}
 use Rattle.builder_defs.specs.Meaning.{bare_place}
 use Rattle.builder_defs.specs.Refusals.{Refusal, shape, unknown, duplicate, bad_type, limit, or_refused}
 use Rattle.builder_defs.specs.Document.{under, members_at, text_at, absent_at, nothing_at, only_at}
 use Rattle.builder_defs.specs.Denoted.Names.{is_name}
 
-abbrev pub room_for_object : List machine.Place → Result (Unit {0}) Refusal
-room_for_object places = if nat_le 64 (length places) then Err (limit Objects) else Ok tt
+-- there is a place for one more, and it may live
+abbrev pub room_for_object : ℕ → List machine.Place → Result (Unit {0}) Refusal
+room_for_object most places =
+    if nat_le 512 (length places) then Err (limit Places) else (if nat_le most (length places) then Err (limit Objects) else Ok tt)
 
 -- an id beside those of these objects
 abbrev pub new_id : List ℕ → List machine.Place → List ℕ → Result (Unit {0}) Refusal
@@ -42,11 +44,11 @@ bare_at path d = do
   peer ← absent_at path d (codes "peer" ∷ [])
   nothing_at path d (codes "properties" ∷ codes "signals" ∷ codes "children" ∷ [])
 
--- the object that an entry gives beside these
-unfoldable pub place_at : List ℕ → List GType → List machine.Place → Data → Result machine.Place Refusal
-place_at path types places d = do
+-- the object that an entry gives beside these, where so many may live
+unfoldable pub place_at : List ℕ → List GType → ℕ → List machine.Place → Data → Result machine.Place Refusal
+place_at path types most places d = do
   members ← members_at path d
-  room ← room_for_object places
+  room ← room_for_object most places
   id ← text_at path d (codes "id")
   new ← new_id (under path (codes "id")) places id
   class ← class_at_key path types d
@@ -55,7 +57,7 @@ place_at path types places d = do
   Ok (bare_place id class)
 
 -- these objects, with the one that an entry gives
-unfoldable pub object_at : List ℕ → List GType → List machine.Place → Data → Result (List machine.Place) Refusal
-object_at path types places d = do
-  place ← place_at path types places d
+unfoldable pub object_at : List ℕ → List GType → ℕ → List machine.Place → Data → Result (List machine.Place) Refusal
+object_at path types most places d = do
+  place ← place_at path types most places d
   Ok (places ++ place ∷ [])
