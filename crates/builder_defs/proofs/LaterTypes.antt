@@ -23,7 +23,8 @@ kept (x ∷ xs) g zero h = refl
 kept (x ∷ xs) g (suc t) h = kept xs g t (omega arith)
 
 -- a type that is no class stands among the types
-kept_but_class : (types : List GType) (g : GType) (t : ℕ) (s : sorts.Sort) → sort_of types t ≡ s → (s ≡ sorts.class → ⊥) → read no_type (types ++ g ∷ []) t ≡ read no_type types t
+kept_but_class : (types : List GType) (g : GType) (t : ℕ) (s : sorts.Sort) → sort_of types t ≡ s → (s ≡ sorts.class → ⊥)
+    → read no_type (types ++ g ∷ []) t ≡ read no_type types t
 kept_but_class types g t s is other = elim (cases_lt t (length types)) [
   | inl known ↦ kept types g t known
   | inr past ↦ absurd (other (sym is ∙ ap (λ (x : GType). x.sort) (type_past types t past)))
@@ -57,7 +58,8 @@ kind_later types all (kinds.object t) s same p = absurd p
 -- whether a value is valid by what it is of, by the members of the kind's type and by those of the value's
 module _ (s : Spec) (n : ℤ) where
   abbrev enum_valid : (is_one : Bool) (t : ℕ) (of_kind of_value : List Member) → Bool
-  enum_valid is_one t of_kind of_value = (is_one && has_number of_kind n) && same_value (cond (has_number of_value n) (values.enum t n) s.default) (values.enum t n)
+  enum_valid is_one t of_kind of_value =
+      (is_one && has_number of_kind n) && same_value (cond (has_number of_value n) (values.enum t n) s.default) (values.enum t n)
 
   enum_same : (is_one : Bool) (t u : ℕ) → nat_eq t u ≡ is_one → (types all : List GType) → members_of all u ≡ members_of types u
       → enum_valid is_one t (members_of types u) (members_of types t) ≡ enum_valid is_one t (members_of all u) (members_of all t)
@@ -68,16 +70,23 @@ module _ (s : Spec) (n : ℤ) where
   enum_same false t u e types all same = refl
 
 module _ (s : Spec) (bits : ℕ) where
+  abbrev flags_valid : (is_one few : Bool) (t : ℕ) → List GType → Bool
+  flags_valid is_one few t types =
+      (is_one && few) && same_value (clamp (λ id. None) types s (values.flags t bits)) (values.flags t bits)
+
   flags_same : (is_one few : Bool) (t u : ℕ) → nat_eq t u ≡ is_one → (types all : List GType) → members_of all u ≡ members_of types u
-      → ((is_one && few) && same_value (clamp (λ id. None) types s (values.flags t bits)) (values.flags t bits)) ≡ ((is_one && few) && same_value (clamp (λ id. None) all s (values.flags t bits)) (values.flags t bits))
+      → flags_valid is_one few t types ≡ flags_valid is_one few t all
   flags_same true few t u e types all same =
       let is : t ≡ u = grind (arith, nat_tests) in
       let other : members_of all t ≡ members_of types t = ap (members_of all) is ∙ same ∙ sym (ap (members_of types) is) in
       rw other refl
   flags_same false few t u e types all same = refl
 
+abbrev valid_as : List GType → Kind → Value → Spec → Bool
+valid_as types kind v s = kind_fits (λ id. None) types v kind && same_value (clamp (λ id. None) types s v) v
+
 valid_later : (types all : List GType) (kind : Kind) (v : Value) (s : Spec) → IsKept types all kind
-    → (kind_fits (λ id. None) types v kind && same_value (clamp (λ id. None) types s v) v) ≡ (kind_fits (λ id. None) all v kind && same_value (clamp (λ id. None) all s v) v)
+    → valid_as types kind v s ≡ valid_as all kind v s
 valid_later types all kinds.bool (values.bool b) s same = refl
 valid_later types all kinds.bool (values.whole w n) s same = refl
 valid_later types all kinds.bool (values.text t) s same = refl
@@ -102,7 +111,8 @@ valid_later types all kinds.text (values.object (Some o)) s same = refl
 valid_later types all (kinds.enum u) (values.bool b) s same = refl
 valid_later types all (kinds.enum u) (values.whole w n) s same = refl
 valid_later types all (kinds.enum u) (values.text t) s same = refl
-valid_later types all (kinds.enum u) (values.enum t n) s same = enum_same s n (nat_eq t u) t u refl types all (ap (λ (x : GType). x.members) same)
+valid_later types all (kinds.enum u) (values.enum t n) s same =
+    enum_same s n (nat_eq t u) t u refl types all (ap (λ (x : GType). x.members) same)
 valid_later types all (kinds.enum u) (values.flags t bits) s same = refl
 valid_later types all (kinds.enum u) (values.object None) s same = refl
 valid_later types all (kinds.enum u) (values.object (Some o)) s same = refl
@@ -110,7 +120,8 @@ valid_later types all (kinds.flags u) (values.bool b) s same = refl
 valid_later types all (kinds.flags u) (values.whole w n) s same = refl
 valid_later types all (kinds.flags u) (values.text t) s same = refl
 valid_later types all (kinds.flags u) (values.enum t n) s same = refl
-valid_later types all (kinds.flags u) (values.flags t bits) s same = flags_same s bits (nat_eq t u) (nat_lt bits (2 ^ 32)) t u refl types all (ap (λ (x : GType). x.members) same)
+valid_later types all (kinds.flags u) (values.flags t bits) s same =
+    flags_same s bits (nat_eq t u) (nat_lt bits (2 ^ 32)) t u refl types all (ap (λ (x : GType). x.members) same)
 valid_later types all (kinds.flags u) (values.object None) s same = refl
 valid_later types all (kinds.flags u) (values.object (Some o)) s same = refl
 valid_later types all (kinds.object u) v s same = absurd same

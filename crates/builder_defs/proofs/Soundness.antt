@@ -31,8 +31,8 @@ use Rattle.ui_machine.specs.Outcome.{◌>>=◌}
 use Rattle.builder_defs.specs.Document.{each, at_entry, under, nth, members_at, text_at, truth_at, entries_at, absent_at, nothing_at, only_at}
 use Rattle.builder_defs.specs.Denoted.Kinds.{is_enum, is_flags, enum_named, flags_named, parted, kind_by, kind_at, lowest, highest}
 use Rattle.builder_defs.specs.Denoted.PropertyFlags.{flags_at}
-use Rattle.builder_defs.specs.Denoted.Ranges.{Range, end_given, end_or, check_filled, range_at}
-use Rattle.builder_defs.specs.Denoted.Defaults.{default_at, check_default}
+use Rattle.builder_defs.specs.Denoted.Ranges.{Range, whole_range, end_given, end_or, check_filled, range_at}
+use Rattle.builder_defs.specs.Denoted.Defaults.{default_at, check_default, check_unranged}
 use Rattle.builder_defs.specs.Denoted.Properties.{specs_by, inherited_by, property_spec, room_for_property, new_property, keys_of_property, valued_at, spec_at, add_own, installed_or, installed, property_at}
 use Rattle.builder_defs.specs.Denoted.Types.{room_for_type, new_type_name}
 use Rattle.builder_defs.specs.Denoted.Classes.{Draft, draft_of, bare_draft, added_or, parent_at, parent_ahead, check_depth, keys_of_class, declared_at, answering_at, properties_at, class_at}
@@ -208,6 +208,8 @@ valued_plain : (path : List ℕ) (types : List GType) (name : List ℕ) (kind : 
 unfolding valued_at
 valued_plain path types name kind flags d known =
     on_bind (λ x. Unit {0}) (IsPlain types) (default_at path types kind d) _ (on_all _) λ default u.
+    on_bind (λ x. Unit {0}) (IsPlain types)
+    (check_unranged (under path (codes "default")) types (property_spec name kind flags default (whole_range kind))) _ (on_all _) λ unranged u.
     on_bind (IsRangeOf kind) (IsPlain types) (range_at path kind d) _ (range_is path kind d) λ range within.
     on_bind (λ u. IsPlain types (property_spec name kind flags default range)) (IsPlain types) (check_default (under path (codes "default")) types (property_spec name kind flags default range)) _
     (default_plain (under path (codes "default")) types (property_spec name kind flags default range) (whole_within types kind (property_spec name kind flags default range) known within.0 within.1) refl)

@@ -57,8 +57,8 @@ meaning types specs objects limits = record {
   most_handlers = limits.handlers;
 }
 
--- A property of a kind that there is so far, among these types: a truth value, a number of a range within its kind, a text, or a value of an
--- enum or a flags type.
+-- A property of a kind that there is so far, among these types: a truth value, a number of a range within its kind, a text, or a value
+-- of an enum or a flags type.
 abbrev pub IsPlainKind : List GType → kinds.Kind → Spec → Type 0
 IsPlainKind types kinds.bool s = Unit {0}
 IsPlainKind types (kinds.whole k) s = (least k ≤ℤ s.low) × (s.low ≤ℤ greatest k) × (least k ≤ℤ s.high) × (s.high ≤ℤ greatest k)

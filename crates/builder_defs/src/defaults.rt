@@ -7,10 +7,11 @@ ghost use Rattle.g_values.specs.Reading.{json_value};
 ghost use Rattle.param_specs.specs.View.{spec_view};
 ghost use Rattle.builder_defs.specs.Refusals.{Gives, or_value_fault};
 ghost use Rattle.builder_defs.specs.Document.{under, path_of};
-ghost use Rattle.builder_defs.specs.Denoted.Defaults.{default_at, check_default};
+ghost use Rattle.builder_defs.specs.Denoted.Defaults.{default_at, check_default, check_unranged};
 
 use crate::document::{Part, bad_value, path_under};
 use crate::fault::{DefinitionFault, ReadError};
+use crate::kinds::is_whole;
 use g_values::{JsonError, Kind, from_json, zero_of};
 use param_specs::{Spec, SpecFault, is_valid_default};
 use serde_json::Value;
@@ -59,4 +60,15 @@ pub(crate) fn check_default(part: Part<'_>, types: &TypeTree, spec: &Spec) -> Re
         return Err(ReadError::Refused(DefinitionFault::BadSpec(path, SpecFault::DefaultInvalid)));
     }
     Ok(())
+}
+
+// The same of a property whose kind has no range.
+pub(crate) fn check_unranged(part: Part<'_>, types: &TypeTree, spec: &Spec) -> Result<(), ReadError>
+    requires { IsKnown types.now spec.now.kind }
+    ensures { Gives (λ _. tt) result (check_unranged (under (path_of part.entry.path) (codes "default")) types.now (spec_view spec.now)) }
+{
+    if is_whole(&spec.kind) {
+        return Ok(());
+    }
+    check_default(part, types, spec)
 }

@@ -10,12 +10,12 @@ ghost use Rattle.builder_defs.specs.Refusals.{Gives, Leads};
 ghost use Rattle.builder_defs.specs.Document.{under, path_of, each, at_entry};
 ghost use Rattle.builder_defs.specs.Denoted.Properties.{inherited_of, property_spec, room_for_property, new_name, new_property, valued_at, spec_at, installed, property_at};
 
-use crate::defaults::{check_default, default_of};
+use crate::defaults::{check_default, check_unranged, default_of};
 use crate::document::{Entries, Part, path_text, path_under};
 use crate::fault::{DefinitionFault, DefinitionLimit, ReadError};
 use crate::kinds::kind_of;
 use crate::property_flags::flags_of;
-use crate::ranges::{NumberRange, range_of};
+use crate::ranges::{NumberRange, range_of, whole_range};
 use crate::reads::{Reads, read_each};
 use g_values::Kind;
 use param_specs::{
@@ -43,6 +43,18 @@ fn property_spec(
         min: range.min,
         max: range.max,
         weak: false,
+    }
+}
+
+// The spec with another range.
+fn with_range(spec: Spec, range: NumberRange) -> Spec
+    ensures range { spec_view result ≡ record (spec_view spec) { low = range.min; high = range.max } }
+    ensures kind { result.kind ≡ spec.kind }
+{
+    Spec {
+        min: range.min,
+        max: range.max,
+        ..spec
     }
 }
 
@@ -118,9 +130,11 @@ fn valued(
     ensures kind { IfOk result (λ s. s.kind ≡ kind) }
 {
     let default = default_of(part, types, kind)?;
-    let range = range_of(part, &kind)?;
     let name = String::from_str(part.alloc, name)?;
-    let spec = property_spec(name, kind, flags, default, range);
+    let whole = property_spec(name, kind, flags, default, whole_range(&kind));
+    check_unranged(part, types, &whole)?;
+    let range = range_of(part, &kind)?;
+    let spec = with_range(whole, range);
     check_default(part, types, &spec)?;
     Ok(spec)
 }

@@ -8,7 +8,7 @@ ghost use Rattle.g_values.specs.Reading.{whole_number, number_between};
 ghost use Rattle.builder_defs.specs.Refusals.{Gives, or_value_fault};
 ghost use Rattle.builder_defs.specs.Document.{under, path_of};
 ghost use Rattle.builder_defs.specs.Denoted.Kinds.{lowest, highest};
-ghost use Rattle.builder_defs.specs.Denoted.Ranges.{end_given, end_or, check_filled, range_at};
+ghost use Rattle.builder_defs.specs.Denoted.Ranges.{whole_range, end_given, end_or, check_filled, range_at};
 
 use crate::document::{Part, bad_shape, bad_value, path_under};
 use crate::fault::{DefinitionFault, ReadError};
@@ -23,6 +23,16 @@ use serde_json::Value;
 pub(crate) struct NumberRange {
     pub(crate) min: i128,
     pub(crate) max: i128,
+}
+
+// The range of a kind: all of its numbers.
+pub(crate) fn whole_range(kind: &Kind) -> NumberRange
+    ensures { record { low = result.min; high = result.max } ≡ whole_range (kind_view kind.now) }
+{
+    NumberRange {
+        min: lowest(kind),
+        max: highest(kind),
+    }
 }
 
 // A whole number between two others, both included.

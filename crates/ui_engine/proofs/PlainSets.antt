@@ -29,7 +29,8 @@ use Rattle.builder_defs.specs.Meaning.{IsPlainKind, IsPlain}
 
 -- ** a value of a plain kind
 
-lives_plain : (types : List GType) (os : Objects) (v : Value) (k : kinds.Kind) (s : Spec) → IsPlainKind types k s → has_kind v k ≡ true → lives os v ≡ true
+lives_plain : (types : List GType) (os : Objects) (v : Value) (k : kinds.Kind) (s : Spec) → IsPlainKind types k s
+    → has_kind v k ≡ true → lives os v ≡ true
 lives_plain types os (values.bool b) k s p h = refl
 lives_plain types os (values.whole w n) k s p h = refl
 lives_plain types os (values.text t) k s p h = refl
@@ -42,7 +43,8 @@ lives_plain types os (values.object o) (kinds.enum t) s p h = cc
 lives_plain types os (values.object o) (kinds.flags t) s p h = cc
 lives_plain types os (values.object o) (kinds.object t) s p h = absurd p
 
-pub knows_class : (types : List GType) (living_class : ℕ → Option ℕ) (v : coded.Value) (k : kinds.Kind) (s : Spec) → IsPlainKind types k s → has_kind (value_view v) k ≡ true → KnowsClass living_class v
+pub knows_class : (types : List GType) (living_class : ℕ → Option ℕ) (v : coded.Value) (k : kinds.Kind) (s : Spec) → IsPlainKind types k s
+    → has_kind (value_view v) k ≡ true → KnowsClass living_class v
 knows_class types f (of_value.Bool b) k s p h = tt
 knows_class types f (of_value.Int n) k s p h = tt
 knows_class types f (of_value.UInt n) k s p h = tt
@@ -76,7 +78,8 @@ whole_same kinds.uint64 kinds.uint h = cc
 whole_same kinds.uint64 kinds.int64 h = cc
 whole_same kinds.uint64 kinds.uint64 h = refl
 
-takes_whole : (types : List GType) (w : kinds.Whole) (k : kinds.Kind) (s : specs.Spec) (n : ℤ) → IsPlainKind types k (spec_view s) → has_kind (values.whole w n) k ≡ true → IsWithin w s
+takes_whole : (types : List GType) (w : kinds.Whole) (k : kinds.Kind) (s : specs.Spec) (n : ℤ) → IsPlainKind types k (spec_view s)
+    → has_kind (values.whole w n) k ≡ true → IsWithin w s
 takes_whole types w kinds.bool s n p h = cc
 takes_whole types w (kinds.whole k) s n p h =
     subst (λ v. IsWithin v s) (sym (whole_same w k h)) (record { min_low = p.0; min_high = p.1; max_low = p.2; max_high = p.3 })
@@ -90,7 +93,8 @@ fits_first true b h = refl
 fits_first false b h = cc
 
 -- the default of an enum's property is of the enum
-default_kind : (types : List GType) (t : ℕ) (v : coded.Value) → kind_fits (λ id. None) types (value_view v) (kinds.enum t) ≡ true → value_kind v ≡ kinds.enum t
+default_kind : (types : List GType) (t : ℕ) (v : coded.Value) → kind_fits (λ id. None) types (value_view v) (kinds.enum t) ≡ true
+    → value_kind v ≡ kinds.enum t
 default_kind types t (of_value.Bool b) h = cc
 default_kind types t (of_value.Int n) h = cc
 default_kind types t (of_value.UInt n) h = cc
@@ -105,7 +109,8 @@ default_kind types t (of_value.Flags u bits) h = cc
 default_kind types t (of_value.Object u None) h = cc
 default_kind types t (of_value.Object u (Some o)) h = cc
 
-takes_enum : (types : List GType) (t : ℕ) (n : ℤ) (k : kinds.Kind) (s : specs.Spec) → IsPlainKind types k (spec_view s) → kind_fits (λ id. None) types (value_view s.default) k ≡ true
+takes_enum : (types : List GType) (t : ℕ) (n : ℤ) (k : kinds.Kind) (s : specs.Spec) → IsPlainKind types k (spec_view s)
+    → kind_fits (λ id. None) types (value_view s.default) k ≡ true
     → has_kind (values.enum t n) k ≡ true → (sort_of types t ≡ sorts.enum) × (value_kind s.default ≡ kinds.enum t)
 takes_enum types t n kinds.bool s p fits h = cc
 takes_enum types t n (kinds.whole w) s p fits h = cc
@@ -116,7 +121,8 @@ takes_enum types t n (kinds.enum u) s p fits h =
 takes_enum types t n (kinds.flags u) s p fits h = cc
 takes_enum types t n (kinds.object u) s p fits h = absurd p
 
-takes_flags : (types : List GType) (t bits : ℕ) (k : kinds.Kind) (s : Spec) → IsPlainKind types k s → has_kind (values.flags t bits) k ≡ true → sort_of types t ≡ sorts.flags
+takes_flags : (types : List GType) (t bits : ℕ) (k : kinds.Kind) (s : Spec) → IsPlainKind types k s → has_kind (values.flags t bits) k ≡ true
+    → sort_of types t ≡ sorts.flags
 takes_flags types t bits kinds.bool s p h = cc
 takes_flags types t bits (kinds.whole w) s p h = cc
 takes_flags types t bits kinds.text s p h = cc
@@ -127,7 +133,8 @@ takes_flags types t bits (kinds.flags u) s p h =
 takes_flags types t bits (kinds.object u) s p h = absurd p
 
 -- what validation asks for holds
-pub takes : (types : List GType) (s : specs.Spec) (v : coded.Value) → IsPlain types (spec_view s) → has_kind (value_view v) (kind_view s.kind) ≡ true → Takes types s v
+pub takes : (types : List GType) (s : specs.Spec) (v : coded.Value) → IsPlain types (spec_view s)
+    → has_kind (value_view v) (kind_view s.kind) ≡ true → Takes types s v
 takes types s (of_value.Bool b) p h = tt
 takes types s (of_value.Int n) p h = takes_whole types kinds.int (kind_view s.kind) s n p.kind h
 takes types s (of_value.Text t) p h = tt
@@ -136,7 +143,8 @@ takes types s (of_value.Int64 n) p h = takes_whole types kinds.int64 (kind_view 
 takes types s (of_value.UInt64 n) p h = takes_whole types kinds.uint64 (kind_view s.kind) s (pos n) p.kind h
 takes types s (of_value.Enum t n) p h =
     takes_enum types t n (kind_view s.kind) s p.kind
-    (fits_first (kind_fits (λ id. None) types (value_view s.default) (kind_view s.kind)) (same_value (clamp (λ id. None) types (spec_view s) (value_view s.default)) (value_view s.default)) p.default) h
+    (fits_first (kind_fits (λ id. None) types (value_view s.default) (kind_view s.kind))
+    (same_value (clamp (λ id. None) types (spec_view s) (value_view s.default)) (value_view s.default)) p.default) h
 takes types s (of_value.Flags t n) p h = takes_flags types t n (kind_view s.kind) (spec_view s) p.kind h
 takes types s (of_value.Object t o) p h = tt
 

@@ -9,6 +9,7 @@ use Rattle.ui_machine.specs.Definition.Properties.{Spec}
 use Rattle.ui_machine.specs.Rules.Transform.{zero_value}
 use Rattle.ui_machine.specs.Rules.Validation.{is_valid}
 use Rattle.g_values.specs.Reading.{json_value}
+use Rattle.g_values.specs.View.{is_whole_kind}
 use Rattle.param_specs.specs.declared.error.SpecFault.TheVariants.{DefaultInvalid}
 use Rattle.builder_defs.specs.Refusals.{Refusal, bad_spec, or_value_fault}
 use Rattle.builder_defs.specs.Document.{under}
@@ -24,3 +25,7 @@ default_at path types kind d = default_or_zero (under path (codes "default")) ty
 -- the default may stand in its property
 abbrev pub check_default : List ℕ → List GType → Spec → Result (Unit {0}) Refusal
 check_default path types spec = if is_valid (λ id. None) types spec spec.default then Ok tt else Err (bad_spec path DefaultInvalid)
+
+-- the same of a kind without a range, where no range is awaited
+abbrev pub check_unranged : List ℕ → List GType → Spec → Result (Unit {0}) Refusal
+check_unranged path types spec = if is_whole_kind spec.kind then Ok tt else check_default path types spec

@@ -67,13 +67,15 @@ is_colon x = x == 58
 
 -- what stands before the first colon and what stands behind it, if there is one
 abbrev pub parted : List ℕ → Option (List ℕ × List ℕ)
-parted word = if nat_lt (position_or_len is_colon word) (length word) then Some (before_first is_colon word, after_first is_colon word) else None
+parted word =
+    if nat_lt (position_or_len is_colon word) (length word) then Some (before_first is_colon word, after_first is_colon word) else None
 
 -- the kind of a sort and of the type that a name names: of the enum, or of the flags type
 abbrev pub kind_of_type : List ℕ → List GType → List ℕ → List ℕ → Result Kind Refusal
 kind_of_type path types sort name =
     if bytes_eq sort (codes "enum") then or_refused (unknown path name) (option_map kinds.enum (enum_named types name)) else
-    (if bytes_eq sort (codes "flags") then or_refused (unknown path name) (option_map kinds.flags (flags_named types name)) else Err (shape path))
+    (if bytes_eq sort (codes "flags") then or_refused (unknown path name) (option_map kinds.flags (flags_named types name)) else
+    Err (shape path))
 
 -- the kind of a word, of which these are the parts around the colon
 abbrev pub kind_by : List ℕ → List GType → List ℕ → Option (List ℕ × List ℕ) → Result Kind Refusal

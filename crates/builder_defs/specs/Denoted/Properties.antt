@@ -17,8 +17,8 @@ use Rattle.builder_defs.specs.Refusals.{Refusal, duplicate, bad_spec, limit}
 use Rattle.builder_defs.specs.Document.{under, members_at, text_at, absent_at, only_at}
 use Rattle.builder_defs.specs.Denoted.Kinds.{kind_at}
 use Rattle.builder_defs.specs.Denoted.PropertyFlags.{flags_at}
-use Rattle.builder_defs.specs.Denoted.Ranges.{Range, range_at}
-use Rattle.builder_defs.specs.Denoted.Defaults.{default_at, check_default}
+use Rattle.builder_defs.specs.Denoted.Ranges.{Range, whole_range, range_at}
+use Rattle.builder_defs.specs.Denoted.Defaults.{default_at, check_default, check_unranged}
 
 -- the properties of a type, inherited first, where each type has these of its own
 abbrev pub specs_by : List GType → (ℕ → List Spec) → ℕ → List Spec
@@ -53,10 +53,12 @@ new_property path inherited specs name = if is_property_name name then new_name 
 abbrev pub keys_of_property : List (List ℕ)
 keys_of_property = codes "name" ∷ codes "kind" ∷ codes "flags" ∷ codes "default" ∷ codes "min" ∷ codes "max" ∷ codes "weak" ∷ []
 
--- The spec of a property of this name and kind, with these flags. The default is tested against a range that is not at fault itself.
+-- The spec of a property of this name and kind, with these flags. The default is tested against a range that is not at fault itself, and
+-- at a kind without a range before `min` and `max` are looked at.
 unfoldable pub valued_at : List ℕ → List GType → List ℕ → Kind → ℕ → Data → Result Spec Refusal
 valued_at path types name kind flags d = do
   default ← default_at path types kind d
+  unranged ← check_unranged (under path (codes "default")) types (property_spec name kind flags default (whole_range kind))
   range ← range_at path kind d
   valid ← check_default (under path (codes "default")) types (property_spec name kind flags default range)
   Ok (property_spec name kind flags default range)

@@ -15,6 +15,10 @@ pub record Range : Type 0 where
   pub low : ℤ
   pub high : ℤ
 
+-- the range of a kind: all of its numbers
+abbrev pub whole_range : Kind → Range
+whole_range kind = record { low = lowest kind; high = highest kind }
+
 -- the number that an end is given as, at a kind of whole numbers
 abbrev pub end_given : List ℕ → Kind → Data → Result ℤ Refusal
 end_given path kind d =
