@@ -13,6 +13,8 @@ mod fixtures;
 #[cfg(test)]
 mod g_values_tests;
 #[cfg(test)]
+mod limits_tests;
+#[cfg(test)]
 mod main_context_tests;
 #[cfg(test)]
 mod notify_queue_tests;
