@@ -340,7 +340,7 @@ module _ {d : Definition} (to : ℕ) (id : List ℕ) (t : Due d (words.new to id
           cost,
           deep,
           left_steps t + g.agenda.2,
-          (tt, constructs_good),
+          (tt, constructs_good, λ e. absurd (cc)),
           (let low = g.agenda.4 in let start = (taken t).shallow in let is = deep_is in omega (arith, low, start, is)),
           omega arith,
           above t v next none (left_steps t) refl (new_serves d w o rest) tt

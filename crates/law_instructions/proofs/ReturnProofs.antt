@@ -181,7 +181,7 @@ module _ (d : Definition) (types : TypesRead d) (costs depths : Tables) (most : 
       (g.0, g.1, g.2, (tt, running_none d costs depths (standing w.objects) own frame g.0 g.1 g.3.1), g.4, g.5, g.6) (λ builder b. b) s q
   lands (Answering source ∷ tasks) left g s q = source_takes source tasks left g (omega (arith, s)) (omega (arith, q))
   lands (Calling call ∷ tasks) left g s q = same (Calling call ∷ tasks) left g.3.0 refl (g.0, g.1, g.2, (tt, g.3.1), g.4, g.5, g.6) (λ builder b. b) s q
-  lands (Constructing id todo held ∷ tasks) left g s q = same (Constructing id todo held ∷ tasks) left g.3.0 refl (g.0, g.1, g.2, (tt, g.3.1), g.4, g.5, g.6) (λ builder b. b) s q
+  lands (Constructing id todo held ∷ tasks) left g s q = same (Constructing id todo held ∷ tasks) left g.3.0 refl (g.0, g.1, g.2, (tt, g.3.1, g.3.2), g.4, g.5, g.6) (λ builder b. b) s q
   lands (Building items ∷ tasks) left g s q = same (Building items ∷ tasks) left g.3.0 refl (g.0, g.1, g.2, (tt, g.3.1, g.3.2, g.3.3), g.4, g.5, g.6) (λ builder b. b) s q
   lands (Carrying request ∷ tasks) left g s q = same (Carrying request ∷ tasks) left g.3.0 refl (g.0, g.1, g.2, (tt, g.3.1, g.3.2), g.4, g.5, g.6) (λ builder b. b) s q
   lands (Due source ∷ tasks) left g s q = absurd (omega (arith, q))

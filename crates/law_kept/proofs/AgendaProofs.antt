@@ -238,6 +238,7 @@ module _ (d : Definition) (costs depths : Tables) (v z : View) where
       shallow = g.1.shallow;
       one = g.1.one;
     },
+    g.2,
   )
   task_kept (Building items) w up below steps frames g = g
   task_kept (Carrying request) w up below steps frames g = (

@@ -309,7 +309,7 @@ module _ {d : Definition} (place : ℕ) (items : List Item) (t : First d (Buildi
       cost,
       deep,
       total (item_cost d (costs t)) items,
-      (tt, constructs_good),
+      (tt, constructs_good, λ e. (items, ap (λ (r : List Task). Building items ∷ r) g.agenda.3.1)),
       (let low = g.agenda.4 in let own = g.agenda.3.3.0 in let is = deep_is in omega (arith, low, own, is)),
       omega arith,
       (

@@ -95,7 +95,7 @@ module _ {d : Definition} (id slot : ℕ) (v : Value) (todo : List Making) (held
             left,
             g.agenda.1,
             g.agenda.2,
-            (tt, record { place = c.place; is = c.is; for_builder = c.for_builder; fits = c.fits.1; cheap = omega arith; shallow = c.shallow.1; one = c.one }),
+            (tt, record { place = c.place; is = c.is; for_builder = c.for_builder; fits = c.fits.1; cheap = omega arith; shallow = c.shallow.1; one = c.one }, g.agenda.3.2),
             g.agenda.4,
             omega arith,
             g.agenda.6,

@@ -116,6 +116,7 @@ module _ {d : Definition} (id program : ℕ) (todo : List Making) (held : Bool) 
           (
             gives_none d b.p.result b.gives,
             record { place = c.place; is = c.is; for_builder = c.for_builder; fits = c.fits.1; cheap = omega arith; shallow = c.shallow.1; one = c.one },
+            g.agenda.3.2,
           ),
           g.agenda.4,
           omega arith,

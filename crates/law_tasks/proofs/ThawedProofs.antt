@@ -203,7 +203,7 @@ module _ {d : Definition} (id : ℕ) (todo : List Making) (held : Bool) (t : Fir
             g.agenda.0,
             g.agenda.1,
             g.agenda.2,
-            (tt, record { place = c.place; is = c.is; for_builder = c.for_builder; fits = c.fits.1; cheap = (let cheap = c.cheap in omega (arith, cheap)); shallow = c.shallow.1; one = c.one }),
+            (tt, record { place = c.place; is = c.is; for_builder = c.for_builder; fits = c.fits.1; cheap = (let cheap = c.cheap in omega (arith, cheap)); shallow = c.shallow.1; one = c.one }, g.agenda.3.2),
             g.agenda.4,
             omega arith,
             g.agenda.6,

@@ -1,9 +1,9 @@
 -- Each task, within its steps and frames, and the agenda, which splits the budget.
-use Rattle.std.specs.Prelude.{◌≡◌, ℕ, ◌+◌, ◌≤◌, List, [], ◌∷◌, Some}
+use Rattle.std.specs.Prelude.{◌≡◌, Bool, true, ℕ, ◌+◌, ◌≤◌, List, [], ◌∷◌, Some}
 use Rattle.ui_machine.specs.Seq.{total}
 use Rattle.ui_machine.specs.Definition.{Definition}
 use Rattle.ui_machine.specs.State.Sources.{Source}
-use Rattle.ui_machine.specs.State.Tasks.{Task, Setting, Notifying, Beginning, Emitting, Transferring, Unsetting, Thawing, Running, Answering, Calling, Constructing, Building, Carrying, Due}
+use Rattle.ui_machine.specs.State.Tasks.{Item, Task, Setting, Notifying, Beginning, Emitting, Transferring, Unsetting, Thawing, Running, Answering, Calling, Constructing, Building, Carrying, Due}
 use Rattle.law_typing.specs.Graph.Tables.{Tables, of_program}
 use Rattle.law_typing.specs.Verdict.Accepted.{Each}
 use Rattle.law_typing.specs.Good.Standing.{View}
@@ -13,6 +13,10 @@ use Rattle.law_typing.specs.Good.Emissions.{SettingGood, NotifyingGood, Transfer
 use Rattle.law_typing.specs.Good.Builds.{ConstructingGood, item_cost, item_depth}
 use Rattle.law_typing.specs.Good.Requests.{CarryingGood}
 use Rattle.ui_machine.specs.State.Sources as sources
+
+-- The build alone stands below what the builder makes.
+abbrev pub OnBuild : (held : Bool) → (below : List Task) → Type 0
+OnBuild held below = held ≡ true → (items : List Item) × (below ≡ Building items ∷ [])
 
 -- Each task, above these, with what comes down to it. Nothing stands below the build, a request or a due source.
 abbrev pub TaskGood : Definition → Tables → Tables → View → Down → List Task → Task → ℕ → ℕ → Type 0
@@ -32,7 +36,7 @@ TaskGood d costs depths w up below (Running frame) steps frames =
 TaskGood d costs depths w up below (Answering source) steps frames = Answers d up
 TaskGood d costs depths w up below (Calling call) steps frames = TakesNone up × CallingGood d w below call
 TaskGood d costs depths w up below (Constructing id todo held) steps frames =
-    TakesNone up × ConstructingGood d costs depths w id todo held steps frames
+    TakesNone up × ConstructingGood d costs depths w id todo held steps frames × OnBuild held below
 TaskGood d costs depths w up below (Building items) steps frames =
     TakesNone up × (below ≡ []) × (total (item_cost d costs) items ≤ steps) × Each (λ item. item_depth d depths item ≤ frames) items
 TaskGood d costs depths w up below (Carrying request) steps frames =
