@@ -33,6 +33,7 @@ pub mod StartingProofs
 pub mod SettlingProofs
 pub mod EndingProofs
 pub mod CarryingProofs
+pub mod BuilderProofs
 pub mod BuildSignalsProofs
 pub mod BuildObjectsProofs
 pub mod BuildEndProofs

@@ -12,7 +12,7 @@ use Rattle.law_typing.specs.Good.Standing.{standing, Lives}
 use Rattle.law_kept.proofs.Lists.{objects_stay}
 use Rattle.law_tasks.specs.Settling.{at_end, SettlingIsFine}
 
-each_without : (P : ℕ → Type 0) (id : ℕ) (ids : List ℕ) → Each P ids → Each P (without id ids)
+pub each_without : (P : ℕ → Type 0) (id : ℕ) (ids : List ℕ) → Each P ids → Each P (without id ids)
 each_without P id [] all = tt
 each_without P id (i ∷ ids) all = go (nat_eq i id) (each_without P id ids all.1)
   where

@@ -1,5 +1,5 @@
 -- Tasks that end.
-use Rattle.std.specs.Prelude.{ℕ, false, []}
+use Rattle.std.specs.Prelude.{ℕ, true, false, []}
 use Rattle.ui_machine.specs.State.Tasks.{Emission, Emitting, Constructing}
 use Rattle.law_tasks.specs.First.{IsFine}
 
@@ -10,3 +10,7 @@ EmissionsEnd = (e : Emission) → IsFine (Emitting e [])
 -- a construction ends that is not the builder's
 abbrev pub ConstructionsEnd : Type 0
 ConstructionsEnd = (id : ℕ) → IsFine (Constructing id [] false)
+
+-- and one that is: the builder holds the object from there on
+abbrev pub BuilderTakes : Type 0
+BuilderTakes = (id : ℕ) → IsFine (Constructing id [] true)

@@ -5,7 +5,7 @@ ghost use Rattle.law_tasks.specs.Freeing.{FreeingsAreFine};
 ghost use Rattle.law_tasks.specs.Starting.{SourcesAreFine, RunsAreFine, ConstructionsSet, ConstructionsThaw, AnsweringsWait};
 ghost use Rattle.law_tasks.specs.Settling.{SettlingIsFine};
 ghost use Rattle.law_tasks.specs.Setting.{DueSetsAreFine};
-ghost use Rattle.law_tasks.specs.Ending.{EmissionsEnd, ConstructionsEnd};
+ghost use Rattle.law_tasks.specs.Ending.{EmissionsEnd, ConstructionsEnd, BuilderTakes};
 ghost use Rattle.law_tasks.specs.Beginning.{BeginningsAreFine};
 ghost use Rattle.law_tasks.specs.Calling.{DueCallsAreFine};
 ghost use Rattle.law_tasks.specs.BuildEnd.{BuildsEnd};
@@ -44,10 +44,11 @@ pub fn settling()
     ensures fine { SettlingIsFine }
 {}
 
-/// An emission ends, with its result to the program that waits for it; and a construction ends that is not the builder's.
+/// An emission ends, with its result to the program that waits for it; and a construction ends. The builder holds the object where it is its own.
 pub fn endings()
     ensures emissions { EmissionsEnd }
     ensures constructions { ConstructionsEnd }
+    ensures builder { BuilderTakes }
 {}
 
 /// Each request: a set is due, or an emission; a property is told, or an object released.
