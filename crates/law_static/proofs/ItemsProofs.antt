@@ -75,7 +75,7 @@ of_signals q n (x ∷ xs) place number (inr h) =
     let k = of_signals q (suc n) xs place number h in
     (k.0, suc k.1, (let m = k.2 in omega (arith, m)), k.3, k.4)
 
-parts_in : (xs ys : List Item) (i : Item) → IsIn i (xs ++ ys) → IsIn i xs ⊎ IsIn i ys
+pub parts_in : (xs ys : List Item) (i : Item) → IsIn i (xs ++ ys) → IsIn i xs ⊎ IsIn i ys
 parts_in [] ys i h = inr h
 parts_in (x ∷ xs) ys i (inl e) = inl (inl e)
 parts_in (x ∷ xs) ys i (inr h) = go (parts_in xs ys i h)

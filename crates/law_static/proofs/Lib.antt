@@ -20,4 +20,5 @@ pub mod AtClass
 pub mod ConstructionProofs
 pub mod AttachedProofs
 pub mod ItemsProofs
+pub mod FollowProofs
 pub mod MakingsProofs

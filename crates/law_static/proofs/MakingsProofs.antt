@@ -28,7 +28,7 @@ use Rattle.law_static.proofs.PlanCostProofs.{total_append}
 -- ** what holds of each item
 
 module _ (P : Item → Type 0) where
-  each_made : ((n : ℕ) → P (makes n)) → ((n : ℕ) → P (adopts n)) → (n : ℕ) (ps : List Place) → Each P (made_items n ps)
+  pub each_made : ((n : ℕ) → P (makes n)) → ((n : ℕ) → P (adopts n)) → (n : ℕ) (ps : List Place) → Each P (made_items n ps)
   each_made mk ad n [] = tt
   each_made mk ad n (p ∷ ps) = each_append P (cond p.is_prototype [] (makes n ∷ adopts_if n p.parent)) (made_items (suc n) ps) (go p.is_prototype p.parent) (each_made mk ad (suc n) ps)
     where
@@ -37,7 +37,7 @@ module _ (P : Item → Type 0) where
       go false None = (mk n, tt)
       go false (Some above) = (mk n, (ad n, tt))
 
-  each_forward : ((n slot to : ℕ) → P (forwards n slot to)) → (n : ℕ) (ps : List Place) → Each P (forward_items n ps)
+  pub each_forward : ((n slot to : ℕ) → P (forwards n slot to)) → (n : ℕ) (ps : List Place) → Each P (forward_items n ps)
   each_forward fw n [] = tt
   each_forward fw n (p ∷ ps) = each_append P (cond p.is_prototype [] (flat_map (forward_of n) p.given)) (forward_items (suc n) ps) (go p.is_prototype) (each_forward fw (suc n) ps)
     where
@@ -53,26 +53,26 @@ module _ (P : Item → Type 0) where
       go true = tt
       go false = each_flat P (forward_of n) p.given (λ g h. one g.slot g.given)
 
-  each_numbered : {A : Type 0} (item : ℕ → Item) → ((n : ℕ) → P (item n)) → (n : ℕ) (xs : List A) → Each P (numbered item n xs)
+  pub each_numbered : {A : Type 0} (item : ℕ → Item) → ((n : ℕ) → P (item n)) → (n : ℕ) (xs : List A) → Each P (numbered item n xs)
   each_numbered item h n [] = tt
   each_numbered item h n (x ∷ xs) = (h n, each_numbered item h (suc n) xs)
 
-  each_connected : ((place n : ℕ) → P (connects place n)) → (n : ℕ) (ps : List Place) → Each P (connected_items n ps)
+  pub each_connected : ((place n : ℕ) → P (connects place n)) → (n : ℕ) (ps : List Place) → Each P (connected_items n ps)
   each_connected h n [] = tt
   each_connected h n (p ∷ ps) = each_append P (numbered (connects n) 0 p.signals) (connected_items (suc n) ps) (each_numbered (connects n) (h n) 0 p.signals) (each_connected h (suc n) ps)
 
-all_zero : (f : Item → ℕ) (xs : List Item) → Each (λ i. f i ≡ 0) xs → total f xs ≡ 0
+pub all_zero : (f : Item → ℕ) (xs : List Item) → Each (λ i. f i ≡ 0) xs → total f xs ≡ 0
 all_zero f [] all = refl
 all_zero f (x ∷ xs) all = let h = all_zero f xs all.1 in let z = all.0 in omega (arith, h, z)
 
-abbrev Later : Item → Type 0
+abbrev pub Later : Item → Type 0
 Later item = is_making item ≡ 0
 
-abbrev late_items : Definition → List Item
+abbrev pub late_items : Definition → List Item
 late_items d = forward_items 0 d.places ++ (numbered binds 0 d.bindings ++ connected_items 0 d.places)
 
 -- after the objects no object is made
-late_make_none : (d : Definition) → Each Later (late_items d)
+pub late_make_none : (d : Definition) → Each Later (late_items d)
 late_make_none d =
     each_append Later (forward_items 0 d.places) (numbered binds 0 d.bindings ++ connected_items 0 d.places) (each_forward Later (λ n slot to. refl) 0 d.places)
     (each_append Later (numbered binds 0 d.bindings) (connected_items 0 d.places) (each_numbered Later binds (λ n. refl) 0 d.bindings) (each_connected Later (λ place n. refl) 0 d.places))
@@ -103,7 +103,7 @@ pub record Among (ps : List Place) (n place : ℕ) (before : List Item) : Type 0
   pub at : place ≡ n + k
   pub count : total is_making before ≡ k
 
-abbrev InOrder : List Place → Type 0
+abbrev pub InOrder : List Place → Type 0
 InOrder ps = (j k : ℕ) (p q : Place) → slice_get ps j ≡ Some p → slice_get ps k ≡ Some q → p.is_prototype ≡ true → q.is_prototype ≡ false → k < j
 
 among : (late : List Item) → Each Later late → (n : ℕ) (ps : List Place) → InOrder ps → (before items : List Item) (place : ℕ) → made_items n ps ++ late ≡ before ++ makes place ∷ items → Among ps n place before
@@ -151,7 +151,7 @@ among late all n (p ∷ ps) order before items place e = go p.is_prototype p.par
         grouped [] ys zs = refl
         grouped (x ∷ xs) ys zs = ap (λ (ws : List Item). x ∷ ws) (grouped xs ys zs)
 
-bind_count : {A : Type 0} (n : ℕ) (xs : List A) → total is_binding (numbered binds n xs) ≡ length xs
+pub bind_count : {A : Type 0} (n : ℕ) (xs : List A) → total is_binding (numbered binds n xs) ≡ length xs
 bind_count n [] = refl
 bind_count n (x ∷ xs) = let h = bind_count (suc n) xs in omega (arith, h)
 

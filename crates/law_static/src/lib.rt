@@ -10,7 +10,7 @@ ghost use Rattle.law_static.specs.Fits.{HoldsFits, HoldsLive, HoldsKind, HoldsSe
 ghost use Rattle.law_static.specs.Code.{InstructionsTaken, ProgramsGoOn, ProgramsWait, ProgramsBegin, FirstRegistersFit};
 ghost use Rattle.law_static.specs.Raises.{ChannelsKnown, ConnectionsKnown, SourcesKnown};
 ghost use Rattle.law_static.specs.Makings.{ObjectsComeFirst, ItemsCostLess, AllAreMade};
-ghost use Rattle.law_static.specs.Items.{SignalsComeLast};
+ghost use Rattle.law_static.specs.Items.{SignalsComeLast, AdoptsFollow, ForwardsFollow, BindingsFollow};
 ghost use Rattle.law_static.specs.Attached.{AttachedFit, AttachedArePaid};
 ghost use Rattle.law_static.specs.Means.{HandlersMean, RaisedKnown};
 ghost use Rattle.law_static.specs.Starts.{StartsReach, DueWithin};
@@ -116,9 +116,13 @@ pub fn constructions()
     ensures thaw { ConstructionsThaw }
 {}
 
-/// The build makes its objects first, in the order of the places, and what it connects later is reckoned at each channel.
+/// The build makes its objects first, in the order of the places, and what it connects later is reckoned at each channel. An adoption follows its
+/// object, and forward values and bindings follow all objects.
 pub fn items()
     ensures first { ObjectsComeFirst }
     ensures less { ItemsCostLess }
     ensures made { AllAreMade }
+    ensures adopts { AdoptsFollow }
+    ensures forwards { ForwardsFollow }
+    ensures bindings { BindingsFollow }
 {}
