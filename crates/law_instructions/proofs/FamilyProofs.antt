@@ -25,12 +25,12 @@ use Rattle.law_typing.specs.Rules.Typing.{after}
 use Rattle.law_typing.specs.Verdict.Accepted.{Each}
 use Rattle.law_typing.specs.Laws.{IsIn}
 use Rattle.law_typing.specs.Good.Standing.{standing, view, Lives}
-use Rattle.law_typing.specs.Good.Objects.{FamilyGood}
+use Rattle.law_typing.specs.Good.Objects.{FamilyGood, ObjectsGood}
 use Rattle.law_typing.specs.Good.Freezes.{carried}
 use Rattle.law_typing.proofs.Lists.{each_append}
 use Rattle.law_typing.proofs.EdgeProofs.{append_left, append_right}
 use Rattle.law_kept.specs.Agenda.{Serves}
-use Rattle.law_kept.specs.Family.{Kin, with_families}
+use Rattle.law_kept.specs.Family.{Kin, FamiliesGood, with_families}
 use Rattle.law_kept.proofs.FamilyProofs.{families_keep}
 use Rattle.law_kept.proofs.DisposeProofs.{changed_here, put_apart, Was, was, place_same, sum_changed}
 use Rattle.law_instructions.specs.Families.{FamiliesAreFine}
@@ -53,7 +53,7 @@ in_without id other (i ∷ ids) apart h = go (nat_eq i id) refl h (λ h. in_with
     go false e (inl s) later = inl s
     go false e (inr h) later = inr (later h)
 
-each_without : (P : ℕ → Type 0) (id : ℕ) (ids : List ℕ) → Each P ids → Each P (without id ids)
+pub each_without : (P : ℕ → Type 0) (id : ℕ) (ids : List ℕ) → Each P ids → Each P (without id ids)
 each_without P id [] all = tt
 each_without P id (i ∷ ids) all = go (nat_eq i id) (each_without P id ids all.1)
   where
@@ -79,19 +79,19 @@ abbrev with_kids : (List ℕ → List ℕ) → Object → Object
 with_kids kids o = record o { children = kids o.children }
 
 -- an object gets other children, and then one another parent
-abbrev twice : (List ℕ → List ℕ) → Option ℕ → (child parent : ℕ) → Objects → Objects
+abbrev pub twice : (List ℕ → List ℕ) → Option ℕ → (child parent : ℕ) → Objects → Objects
 twice kids above child parent os = updated (with_parent above) child (updated (with_kids kids) parent os)
 
 module _ (kids : List ℕ → List ℕ) (above : Option ℕ) (child parent : ℕ) (os : Objects) where
-  stands_twice : standing (twice kids above child parent os) ≡ standing os
+  pub stands_twice : standing (twice kids above child parent os) ≡ standing os
   stands_twice = fun_ext (λ j. place_same (with_parent above) (λ o. refl) child j (updated (with_kids kids) parent os) ∙ place_same (with_kids kids) (λ o. refl) parent j os)
 
-  sum_twice : (f : Option Object → ℕ) → f None ≡ 0 → ((g : List ℕ → List ℕ) (o : Object) → f (Some (with_kids g o)) ≡ f (Some o)) → ((a : Option ℕ) (o : Object) → f (Some (with_parent a o)) ≡ f (Some o)) →
+  pub sum_twice : (f : Option Object → ℕ) → f None ≡ 0 → ((g : List ℕ → List ℕ) (o : Object) → f (Some (with_kids g o)) ≡ f (Some o)) → ((a : Option ℕ) (o : Object) → f (Some (with_parent a o)) ≡ f (Some o)) →
       total f (twice kids above child parent os) ≡ total f os
   sum_twice f none same also = sum_changed f none (with_parent above) (also above) (updated (with_kids kids) parent os) child ∙ sum_changed f none (with_kids kids) (same kids) os parent
 
   -- what an object was, with its children and its parent now
-  record Before (id : ℕ) (x : Object) : Type 0 where
+  pub record Before (id : ℕ) (x : Object) : Type 0 where
     pub old : Object
     pub was : living os id ≡ Some old
     pub children : List ℕ
@@ -100,7 +100,7 @@ module _ (kids : List ℕ → List ℕ) (above : Option ℕ) (child parent : ℕ
     pub kids_are : (children ≡ kids old.children) ⊎ (children ≡ old.children)
     pub parent_is : ((child ≡ id) × (parents ≡ above)) ⊎ ((child ≡ id → ⊥) × (parents ≡ old.parent))
 
-  before : (id : ℕ) (x : Object) → living (twice kids above child parent os) id ≡ Some x → Before id x
+  pub before : (id : ℕ) (x : Object) → living (twice kids above child parent os) id ≡ Some x → Before id x
   before id x e =
       let y = was (with_parent above) child id (updated (with_kids kids) parent os) x e in
       by y.old (was (with_kids kids) parent id os y.old y.is) y.how
@@ -131,6 +131,50 @@ module _ (kids : List ℕ → List ℕ) (above : Option ℕ) (child parent : ℕ
 
 -- ** the world
 
+module _ {d : Definition} (w : World) (objects : ObjectsGood d w) (kids : List ℕ → List ℕ) (above : Option ℕ) (child parent : ℕ)
+    (still : (id : ℕ) (ids : List ℕ) → (child ≡ id → ⊥) → IsIn id ids → IsIn id (kids ids)) (lives : (ids : List ℕ) → Each (Lives (standing w.objects)) ids → Each (Lives (standing w.objects)) (kids ids))
+    (own : FamilyGood (twice kids above child parent w.objects) child above) where
+  known : (id : ℕ) (o : Option ℕ) → (child ≡ id → ⊥) → FamilyGood w.objects id o → FamilyGood (twice kids above child parent w.objects) id o
+  known id None apart g = tt
+  known id (Some p) apart g = let x = becomes kids above child parent w.objects p g.0 g.1 in (x.0, x.1, by x.0 x.2)
+    where
+      by : (x : Object) → ((parent ≡ p) × (x.children ≡ kids g.0.children)) ⊎ ((parent ≡ p → ⊥) × (x.children ≡ g.0.children)) → IsIn id x.children
+      by x (inl e) = subst (IsIn id) (sym e.1) (still id g.0.children apart g.2)
+      by x (inr e) = subst (IsIn id) (sym e.1) g.2
+
+  kin : (id : ℕ) (x : Object) → Before kids above child parent w.objects id x → Kin w (twice kids above child parent w.objects) id x
+  kin id x b =
+      let o = objects id b.old b.was in
+      let same_children = ap (λ (o : Object). o.children) b.same in
+      let same_parent = ap (λ (o : Object). o.parent) b.same in
+      record {
+        old = b.old;
+        was = b.was;
+        same = subst (λ x. x ≡ record b.old { children = x.children; parent = x.parent }) (sym b.same) refl;
+        children = subst (Each (Lives (standing w.objects))) (sym same_children) (of_kids o.children b.kids_are);
+        parent = subst (FamilyGood (twice kids above child parent w.objects) id) (sym same_parent) (of_parent o.parent b.parent_is);
+      }
+    where
+      of_kids : Each (Lives (standing w.objects)) b.old.children → (b.children ≡ kids b.old.children) ⊎ (b.children ≡ b.old.children) → Each (Lives (standing w.objects)) b.children
+      of_kids all (inl e) = subst (Each (Lives (standing w.objects))) (sym e) (lives b.old.children all)
+      of_kids all (inr e) = subst (Each (Lives (standing w.objects))) (sym e) all
+
+      of_parent : FamilyGood w.objects id b.old.parent → ((child ≡ id) × (b.parents ≡ above)) ⊎ ((child ≡ id → ⊥) × (b.parents ≡ b.old.parent)) →
+          FamilyGood (twice kids above child parent w.objects) id b.parents
+      of_parent good (inl e) = subst (FamilyGood (twice kids above child parent w.objects) id) (sym e.1) (subst (λ id. FamilyGood (twice kids above child parent w.objects) id above) e.0 own)
+      of_parent good (inr e) = subst (FamilyGood (twice kids above child parent w.objects) id) (sym e.1) (known id b.old.parent e.0 good)
+
+  pub families_good : FamiliesGood w (twice kids above child parent w.objects)
+  families_good = record { stands = stands_twice kids above child parent w.objects; kin = λ id x e. kin id x (before kids above child parent w.objects id x e) }
+
+-- a parent knows the child that it gets
+pub own_child : (os : Objects) (child parent : ℕ) (o : Object) → living os parent ≡ Some o → FamilyGood (twice (λ ids. ids ++ child ∷ []) (Some parent) child parent os) child (Some parent)
+own_child os child parent o is = let x = becomes (λ ids. ids ++ child ∷ []) (Some parent) child parent os parent o is in (x.0, x.1, by x.0 x.2)
+  where
+    by : (x : Object) → ((parent ≡ parent) × (x.children ≡ o.children ++ child ∷ [])) ⊎ ((parent ≡ parent → ⊥) × (x.children ≡ o.children)) → IsIn child x.children
+    by x (inl e) = subst (IsIn child) (sym e.1) (append_right o.children (child ∷ []) child (inl refl))
+    by x (inr e) = absurd (e.0 refl)
+
 module _ {d : Definition} {i : Instruction} (t : Due d i) (plain : is_bracket i ≡ false) (kids : List ℕ → List ℕ) (above : Option ℕ) (child parent : ℕ)
     (still : (id : ℕ) (ids : List ℕ) → (child ≡ id → ⊥) → IsIn id ids → IsIn id (kids ids)) (lives : (ids : List ℕ) → Each (Lives (standing t.w.objects)) ids → Each (Lives (standing t.w.objects)) (kids ids))
     (own : FamilyGood (twice kids above child parent t.w.objects) child above) where
@@ -139,40 +183,11 @@ module _ {d : Definition} {i : Instruction} (t : Due d i) (plain : is_bracket i 
   abbrev os : Objects
   os = twice kids above child parent w.objects
 
-  known : (id : ℕ) (o : Option ℕ) → (child ≡ id → ⊥) → FamilyGood w.objects id o → FamilyGood os id o
-  known id None apart g = tt
-  known id (Some p) apart g = let x = becomes kids above child parent w.objects p g.0 g.1 in (x.0, x.1, by x.0 x.2)
-    where
-      by : (x : Object) → ((parent ≡ p) × (x.children ≡ kids g.0.children)) ⊎ ((parent ≡ p → ⊥) × (x.children ≡ g.0.children)) → IsIn id x.children
-      by x (inl e) = subst (IsIn id) (sym e.1) (still id g.0.children apart g.2)
-      by x (inr e) = subst (IsIn id) (sym e.1) g.2
-
-  kin : (id : ℕ) (x : Object) → Before kids above child parent w.objects id x → Kin w os id x
-  kin id x b =
-      let o = g.objects id b.old b.was in
-      let same_children = ap (λ (o : Object). o.children) b.same in
-      let same_parent = ap (λ (o : Object). o.parent) b.same in
-      record {
-        old = b.old;
-        was = b.was;
-        same = subst (λ x. x ≡ record b.old { children = x.children; parent = x.parent }) (sym b.same) refl;
-        children = subst (Each (Lives (standing w.objects))) (sym same_children) (of_kids o.children b.kids_are);
-        parent = subst (FamilyGood os id) (sym same_parent) (of_parent o.parent b.parent_is);
-      }
-    where
-      of_kids : Each (Lives (standing w.objects)) b.old.children → (b.children ≡ kids b.old.children) ⊎ (b.children ≡ b.old.children) → Each (Lives (standing w.objects)) b.children
-      of_kids all (inl e) = subst (Each (Lives (standing w.objects))) (sym e) (lives b.old.children all)
-      of_kids all (inr e) = subst (Each (Lives (standing w.objects))) (sym e) all
-
-      of_parent : FamilyGood w.objects id b.old.parent → ((child ≡ id) × (b.parents ≡ above)) ⊎ ((child ≡ id → ⊥) × (b.parents ≡ b.old.parent)) → FamilyGood os id b.parents
-      of_parent good (inl e) = subst (FamilyGood os id) (sym e.1) (subst (λ id. FamilyGood os id above) e.0 own)
-      of_parent good (inr e) = subst (FamilyGood os id) (sym e.1) (known id b.old.parent e.0 good)
-
   family_moved : (floating : List ℕ) (lines : List (List ℕ)) → Each (Lives (standing w.objects)) floating → Moved t plain (with_families w os floating lines)
   family_moved floating lines all = record {
     whole =
         families_keep d a.weighed.costs a.weighed.depths (Running f ∷ rest) w os floating lines
-        (record { stands = stands_twice kids above child parent w.objects; kin = λ id x e. kin id x (before kids above child parent w.objects id x e) }) all
+        (families_good w g.objects kids above child parent still lives own) all
         (record { objects = g.objects; handlers = g.handlers; bindings = g.bindings; sources = g.sources; held = g.held; floating = g.floating; pairs = g.pairs });
     stands = stands_twice kids above child parent w.objects;
     served = subst (λ s. Serves d rest (view w) (record (view w) { stands = s })) (sym (stands_twice kids above child parent w.objects)) (serves_itself d rest (view w));
@@ -229,11 +244,7 @@ module _ {d : Definition} (to parent child : ℕ) (t : Due d (words.adopt to par
       (adopt_writes d t.w t.rest (past t.f) to parent child p.id c.id p.o c.o p.asked c.asked p.lives c.lives (is_unadoptable p.id p.o c.id c.o) refl)
     where
       own : FamilyGood (twice (λ ids. ids ++ c.id ∷ []) (Some p.id) c.id p.id t.w.objects) c.id (Some p.id)
-      own = let x = becomes (λ ids. ids ++ c.id ∷ []) (Some p.id) c.id p.id t.w.objects p.id p.o p.lives in (x.0, x.1, by x.0 x.2)
-        where
-          by : (x : Object) → ((p.id ≡ p.id) × (x.children ≡ p.o.children ++ c.id ∷ [])) ⊎ ((p.id ≡ p.id → ⊥) × (x.children ≡ p.o.children)) → IsIn c.id x.children
-          by x (inl e) = subst (IsIn c.id) (sym e.1) (append_right p.o.children (c.id ∷ []) c.id (inl refl))
-          by x (inr e) = absurd (e.0 refl)
+      own = own_child t.w.objects c.id p.id p.o p.lives
 
       at : standing t.w.objects c.id ≡ Some c.o.place
       at = ap (option_map (λ (o : Object). o.place)) c.lives
