@@ -79,7 +79,7 @@ stands_there d class number s (Some x) notify has e = go (nat_eq number 0) refl 
 
 -- ** what the builder holds
 
-held_below : (builder : List Held) → Each (λ (h : Held). (id : ℕ) × (h ≡ built id)) builder → (place : ℕ) → place < length builder → (id : ℕ) × (read unbuilt builder place ≡ built id)
+pub held_below : (builder : List Held) → Each (λ (h : Held). (id : ℕ) × (h ≡ built id)) builder → (place : ℕ) → place < length builder → (id : ℕ) × (read unbuilt builder place ≡ built id)
 held_below [] all place low = absurd (omega (arith, low))
 held_below (h ∷ hs) all zero low = all.0
 held_below (h ∷ hs) all (suc place) low = held_below hs all.1 place (omega (arith, low))

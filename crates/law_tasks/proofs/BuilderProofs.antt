@@ -1,5 +1,5 @@
 -- The builder's construction ends: the builder holds the object, and the build goes on.
-use Rattle.std.proofs.Common.{◌≡◌, inl, inr, ◌⊎◌, refl, sym, ap, subst, ◌∙◌, ℕ, zero, suc, Bool, true, false, cond, List, [], ◌∷◌, ◌++◌, length, Option, Some, Ok, arith}
+use Rattle.std.proofs.Common.{◌≡◌, inl, inr, ◌⊎◌, refl, sym, ap, subst, ◌∙◌, ℕ, zero, suc, Bool, true, false, cond, List, [], ◌∷◌, ◌++◌, length, Some, Ok, arith}
 use Rattle.std.specs.Prelude.{nat_eq}
 use Rattle.ui_machine.specs.Seq.{read, write, total}
 use Rattle.ui_machine.specs.Definition.{Definition}
@@ -15,7 +15,7 @@ use Rattle.law_typing.specs.Good.Standing.{standing, Lives}
 use Rattle.law_typing.specs.Good.Objects.{PeersGood}
 use Rattle.law_typing.specs.Good.Bindings.{HeldGood}
 use Rattle.law_typing.specs.Good.Builds.{BuildGood}
-use Rattle.law_typing.specs.Good.Freezes.{frozen_by, QueuesGood}
+use Rattle.law_typing.specs.Good.Freezes.{QueuesGood}
 use Rattle.law_typing.specs.Good.DueCosts.{unsets}
 use Rattle.law_typing.proofs.Lists.{each_append}
 use Rattle.law_kept.specs.Write.{Whole}

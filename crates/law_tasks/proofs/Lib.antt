@@ -35,5 +35,9 @@ pub mod EndingProofs
 pub mod CarryingProofs
 pub mod BuilderProofs
 pub mod BuildSignalsProofs
+pub mod Built
+pub mod BuildForwardsProofs
+pub mod BuildBindingsProofs
+pub mod BuildAdoptionsProofs
 pub mod BuildObjectsProofs
 pub mod BuildEndProofs

@@ -1,5 +1,5 @@
 -- A construction thaws its object: what waited in the queue is due, above the rest of the construction.
-use Rattle.std.proofs.Common.{◌≡◌, refl, sym, ap, subst, ◌∙◌, ℕ, suc, ◌+◌, ◌-◌, ◌<◌, ◌≤◌, Bool, true, false, cond, List, [], ◌∷◌, Option, Some, Ok, arith}
+use Rattle.std.proofs.Common.{◌≡◌, refl, sym, ap, subst, ◌∙◌, ℕ, suc, ◌+◌, ◌-◌, ◌≤◌, Bool, true, false, cond, List, [], ◌∷◌, Option, Some, arith}
 use Rattle.std.specs.Prelude.{nat_eq, option_map}
 use Rattle.std.proofs.lemmas.Bool.{eq-eqb, eqb-true, eqb-false}
 use Rattle.ui_machine.specs.Seq.{total}
@@ -13,13 +13,11 @@ use Rattle.ui_machine.specs.State.Config.{World, with_objects, starts}
 use Rattle.ui_machine.specs.State.Objects.{Object, living, put, changed}
 use Rattle.ui_machine.specs.State.Tasks.{Making, thaws, Task, Thawing, Constructing}
 use Rattle.ui_machine.specs.Steps.{uncounted}
-use Rattle.law_typing.specs.Graph.{graph}
 use Rattle.law_typing.specs.Graph.Channels.{property, spec_at, spec_if}
-use Rattle.law_typing.specs.Graph.Depths.{depth}
 use Rattle.law_typing.specs.Graph.Tables.{entry}
 use Rattle.law_typing.specs.Verdict.Accepted.{Each}
 use Rattle.law_typing.specs.Laws.StepsKeepGood.{IsGood}
-use Rattle.law_typing.specs.Good.Standing.{standing, view, View}
+use Rattle.law_typing.specs.Good.Standing.{standing, View}
 use Rattle.law_typing.specs.Good.ComingDown.{none}
 use Rattle.law_typing.specs.Good.Agenda.{AgendaGood, frames}
 use Rattle.law_typing.specs.Good.DueCosts.{due_cost, due_depth, queued_cost}

@@ -7,6 +7,9 @@ pub mod Ending
 pub mod Carrying
 pub mod BuildSignals
 pub mod BuildObjects
+pub mod BuildForwards
+pub mod BuildBindings
+pub mod BuildAdoptions
 pub mod BuildEnd
 pub mod Setting
 pub mod Transferring

@@ -9,6 +9,9 @@ ghost use Rattle.law_tasks.specs.Ending.{EmissionsEnd, ConstructionsEnd, Builder
 ghost use Rattle.law_tasks.specs.Beginning.{BeginningsAreFine};
 ghost use Rattle.law_tasks.specs.Calling.{DueCallsAreFine};
 ghost use Rattle.law_tasks.specs.BuildEnd.{BuildsEnd};
+ghost use Rattle.law_tasks.specs.BuildAdoptions.{AdoptionsAreFine};
+ghost use Rattle.law_tasks.specs.BuildBindings.{BindingsAreFine};
+ghost use Rattle.law_tasks.specs.BuildForwards.{ForwardsAreFine};
 ghost use Rattle.law_tasks.specs.BuildObjects.{ObjectsAreFine};
 ghost use Rattle.law_tasks.specs.BuildSignals.{SignalsAreFine};
 ghost use Rattle.law_tasks.specs.Carrying.{RequestsAreFine};
@@ -56,10 +59,13 @@ pub fn carrying()
     ensures fine { RequestsAreFine }
 {}
 
-/// The build makes an object, whose construction is due; it connects a signal of the definition, or it is too late for it; and it ends, where
-/// each place is built.
+/// The build makes an object, whose construction is due; makes it its parent's child; sets a forward value; makes a binding, and connects a signal
+/// of the definition, or it is too late for it; and it ends, where each place is built.
 pub fn building()
     ensures objects { ObjectsAreFine }
+    ensures adoptions { AdoptionsAreFine }
+    ensures forwards { ForwardsAreFine }
+    ensures bindings { BindingsAreFine }
     ensures signals { SignalsAreFine }
     ensures end { BuildsEnd }
 {}
