@@ -33,6 +33,7 @@ pub mod StartingProofs
 pub mod SettlingProofs
 pub mod EndingProofs
 pub mod CarryingProofs
+pub mod StepsProofs
 pub mod BuilderProofs
 pub mod BuildSignalsProofs
 pub mod Built

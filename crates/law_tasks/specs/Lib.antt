@@ -1,4 +1,5 @@
 pub mod First
+pub mod Tasks
 pub mod Freeing
 pub mod Turns
 pub mod Starting

@@ -1,6 +1,9 @@
-//! Laws of the steps that take a task: where nothing is to be finalised first, the step is not stuck and leads to what is good.
+//! Laws of the steps that take a task: where nothing is to be finalised first, the step is not stuck and leads to what is good. With the laws of
+//! finalisation and of instructions it follows that each step of a run of an accepted definition keeps what is good.
 #![tactic(auto)]
 
+ghost use Rattle.law_typing.specs.Laws.StepsKeepGood.{StepsKeepGood};
+ghost use Rattle.law_tasks.specs.Tasks.{TasksAreFine};
 ghost use Rattle.law_tasks.specs.Freeing.{FreeingsAreFine};
 ghost use Rattle.law_tasks.specs.Starting.{SourcesAreFine, RunsAreFine, ConstructionsSet, ConstructionsThaw, AnsweringsWait};
 ghost use Rattle.law_tasks.specs.Settling.{SettlingIsFine};
@@ -98,4 +101,11 @@ pub fn beginning()
 /// A due notification begins: it takes its turns, with the transfers of the bindings that listen.
 pub fn notifying()
     ensures fine { DueNotificationsAreFine }
+{}
+
+/// The step is not stuck and leads to what is good whatever the first task is. So from what is good each step does, with any reply that fits: it
+/// finalises an object, takes the first task, or lets go of what floats.
+pub fn steps()
+    ensures tasks { TasksAreFine }
+    ensures keep { StepsKeepGood }
 {}

@@ -1,0 +1,78 @@
+-- All tasks, from the laws of each; and so each step: it finalises an object, takes the first task, or lets go of what floats.
+use Rattle.std.proofs.Common.{◌≡◌, refl, sym, subst, ℕ, true, false, List, [], ◌∷◌, Option, None, Some}
+use Rattle.ui_machine.specs.State.References.{mentions, next_unheld}
+use Rattle.ui_machine.specs.State.Tasks.{PlanEntry, class_handler, handler, Making, sets, runs, thaws, Item, makes, adopts, forwards, binds, connects, Task, Setting, Notifying, Beginning, Emitting, Transferring, Unsetting, Thawing, Running, Answering, Calling, Constructing, Building, Carrying, Due}
+use Rattle.ui_machine.specs.State.Tasks as config
+use Rattle.ui_machine.specs.Steps.{step, first_of}
+use Rattle.law_typing.specs.Graph.{graph}
+use Rattle.law_typing.specs.Graph.Depths.{depth}
+use Rattle.law_typing.specs.Laws.StepsKeepGood.{IsGood, Fine, Replies, StepsKeepGood}
+use Rattle.law_kept.proofs.FinaliseProofs.{finalisation_is_fine}
+use Rattle.law_instructions.proofs.AllProofs.{programs_keep_good}
+use Rattle.law_tasks.specs.Tasks.{TasksAreFine}
+use Rattle.law_tasks.proofs.BeginningProofs.{beginnings_are_fine}
+use Rattle.law_tasks.proofs.BuildAdoptionsProofs.{adoptions_are_fine}
+use Rattle.law_tasks.proofs.BuildBindingsProofs.{bindings_are_fine}
+use Rattle.law_tasks.proofs.BuildEndProofs.{builds_end}
+use Rattle.law_tasks.proofs.BuildForwardsProofs.{forwards_are_fine}
+use Rattle.law_tasks.proofs.BuildObjectsProofs.{objects_are_fine}
+use Rattle.law_tasks.proofs.BuildSignalsProofs.{signals_are_fine}
+use Rattle.law_tasks.proofs.BuilderProofs.{builder_takes}
+use Rattle.law_tasks.proofs.CallingProofs.{due_calls_are_fine}
+use Rattle.law_tasks.proofs.ConstructingProofs.{constructions_set}
+use Rattle.law_tasks.proofs.EndingProofs.{emissions_end, constructions_end}
+use Rattle.law_tasks.proofs.FreeingProofs.{freeings_are_fine}
+use Rattle.law_tasks.proofs.NotifyingProofs.{due_notifications_are_fine}
+use Rattle.law_tasks.proofs.RequestProofs.{requests_are_fine}
+use Rattle.law_tasks.proofs.SettingProofs.{due_sets_are_fine}
+use Rattle.law_tasks.proofs.SettlingProofs.{settling_is_fine}
+use Rattle.law_tasks.proofs.StartingProofs.{sources_are_fine, runs_are_fine}
+use Rattle.law_tasks.proofs.ThawedProofs.{constructions_thaw}
+use Rattle.law_tasks.proofs.ThawingProofs.{due_thaws_are_fine}
+use Rattle.law_tasks.proofs.TransferProofs.{transfers_are_fine}
+use Rattle.law_tasks.proofs.TransferringProofs.{due_transfers_are_fine}
+use Rattle.law_tasks.proofs.TurnProofs.{class_handlers_are_fine, handlers_are_fine}
+
+pub tasks_are_fine : TasksAreFine
+tasks_are_fine (Setting id slot v) = due_sets_are_fine id slot v
+tasks_are_fine (Notifying id slot) = due_notifications_are_fine id slot
+tasks_are_fine (Beginning e) = beginnings_are_fine e
+tasks_are_fine (Emitting e []) = emissions_end e
+tasks_are_fine (Emitting e (class_handler program cleanup ∷ turns)) = class_handlers_are_fine e program cleanup turns
+tasks_are_fine (Emitting e (handler number ∷ turns)) = handlers_are_fine e number turns
+tasks_are_fine (Emitting e (config.transfer number back ∷ turns)) = transfers_are_fine e number back turns
+tasks_are_fine (Transferring number back) = due_transfers_are_fine number back
+tasks_are_fine (Unsetting number) = freeings_are_fine number
+tasks_are_fine (Thawing id slots) = due_thaws_are_fine id slots
+tasks_are_fine (Running f) = λ d well a most_counted within w rest n sort g settled reply replies. programs_keep_good d well a most_counted within w f rest n g reply
+tasks_are_fine (Answering source) = λ d well a most_counted within w rest n sort g settled reply replies. absurd g.agenda.3
+tasks_are_fine (Calling call) = due_calls_are_fine call
+tasks_are_fine (Constructing id [] false) = constructions_end id
+tasks_are_fine (Constructing id [] true) = builder_takes id
+tasks_are_fine (Constructing id (sets slot v ∷ todo) held) = constructions_set id slot v todo held
+tasks_are_fine (Constructing id (runs program ∷ todo) held) = runs_are_fine id program todo held
+tasks_are_fine (Constructing id (thaws ∷ todo) held) = constructions_thaw id todo held
+tasks_are_fine (Building []) = builds_end
+tasks_are_fine (Building (makes place ∷ items)) = objects_are_fine place items
+tasks_are_fine (Building (adopts place ∷ items)) = adoptions_are_fine place items
+tasks_are_fine (Building (forwards place slot to ∷ items)) = forwards_are_fine place slot to items
+tasks_are_fine (Building (binds number ∷ items)) = bindings_are_fine number items
+tasks_are_fine (Building (connects place number ∷ items)) = signals_are_fine place number items
+tasks_are_fine (Carrying request) = requests_are_fine request
+tasks_are_fine (Due source) = sources_are_fine source
+
+pub steps_keep_good : StepsKeepGood
+steps_keep_good d well a most_counted within c g reply replies = go (next_unheld (mentions d c) c.world.objects) refl
+  where
+    taken : (tasks : List Task) → IsGood d a most_counted (record { world = c.world; agenda = tasks; counted = c.counted }) →
+        next_unheld (mentions d (record { world = c.world; agenda = tasks; counted = c.counted })) c.world.objects ≡ None → Replies d (record { world = c.world; agenda = tasks; counted = c.counted }) reply →
+        Fine d a.weighed.costs a.weighed.depths most_counted (depth (graph d) a.weighed.depths) (step d reply (record { world = c.world; agenda = tasks; counted = c.counted }))
+    taken [] g settled replies = settling_is_fine d a.weighed.costs a.weighed.depths most_counted (depth (graph d) a.weighed.depths) within c.world c.counted g settled reply
+    taken (task ∷ rest) g settled replies = tasks_are_fine task d well a most_counted within c.world rest c.counted tt g settled reply replies
+
+    go : (o : Option ℕ) → next_unheld (mentions d c) c.world.objects ≡ o →
+        Fine d a.weighed.costs a.weighed.depths most_counted (depth (graph d) a.weighed.depths) (step d reply c)
+    go None settled = taken c.agenda g settled replies
+    go (Some id) unheld =
+        subst (λ o. Fine d a.weighed.costs a.weighed.depths most_counted (depth (graph d) a.weighed.depths) (first_of d reply c o)) (sym unheld)
+        (finalisation_is_fine d a.weighed.costs a.weighed.depths most_counted (depth (graph d) a.weighed.depths) within c g id unheld)
