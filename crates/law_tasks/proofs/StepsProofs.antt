@@ -1,5 +1,7 @@
 -- All tasks, from the laws of each; and so each step: it finalises an object, takes the first task, or lets go of what floats.
-use Rattle.std.proofs.Common.{◌≡◌, refl, sym, subst, ℕ, true, false, List, [], ◌∷◌, Option, None, Some}
+use Rattle.std.proofs.Common.{◌≡◌, refl, sym, subst, ℕ, true, false, List, [], ◌∷◌, Option, None, Some, Ok, Err}
+use Rattle.ui_machine.specs.Outcome.{Answer}
+use Rattle.ui_machine.specs.State.Config.{Config}
 use Rattle.ui_machine.specs.State.References.{mentions, next_unheld}
 use Rattle.ui_machine.specs.State.Tasks.{PlanEntry, class_handler, handler, Making, sets, runs, thaws, Item, makes, adopts, forwards, binds, connects, Task, Setting, Notifying, Beginning, Emitting, Transferring, Unsetting, Thawing, Running, Answering, Calling, Constructing, Building, Carrying, Due}
 use Rattle.ui_machine.specs.State.Tasks as config
@@ -7,9 +9,10 @@ use Rattle.ui_machine.specs.Steps.{step, first_of}
 use Rattle.law_typing.specs.Graph.{graph}
 use Rattle.law_typing.specs.Graph.Depths.{depth}
 use Rattle.law_typing.specs.Laws.StepsKeepGood.{IsGood, Fine, Replies, StepsKeepGood}
+use Rattle.law_typing.proofs.RestProofs.{good_is_within}
 use Rattle.law_kept.proofs.FinaliseProofs.{finalisation_is_fine}
 use Rattle.law_instructions.proofs.AllProofs.{programs_keep_good}
-use Rattle.law_tasks.specs.Tasks.{TasksAreFine}
+use Rattle.law_tasks.specs.Tasks.{TasksAreFine, Leads, StepsAreWithin}
 use Rattle.law_tasks.proofs.BeginningProofs.{beginnings_are_fine}
 use Rattle.law_tasks.proofs.BuildAdoptionsProofs.{adoptions_are_fine}
 use Rattle.law_tasks.proofs.BuildBindingsProofs.{bindings_are_fine}
@@ -76,3 +79,15 @@ steps_keep_good d well a most_counted within c g reply replies = go (next_unheld
     go (Some id) unheld =
         subst (λ o. Fine d a.weighed.costs a.weighed.depths most_counted (depth (graph d) a.weighed.depths) (first_of d reply c o)) (sym unheld)
         (finalisation_is_fine d a.weighed.costs a.weighed.depths most_counted (depth (graph d) a.weighed.depths) within c g id unheld)
+
+-- ** what follows
+
+pub steps_are_within : StepsAreWithin
+steps_are_within d well a most_counted within c g reply replies = go (step d reply c) refl (steps_keep_good d well a most_counted within c g reply replies)
+  where
+    go : (answer : Answer Config) → step d reply c ≡ answer → Fine d a.weighed.costs a.weighed.depths most_counted (depth (graph d) a.weighed.depths) answer →
+        Leads d most_counted (depth (graph d) a.weighed.depths) reply c
+    go (Ok next) is good =
+        let within = good_is_within d a.weighed.costs a.weighed.depths most_counted (depth (graph d) a.weighed.depths) next good in
+        record { next = next; is = is; counted = within.0; shallow = within.1 }
+    go (Err arm) is good = absurd good

@@ -3,7 +3,7 @@
 #![tactic(auto)]
 
 ghost use Rattle.law_typing.specs.Laws.StepsKeepGood.{StepsKeepGood};
-ghost use Rattle.law_tasks.specs.Tasks.{TasksAreFine};
+ghost use Rattle.law_tasks.specs.Tasks.{TasksAreFine, StepsAreWithin};
 ghost use Rattle.law_tasks.specs.Freeing.{FreeingsAreFine};
 ghost use Rattle.law_tasks.specs.Starting.{SourcesAreFine, RunsAreFine, ConstructionsSet, ConstructionsThaw, AnsweringsWait};
 ghost use Rattle.law_tasks.specs.Settling.{SettlingIsFine};
@@ -104,8 +104,9 @@ pub fn notifying()
 {}
 
 /// The step is not stuck and leads to what is good whatever the first task is. So from what is good each step does, with any reply that fits: it
-/// finalises an object, takes the first task, or lets go of what floats.
+/// finalises an object, takes the first task, or lets go of what floats. What it leads to is within the bound and the depth.
 pub fn steps()
     ensures tasks { TasksAreFine }
     ensures keep { StepsKeepGood }
+    ensures within { StepsAreWithin }
 {}
