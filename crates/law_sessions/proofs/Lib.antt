@@ -1,0 +1,3 @@
+pub mod DispatchProofs
+pub mod EntryProofs
+pub mod SessionProofs

@@ -1,0 +1,3 @@
+pub mod Dispatches
+pub mod Sessions
+pub mod NeverStuck
