@@ -14,9 +14,11 @@ use Rattle.law_typing.specs.Verdict.{told}
 use Rattle.law_typing.specs.Verdict.Accepted.{Each, Accepted}
 use Rattle.law_typing.specs.Laws.{IsIn}
 use Rattle.law_typing.specs.Laws.WellRead.{WellRead}
+use Rattle.law_typing.specs.Good.Agenda.{frames}
 use Rattle.law_typing.specs.Laws.StepsKeepGood.{IsGood, IsResting, bound_of, Fine, Replies, StepsKeepGood}
 use Rattle.law_typing.proofs.RestProofs.{good_is_within, ends_rest}
 use Rattle.law_sessions.specs.Dispatches.{Keeps, IsUnstuck}
+use Rattle.law_sessions.proofs.ReplyProofs.{unstuck_goes_on}
 
 -- where some replies fit, so does the first one, if there is one, and so do the later ones
 first_fits : (d : Definition) (reply : Option Reply) (later : List Reply) → Each (Fits d) (listed reply ++ later) →
@@ -56,14 +58,12 @@ module _ (keep : StepsKeepGood) (d : Definition) (well : WellRead d) (a : Accept
       subst (Fine d a.weighed.costs a.weighed.depths most (depth (graph d) a.weighed.depths)) stuck.stuck
       (fine c good stuck.reply (record { asks = stuck.asks; fits = fit }))
 
-  counts : (c : Config) → IsGood d a most c → c.counted ≤ most
-  counts c good = (good_is_within d a.weighed.costs a.weighed.depths most (depth (graph d) a.weighed.depths) c good).0
-
   ends : (replies : List Reply) → Each (Fits d) replies → (c : Config) → IsGood d a most c → (count : ℕ) (new : World) →
       Dispatches d replies c count new → (count ≤ most) × IsResting d a new
   ends replies fit c good count new r =
       let last = stays replies fit c r.at good r.reached in (
-        subst (λ n. n ≤ most) r.counts (counts r.at last),
+        subst (λ n. n ≤ most) r.counts
+            (good_is_within d a.weighed.costs a.weighed.depths most (depth (graph d) a.weighed.depths) r.at last).0,
         subst (IsResting d a) r.leaves
             (ends_rest d a.weighed.costs a.weighed.depths most (depth (graph d) a.weighed.depths) r.at last r.ended),
       )
@@ -72,11 +72,22 @@ module _ (keep : StepsKeepGood) (d : Definition) (well : WellRead d) (a : Accept
 pub keeps : StepsKeepGood → (d : Definition) → WellRead d → (a : Accepted d) → (e : Entry) (c : Config) → bound_of d a e ≤ most_steps →
     IsIn e (told (graph d)) ⊎ (bound_of d a e ≡ d.most_objects) → IsGood d a (bound_of d a e) c → Keeps d a e c
 keeps keep d well a e c few printed good = record {
-  never_stuck = λ replies fit at r. unstuck keep d well a (bound_of d a e) few at (stays keep d well a (bound_of d a e) few replies fit c at good r);
-  counted = λ replies fit at r. counts keep d well a (bound_of d a e) few at (stays keep d well a (bound_of d a e) few replies fit c at good r);
-  shallow = λ replies fit at r.
-      (good_is_within d a.weighed.costs a.weighed.depths (bound_of d a e) (depth (graph d) a.weighed.depths) at
-      (stays keep d well a (bound_of d a e) few replies fit c at good r)).1;
-  ends = λ replies fit count new r. ends keep d well a (bound_of d a e) few replies fit c good count new r;
+  never_stuck = λ replies fit at r. free at (stay replies fit at r);
+  goes_on = λ replies fit at r. unstuck_goes_on d at (free at (stay replies fit at r));
+  counted = λ replies fit at r. (within at (stay replies fit at r)).0;
+  shallow = λ replies fit at r. (within at (stay replies fit at r)).1;
+  ends = λ replies fit count new r. ends keep d well a most few replies fit c good count new r;
   printed = printed;
 }
+  where
+    most : ℕ
+    most = bound_of d a e
+
+    stay : (replies : List Reply) → Each (Fits d) replies → (at : Config) → Reaches d replies c at → IsGood d a most at
+    stay replies fit at r = stays keep d well a most few replies fit c at good r
+
+    free : (at : Config) → IsGood d a most at → IsUnstuck d at
+    free at good = unstuck keep d well a most few at good
+
+    within : (at : Config) → IsGood d a most at → (at.counted ≤ most) × (frames at.agenda ≤ depth (graph d) a.weighed.depths)
+    within at good = good_is_within d a.weighed.costs a.weighed.depths most (depth (graph d) a.weighed.depths) at good

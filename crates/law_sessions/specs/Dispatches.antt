@@ -13,6 +13,7 @@ use Rattle.law_typing.specs.Verdict.Accepted.{Each, Accepted}
 use Rattle.law_typing.specs.Good.Agenda.{frames}
 use Rattle.law_typing.specs.Laws.{IsIn}
 use Rattle.law_typing.specs.Laws.StepsKeepGood.{IsResting, bound_of}
+use Rattle.law_sessions.specs.Replies.{GoesOn}
 
 -- no arm stops the next step, whatever reply that fits it takes
 abbrev pub IsUnstuck : Definition → Config → Type 0
@@ -24,8 +25,9 @@ Throughout d c P = (replies : List Reply) → Each (Fits d) replies → (at : Co
 
 -- a dispatch that begins at this configuration, by this entry, keeps what is promised
 pub record Keeps (d : Definition) (a : Accepted d) (e : Entry) (c : Config) : Type 0 where
-  -- it is never stuck
+  -- it is never stuck, and a next step is always there
   pub never_stuck : Throughout d c (IsUnstuck d)
+  pub goes_on : Throughout d c (GoesOn d)
   -- it never has counted more steps than the bound of its entry, and never has more frames than the depth
   pub counted : Throughout d c (λ at. at.counted ≤ bound_of d a e)
   pub shallow : Throughout d c (λ at. frames at.agenda ≤ depth (graph d) a.weighed.depths)
