@@ -1,24 +1,18 @@
 -- A dispatch that begins well stays so, as long as its replies fit.
-use Rattle.std.proofs.Common.{◌≡◌, ◌⊎◌, subst, ℕ, zero, suc, ◌≤◌, List, [], ◌∷◌, ◌++◌, Option, None, Some}
+use Rattle.std.proofs.Common.{subst, ℕ, zero, suc, ◌≤◌, List, [], ◌∷◌, ◌++◌, Option, None, Some}
 use Rattle.std.specs.Prelude.{IfSome}
-use Rattle.ui_machine.specs.declared.arm.Arm.{Arm}
 use Rattle.ui_machine.specs.Definition.{Definition}
 use Rattle.ui_machine.specs.State.Peers.{Reply}
 use Rattle.ui_machine.specs.State.Config.{World, Config}
 use Rattle.ui_machine.specs.Steps.{step, most_steps}
-use Rattle.ui_machine.specs.Runs.{Fits, Step, Steps, Reaches, Dispatches, IsStuck, listed}
-use Rattle.law_typing.specs.Graph.Channels.{Entry}
+use Rattle.ui_machine.specs.Runs.{Fits, Step, Steps, Reaches, Dispatches, listed}
 use Rattle.law_typing.specs.Graph.{graph}
 use Rattle.law_typing.specs.Graph.Depths.{depth}
-use Rattle.law_typing.specs.Verdict.{told}
 use Rattle.law_typing.specs.Verdict.Accepted.{Each, Accepted}
-use Rattle.law_typing.specs.Laws.{IsIn}
 use Rattle.law_typing.specs.Laws.WellRead.{WellRead}
-use Rattle.law_typing.specs.Good.Agenda.{frames}
-use Rattle.law_typing.specs.Laws.StepsKeepGood.{IsGood, IsResting, bound_of, Fine, Replies, StepsKeepGood}
+use Rattle.law_typing.specs.Laws.StepsKeepGood.{IsGood, IsResting, Fine, Replies, StepsKeepGood}
 use Rattle.law_typing.proofs.RestProofs.{good_is_within, ends_rest}
-use Rattle.law_sessions.specs.Dispatches.{Keeps, IsUnstuck}
-use Rattle.law_sessions.proofs.ReplyProofs.{unstuck_goes_on}
+use Rattle.law_sessions.specs.Dispatches.{IsUnstuck}
 
 -- where some replies fit, so does the first one, if there is one, and so do the later ones
 first_fits : (d : Definition) (reply : Option Reply) (later : List Reply) → Each (Fits d) (listed reply ++ later) →
@@ -37,7 +31,7 @@ module _ (keep : StepsKeepGood) (d : Definition) (well : WellRead d) (a : Accept
   fine : (c : Config) → IsGood d a most c → (reply : Option Reply) → Replies d c reply → IsFine reply c
   fine c good reply replies = keep d well a most few c good reply replies
 
-  one_step : (c e : Config) → IsGood d a most c → (reply : Option Reply) → IfSome reply (Fits d) → Step d reply c e → IsGood d a most e
+  pub one_step : (c e : Config) → IsGood d a most c → (reply : Option Reply) → IfSome reply (Fits d) → Step d reply c e → IsGood d a most e
   one_step c e good reply fit s =
       subst (Fine d a.weighed.costs a.weighed.depths most (depth (graph d) a.weighed.depths)) s.leads
       (fine c good reply (record { asks = s.asks; fits = fit }))
@@ -53,12 +47,12 @@ module _ (keep : StepsKeepGood) (d : Definition) (well : WellRead d) (a : Accept
   pub stays : (replies : List Reply) → Each (Fits d) replies → (c e : Config) → IsGood d a most c → Reaches d replies c e → IsGood d a most e
   stays replies fit c e good r = steps r.count replies fit c e good r.steps
 
-  unstuck : (c : Config) → IsGood d a most c → IsUnstuck d c
+  pub unstuck : (c : Config) → IsGood d a most c → IsUnstuck d c
   unstuck c good arm stuck fit =
       subst (Fine d a.weighed.costs a.weighed.depths most (depth (graph d) a.weighed.depths)) stuck.stuck
       (fine c good stuck.reply (record { asks = stuck.asks; fits = fit }))
 
-  ends : (replies : List Reply) → Each (Fits d) replies → (c : Config) → IsGood d a most c → (count : ℕ) (new : World) →
+  pub ends : (replies : List Reply) → Each (Fits d) replies → (c : Config) → IsGood d a most c → (count : ℕ) (new : World) →
       Dispatches d replies c count new → (count ≤ most) × IsResting d a new
   ends replies fit c good count new r =
       let last = stays replies fit c r.at good r.reached in (
@@ -67,27 +61,3 @@ module _ (keep : StepsKeepGood) (d : Definition) (well : WellRead d) (a : Accept
         subst (IsResting d a) r.leaves
             (ends_rest d a.weighed.costs a.weighed.depths most (depth (graph d) a.weighed.depths) r.at last r.ended),
       )
-
--- so it keeps what is promised, where it begins within the bound of its entry
-pub keeps : StepsKeepGood → (d : Definition) → WellRead d → (a : Accepted d) → (e : Entry) (c : Config) → bound_of d a e ≤ most_steps →
-    IsIn e (told (graph d)) ⊎ (bound_of d a e ≡ d.most_objects) → IsGood d a (bound_of d a e) c → Keeps d a e c
-keeps keep d well a e c few printed good = record {
-  never_stuck = λ replies fit at r. free at (stay replies fit at r);
-  goes_on = λ replies fit at r. unstuck_goes_on d at (free at (stay replies fit at r));
-  counted = λ replies fit at r. (within at (stay replies fit at r)).0;
-  shallow = λ replies fit at r. (within at (stay replies fit at r)).1;
-  ends = λ replies fit count new r. ends keep d well a most few replies fit c good count new r;
-  printed = printed;
-}
-  where
-    most : ℕ
-    most = bound_of d a e
-
-    stay : (replies : List Reply) → Each (Fits d) replies → (at : Config) → Reaches d replies c at → IsGood d a most at
-    stay replies fit at r = stays keep d well a most few replies fit c at good r
-
-    free : (at : Config) → IsGood d a most at → IsUnstuck d at
-    free at good = unstuck keep d well a most few at good
-
-    within : (at : Config) → IsGood d a most at → (at.counted ≤ most) × (frames at.agenda ≤ depth (graph d) a.weighed.depths)
-    within at good = good_is_within d a.weighed.costs a.weighed.depths most (depth (graph d) a.weighed.depths) at good

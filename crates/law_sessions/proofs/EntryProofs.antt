@@ -1,5 +1,5 @@
 -- Each entry of a dispatch has a line in the report, or nothing but finalisations can be counted from it; so its bound is small enough.
-use Rattle.std.proofs.Common.{◌≡◌, ◌⊎◌, inl, inr, refl, ap, ℕ, ◌+◌, ◌≤◌, Bool, true, false, List, map, arith}
+use Rattle.std.proofs.Common.{◌≡◌, ◌⊎◌, inl, inr, refl, ℕ, ◌≤◌, Bool, true, false, map, arith}
 use Rattle.ui_machine.specs.Definition.{Definition}
 use Rattle.ui_machine.specs.Steps.{most_steps}
 use Rattle.ui_machine.specs.State.Tasks.{Request}

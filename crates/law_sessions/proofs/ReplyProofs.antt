@@ -1,6 +1,6 @@
 -- A fault is always a reply that fits; so where no step is stuck there is a next one.
 use Rattle.std.proofs.Common.{◌≡◌, refl, sym, ap, ◌∙◌, Option, None, Some, Ok, Err}
-use Rattle.std.specs.Prelude.{IfSome, option_map}
+use Rattle.std.specs.Prelude.{IfSome}
 use Rattle.ui_machine.specs.Definition.{Definition}
 use Rattle.ui_machine.specs.State.Peers.{Question, Reply}
 use Rattle.ui_machine.specs.State.Config.{Config}

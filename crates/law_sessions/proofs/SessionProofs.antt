@@ -1,5 +1,5 @@
 -- Each dispatch of a run begins well, since those before it left the world at rest.
-use Rattle.std.proofs.Common.{◌≡◌, refl, sym, subst, ap, ◌∙◌, ℕ, Bool, true, false, List, [], ◌∷◌, ◌++◌, Option, None, Some}
+use Rattle.std.proofs.Common.{◌≡◌, refl, subst, ℕ, Bool, true, false, List, [], ◌∷◌, ◌++◌, Option, None, Some}
 use Rattle.ui_machine.specs.Definition.{Definition}
 use Rattle.ui_machine.specs.State.Peers.{Peer, Reply}
 use Rattle.ui_machine.specs.State.Sources.{Source, is_numbered, source_of}
@@ -8,7 +8,7 @@ use Rattle.ui_machine.specs.State.Tasks as config
 use Rattle.ui_machine.specs.State.Config.{World, Config}
 use Rattle.ui_machine.specs.Rules.Events.{Refusal, gone, refusal, names_released}
 use Rattle.ui_machine.specs.Rules.MainLoop.{ready_at, turned}
-use Rattle.ui_machine.specs.Runs.{Fits, Tally, Then, Rests, Carries, RunsSource, RunsSources, Comes, Serves, ServesAll, IsRun, beginning, of_build, of_request, first_world}
+use Rattle.ui_machine.specs.Runs.{Fits, Tally, Then, Rests, Carries, RunsSource, RunsSources, Comes, Serves, ServesAll, IsRun, beginning, of_build, of_request}
 use Rattle.law_typing.specs.Graph.Channels.{Entry}
 use Rattle.law_typing.specs.Graph.Channels as entries
 use Rattle.law_typing.specs.Verdict.Accepted.{Each, Accepted}
@@ -27,8 +27,9 @@ use Rattle.law_static.proofs.SourceProofs.{sources_begin}
 use Rattle.law_sessions.specs.Dispatches.{Keeps}
 use Rattle.law_sessions.specs.Sessions as sessions
 use Rattle.law_sessions.specs.Sessions.{EventRead, Dispatch, building, serving, turning, entry_to, beginning_of}
-use Rattle.law_sessions.specs.NeverStuck.{RunsKeep, NeverStuck, ReportIsKept, RunsRest, BySteps}
-use Rattle.law_sessions.proofs.DispatchProofs.{both_fit, keeps}
+use Rattle.law_sessions.specs.NeverStuck.{NeverStuck, ReportIsKept, RunsRest, BySteps}
+use Rattle.law_sessions.proofs.DispatchProofs.{both_fit}
+use Rattle.law_sessions.proofs.KeepsProofs.{keeps}
 use Rattle.law_sessions.proofs.EntryProofs.{IsPrinted, source_printed, build_printed, request_printed, printed_few}
 
 module _ (keep : StepsKeepGood) (d : Definition) (well : WellRead d) (a : Accepted d) where

@@ -1,10 +1,9 @@
 -- The premises of the promise are met.
-use Rattle.std.proofs.Common.{◌≡◌, refl, subst, ℕ, zero, suc, [], ◌∷◌, Option, None, Some, arith}
+use Rattle.std.proofs.Common.{refl, subst, zero, suc, [], ◌∷◌, Option, None, Some, arith}
 use Rattle.std.specs.Prelude.{⊤}
 use Rattle.ui_machine.specs.Definition.Places.{Place}
-use Rattle.law_typing.specs.Verdict.Accepted.{Each, Accepted}
+use Rattle.law_typing.specs.Verdict.Accepted.{Each}
 use Rattle.law_typing.specs.Examples.LastReference.{definition, lines}
-use Rattle.law_typing.specs.Laws.WellRead.{WellRead}
 use Rattle.law_typing.specs.Laws.StepsKeepGood.{PeerReady, PoolReady}
 use Rattle.law_typing.specs.Laws.Beginnings.{tally}
 use Rattle.law_typing.proofs.JudgedProofs.{judged_is_accepted}

@@ -14,6 +14,7 @@ use Rattle.law_typing.specs.Good.Agenda.{frames}
 use Rattle.law_typing.specs.Laws.{IsIn}
 use Rattle.law_typing.specs.Laws.StepsKeepGood.{IsResting, bound_of}
 use Rattle.law_sessions.specs.Replies.{GoesOn}
+use Rattle.law_sessions.specs.Endings.{ComesToEnd}
 
 -- no arm stops the next step, whatever reply that fits it takes
 abbrev pub IsUnstuck : Definition → Config → Type 0
@@ -31,7 +32,9 @@ pub record Keeps (d : Definition) (a : Accepted d) (e : Entry) (c : Config) : Ty
   -- it never has counted more steps than the bound of its entry, and never has more frames than the depth
   pub counted : Throughout d c (λ at. at.counted ≤ bound_of d a e)
   pub shallow : Throughout d c (λ at. frames at.agenda ≤ depth (graph d) a.weighed.depths)
-  -- so its `end` line tells no more steps than the bound, and it leaves the world at rest
+  -- it comes to its end, whatever its peers reply
+  pub comes_to_end : ComesToEnd d c
+  -- there its `end` line tells no more steps than the bound, and it leaves the world at rest
   pub ends : (replies : List Reply) → Each (Fits d) replies → (count : ℕ) (new : World) → Dispatches d replies c count new →
       (count ≤ bound_of d a e) × IsResting d a new
   -- the bound is that of a line of the report; where the report has none for the entry, it is the limit of objects

@@ -1,4 +1,5 @@
 pub mod Replies
+pub mod Endings
 pub mod Dispatches
 pub mod Sessions
 pub mod NeverStuck

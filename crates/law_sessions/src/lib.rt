@@ -6,8 +6,8 @@ ghost use Rattle.law_sessions.specs.Replies.{QuestionsAreAnswered};
 ghost use Rattle.law_sessions.specs.WorkedSession.{PremisesMet};
 
 /// Where each step keeps what is good, each dispatch of each run of an accepted definition keeps what is promised: it is never stuck,
-/// its counted steps are within the bound of its entry, its frames within the depth, and it leaves the world at rest. So it is for what
-/// is judged to be accepted, by the numbers of its report.
+/// its counted steps are within the bound of its entry, its frames within the depth, it comes to its end, and it leaves the world at
+/// rest. So it is for what is judged to be accepted, by the numbers of its report.
 pub fn runs()
     ensures keep { BySteps NeverStuck }
     ensures report { BySteps ReportIsKept }
