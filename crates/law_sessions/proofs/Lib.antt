@@ -5,4 +5,5 @@ pub mod EndProofs
 pub mod KeepsProofs
 pub mod EntryProofs
 pub mod SessionProofs
+pub mod ThereProofs
 pub mod WorkedProofs

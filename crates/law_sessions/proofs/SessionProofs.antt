@@ -38,10 +38,10 @@ module _ (keep : StepsKeepGood) (d : Definition) (well : WellRead d) (a : Accept
   begun : (e : Entry) (c : Config) → IsPrinted d a e → IsGood d a (bound_of d a e) c → Keeps d a e c
   begun e c printed good = keeps keep d well a e c (printed_few d a well e printed) printed good
 
-  build_keeps : (peers : List Peer) → PoolReady d peers → Keeps d a entries.build (of_build d peers)
+  pub build_keeps : (peers : List Peer) → PoolReady d peers → Keeps d a entries.build (of_build d peers)
   build_keeps peers ready = begun entries.build (of_build d peers) (build_printed d a) (build_begins d well a peers ready)
 
-  request_keeps : (w : World) → IsResting d a w → (r : Request) → RequestRead d r → names_released w r ≡ false →
+  pub request_keeps : (w : World) → IsResting d a w → (r : Request) → RequestRead d r → names_released w r ≡ false →
       Keeps d a (entry_of d r) (of_request w r)
   request_keeps w rest r fits kept = begun (entry_of d r) (of_request w r) (request_printed d a r) (requests_begin d well a w rest r fits kept)
 
@@ -50,7 +50,7 @@ module _ (keep : StepsKeepGood) (d : Definition) (well : WellRead d) (a : Accept
   source_known w rest number s is =
       each_in (SourceGood d (standing w.objects)) w.sources rest.sources s (find_in (is_numbered number) w.sources s is).0
 
-  source_keeps : (w : World) → IsResting d a w → (number : ℕ) (s : Source) → source_of number w.sources ≡ Some s →
+  pub source_keeps : (w : World) → IsResting d a w → (number : ℕ) (s : Source) → source_of number w.sources ≡ Some s →
       Keeps d a (entries.source s.program) (beginning w (Due number))
   source_keeps w rest number s is =
       begun (entries.source s.program) (beginning w (Due number)) (source_printed d a s.program (source_known w rest number s is).told)
@@ -58,11 +58,11 @@ module _ (keep : StepsKeepGood) (d : Definition) (well : WellRead d) (a : Accept
 
   -- ** which leave the world at rest
 
-  carried : (e : Entry) (c : Config) → Keeps d a e c → (replies : List Reply) → Each (Fits d) replies → (tally : Tally) (new : World) →
+  pub carried : (e : Entry) (c : Config) → Keeps d a e c → (replies : List Reply) → Each (Fits d) replies → (tally : Tally) (new : World) →
       Carries d c replies tally new → IsResting d a new
   carried e c kept replies fit tally new h = (kept.ends replies fit h.steps new h.dispatches).1
 
-  abbrev Leaves : (List Reply → World → Tally → World → Type 0) → Type 0
+  abbrev pub Leaves : (List Reply → World → Tally → World → Type 0) → Type 0
   Leaves Leads = (replies : List Reply) → Each (Fits d) replies → (w : World) (tally : Tally) (new : World) → IsResting d a w →
       Leads replies w tally new → IsResting d a new
 
@@ -74,7 +74,7 @@ module _ (keep : StepsKeepGood) (d : Definition) (well : WellRead d) (a : Accept
       let parts = both_fit d h.first h.later (subst (Each (Fits d)) h.replied fit) in
       later h.later parts.1 h.mid h.later_tally new (first h.first parts.0 w h.first_tally h.mid rest h.begins) h.goes_on
 
-  runs_source : (number : ℕ) → Leaves (λ replies w. RunsSource d number (source_of number w.sources) replies w)
+  pub runs_source : (number : ℕ) → Leaves (λ replies w. RunsSource d number (source_of number w.sources) replies w)
   runs_source number replies fit w tally new rest = go (source_of number w.sources) refl
     where
       go : (o : Option Source) → source_of number w.sources ≡ o → RunsSource d number o replies w tally new → IsResting d a new
@@ -86,18 +86,18 @@ module _ (keep : StepsKeepGood) (d : Definition) (well : WellRead d) (a : Accept
   runs_sources (number ∷ more) =
       both (λ replies w. RunsSource d number (source_of number w.sources) replies w) (RunsSources d more) (runs_source number) (runs_sources more)
 
-  turns : (w : World) (moment : ℕ) → IsResting d a w → IsResting d a (turned d w moment)
+  pub turns : (w : World) (moment : ℕ) → IsResting d a w → IsResting d a (turned d w moment)
   turns w moment rest = turns_rest d a.weighed.costs a.weighed.depths w moment rest
 
   -- a request that is not refused names no released object
-  not_released : (w : World) (r : Request) → refusal w (config.request r) ≡ None → names_released w r ≡ false
+  pub not_released : (w : World) (r : Request) → refusal w (config.request r) ≡ None → names_released w r ≡ false
   not_released w r = go (names_released w r)
     where
       go : (b : Bool) → ◌≡◌ {A = Option Refusal} (elim b [ true ↦ Some gone | false ↦ None ]) None → b ≡ false
       go true e = absurd (cc)
       go false e = refl
 
-  serves : (event : Event) → EventRead d event → Leaves (Serves d event)
+  pub serves : (event : Event) → EventRead d event → Leaves (Serves d event)
   serves event fits replies fit w tally new rest = go event fits (refusal w event) refl
     where
       go : (event : Event) → EventRead d event → (why : Option Refusal) → refusal w event ≡ why → Comes d event why replies w tally new →

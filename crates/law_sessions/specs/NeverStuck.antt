@@ -37,6 +37,20 @@ RunsRest =
     (events : List Event) → Each (EventRead d) events → (replies : List Reply) → Each (Fits d) replies → (tally : Tally) (w : World) →
     IsRun d peers events replies tally w → IsResting d a w
 
+-- A run over these events, with replies that fit.
+pub record HasRun (d : Definition) (peers : List Peer) (events : List Event) : Type 0 where
+  pub replies : List Reply
+  pub fit : Each (Fits d) replies
+  pub tally : Tally
+  pub last : World
+  pub run : IsRun d peers events replies tally last
+
+-- Each list of events has a run.
+abbrev pub RunsAreThere : Type 0
+RunsAreThere =
+    (d : Definition) → WellRead d → Accepted d → (peers : List Peer) → PoolReady d peers → (events : List Event) →
+    Each (EventRead d) events → HasRun d peers events
+
 -- ** by the steps
 
 -- the promise follows where each step keeps what is good
