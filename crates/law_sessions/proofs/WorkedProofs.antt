@@ -38,9 +38,9 @@ ready (suc (suc n)) p e = absurd (cc)
 
 read : Each (EventRead definition) events
 read = (
-  ((_, refl, refl), 3, _, refl, refl, omega arith, tt),
+  ((_, refl, refl), 3, _, refl, refl, omega arith, tt, refl),
   (
-    ((_, refl, refl), 3, _, refl, refl, omega arith, tt),
+    ((_, refl, refl), 3, _, refl, refl, omega arith, tt, refl),
     (tt, (((_, refl, refl), _, refl, refl), ((_, refl, refl), tt))),
   ),
 )
