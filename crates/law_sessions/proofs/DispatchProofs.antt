@@ -44,7 +44,8 @@ module _ (keep : StepsKeepGood) (d : Definition) (well : WellRead d) (a : Accept
       steps n s.later both.1 s.mid e (one_step c s.mid good s.reply both.0 s.step) s.follows
 
   -- whatever it comes to is good
-  pub stays : (replies : List Reply) → Each (Fits d) replies → (c e : Config) → IsGood d a most c → Reaches d replies c e → IsGood d a most e
+  pub stays : (replies : List Reply) → Each (Fits d) replies → (c e : Config) → IsGood d a most c → Reaches d replies c e →
+      IsGood d a most e
   stays replies fit c e good r = steps r.count replies fit c e good r.steps
 
   pub unstuck : (c : Config) → IsGood d a most c → IsUnstuck d c

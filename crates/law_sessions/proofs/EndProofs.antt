@@ -1,5 +1,5 @@
--- A dispatch that is good comes to its end. Each counted step brings the count nearer to the bound. Each other step leaves what stands below
--- the first task as it is, and puts tasks in its place that have less to do.
+-- A dispatch that is good comes to its end. Each counted step brings the count nearer to the bound. Each other step leaves what
+-- stands below the first task as it is, and puts tasks in its place that have less to do.
 use Rattle.std.proofs.Common.{◌≡◌, refl, sym, subst, ap, ℕ, zero, suc, ◌+◌, ◌<◌, ◌≤◌, Bool, true, false, cond, List, [], ◌∷◌, ◌++◌, length, Option, None, Some, Ok, Err, arith}
 use Rattle.std.specs.Prelude.{IfOk, not, ◌&&◌, ◌||◌, nat_eq, nat_lt, slice_get}
 use Rattle.std.specs.List.{list_all}
@@ -73,7 +73,8 @@ without_fewer id (x ∷ xs) = go (nat_eq x id) (without_fewer id xs)
     go false h = omega (arith, h)
 
 first_goes : (id : ℕ) (ids : List ℕ) → length (without id (id ∷ ids)) ≤ length ids
-first_goes id ids = subst (λ b. length (cond b (without id ids) (id ∷ without id ids)) ≤ length ids) (sym (eq-eqb id id refl)) (without_fewer id ids)
+first_goes id ids =
+    subst (λ b. length (cond b (without id ids) (id ∷ without id ids)) ≤ length ids) (sym (eq-eqb id id refl)) (without_fewer id ids)
 
 -- ** steps
 
@@ -116,14 +117,18 @@ module _ (keep : StepsKeepGood) (d : Definition) (well : WellRead d) (a : Accept
     acts_on : (c : Config) → IsGood d a most c → Near c →
         ((reply : Option Reply) → IfOk (act d c.world reply c.agenda c.counted) (λ e. IsGood d a most e → ComesToEnd d e)) → ComesToEnd d c
     acts_on c good near all =
-        by_first c good near (λ e. onward c good (λ reply. subst (λ o. IfOk (first_of d reply c o) (λ e. IsGood d a most e → ComesToEnd d e)) (sym e) (all reply)))
+        by_first c good near (λ e. onward c good (λ reply.
+        subst (λ o. IfOk (first_of d reply c o) (λ e. IsGood d a most e → ComesToEnd d e)) (sym e) (all reply)))
 
     -- ** agendas
 
     -- from whatever world this is to do, it comes to its end
+    abbrev at_agenda : World → List Task → ℕ → Config
+    at_agenda w agenda n = record { world = w; agenda = agenda; counted = n }
+
     abbrev Ends : List Task → Type 0
     Ends agenda =
-        (w : World) (n : ℕ) → let c : Config = record { world = w; agenda = agenda; counted = n } in IsGood d a most c → Near c → ComesToEnd d c
+        (w : World) (n : ℕ) → IsGood d a most (at_agenda w agenda n) → Near (at_agenda w agenda n) → ComesToEnd d (at_agenda w agenda n)
 
     -- a task comes to its end in front of whatever does
     abbrev Comes : Task → Type 0
@@ -143,7 +148,8 @@ module _ (keep : StepsKeepGood) (d : Definition) (well : WellRead d) (a : Accept
         ComesToEnd d (at_end w n)
     settle w n good near again = by_first (at_end w n) good near (λ held. go w.floating refl held)
       where
-        go : (floating : List ℕ) → w.floating ≡ floating → next_unheld (mentions d (at_end w n)) w.objects ≡ None → ComesToEnd d (at_end w n)
+        go : (floating : List ℕ) → w.floating ≡ floating → next_unheld (mentions d (at_end w n)) w.objects ≡ None →
+            ComesToEnd d (at_end w n)
         go [] e held = ended (at_end w n) (record { agenda = refl; floating = e; held = held })
         go (id ∷ ids) e held =
             acts_on (at_end w n) good near (λ reply.
@@ -243,7 +249,8 @@ module _ (keep : StepsKeepGood) (d : Definition) (well : WellRead d) (a : Accept
         (either_such (same_value (clamp (class_in w.objects) d.types s v) v || is_lax s) _ _ _ (written_starts w id slot s _) tt))
 
     set : (id slot : ℕ) (v : Value) → Comes (Setting id slot v)
-    set id slot v = uncounted_comes (Setting id slot v) (λ w. setting d w id slot v) (λ w reply rest n. refl) (λ w. setting_starts w id slot v)
+    set id slot v =
+        uncounted_comes (Setting id slot v) (λ w. setting d w id slot v) (λ w reply rest n. refl) (λ w. setting_starts w id slot v)
 
     -- ** emissions
 
@@ -259,8 +266,8 @@ module _ (keep : StepsKeepGood) (d : Definition) (well : WellRead d) (a : Accept
         after_such (beginning_program d w number args) _ (λ (s : Started). Each Comes s.tasks) _ (begins w number args)
         (λ s some. each_append Comes s.tasks tasks some all)
 
-    entry_starts : (e : Emission) (entries : List PlanEntry) → ((e : Emission) → Comes (Emitting e entries)) → (entry : PlanEntry) (w : World) →
-        Starts (taking_entry d w e entries entry)
+    entry_starts : (e : Emission) (entries : List PlanEntry) → ((e : Emission) → Comes (Emitting e entries)) → (entry : PlanEntry)
+        (w : World) → Starts (taking_entry d w e entries entry)
     entry_starts e entries later (class_handler number cleanup) w =
         program_before_starts w number _ (Emitting (in_stage cleanup e) entries ∷ []) (later (in_stage cleanup e), tt)
     entry_starts e entries later (handler number) w = go (handler_of number w.handlers)
@@ -268,7 +275,8 @@ module _ (keep : StepsKeepGood) (d : Definition) (well : WellRead d) (a : Accept
         go : (o : Option Handler) → Starts (running_handler d w e entries o)
         go None = (later e, tt)
         go (Some h) =
-            either_such (nat_lt 0 h.blocks) _ _ _ (later e, tt) (program_before_starts w h.program _ (Emitting e entries ∷ []) (later e, tt))
+            either_such (nat_lt 0 h.blocks) _ _ _ (later e, tt)
+            (program_before_starts w h.program _ (Emitting e entries ∷ []) (later e, tt))
     entry_starts e entries later (config.transfer number back) w = go (binding_of number w.bindings)
       where
         due : (b : Bool) → Each Comes (cond b [] (Transferring number back ∷ []) ++ Emitting e entries ∷ [])
@@ -328,7 +336,8 @@ module _ (keep : StepsKeepGood) (d : Definition) (well : WellRead d) (a : Accept
     left_with_ends w rest to v = after_such (received rest to (Some v)) _ Ends _ (answered_ends rest to (Some v)) (λ agenda all. all)
 
     with_method_ends : (w : World) (peer method : ℕ) (f : Peer → Method → Answer Left) →
-        ((p : Peer) (m : Method) → IfOk (f p m) (λ (l : Left). Ends l.agenda)) → IfOk (with_method w peer method f) (λ (l : Left). Ends l.agenda)
+        ((p : Peer) (m : Method) → IfOk (f p m) (λ (l : Left). Ends l.agenda)) →
+        IfOk (with_method w peer method f) (λ (l : Left). Ends l.agenda)
     unfolding with_method
     with_method_ends w peer method f all =
         after_each (known arms.Call (peer_at w peer)) _ _ (λ p. after_each (known arms.Call (method_of p method)) _ _ (λ m. all p m))
@@ -362,7 +371,8 @@ module _ (keep : StepsKeepGood) (d : Definition) (well : WellRead d) (a : Accept
     constructed_starts w id true = after_each (object_at w.objects id) _ _ (λ o.
         only_such (is_unbuilt (held_at w o.place)) arms.Code _ _ tt)
 
-    making_set_starts : (w : World) (id slot : ℕ) (v : Value) (tasks : List Task) → Each Comes tasks → Starts (making_set d w id slot v tasks)
+    making_set_starts : (w : World) (id slot : ℕ) (v : Value) (tasks : List Task) → Each Comes tasks →
+        Starts (making_set d w id slot v tasks)
     unfolding making_set
     making_set_starts w id slot v tasks all =
         after_each (spec_at d w.objects id slot) _ _ (λ s. only_such (is_writable s) arms.Flags _ _ (set id slot v, all))
@@ -370,7 +380,8 @@ module _ (keep : StepsKeepGood) (d : Definition) (well : WellRead d) (a : Accept
     thawing_made_starts : (w : World) (id : ℕ) (steps : List Making) (held : Bool) → Comes (Constructing id steps held) →
         Starts (thawing_made w id steps held)
     unfolding thawing_made
-    thawing_made_starts w id steps held later = after_each (changed w.objects id frozen_less) _ _ (λ taken. (thaw taken.answer id, (later, tt)))
+    thawing_made_starts w id steps held later =
+        after_each (changed w.objects id frozen_less) _ _ (λ taken. (thaw taken.answer id, (later, tt)))
 
     construction_comes : (steps : List Making) (id : ℕ) (held : Bool) → Comes (Constructing id steps held)
     construction_comes [] id held =
@@ -429,7 +440,8 @@ module _ (keep : StepsKeepGood) (d : Definition) (well : WellRead d) (a : Accept
           after_each (known arms.Code (slice_get d.bindings number)) _ _ (λ b.
           after_each (held_object w b.source) _ _ (λ source.
           after_each (held_object w b.target) _ _ (λ target.
-          either_such (is_disposed (living w.objects source) || is_disposed (living w.objects target)) _ _ _ (later, tt) (first b (has_flags 2 b.flags)))))
+          either_such (is_disposed (living w.objects source) || is_disposed (living w.objects target)) _ _ _ (later, tt)
+          (first b (has_flags 2 b.flags)))))
         where
           first : (b : Bind) (now : Bool) → Each Comes (cond now (Transferring number false ∷ []) [] ++ Building items ∷ [])
           first b true = (transfer number false, (later, tt))
@@ -514,7 +526,8 @@ module _ (keep : StepsKeepGood) (d : Definition) (well : WellRead d) (a : Accept
 
   within : (k : ℕ) → Within k
   within zero c good near =
-      absurd (let count = (good_is_within d a.weighed.costs a.weighed.depths most (depth (graph d) a.weighed.depths) c good).0 in omega (arith, near, count))
+      let count = (good_is_within d a.weighed.costs a.weighed.depths most (depth (graph d) a.weighed.depths) c good).0 in
+      absurd (omega (arith, near, count))
   within (suc k) c good near = agenda_ends k (within k) c.agenda c.world c.counted good near
 
   pub comes_to_end : (c : Config) → IsGood d a most c → ComesToEnd d c

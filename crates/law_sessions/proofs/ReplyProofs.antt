@@ -23,7 +23,8 @@ questions_are_answered d q = (fault, refl, record { shape = refl; openness = ref
 pub unstuck_goes_on : (d : Definition) (c : Config) → IsUnstuck d c → GoesOn d c
 unstuck_goes_on d c unstuck = ask (question d c) refl
   where
-    take : (reply : Option Reply) → IfSome reply (Fits d) → question d c ≡ question_in reply → (a : Answer Config) → step d reply c ≡ a → GoesOn d c
+    take : (reply : Option Reply) → IfSome reply (Fits d) → question d c ≡ question_in reply → (a : Answer Config) → step d reply c ≡ a →
+        GoesOn d c
     take reply fits asks (Ok next) e = record { reply = reply; fits = fits; next = next; step = record { asks = asks; leads = e } }
     take reply fits asks (Err arm) e = absurd (unstuck arm (record { reply = reply; asks = asks; stuck = e }) fits)
 

@@ -43,7 +43,8 @@ module _ (keep : StepsKeepGood) (d : Definition) (well : WellRead d) (a : Accept
 
   pub request_keeps : (w : World) → IsResting d a w → (r : Request) → RequestRead d r → names_released w r ≡ false →
       Keeps d a (entry_of d r) (of_request w r)
-  request_keeps w rest r fits kept = begun (entry_of d r) (of_request w r) (request_printed d a r) (requests_begin d well a w rest r fits kept)
+  request_keeps w rest r fits kept =
+      begun (entry_of d r) (of_request w r) (request_printed d a r) (requests_begin d well a w rest r fits kept)
 
   source_known : (w : World) → IsResting d a w → (number : ℕ) (s : Source) → source_of number w.sources ≡ Some s →
       SourceGood d (standing w.objects) s
@@ -79,12 +80,14 @@ module _ (keep : StepsKeepGood) (d : Definition) (well : WellRead d) (a : Accept
     where
       go : (o : Option Source) → source_of number w.sources ≡ o → RunsSource d number o replies w tally new → IsResting d a new
       go None is h = rests replies fit w tally new rest h
-      go (Some s) is h = carried (entries.source s.program) (beginning w (Due number)) (source_keeps w rest number s is) replies fit tally new h
+      go (Some s) is h =
+          carried (entries.source s.program) (beginning w (Due number)) (source_keeps w rest number s is) replies fit tally new h
 
   runs_sources : (numbers : List ℕ) → Leaves (RunsSources d numbers)
   runs_sources [] = rests
   runs_sources (number ∷ more) =
-      both (λ replies w. RunsSource d number (source_of number w.sources) replies w) (RunsSources d more) (runs_source number) (runs_sources more)
+      both (λ replies w. RunsSource d number (source_of number w.sources) replies w) (RunsSources d more) (runs_source number)
+      (runs_sources more)
 
   pub turns : (w : World) (moment : ℕ) → IsResting d a w → IsResting d a (turned d w moment)
   turns w moment rest = turns_rest d a.weighed.costs a.weighed.depths w moment rest
@@ -105,7 +108,8 @@ module _ (keep : StepsKeepGood) (d : Definition) (well : WellRead d) (a : Accept
       go event fits (Some why) e h = rests replies fit w tally new rest h
       go (config.request r) fits None e h =
           carried (entry_of d r) (of_request w r) (request_keeps w rest r fits (not_released w r e)) replies fit tally new h
-      go (config.turn moment) fits None e h = runs_sources (ready_at w moment) replies fit (turned d w moment) tally new (turns w moment rest) h
+      go (config.turn moment) fits None e h =
+          runs_sources (ready_at w moment) replies fit (turned d w moment) tally new (turns w moment rest) h
 
   serves_all : (events : List Event) → Each (EventRead d) events → Leaves (ServesAll d events)
   serves_all [] fits = rests
@@ -150,4 +154,5 @@ report_is_kept keep d lines well judged =
     (found.0, found.1, never_stuck keep d well found.0)
 
 pub runs_rest : BySteps RunsRest
-runs_rest keep d well a peers ready events read replies fit tally w run = run_rests keep d well a peers ready events read replies fit tally w run
+runs_rest keep d well a peers ready events read replies fit tally w run =
+    run_rests keep d well a peers ready events read replies fit tally w run

@@ -83,7 +83,8 @@ module _ (keep : StepsKeepGood) (d : Definition) (well : WellRead d) (a : Accept
 
   nothing : (w : World) → IsResting d a w → Leads Rests w
   nothing w rest =
-      record { replies = []; fit = tt; tally = no_dispatch; new = w; leads = record { replied = refl; counts = refl; same = refl }; rest = rest }
+      let same : Rests [] w no_dispatch w = record { replied = refl; counts = refl; same = refl } in
+      record { replies = []; fit = tt; tally = no_dispatch; new = w; leads = same; rest = rest }
 
   both : (First Later : List Reply → World → Tally → World → Type 0) (w : World) → Leads First w →
       ((v : World) → IsResting d a v → Leads Later v) → Leads (Then First Later) w
@@ -111,7 +112,8 @@ module _ (keep : StepsKeepGood) (d : Definition) (well : WellRead d) (a : Accept
 
   -- the same of another part
   led_as : (Part Other : List Reply → World → Tally → World → Type 0) (v w : World) →
-      ((replies : List Reply) (tally : Tally) (new : World) → Part replies v tally new → Other replies w tally new) → Leads Part v → Leads Other w
+      ((replies : List Reply) (tally : Tally) (new : World) → Part replies v tally new → Other replies w tally new) → Leads Part v →
+      Leads Other w
   led_as Part Other v w same led = record {
     replies = led.replies;
     fit = led.fit;
@@ -147,7 +149,8 @@ module _ (keep : StepsKeepGood) (d : Definition) (well : WellRead d) (a : Accept
       same : Leads (Comes d event (refusal w event)) w → Leads (Serves d event) w
       same led = led_as (Comes d event (refusal w event)) (Serves d event) w w (λ replies tally new h. h) led
 
-      at : (event : Event) (why : Option Refusal) → refusal w event ≡ why → Leads (Comes d event why) w → Leads (Comes d event (refusal w event)) w
+      at : (event : Event) (why : Option Refusal) → refusal w event ≡ why → Leads (Comes d event why) w →
+          Leads (Comes d event (refusal w event)) w
       at event why e led =
           led_as (Comes d event why) (Comes d event (refusal w event)) w w
           (λ replies tally new h. subst (λ o. Comes d event o replies w tally new) (sym e) h) led
