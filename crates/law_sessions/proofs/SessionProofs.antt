@@ -24,10 +24,11 @@ use Rattle.law_typing.proofs.JudgedProofs.{judged_is_accepted}
 use Rattle.law_static.proofs.BuildCostProofs.{build_begins}
 use Rattle.law_static.proofs.RequestProofs.{requests_begin}
 use Rattle.law_static.proofs.SourceProofs.{sources_begin}
+use Rattle.law_tasks.proofs.StepsProofs.{steps_keep_good}
 use Rattle.law_sessions.specs.Dispatches.{Keeps}
 use Rattle.law_sessions.specs.Sessions as sessions
 use Rattle.law_sessions.specs.Sessions.{EventRead, Dispatch, building, serving, turning, entry_to, beginning_of}
-use Rattle.law_sessions.specs.NeverStuck.{NeverStuck, ReportIsKept, RunsRest, BySteps}
+use Rattle.law_sessions.specs.NeverStuck.{NeverStuck, ReportIsKept, RunsRest}
 use Rattle.law_sessions.proofs.DispatchProofs.{both_fit}
 use Rattle.law_sessions.proofs.KeepsProofs.{keeps}
 use Rattle.law_sessions.proofs.EntryProofs.{IsPrinted, source_printed, build_printed, request_printed, printed_few}
@@ -145,14 +146,14 @@ module _ (keep : StepsKeepGood) (d : Definition) (well : WellRead d) (a : Accept
         (runs_sources runs.before runs.replies runs.fit (turned d w moment) runs.tally v
         (turns w moment (before_rests (config.turn moment) w s)) runs.run) number source runs.stands
 
-pub never_stuck : BySteps NeverStuck
-never_stuck keep d well a peers ready events read x = run_keeps keep d well a peers ready events read x
+pub never_stuck : NeverStuck
+never_stuck d well a peers ready events read x = run_keeps steps_keep_good d well a peers ready events read x
 
-pub report_is_kept : BySteps ReportIsKept
-report_is_kept keep d lines well judged =
+pub report_is_kept : ReportIsKept
+report_is_kept d lines well judged =
     let found = judged_is_accepted d lines well.types.inherits judged in
-    (found.0, found.1, never_stuck keep d well found.0)
+    (found.0, found.1, never_stuck d well found.0)
 
-pub runs_rest : BySteps RunsRest
-runs_rest keep d well a peers ready events read replies fit tally w run =
-    run_rests keep d well a peers ready events read replies fit tally w run
+pub runs_rest : RunsRest
+runs_rest d well a peers ready events read replies fit tally w run =
+    run_rests steps_keep_good d well a peers ready events read replies fit tally w run

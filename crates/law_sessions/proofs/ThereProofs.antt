@@ -18,10 +18,11 @@ use Rattle.law_typing.specs.Laws.WellRead.{WellRead}
 use Rattle.law_typing.specs.Good.Requests.{entry_of}
 use Rattle.law_typing.specs.Laws.StepsKeepGood.{PoolReady, IsResting, StepsKeepGood}
 use Rattle.law_typing.proofs.Lists.{each_append}
+use Rattle.law_tasks.proofs.StepsProofs.{steps_keep_good}
 use Rattle.law_sessions.specs.Dispatches.{Keeps}
 use Rattle.law_sessions.specs.Endings.{ComesToEnd, ended, goes}
 use Rattle.law_sessions.specs.Sessions.{EventRead}
-use Rattle.law_sessions.specs.NeverStuck.{HasRun, RunsAreThere, BySteps}
+use Rattle.law_sessions.specs.NeverStuck.{HasRun, RunsAreThere}
 use Rattle.law_sessions.proofs.SessionProofs.{build_keeps, request_keeps, source_keeps, carried, turns, not_released}
 
 -- where a dispatch ends
@@ -180,5 +181,5 @@ module _ (keep : StepsKeepGood) (d : Definition) (well : WellRead d) (a : Accept
       go : Leads (Then (λ first w. Carries d (of_build d peers) first) (ServesAll d events)) (first_world d peers) → HasRun d peers events
       go led = record { replies = led.replies; fit = led.fit; tally = led.tally; last = led.new; run = led.leads }
 
-pub runs_are_there : BySteps RunsAreThere
-runs_are_there keep d well a peers ready events read = has_run keep d well a peers ready events read
+pub runs_are_there : RunsAreThere
+runs_are_there d well a peers ready events read = has_run steps_keep_good d well a peers ready events read

@@ -10,7 +10,7 @@ use Rattle.law_typing.specs.Verdict.{verdict, accepted}
 use Rattle.law_typing.specs.Verdict.Accepted.{Each, Accepted}
 use Rattle.law_typing.specs.Verdict.Report.{report}
 use Rattle.law_typing.specs.Laws.WellRead.{WellRead}
-use Rattle.law_typing.specs.Laws.StepsKeepGood.{PoolReady, IsResting, StepsKeepGood}
+use Rattle.law_typing.specs.Laws.StepsKeepGood.{PoolReady, IsResting}
 use Rattle.law_sessions.specs.Dispatches.{Keeps}
 use Rattle.law_sessions.specs.Sessions.{EventRead, Dispatch, entry_to, beginning_of}
 
@@ -50,9 +50,3 @@ abbrev pub RunsAreThere : Type 0
 RunsAreThere =
     (d : Definition) → WellRead d → Accepted d → (peers : List Peer) → PoolReady d peers → (events : List Event) →
     Each (EventRead d) events → HasRun d peers events
-
--- ** by the steps
-
--- the promise follows where each step keeps what is good
-abbrev pub BySteps : Type 0 → Type 0
-BySteps Promise = StepsKeepGood → Promise

@@ -1,18 +1,18 @@
 //! The law over whole runs: no accepted definition is ever stuck, and each of its dispatches keeps within the bound that the report tells.
 #![tactic(auto)]
 
-ghost use Rattle.law_sessions.specs.NeverStuck.{NeverStuck, ReportIsKept, RunsRest, RunsAreThere, BySteps};
+ghost use Rattle.law_sessions.specs.NeverStuck.{NeverStuck, ReportIsKept, RunsRest, RunsAreThere};
 ghost use Rattle.law_sessions.specs.Replies.{QuestionsAreAnswered};
 ghost use Rattle.law_sessions.specs.WorkedSession.{PremisesMet};
 
-/// Where each step keeps what is good, each dispatch of each run of an accepted definition keeps what is promised: it is never stuck,
+/// Each dispatch of each run of an accepted definition keeps what is promised, as long as its peers' replies fit: it is never stuck,
 /// its counted steps are within the bound of its entry, its frames within the depth, it comes to its end, and it leaves the world at
 /// rest. So it is for what is judged to be accepted, by the numbers of its report. And each list of events has a run.
 pub fn runs()
-    ensures keep { BySteps NeverStuck }
-    ensures report { BySteps ReportIsKept }
-    ensures rest { BySteps RunsRest }
-    ensures there { BySteps RunsAreThere }
+    ensures keep { NeverStuck }
+    ensures report { ReportIsKept }
+    ensures rest { RunsRest }
+    ensures there { RunsAreThere }
 {}
 
 /// What a peer may always reply; and a worked definition with a pool and events that meet each premise of the promise.
