@@ -14,6 +14,7 @@ use Rattle.ui_machine.specs.Definition.Types.{GType}
 use Rattle.ui_machine.specs.Definition.Properties.{Spec}
 use Rattle.ui_machine.specs.Definition.Lookups.{place_of}
 use Rattle.ui_machine.specs.declared.limits.Limits.{Limits}
+use Rattle.builder_defs.specs.declared.object_entry.ObjectBody.{ObjectBody}
 use Rattle.builder_defs.specs.Meaning.{Entry, plain_object, meaning}
 
 nat_eq-comm : (x y : ℕ) → nat_eq x y ≡ nat_eq y x
@@ -49,11 +50,11 @@ pub place_found : (types : List GType) (specs : List (List Spec)) (es : List Ent
 place_found types specs es limits d is id r found = found ∙ ap (λ (e : Definition). place_of e id) is
 
 -- a new id goes last
-fresh_from : (id : String Global) (class i : ℕ) (es : List Entry)
-    → place_from (λ (p : Place). p.id) i (map plain_object es) (string_bytes id) ≡ None → insert_entry string_eq es id class ≡ es ++ (id, class) ∷ []
-fresh_from id class i [] h = refl
-fresh_from id class i (e ∷ es) h =
-    by (bytes_eq (string_bytes id) (string_bytes e.0)) refl (fresh_from id class (suc i) es)
+fresh_from : (id : String Global) (body : ObjectBody) (i : ℕ) (es : List Entry)
+    → place_from (λ (p : Place). p.id) i (map plain_object es) (string_bytes id) ≡ None → insert_entry string_eq es id body ≡ es ++ (id, body) ∷ []
+fresh_from id body i [] h = refl
+fresh_from id body i (e ∷ es) h =
+    by (bytes_eq (string_bytes id) (string_bytes e.0)) refl (fresh_from id body (suc i) es)
   where
     same : same_name (string_bytes e.0) (string_bytes id) ≡ bytes_eq (string_bytes id) (string_bytes e.0)
     same = same_name-is (string_bytes id) (string_bytes e.0)
@@ -61,13 +62,13 @@ fresh_from id class i (e ∷ es) h =
     rest : Option ℕ
     rest = place_from (λ (p : Place). p.id) (suc i) (map plain_object es) (string_bytes id)
 
-    by : (b : Bool) → bytes_eq (string_bytes id) (string_bytes e.0) ≡ b → (rest ≡ None → insert_entry string_eq es id class ≡ es ++ (id, class) ∷ [])
-        → insert_entry string_eq (e ∷ es) id class ≡ (e ∷ es) ++ (id, class) ∷ []
+    by : (b : Bool) → bytes_eq (string_bytes id) (string_bytes e.0) ≡ b → (rest ≡ None → insert_entry string_eq es id body ≡ es ++ (id, body) ∷ [])
+        → insert_entry string_eq (e ∷ es) id body ≡ (e ∷ es) ++ (id, body) ∷ []
     by true q after = absurd (none-some i (sym h ∙ ap (λ b. cond b (Some i) rest) (same ∙ q)))
     by false q after =
-        ap (λ b. if b then (e.0, class) ∷ es else e ∷ insert_entry string_eq es id class) q
+        ap (λ b. if b then (e.0, body) ∷ es else e ∷ insert_entry string_eq es id body) q
         ∙ ap (λ l. e ∷ l) (after (sym (ap (λ b. cond b (Some i) rest) (same ∙ q)) ∙ h))
 
-pub goes_last : (id : String Global) (class : ℕ) (es : List Entry)
-    → place_named (λ (p : Place). p.id) (map plain_object es) (string_bytes id) ≡ None → insert_entry string_eq es id class ≡ es ++ (id, class) ∷ []
-goes_last id class es h = fresh_from id class 0 es h
+pub goes_last : (id : String Global) (body : ObjectBody) (es : List Entry)
+    → place_named (λ (p : Place). p.id) (map plain_object es) (string_bytes id) ≡ None → insert_entry string_eq es id body ≡ es ++ (id, body) ∷ []
+goes_last id body es h = fresh_from id body 0 es h

@@ -8,7 +8,7 @@ use Rattle.param_specs.specs.declared.error.SpecFault.{SpecFault}
 use Rattle.param_specs.specs.declared.error.SpecError.{SpecError}
 use Rattle.param_specs.specs.declared.error.SpecError.TheVariants.{OutOfMemory, Refused}
 use Rattle.param_specs.specs.Table.{own_of, specs_of, install_fault, canonical_spec, Installs}
-use Rattle.builder_defs.specs.Refusals.{bad_spec}
+use Rattle.builder_defs.specs.Refusals.{not_installed}
 use Rattle.builder_defs.specs.Denoted.Properties.{specs_by, inherited_of, add_own, installed_or, installed, spec_at, property_at}
 use Rattle.ui_machine.specs.Outcome.{◌>>=◌}
 use Rattle.serde_json.specs.Data.{Data}
@@ -30,7 +30,7 @@ module _ (path : List ℕ) (types : List GType) (old new : List (List Spec)) (t 
   cause-is (Refused other) cause is h = h.0 ∙ let same : other ≡ cause = cc in ap Some same
 
   pub installs_err : (error : SpecError) (cause : SpecFault) → error ≡ Refused cause → Installs (Err error) (install_fault types (specs_of types old t) spec) (specs_of types old t) t spec old new
-      → installed path types t (own_of old) spec ≡ Err (bad_spec path cause)
+      → installed path types t (own_of old) spec ≡ Err (not_installed path cause)
   installs_err error cause is h =
       ap (λ (specs : List Spec). installed_or path (install_fault types specs spec) (add_own (own_of old) t (canonical_spec spec))) (sym (specs_of-is types old t))
       ∙ ap (λ f. installed_or path f (add_own (own_of old) t (canonical_spec spec))) (cause-is error cause is h)

@@ -24,8 +24,8 @@ use Rattle.param_specs.specs.declared.error.SpecFault.{SpecFault}
 use Rattle.param_specs.specs.declared.error.SpecFault.TheVariants.{DefaultInvalid}
 use Rattle.param_specs.specs.Table.{own_of, specs_of, install_fault, canonical_spec}
 use Rattle.ui_machine.specs.declared.limits.Limits.{Limits}
-use Rattle.builder_defs.specs.Meaning.{Entry, plain_object, IsPlain, IsPlainKind, AreLimits, IsSound}
-use Rattle.builder_defs.specs.Refusals.{Refusal, shape, unknown, bad_spec, limit, or_refused, or_value_fault}
+use Rattle.builder_defs.specs.Meaning.{Entry, plain_object, IsPlain, IsPlainKind, AreLimits, ArePlain, IsSound}
+use Rattle.builder_defs.specs.Refusals.{Refusal, shape, unknown, not_installed, limit, or_refused, or_value_fault}
 use Rattle.builder_defs.specs.declared.fault.DefinitionLimit.TheVariants.{Places, Objects}
 use Rattle.ui_machine.specs.Outcome.{◌>>=◌}
 use Rattle.builder_defs.specs.Document.{each, at_entry, under, nth, members_at, text_at, truth_at, entries_at, absent_at, nothing_at, only_at}
@@ -36,7 +36,8 @@ use Rattle.builder_defs.specs.Denoted.Defaults.{default_at, check_default, check
 use Rattle.builder_defs.specs.Denoted.Properties.{specs_by, inherited_by, property_spec, room_for_property, new_property, keys_of_property, valued_at, spec_at, add_own, installed_or, installed, property_at}
 use Rattle.builder_defs.specs.Denoted.Types.{room_for_type, new_type_name}
 use Rattle.builder_defs.specs.Denoted.Classes.{Draft, draft_of, bare_draft, added_or, parent_at, parent_ahead, check_depth, keys_of_class, declared_at, answering_at, properties_at, class_at}
-use Rattle.builder_defs.specs.Denoted.Objects.{room_for_object, new_id, class_at_key, bare_at, keys_of_object, place_at, object_at}
+use Rattle.builder_defs.specs.Denoted.Objects.{room_for_object, new_id, class_at_key, keys_of_object, place_at, object_at}
+use Rattle.builder_defs.specs.Denoted.Given.{givens_at}
 use Rattle.builder_defs.specs.Denoted.{unset_before_classes, unset_before_objects, enums_in, flags_in, classes_in, draft_in, objects_in}
 use Rattle.builder_defs.proofs.Installing.{specs_of-is}
 use Rattle.builder_defs.proofs.LaterTypes.{plain_later}
@@ -192,7 +193,7 @@ default_plain : (path : List ℕ) (types : List GType) (s : Spec) → IsPlainKin
     → OnRead (λ u. IsPlain types s) (check_default path types s)
 default_plain path types s kind strong = by (is_valid (λ id. None) types s s.default) refl
   where
-    by : (b : Bool) → is_valid (λ id. None) types s s.default ≡ b → OnRead {A = Unit {0}} (λ u. IsPlain types s) (if b then Ok tt else Err (bad_spec path DefaultInvalid))
+    by : (b : Bool) → is_valid (λ id. None) types s s.default ≡ b → OnRead {A = Unit {0}} (λ u. IsPlain types s) (if b then Ok tt else Err (not_installed path DefaultInvalid))
     by true is = record { kind = kind; strong = strong; default = is }
     by false is = tt
 
@@ -336,8 +337,8 @@ room_below most places = by (nat_le 512 (length places)) (nat_le most (length pl
     by false true e f = tt
     by false false e f = record { place = grind (arith, nat_tests); life = grind (arith, nat_tests) }
 
-module _ (types : List GType) (most : ℕ) where
-  place_few : (path : List ℕ) (places : List Place) (d : Data) → OnRead (λ place. HasRoom most places) (place_at path types most places d)
+module _ (types : List GType) (specs : ℕ → List Spec) (most : ℕ) where
+  place_few : (path : List ℕ) (places : List Place) (d : Data) → OnRead (λ place. HasRoom most places) (place_at path types specs most places d)
   unfolding place_at
   place_few path places d =
       on_bind (λ x. Unit {0}) (λ place. HasRoom most places) (members_at path d) _ (on_all _) λ ms u.
@@ -345,7 +346,9 @@ module _ (types : List GType) (most : ℕ) where
       on_bind (λ x. Unit {0}) (λ place. HasRoom most places) (text_at path d (codes "id")) _ (on_all _) λ id u.
       on_bind (λ x. Unit {0}) (λ place. HasRoom most places) (new_id (under path (codes "id")) places id) _ (on_all _) λ new u.
       on_bind (λ x. Unit {0}) (λ place. HasRoom most places) (class_at_key path types d) _ (on_all _) λ class u.
-      on_bind (λ x. Unit {0}) (λ place. HasRoom most places) (bare_at path d) _ (on_all _) λ bare u.
+      on_bind (λ x. Unit {0}) (λ place. HasRoom most places) (absent_at path d (codes "peer" ∷ [])) _ (on_all _) λ peer u.
+      on_bind (λ x. Unit {0}) (λ place. HasRoom most places) (givens_at path types (specs class) d) _ (on_all _) λ given u.
+      on_bind (λ x. Unit {0}) (λ place. HasRoom most places) (nothing_at path d (codes "signals" ∷ codes "children" ∷ [])) _ (on_all _) λ bare u.
       on_bind (λ x. Unit {0}) (λ place. HasRoom most places) (only_at path ms keys_of_object) _ (on_all _) λ only u. room
 
   one_place_more : (places : List Place) (place : Place) → HasRoom most places → AreFew most (places ++ place ∷ [])
@@ -353,31 +356,36 @@ module _ (types : List GType) (most : ℕ) where
       let one = length_push places place in
       record { placed = omega (arith, one, room.place); live = omega (arith, one, room.life) }
 
-  object_few : (path : List ℕ) (places : List Place) (d : Data) → AreFew most places → OnRead (AreFew most) (object_at path types most places d)
+  object_few : (path : List ℕ) (places : List Place) (d : Data) → AreFew most places → OnRead (AreFew most) (object_at path types specs most places d)
   unfolding object_at
   object_few path places d few =
-      on_bind (λ place. HasRoom most places) (AreFew most) (place_at path types most places d) (λ place. Ok (places ++ place ∷ [])) (place_few path places d)
+      on_bind (λ place. HasRoom most places) (AreFew most) (place_at path types specs most places d) (λ place. Ok (places ++ place ∷ [])) (place_few path places d)
       λ place room. one_place_more places place room
 
-  objects_few : (d : Data) → OnRead (AreFew most) (objects_in types most d)
+  objects_few : (d : Data) → OnRead (AreFew most) (objects_in types specs most d)
   unfolding objects_in
   objects_few d =
       on_bind (λ x. Unit {0}) (AreFew most) (nothing_at [] d unset_before_objects) _ (on_all _) λ unset u.
       on_bind (λ x. Unit {0}) (AreFew most) (entries_at [] d (codes "objects")) _ (on_all _) λ list u.
-      on_each (AreFew most) (at_entry (λ entry. object_at entry types most) (under [] (codes "objects")))
+      on_each (AreFew most) (at_entry (λ entry. object_at entry types specs most) (under [] (codes "objects")))
       (λ i places d few. object_few (nth (under [] (codes "objects")) i) places d few) 0 [] list (record { placed = omega arith; live = omega arith })
 
-pub sound : (types : List GType) (table : List (List Spec)) (os : List Entry) (limits : Limits) (d : Data) → draft_in d ≡ Ok (draft_of types table)
-    → AreLimits limits → objects_in types limits.objects d ≡ Ok (map plain_object os) → IsSound types table os limits
-sound types table os limits d read within objects =
+-- the properties of types that were read are plain
+pub plain_read : (types : List GType) (table : List (List Spec)) (d : Data) → draft_in d ≡ Ok (draft_of types table) → ArePlain types table
+plain_read types table d read =
     let all : AllOwn types (own_of table) = subst (OnRead PlainDraft) read (draft_plain d) in
-    let few : AreFew limits.objects (map plain_object os) = subst (OnRead (AreFew limits.objects)) objects (objects_few types limits.objects d) in
     record {
-      plain = record {
-        at = λ t slot s h.
-            plain_get types (specs_of types table t) slot s
-            (subst (AllPlain types) (sym (specs_of-is types table t)) (plain_flat types (own_of table) all (reverse (lineage types t)))) h;
-      };
+      at = λ t slot s h.
+          plain_get types (specs_of types table t) slot s
+          (subst (AllPlain types) (sym (specs_of-is types table t)) (plain_flat types (own_of table) all (reverse (lineage types t)))) h;
+    }
+
+pub sound : (types : List GType) (table : List (List Spec)) (os : List Entry) (limits : Limits) (d : Data) → draft_in d ≡ Ok (draft_of types table)
+    → AreLimits limits → objects_in types (specs_by types (own_of table)) limits.objects d ≡ Ok (map plain_object os) → IsSound types table os limits
+sound types table os limits d read within objects =
+    let few : AreFew limits.objects (map plain_object os) = subst (OnRead (AreFew limits.objects)) objects (objects_few types (specs_by types (own_of table)) limits.objects d) in
+    record {
+      plain = plain_read types table d read;
       declared = within;
       few = omega (arith, few.live, length-map os plain_object);
       places = omega (arith, few.placed, length-map os plain_object);

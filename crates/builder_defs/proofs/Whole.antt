@@ -7,11 +7,12 @@ use Rattle.ui_machine.specs.Definition.Properties.{Spec}
 use Rattle.ui_machine.specs.Definition.{Definition}
 use Rattle.ui_machine.specs.Definition.Places.{Place}
 use Rattle.ui_machine.specs.declared.limits.Limits.{Limits}
-use Rattle.param_specs.specs.Table.{specs_of}
+use Rattle.param_specs.specs.Table.{own_of, specs_of}
 use Rattle.builder_defs.specs.Meaning.{Entry, meaning, plain_object}
 use Rattle.ui_machine.specs.Outcome.{◌>>=◌}
 use Rattle.builder_defs.specs.Refusals.{Refusal}
 use Rattle.builder_defs.specs.Document.{members_at, only_at}
+use Rattle.builder_defs.specs.Denoted.Properties.{specs_by}
 use Rattle.builder_defs.specs.Denoted.Classes.{Draft, draft_of}
 use Rattle.builder_defs.specs.Denoted.SessionLimits.{limits_in}
 use Rattle.builder_defs.specs.Denoted.{format_of, draft_in, objects_in, definition_in, definition_with, keys_of_definition}
@@ -27,7 +28,7 @@ module _ (d : Data) where
   after_places ms draft limits places = only_at [] ms keys_of_definition >>= λ o. Ok (definition_with draft places limits)
 
   after_draft : Members → Limits → Draft → Result Definition Refusal
-  after_draft ms limits draft = objects_in draft.types limits.objects d >>= after_places ms draft limits
+  after_draft ms limits draft = objects_in draft.types (specs_by draft.types draft.own) limits.objects d >>= after_places ms draft limits
 
   after_limits : Members → Limits → Result Definition Refusal
   after_limits ms limits = draft_in d >>= after_draft ms limits
@@ -37,7 +38,7 @@ module _ (d : Data) where
 
   pub definition_done : (ms : Members) (format : Option ℕ) (limits : Limits) (types : List GType) (table : List (List Spec)) (os : List Entry)
       → members_at [] d ≡ Ok ms → format ≡ option_and_then as_u64 (option_and_then as_number (get (codes "format") d)) → format_of format ≡ Ok tt
-      → limits_in d ≡ Ok limits → draft_in d ≡ Ok (draft_of types table) → objects_in types limits.objects d ≡ Ok (map plain_object os)
+      → limits_in d ≡ Ok limits → draft_in d ≡ Ok (draft_of types table) → objects_in types (specs_by types (own_of table)) limits.objects d ≡ Ok (map plain_object os)
       → only_at [] ms keys_of_definition ≡ Ok tt → definition_in d ≡ Ok (meaning types table os limits)
   unfolding definition_in after_places after_draft after_limits after_format
   definition_done ms format limits types table os members is one limited classes objects only =

@@ -9,6 +9,7 @@ pub mod Ranges
 pub mod Defaults
 pub mod Properties
 pub mod Classes
+pub mod Given
 pub mod Objects
 use Rattle.std.specs.Prelude.{ℕ, List, [], ◌∷◌, length, codes, ◌==◌, if◌then◌else◌, Option, None, Some, option_and_then, Result, Ok, Err}
 use Rattle.serde_json.specs.Data.{Data}
@@ -16,6 +17,7 @@ use Rattle.serde_json.specs.Find.{get, as_number, as_u64}
 use Rattle.ui_machine.specs.Outcome.{◌>>=◌}
 use Rattle.ui_machine.specs.Seq.{listed}
 use Rattle.ui_machine.specs.Definition.Types.{GType, predeclared}
+use Rattle.ui_machine.specs.Definition.Properties.{Spec}
 use Rattle.ui_machine.specs.Definition.Places as machine
 use Rattle.ui_machine.specs.Definition as definition
 use Rattle.ui_machine.specs.declared.limits.Limits.{Limits}
@@ -81,12 +83,12 @@ draft_in d = do
   types ← flags_in enums d
   classes_in types d
 
--- the objects of these types, where so many may live
-unfoldable pub objects_in : List GType → ℕ → Data → Result (List machine.Place) Refusal
-objects_in types most d = do
+-- the objects of these types with their properties, where so many may live
+unfoldable pub objects_in : List GType → (ℕ → List Spec) → ℕ → Data → Result (List machine.Place) Refusal
+objects_in types specs most d = do
   unset ← nothing_at [] d unset_before_objects
   list ← entries_at [] d (codes "objects")
-  each (at_entry (λ entry. object_at entry types most) (under [] (codes "objects"))) 0 [] list
+  each (at_entry (λ entry. object_at entry types specs most) (under [] (codes "objects"))) 0 [] list
 
 unfoldable pub definition_in : Data → Result definition.Definition Refusal
 definition_in d = do
@@ -94,7 +96,7 @@ definition_in d = do
   format ← format_of (option_and_then as_u64 (option_and_then as_number (get (codes "format") d)))
   limits ← limits_in d
   draft ← draft_in d
-  places ← objects_in draft.types limits.objects d
+  places ← objects_in draft.types (specs_by draft.types draft.own) limits.objects d
   only ← only_at [] members keys_of_definition
   Ok (definition_with draft places limits)
 

@@ -10,6 +10,8 @@ use Rattle.g_values.specs.declared.error.JsonFault.{JsonFault}
 use Rattle.g_values.specs.declared.error.JsonFault.TheVariants as values
 use Rattle.param_specs.specs.declared.error.SpecFault.{SpecFault}
 use Rattle.param_specs.specs.declared.error.SpecFault.TheVariants as specs
+use Rattle.builder_defs.specs.declared.fault.SpecCause.{SpecCause}
+use Rattle.builder_defs.specs.declared.fault.SpecCause.TheVariants.{Install, NotWritable}
 use Rattle.builder_defs.specs.declared.fault.DefinitionLimit.{DefinitionLimit}
 use Rattle.builder_defs.specs.declared.fault.DefinitionLimit.TheVariants.{Types, Depth, Properties, Places, Objects, Handlers}
 use Rattle.builder_defs.specs.Refusals.{Refusal, too_long, not_utf8, not_json, shape, unknown, duplicate, bad_type, bad_spec, value_fault, limit}
@@ -44,13 +46,18 @@ type_cause_text (causes.limit l) = codes "Limit " ++ type_limit_name l
 type_cause_text causes.abstract_class = codes "Abstract"
 
 -- why a property is not installed
-abbrev pub spec_cause_text : SpecFault → List ℕ
-spec_cause_text specs.BadName = codes "BadName"
-spec_cause_text specs.Duplicate = codes "Duplicate"
-spec_cause_text specs.FlagsClash = codes "FlagsClash"
-spec_cause_text specs.RangeEmpty = codes "RangeEmpty"
-spec_cause_text specs.DefaultInvalid = codes "DefaultInvalid"
-spec_cause_text specs.Limit = codes "Limit"
+abbrev pub spec_fault_text : SpecFault → List ℕ
+spec_fault_text specs.BadName = codes "BadName"
+spec_fault_text specs.Duplicate = codes "Duplicate"
+spec_fault_text specs.FlagsClash = codes "FlagsClash"
+spec_fault_text specs.RangeEmpty = codes "RangeEmpty"
+spec_fault_text specs.DefaultInvalid = codes "DefaultInvalid"
+spec_fault_text specs.Limit = codes "Limit"
+
+-- and why it is given none
+abbrev pub spec_cause_text : SpecCause → List ℕ
+spec_cause_text (Install fault) = spec_fault_text fault
+spec_cause_text NotWritable = codes "NotWritable"
 
 -- why JSON stands for no value
 abbrev pub value_cause_text : JsonFault → List ℕ

@@ -17,6 +17,8 @@ use Rattle.ui_machine.specs.State.Tasks as config
 use Rattle.type_tree.specs.Adding.{sort_of}
 use Rattle.g_values.specs.View.{value_view}
 use Rattle.param_specs.specs.Table.{specs_of}
+use Rattle.builder_defs.specs.declared.object_entry.GivenValue.{GivenValue}
+use Rattle.builder_defs.specs.declared.object_entry.ObjectBody.{ObjectBody}
 use Rattle.builder_defs.specs.declared.event.Event.{Event}
 use Rattle.builder_defs.specs.declared.event.Event.TheVariants as events
 
@@ -28,17 +30,21 @@ notify_signal = record { name = codes "notify"; params = []; result = None; flag
 abbrev pub class_with : List Spec → definition.Class
 class_with specs = record { specs = specs; signals = notify_signal ∷ []; handlers = []; constructed = None; shape = None }
 
--- an object without parent, given values, peer and signals
-abbrev pub bare_place : List ℕ → ℕ → machine.Place
-bare_place id class = record { id = id; class = class; is_prototype = false; parent = None; given = []; peers = []; signals = [] }
+-- a value that is given to a property
+abbrev pub given_property : GivenValue → machine.GivenProperty
+given_property g = record { slot = g.slot; given = machine.value (value_view g.value) }
 
--- the id and the class of an object
+-- an object without parent, peer and signals
+abbrev pub plain_place : List ℕ → ℕ → List machine.GivenProperty → machine.Place
+plain_place id class given = record { id = id; class = class; is_prototype = false; parent = None; given = given; peers = []; signals = [] }
+
+-- the id of an object, and what it has under it
 abbrev pub Entry : Type 0
-Entry = String Global × ℕ
+Entry = String Global × ObjectBody
 
 -- the object of an entry
 abbrev pub plain_object : Entry → machine.Place
-plain_object entry = bare_place (string_bytes entry.0) entry.1
+plain_object entry = plain_place (string_bytes entry.0) entry.1.class (map given_property entry.1.given.items)
 
 -- what a definition has that sets no limits: 64 objects live at a time, and programs connect no handlers
 abbrev pub default_limits : Limits
@@ -98,6 +104,15 @@ class_of_place (Some place) = place.class
 abbrev pub class_at : definition.Definition → ℕ → ℕ
 class_at d place = class_of_place (lookups.place_at d place)
 
+-- a value itself, and not the name of an object
+abbrev pub IsValue : machine.Given → Type 0
+IsValue (machine.value v) = Unit {0}
+IsValue (machine.named place) = ⊥
+
+abbrev pub AreValues : List machine.GivenProperty → Type 0
+AreValues [] = Unit {0}
+AreValues (g ∷ gs) = IsValue g.given × AreValues gs
+
 -- what a definition does not have so far: handlers, programs, shapes, bindings, and objects but plain ones
 pub record IsBasic (d : definition.Definition) : Type 0 where
   pub handlers : (t : ℕ) → (lookups.class_of d t).handlers ≡ []
@@ -105,7 +120,7 @@ pub record IsBasic (d : definition.Definition) : Type 0 where
   pub shapes : (t : ℕ) → (lookups.class_of d t).shape ≡ None
   pub plain : (t slot : ℕ) (s : Spec) → lookups.spec_of d t slot ≡ Some s → IsPlain d.types s
   pub parents : (p : ℕ) (place : machine.Place) → slice_get d.places p ≡ Some place → place.parent ≡ None
-  pub given : (p : ℕ) (place : machine.Place) → slice_get d.places p ≡ Some place → place.given ≡ []
+  pub given : (p : ℕ) (place : machine.Place) → slice_get d.places p ≡ Some place → AreValues place.given
   pub prototypes : (p : ℕ) (place : machine.Place) → slice_get d.places p ≡ Some place → place.is_prototype ≡ false
   pub peers : (p : ℕ) (place : machine.Place) → slice_get d.places p ≡ Some place → place.peers ≡ []
   pub signals : (p : ℕ) (place : machine.Place) → slice_get d.places p ≡ Some place → place.signals ≡ []

@@ -3,6 +3,8 @@ use Rattle.std.specs.Prelude.{◌≡◌, ℕ, List, Option, None, Some, Result, 
 use Rattle.g_values.specs.declared.error.JsonFault.{JsonFault}
 use Rattle.param_specs.specs.declared.error.SpecFault.{SpecFault}
 use Rattle.builder_defs.specs.Causes.{Cause, cause_view}
+use Rattle.builder_defs.specs.declared.fault.SpecCause.{SpecCause}
+use Rattle.builder_defs.specs.declared.fault.SpecCause.TheVariants.{Install}
 use Rattle.builder_defs.specs.declared.fault.DefinitionLimit.{DefinitionLimit}
 use Rattle.builder_defs.specs.declared.fault.DefinitionFault.{DefinitionFault}
 use Rattle.builder_defs.specs.declared.fault.DefinitionFault.TheVariants as faults
@@ -17,9 +19,13 @@ pub data Refusal : Type 0 where
   unknown : (path name : List ℕ) → Refusal
   duplicate : (path : List ℕ) → Refusal
   bad_type : (path : List ℕ) (cause : Cause) → Refusal
-  bad_spec : (path : List ℕ) (cause : SpecFault) → Refusal
+  bad_spec : (path : List ℕ) (cause : SpecCause) → Refusal
   value_fault : (path : List ℕ) (cause : JsonFault) → Refusal
   limit : DefinitionLimit → Refusal
+
+-- a property that is not installed
+abbrev pub not_installed : List ℕ → SpecFault → Refusal
+not_installed path fault = bad_spec path (Install fault)
 
 -- a fault without where its text lies in memory
 abbrev pub refusal : DefinitionFault → Refusal

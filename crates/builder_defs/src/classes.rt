@@ -269,6 +269,8 @@ impl<'a> Reads<Draft> for ClassEntries<'a> {
 
     ghost seen = { λ draft. denoted.draft_of draft.types draft.specs };
 
+    ghost known = { λ r. Unit {0} };
+
     ghost step = { λ r path draft d. denoted.class_at path r.first (items_view r.list.now) draft d };
 
     fn read(&self, part: Part<'_>, draft: &mut Draft) -> Result<(), ReadError> {

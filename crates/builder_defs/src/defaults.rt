@@ -10,7 +10,7 @@ ghost use Rattle.builder_defs.specs.Document.{under, path_of};
 ghost use Rattle.builder_defs.specs.Denoted.Defaults.{default_at, check_default, check_unranged};
 
 use crate::document::{Part, bad_value, path_under};
-use crate::fault::{DefinitionFault, ReadError};
+use crate::fault::{DefinitionFault, ReadError, SpecCause};
 use crate::kinds::is_whole;
 use g_values::{JsonError, Kind, from_json, zero_of};
 use param_specs::{Spec, SpecFault, is_valid_default};
@@ -18,7 +18,7 @@ use serde_json::Value;
 use type_tree::TypeTree;
 
 // The value of a kind that stands at a member.
-fn value_of(
+pub(crate) fn value_of(
     part: Part<'_>,
     key: &str,
     types: &TypeTree,
@@ -57,7 +57,10 @@ pub(crate) fn check_default(part: Part<'_>, types: &TypeTree, spec: &Spec) -> Re
 {
     if !is_valid_default(types, spec) {
         let path = path_under(part.alloc, part.path, "default")?;
-        return Err(ReadError::Refused(DefinitionFault::BadSpec(path, SpecFault::DefaultInvalid)));
+        return Err(ReadError::Refused(DefinitionFault::BadSpec(
+            path,
+            SpecCause::Install(SpecFault::DefaultInvalid),
+        )));
     }
     Ok(())
 }

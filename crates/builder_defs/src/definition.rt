@@ -4,9 +4,9 @@ ghost use Rattle.std.specs.Prelude.{◌≡◌, ◌<◌, ◌≤◌, length, optio
 ghost use Rattle.ui_machine.specs.Definition.Names.{place_named};
 ghost use Rattle.ui_machine.specs.Definition.Lookups.{place_of, spec_of, specs_of, slot_of, type_of};
 ghost use Rattle.param_specs.specs.View.{spec_view};
-ghost use Rattle.builder_defs.specs.Meaning.{AreLimits, IsBasic, bare_place, class_at, plain_object};
+ghost use Rattle.builder_defs.specs.Meaning.{AreLimits, IsBasic, plain_place, class_at, plain_object, given_property};
 
-use crate::object_entry::ObjectEntry;
+use crate::object_entry::{ObjectBody, ObjectEntry};
 use crate::types::type_name;
 use indexmap::IndexMap;
 use param_specs::{Spec, SpecTable};
@@ -22,7 +22,7 @@ pub const MOST_PLACES: usize = 512;
 pub struct Definition {
     pub(crate) types: TypeTree,
     pub(crate) specs: SpecTable,
-    pub(crate) objects: IndexMap<String, TypeId>,
+    pub(crate) objects: IndexMap<String, ObjectBody>,
     pub(crate) limits: Limits,
 }
 
@@ -66,12 +66,13 @@ impl Definition {
 
     /// The object at a place, if there is one.
     pub fn object(&self, place: usize) -> Option<ObjectEntry<'_>>
-        ensures { option_map (λ o. bare_place o.id.now o.class) result ≡ slice_get self.now.places place }
+        ensures { option_map (λ o. plain_place o.id.now o.class (map given_property o.given.now)) result ≡ slice_get self.now.places place }
     {
-        let (id, class) = self.objects.get_index(place)?;
+        let (id, body) = self.objects.get_index(place)?;
         Some(ObjectEntry {
             id: id.as_str(),
-            class: *class,
+            class: body.class,
+            given: body.given.as_slice(),
         })
     }
 
@@ -88,7 +89,7 @@ impl Definition {
         ensures { result ≡ class_at self.now place.0 }
     {
         match self.objects.get_index(usize::from(place.0)) {
-            Some((_, class)) => *class,
+            Some((_, body)) => body.class,
             None => TypeId::new(0),
         }
     }
@@ -134,7 +135,7 @@ impl Definition {
 }
 
 // Where the object of an id stands.
-pub(crate) fn position_of(objects: &IndexMap<String, TypeId>, id: &str) -> Option<usize>
+pub(crate) fn position_of(objects: &IndexMap<String, ObjectBody>, id: &str) -> Option<usize>
     ensures place { result ≡ place_named (λ p. p.id) (map plain_object objects.now.entries) id.now }
     ensures within { IfSome result (λ i. i < length objects.now.entries) }
 {

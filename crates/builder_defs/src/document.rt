@@ -7,7 +7,7 @@ ghost use Rattle.std.specs.Str.{bytes_eq};
 ghost use Rattle.std.specs.BTreeMap.{keys};
 ghost use Rattle.serde_json.specs.View.{view, items_view, members_view};
 ghost use Rattle.serde_json.specs.Find.{get};
-ghost use Rattle.builder_defs.specs.Refusals.{Gives, IsRefusal, shape, value_fault};
+ghost use Rattle.builder_defs.specs.Refusals.{Gives, IsRefusal, shape, unknown, value_fault};
 ghost use Rattle.builder_defs.specs.Document.{under, nth, path_of, members_at, text_at, truth_at, entries_at, is_absent_or_empty, nothing_at, absent_at, escaped, only_at, document};
 
 use crate::fault::{DefinitionFault, ReadError};
@@ -98,6 +98,15 @@ pub(crate) fn bad_shape(alloc: Global, path: Path<'_>, key: &str) -> Result<Read
     ensures { IsRefusal (shape (under (path_of path.entry) key.now)) result }
 {
     Ok(ReadError::Refused(DefinitionFault::Shape(path_under(alloc, path, key)?)))
+}
+
+// A fault of a name at a member, which nothing has.
+pub(crate) fn unknown_name(part: Part<'_>, key: &str, name: &str) -> Result<ReadError, ReadError>
+    ensures { IsRefusal (unknown (under (path_of part.entry.path) key.now) name.now) result }
+{
+    let path = path_under(part.alloc, part.path, key)?;
+    let name = String::from_str(part.alloc, name)?;
+    Ok(ReadError::Refused(DefinitionFault::Unknown(path, name)))
 }
 
 // A fault of a value at a member.

@@ -157,6 +157,8 @@ impl Reads<Vec<EnumMember>> for EnumMembers {
 
     ghost seen = { λ members. map enum_member members.items };
 
+    ghost known = { λ r. Unit {0} };
+
     ghost step = { λ r path members d. enum_member_at path members d };
 
     #[tactic(auto, using(std::proofs::lemmas::List::map_push))]
@@ -195,6 +197,8 @@ impl Reads<Vec<FlagsMember>> for FlagsMembers {
     ghost State = { List Member };
 
     ghost seen = { λ members. map flags_member members.items };
+
+    ghost known = { λ r. Unit {0} };
 
     ghost step = { λ r path members d. flags_member_at path members d };
 
@@ -327,6 +331,8 @@ impl Reads<TypeTree> for EnumEntries {
 
     ghost seen = { λ types. types };
 
+    ghost known = { λ r. Unit {0} };
+
     ghost step = { λ r path types d. enum_at path r.first types d };
 
     fn read(&self, part: Part<'_>, types: &mut TypeTree) -> Result<(), ReadError> {
@@ -348,6 +354,8 @@ impl Reads<TypeTree> for FlagsEntries {
     ghost State = { List GType };
 
     ghost seen = { λ types. types };
+
+    ghost known = { λ r. Unit {0} };
 
     ghost step = { λ r path types d. flags_at path r.first types d };
 

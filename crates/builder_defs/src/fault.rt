@@ -44,6 +44,15 @@ pub enum TypeCause {
     Abstract,
 }
 
+/// Why a property is not installed, or is given no value.
+#[derive(Clone, Copy, Debug, PartialEq, Eq)]
+pub enum SpecCause {
+    /// A test of the installation refuses it.
+    Install(SpecFault),
+    /// A value is given to a property that cannot be written.
+    NotWritable,
+}
+
 /// Why bytes denote no definition. A path is a JSON pointer (RFC 6901). The fault is the first one in document order, and at one path the first
 /// one in this order.
 #[derive(Debug, Drop)]
@@ -58,12 +67,12 @@ pub enum DefinitionFault {
     Shape(String),
     /// At the path stands a name that nothing has.
     Unknown(String, String),
-    /// An earlier entry of the section has the name, or an ancestor has the property.
+    /// An earlier entry of the section has the name, an ancestor has the property, or the object's property is named already.
     Duplicate(String),
     /// A type is not added, or has no objects.
     BadType(String, TypeCause),
-    /// A property is not installed.
-    BadSpec(String, SpecFault),
+    /// A property is not installed, or is given no value.
+    BadSpec(String, SpecCause),
     /// At the path stands no value of the kind.
     ValueFault(String, JsonFault),
     /// There is too much of something.

@@ -3,9 +3,9 @@
 ghost use Rattle.std.specs.Prelude.{◌≡◌, ◌<◌, ◌++◌, IfOk, OnOk, string_bytes};
 ghost use Rattle.builder_defs.specs.Causes.{cause_view};
 ghost use Rattle.builder_defs.specs.Refusals.{refusal};
-ghost use Rattle.builder_defs.specs.FaultText.{hex_digit, printed_byte, printed, type_limit_name, type_cause_text, spec_cause_text, value_cause_text, limit_name, refusal_text};
+ghost use Rattle.builder_defs.specs.FaultText.{hex_digit, printed_byte, printed, type_limit_name, type_cause_text, spec_fault_text, spec_cause_text, value_cause_text, limit_name, refusal_text};
 
-use crate::fault::{DefinitionFault, DefinitionLimit, TypeCause};
+use crate::fault::{DefinitionFault, DefinitionLimit, SpecCause, TypeCause};
 use g_values::JsonFault;
 use param_specs::SpecFault;
 use std::alloc::{AllocError, Global};
@@ -103,16 +103,26 @@ fn type_cause_text(alloc: Global, cause: &TypeCause) -> Result<String, AllocErro
 }
 
 // Why a property is not installed.
-fn spec_cause_text(cause: SpecFault) -> &'static str
-    ensures { result.now ≡ spec_cause_text cause }
+fn spec_fault_text(fault: SpecFault) -> &'static str
+    ensures { result.now ≡ spec_fault_text fault }
 {
-    match cause {
+    match fault {
         SpecFault::BadName => "BadName",
         SpecFault::Duplicate => "Duplicate",
         SpecFault::FlagsClash => "FlagsClash",
         SpecFault::RangeEmpty => "RangeEmpty",
         SpecFault::DefaultInvalid => "DefaultInvalid",
         SpecFault::Limit => "Limit",
+    }
+}
+
+// Why a property is not installed, or is given no value.
+fn spec_cause_text(cause: SpecCause) -> &'static str
+    ensures { result.now ≡ spec_cause_text cause }
+{
+    match cause {
+        SpecCause::Install(fault) => spec_fault_text(fault),
+        SpecCause::NotWritable => "NotWritable",
     }
 }
 

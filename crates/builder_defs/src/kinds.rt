@@ -5,12 +5,12 @@ ghost use Rattle.serde_json.specs.View.{view};
 ghost use Rattle.ui_machine.specs.Definition.Types.{GType, enum, flags};
 ghost use Rattle.type_tree.specs.Adding.{sort_of};
 ghost use Rattle.g_values.specs.View.{kind_view, is_whole_kind, IsKnown};
-ghost use Rattle.builder_defs.specs.Refusals.{Gives, IsRefusal, unknown};
+ghost use Rattle.builder_defs.specs.Refusals.{Gives};
 ghost use Rattle.builder_defs.specs.Document.{under, path_of};
 ghost use Rattle.builder_defs.specs.Denoted.Kinds.{kind_named, enum_named, flags_named, parted, kind_of_type, kind_by, kind_at, lowest, highest};
 
-use crate::document::{Part, bad_shape, path_under};
-use crate::fault::{DefinitionFault, ReadError};
+use crate::document::{Part, bad_shape, unknown_name};
+use crate::fault::ReadError;
 use g_values::Kind;
 use type_tree::{TypeId, TypeTree};
 
@@ -69,15 +69,6 @@ fn parted(word: &str) -> Option<(&str, &str)>
     word.split_once(':')
 }
 
-// A name of a type that is not there.
-fn unknown_type(part: Part<'_>, name: &str) -> Result<ReadError, ReadError>
-    ensures { IsRefusal (unknown (under (path_of part.entry.path) (codes "kind")) name.now) result }
-{
-    let path = path_under(part.alloc, part.path, "kind")?;
-    let name = String::from_str(part.alloc, name)?;
-    Ok(ReadError::Refused(DefinitionFault::Unknown(path, name)))
-}
-
 // The kind of a sort and of the type that a name names.
 fn kind_of_type(part: Part<'_>, types: &TypeTree, sort: &str, name: &str) -> Result<Kind, ReadError>
     ensures kind { Gives kind_view result (kind_of_type (under (path_of part.entry.path) (codes "kind")) types.now sort.now name.now) }
@@ -86,13 +77,13 @@ fn kind_of_type(part: Part<'_>, types: &TypeTree, sort: &str, name: &str) -> Res
     if sort == "enum" {
         return match enum_named(types, name) {
             Some(found) => Ok(Kind::Enum(found)),
-            None => Err(unknown_type(part, name)?),
+            None => Err(unknown_name(part, "kind", name)?),
         };
     }
     if sort == "flags" {
         return match flags_named(types, name) {
             Some(found) => Ok(Kind::Flags(found)),
-            None => Err(unknown_type(part, name)?),
+            None => Err(unknown_name(part, "kind", name)?),
         };
     }
     Err(bad_shape(part.alloc, part.path, "kind")?)

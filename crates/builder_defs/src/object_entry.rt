@@ -1,10 +1,27 @@
-//! An object of a definition.
+//! An object of a definition, and the values that are given to it.
 
+use g_values::Value;
 use type_tree::TypeId;
 
-/// An object of a definition: its id and its class.
+/// A value that is given to a property.
+#[derive(Debug, Drop)]
+pub struct GivenValue {
+    /// The property, by its slot in the object's class.
+    pub slot: u16,
+    pub value: Value,
+}
+
+// What an object has under its id: its class, and the given values in the given order.
+#[derive(Drop)]
+pub(crate) struct ObjectBody {
+    pub(crate) class: TypeId,
+    pub(crate) given: Vec<GivenValue>,
+}
+
+/// An object of a definition: its id, its class, and the given values in the given order.
 #[derive(Clone, Copy)]
 pub struct ObjectEntry<'a> {
     pub id: &'a str,
     pub class: TypeId,
+    pub given: &'a [GivenValue],
 }

@@ -3,23 +3,28 @@
 ghost use Rattle.std.specs.Prelude.{◌≡◌, ◌<◌, ◌≤◌, [], codes, map, length, is_some, string_bytes, None, IfOk};
 ghost use Rattle.serde_json.specs.View.{view, items_view};
 ghost use Rattle.ui_machine.specs.Definition.Names.{place_named};
-ghost use Rattle.builder_defs.specs.Meaning.{bare_place, plain_object};
+ghost use Rattle.builder_defs.specs.Meaning.{ArePlain, plain_place, plain_object, given_property};
+ghost use Rattle.param_specs.specs.Table.{own_of};
 ghost use Rattle.builder_defs.specs.Refusals.{Gives};
 ghost use Rattle.builder_defs.specs.Document.{under, path_of, each, at_entry};
-ghost use Rattle.builder_defs.specs.Denoted.Objects.{room_for_object, new_id, unless_abstract, class_at_key, bare_at, place_at, object_at};
+ghost use Rattle.builder_defs.specs.Denoted.Objects.{room_for_object, new_id, unless_abstract, class_at_key, place_at, object_at};
+ghost use Rattle.builder_defs.specs.Denoted.Properties.{specs_by};
 
 use crate::definition::{MOST_PLACES, position_of};
-use crate::document::{Entries, Part, bad_shape, path_under};
+use crate::document::{Entries, Part, bad_shape, path_under, unknown_name};
 use crate::fault::{DefinitionFault, DefinitionLimit, ReadError, TypeCause};
+use crate::given::read_givens;
 use crate::names::is_name;
+use crate::object_entry::ObjectBody;
 use crate::reads::{Reads, read_each};
 use indexmap::IndexMap;
+use param_specs::SpecTable;
 use type_tree::{TypeId, TypeTree};
 
 const MEMBERS: [&str; 6] = ["id", "class", "peer", "properties", "signals", "children"];
 
 // Tests that there is room for a further object, where so many may live.
-fn check_room(objects: &IndexMap<String, TypeId>, most: usize) -> Result<(), ReadError>
+fn check_room(objects: &IndexMap<String, ObjectBody>, most: usize) -> Result<(), ReadError>
     ensures { Gives (λ _. tt) result (room_for_object most (map plain_object objects.now.entries)) }
 {
     if objects.len() >= MOST_PLACES {
@@ -32,14 +37,18 @@ fn check_room(objects: &IndexMap<String, TypeId>, most: usize) -> Result<(), Rea
 }
 
 // Whether an object has this id.
-fn has_object(objects: &IndexMap<String, TypeId>, id: &str) -> bool
+fn has_object(objects: &IndexMap<String, ObjectBody>, id: &str) -> bool
     ensures { result ≡ is_some (place_named (λ p. p.id) (map plain_object objects.now.entries) id.now) }
 {
     position_of(objects, id).is_some()
 }
 
 // Tests an id beside those of the objects before.
-fn check_id(part: Part<'_>, objects: &IndexMap<String, TypeId>, id: &str) -> Result<(), ReadError>
+fn check_id(
+    part: Part<'_>,
+    objects: &IndexMap<String, ObjectBody>,
+    id: &str,
+) -> Result<(), ReadError>
     ensures id { Gives (λ _. tt) result (new_id (under (path_of part.entry.path) (codes "id")) (map plain_object objects.now.entries) id.now) }
     ensures new { IfOk result (λ _. place_named (λ p. p.id) (map plain_object objects.now.entries) id.now ≡ None) }
 {
@@ -75,13 +84,7 @@ fn class_of(part: Part<'_>, types: &TypeTree) -> Result<TypeId, ReadError>
             let class = check_concrete(part, types, class)?;
             Ok(class)
         }
-        None => {
-            let path = path_under(part.alloc, part.path, "class")?;
-            Err(ReadError::Refused(DefinitionFault::Unknown(
-                path,
-                String::from_str(part.alloc, name)?,
-            )))
-        }
+        None => Err(unknown_name(part, "class", name)?),
     }
 }
 
@@ -89,17 +92,7 @@ fn class_of(part: Part<'_>, types: &TypeTree) -> Result<TypeId, ReadError>
 #[derive(Drop)]
 struct NewObject {
     id: String,
-    class: TypeId,
-}
-
-// Tests that an object has no peer, given values, signals and children.
-#[tactic(auto, unfolding(crate::specs::Denoted::Objects::bare_at))]
-fn check_bare(part: Part<'_>) -> Result<(), ReadError>
-    ensures { Gives (λ _. tt) result (bare_at (path_of part.entry.path) (view part.entry.value.now)) }
-{
-    part.check_absent(&["peer"])?;
-    part.check_nothing(&["properties", "signals", "children"])?;
-    Ok(())
+    body: ObjectBody,
 }
 
 // The object of an entry.
@@ -107,10 +100,12 @@ fn check_bare(part: Part<'_>) -> Result<(), ReadError>
 fn read_object(
     part: Part<'_>,
     types: &TypeTree,
+    specs: &SpecTable,
     most: usize,
-    objects: &IndexMap<String, TypeId>,
+    objects: &IndexMap<String, ObjectBody>,
 ) -> Result<NewObject, ReadError>
-    ensures object { Gives (λ o. bare_place (string_bytes o.id) o.class) result (place_at (path_of part.entry.path) types.now most (map plain_object objects.now.entries) (view part.entry.value.now)) }
+    requires { ArePlain types.now specs.now }
+    ensures object { Gives (λ o. plain_place (string_bytes o.id) o.body.class (map given_property o.body.given.items)) result (place_at (path_of part.entry.path) types.now (specs_by types.now (own_of specs.now)) most (map plain_object objects.now.entries) (view part.entry.value.now)) }
     ensures new { IfOk result (λ o. place_named (λ p. p.id) (map plain_object objects.now.entries) (string_bytes o.id) ≡ None) }
 {
     let members = part.members()?;
@@ -118,38 +113,46 @@ fn read_object(
     let id = part.text("id")?;
     check_id(part, objects, id)?;
     let class = class_of(part, types)?;
-    check_bare(part)?;
+    part.check_absent(&["peer"])?;
+    let given = read_givens(part, types, specs, class)?;
+    part.check_nothing(&["signals", "children"])?;
     part.check_only(members, &MEMBERS)?;
     let id = String::from_str(part.alloc, id)?;
-    Ok(NewObject { id, class })
+    let body = ObjectBody { class, given };
+    Ok(NewObject { id, body })
 }
 
-// How the entries of the objects are read, among these types, where so many may live.
+// How the entries of the objects are read, among these types with their properties, where so many may live.
 #[derive(Clone, Copy)]
 struct ObjectEntries<'a> {
     types: &'a TypeTree,
+    specs: &'a SpecTable,
     most: usize,
 }
 
-impl<'a> Reads<IndexMap<String, TypeId>> for ObjectEntries<'a> {
+impl<'a> Reads<IndexMap<String, ObjectBody>> for ObjectEntries<'a> {
     ghost use Rattle.std.specs.Prelude.{List, map};
     ghost use Rattle.ui_machine.specs.Definition.Places as machine;
-    ghost use Rattle.builder_defs.specs.Meaning.{plain_object};
+    ghost use Rattle.param_specs.specs.Table.{own_of};
+    ghost use Rattle.builder_defs.specs.Meaning.{ArePlain, plain_object};
+    ghost use Rattle.builder_defs.specs.Denoted.Properties.{specs_by};
     ghost use Rattle.builder_defs.specs.Denoted.Objects.{object_at};
 
     ghost State = { List machine.Place };
 
     ghost seen = { λ objects. map plain_object objects.entries };
 
-    ghost step = { λ r path places d. object_at path r.types.now r.most places d };
+    ghost known = { λ r. ArePlain r.types.now r.specs.now };
+
+    ghost step = { λ r path places d. object_at path r.types.now (specs_by r.types.now (own_of r.specs.now)) r.most places d };
 
     fn read(
         &self,
         part: Part<'_>,
-        objects: &mut IndexMap<String, TypeId>,
+        objects: &mut IndexMap<String, ObjectBody>,
     ) -> Result<(), ReadError> {
-        let object = read_object(part, self.types, self.most, objects)?;
-        objects.insert(object.id, object.class)?;
+        let object = read_object(part, self.types, self.specs, self.most, objects)?;
+        objects.insert(object.id, object.body)?;
         Ok(())
     }
 }
@@ -158,12 +161,14 @@ impl<'a> Reads<IndexMap<String, TypeId>> for ObjectEntries<'a> {
 pub(crate) fn read_objects(
     list: Entries<'_>,
     types: &TypeTree,
+    specs: &SpecTable,
     most: usize,
-) -> Result<IndexMap<String, TypeId>, ReadError>
-    ensures { Gives (λ v. map plain_object v.entries) result (each (at_entry (λ path. object_at path types.now most) list.entry.path.now) 0 [] (items_view list.entry.items.now)) }
+) -> Result<IndexMap<String, ObjectBody>, ReadError>
+    requires { ArePlain types.now specs.now }
+    ensures { Gives (λ v. map plain_object v.entries) result (each (at_entry (λ path. object_at path types.now (specs_by types.now (own_of specs.now)) most) list.entry.path.now) 0 [] (items_view list.entry.items.now)) }
 {
     let mut objects = IndexMap::new(list.alloc);
-    let reader = ObjectEntries { types, most };
+    let reader = ObjectEntries { types, specs, most };
     read_each(&reader, list, &mut objects)?;
     Ok(objects)
 }

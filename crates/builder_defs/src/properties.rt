@@ -12,7 +12,7 @@ ghost use Rattle.builder_defs.specs.Denoted.Properties.{inherited_of, property_s
 
 use crate::defaults::{check_default, check_unranged, default_of};
 use crate::document::{Entries, Part, path_text, path_under};
-use crate::fault::{DefinitionFault, DefinitionLimit, ReadError};
+use crate::fault::{DefinitionFault, DefinitionLimit, ReadError, SpecCause};
 use crate::kinds::kind_of;
 use crate::property_flags::flags_of;
 use crate::ranges::{NumberRange, range_of, whole_range};
@@ -94,7 +94,10 @@ fn check_new_name(
     }
     if specs.find(types, class, name).is_some() {
         let path = path_under(part.alloc, part.path, "name")?;
-        return Err(ReadError::Refused(DefinitionFault::BadSpec(path, SpecFault::Duplicate)));
+        return Err(ReadError::Refused(DefinitionFault::BadSpec(
+            path,
+            SpecCause::Install(SpecFault::Duplicate),
+        )));
     }
     Ok(())
 }
@@ -111,7 +114,10 @@ fn check_name(
 {
     if !is_property_name(name) {
         let path = path_under(part.alloc, part.path, "name")?;
-        return Err(ReadError::Refused(DefinitionFault::BadSpec(path, SpecFault::BadName)));
+        return Err(ReadError::Refused(DefinitionFault::BadSpec(
+            path,
+            SpecCause::Install(SpecFault::BadName),
+        )));
     }
     check_new_name(part, types, specs, class, name)
 }
@@ -178,7 +184,7 @@ fn install(
         Err(SpecError::OutOfMemory) => Err(ReadError::OutOfMemory),
         Err(SpecError::Refused(cause)) => Err(ReadError::Refused(DefinitionFault::BadSpec(
             path_text(part.alloc, part.path)?,
-            cause,
+            SpecCause::Install(cause),
         ))),
     }
 }
@@ -214,6 +220,8 @@ impl<'a> Reads<SpecTable> for PropertyEntries<'a> {
     ghost State = { ℕ → List properties.Spec };
 
     ghost seen = { λ specs. own_of specs };
+
+    ghost known = { λ r. Unit {0} };
 
     ghost step = { λ r path own d. property_at path r.types.now r.class own d };
 

@@ -8,7 +8,7 @@ ghost use Rattle.builder_defs.specs.Document.{under, path_of, each, at_entry};
 ghost use Rattle.builder_defs.specs.Denoted.PropertyFlags.{flag_named, flag_if, flag_at, check_flags, listed_flags, flags_at};
 
 use crate::document::{Entries, Part, bad_shape, path_text, path_under};
-use crate::fault::{DefinitionFault, ReadError};
+use crate::fault::{DefinitionFault, ReadError, SpecCause};
 use crate::reads::{Reads, read_each};
 use param_specs::{PropertyFlags, SpecFault};
 use serde_json::Value;
@@ -54,6 +54,8 @@ impl Reads<PropertyFlags> for FlagWords {
 
     ghost seen = { λ flags. flags.0 };
 
+    ghost known = { λ r. Unit {0} };
+
     ghost step = { λ r path flags d. flag_at path flags d };
 
     #[tactic(auto, unfolding(crate::specs::Denoted::PropertyFlags::flag_at))]
@@ -77,7 +79,10 @@ fn check_flags(part: Part<'_>, flags: PropertyFlags) -> Result<(), ReadError>
 {
     if flags.is_clash() {
         let path = path_under(part.alloc, part.path, "flags")?;
-        return Err(ReadError::Refused(DefinitionFault::BadSpec(path, SpecFault::FlagsClash)));
+        return Err(ReadError::Refused(DefinitionFault::BadSpec(
+            path,
+            SpecCause::Install(SpecFault::FlagsClash),
+        )));
     }
     Ok(())
 }

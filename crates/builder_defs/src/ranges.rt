@@ -11,7 +11,7 @@ ghost use Rattle.builder_defs.specs.Denoted.Kinds.{lowest, highest};
 ghost use Rattle.builder_defs.specs.Denoted.Ranges.{whole_range, end_given, end_or, check_filled, range_at};
 
 use crate::document::{Part, bad_shape, bad_value, path_under};
-use crate::fault::{DefinitionFault, ReadError};
+use crate::fault::{DefinitionFault, ReadError, SpecCause};
 use crate::kinds::{highest, is_whole, lowest};
 use crate::numbers::whole_number;
 use g_values::{JsonFault, Kind};
@@ -84,7 +84,10 @@ fn check_filled(part: Part<'_>, min: i128, max: i128) -> Result<(), ReadError>
 {
     if max < min {
         let path = path_under(part.alloc, part.path, "min")?;
-        return Err(ReadError::Refused(DefinitionFault::BadSpec(path, SpecFault::RangeEmpty)));
+        return Err(ReadError::Refused(DefinitionFault::BadSpec(
+            path,
+            SpecCause::Install(SpecFault::RangeEmpty),
+        )));
     }
     Ok(())
 }

@@ -4,9 +4,11 @@ ghost use Rattle.std.specs.Prelude.{◌≡◌, [], map, codes, option_and_then};
 ghost use Rattle.serde_json.specs.Find.{get, as_number, as_u64};
 ghost use Rattle.serde_json.specs.View.{view};
 ghost use Rattle.ui_machine.specs.Definition.Types.{predeclared};
-ghost use Rattle.builder_defs.specs.Meaning.{plain_object};
+ghost use Rattle.builder_defs.specs.Meaning.{ArePlain, plain_object};
 ghost use Rattle.builder_defs.specs.Refusals.{Gives, Leads};
 ghost use Rattle.builder_defs.specs.Document.{path_of};
+ghost use Rattle.param_specs.specs.Table.{own_of};
+ghost use Rattle.builder_defs.specs.Denoted.Properties.{specs_by};
 ghost use Rattle.builder_defs.specs.Denoted.Classes.{draft_of};
 ghost use Rattle.builder_defs.specs.Denoted.{format_of, enums_in, flags_in, classes_in, draft_in, objects_in, definition_in, denoted};
 
@@ -16,12 +18,13 @@ use crate::document::{Entries, Part, Path, parsed};
 use crate::enums::{read_enums, read_flags_types};
 use crate::fault::{DefinitionFault, ReadError};
 use crate::limits::limits_of;
+use crate::object_entry::ObjectBody;
 use crate::objects::read_objects;
 use indexmap::IndexMap;
 use param_specs::SpecTable;
 use serde_json::Value;
 use std::alloc::Global;
-use type_tree::{TypeId, TypeTree};
+use type_tree::TypeTree;
 
 const UNSET_BEFORE_CLASSES: [&str; 2] = ["interfaces", "shapes"];
 
@@ -128,10 +131,12 @@ fn read_draft(part: Part<'_>) -> Result<Draft, ReadError>
 fn objects_of(
     part: Part<'_>,
     types: &TypeTree,
+    specs: &SpecTable,
     most: usize,
-) -> Result<IndexMap<String, TypeId>, ReadError>
-    requires { path_of part.path ≡ [] }
-    ensures { Gives (λ v. map plain_object v.entries) result (objects_in types.now most (view part.entry.value.now)) }
+) -> Result<IndexMap<String, ObjectBody>, ReadError>
+    requires root { path_of part.path ≡ [] }
+    requires plain { ArePlain types.now specs.now }
+    ensures { Gives (λ v. map plain_object v.entries) result (objects_in types.now (specs_by types.now (own_of specs.now)) most (view part.entry.value.now)) }
 {
     part.check_nothing(&UNSET_BEFORE_OBJECTS)?;
     let items = part.entries("objects")?;
@@ -140,7 +145,7 @@ fn objects_of(
         path: "/objects",
         items,
     };
-    let objects = read_objects(list, types, most)?;
+    let objects = read_objects(list, types, specs, most)?;
     Ok(objects)
 }
 
@@ -161,7 +166,8 @@ fn definition_of(alloc: Global, value: &Value) -> Result<Definition, ReadError>
     check_format(alloc, format_in(value))?;
     let limits = limits_of(part)?;
     let draft = read_draft(part)?;
-    let objects = objects_of(part, &draft.types, limits.objects as usize)?;
+    let most = limits.objects as usize;
+    let objects = objects_of(part, &draft.types, &draft.specs, most)?;
     part.check_only(members, &MEMBERS)?;
     Ok(Definition {
         types: draft.types,

@@ -16,10 +16,14 @@ pub(crate) trait Reads<S> {
 
     ghost seen: { S → State };
 
+    // What must be known of the reader.
+    ghost known: { Self → Type 0 };
+
     // What comes of the state by the entry at a path, or the fault.
     ghost step: { Self → List ℕ → State → Data → Result State Refusal };
 
     fn read(&self, part: Part<'_>, state: &mut S) -> Result<(), ReadError>
+        requires { known self.now }
         ensures { Leads result (step self.now (path_of part.entry.path) (seen state.old) (view part.entry.value.now)) (seen state.new) };
 }
 
@@ -29,6 +33,7 @@ pub(crate) fn read_each<S, R: Reads<S>>(
     list: Entries<'_>,
     state: &mut S,
 ) -> Result<(), ReadError>
+    requires { R.known reader.now }
     ensures { Leads result (each (at_entry (R.step reader.now) list.entry.path.now) 0 (R.seen state.old) (items_view list.entry.items.now)) (R.seen state.new) }
 {
     'items: for (index, value) in list.items.iter().enumerate() {

@@ -36,8 +36,8 @@ use Rattle.ui_engine.specs.EngineView.{is_counted}
 use Rattle.ui_machine.specs.Prefix.{IsPrefix}
 use Rattle.ui_machine.proofs.Prefixes.{prefix_same, prefix_one}
 use Rattle.ui_engine.specs.Holding.{making_of, IsHeld}
-use Rattle.ui_engine.specs.Measure.{slots_of_place, weight, waiting_in, waiting}
-use Rattle.ui_engine.specs.MakingView.{construct_defaults}
+use Rattle.ui_engine.specs.Measure.{sets_of_place, weight, waiting_in, waiting}
+use Rattle.ui_engine.specs.MakingView.{making_of_object}
 use Rattle.ui_engine.proofs.Lists.{total-append}
 use Rattle.ui_engine.proofs.Held.{Quietly, keeps_quietly, if_ok_at, bind_ok, changed_lives, made_held, ended_held}
 use Rattle.ui_engine.proofs.Quiet.{Calm, notifying_calm, setting_calm, carrying_set_calm, carrying_get_calm, thawing_calm}
@@ -261,15 +261,15 @@ module _ (d : Definition) (w : World) (rest : List Task) (n : ℕ) where
   made : (place : ℕ) (p : Place) (items : List Item) → slice_get d.places place ≡ Some p → IsHeld w (Building (makes place ∷ items) ∷ rest)
       → Passes d w (Building (makes place ∷ items)) rest n (record {
         world = said d (with_object d w (new_object d place p None)) (lines.construct (suc (length w.objects)) (type_of d p.class).name);
-        agenda = Constructing (suc (length w.objects)) (construct_defaults 0 (specs_of d p.class)) true ∷ Building items ∷ rest;
+        agenda = Constructing (suc (length w.objects)) (making_of_object w (specs_of d p.class) p.given) true ∷ Building items ∷ rest;
         counted = n;
       })
   made place p items at held = record {
     held = made_held w (said d (with_object d w (new_object d place p None)) (lines.construct (suc (length w.objects)) (type_of d p.class).name)) (Building (makes place ∷ items)) rest
-        (new_object d place p None) (is_a d.types p.class initially_unowned) (construct_defaults 0 (specs_of d p.class)) (Building items) held (λ q. refl) refl refl refl;
+        (new_object d place p None) (is_a d.types p.class initially_unowned) (making_of_object w (specs_of d p.class) p.given) (Building items) held (λ q. refl) refl refl refl;
     falls = λ _.
-        let few = few_steps 0 (specs_of d p.class) in
-        let slots : slots_of_place d (place_at d place) ≡ length (specs_of d p.class) = ap (slots_of_place d) at in
+        let few = few_steps w (specs_of d p.class) p.given in
+        let slots : sets_of_place d (place_at d place) ≡ length (specs_of d p.class) + length p.given = ap (sets_of_place d) at in
         omega (arith, few, slots, waiting_more w.objects (new_object d place p None) refl);
     stays = λ _. refl;
     counts = λ yes. cc yes;
@@ -294,7 +294,7 @@ module _ (d : Definition) (w : World) (rest : List Task) (n : ℕ) where
         by false is = rw (made_there d basic w place p at is)
             (subst (λ (xs : List Item). Passes d w (Building xs) rest n (record {
               world = said d (with_object d w (new_object d place p None)) (lines.construct (suc (length w.objects)) (type_of d p.class).name);
-              agenda = Constructing (suc (length w.objects)) (construct_defaults 0 (specs_of d p.class)) true ∷ Building items ∷ rest;
+              agenda = Constructing (suc (length w.objects)) (making_of_object w (specs_of d p.class) p.given) true ∷ Building items ∷ rest;
               counted = n;
             })) (sym next) (made place p items at (subst (λ (xs : List Item). IsHeld w (Building xs ∷ rest)) next held)))
 

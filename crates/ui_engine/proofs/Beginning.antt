@@ -4,13 +4,13 @@ use Rattle.std.proofs.lemmas.List.{append-nil}
 use Rattle.std.specs.List.{flat_map}
 use Rattle.ui_machine.specs.Seq.{total}
 use Rattle.ui_machine.specs.Definition.{Definition}
-use Rattle.ui_machine.specs.Definition.Places.{Place, Attached, Bind}
+use Rattle.ui_machine.specs.Definition.Places.{Given, value, named, GivenProperty, Place, Attached, Bind}
 use Rattle.ui_machine.specs.State.Objects.{Objects, living}
 use Rattle.ui_machine.specs.State.Tasks.{Item, binds, connects}
 use Rattle.ui_machine.specs.State.Config.{World}
 use Rattle.ui_machine.specs.State.References.{same}
-use Rattle.ui_machine.specs.Rules.Build.{made_items, forward_of, forward_items, numbered, connected_items, build_items}
-use Rattle.builder_defs.specs.Meaning.{IsBasic}
+use Rattle.ui_machine.specs.Rules.Build.{made_items, forward_given, forward_of, forward_items, numbered, connected_items, build_items}
+use Rattle.builder_defs.specs.Meaning.{IsValue, AreValues, IsBasic}
 use Rattle.ui_engine.specs.Holding.{IsHeld}
 use Rattle.ui_engine.specs.TaskView.{build_from}
 
@@ -28,10 +28,19 @@ cond_none : (b : Bool) (xs : List Item) → xs ≡ [] → cond b [] xs ≡ []
 cond_none true xs none = refl
 cond_none false xs none = none
 
-no_forwards : (place : ℕ) (ps : List Place) → ((i : ℕ) (p : Place) → slice_get ps i ≡ Some p → p.given ≡ []) → forward_items place ps ≡ []
+no_forward : (place slot : ℕ) (g : Given) → IsValue g → forward_given place slot g ≡ []
+no_forward place slot (value v) is = refl
+no_forward place slot (named to) is = absurd is
+
+none_forward : (place : ℕ) (given : List GivenProperty) → AreValues given → flat_map (forward_of place) given ≡ []
+none_forward place [] values = refl
+none_forward place (g ∷ gs) values =
+    ap (λ items. items ++ flat_map (forward_of place) gs) (no_forward place g.slot g.given values.0) ∙ none_forward place gs values.1
+
+no_forwards : (place : ℕ) (ps : List Place) → ((i : ℕ) (p : Place) → slice_get ps i ≡ Some p → AreValues p.given) → forward_items place ps ≡ []
 no_forwards place [] given = refl
 no_forwards place (p ∷ ps) given =
-    let first = cond_none p.is_prototype (flat_map (forward_of place) p.given) (ap (flat_map (forward_of place)) (given 0 p refl)) in
+    let first = cond_none p.is_prototype (flat_map (forward_of place) p.given) (none_forward place p.given (given 0 p refl)) in
     ap (λ items. items ++ forward_items (suc place) ps) first ∙ no_forwards (suc place) ps (λ i q at. given (suc i) q at)
 
 no_connections : (place : ℕ) (ps : List Place) → ((i : ℕ) (p : Place) → slice_get ps i ≡ Some p → p.signals ≡ []) → connected_items place ps ≡ []

@@ -1,5 +1,5 @@
 -- The build of a basic definition: what each step of it starts.
-use Rattle.std.proofs.Common.{◌≡◌, ℕ, zero, suc, ◌<◌, ◌≤◌, Bool, true, false, cond, not, nat_eq, List, [], ◌∷◌, ◌++◌, length, map, reverse, take, drop, Option, Some, None, is_some, Ok, Err, slice_get, refl, sym, ap, ◌∙◌, arith, append_assoc}
+use Rattle.std.proofs.Common.{◌≡◌, ℕ, zero, suc, ◌+◌, ◌<◌, ◌≤◌, Bool, true, false, cond, not, nat_eq, List, [], ◌∷◌, ◌++◌, length, map, reverse, take, drop, Option, Some, None, is_some, Ok, Err, slice_get, refl, sym, ap, ◌∙◌, arith, length-append}
 use Rattle.std.specs.List.{filter, flat_map, list_all}
 use Rattle.std.proofs.lemmas.Option.{slice_get_within, get_or_from_slice_get}
 use Rattle.std.proofs.lemmas.List.{reverse-append}
@@ -7,23 +7,25 @@ use Rattle.std.proofs.Math.Seq.{drop-cons}
 use Rattle.ui_machine.specs.declared.arm.Arm.TheVariants as arms
 use Rattle.ui_machine.specs.Definition.Properties.{Spec}
 use Rattle.ui_machine.specs.Definition.{Definition}
-use Rattle.ui_machine.specs.Definition.Places.{Place}
+use Rattle.ui_machine.specs.Definition.Places.{Given, value, named, GivenProperty, Place}
+use Rattle.ui_machine.specs.Definition.Values as values
+use Rattle.ui_machine.specs.Seq.{read}
 use Rattle.ui_machine.specs.Definition.Lookups.{type_of, class_of, specs_of}
 use Rattle.ui_machine.specs.Output.Lines as lines
 use Rattle.ui_machine.specs.State.Tasks.{Making, sets, thaws, Item, makes, Task, Constructing, Building}
 use Rattle.ui_machine.specs.State.Config.{World, Started, starts, said, without}
 use Rattle.ui_machine.specs.Outcome.{Answer, ◌>>=◌, known, only_if}
-use Rattle.ui_machine.specs.Rules.Construction.{not_forward, is_at_construction, construct_sets, constructed_runs, run_of, given_sets, construction, new_object, with_object, making, has_valid_default, has_shape}
+use Rattle.ui_machine.specs.Rules.Construction.{is_forward, not_forward, or_default, given_at, given_value, set_of, no_spec, is_at_construction, construct_sets, constructed_runs, run_of, given_sets, construction, new_object, with_object, making, has_valid_default, has_shape}
 use Rattle.ui_machine.specs.Rules.Build.{made_items, adopts_if, first_peer, peer_for, building, building_object}
 use Rattle.ui_machine.specs.Rules.Ancestry.{lineage}
 use Rattle.ui_machine.specs.Rules.Transform.{same_bool}
 use Rattle.ui_machine.specs.Steps.{uncounted}
 use Rattle.g_values.specs.declared.value.Value.{Value}
 use Rattle.g_values.specs.View.{value_view}
-use Rattle.builder_defs.specs.Meaning.{IsPlain, IsBasic}
+use Rattle.builder_defs.specs.Meaning.{IsPlain, IsValue, AreValues, IsBasic}
 use Rattle.ui_engine.specs.TaskView.{build_from}
 use Rattle.ui_engine.specs.declared.task.Making as code
-use Rattle.ui_engine.specs.MakingView.{making_of_code, making_steps, set_if_construct, construct_defaults}
+use Rattle.ui_engine.specs.MakingView.{making_of_code, making_steps, later_steps, making_of_object}
 use Rattle.ui_engine.proofs.Notified.{none_given}
 
 -- ** lists
@@ -40,7 +42,7 @@ one_more : {A : Type 0} (xs : List A) (x : A) (ys : List A) → xs ++ x ∷ ys �
 one_more [] x ys = refl
 one_more (z ∷ xs) x ys = ap (λ zs. z ∷ zs) (one_more xs x ys)
 
-drop_at : {A : Type 0} (xs : List A) (i : ℕ) (x : A) → slice_get xs i ≡ Some x → drop i xs ≡ x ∷ drop (suc i) xs
+pub drop_at : {A : Type 0} (xs : List A) (i : ℕ) (x : A) → slice_get xs i ≡ Some x → drop i xs ≡ x ∷ drop (suc i) xs
 drop_at xs i x at = drop-cons xs i x (slice_get_within xs i x at) ∙ ap (λ y. y ∷ drop (suc i) xs) (get_or_from_slice_get xs i x x at)
 
 drop_past : {A : Type 0} (xs : List A) (i : ℕ) → length xs ≤ i → drop i xs ≡ []
@@ -51,21 +53,51 @@ drop_past (x ∷ xs) (suc i) past = drop_past xs i (omega arith)
 
 -- ** constructions
 
--- where nothing is given, the construct properties get their defaults
-defaults_set : (w : World) (slot : ℕ) (specs : List Spec) → construct_sets w [] slot specs ++ thaws ∷ [] ≡ construct_defaults slot specs
-defaults_set w slot [] = refl
-defaults_set w slot (s ∷ specs) =
-    append_assoc (set_if_construct slot s) (construct_sets w [] (suc slot) specs) (thaws ∷ [])
-    ∙ ap (λ steps. set_if_construct slot s ++ steps) (defaults_set w (suc slot) specs)
+no_forward : (place : ℕ) (g : Given) → IsValue g → is_forward place g ≡ false
+no_forward place (value v) is = refl
+no_forward place (named to) is = absurd is
 
-one_set : (b : Bool) (slot : ℕ) (s : Spec) (steps : List Making) → length (cond b (sets slot s.default ∷ []) [] ++ steps) ≤ suc (length steps)
-one_set true slot s steps = omega arith
-one_set false slot s steps = omega arith
+-- a value itself does not wait for an object
+none_forward : (place : ℕ) (given : List GivenProperty) → AreValues given → not_forward place given ≡ given
+none_forward place [] values = refl
+none_forward place (g ∷ gs) values =
+    ap (λ b. cond (not b) (g ∷ not_forward place gs) (not_forward place gs)) (no_forward place g.given values.0)
+    ∙ ap (λ rest. g ∷ rest) (none_forward place gs values.1)
 
--- no more than one for each property, and the thaw
-pub few_steps : (slot : ℕ) (specs : List Spec) → length (construct_defaults slot specs) ≤ suc (length specs)
-few_steps slot [] = omega arith
-few_steps slot (s ∷ specs) = let one = one_set (is_at_construction s) slot s (construct_defaults (suc slot) specs) in let more = few_steps (suc slot) specs in omega (arith, one, more)
+one_set : (b : Bool) (slot : ℕ) (v : values.Value) (steps : List Making)
+    → length (cond b (sets slot v ∷ []) [] ++ steps) ≤ suc (length steps)
+one_set true slot v steps = omega arith
+one_set false slot v steps = omega arith
+
+few_construct : (w : World) (given : List GivenProperty) (slot : ℕ) (specs : List Spec)
+    → length (construct_sets w given slot specs) ≤ length specs
+few_construct w given slot [] = omega arith
+few_construct w given slot (s ∷ specs) =
+    let v = or_default (given_at w given slot) s.default in
+    let one = one_set (is_at_construction s) slot v (construct_sets w given (suc slot) specs) in
+    let more = few_construct w given (suc slot) specs in
+    omega (arith, one, more)
+
+one_given : (b : Bool) (v : Option values.Value) (slot : ℕ) (steps : List Making)
+    → length (cond b [] (set_of v slot) ++ steps) ≤ suc (length steps)
+one_given true v slot steps = omega arith
+one_given false None slot steps = omega arith
+one_given false (Some v) slot steps = omega arith
+
+few_given : (w : World) (specs : List Spec) (given : List GivenProperty) → length (given_sets w specs given) ≤ length given
+few_given w specs [] = omega arith
+few_given w specs (g ∷ gs) =
+    let one = one_given (is_at_construction (read no_spec specs g.slot)) (given_value w g.given) g.slot (given_sets w specs gs) in
+    let more = few_given w specs gs in
+    omega (arith, one, more)
+
+-- no more than one for each property and each given value, and the thaw
+pub few_steps : (w : World) (specs : List Spec) (given : List GivenProperty)
+    → length (making_of_object w specs given) ≤ suc (length specs + length given)
+few_steps w specs given =
+    let first = length-append (construct_sets w given 0 specs) (later_steps w specs given) in
+    let last = length-append (given_sets w specs given) (thaws ∷ []) in
+    omega (arith, first, last, few_construct w given 0 specs, few_given w specs given)
 
 each_valid : (d : Definition) (specs : List Spec) → ((i : ℕ) (s : Spec) → slice_get specs i ≡ Some s → IsPlain d.types s) → list_all (has_valid_default d) specs ≡ true
 each_valid d [] plain = refl
@@ -84,21 +116,22 @@ module _ (d : Definition) (basic : IsBasic d) where
   no_runs class = no_runs_in (reverse (lineage d.types class))
 
   module _ (w : World) (place : ℕ) (p : Place) (at : slice_get d.places place ≡ Some p) where
-    only_defaults : construction d w place p ≡ construct_defaults 0 (specs_of d p.class)
-    only_defaults =
-        ap (λ given. construct_sets w (not_forward place given) 0 (specs_of d p.class) ++ (constructed_runs d p.class ++ (given_sets w (specs_of d p.class) (not_forward place given) ++ thaws ∷ []))) (basic.given place p at)
-        ∙ ap (λ runs. construct_sets w [] 0 (specs_of d p.class) ++ (runs ++ thaws ∷ [])) (no_runs p.class)
-        ∙ defaults_set w 0 (specs_of d p.class)
+    only_sets : construction d w place p ≡ making_of_object w (specs_of d p.class) p.given
+    only_sets =
+        let specs = specs_of d p.class in
+        ap (λ given. construct_sets w given 0 specs ++ (constructed_runs d p.class ++ later_steps w specs given))
+        (none_forward place p.given (basic.given place p at))
+        ∙ ap (λ runs. construct_sets w p.given 0 specs ++ (runs ++ later_steps w specs p.given)) (no_runs p.class)
 
     valid_defaults : list_all (has_valid_default d) (specs_of d p.class) ≡ true
     valid_defaults = each_valid d (specs_of d p.class) (λ i s has. basic.plain p.class i s has)
 
     pub made_there : (type_of d p.class).is_abstract ≡ false
-        → making d w place None true ≡ starts (said d (with_object d w (new_object d place p None)) (lines.construct (suc (length w.objects)) (type_of d p.class).name)) (Constructing (suc (length w.objects)) (construct_defaults 0 (specs_of d p.class)) true ∷ [])
+        → making d w place None true ≡ starts (said d (with_object d w (new_object d place p None)) (lines.construct (suc (length w.objects)) (type_of d p.class).name)) (Constructing (suc (length w.objects)) (making_of_object w (specs_of d p.class) p.given) true ∷ [])
     unfolding making
     made_there concrete =
         rw (at, concrete, valid_defaults)
-        (ap (λ steps. starts (said d (with_object d w (new_object d place p None)) (lines.construct (suc (length w.objects)) (type_of d p.class).name)) (Constructing (suc (length w.objects)) steps true ∷ [])) only_defaults)
+        (ap (λ steps. starts (said d (with_object d w (new_object d place p None)) (lines.construct (suc (length w.objects)) (type_of d p.class).name)) (Constructing (suc (length w.objects)) steps true ∷ [])) only_sets)
 
     pub abstract_there : (type_of d p.class).is_abstract ≡ true → making d w place None true ≡ Err arms.Abstract
     unfolding making
@@ -145,14 +178,6 @@ mapped_more f (y ∷ xs) x = ap (λ ys. f y ∷ ys) (mapped_more f xs x)
 
 pub one_step_more : (steps : List code.Making) (step : code.Making) → making_steps (steps ++ step ∷ []) ≡ making_of_code step ∷ making_steps steps
 one_step_more steps step = ap reverse (mapped_more making_of_code steps step) ∙ reverse-append (map making_of_code steps) (making_of_code step ∷ [])
-
--- the steps from the slot before on
-pub defaults_from : (specs : List Spec) (slot : ℕ) (s : Spec) → slice_get specs slot ≡ Some s
-    → construct_defaults slot (drop slot specs) ≡ set_if_construct slot s ++ construct_defaults (suc slot) (drop (suc slot) specs)
-defaults_from specs slot s at = ap (construct_defaults slot) (drop_at specs slot s at)
-
-pub defaults_past : (specs : List Spec) (slot : ℕ) → length specs ≤ slot → construct_defaults slot (drop slot specs) ≡ thaws ∷ []
-defaults_past specs slot past = ap (construct_defaults slot) (drop_past specs slot past)
 
 -- ** the defaults of a class
 

@@ -1,8 +1,11 @@
--- What a step of a construction stands for in the machine, and what a construction does where nothing is given.
-use Rattle.std.specs.Prelude.{ℕ, suc, cond, List, [], ◌∷◌, ◌++◌, map, reverse}
+-- What a step of a construction stands for in the machine, and what a construction does where there are no programs.
+use Rattle.std.specs.Prelude.{ℕ, cond, List, [], ◌∷◌, ◌++◌, map, reverse}
+use Rattle.ui_machine.specs.Seq.{read}
+use Rattle.ui_machine.specs.Definition.Places.{GivenProperty}
 use Rattle.ui_machine.specs.Definition.Properties.{Spec}
 use Rattle.ui_machine.specs.State.Tasks as config
-use Rattle.ui_machine.specs.Rules.Construction.{is_at_construction}
+use Rattle.ui_machine.specs.State.Config.{World}
+use Rattle.ui_machine.specs.Rules.Construction.{is_at_construction, given_value, given_at, or_default, set_of, no_spec, construct_sets, given_sets}
 use Rattle.g_values.specs.View.{value_view}
 use Rattle.ui_engine.specs.declared.task.Making.{Making}
 use Rattle.ui_engine.specs.declared.task.Making.TheVariants as makings
@@ -15,11 +18,18 @@ making_of_code makings.Thaw = config.thaws
 abbrev pub making_steps : List Making → List config.Making
 making_steps steps = reverse (map making_of_code steps)
 
--- the set of a construct property to its default
-abbrev pub set_if_construct : ℕ → Spec → List config.Making
-set_if_construct slot s = cond (is_at_construction s) (config.sets slot s.default ∷ []) []
+-- the set of a construct property from this slot, to the given value or its default
+abbrev pub construct_set : World → List GivenProperty → ℕ → Spec → List config.Making
+construct_set w given slot s = cond (is_at_construction s) (config.sets slot (or_default (given_at w given slot) s.default) ∷ []) []
 
--- the sets of the construct properties from this slot on, and the thaw
-abbrev pub construct_defaults : ℕ → List Spec → List config.Making
-construct_defaults slot [] = config.thaws ∷ []
-construct_defaults slot (s ∷ specs) = set_if_construct slot s ++ construct_defaults (suc slot) specs
+-- the set of a given value, where its property is not set with the construct properties
+abbrev pub later_set : World → List Spec → GivenProperty → List config.Making
+later_set w specs g = cond (is_at_construction (read no_spec specs g.slot)) [] (set_of (given_value w g.given) g.slot)
+
+-- what comes behind the sets of the construct properties: the other given values, and the thaw
+abbrev pub later_steps : World → List Spec → List GivenProperty → List config.Making
+later_steps w specs given = given_sets w specs given ++ config.thaws ∷ []
+
+-- what the construction of an object does whose class has no programs
+abbrev pub making_of_object : World → List Spec → List GivenProperty → List config.Making
+making_of_object w specs given = construct_sets w given 0 specs ++ later_steps w specs given

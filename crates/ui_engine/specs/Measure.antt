@@ -8,13 +8,13 @@ use Rattle.ui_machine.specs.State.Objects.{Object, Objects}
 use Rattle.ui_machine.specs.State.Tasks.{Item, makes, adopts, forwards, binds, connects, Task, Setting, Notifying, Beginning, Emitting, Transferring, Unsetting, Thawing, Running, Answering, Calling, Constructing, Building, Carrying, Due}
 use Rattle.ui_machine.specs.State.Config.{Config}
 
--- the properties of an object of the build
-abbrev pub slots_of_place : Definition → Option Place → ℕ
-slots_of_place d None = 0
-slots_of_place d (Some p) = length (specs_of d p.class)
+-- the properties of an object of the build, and the values that it is given
+abbrev pub sets_of_place : Definition → Option Place → ℕ
+sets_of_place d None = 0
+sets_of_place d (Some p) = length (specs_of d p.class) + length p.given
 
 abbrev pub item_weight : Definition → Item → ℕ
-item_weight d (makes place) = 4 * suc (slots_of_place d (place_at d place)) + 3
+item_weight d (makes place) = 4 * suc (sets_of_place d (place_at d place)) + 3
 item_weight d (adopts place) = 1
 item_weight d (forwards place slot to) = 1
 item_weight d (binds number) = 1

@@ -1,16 +1,21 @@
 //! The build: how objects are made, and how their construction goes on and ends.
 
-ghost use Rattle.std.specs.Prelude.{◌≡◌, true, suc, length, None, Some, cond, [], ◌∷◌, ◌++◌, map, OnOk, OnErr, IfOk};
+ghost use Rattle.std.specs.Prelude.{◌≡◌, true, suc, length, nat_eq, None, Some, option_copied, cond, [], ◌∷◌, ◌++◌, map, OnOk, OnErr, IfOk};
+ghost use Rattle.std.specs.List.{find};
 ghost use Rattle.ui_machine.specs.Outcome.{Goes};
-ghost use Rattle.ui_machine.specs.Definition.Properties.{Spec};
+ghost use Rattle.ui_machine.specs.Definition.Properties as machine;
 ghost use Rattle.ui_machine.specs.Definition.Lookups.{specs_of, spec_of};
 ghost use Rattle.ui_engine.specs.ObjectView.{made_object};
-ghost use Rattle.ui_engine.specs.MakingView.{making_steps, set_if_construct, construct_defaults};
-ghost use Rattle.ui_machine.specs.Rules.Construction.{with_object, constructed, thawing_made, making, making_set, constructing};
+ghost use Rattle.ui_machine.specs.Seq.{read};
+ghost use Rattle.ui_engine.specs.MakingView.{making_steps, construct_set, later_set, making_of_object};
+ghost use Rattle.ui_machine.specs.Rules.Construction.{with_object, constructed, thawing_made, making, making_set, constructing, is_at_construction, no_spec, given_at, or_default, construct_sets, given_sets};
+ghost use Rattle.ui_machine.specs.State.Config.{World};
 ghost use Rattle.ui_machine.specs.State.Tasks.{Constructing};
 ghost use Rattle.ui_machine.specs.Steps.{uncounted};
 ghost use Rattle.ui_machine.specs.Rules.Build.{building};
 ghost use Rattle.g_values.specs.View.{value_view};
+ghost use Rattle.param_specs.specs.View.{spec_view};
+ghost use Rattle.builder_defs.specs.Meaning.{given_property};
 ghost use Rattle.ui_engine.specs.View.{world_of};
 ghost use Rattle.ui_engine.specs.TaskView.{agenda_of, build_from};
 ghost use Rattle.ui_engine.specs.EngineView.{config_of};
@@ -20,8 +25,9 @@ use crate::lines::Line;
 use crate::object::Object;
 use crate::task::{Making, Makings, Slots, Task};
 use crate::world::hold;
-use builder_defs::Definition;
+use builder_defs::{Definition, GivenValue};
 use g_values::Value;
+use param_specs::Spec;
 use std::alloc::{AllocError, Global};
 use type_tree::TypeId;
 use ui_machine::{Arm, Halt};
@@ -165,7 +171,7 @@ impl Engine {
             return Err(Halt::Stuck(Arm::Abstract));
         }
         let values = defaults(self.alloc, definition, class)?;
-        let steps = construction(self.alloc, definition, class)?;
+        let steps = construction(self.alloc, definition, class, entry.given)?;
         let object = self.add(definition, class, place, values)?;
         let told = Line::Construct {
             object,
@@ -206,7 +212,7 @@ fn float(floating: &mut Vec<u64>, id: u64, floats: bool) -> Result<(), AllocErro
 
 // The defaults of a class's properties, by slot.
 fn defaults(alloc: Global, definition: &Definition, class: TypeId) -> Result<Vec<Value>, AllocError>
-    ensures { IfOk result (λ values. map value_view values.items ≡ map (λ (s : Spec). s.default) (specs_of definition.now class)) }
+    ensures { IfOk result (λ values. map value_view values.items ≡ map (λ (s : machine.Spec). s.default) (specs_of definition.now class)) }
 {
     let mut values = Vec::new(alloc);
     let _slots = definition.slots(class);
@@ -220,39 +226,120 @@ fn defaults(alloc: Global, definition: &Definition, class: TypeId) -> Result<Vec
     }
 }
 
+// What is given to a slot, if something is.
+fn entry_for(given: &[GivenValue], slot: u16) -> Option<&GivenValue>
+    ensures { option_copied result ≡ find (λ g. nat_eq g.slot slot) given.now }
+{
+    given.iter().find(|entry| entry.slot == slot)
+}
+
+// The value that is given to a slot, or else the default.
+fn value_for<'a>(given: &'a [GivenValue], spec: &'a Spec, slot: u16) -> &'a Value
+    ensures { (w : World) → value_view result.now ≡ or_default (given_at w (map given_property given.now) slot) (spec_view spec.now).default }
+{
+    match entry_for(given, slot) {
+        Some(entry) => &entry.value,
+        None => &spec.default,
+    }
+}
+
 // Puts the set of a construct property before what a construction does.
-fn add_set(
+fn add_construct_set(
     steps: &mut Vec<Making>,
     definition: &Definition,
     class: TypeId,
+    given: &[GivenValue],
     slot: u16,
 ) -> Result<(), AllocError>
-    ensures { (s : Spec) → spec_of definition.now class slot ≡ Some s → OnOk result (making_steps steps.new.items ≡ set_if_construct slot s ++ making_steps steps.old.items) }
+    ensures { (w : World) → (s : machine.Spec) → spec_of definition.now class slot ≡ Some s → OnOk result (making_steps steps.new.items ≡ construct_set w (map given_property given.now) slot s ++ making_steps steps.old.items) }
 {
     let Some(spec) = definition.spec(class, slot) else {
         return Ok(());
     };
     if spec.is_at_construction() {
-        let value = spec.default.copied()?;
+        let value = value_for(given, spec, slot).copied()?;
         steps.push(Making::Set { slot, value })?;
     }
     Ok(())
 }
 
-// What a construction does: the sets of the construct properties by slot, each to its default, and the thaw.
+// Puts the sets of the construct properties before what a construction does, in the order of their slots.
+fn add_construct_sets(
+    steps: &mut Vec<Making>,
+    definition: &Definition,
+    class: TypeId,
+    given: &[GivenValue],
+) -> Result<(), AllocError>
+    ensures { (w : World) → OnOk result (making_steps steps.new.items ≡ construct_sets w (map given_property given.now) 0 (specs_of definition.now class) ++ making_steps steps.old.items) }
+{
+    let mut slot = definition.slots(class);
+    'slots: while slot > 0 {
+        slot -= 1;
+        add_construct_set(steps, definition, class, given, slot as u16)?;
+    }
+    Ok(())
+}
+
+// Whether a construction sets the property of a slot in any case.
+fn is_at_construction(definition: &Definition, class: TypeId, slot: u16) -> bool
+    ensures { result ≡ is_at_construction (read no_spec (specs_of definition.now class) slot) }
+{
+    match definition.spec(class, slot) {
+        Some(spec) => spec.is_at_construction(),
+        None => false,
+    }
+}
+
+// Puts the set of a given value before what a construction does, where its property is not set in any case.
+fn add_later_set(
+    steps: &mut Vec<Making>,
+    definition: &Definition,
+    class: TypeId,
+    entry: &GivenValue,
+) -> Result<(), AllocError>
+    ensures { (w : World) → OnOk result (making_steps steps.new.items ≡ later_set w (specs_of definition.now class) (given_property entry.now) ++ making_steps steps.old.items) }
+{
+    if is_at_construction(definition, class, entry.slot) {
+        return Ok(());
+    }
+    let value = entry.value.copied()?;
+    steps.push(Making::Set {
+        slot: entry.slot,
+        value,
+    })?;
+    Ok(())
+}
+
+// Puts the sets of given values before what a construction does, in the given order.
+fn add_later_sets(
+    steps: &mut Vec<Making>,
+    definition: &Definition,
+    class: TypeId,
+    given: &[GivenValue],
+) -> Result<(), AllocError>
+    ensures { (w : World) → OnOk result (making_steps steps.new.items ≡ given_sets w (specs_of definition.now class) (map given_property given.now) ++ making_steps steps.old.items) }
+{
+    let mut left = given.len();
+    'entries: while left > 0 {
+        left -= 1;
+        add_later_set(steps, definition, class, &given[left])?;
+    }
+    Ok(())
+}
+
+// What a construction does: the sets of the construct properties by slot, each to the given value or its default, then the other given
+// values in the given order, then the thaw. The steps are put together from the last one on.
 fn construction(
     alloc: Global,
     definition: &Definition,
     class: TypeId,
+    given: &[GivenValue],
 ) -> Result<Makings, AllocError>
-    ensures { IfOk result (λ steps. steps ≡ construct_defaults 0 (specs_of definition.now class)) }
+    ensures { (w : World) → IfOk result (λ steps. steps ≡ making_of_object w (specs_of definition.now class) (map given_property given.now)) }
 {
     let mut steps = Vec::new(alloc);
     steps.push(Making::Thaw)?;
-    let mut slot = definition.slots(class);
-    'slots: while slot > 0 {
-        slot -= 1;
-        add_set(&mut steps, definition, class, slot as u16)?;
-    }
+    add_later_sets(&mut steps, definition, class, given)?;
+    add_construct_sets(&mut steps, definition, class, given)?;
     Ok(Makings::new(steps))
 }

@@ -3,7 +3,7 @@
 use crate::fixtures::times;
 use builder_defs::{
     Definition, DefinitionFault, EventError, EventFault, MAX_BYTES, MAX_LINE_BYTES, ReadError,
-    TypeCause, read_definition, read_event,
+    SpecCause, TypeCause, read_definition, read_event,
 };
 use param_specs::SpecFault;
 use std::alloc::Global;
@@ -128,12 +128,29 @@ fn tells_the_fields_of_causes(rt: HostRuntime) -> Result<(), Fail> {
         assert_eq!(rt; fault.text(alloc)?.as_str(), want);
     }
     for (cause, want) in [
-        (SpecFault::Limit, "BadSpec /p Limit"),
-        (SpecFault::FlagsClash, "BadSpec /p FlagsClash"),
+        (SpecCause::Install(SpecFault::Limit), "BadSpec /p Limit"),
+        (SpecCause::NotWritable, "BadSpec /p NotWritable"),
     ] {
         let fault = DefinitionFault::BadSpec(String::from_str(alloc, "/p")?, cause);
         assert_eq!(rt; fault.text(alloc)?.as_str(), want);
     }
+    Ok(())
+}
+
+#[test]
+fn tells_given_values(rt: HostRuntime) -> Result<(), Fail> {
+    let text =
+        r#"{"format":1,"classes":[{"name":"Box","properties":[{"name":"n","kind":"int"},{"name":"on","kind":"bool"}]}],"objects":[{"id":"b","class":"Box","properties":[{"name":"on","value":true}]}]}"#;
+    let definition = read_definition(rt.alloc(), text.as_bytes())?;
+    let entry = definition.object(0).ok_or("no object")?;
+    for given in entry.given {
+        let (slot, value) = (given.slot, &given.value);
+        assert_eq!(rt;
+            format!(in rt.alloc(); "{slot} {value:?}")?.as_str(),
+            "1 Bool(true)"
+        );
+    }
+    assert_eq!(rt; entry.given.len(), 1);
     Ok(())
 }
 

@@ -11,7 +11,7 @@ use Rattle.ui_machine.specs.Rules.Validation.{is_valid}
 use Rattle.g_values.specs.Reading.{json_value}
 use Rattle.g_values.specs.View.{is_whole_kind}
 use Rattle.param_specs.specs.declared.error.SpecFault.TheVariants.{DefaultInvalid}
-use Rattle.builder_defs.specs.Refusals.{Refusal, bad_spec, or_value_fault}
+use Rattle.builder_defs.specs.Refusals.{Refusal, not_installed, or_value_fault}
 use Rattle.builder_defs.specs.Document.{under}
 
 -- the value that is given, or the kind's zero value
@@ -24,7 +24,7 @@ default_at path types kind d = default_or_zero (under path (codes "default")) ty
 
 -- the default may stand in its property
 abbrev pub check_default : List ℕ → List GType → Spec → Result (Unit {0}) Refusal
-check_default path types spec = if is_valid (λ id. None) types spec spec.default then Ok tt else Err (bad_spec path DefaultInvalid)
+check_default path types spec = if is_valid (λ id. None) types spec spec.default then Ok tt else Err (not_installed path DefaultInvalid)
 
 -- the same of a kind without a range, where no range is awaited
 abbrev pub check_unranged : List ℕ → List GType → Spec → Result (Unit {0}) Refusal

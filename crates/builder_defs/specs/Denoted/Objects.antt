@@ -3,6 +3,7 @@ use Rattle.std.specs.Prelude.{ℕ, List, [], ◌∷◌, ◌++◌, length, codes,
 use Rattle.serde_json.specs.Data.{Data}
 use Rattle.ui_machine.specs.Outcome.{◌>>=◌}
 use Rattle.ui_machine.specs.Definition.Types.{GType}
+use Rattle.ui_machine.specs.Definition.Properties.{Spec}
 use Rattle.ui_machine.specs.Definition.Names.{place_named}
 use Rattle.ui_machine.specs.Definition.Places as machine
 use Rattle.ui_machine.specs.Seq.{read}
@@ -10,10 +11,11 @@ use Rattle.ui_machine.specs.Output.Text.{no_type}
 use Rattle.type_tree.specs.Adding.{class_named}
 use Rattle.builder_defs.specs.Causes.{abstract_class}
 use Rattle.builder_defs.specs.declared.fault.DefinitionLimit.TheVariants.{Places, Objects}
-use Rattle.builder_defs.specs.Meaning.{bare_place}
+use Rattle.builder_defs.specs.Meaning.{plain_place}
 use Rattle.builder_defs.specs.Refusals.{Refusal, shape, unknown, duplicate, bad_type, limit, or_refused}
 use Rattle.builder_defs.specs.Document.{under, members_at, text_at, absent_at, nothing_at, only_at}
 use Rattle.builder_defs.specs.Denoted.Names.{is_name}
+use Rattle.builder_defs.specs.Denoted.Given.{givens_at}
 
 -- there is a place for one more, and it may live
 abbrev pub room_for_object : ℕ → List machine.Place → Result (Unit {0}) Refusal
@@ -38,26 +40,23 @@ class_at_key path types d = do
 abbrev pub keys_of_object : List (List ℕ)
 keys_of_object = codes "id" ∷ codes "class" ∷ codes "peer" ∷ codes "properties" ∷ codes "signals" ∷ codes "children" ∷ []
 
--- an object has no peer, given values, signals and children so far
-unfoldable pub bare_at : List ℕ → Data → Result (Unit {0}) Refusal
-bare_at path d = do
-  peer ← absent_at path d (codes "peer" ∷ [])
-  nothing_at path d (codes "properties" ∷ codes "signals" ∷ codes "children" ∷ [])
-
--- the object that an entry gives beside these, where so many may live
-unfoldable pub place_at : List ℕ → List GType → ℕ → List machine.Place → Data → Result machine.Place Refusal
-place_at path types most places d = do
+-- The object that an entry gives beside these, where the classes have these properties and so many objects may live. It has no peer,
+-- signals and children so far.
+unfoldable pub place_at : List ℕ → List GType → (ℕ → List Spec) → ℕ → List machine.Place → Data → Result machine.Place Refusal
+place_at path types specs most places d = do
   members ← members_at path d
   room ← room_for_object most places
   id ← text_at path d (codes "id")
   new ← new_id (under path (codes "id")) places id
   class ← class_at_key path types d
-  bare ← bare_at path d
+  peer ← absent_at path d (codes "peer" ∷ [])
+  given ← givens_at path types (specs class) d
+  bare ← nothing_at path d (codes "signals" ∷ codes "children" ∷ [])
   only ← only_at path members keys_of_object
-  Ok (bare_place id class)
+  Ok (plain_place id class given)
 
 -- these objects, with the one that an entry gives
-unfoldable pub object_at : List ℕ → List GType → ℕ → List machine.Place → Data → Result (List machine.Place) Refusal
-object_at path types most places d = do
-  place ← place_at path types most places d
+unfoldable pub object_at : List ℕ → List GType → (ℕ → List Spec) → ℕ → List machine.Place → Data → Result (List machine.Place) Refusal
+object_at path types specs most places d = do
+  place ← place_at path types specs most places d
   Ok (places ++ place ∷ [])

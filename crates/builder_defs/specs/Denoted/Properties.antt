@@ -13,7 +13,7 @@ use Rattle.param_specs.specs.PropertyName.{is_property_name}
 use Rattle.param_specs.specs.declared.error.SpecFault.{SpecFault}
 use Rattle.param_specs.specs.declared.error.SpecFault.TheVariants.{BadName, Duplicate}
 use Rattle.builder_defs.specs.declared.fault.DefinitionLimit.TheVariants.{Properties}
-use Rattle.builder_defs.specs.Refusals.{Refusal, duplicate, bad_spec, limit}
+use Rattle.builder_defs.specs.Refusals.{Refusal, duplicate, not_installed, limit}
 use Rattle.builder_defs.specs.Document.{under, members_at, text_at, absent_at, only_at}
 use Rattle.builder_defs.specs.Denoted.Kinds.{kind_at}
 use Rattle.builder_defs.specs.Denoted.PropertyFlags.{flags_at}
@@ -44,11 +44,11 @@ room_for_property specs = if nat_le 64 (length specs) then Err (limit Properties
 abbrev pub new_name : List ℕ → List Spec → List Spec → List ℕ → Result (Unit {0}) Refusal
 new_name path inherited specs name =
     if is_some (slot_named inherited name) then Err (duplicate path) else
-    (if is_some (slot_named specs name) then Err (bad_spec path Duplicate) else Ok tt)
+    (if is_some (slot_named specs name) then Err (not_installed path Duplicate) else Ok tt)
 
 -- the name of a property, where a type inherits some of these and has all of them
 abbrev pub new_property : List ℕ → List Spec → List Spec → List ℕ → Result (Unit {0}) Refusal
-new_property path inherited specs name = if is_property_name name then new_name path inherited specs name else Err (bad_spec path BadName)
+new_property path inherited specs name = if is_property_name name then new_name path inherited specs name else Err (not_installed path BadName)
 
 abbrev pub keys_of_property : List (List ℕ)
 keys_of_property = codes "name" ∷ codes "kind" ∷ codes "flags" ∷ codes "default" ∷ codes "min" ∷ codes "max" ∷ codes "weak" ∷ []
@@ -83,7 +83,7 @@ add_own own t spec u = if nat_eq u t then own u ++ spec ∷ [] else own u
 
 abbrev pub installed_or : List ℕ → Option SpecFault → (ℕ → List Spec) → Result (ℕ → List Spec) Refusal
 installed_or path None own = Ok own
-installed_or path (Some cause) own = Err (bad_spec path cause)
+installed_or path (Some cause) own = Err (not_installed path cause)
 
 abbrev pub installed : List ℕ → List GType → ℕ → (ℕ → List Spec) → Spec → Result (ℕ → List Spec) Refusal
 installed path types t own spec = installed_or path (install_fault types (specs_by types own t) spec) (add_own own t (canonical_spec spec))

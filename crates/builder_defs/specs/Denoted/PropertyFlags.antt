@@ -6,7 +6,7 @@ use Rattle.serde_json.specs.Find.{get, as_str, as_array}
 use Rattle.ui_machine.specs.Outcome.{◌>>=◌}
 use Rattle.param_specs.specs.Flags.{is_clash}
 use Rattle.param_specs.specs.declared.error.SpecFault.TheVariants.{FlagsClash}
-use Rattle.builder_defs.specs.Refusals.{Refusal, shape, bad_spec, or_refused}
+use Rattle.builder_defs.specs.Refusals.{Refusal, shape, not_installed, or_refused}
 use Rattle.builder_defs.specs.Document.{under, each, at_entry}
 
 -- a flag by its word
@@ -32,7 +32,7 @@ flag_at path flags d = do
 
 -- the flags go together
 abbrev pub check_flags : List ℕ → ℕ → Result (Unit {0}) Refusal
-check_flags path flags = if is_clash flags then Err (bad_spec path FlagsClash) else Ok tt
+check_flags path flags = if is_clash flags then Err (not_installed path FlagsClash) else Ok tt
 
 -- the flags of a list of words; a word may come twice
 unfoldable pub listed_flags : List ℕ → Data → Result ℕ Refusal

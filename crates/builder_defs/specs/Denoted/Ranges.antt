@@ -7,7 +7,7 @@ use Rattle.ui_machine.specs.Definition.Kinds.{Kind}
 use Rattle.g_values.specs.Reading.{whole_number, number_between}
 use Rattle.g_values.specs.View.{is_whole_kind}
 use Rattle.param_specs.specs.declared.error.SpecFault.TheVariants.{RangeEmpty}
-use Rattle.builder_defs.specs.Refusals.{Refusal, shape, bad_spec, or_value_fault}
+use Rattle.builder_defs.specs.Refusals.{Refusal, shape, not_installed, or_value_fault}
 use Rattle.builder_defs.specs.Document.{under}
 use Rattle.builder_defs.specs.Denoted.Kinds.{lowest, highest}
 
@@ -31,7 +31,7 @@ end_or path kind own (Some d) = end_given path kind d
 
 -- some number lies between the ends
 abbrev pub check_filled : List ℕ → ℤ → ℤ → Result (Unit {0}) Refusal
-check_filled path low high = if int_lt high low then Err (bad_spec path RangeEmpty) else Ok tt
+check_filled path low high = if int_lt high low then Err (not_installed path RangeEmpty) else Ok tt
 
 -- The range of a property of this kind. It is told at `min` that the range is empty; where `max` itself is at fault, that is told.
 unfoldable pub range_at : List ℕ → Kind → Data → Result Range Refusal

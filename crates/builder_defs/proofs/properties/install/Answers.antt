@@ -1,7 +1,7 @@
 use Rattle.std.proofs.Common.{◌≡◌, ◌∙◌, sym, ap, Err, rules}
 use Rattle.param_specs.specs.declared.error.SpecError.TheVariants.{Refused}
 use Rattle.param_specs.specs.View.{spec_view}
-use Rattle.builder_defs.specs.Refusals.{bad_spec}
+use Rattle.builder_defs.specs.Refusals.{not_installed}
 use Rattle.builder_defs.specs.Document.{path_of}
 use Rattle.builder_defs.proofs.Installing.{installs_ok, installs_err}
 use Rattle.builder_defs.proofs.properties.install.Goals as goal
@@ -14,4 +14,4 @@ pub returns-in_ok-path_text-in-Err-Refused : goal.returns-in_ok-path_text-in-Err
 returns-in_ok-path_text-in-Err-Refused c =
     let refused : c.in-Err-Refused.field-0 ≡ Refused c.in-Err-Refused.cause = search rules in
     installs_err (path_of c.args.part.path) c.args.types.now c.args.specs.now c.install.new.self c.args.class (spec_view c.args.spec) c.in-Err-Refused.field-0 c.in-Err-Refused.cause refused c.in-Err-Refused.ensures
-    ∙ ap (λ path. Err (bad_spec path c.in-Err-Refused.cause)) (sym c.in_ok-path_text-in-Err-Refused.ensures)
+    ∙ ap (λ path. Err (not_installed path c.in-Err-Refused.cause)) (sym c.in_ok-path_text-in-Err-Refused.ensures)

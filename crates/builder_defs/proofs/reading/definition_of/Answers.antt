@@ -1,7 +1,11 @@
+use Rattle.std.proofs.Common.{refl}
 use Rattle.serde_json.specs.View.{view, members_view}
-use Rattle.builder_defs.proofs.Soundness.{sound}
+use Rattle.builder_defs.proofs.Soundness.{sound, plain_read}
 use Rattle.builder_defs.proofs.Whole.{definition_done}
 use Rattle.builder_defs.proofs.reading.definition_of.Goals as goal
+
+pub objects_of-requires : goal.objects_of-requires
+objects_of-requires c = record { root = refl; plain = plain_read c.in_ok-draft.draft.types c.in_ok-draft.draft.specs (view c.args.value.now) c.in_ok-draft.ensures }
 
 pub invariant_of-result : goal.invariant_of-result
 invariant_of-result c = sound c.in_ok-draft.draft.types c.in_ok-draft.draft.specs c.in_ok-objects.objects.entries c.in_ok-limits.limits (view c.args.value.now) c.in_ok-draft.ensures c.in_ok-limits.ensures.checked c.in_ok-objects.ensures

@@ -1,11 +1,11 @@
-use Rattle.std.proofs.Common.{◌≡◌, suc, false, None, Some, List, [], ◌∷◌, ◌++◌, slice_get, length, string_bytes, rules, refl, sym, ap, ◌∙◌}
+use Rattle.std.proofs.Common.{◌≡◌, suc, false, None, Some, List, [], ◌∷◌, ◌++◌, slice_get, length, map, string_bytes, rules, refl, sym, ap, ◌∙◌}
 use Rattle.ui_machine.specs.Definition.Lookups.{type_of}
 use Rattle.ui_machine.specs.Output.Lines as lines
 use Rattle.ui_machine.specs.Output.Text.{text_of_line}
 use Rattle.ui_machine.specs.Definition.Values.{Value}
 use Rattle.ui_machine.specs.State.Config.{World, said}
 use Rattle.ui_machine.specs.Rules.Construction.{with_object, new_object}
-use Rattle.builder_defs.specs.Meaning.{bare_place}
+use Rattle.builder_defs.specs.Meaning.{plain_place, given_property}
 use Rattle.ui_engine.specs.ObjectView.{made_object}
 use Rattle.ui_engine.specs.View.{world_of}
 use Rattle.ui_engine.proofs.Building.{made_there}
@@ -17,7 +17,7 @@ returns-clause-step c =
     let d = c.args.definition.now in
     let w = world_of c.args.self.now.world in
     let class = c.in-Some.entry.class in
-    let place = bare_place c.in-Some.entry.id.now class in
+    let place = plain_place c.in-Some.entry.id.now class (map given_property c.in-Some.entry.given.now) in
     let at : slice_get d.places c.args.place ≡ Some place = sym c.in-Some.ensures in
     let concrete : (type_of d class).is_abstract ≡ false = search rules in
     let made = made_there d c.types-types.ensures.basic w c.args.place place at concrete in
@@ -30,5 +30,5 @@ returns-clause-step c =
     ∙ ap (λ (v : World). record v { transcript = v.transcript ++ string_bytes c.in_ok-line.line ∷ [] }) object
     ∙ ap (λ text. record (with_object d w (new_object d c.args.place place None)) { transcript = w.transcript ++ text ∷ [] }) line in
     left_with d (world_of c.say.new.self) c.push.new.self _ _ _ _ _ _ made world
-    (pushed ∙ rw (c.in_ok-object.ensures.same.0, c.in_ok-object.ensures.identity, c.in_ok-steps.ensures) refl)
+    (pushed ∙ rw (c.in_ok-object.ensures.same.0, c.in_ok-object.ensures.identity, c.in_ok-steps.ensures w) refl)
     c.in_ok-object.ensures.same.1
