@@ -30,7 +30,8 @@ module _ (d : Definition) (a : Accepted d) where
       go : (b : Bool) → is_channel d c ≡ b → IsPrinted (entries.at c)
       go true e =
           inl (inr (append_left (map (λ (r : Raised). entries.at r.channel) (graph d).raised) (map entries.source (graph d).sources)
-          (entries.at c) (map_in (λ (r : Raised). entries.at r.channel) (graph d).raised (raised_there d c) (channels_known d a c e).known)))
+          (entries.at c) (map_in (λ (r : Raised). entries.at r.channel) (graph d).raised (raised_there d c)
+          (channels_known d a c e).known)))
       go false e = inr (let none = absent_costs_nothing d a c e in omega (arith, none))
 
   pub source_printed : (program : ℕ) → IsIn program (graph d).sources → IsPrinted (entries.source program)

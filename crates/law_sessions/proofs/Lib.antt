@@ -6,4 +6,5 @@ pub mod KeepsProofs
 pub mod EntryProofs
 pub mod SessionProofs
 pub mod ThereProofs
+pub mod HaltingProofs
 pub mod WorkedProofs

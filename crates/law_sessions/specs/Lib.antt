@@ -3,4 +3,5 @@ pub mod Endings
 pub mod Dispatches
 pub mod Sessions
 pub mod NeverStuck
+pub mod Halting
 pub mod WorkedSession
