@@ -127,7 +127,8 @@ fn passes_over_what_is_blocked_or_gone(rt: HostRuntime) -> Result<(), Fail> {
     for program in [1, 2, 3] {
         let _ = handlers.connect(connection(1, program, None, false))?;
     }
-    let _ = handlers.block_matched(ObjectId(1), 2) + handlers.block_matched(ObjectId(1), 2);
+    let _ = handlers.block_matched(ObjectId(1), 2);
+    let _ = handlers.block_matched(ObjectId(1), 2);
     let mut cursor = handlers.begin_emission(emission(0, None));
     let _ = handlers.connect(connection(1, 4, None, true))?;
     let _ = handlers.disconnect_matched(ObjectId(1), 3);
