@@ -137,23 +137,6 @@ fn tells_the_fields_of_causes(rt: HostRuntime) -> Result<(), Fail> {
     Ok(())
 }
 
-#[test]
-fn tells_given_values(rt: HostRuntime) -> Result<(), Fail> {
-    let text =
-        r#"{"format":1,"classes":[{"name":"Box","properties":[{"name":"n","kind":"int"},{"name":"on","kind":"bool"}]}],"objects":[{"id":"b","class":"Box","properties":[{"name":"on","value":true}]}]}"#;
-    let definition = read_definition(rt.alloc(), text.as_bytes())?;
-    let entry = definition.object(0).ok_or("no object")?;
-    for given in entry.given {
-        let (slot, value) = (given.slot, &given.value);
-        assert_eq!(rt;
-            format!(in rt.alloc(); "{slot} {value:?}")?.as_str(),
-            "1 Bool(true)"
-        );
-    }
-    assert_eq!(rt; entry.given.len(), 1);
-    Ok(())
-}
-
 // Whether a line is refused for its length.
 fn is_too_long(alloc: Global, definition: &Definition, line: &[u8]) -> bool {
     match read_event(alloc, definition, line) {
