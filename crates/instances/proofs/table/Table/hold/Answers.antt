@@ -1,0 +1,23 @@
+use Rattle.std.proofs.Common.{ℕ, ◌+◌, refl, sym, ap, ◌∙◌, arith}
+use Rattle.std.specs.Option.{option_copied_mut}
+use Rattle.instances.specs.declared.instance.Instance.{Instance}
+use Rattle.instances.proofs.Shown.{not_absent, count_is}
+use Rattle.instances.proofs.Maps.{written_recounted}
+use Rattle.instances.proofs.table.Table.hold.Goals as goal
+
+pub returns-in_default : goal.returns-in_default
+returns-in_default c =
+    absurd (not_absent _ _ c.self.inside.limit _ c.self.invariant.0 c.self.view_is _ (sym c.get_mut.ensures.value ∙ ap option_copied_mut c.in_default.is) c.requires.live)
+
+pub overflow_add-instance : goal.overflow_add-instance
+overflow_add-instance c =
+    let same = count_is _ _ c.self.inside.limit _ c.self.invariant.0 c.self.view_is _ _ (sym c.get_mut.ensures.value ∙ ap option_copied_mut c.in-Some.is) in
+    omega (arith, same, c.requires.room)
+
+pub returns : goal.returns
+returns c =
+    let here = sym c.get_mut.ensures.value ∙ ap option_copied_mut c.in-Some.is in
+    let same = count_is _ _ c.self.inside.limit _ c.self.invariant.0 c.self.view_is _ _ here in
+    let y : Instance = record { object = c.in-Some.instance.now.object; mentions = c.in-Some.instance.now.mentions + 1 } in
+    written_recounted c.self.inside.instances (c.get_mut.follows.lender y) _ c.self.inside.limit _ c.self.invariant.0 c.self.view_is _ _ y
+    here (c.get_mut.follows.holds y) _ refl (ap (λ (k : ℕ). k + 1) (sym same))

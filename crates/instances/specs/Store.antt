@@ -1,0 +1,70 @@
+-- What a table is seen as: the machine's objects, and beside each how often it is held.
+use Rattle.std.specs.Prelude.{◌≡◌, ◌+◌, ◌&&◌, ℕ, zero, suc, nat_lt, length, false, true, Bool, List, [], ◌∷◌, ◌++◌, Option, Some, None, Result, Ok, Err}
+use Rattle.ui_machine.specs.declared.arm.Arm.{Arm}
+use Rattle.ui_machine.specs.declared.ids.ObjectId.{ObjectId}
+use Rattle.ui_machine.specs.Definition.Values.{Value}
+use Rattle.ui_machine.specs.Outcome.{Answer}
+use Rattle.ui_machine.specs.Seq.{read, write}
+use Rattle.ui_machine.specs.State.Objects.{Object, Objects, live, most_identities}
+use Rattle.instances.specs.declared.error.CreateError.{CreateError}
+use Rattle.instances.specs.declared.error.CreateError.TheVariants.{ObjectLimit, OutOfMemory}
+
+pub record Store : Type 0 where
+  pub objects : Objects
+  pub counts : List ℕ  -- identity i + 1 at index i, 0 once it is finalised
+  pub limit : ℕ  -- how many may live
+
+-- an object that is just made: frozen once
+abbrev pub made_object : ℕ → ℕ → List Value → Option ℕ → Object
+made_object class place vs peer = record {
+  class = class;
+  place = place;
+  values = vs;
+  freezes = 1;
+  queue = [];
+  children = [];
+  parent = None;
+  disposed = false;
+  peer = peer;
+}
+
+-- ** counts by identity
+
+-- how often an object is held
+abbrev pub count_of : List ℕ → ℕ → ℕ
+count_of counts zero = 0
+count_of counts (suc i) = read 0 counts i
+
+-- the counts with this one under an identity
+abbrev pub counts_with : List ℕ → ℕ → ℕ → List ℕ
+counts_with counts zero n = counts
+counts_with counts (suc i) n = write 0 counts i n
+
+abbrev pub with_count : Store → ℕ → ℕ → Store
+with_count s id n = record s { counts = counts_with s.counts id n }
+
+abbrev pub with_objects : Store → Objects → Store
+with_objects s os = record s { objects = os }
+
+-- ** one more
+
+-- whether there is room for one object more beside so many that are to come: they count in number and in identities
+abbrev pub has_room : ℕ → Store → Bool
+has_room to_come s = nat_lt (live s.objects + to_come) s.limit && nat_lt (length s.objects + to_come) most_identities
+
+-- the store with one object more, which nothing holds, under the next identity
+abbrev pub with_object : Object → Store → Store
+with_object o s = record s { objects = s.objects ++ Some o ∷ []; counts = s.counts ++ 0 ∷ [] }
+
+-- One more object under the next identity, or the limit exactly where there is no room. An error leaves all as it was.
+abbrev pub Creates : Result ObjectId CreateError → Object → Store → Store → Type 0
+Creates (Ok id) o old new = (has_room 0 old ≡ true) × (id.0 ≡ suc (length old.objects)) × (new ≡ with_object o old)
+Creates (Err ObjectLimit) o old new = (has_room 0 old ≡ false) × (new ≡ old)
+Creates (Err OutOfMemory) o old new = new ≡ old
+
+-- ** answers
+
+-- what code answers that changes nothing and asks for no memory
+abbrev pub Shows : {X Y : Type 0} → (X → Y) → Result X Arm → Answer Y → Type 0
+Shows view (Ok x) answer = answer ≡ Ok (view x)
+Shows view (Err arm) answer = answer ≡ Err arm

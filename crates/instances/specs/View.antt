@@ -1,0 +1,46 @@
+-- Instances under their identities, seen as a store.
+use Rattle.std.specs.Prelude.{◌≡◌, ◌≢◌, ℕ, suc, ◌<◌, ◌≤◌, cond, nat_eq, List, [], ◌∷◌, Bool, true, Option, Some, None, IsSome}
+use Rattle.ui_machine.specs.State.Objects.{Object, Objects}
+use Rattle.ui_machine.specs.Seq.{listed}
+use Rattle.instances.specs.Store.{Store}
+use Rattle.instances.specs.declared.instance.Instance.{Instance}
+
+-- what each identity has
+abbrev pub Lookup : Type 0
+Lookup = ℕ → Option Instance
+
+abbrev pub object_in : Option Instance → Option Object
+object_in None = None
+object_in (Some x) = Some x.object
+
+abbrev pub count_in : Option Instance → ℕ
+count_in None = 0
+count_in (Some x) = x.mentions
+
+-- the objects and the counts of the identities 1 to n
+abbrev pub objects_of : Lookup → ℕ → Objects
+objects_of at n = listed (λ i. object_in (at (suc i))) n
+
+abbrev pub counts_of : Lookup → ℕ → List ℕ
+counts_of at n = listed (λ i. count_in (at (suc i))) n
+
+abbrev pub store_of : Lookup → ℕ → ℕ → Store
+store_of at made limit = record { objects = objects_of at made; counts = counts_of at made; limit = limit }
+
+-- each identity with an instance was given
+abbrev pub InRange : Lookup → ℕ → Type 0
+InRange at made = (id : ℕ) → IsSome (at id) → (0 < id) × (id ≤ made)
+
+-- once it is settled, each instance is held
+abbrev pub IsSettled : Lookup → Bool → Type 0
+IsSettled at settled = settled ≡ true → (id : ℕ) (x : Instance) → at id ≡ Some x → 0 < x.mentions
+
+-- one identity has this instance, or none, and each other has what it had
+pub record Replaces (at new : Lookup) (id : ℕ) (instance : Option Instance) : Type 0 where
+  pub changed : new id ≡ instance
+  pub others : (q : ℕ) → q ≢ id → new q ≡ at q
+
+-- the first key whose instance nothing holds
+abbrev pub first_unheld : List (ℕ × Instance) → Option ℕ
+first_unheld [] = None
+first_unheld (e ∷ es) = cond (nat_eq e.1.mentions 0) (Some e.0) (first_unheld es)

@@ -1,0 +1,229 @@
+//! The objects by their identities.
+
+ghost use Rattle.std.specs.Prelude.{◌≡◌, ◌+◌, ◌-◌, ◌<◌, ◌^◌, [], IsSome, is_some, None, Ok, map, reverse, OnOk, OnErr};
+ghost use Rattle.std.specs.Option.{option_map};
+ghost use Rattle.ui_machine.specs.State.Objects.{asked, changed, living, put, value_at, with_value};
+ghost use Rattle.ui_machine.specs.State.References.{next_unheld};
+ghost use Rattle.ui_machine.specs.Rules.NotifyQueue.{raised, frozen_more, frozen_less};
+ghost use Rattle.ui_machine.specs.Outcome.{Gives, Follows};
+ghost use Rattle.g_values.specs.View.{value_view};
+ghost use Rattle.ui_machine.specs.declared.ids.ObjectId.{ObjectId};
+ghost use Rattle.instances.specs.Store.{Shows, count_of, with_count, with_objects, has_room, Creates};
+
+use crate::error::CreateError;
+use crate::instance::Instance;
+use crate::object::Object;
+use g_values::Value;
+use std::alloc::Global;
+use std::collections::BTreeMap;
+use std::marker::Model;
+use type_tree::TypeId;
+use ui_machine::{Arm, Halt, ObjectId};
+
+/// The objects that live, and how often each is held.
+#[derive(Drop)]
+pub struct Table {
+    instances: BTreeMap<u64, Instance>,
+    made: u64,
+    limit: u32,
+    // Whether it is known that each object is held.
+    settled: bool,
+    alloc: Global,
+}
+
+impl Model for Table {
+    ghost use Rattle.instances.specs.Store.{Store};
+
+    ghost Value = { Store };
+
+    ghost use Rattle.std.specs.Ordering.{nat_cmp};
+    ghost use Rattle.std.specs.BTreeMap.{get};
+    ghost use Rattle.instances.specs.View.{store_of, InRange, IsSettled};
+
+    ghost view = { λ t. store_of (get nat_cmp t.instances) t.made t.limit };
+
+    ghost invariant = { λ t. InRange (get nat_cmp t.instances) t.made × IsSettled (get nat_cmp t.instances) t.settled };
+}
+
+impl Table {
+    /// No objects, and how many may live. It takes no memory.
+    pub fn new(alloc: Global, limit: u32) -> Self
+        ensures { result ≡ record { objects = []; counts = []; limit = limit } }
+    {
+        Table {
+            instances: BTreeMap::new(alloc),
+            made: 0,
+            limit,
+            settled: false,
+            alloc,
+        }
+    }
+
+    /// Whether there is room for one object more beside so many that are still to come: they count in number and in identities.
+    pub fn has_room(&self, to_come: u32) -> bool
+        ensures { result ≡ has_room to_come self.now }
+    {
+        let Some(limit) = self.limit.checked_sub(to_come) else {
+            return false;
+        };
+        if self.instances.len() >= limit as usize {
+            return false;
+        }
+        u64::from(to_come) < u64::MAX - self.made
+    }
+
+    /// One more object, which nothing holds yet, under the next identity.
+    pub fn create(&mut self, object: Object) -> Result<ObjectId, CreateError>
+        ensures { Creates result object self.old self.new }
+    {
+        self.settled = false;
+        if self.instances.len() >= self.limit as usize {
+            return Err(CreateError::ObjectLimit);
+        }
+        let Some(id) = self.made.checked_add(1) else {
+            return Err(CreateError::ObjectLimit);
+        };
+        let instance = Instance {
+            object,
+            mentions: 0,
+        };
+        let Ok(_old) = self.instances.insert(id, instance) else {
+            return Err(CreateError::OutOfMemory);
+        };
+        self.made = id;
+        Ok(ObjectId(id))
+    }
+
+    /// Whether the object lives.
+    pub fn is_live(&self, id: ObjectId) -> bool
+        ensures { result ≡ is_some (living self.now.objects id.0) }
+    {
+        self.instances.contains_key(&id.0)
+    }
+
+    /// The class of an object.
+    pub fn class_of(&self, id: ObjectId) -> Result<TypeId, Arm>
+        ensures { Shows (λ class. class) result (asked self.now.objects id.0 (λ o. Ok o.class)) }
+    {
+        let Some(instance) = self.instances.get(&id.0) else {
+            return Err(Arm::Operand);
+        };
+        Ok(instance.object.class())
+    }
+
+    /// The place of an object.
+    pub fn place_of(&self, id: ObjectId) -> Result<usize, Arm>
+        ensures { Shows (λ place. place) result (asked self.now.objects id.0 (λ o. Ok o.place)) }
+    {
+        let Some(instance) = self.instances.get(&id.0) else {
+            return Err(Arm::Operand);
+        };
+        Ok(instance.object.place())
+    }
+
+    /// The value of a property.
+    pub fn read(&self, id: ObjectId, slot: u16) -> Result<&Value, Arm>
+        ensures { Shows (λ v. value_view v.now) result (asked self.now.objects id.0 (value_at slot)) }
+    {
+        let Some(instance) = self.instances.get(&id.0) else {
+            return Err(Arm::Operand);
+        };
+        instance.object.read(slot)
+    }
+
+    /// Writes a property, and answers what it was. Who holds what is the caller's to count.
+    pub fn write(&mut self, id: ObjectId, slot: u16, value: Value) -> Result<Value, Arm>
+        ensures changes { Gives value_view result (changed self.old.objects id.0 (with_value slot (value_view value))) self.new.objects }
+        ensures beside { self.new ≡ with_objects self.old self.new.objects }
+    {
+        let Some(instance) = self.instances.get_mut(&id.0) else {
+            return Err(Arm::Operand);
+        };
+        instance.object.write(slot, value)
+    }
+
+    /// Adds one freeze to an object.
+    pub fn freeze(&mut self, id: ObjectId) -> Result<(), Arm>
+        ensures changes { Gives (λ _. tt) result (changed self.old.objects id.0 frozen_more) self.new.objects }
+        ensures beside { self.new ≡ with_objects self.old self.new.objects }
+    {
+        let Some(instance) = self.instances.get_mut(&id.0) else {
+            return Err(Arm::Operand);
+        };
+        instance.object.freeze()
+    }
+
+    /// Takes one freeze off an object, and answers the notifications that are then made, the last first.
+    pub fn thaw(&mut self, id: ObjectId) -> Result<Vec<u16>, Arm>
+        ensures changes { Gives (λ slots. reverse slots.items) result (changed self.old.objects id.0 frozen_less) self.new.objects }
+        ensures beside { self.new ≡ with_objects self.old self.new.objects }
+    {
+        let alloc = self.alloc;
+        let Some(instance) = self.instances.get_mut(&id.0) else {
+            return Err(Arm::Operand);
+        };
+        instance.object.thaw(alloc)
+    }
+
+    /// Queues a notification while the object is frozen, and else answers that it is to be made at once.
+    pub fn add(&mut self, id: ObjectId, slot: u16) -> Result<bool, Halt>
+        ensures changes { Follows (λ now. now) result (changed self.old.objects id.0 (raised slot)) self.new.objects }
+        ensures beside { self.new ≡ with_objects self.old self.new.objects }
+    {
+        let Some(instance) = self.instances.get_mut(&id.0) else {
+            return Err(Halt::Stuck(Arm::Operand));
+        };
+        instance.object.add(slot)
+    }
+
+    /// Holds an object once more.
+    pub fn hold(&mut self, id: ObjectId)
+        requires live { IsSome (living self.old.objects id.0) }
+        requires room { count_of self.old.counts id.0 < 2 ^ 128 - 1 }
+        ensures { self.new ≡ with_count self.old id.0 (count_of self.old.counts id.0 + 1) }
+    {
+        let Some(instance) = self.instances.get_mut(&id.0) else {
+            return;
+        };
+        instance.mentions += 1;
+    }
+
+    /// Holds an object once less.
+    pub fn let_go(&mut self, id: ObjectId)
+        requires held { 0 < count_of self.old.counts id.0 }
+        ensures { self.new ≡ with_count self.old id.0 (count_of self.old.counts id.0 - 1) }
+    {
+        self.settled = false;
+        let Some(instance) = self.instances.get_mut(&id.0) else {
+            return;
+        };
+        instance.mentions -= 1;
+    }
+
+    /// The lowest identity of an object that nothing holds. It looks through the objects only if one was made or let go of since
+    /// it last found each of them held.
+    pub fn next_unheld(&mut self) -> Option<ObjectId>
+        ensures found { option_map (λ (i : ObjectId). i.0) result ≡ next_unheld (count_of self.old.counts) self.old.objects }
+        ensures same { self.new ≡ self.old }
+    {
+        if self.settled {
+            return None;
+        }
+        for (id, instance) in self.instances.iter() {
+            if instance.mentions == 0 {
+                return Some(ObjectId(*id));
+            }
+        }
+        self.settled = true;
+        None
+    }
+
+    /// Takes an object out that nothing holds. Its identity is not given again.
+    pub fn finalise(&mut self, id: ObjectId)
+        requires live { IsSome (living self.old.objects id.0) }
+        requires unheld { count_of self.old.counts id.0 ≡ 0 }
+        ensures { self.new ≡ with_objects self.old (put self.old.objects id.0 None) }
+    {
+        self.instances.remove(&id.0);
+    }
+}
