@@ -20,11 +20,15 @@ module _ {A B : Type 0} (f : A → B) where
   set-map (x ∷ xs) (suc i) y = ap (λ ys. f x ∷ ys) (set-map xs i y)
 
 -- a value written over another
-pub write_over : (o : config.Object) (vs : List Value) (i : ℕ) (v old : Value) → o.values ≡ map value_view vs → i < length vs → old ≡ get_or vs i old
-    → with_value i (value_view v) o ≡ Ok (record { state = record o { values = map value_view (slice_set vs i v) }; answer = value_view old })
+pub write_over : (o : config.Object) (vs : List Value) (i : ℕ) (v old : Value) → o.values ≡ map value_view vs
+    → i < length vs → old ≡ get_or vs i old → with_value i (value_view v) o
+    ≡ Ok (record { state = record o { values = map value_view (slice_set vs i v) }; answer = value_view old })
 unfolding with_value
 write_over o vs i v old is lt was =
-    let here : slice_get o.values i ≡ Some (value_view old) = ap (λ (xs : List values.Value). slice_get xs i) is ∙ got value_view vs i old lt ∙ ap (λ (x : Value). Some (value_view x)) (sym was) in
-    let new : slice_set o.values i (value_view v) ≡ map value_view (slice_set vs i v) = ap (λ (xs : List values.Value). slice_set xs i (value_view v)) is ∙ sym (set-map value_view vs i v) in
-    ap (λ x. known arms.Code x >>= λ w. Ok (record { state = record o { values = slice_set o.values i (value_view v) }; answer = w })) here
+    let here : slice_get o.values i ≡ Some (value_view old) =
+    ap (λ (xs : List values.Value). slice_get xs i) is ∙ got value_view vs i old lt ∙ ap (λ (x : Value). Some (value_view x)) (sym was) in
+    let new : slice_set o.values i (value_view v) ≡ map value_view (slice_set vs i v) =
+    ap (λ (xs : List values.Value). slice_set xs i (value_view v)) is ∙ sym (set-map value_view vs i v) in
+    ap (λ x. known arms.Code x >>= λ w. Ok (record { state = record o { values = slice_set o.values i (value_view v) }; answer = w }))
+    here
     ∙ ap (λ (xs : List values.Value). Ok (record { state = record o { values = xs }; answer = value_view old })) new

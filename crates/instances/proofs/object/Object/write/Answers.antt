@@ -10,7 +10,13 @@ returns c =
     let slot : c.from-slot.result ≡ c.args.slot = c.from-slot.ensures in
     let after = c.replace-old.ensures.after in
     let short : c.args.slot < length items = omega (arith, c.len.ensures) in
-    let was : c.replace-old.result ≡ get_or items c.args.slot c.replace-old.result = rw (c.replace-old.ensures.value, ← slot) c.index_mut.ensures.value in
+    let was : c.replace-old.result ≡ get_or items c.args.slot c.replace-old.result =
+    rw (c.replace-old.ensures.value, ← slot) c.index_mut.ensures.value in
     rw (slot, after)
-    (write_over c.args.self.now items c.args.slot c.args.value c.replace-old.result (ap (λ (o : config.Object). o.values) (sym c.self.view_is)) short was
-    ∙ ap (λ (o : config.Object). Ok (record { state = record o { values = map value_view (slice_set items c.args.slot c.args.value) }; answer = value_view c.replace-old.result })) (sym c.self.view_is))
+    (write_over c.args.self.now items c.args.slot c.args.value c.replace-old.result
+    (ap (λ (o : config.Object). o.values) (sym c.self.view_is)) short was
+    ∙ ap (λ (o : config.Object). Ok (record {
+      state = record o { values = map value_view (slice_set items c.args.slot c.args.value) };
+      answer = value_view c.replace-old.result;
+    }))
+    (sym c.self.view_is))

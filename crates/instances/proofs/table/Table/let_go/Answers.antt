@@ -7,11 +7,13 @@ use Rattle.instances.proofs.table.Table.let_go.Goals as goal
 
 pub returns-in_default : goal.returns-in_default
 returns-in_default c =
-    absurd (not_held _ _ c.self.inside.limit _ c.self.invariant.0 c.self.view_is _ (sym c.get_mut.ensures.value ∙ ap option_copied_mut c.in_default.is) c.requires.held)
+    let none = sym c.get_mut.ensures.value ∙ ap option_copied_mut c.in_default.is in
+    absurd (not_held _ _ c.self.inside.limit _ c.self.invariant.0 c.self.view_is _ none c.requires.held)
 
 pub overflow_sub-instance : goal.overflow_sub-instance
 overflow_sub-instance c =
-    let same = count_is _ _ c.self.inside.limit _ c.self.invariant.0 c.self.view_is _ _ (sym c.get_mut.ensures.value ∙ ap option_copied_mut c.in-Some.is) in
+    let here = sym c.get_mut.ensures.value ∙ ap option_copied_mut c.in-Some.is in
+    let same = count_is _ _ c.self.inside.limit _ c.self.invariant.0 c.self.view_is _ _ here in
     omega (arith, same, c.requires.held)
 
 pub returns : goal.returns

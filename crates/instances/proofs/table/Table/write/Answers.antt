@@ -7,7 +7,8 @@ use Rattle.instances.proofs.table.Table.write.Goals as goal
 
 pub returns-in_default-clause-changes : goal.returns-in_default-clause-changes
 returns-in_default-clause-changes c =
-    absent_changed _ _ c.self.inside.limit _ c.self.invariant.0 c.self.view_is _ _ (sym c.get_mut.ensures.value ∙ ap option_copied_mut c.in_default.is)
+    absent_changed _ _ c.self.inside.limit _ c.self.invariant.0 c.self.view_is _ _
+    (sym c.get_mut.ensures.value ∙ ap option_copied_mut c.in_default.is)
 
 pub returns-clause-changes : goal.returns-clause-changes
 returns-clause-changes c =
