@@ -310,7 +310,7 @@ classes_plain types d =
     on_bind (λ x. Unit {0}) PlainDraft (entries_at [] d (codes "classes")) _ (on_all _) λ list u.
     on_each PlainDraft (at_entry (λ path. class_at path (length types) list) (under [] (codes "classes"))) (λ i draft d all. class_plain (nth (under [] (codes "classes")) i) (length types) list draft d all) 0 (bare_draft types) list (λ t. tt)
 
-draft_plain : (d : Data) → OnRead PlainDraft (draft_in d)
+pub draft_plain : (d : Data) → OnRead PlainDraft (draft_in d)
 unfolding draft_in
 draft_plain d =
     on_bind (λ x. Unit {0}) PlainDraft (enums_in d) _ (on_all _) λ enums u.
@@ -362,7 +362,7 @@ module _ (types : List GType) (specs : ℕ → List Spec) (most : ℕ) where
       on_bind (λ place. HasRoom most places) (AreFew most) (place_at path types specs most places d) (λ place. Ok (places ++ place ∷ [])) (place_few path places d)
       λ place room. one_place_more places place room
 
-  objects_few : (d : Data) → OnRead (AreFew most) (objects_in types specs most d)
+  pub objects_few : (d : Data) → OnRead (AreFew most) (objects_in types specs most d)
   unfolding objects_in
   objects_few d =
       on_bind (λ x. Unit {0}) (AreFew most) (nothing_at [] d unset_before_objects) _ (on_all _) λ unset u.

@@ -1,0 +1,6 @@
+pub mod Ancestors
+pub mod Parts
+pub mod SignalProofs
+pub mod LimitProofs
+pub mod TreeProofs
+pub mod Whole

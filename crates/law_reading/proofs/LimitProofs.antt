@@ -1,0 +1,82 @@
+-- The limits of a definition that was read.
+use Rattle.std.proofs.Common.{◌≡◌, ℕ, suc, ◌+◌, ◌≤◌, ℤ, pos, negsuc, Bool, true, false, cond, not, ◌&&◌, List, [], ◌∷◌, length, Option, None, Some, Result, Ok, Err, refl, sym, ap, subst, arith}
+use Rattle.std.specs.Prelude.{int_lt, unsigned_abs, if◌then◌else◌, codes}
+use Rattle.std.proofs.lemmas.Int.{ints}
+use Rattle.serde_json.specs.Data.{Data}
+use Rattle.serde_json.specs.Find.{get}
+use Rattle.g_values.specs.Reading.{whole_number}
+use Rattle.ui_machine.specs.Seq.{total}
+use Rattle.ui_machine.specs.Outcome.{◌>>=◌}
+use Rattle.ui_machine.specs.Definition.Places.{Place}
+use Rattle.ui_machine.specs.Rules.Transform.{is_between}
+use Rattle.ui_machine.specs.declared.limits.Limits.{Limits}
+use Rattle.builder_defs.specs.declared.fault.DefinitionLimit.{DefinitionLimit}
+use Rattle.builder_defs.specs.declared.fault.DefinitionLimit.TheVariants.{Objects, Handlers}
+use Rattle.builder_defs.specs.Meaning.{default_limits}
+use Rattle.builder_defs.specs.Refusals.{Refusal, shape, limit, or_refused}
+use Rattle.builder_defs.specs.Document.{under, members_at, only_at}
+use Rattle.builder_defs.specs.Denoted.SessionLimits.{limit_within, given_limit, limit_or, keys_of_limits, given_limits, limits_or, limits_in}
+use Rattle.builder_defs.specs.Denoted.Classes.{Draft}
+use Rattle.builder_defs.specs.Denoted.{definition_with}
+use Rattle.builder_defs.proofs.Soundness.{OnRead, on_bind, on_all, AreFew}
+use Rattle.law_typing.specs.Laws.WellRead.{is_object, objects_of}
+use Rattle.law_reading.specs.Reading.{LimitsRead}
+
+record Small (limits : Limits) : Type 0 where
+  objects : limits.objects ≤ 4096
+  handlers : limits.handlers ≤ 16
+
+below : (n : ℤ) (low high : ℕ) → int_lt n (pos low) ≡ false → int_lt (pos high) n ≡ false → unsigned_abs n ≤ high
+below (pos k) low high p q = omega (arith, ints, q)
+below (negsuc k) low high p q = absurd (omega (arith, ints, p))
+
+within : (which : DefinitionLimit) (low high : ℕ) (n : ℤ) → OnRead (λ m. m ≤ high) (limit_within which (pos low) (pos high) n)
+within which low high n = by (int_lt n (pos low)) (int_lt (pos high) n) refl refl
+  where
+    by : (a b : Bool) → int_lt n (pos low) ≡ a → int_lt (pos high) n ≡ b
+        → OnRead (λ m. m ≤ high) (if not a && not b then Ok (unsigned_abs n) else Err (limit which))
+    by true b p q = tt
+    by false true p q = tt
+    by false false p q = below n low high p q
+
+given : (path : List ℕ) (which : DefinitionLimit) (low high : ℕ) (d : Data) → OnRead (λ m. m ≤ high) (given_limit path which (pos low) (pos high) d)
+unfolding given_limit
+given path which low high d =
+    on_bind (λ x. Unit {0}) (λ m. m ≤ high) (or_refused (shape path) (whole_number d)) _ (on_all _) λ n u. within which low high n
+
+limited : (path : List ℕ) (which : DefinitionLimit) (low high own : ℕ) (d : Option Data) → own ≤ high
+    → OnRead (λ m. m ≤ high) (limit_or path which (pos low) (pos high) own d)
+limited path which low high own None h = h
+limited path which low high own (Some d) h = given path which low high d
+
+given_small : (path : List ℕ) (d : Data) → OnRead Small (given_limits path d)
+unfolding given_limits
+given_small path d =
+    on_bind (λ x. Unit {0}) Small (members_at path d) _ (on_all _) λ ms u.
+    on_bind (λ m. m ≤ 4096) Small (limit_or (under path (codes "objects")) Objects (pos 1) (pos 4096) default_limits.objects (get (codes "objects") d)) _
+    (limited (under path (codes "objects")) Objects 1 4096 default_limits.objects (get (codes "objects") d) (omega arith)) λ objects few.
+    on_bind (λ m. m ≤ 16) Small (limit_or (under path (codes "handlers")) Handlers (pos 0) (pos 16) default_limits.handlers (get (codes "handlers") d)) _
+    (limited (under path (codes "handlers")) Handlers 0 16 default_limits.handlers (get (codes "handlers") d) (omega arith)) λ handlers small.
+    on_bind (λ x. Unit {0}) Small (only_at path ms keys_of_limits) _ (on_all _) λ only u. record { objects = few; handlers = small }
+
+small_or : (path : List ℕ) (d : Option Data) → OnRead Small (limits_or path d)
+small_or path None = record { objects = omega arith; handlers = omega arith }
+small_or path (Some d) = given_small path d
+
+limits_small : (d : Data) → OnRead Small (limits_in d)
+limits_small d = small_or (under [] (codes "limits")) (get (codes "limits") d)
+
+all_objects : (places : List Place) → total is_object places ≤ length places
+all_objects [] = omega arith
+all_objects (p ∷ ps) = by p.is_prototype (all_objects ps)
+  where
+    by : (b : Bool) → total is_object ps ≤ length ps → cond b 0 1 + total is_object ps ≤ suc (length ps)
+    by true h = omega (arith, h)
+    by false h = omega (arith, h)
+
+pub limits_read : (draft : Draft) (places : List Place) (limits : Limits) (v : Data) → limits_in v ≡ Ok limits → AreFew limits.objects places
+    → LimitsRead (definition_with draft places limits)
+limits_read draft places limits v read few =
+    let small : Small limits = subst (OnRead Small) read (limits_small v) in
+    let all = all_objects places in
+    record { most_objects = small.objects; most_handlers = small.handlers; objects = omega (arith, all, few.live) }

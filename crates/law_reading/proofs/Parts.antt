@@ -1,0 +1,49 @@
+-- The parts of a definition that was read.
+use Rattle.std.proofs.Common.{◌≡◌, ℕ, List, [], Result, Ok, Err, codes, option_and_then, refl, subst}
+use Rattle.serde_json.specs.Find.{get, as_number, as_u64}
+use Rattle.serde_json.specs.Data.{Data}
+use Rattle.ui_machine.specs.Outcome.{◌>>=◌}
+use Rattle.ui_machine.specs.Definition.{Definition}
+use Rattle.ui_machine.specs.Definition.Places.{Place}
+use Rattle.ui_machine.specs.declared.limits.Limits.{Limits}
+use Rattle.builder_defs.specs.Refusals.{Refusal}
+use Rattle.builder_defs.specs.Document.{document, members_at, only_at}
+use Rattle.builder_defs.specs.Denoted.Properties.{specs_by}
+use Rattle.builder_defs.specs.Denoted.Classes.{Draft}
+use Rattle.builder_defs.specs.Denoted.SessionLimits.{limits_in}
+use Rattle.builder_defs.specs.Denoted.{keys_of_definition, format_of, draft_in, objects_in, definition_in, definition_with, denoted}
+use Rattle.builder_defs.proofs.Soundness.{OnRead}
+
+-- what follows one reading, where it gives something
+pub on_read : {A B : Type 0} (P : B → Type 0) (r : Result A Refusal) (f : A → Result B Refusal) → ((x : A) → r ≡ Ok x → OnRead P (f x)) → OnRead P (r >>= f)
+on_read P (Ok x) f h = h x refl
+on_read P (Err e) f h = tt
+
+pub record IsRead (d : Definition) : Type 0 where
+  pub value : Data
+  pub draft : Draft
+  pub limits : Limits
+  pub places : List Place
+  pub drafted : draft_in value ≡ Ok draft
+  pub limited : limits_in value ≡ Ok limits
+  pub placed : objects_in draft.types (specs_by draft.types draft.own) limits.objects value ≡ Ok places
+  pub is : definition_with draft places limits ≡ d
+
+of_value : (v : Data) → OnRead IsRead (definition_in v)
+unfolding definition_in
+of_value v =
+    on_read IsRead (members_at [] v) _ λ ms m.
+    on_read IsRead (format_of (option_and_then as_u64 (option_and_then as_number (get (codes "format") v)))) _ λ u f.
+    on_read IsRead (limits_in v) _ λ limits l.
+    on_read IsRead (draft_in v) _ λ draft c.
+    on_read IsRead (objects_in draft.types (specs_by draft.types draft.own) limits.objects v) _ λ places o.
+    on_read IsRead (only_at [] ms keys_of_definition) _ λ u k.
+    let read : IsRead (definition_with draft places limits) =
+    record { value = v; draft = draft; limits = limits; places = places; drafted = c; limited = l; placed = o; is = refl } in read
+
+of_bytes : (bytes : List ℕ) → OnRead IsRead (denoted bytes)
+unfolding denoted
+of_bytes bytes = on_read IsRead (document bytes) _ λ v e. of_value v
+
+pub parts : (bytes : List ℕ) (d : Definition) → denoted bytes ≡ Ok d → IsRead d
+parts bytes d h = subst (OnRead IsRead) h (of_bytes bytes)

@@ -1,0 +1,47 @@
+-- Definitions that were read. The laws of runs take a definition to be well read; these parts of it are so of each that bytes denote.
+use Rattle.std.specs.Prelude.{◌≡◌, ℕ, ◌<◌, ◌≤◌, true, List, Option, Some, Ok, length}
+use Rattle.std.specs.List.{list_all, flat_map}
+use Rattle.ui_machine.specs.Definition.{Definition, Class}
+use Rattle.ui_machine.specs.Definition.Types as sorts
+use Rattle.ui_machine.specs.Definition.Signals.{Signal, Shape, Method}
+use Rattle.ui_machine.specs.Definition.Programs.{Program}
+use Rattle.ui_machine.specs.Definition.Lookups.{type_of, program_at}
+use Rattle.ui_machine.specs.Rules.Ancestry.{is_a, parent_of}
+use Rattle.ui_machine.specs.Rules.Connections.{signal_number}
+use Rattle.ui_machine.specs.Rules.Construction.{nearest_shape}
+use Rattle.ui_machine.specs.Rules.EmissionPlan.{signal_of}
+use Rattle.builder_defs.specs.Denoted.{denoted}
+use Rattle.law_typing.specs.Laws.WellRead.{HasNotify, ProgramRead, IsObject, has_values, result_has_values, objects_of}
+use Rattle.law_typing.specs.Verdict.Accepted.{Each}
+use Rattle.ui_machine.specs.Definition.Places.{Bind}
+
+-- what is so of each definition that bytes denote
+abbrev pub OfEachRead : (Definition → Type 0) → Type 0
+OfEachRead P = (bytes : List ℕ) (d : Definition) → denoted bytes ≡ Ok d → P d
+
+-- the limits are no more than these, and there are no more objects than may live
+pub record LimitsRead (d : Definition) : Type 0 where
+  pub most_objects : d.most_objects ≤ 4096
+  pub most_handlers : d.most_handlers ≤ 16
+  pub objects : objects_of d ≤ d.most_objects
+
+-- each class and each type that has signals has `notify`, each signal's own name finds it, and each result has a value
+pub record SignalsRead (d : Definition) : Type 0 where
+  pub classes : length d.classes ≡ length d.types
+  pub notify : (class : ℕ) → class < length d.types → (type_of d class).sort ≡ sorts.class → HasNotify d class
+  pub first : (type number : ℕ) (s : Signal) → signal_of d type number ≡ Some s → HasNotify d type
+  pub signals : (class number : ℕ) (s : Signal) → signal_of d class number ≡ Some s → signal_number d class s.name ≡ Some number
+  pub results : list_all (λ (c : Class). list_all (result_has_values d) c.signals) d.classes ≡ true
+  pub replies : list_all (λ (s : Shape). list_all (λ (m : Method). has_values d m.result) s.methods) d.shapes ≡ true
+
+-- a parent stands before its children, what a type is its ancestors are, and a class has the shape of what it is
+pub record AncestorsRead (d : Definition) : Type 0 where
+  pub parents : (t parent : ℕ) → parent_of d.types t ≡ Some parent → parent < t
+  pub transitive : (a b c : ℕ) → is_a d.types a b ≡ true → is_a d.types b c ≡ true → is_a d.types a c ≡ true
+  pub shapes : (class type shape : ℕ) → is_a d.types class type ≡ true → nearest_shape d type ≡ Some shape
+      → nearest_shape d class ≡ Some shape
+
+-- each program is as it should be, and each binding is between two objects
+pub record ProgramsRead (d : Definition) : Type 0 where
+  pub programs : (number : ℕ) (p : Program) → program_at d number ≡ Some p → ProgramRead d p
+  pub bindings : Each (λ (b : Bind). IsObject d b.source × IsObject d b.target) d.bindings
