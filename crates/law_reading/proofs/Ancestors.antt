@@ -153,7 +153,7 @@ module _ (types : List GType) (tree : IsTree types) where
 
 -- ** a type more
 
-module _ (types : List GType) (g : GType) (tree : IsTree types) (more : IsTree (types ++ g ∷ [])) (own : ℕ → List Spec) (none : own (length types) ≡ []) where
+module _ (types : List GType) (g : GType) (tree : IsTree types) (more : IsTree (types ++ g ∷ [])) (own : ℕ → List Spec) (past : (t : ℕ) → length types ≤ t → own t ≡ []) where
   parent_front : (t : ℕ) → t < length types → parent_of (types ++ g ∷ []) t ≡ parent_of types t
   parent_front t h = ap (λ (x : GType). x.parent) (read-front no_type g types t h)
 
@@ -169,23 +169,22 @@ module _ (types : List GType) (g : GType) (tree : IsTree types) (more : IsTree (
           child_specs (types ++ g ∷ []) more own t p (parent_front t h ∙ e) ∙ ap (λ l. l ++ own t) (rest (parent_within types tree t p e))
           ∙ sym (child_specs types tree own t p e)
 
-  -- the properties of each type are those of a type that was there, or its own
-  pub specs_before : (P : List Spec → Type 0) → ((t : ℕ) → P (specs_by types own t)) → ((t : ℕ) → P (own t)) → (t : ℕ) → P (specs_by (types ++ g ∷ []) own t)
-  specs_before P old bare t = along (types ++ g ∷ []) more (λ t. P (specs_by (types ++ g ∷ []) own t)) root on t
+  -- the properties of each type are those of a type that was there, or none
+  pub specs_before : (P : List Spec → Type 0) → P [] → ((t : ℕ) → P (specs_by types own t)) → (t : ℕ) → P (specs_by (types ++ g ∷ []) own t)
+  specs_before P nil old t = along (types ++ g ∷ []) more (λ t. P (specs_by (types ++ g ∷ []) own t)) root on t
     where
-      root : (t : ℕ) → parent_of (types ++ g ∷ []) t ≡ None → P (specs_by (types ++ g ∷ []) own t)
-      root t e = subst P (sym (root_specs (types ++ g ∷ []) more own t e)) (bare t)
+      root_by : (t : ℕ) → (t < length types) ⊎ (length types ≤ t) → parent_of (types ++ g ∷ []) t ≡ None → P (specs_by (types ++ g ∷ []) own t)
+      root_by t (inl h) e = subst P (sym (front_specs t h)) (old t)
+      root_by t (inr h) e = subst P (sym (root_specs (types ++ g ∷ []) more own t e ∙ past t h)) nil
 
-      on_by : (t p : ℕ) → (t < length types) ⊎ (length types ≤ t) → parent_of (types ++ g ∷ []) t ≡ Some p → P (specs_by (types ++ g ∷ []) own p) → P (specs_by (types ++ g ∷ []) own t)
+      root : (t : ℕ) → parent_of (types ++ g ∷ []) t ≡ None → P (specs_by (types ++ g ∷ []) own t)
+      root t e = root_by t (cases_lt t (length types)) e
+
+      on_by : (t p : ℕ) → (t < length types) ⊎ (length types ≤ t) → parent_of (types ++ g ∷ []) t ≡ Some p → P (specs_by (types ++ g ∷ []) own p)
+          → P (specs_by (types ++ g ∷ []) own t)
       on_by t p (inl h) e before = subst P (sym (front_specs t h)) (old t)
-      on_by t p (inr h) e before = at_end (cases_lt (length types) t)
-        where
-          at_end : (length types < t) ⊎ (t ≤ length types) → P (specs_by (types ++ g ∷ []) own t)
-          at_end (inl l) =
-              absurd (none-some p (sym (parent_past (types ++ g ∷ []) more t (rw (length-append types (g ∷ [])) (omega arith))) ∙ e))
-          at_end (inr l) =
-              let at : t ≡ length types = omega (arith, h, l) in
-              subst P (sym (child_specs (types ++ g ∷ []) more own t p e ∙ ap (λ xs. specs_by (types ++ g ∷ []) own p ++ xs) (ap own at ∙ none) ∙ append-nil _)) before
+      on_by t p (inr h) e before =
+          subst P (sym (child_specs (types ++ g ∷ []) more own t p e ∙ ap (λ xs. specs_by (types ++ g ∷ []) own p ++ xs) (past t h) ∙ append-nil _)) before
 
       on : (t p : ℕ) → parent_of (types ++ g ∷ []) t ≡ Some p → P (specs_by (types ++ g ∷ []) own p) → P (specs_by (types ++ g ∷ []) own t)
       on t p e before = on_by t p (cases_lt t (length types)) e before

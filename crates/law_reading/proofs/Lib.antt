@@ -2,7 +2,8 @@ pub mod Ancestors
 pub mod Parts
 pub mod SignalProofs
 pub mod LimitProofs
-pub mod TreeProofs
 pub mod NameProofs
 pub mod PropertyProofs
+pub mod TreeProofs
+pub mod SpecProofs
 pub mod Whole

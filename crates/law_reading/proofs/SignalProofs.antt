@@ -32,7 +32,7 @@ length_listed : {A : Type 0} (f : ℕ → A) (n : ℕ) → length (listed f n) �
 length_listed f zero = refl
 length_listed f (suc n) = ap suc (length_listed (λ i. f (suc i)) n)
 
-all_listed : {A : Type 0} (test : A → Bool) (f : ℕ → A) (n : ℕ) → ((i : ℕ) → test (f i) ≡ true) → list_all test (listed f n) ≡ true
+pub all_listed : {A : Type 0} (test : A → Bool) (f : ℕ → A) (n : ℕ) → ((i : ℕ) → test (f i) ≡ true) → list_all test (listed f n) ≡ true
 all_listed test f zero all = refl
 all_listed test f (suc n) all = ap (λ b. b && list_all test (listed (λ i. f (suc i)) n)) (all 0) ∙ all_listed test (λ i. f (suc i)) n (λ i. all (suc i))
 
@@ -41,16 +41,10 @@ none_given f all [] = refl
 none_given f all (t ∷ ts) = let e = all t in let rest = none_given f all ts in rw e rest
 
 module _ (draft : Draft) (places : List Place) (limits : Limits) where
-  whole : Definition
-  whole = definition_with draft places limits
-
-  made : ℕ → Class
-  made t = class_with (specs_by draft.types draft.own t)
-
-  known : (t : ℕ) → t < length draft.types → class_of (definition_with draft places limits) t ≡ class_with (specs_by draft.types draft.own t)
+  pub known : (t : ℕ) → t < length draft.types → class_of (definition_with draft places limits) t ≡ class_with (specs_by draft.types draft.own t)
   known t h = read-listed no_class (λ t. class_with (specs_by draft.types draft.own t)) (length draft.types) t (λ past. absurd (omega arith))
 
-  past : (t : ℕ) → length draft.types ≤ t → class_of (definition_with draft places limits) t ≡ no_class
+  pub past : (t : ℕ) → length draft.types ≤ t → class_of (definition_with draft places limits) t ≡ no_class
   past t h = read_past no_class (λ t. class_with (specs_by draft.types draft.own t)) (length draft.types) t h
 
   has_notify : (t : ℕ) → t < length draft.types → HasNotify (definition_with draft places limits) t

@@ -1,5 +1,5 @@
 -- The types of a definition that was read are a tree, in which no type has interfaces.
-use Rattle.std.proofs.Common.{◌≡◌, ℕ, zero, suc, ◌+◌, ◌<◌, ◌≤◌, Bool, true, false, cond, nat_le, List, [], ◌∷◌, ◌++◌, length, Option, None, Some, Result, Ok, Err, refl, sym, ap, subst, ◌∙◌, arith, add-one}
+use Rattle.std.proofs.Common.{◌≡◌, ℕ, zero, suc, ◌+◌, ◌<◌, ◌≤◌, Bool, true, false, cond, nat_le, List, [], ◌∷◌, ◌++◌, length, Option, None, Some, Result, Ok, Err, refl, sym, ap, subst, ◌∙◌, arith, reverse, length-append}
 use Rattle.std.specs.Prelude.{codes, if◌then◌else◌}
 use Rattle.std.specs.Option.{ForSome}
 use Rattle.std.proofs.lemmas.Bool.Decides.{nat_tests}
@@ -25,7 +25,12 @@ use Rattle.builder_defs.specs.Denoted.Enums.{enum_at, flags_at, enum_member_at, 
 use Rattle.builder_defs.specs.Denoted.Classes.{Draft, bare_draft, added_or, with_class, parent_at, parent_ahead, check_depth, keys_of_class, declared_at, answering_at, properties_at, class_at}
 use Rattle.builder_defs.specs.Denoted.{unset_before_classes, enums_in, flags_in, classes_in, draft_in}
 use Rattle.builder_defs.proofs.Soundness.{OnRead, on_bind, on_all, on_each}
-use Rattle.law_reading.proofs.Ancestors.{Bare}
+use Rattle.std.specs.List.{flat_map}
+use Rattle.ui_machine.specs.Definition.Properties.{Spec}
+use Rattle.ui_machine.specs.Rules.Ancestry.{lineage}
+use Rattle.law_reading.proofs.Ancestors.{Bare, specs_before}
+use Rattle.law_reading.proofs.NameProofs.{AreNamed}
+use Rattle.law_reading.proofs.PropertyProofs.{OwnRead, properties_read}
 
 pub record Grown (types : List GType) : Type 0 where
   pub tree : IsTree types
@@ -105,35 +110,71 @@ class_within types name (Some t) e p h = by (is_class (sort_of types t)) h
 class_fresh : (types : List GType) (name parent : List ℕ) (flags : TypeFlags) → Fresh types (new_class types name parent flags [])
 class_fresh types name parent flags = record { parent = class_within types parent (find_type types parent) refl; bare = refl }
 
-added_grown : (path : List ℕ) (old : List GType) (fault : Option TypeFault) (types : List GType) → Grown types → OnRead Grown (added_or path old fault types)
+-- a type more than these
+abbrev pub More : List GType → List GType → Type 0
+More types all = Grown all × ((g : GType) × (all ≡ types ++ g ∷ []))
+
+added_grown : (path : List ℕ) (old : List GType) (fault : Option TypeFault) (types : List GType) → More old types → OnRead (More old) (added_or path old fault types)
 added_grown path old None types more = more
 added_grown path old (Some fault) types more = tt
 
-declared_grown : (path : List ℕ) (first : ℕ) (list : Items) (types : List GType) (d : Data) → Grown types → OnRead Grown (declared_at path first list types d)
+declared_grown : (path : List ℕ) (first : ℕ) (list : Items) (types : List GType) (d : Data) → Grown types → OnRead (More types) (declared_at path first list types d)
 unfolding declared_at
 declared_grown path first list types d old =
-    on_bind (λ x. length types < 256) Grown (room_for_type types) _ (room_left types) λ r room.
-    on_bind (λ x. Unit {0}) Grown (check_depth types (parent_ahead types (get (codes "parent") d))) _ (on_all _) λ deep u.
-    on_bind (λ x. Unit {0}) Grown (text_at path d (codes "name")) _ (on_all _) λ name u.
-    on_bind (λ x. Unit {0}) Grown (new_type_name (under path (codes "name")) first types name) _ (on_all _) λ new u.
-    on_bind (λ x. Unit {0}) Grown (parent_at path list types d) _ (on_all _) λ parent u.
-    on_bind (λ x. Unit {0}) Grown (truth_at path d (codes "abstract")) _ (on_all _) λ abstract u.
-    on_bind (λ x. Unit {0}) Grown (truth_at path d (codes "final")) _ (on_all _) λ final u.
+    on_bind (λ x. length types < 256) (More types) (room_for_type types) _ (room_left types) λ r room.
+    on_bind (λ x. Unit {0}) (More types) (check_depth types (parent_ahead types (get (codes "parent") d))) _ (on_all _) λ deep u.
+    on_bind (λ x. Unit {0}) (More types) (text_at path d (codes "name")) _ (on_all _) λ name u.
+    on_bind (λ x. Unit {0}) (More types) (new_type_name (under path (codes "name")) first types name) _ (on_all _) λ new u.
+    on_bind (λ x. Unit {0}) (More types) (parent_at path list types d) _ (on_all _) λ parent u.
+    on_bind (λ x. Unit {0}) (More types) (truth_at path d (codes "abstract")) _ (on_all _) λ abstract u.
+    on_bind (λ x. Unit {0}) (More types) (truth_at path d (codes "final")) _ (on_all _) λ final u.
     let flags : TypeFlags = record { is_abstract = abstract; is_final = final } in
     added_grown (under path (codes "name")) types (class_fault types name parent []) (types ++ new_class types name parent flags [] ∷ [])
-    (one_more types (new_class types name parent flags []) old room (class_fresh types name parent flags))
+    (one_more types (new_class types name parent flags []) old room (class_fresh types name parent flags), (new_class types name parent flags [], refl))
+
+-- ** properties
+
+longer : (types : List GType) (g : GType) (own : ℕ → List Spec) → IsTree types → IsTree (types ++ g ∷ []) → OwnRead types own → OwnRead (types ++ g ∷ []) own
+longer types g own tree more old = record {
+  kept = old.kept;
+  past = λ t h. old.past t (let one = length-append types (g ∷ []) in omega (arith, one, h));
+  named = specs_before types g tree more own old.past AreNamed refl old.named;
+}
+
+longer_by : (types all : List GType) (own : ℕ → List Spec) → IsTree types → More types all → OwnRead types own → OwnRead all own
+longer_by types all own tree more old =
+    subst (λ ts. OwnRead ts own) (sym more.1.1) (longer types more.1.0 own tree (subst IsTree more.1.1 more.0.tree) old)
+
+one_longer : (types all : List GType) → More types all → suc (length types) ≡ length all
+one_longer types all more = let same = ap length more.1.1 in let one = length-append types (more.1.0 ∷ []) in omega (arith, same, one)
 
 abbrev pub GrownDraft : Draft → Type 0
-GrownDraft draft = Grown draft.types
+GrownDraft draft = Grown draft.types × OwnRead draft.types draft.own
 
 class_grown : (path : List ℕ) (first : ℕ) (list : Items) (draft : Draft) (d : Data) → GrownDraft draft → OnRead GrownDraft (class_at path first list draft d)
 unfolding class_at
 class_grown path first list draft d old =
     on_bind (λ x. Unit {0}) GrownDraft (members_at path d) _ (on_all _) λ ms u.
-    on_bind Grown GrownDraft (declared_at path first list draft.types d) _ (declared_grown path first list draft.types d old) λ types more.
-    on_bind (λ x. Unit {0}) GrownDraft (properties_at path types (length draft.types) draft.own d) _ (on_all _) λ own u.
+    on_bind (More draft.types) GrownDraft (declared_at path first list draft.types d) _ (declared_grown path first list draft.types d old.0) λ types more.
+    on_bind (OwnRead types) GrownDraft (properties_at path types (length draft.types) draft.own d) _
+    (properties_read types more.0.tree (length draft.types) (one_longer draft.types types more) path draft.own d
+    (longer_by draft.types types draft.own old.0.tree more old.1)) λ own read.
     on_bind (λ x. Unit {0}) GrownDraft (answering_at path d) _ (on_all _) λ answering u.
-    on_bind (λ x. Unit {0}) GrownDraft (only_at path ms keys_of_class) _ (on_all _) λ only u. more
+    on_bind (λ x. Unit {0}) GrownDraft (only_at path ms keys_of_class) _ (on_all _) λ only u. (more.0, read)
+
+abbrev no_specs : ℕ → List Spec
+no_specs t = []
+
+nothing_flat : (ts : List ℕ) → flat_map no_specs ts ≡ []
+nothing_flat [] = refl
+nothing_flat (t ∷ ts) = nothing_flat ts
+
+bare_read : (types : List GType) → OwnRead types no_specs
+bare_read types = record {
+  kept = λ t. tt;
+  past = λ t h. refl;
+  named = λ t. subst AreNamed (sym (nothing_flat (reverse (lineage types t)))) refl;
+}
 
 classes_grown : (types : List GType) (d : Data) → Grown types → OnRead GrownDraft (classes_in types d)
 unfolding classes_in
@@ -141,7 +182,7 @@ classes_grown types d old =
     on_bind (λ x. Unit {0}) GrownDraft (nothing_at [] d unset_before_classes) _ (on_all _) λ unset u.
     on_bind (λ x. Unit {0}) GrownDraft (entries_at [] d (codes "classes")) _ (on_all _) λ list u.
     on_each GrownDraft (at_entry (λ path. class_at path (length types) list) (under [] (codes "classes")))
-    (λ i draft d all. class_grown (nth (under [] (codes "classes")) i) (length types) list draft d all) 0 (bare_draft types) list old
+    (λ i draft d all. class_grown (nth (under [] (codes "classes")) i) (length types) list draft d all) 0 (bare_draft types) list (old, bare_read types)
 
 first_parents : (t p : ℕ) → parent_of predeclared t ≡ Some p → p < t
 first_parents zero p h = absurd (cc)

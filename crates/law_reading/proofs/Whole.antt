@@ -4,13 +4,14 @@ use Rattle.std.proofs.lemmas.Option.{none-some}
 use Rattle.ui_machine.specs.Definition.{Definition}
 use Rattle.builder_defs.specs.Denoted.{denoted, definition_with}
 use Rattle.builder_defs.specs.Denoted.Properties.{specs_by}
-use Rattle.builder_defs.proofs.Soundness.{OnRead, AreFew, objects_few}
-use Rattle.law_reading.specs.Reading.{OfEachRead, LimitsRead, SignalsRead, AncestorsRead, ProgramsRead}
+use Rattle.builder_defs.proofs.Soundness.{OnRead, AreFew, objects_few, PlainDraft, draft_plain}
+use Rattle.law_reading.specs.Reading.{OfEachRead, LimitsRead, SignalsRead, AncestorsRead, ProgramsRead, PropertiesRead}
 use Rattle.law_reading.proofs.Parts.{IsRead, parts}
 use Rattle.law_reading.proofs.Ancestors.{transitive}
 use Rattle.law_reading.proofs.SignalProofs.{signals_read, no_shape}
 use Rattle.law_reading.proofs.LimitProofs.{limits_read}
 use Rattle.law_reading.proofs.TreeProofs.{Grown, GrownDraft, draft_grown}
+use Rattle.law_reading.proofs.SpecProofs.{properties_read}
 
 limits_of : (d : Definition) → IsRead d → LimitsRead d
 limits_of d r =
@@ -29,7 +30,7 @@ signals_are bytes d h = signals_of d (parts bytes d h)
 
 ancestors_of : (d : Definition) → IsRead d → AncestorsRead d
 ancestors_of d r =
-    let grown : Grown r.draft.types = subst (OnRead GrownDraft) r.drafted (draft_grown r.value) in
+    let grown : Grown r.draft.types = (subst (OnRead GrownDraft) r.drafted (draft_grown r.value)).0 in
     let read : AncestorsRead (definition_with r.draft r.places r.limits) = record {
       parents = grown.tree.parents_first;
       transitive = transitive r.draft.types grown.tree grown.bare;
@@ -47,3 +48,12 @@ programs_of d r =
 
 pub programs_are : OfEachRead ProgramsRead
 programs_are bytes d h = programs_of d (parts bytes d h)
+
+properties_of : (d : Definition) → IsRead d → PropertiesRead d
+properties_of d r =
+    let grown : GrownDraft r.draft = subst (OnRead GrownDraft) r.drafted (draft_grown r.value) in
+    let plain : PlainDraft r.draft = subst (OnRead PlainDraft) r.drafted (draft_plain r.value) in
+    subst PropertiesRead r.is (properties_read r.draft r.places r.limits grown.1 plain)
+
+pub properties_are : OfEachRead PropertiesRead
+properties_are bytes d h = properties_of d (parts bytes d h)

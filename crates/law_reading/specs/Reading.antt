@@ -1,17 +1,20 @@
 -- Definitions that were read. The laws of runs take a definition to be well read; these parts of it are so of each that bytes denote.
-use Rattle.std.specs.Prelude.{◌≡◌, ℕ, ◌<◌, ◌≤◌, true, List, Option, Some, Ok, length}
-use Rattle.std.specs.List.{list_all, flat_map}
+use Rattle.std.specs.Prelude.{◌≡◌, ℕ, ◌<◌, ◌≤◌, ◌^◌, nat_lt, true, List, map, Option, Some, Ok, length}
+use Rattle.std.specs.List.{list_all}
 use Rattle.ui_machine.specs.Definition.{Definition, Class}
 use Rattle.ui_machine.specs.Definition.Types as sorts
 use Rattle.ui_machine.specs.Definition.Signals.{Signal, Shape, Method}
 use Rattle.ui_machine.specs.Definition.Programs.{Program}
-use Rattle.ui_machine.specs.Definition.Lookups.{type_of, program_at}
+use Rattle.ui_machine.specs.Definition.Lookups.{type_of, program_at, spec_of}
 use Rattle.ui_machine.specs.Rules.Ancestry.{is_a, parent_of}
 use Rattle.ui_machine.specs.Rules.Connections.{signal_number}
 use Rattle.ui_machine.specs.Rules.Construction.{nearest_shape}
 use Rattle.ui_machine.specs.Rules.EmissionPlan.{signal_of}
+use Rattle.ui_machine.specs.Definition.Names.{same_name}
+use Rattle.ui_machine.specs.Definition.Properties.{Spec, is_writable, is_construct, is_construct_only}
+use Rattle.ui_machine.specs.Rules.Validation.{is_valid}
 use Rattle.builder_defs.specs.Denoted.{denoted}
-use Rattle.law_typing.specs.Laws.WellRead.{HasNotify, ProgramRead, IsObject, has_values, result_has_values, objects_of}
+use Rattle.law_typing.specs.Laws.WellRead.{no_two, no_class_of, HasNotify, ProgramRead, IsObject, has_values, result_has_values, objects_of}
 use Rattle.law_typing.specs.Verdict.Accepted.{Each}
 use Rattle.ui_machine.specs.Definition.Places.{Bind}
 
@@ -45,3 +48,11 @@ pub record AncestorsRead (d : Definition) : Type 0 where
 pub record ProgramsRead (d : Definition) : Type 0 where
   pub programs : (number : ℕ) (p : Program) → program_at d number ≡ Some p → ProgramRead d p
   pub bindings : Each (λ (b : Bind). IsObject d b.source × IsObject d b.target) d.bindings
+
+-- no class has two properties of one name; what is set at construction is writable, flags are of 32 bits and defaults are valid
+pub record PropertiesRead (d : Definition) : Type 0 where
+  pub names : list_all (λ (c : Class). no_two same_name (map (λ (s : Spec). s.name) c.specs)) d.classes ≡ true
+  pub construct : (class slot : ℕ) (s : Spec) → spec_of d class slot ≡ Some s → is_construct s ≡ true → is_writable s ≡ true
+  pub construct_only : (class slot : ℕ) (s : Spec) → spec_of d class slot ≡ Some s → is_construct_only s ≡ true → is_writable s ≡ true
+  pub flags : (class slot : ℕ) (s : Spec) → spec_of d class slot ≡ Some s → nat_lt s.flags (2 ^ 32) ≡ true
+  pub defaults : (class slot : ℕ) (s : Spec) → spec_of d class slot ≡ Some s → is_valid no_class_of d.types s s.default ≡ true

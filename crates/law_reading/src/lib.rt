@@ -1,13 +1,15 @@
 //! What reading gives is well read: each definition that bytes denote is, in these parts, as the laws of runs take it to be.
 #![tactic(auto)]
 
-ghost use Rattle.law_reading.specs.Reading.{OfEachRead, LimitsRead, SignalsRead, AncestorsRead, ProgramsRead};
+ghost use Rattle.law_reading.specs.Reading.{OfEachRead, LimitsRead, SignalsRead, AncestorsRead, ProgramsRead, PropertiesRead};
 
 /// Of each definition that bytes denote: the limits are no more than they may be and the objects no more than may live; each type has `notify`,
-/// and a signal is found by its name; parents stand before children, and what a type is its ancestors are; programs and bindings are as they should be.
+/// and a signal is found by its name; parents stand before children, and what a type is its ancestors are; programs and bindings are as they should be;
+/// and no class has two properties of one name, their flags go together, and their defaults are valid.
 pub fn reading()
     ensures limits { OfEachRead LimitsRead }
     ensures signals { OfEachRead SignalsRead }
     ensures ancestors { OfEachRead AncestorsRead }
     ensures programs { OfEachRead ProgramsRead }
+    ensures properties { OfEachRead PropertiesRead }
 {}
