@@ -53,7 +53,8 @@ module _ (types : List GType) (tree : IsTree types) where
         by sorts.flags = or_false (nat_eq t b)
 
     -- what is so of a type, and passes on to children, is so of all that are it
-    pub reached : (b : ℕ) (P : ℕ → Type 0) → P b → ((t p : ℕ) → parent_of types t ≡ Some p → P p → P t) → (a : ℕ) → is_a types a b ≡ true → P a
+    pub reached : (b : ℕ) (P : ℕ → Type 0) → P b → ((t p : ℕ) → parent_of types t ≡ Some p → P p → P t) → (a : ℕ)
+        → is_a types a b ≡ true → P a
     reached b P here child = along (λ a. is_a types a b ≡ true → P a) root on
       where
         same : (t : ℕ) → nat_eq t b ≡ true → P t
@@ -66,7 +67,8 @@ module _ (types : List GType) (tree : IsTree types) where
         root : (t : ℕ) → parent_of types t ≡ None → is_a types t b ≡ true → P t
         root t e h = root_by t (nat_eq t b) refl e h
 
-        on_by : (t p : ℕ) (x : Bool) → nat_eq t b ≡ x → parent_of types t ≡ Some p → (is_a types p b ≡ true → P p) → is_a types t b ≡ true → P t
+        on_by : (t p : ℕ) (x : Bool) → nat_eq t b ≡ x → parent_of types t ≡ Some p → (is_a types p b ≡ true → P p)
+            → is_a types t b ≡ true → P t
         on_by t p true x e rest h = same t x
         on_by t p false x e rest h = child t p e (rest (sym (is_a-up types tree t b p (plain_is t b ∙ x) e) ∙ h))
 
@@ -76,7 +78,8 @@ module _ (types : List GType) (tree : IsTree types) where
     pub transitive : (a b c : ℕ) → is_a types a b ≡ true → is_a types b c ≡ true → is_a types a c ≡ true
     transitive a b c h g = reached b (λ a. is_a types a c ≡ true) g up a h
       where
-        up_by : (t p : ℕ) (x : Bool) → is_or_implements types c t ≡ x → parent_of types t ≡ Some p → is_a types p c ≡ true → is_a types t c ≡ true
+        up_by : (t p : ℕ) (x : Bool) → is_or_implements types c t ≡ x → parent_of types t ≡ Some p → is_a types p c ≡ true
+            → is_a types t c ≡ true
         up_by t p true x e h = is_a-here types tree t c x
         up_by t p false x e h = is_a-up types tree t c p x e ∙ h
 
@@ -130,7 +133,8 @@ module _ (types : List GType) (tree : IsTree types) where
             by true x (inl c) = let same = eqb-true p last x in absurd (omega (arith, same, is, c, tree.parents_first t p e))
             by true x (inr c) = absurd (none-some p (sym (parent_past t c) ∙ e))
 
-        on : (t p : ℕ) → parent_of types t ≡ Some p → (nat_eq p last ≡ false → specs_by types (add_own own last spec) p ≡ specs_by types own p)
+        on : (t p : ℕ) → parent_of types t ≡ Some p
+            → (nat_eq p last ≡ false → specs_by types (add_own own last spec) p ≡ specs_by types own p)
             → nat_eq t last ≡ false → specs_by types (add_own own last spec) t ≡ specs_by types own t
         on t p e rest h =
             child_specs (add_own own last spec) t p e ∙ ap (λ l. l ++ add_own own last spec t) (rest (before t p e))
@@ -173,14 +177,16 @@ module _ (types : List GType) (g : GType) (tree : IsTree types) (more : IsTree (
   pub specs_before : (P : List Spec → Type 0) → P [] → ((t : ℕ) → P (specs_by types own t)) → (t : ℕ) → P (specs_by (types ++ g ∷ []) own t)
   specs_before P nil old t = along (types ++ g ∷ []) more (λ t. P (specs_by (types ++ g ∷ []) own t)) root on t
     where
-      root_by : (t : ℕ) → (t < length types) ⊎ (length types ≤ t) → parent_of (types ++ g ∷ []) t ≡ None → P (specs_by (types ++ g ∷ []) own t)
+      root_by : (t : ℕ) → (t < length types) ⊎ (length types ≤ t) → parent_of (types ++ g ∷ []) t ≡ None
+          → P (specs_by (types ++ g ∷ []) own t)
       root_by t (inl h) e = subst P (sym (front_specs t h)) (old t)
       root_by t (inr h) e = subst P (sym (root_specs (types ++ g ∷ []) more own t e ∙ past t h)) nil
 
       root : (t : ℕ) → parent_of (types ++ g ∷ []) t ≡ None → P (specs_by (types ++ g ∷ []) own t)
       root t e = root_by t (cases_lt t (length types)) e
 
-      on_by : (t p : ℕ) → (t < length types) ⊎ (length types ≤ t) → parent_of (types ++ g ∷ []) t ≡ Some p → P (specs_by (types ++ g ∷ []) own p)
+      on_by : (t p : ℕ) → (t < length types) ⊎ (length types ≤ t) → parent_of (types ++ g ∷ []) t ≡ Some p
+          → P (specs_by (types ++ g ∷ []) own p)
           → P (specs_by (types ++ g ∷ []) own t)
       on_by t p (inl h) e before = subst P (sym (front_specs t h)) (old t)
       on_by t p (inr h) e before =

@@ -39,7 +39,8 @@ within which low high n = by (int_lt n (pos low)) (int_lt (pos high) n) refl ref
     by false true p q = tt
     by false false p q = below n low high p q
 
-given : (path : List ℕ) (which : DefinitionLimit) (low high : ℕ) (d : Data) → OnRead (λ m. m ≤ high) (given_limit path which (pos low) (pos high) d)
+given : (path : List ℕ) (which : DefinitionLimit) (low high : ℕ) (d : Data)
+    → OnRead (λ m. m ≤ high) (given_limit path which (pos low) (pos high) d)
 unfolding given_limit
 given path which low high d =
     on_bind (λ x. Unit {0}) (λ m. m ≤ high) (or_refused (shape path) (whole_number d)) _ (on_all _) λ n u. within which low high n
@@ -74,7 +75,8 @@ all_objects (p ∷ ps) = by p.is_prototype (all_objects ps)
     by true h = omega (arith, h)
     by false h = omega (arith, h)
 
-pub limits_read : (draft : Draft) (places : List Place) (limits : Limits) (v : Data) → limits_in v ≡ Ok limits → AreFew limits.objects places
+pub limits_read : (draft : Draft) (places : List Place) (limits : Limits) (v : Data) → limits_in v ≡ Ok limits
+    → AreFew limits.objects places
     → LimitsRead (definition_with draft places limits)
 limits_read draft places limits v read few =
     let small : Small limits = subst (OnRead Small) read (limits_small v) in

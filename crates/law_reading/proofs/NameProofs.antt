@@ -17,7 +17,8 @@ pub name_refl : (n : List ℕ) → same_name n n ≡ true
 name_refl [] = refl
 name_refl (x ∷ xs) = ap (λ b. cond b (same_name xs xs) false) (eq-eqb x x refl) ∙ name_refl xs
 
-any_push : (test : List ℕ → Bool) (xs : List Spec) (s : Spec) → list_any test (names_of xs) ≡ false → test s.name ≡ false → list_any test (names_of (xs ++ s ∷ [])) ≡ false
+any_push : (test : List ℕ → Bool) (xs : List Spec) (s : Spec) → list_any test (names_of xs) ≡ false → test s.name ≡ false
+    → list_any test (names_of (xs ++ s ∷ [])) ≡ false
 any_push test [] s e h = ap (λ b. b || false) h
 any_push test (x ∷ xs) s e h = by (test x.name) (list_any test (names_of xs)) (list_any test (names_of (xs ++ s ∷ []))) e (λ f. any_push test xs s f h)
   where
@@ -33,7 +34,8 @@ both_hold : (a b : Bool) → a ≡ false → b ≡ true → (not a && b) ≡ tru
 both_hold a b p q = ap (λ x. not x && b) p ∙ q
 
 -- a property more, under a name that none has
-pub named_push : (k : ℕ) (xs : List Spec) (s : Spec) → AreNamed xs → place_from (λ (s : Spec). s.name) k xs s.name ≡ None → AreNamed (xs ++ s ∷ [])
+pub named_push : (k : ℕ) (xs : List Spec) (s : Spec) → AreNamed xs → place_from (λ (s : Spec). s.name) k xs s.name ≡ None
+    → AreNamed (xs ++ s ∷ [])
 named_push k [] s named none = refl
 named_push k (x ∷ xs) s named none =
     by (same_name x.name s.name) refl none (two_parts (list_any (same_name x.name) (names_of xs)) (no_two same_name (names_of xs)) named).0
@@ -42,15 +44,18 @@ named_push k (x ∷ xs) s named none =
     rest : Option ℕ
     rest = place_from (λ (s : Spec). s.name) (suc k) xs s.name
 
-    by : (b : Bool) → same_name x.name s.name ≡ b → cond (same_name x.name s.name) (Some k) (place_from (λ (s : Spec). s.name) (suc k) xs s.name) ≡ None
-        → list_any (same_name x.name) (names_of xs) ≡ false → (place_from (λ (s : Spec). s.name) (suc k) xs s.name ≡ None → AreNamed (xs ++ s ∷ []))
+    by : (b : Bool) → same_name x.name s.name ≡ b
+        → cond (same_name x.name s.name) (Some k) (place_from (λ (s : Spec). s.name) (suc k) xs s.name) ≡ None
+        → list_any (same_name x.name) (names_of xs) ≡ false
+        → (place_from (λ (s : Spec). s.name) (suc k) xs s.name ≡ None → AreNamed (xs ++ s ∷ []))
         → AreNamed ((x ∷ xs) ++ s ∷ [])
     by true e h other more = absurd (none-some k (sym h ∙ ap (λ b. cond b (Some k) rest) e))
     by false e h other more =
         both_hold (list_any (same_name x.name) (names_of (xs ++ s ∷ []))) (no_two same_name (names_of (xs ++ s ∷ [])))
         (any_push (same_name x.name) xs s other e) (more (sym (ap (λ b. cond b (Some k) rest) e) ∙ h))
 
-not_any : (test : List ℕ → Bool) (xs : List Spec) (i : ℕ) (s : Spec) → list_any test (names_of xs) ≡ false → slice_get xs i ≡ Some s → test s.name ≡ false
+not_any : (test : List ℕ → Bool) (xs : List Spec) (i : ℕ) (s : Spec) → list_any test (names_of xs) ≡ false → slice_get xs i ≡ Some s
+    → test s.name ≡ false
 not_any test [] i s e h = absurd (cc)
 not_any test (x ∷ xs) zero s e h = let same : x ≡ s = cc in ap (λ (y : Spec). test y.name) (sym same) ∙ first (test x.name) (list_any test (names_of xs)) e
   where
@@ -64,7 +69,8 @@ not_any test (x ∷ xs) (suc i) s e h = not_any test xs i s (later (test x.name)
     later false b e = e
 
 -- where names differ, each finds its own
-pub named_found : (k : ℕ) (xs : List Spec) (i : ℕ) (s : Spec) → AreNamed xs → slice_get xs i ≡ Some s → place_from (λ (s : Spec). s.name) k xs s.name ≡ Some (k + i)
+pub named_found : (k : ℕ) (xs : List Spec) (i : ℕ) (s : Spec) → AreNamed xs → slice_get xs i ≡ Some s
+    → place_from (λ (s : Spec). s.name) k xs s.name ≡ Some (k + i)
 named_found k [] i s named h = absurd (cc)
 named_found k (x ∷ xs) zero s named h =
     let same : x ≡ s = cc in

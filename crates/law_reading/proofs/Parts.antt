@@ -15,7 +15,8 @@ use Rattle.builder_defs.specs.Denoted.{keys_of_definition, format_of, draft_in, 
 use Rattle.builder_defs.proofs.Soundness.{OnRead}
 
 -- what follows one reading, where it gives something
-pub on_read : {A B : Type 0} (P : B → Type 0) (r : Result A Refusal) (f : A → Result B Refusal) → ((x : A) → r ≡ Ok x → OnRead P (f x)) → OnRead P (r >>= f)
+pub on_read : {A B : Type 0} (P : B → Type 0) (r : Result A Refusal) (f : A → Result B Refusal)
+    → ((x : A) → r ≡ Ok x → OnRead P (f x)) → OnRead P (r >>= f)
 on_read P (Ok x) f h = h x refl
 on_read P (Err e) f h = tt
 

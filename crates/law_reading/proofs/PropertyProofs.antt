@@ -75,7 +75,8 @@ flags_given path (Some d) = flags_listed path d
 abbrev pub HasFlags : Spec → Type 0
 HasFlags s = AreFlags s.flags
 
-valued_flags : (path : List ℕ) (types : List GType) (name : List ℕ) (kind : Kind) (flags : ℕ) (d : Data) → AreFlags flags → OnRead HasFlags (valued_at path types name kind flags d)
+valued_flags : (path : List ℕ) (types : List GType) (name : List ℕ) (kind : Kind) (flags : ℕ) (d : Data) → AreFlags flags
+    → OnRead HasFlags (valued_at path types name kind flags d)
 unfolding valued_at
 valued_flags path types name kind flags d h =
     on_bind (λ x. Unit {0}) HasFlags (default_at path types kind d) _ (on_all _) λ default u.
@@ -83,7 +84,8 @@ valued_flags path types name kind flags d h =
     on_bind (λ x. Unit {0}) HasFlags (range_at path kind d) _ (on_all _) λ range u.
     on_bind (λ x. Unit {0}) HasFlags (check_default (under path (codes "default")) types (property_spec name kind flags default range)) _ (on_all _) λ valid u. h
 
-spec_flags : (path : List ℕ) (types : List GType) (inherited specs : List Spec) (d : Data) → OnRead HasFlags (spec_at path types inherited specs d)
+spec_flags : (path : List ℕ) (types : List GType) (inherited specs : List Spec) (d : Data)
+    → OnRead HasFlags (spec_at path types inherited specs d)
 unfolding spec_at
 spec_flags path types inherited specs d =
     on_bind (λ x. Unit {0}) HasFlags (members_at path d) _ (on_all _) λ ms u.
@@ -111,7 +113,8 @@ together r false true false e = absurd (cc)
 together r false false true e = absurd (cc)
 together r false false false e = (λ h. absurd (cc), λ h. absurd (cc))
 
-no_fault : (a b c : Bool) (f g h : SpecFault) (rest : Option SpecFault) → (fault_if a f or_else fault_if b g or_else fault_if c h or_else rest) ≡ None → (b ≡ false) × (c ≡ false)
+no_fault : (a b c : Bool) (f g h : SpecFault) (rest : Option SpecFault)
+    → (fault_if a f or_else fault_if b g or_else fault_if c h or_else rest) ≡ None → (b ≡ false) × (c ≡ false)
 no_fault true b c f g h rest e = absurd (cc)
 no_fault false true c f g h rest e = absurd (cc)
 no_fault false false true f g h rest e = absurd (cc)
@@ -156,7 +159,8 @@ module _ (types : List GType) (tree : IsTree types) (last : ℕ) (is : suc last 
   none_past u h =
       ap (λ b. cond b (own u ++ canonical_spec spec ∷ []) (own u)) (other_than u last (λ e. omega (arith, e, is, h))) ∙ old.past u h
 
-  all_named : slot_named (specs_by types own last) spec.name ≡ None → (t : ℕ) → AreNamed (specs_by types (add_own own last (canonical_spec spec)) t)
+  all_named : slot_named (specs_by types own last) spec.name ≡ None → (t : ℕ)
+      → AreNamed (specs_by types (add_own own last (canonical_spec spec)) t)
   all_named none t = by (nat_eq t last) refl
     where
       by : (b : Bool) → nat_eq t last ≡ b → AreNamed (specs_by types (add_own own last (canonical_spec spec)) t)
@@ -188,13 +192,15 @@ module _ (types : List GType) (tree : IsTree types) (last : ℕ) (is : suc last 
           } in read
 
 module _ (types : List GType) (tree : IsTree types) (last : ℕ) (is : suc last ≡ length types) where
-  property_read : (path : List ℕ) (own : ℕ → List Spec) (d : Data) → OwnRead types own → OnRead (OwnRead types) (property_at path types last own d)
+  property_read : (path : List ℕ) (own : ℕ → List Spec) (d : Data) → OwnRead types own
+      → OnRead (OwnRead types) (property_at path types last own d)
   unfolding property_at
   property_read path own d old =
       on_bind HasFlags (OwnRead types) (spec_at path types (inherited_by types own last) (specs_by types own last) d) (λ spec. installed path types last own spec)
       (spec_flags path types (inherited_by types own last) (specs_by types own last) d) λ spec flags. installed_read types tree last is own old spec path flags
 
-  pub properties_read : (path : List ℕ) (own : ℕ → List Spec) (d : Data) → OwnRead types own → OnRead (OwnRead types) (properties_at path types last own d)
+  pub properties_read : (path : List ℕ) (own : ℕ → List Spec) (d : Data) → OwnRead types own
+      → OnRead (OwnRead types) (properties_at path types last own d)
   unfolding properties_at
   properties_read path own d old =
       on_bind (λ x. Unit {0}) (OwnRead types) (nothing_at path d (codes "implements" ∷ [])) _ (on_all _) λ unset u.

@@ -41,7 +41,8 @@ none_given f all [] = refl
 none_given f all (t ∷ ts) = let e = all t in let rest = none_given f all ts in rw e rest
 
 module _ (draft : Draft) (places : List Place) (limits : Limits) where
-  pub known : (t : ℕ) → t < length draft.types → class_of (definition_with draft places limits) t ≡ class_with (specs_by draft.types draft.own t)
+  pub known : (t : ℕ) → t < length draft.types
+      → class_of (definition_with draft places limits) t ≡ class_with (specs_by draft.types draft.own t)
   known t h = read-listed no_class (λ t. class_with (specs_by draft.types draft.own t)) (length draft.types) t (λ past. absurd (omega arith))
 
   pub past : (t : ℕ) → length draft.types ≤ t → class_of (definition_with draft places limits) t ≡ no_class

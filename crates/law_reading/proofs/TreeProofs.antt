@@ -57,7 +57,8 @@ one_more types g old room new = record {
 room_left : (types : List GType) → OnRead (λ u. length types < 256) (room_for_type types)
 room_left types = by (nat_le 256 (length types)) refl
   where
-    by : (b : Bool) → nat_le 256 (length types) ≡ b → OnRead {A = Unit {0}} (λ u. length types < 256) (if b then Err (limit Types) else Ok tt)
+    by : (b : Bool) → nat_le 256 (length types) ≡ b
+        → OnRead {A = Unit {0}} (λ u. length types < 256) (if b then Err (limit Types) else Ok tt)
     by true e = tt
     by false e = grind (arith, nat_tests)
 
@@ -90,7 +91,8 @@ flags_grown path first types d old =
 
 -- ** classes
 
-found_within : (k : ℕ) (types : List GType) (name : List ℕ) (i : ℕ) → place_from (λ (g : GType). g.name) k types name ≡ Some i → i < k + length types
+found_within : (k : ℕ) (types : List GType) (name : List ℕ) (i : ℕ) → place_from (λ (g : GType). g.name) k types name ≡ Some i
+    → i < k + length types
 found_within k [] name i h = absurd (none-some i h)
 found_within k (g ∷ gs) name i h = by (same_name g.name name) h (found_within (suc k) gs name i)
   where
@@ -99,7 +101,8 @@ found_within k (g ∷ gs) name i h = by (same_name g.name name) h (found_within 
     by true e rest = let same : k ≡ i = cc in omega (arith, same)
     by false e rest = let later = rest e in omega (arith, later)
 
-class_within : (types : List GType) (name : List ℕ) (found : Option ℕ) → find_type types name ≡ found → ForSome (of_sort is_class types found) (λ p. p < length types)
+class_within : (types : List GType) (name : List ℕ) (found : Option ℕ) → find_type types name ≡ found
+    → ForSome (of_sort is_class types found) (λ p. p < length types)
 class_within types name None e p h = absurd (none-some p h)
 class_within types name (Some t) e p h = by (is_class (sort_of types t)) h
   where
@@ -114,11 +117,13 @@ class_fresh types name parent flags = record { parent = class_within types paren
 abbrev pub More : List GType → List GType → Type 0
 More types all = Grown all × ((g : GType) × (all ≡ types ++ g ∷ []))
 
-added_grown : (path : List ℕ) (old : List GType) (fault : Option TypeFault) (types : List GType) → More old types → OnRead (More old) (added_or path old fault types)
+added_grown : (path : List ℕ) (old : List GType) (fault : Option TypeFault) (types : List GType) → More old types
+    → OnRead (More old) (added_or path old fault types)
 added_grown path old None types more = more
 added_grown path old (Some fault) types more = tt
 
-declared_grown : (path : List ℕ) (first : ℕ) (list : Items) (types : List GType) (d : Data) → Grown types → OnRead (More types) (declared_at path first list types d)
+declared_grown : (path : List ℕ) (first : ℕ) (list : Items) (types : List GType) (d : Data) → Grown types
+    → OnRead (More types) (declared_at path first list types d)
 unfolding declared_at
 declared_grown path first list types d old =
     on_bind (λ x. length types < 256) (More types) (room_for_type types) _ (room_left types) λ r room.
@@ -134,7 +139,8 @@ declared_grown path first list types d old =
 
 -- ** properties
 
-longer : (types : List GType) (g : GType) (own : ℕ → List Spec) → IsTree types → IsTree (types ++ g ∷ []) → OwnRead types own → OwnRead (types ++ g ∷ []) own
+longer : (types : List GType) (g : GType) (own : ℕ → List Spec) → IsTree types → IsTree (types ++ g ∷ []) → OwnRead types own
+    → OwnRead (types ++ g ∷ []) own
 longer types g own tree more old = record {
   kept = old.kept;
   past = λ t h. old.past t (let one = length-append types (g ∷ []) in omega (arith, one, h));
@@ -151,7 +157,8 @@ one_longer types all more = let same = ap length more.1.1 in let one = length-ap
 abbrev pub GrownDraft : Draft → Type 0
 GrownDraft draft = Grown draft.types × OwnRead draft.types draft.own
 
-class_grown : (path : List ℕ) (first : ℕ) (list : Items) (draft : Draft) (d : Data) → GrownDraft draft → OnRead GrownDraft (class_at path first list draft d)
+class_grown : (path : List ℕ) (first : ℕ) (list : Items) (draft : Draft) (d : Data) → GrownDraft draft
+    → OnRead GrownDraft (class_at path first list draft d)
 unfolding class_at
 class_grown path first list draft d old =
     on_bind (λ x. Unit {0}) GrownDraft (members_at path d) _ (on_all _) λ ms u.

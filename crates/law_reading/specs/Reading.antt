@@ -14,7 +14,7 @@ use Rattle.ui_machine.specs.Definition.Names.{same_name}
 use Rattle.ui_machine.specs.Definition.Properties.{Spec, is_writable, is_construct, is_construct_only}
 use Rattle.ui_machine.specs.Rules.Validation.{is_valid}
 use Rattle.builder_defs.specs.Denoted.{denoted}
-use Rattle.law_typing.specs.Laws.WellRead.{no_two, no_class_of, HasNotify, ProgramRead, IsObject, has_values, result_has_values, objects_of}
+use Rattle.law_typing.specs.Laws.WellRead.{no_two, no_class_of, is_range, HasNotify, ProgramRead, IsObject, has_values, result_has_values, objects_of}
 use Rattle.law_typing.specs.Verdict.Accepted.{Each}
 use Rattle.ui_machine.specs.Definition.Places.{Bind}
 
@@ -49,10 +49,12 @@ pub record ProgramsRead (d : Definition) : Type 0 where
   pub programs : (number : ℕ) (p : Program) → program_at d number ≡ Some p → ProgramRead d p
   pub bindings : Each (λ (b : Bind). IsObject d b.source × IsObject d b.target) d.bindings
 
--- no class has two properties of one name; what is set at construction is writable, flags are of 32 bits and defaults are valid
+-- no class has two properties of one name; what is set at construction is writable, flags are of 32 bits,
+-- defaults are valid and ranges are of numbers of their kind
 pub record PropertiesRead (d : Definition) : Type 0 where
   pub names : list_all (λ (c : Class). no_two same_name (map (λ (s : Spec). s.name) c.specs)) d.classes ≡ true
   pub construct : (class slot : ℕ) (s : Spec) → spec_of d class slot ≡ Some s → is_construct s ≡ true → is_writable s ≡ true
   pub construct_only : (class slot : ℕ) (s : Spec) → spec_of d class slot ≡ Some s → is_construct_only s ≡ true → is_writable s ≡ true
   pub flags : (class slot : ℕ) (s : Spec) → spec_of d class slot ≡ Some s → nat_lt s.flags (2 ^ 32) ≡ true
   pub defaults : (class slot : ℕ) (s : Spec) → spec_of d class slot ≡ Some s → is_valid no_class_of d.types s s.default ≡ true
+  pub ranges : (class slot : ℕ) (s : Spec) → spec_of d class slot ≡ Some s → is_range s.kind s.low s.high ≡ true

@@ -5,7 +5,7 @@ ghost use Rattle.law_reading.specs.Reading.{OfEachRead, LimitsRead, SignalsRead,
 
 /// Of each definition that bytes denote: the limits are no more than they may be and the objects no more than may live; each type has `notify`,
 /// and a signal is found by its name; parents stand before children, and what a type is its ancestors are; programs and bindings are as they should be;
-/// and no class has two properties of one name, their flags go together, and their defaults are valid.
+/// and no class has two properties of one name, their flags go together, their ranges are of numbers of their kind, and their defaults are valid.
 pub fn reading()
     ensures limits { OfEachRead LimitsRead }
     ensures signals { OfEachRead SignalsRead }
