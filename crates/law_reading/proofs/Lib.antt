@@ -6,4 +6,5 @@ pub mod NameProofs
 pub mod PropertyProofs
 pub mod TreeProofs
 pub mod SpecProofs
+pub mod PlaceProofs
 pub mod Whole

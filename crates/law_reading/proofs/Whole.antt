@@ -5,12 +5,13 @@ use Rattle.ui_machine.specs.Definition.{Definition}
 use Rattle.builder_defs.specs.Denoted.{denoted, definition_with}
 use Rattle.builder_defs.specs.Denoted.Properties.{specs_by}
 use Rattle.builder_defs.proofs.Soundness.{OnRead, AreFew, objects_few, PlainDraft, draft_plain}
-use Rattle.law_reading.specs.Reading.{OfEachRead, LimitsRead, SignalsRead, AncestorsRead, ProgramsRead, PropertiesRead}
+use Rattle.law_reading.specs.Reading.{OfEachRead, LimitsRead, SignalsRead, AncestorsRead, ProgramsRead, PropertiesRead, PlacesRead}
 use Rattle.law_reading.proofs.Parts.{IsRead, parts}
 use Rattle.law_reading.proofs.Ancestors.{transitive}
 use Rattle.law_reading.proofs.SignalProofs.{signals_read, no_shape}
 use Rattle.law_reading.proofs.LimitProofs.{limits_read}
 use Rattle.law_reading.proofs.TreeProofs.{Grown, GrownDraft, draft_grown}
+use Rattle.law_reading.proofs.PlaceProofs.{AreBare, places_bare, places_read}
 use Rattle.law_reading.proofs.SpecProofs.{properties_read}
 
 limits_of : (d : Definition) → IsRead d → LimitsRead d
@@ -57,3 +58,12 @@ properties_of d r =
 
 pub properties_are : OfEachRead PropertiesRead
 properties_are bytes d h = properties_of d (parts bytes d h)
+
+places_of : (d : Definition) → IsRead d → PlacesRead d
+places_of d r =
+    let all : AreBare r.places =
+    subst (OnRead AreBare) r.placed (places_bare r.draft.types (specs_by r.draft.types r.draft.own) r.limits.objects r.value) in
+    subst PlacesRead r.is (places_read r.draft r.places r.limits all)
+
+pub places_are : OfEachRead PlacesRead
+places_are bytes d h = places_of d (parts bytes d h)

@@ -1,11 +1,11 @@
 -- Definitions that were read. The laws of runs take a definition to be well read; these parts of it are so of each that bytes denote.
-use Rattle.std.specs.Prelude.{◌≡◌, ℕ, ◌<◌, ◌≤◌, ◌^◌, nat_lt, true, List, map, Option, Some, Ok, length}
-use Rattle.std.specs.List.{list_all}
+use Rattle.std.specs.Prelude.{◌≡◌, ℕ, ◌<◌, ◌≤◌, ◌^◌, nat_lt, true, false, List, map, Option, Some, Ok, length}
+use Rattle.std.specs.List.{list_all, flat_map}
 use Rattle.ui_machine.specs.Definition.{Definition, Class}
 use Rattle.ui_machine.specs.Definition.Types as sorts
 use Rattle.ui_machine.specs.Definition.Signals.{Signal, Shape, Method}
 use Rattle.ui_machine.specs.Definition.Programs.{Program}
-use Rattle.ui_machine.specs.Definition.Lookups.{type_of, program_at, spec_of}
+use Rattle.ui_machine.specs.Definition.Lookups.{type_of, program_at, place_at, spec_of}
 use Rattle.ui_machine.specs.Rules.Ancestry.{is_a, parent_of}
 use Rattle.ui_machine.specs.Rules.Connections.{signal_number}
 use Rattle.ui_machine.specs.Rules.Construction.{nearest_shape}
@@ -16,7 +16,7 @@ use Rattle.ui_machine.specs.Rules.Validation.{is_valid}
 use Rattle.builder_defs.specs.Denoted.{denoted}
 use Rattle.law_typing.specs.Laws.WellRead.{no_two, no_class_of, is_range, HasNotify, ProgramRead, IsObject, has_values, result_has_values, objects_of}
 use Rattle.law_typing.specs.Verdict.Accepted.{Each}
-use Rattle.ui_machine.specs.Definition.Places.{Bind}
+use Rattle.ui_machine.specs.Definition.Places.{Bind, Place}
 
 -- what is so of each definition that bytes denote
 abbrev pub OfEachRead : (Definition → Type 0) → Type 0
@@ -58,3 +58,9 @@ pub record PropertiesRead (d : Definition) : Type 0 where
   pub flags : (class slot : ℕ) (s : Spec) → spec_of d class slot ≡ Some s → nat_lt s.flags (2 ^ 32) ≡ true
   pub defaults : (class slot : ℕ) (s : Spec) → spec_of d class slot ≡ Some s → is_valid no_class_of d.types s s.default ≡ true
   pub ranges : (class slot : ℕ) (s : Spec) → spec_of d class slot ≡ Some s → is_range s.kind s.low s.high ≡ true
+
+-- objects stand before prototypes, and no peer is named twice
+pub record PlacesRead (d : Definition) : Type 0 where
+  pub order : (a b : ℕ) (p q : Place) → place_at d a ≡ Some p → place_at d b ≡ Some q → p.is_prototype ≡ true → q.is_prototype ≡ false
+      → b < a
+  pub peers : no_two same_name (flat_map (λ (p : Place). p.peers) d.places) ≡ true
