@@ -1,7 +1,6 @@
 -- Ancestors among types without interfaces, and the properties that they pass on.
-use Rattle.std.proofs.Common.{◌≡◌, ◌<◌, ◌≤◌, ℕ, zero, suc, Bool, true, false, ◌||◌, nat_eq, arith, List, [], ◌∷◌, ◌++◌, length, reverse, Option, None, Some, refl, sym, ap, subst, ◌∙◌, inl, inr, ◌⊎◌, cond, length-append}
+use Rattle.std.proofs.Common.{◌≡◌, ◌<◌, ◌≤◌, ℕ, zero, suc, Bool, true, false, ◌||◌, nat_eq, arith, List, [], ◌∷◌, ◌++◌, length, reverse, Option, None, Some, refl, sym, ap, subst, ◌∙◌, inl, inr, ◌⊎◌, cond}
 use Rattle.std.specs.List.{flat_map, list_any}
-use Rattle.std.proofs.Math.Path.{fun_ext}
 use Rattle.std.proofs.lemmas.Bool.{cases_lt, eqb-true, eq-eqb}
 use Rattle.std.proofs.lemmas.Grind.{flat_map-append}
 use Rattle.std.proofs.lemmas.List.{reverse-append, append-nil, append_assoc}
@@ -15,7 +14,7 @@ use Rattle.ui_machine.specs.Rules.Ancestry.{parent_of, lineage, is_a, is_or_impl
 use Rattle.type_tree.specs.Tree.{IsTree}
 use Rattle.type_tree.specs.Adding.{sort_of}
 use Rattle.type_tree.proofs.Lines.{parent_within, line_from-parent, line_from-root, is_a-here, is_a-up, is_a-root}
-use Rattle.type_tree.proofs.Entries.{read-past, read-front, read-last}
+use Rattle.type_tree.proofs.Entries.{read-past, read-front}
 use Rattle.builder_defs.specs.Denoted.Properties.{specs_by, add_own}
 
 -- no type implements or requires another

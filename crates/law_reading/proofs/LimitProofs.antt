@@ -1,25 +1,23 @@
 -- The limits of a definition that was read.
-use Rattle.std.proofs.Common.{◌≡◌, ℕ, suc, ◌+◌, ◌≤◌, ℤ, pos, negsuc, Bool, true, false, cond, not, ◌&&◌, List, [], ◌∷◌, length, Option, None, Some, Result, Ok, Err, refl, sym, ap, subst, arith}
+use Rattle.std.proofs.Common.{◌≡◌, ℕ, suc, ◌+◌, ◌≤◌, ℤ, pos, negsuc, Bool, true, false, cond, not, ◌&&◌, List, [], ◌∷◌, length, Option, None, Some, Ok, Err, refl, subst, arith}
 use Rattle.std.specs.Prelude.{int_lt, unsigned_abs, if◌then◌else◌, codes}
 use Rattle.std.proofs.lemmas.Int.{ints}
 use Rattle.serde_json.specs.Data.{Data}
 use Rattle.serde_json.specs.Find.{get}
 use Rattle.g_values.specs.Reading.{whole_number}
 use Rattle.ui_machine.specs.Seq.{total}
-use Rattle.ui_machine.specs.Outcome.{◌>>=◌}
 use Rattle.ui_machine.specs.Definition.Places.{Place}
-use Rattle.ui_machine.specs.Rules.Transform.{is_between}
 use Rattle.ui_machine.specs.declared.limits.Limits.{Limits}
 use Rattle.builder_defs.specs.declared.fault.DefinitionLimit.{DefinitionLimit}
 use Rattle.builder_defs.specs.declared.fault.DefinitionLimit.TheVariants.{Objects, Handlers}
 use Rattle.builder_defs.specs.Meaning.{default_limits}
-use Rattle.builder_defs.specs.Refusals.{Refusal, shape, limit, or_refused}
+use Rattle.builder_defs.specs.Refusals.{shape, limit, or_refused}
 use Rattle.builder_defs.specs.Document.{under, members_at, only_at}
 use Rattle.builder_defs.specs.Denoted.SessionLimits.{limit_within, given_limit, limit_or, keys_of_limits, given_limits, limits_or, limits_in}
 use Rattle.builder_defs.specs.Denoted.Classes.{Draft}
 use Rattle.builder_defs.specs.Denoted.{definition_with}
 use Rattle.builder_defs.proofs.Soundness.{OnRead, on_bind, on_all, AreFew}
-use Rattle.law_typing.specs.Laws.WellRead.{is_object, objects_of}
+use Rattle.law_typing.specs.Laws.WellRead.{is_object}
 use Rattle.law_reading.specs.Reading.{LimitsRead}
 
 record Small (limits : Limits) : Type 0 where

@@ -1,15 +1,14 @@
 -- The places of a definition that was read are objects without peers.
-use Rattle.std.proofs.Common.{◌≡◌, ℕ, zero, suc, ◌<◌, Bool, true, false, List, [], ◌∷◌, ◌++◌, Option, None, Some, Result, Ok, Err}
-use Rattle.std.proofs.Common.{slice_get, codes, refl, sym, ap, subst, ◌∙◌}
+use Rattle.std.proofs.Common.{◌≡◌, ℕ, zero, suc, false, List, [], ◌∷◌, ◌++◌, Some, Ok}
+use Rattle.std.proofs.Common.{slice_get, codes, refl, ap, subst, ◌∙◌}
 use Rattle.std.specs.List.{flat_map}
 use Rattle.serde_json.specs.Data.{Data}
-use Rattle.ui_machine.specs.Outcome.{◌>>=◌}
 use Rattle.ui_machine.specs.Definition.Names.{same_name}
 use Rattle.ui_machine.specs.Definition.Places.{Place}
 use Rattle.ui_machine.specs.Definition.Properties.{Spec}
 use Rattle.ui_machine.specs.Definition.Types.{GType}
 use Rattle.ui_machine.specs.declared.limits.Limits.{Limits}
-use Rattle.builder_defs.specs.Document.{each, at_entry, under, nth, members_at, text_at, entries_at, absent_at, nothing_at, only_at}
+use Rattle.builder_defs.specs.Document.{at_entry, under, nth, members_at, text_at, entries_at, absent_at, nothing_at, only_at}
 use Rattle.builder_defs.specs.Denoted.Classes.{Draft}
 use Rattle.builder_defs.specs.Denoted.Objects.{room_for_object, new_id, class_at_key, keys_of_object, place_at, object_at}
 use Rattle.builder_defs.specs.Denoted.Given.{givens_at}

@@ -1,12 +1,10 @@
 -- The properties of a definition that was read.
-use Rattle.std.proofs.Common.{◌≡◌, ◌≢◌, ℕ, zero, suc, ◌+◌, ◌<◌, ◌≤◌, ◌^◌, Bool, true, false, cond, not, ◌&&◌, ◌||◌, nat_eq, nat_lt, nat_le, int_lt, is_some, List, [], ◌∷◌, ◌++◌, length, map, Option, None, Some, Result, Ok, Err, slice_get, bit_or, refl, sym, ap, subst, ◌∙◌, arith, codes, if◌then◌else◌, inl, inr, ◌⊎◌, length-append}
+use Rattle.std.proofs.Common.{◌≡◌, ℕ, suc, ◌<◌, ◌≤◌, ◌^◌, Bool, true, false, cond, not, ◌&&◌, ◌||◌, nat_eq, nat_le, int_lt, is_some, List, [], ◌∷◌, ◌++◌, length, Option, None, Some, refl, sym, ap, subst, ◌∙◌, arith, codes, if◌then◌else◌}
 use Rattle.std.specs.Str.{bytes_eq}
-use Rattle.std.proofs.lemmas.Bool.{cases_lt, eqb-true}
-use Rattle.std.proofs.lemmas.Bool.Decides.{nat_tests}
+use Rattle.std.proofs.lemmas.Bool.{eqb-true}
 use Rattle.std.proofs.lemmas.Nat.{or_lt}
-use Rattle.serde_json.specs.Data.{Data, Items}
+use Rattle.serde_json.specs.Data.{Data}
 use Rattle.serde_json.specs.Find.{get, as_str, as_array}
-use Rattle.ui_machine.specs.Outcome.{◌>>=◌}
 use Rattle.ui_machine.specs.Definition.Kinds.{Kind}
 use Rattle.ui_machine.specs.Definition.Types.{GType}
 use Rattle.ui_machine.specs.Definition.Names.{canonical}
@@ -21,7 +19,7 @@ use Rattle.builder_defs.specs.Denoted.Classes.{properties_at}
 use Rattle.builder_defs.specs.Refusals.{Refusal, shape, or_refused}
 use Rattle.builder_defs.specs.Document.{each, at_entry, under, nth, members_at, text_at, entries_at, absent_at, nothing_at, only_at}
 use Rattle.builder_defs.specs.Denoted.Kinds.{kind_at}
-use Rattle.builder_defs.specs.Denoted.PropertyFlags.{flag_named, flag_if, flag_at, check_flags, listed_flags, flags_or, flags_at}
+use Rattle.builder_defs.specs.Denoted.PropertyFlags.{flag_if, flag_at, check_flags, listed_flags, flags_or, flags_at}
 use Rattle.builder_defs.specs.Denoted.Ranges.{whole_range, range_at}
 use Rattle.builder_defs.specs.Denoted.Defaults.{default_at, check_default, check_unranged}
 use Rattle.builder_defs.specs.Denoted.Properties.{specs_by, inherited_by, property_spec, room_for_property, new_property, keys_of_property, valued_at, spec_at, add_own, installed_or, installed, property_at}

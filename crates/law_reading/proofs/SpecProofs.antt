@@ -1,5 +1,5 @@
 -- The properties of each class of a definition that was read.
-use Rattle.std.proofs.Common.{◌≡◌, ℕ, zero, suc, ◌<◌, ◌≤◌, ◌^◌, nat_lt, int_lt, ℤ, ◌≤ℤ◌, Bool, true, false, refl, List, [], ◌∷◌, length, reverse, None, Some, slice_get, sym, ap, subst, ◌∙◌, inl, inr, ◌⊎◌, arith}
+use Rattle.std.proofs.Common.{◌≡◌, ℕ, zero, suc, ◌<◌, ◌≤◌, ◌^◌, nat_lt, int_lt, ℤ, ◌≤ℤ◌, Bool, true, false, refl, List, [], ◌∷◌, length, reverse, Some, slice_get, sym, ap, subst, ◌∙◌, inl, inr, ◌⊎◌, arith}
 use Rattle.std.proofs.lemmas.Bool.{cases_lt}
 use Rattle.std.proofs.lemmas.Bool.Decides.{nat_tests}
 use Rattle.std.proofs.lemmas.Option.{none-some}

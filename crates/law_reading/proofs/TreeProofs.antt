@@ -1,28 +1,27 @@
 -- The types of a definition that was read are a tree, in which no type has interfaces.
-use Rattle.std.proofs.Common.{◌≡◌, ℕ, zero, suc, ◌+◌, ◌<◌, ◌≤◌, Bool, true, false, cond, nat_le, List, [], ◌∷◌, ◌++◌, length, Option, None, Some, Result, Ok, Err, refl, sym, ap, subst, ◌∙◌, arith, reverse, length-append}
+use Rattle.std.proofs.Common.{◌≡◌, ℕ, zero, suc, ◌+◌, ◌<◌, Bool, true, false, cond, nat_le, List, [], ◌∷◌, ◌++◌, length, Option, None, Some, Ok, Err, refl, sym, ap, subst, ◌∙◌, arith, reverse, length-append}
 use Rattle.std.specs.Prelude.{codes, if◌then◌else◌}
 use Rattle.std.specs.Option.{ForSome}
 use Rattle.std.proofs.lemmas.Bool.Decides.{nat_tests}
 use Rattle.std.proofs.lemmas.Option.{none-some}
 use Rattle.serde_json.specs.Data.{Data, Items}
 use Rattle.serde_json.specs.Find.{get}
-use Rattle.ui_machine.specs.Outcome.{◌>>=◌}
 use Rattle.ui_machine.specs.Seq.{read}
-use Rattle.ui_machine.specs.Definition.Types.{GType, Member, Sort, predeclared}
+use Rattle.ui_machine.specs.Definition.Types.{GType, predeclared}
 use Rattle.ui_machine.specs.Definition.Names.{same_name, place_from}
 use Rattle.ui_machine.specs.Output.Text.{no_type}
 use Rattle.ui_machine.specs.Rules.Ancestry.{parent_of}
 use Rattle.type_tree.specs.Tree.{IsTree}
-use Rattle.type_tree.specs.Adding.{find_type, sort_of, is_class, of_sort, class_named, class_fault, new_class, new_enum, new_flags}
+use Rattle.type_tree.specs.Adding.{find_type, sort_of, is_class, of_sort, class_fault, new_class, new_enum, new_flags}
 use Rattle.type_tree.specs.declared.entry.TypeFlags.{TypeFlags}
 use Rattle.type_tree.specs.declared.error.TypeFault.{TypeFault}
 use Rattle.type_tree.proofs.Entries.{IsTree-append}
-use Rattle.builder_defs.specs.Refusals.{Refusal, limit}
+use Rattle.builder_defs.specs.Refusals.{limit}
 use Rattle.builder_defs.specs.declared.fault.DefinitionLimit.TheVariants.{Types}
-use Rattle.builder_defs.specs.Document.{each, at_entry, under, nth, members_at, text_at, truth_at, entries_at, nothing_at, only_at}
+use Rattle.builder_defs.specs.Document.{at_entry, under, nth, members_at, text_at, truth_at, entries_at, nothing_at, only_at}
 use Rattle.builder_defs.specs.Denoted.Types.{room_for_type, new_type_name}
 use Rattle.builder_defs.specs.Denoted.Enums.{enum_at, flags_at, enum_member_at, flags_member_at, members_with, keys_of_members}
-use Rattle.builder_defs.specs.Denoted.Classes.{Draft, bare_draft, added_or, with_class, parent_at, parent_ahead, check_depth, keys_of_class, declared_at, answering_at, properties_at, class_at}
+use Rattle.builder_defs.specs.Denoted.Classes.{Draft, bare_draft, added_or, parent_at, parent_ahead, check_depth, keys_of_class, declared_at, answering_at, properties_at, class_at}
 use Rattle.builder_defs.specs.Denoted.{unset_before_classes, enums_in, flags_in, classes_in, draft_in}
 use Rattle.builder_defs.proofs.Soundness.{OnRead, on_bind, on_all, on_each}
 use Rattle.std.specs.List.{flat_map}

@@ -1,8 +1,8 @@
 -- What is so of each definition that was read, of its parts.
-use Rattle.std.proofs.Common.{◌≡◌, ℕ, List, Option, None, Some, Ok, sym, subst, ◌∙◌}
+use Rattle.std.proofs.Common.{sym, subst, ◌∙◌}
 use Rattle.std.proofs.lemmas.Option.{none-some}
 use Rattle.ui_machine.specs.Definition.{Definition}
-use Rattle.builder_defs.specs.Denoted.{denoted, definition_with}
+use Rattle.builder_defs.specs.Denoted.{definition_with}
 use Rattle.builder_defs.specs.Denoted.Properties.{specs_by}
 use Rattle.builder_defs.proofs.Soundness.{OnRead, AreFew, objects_few, PlainDraft, draft_plain}
 use Rattle.law_reading.specs.Reading.{OfEachRead, LimitsRead, SignalsRead, AncestorsRead, ProgramsRead, PropertiesRead, PlacesRead}

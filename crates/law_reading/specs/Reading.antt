@@ -1,5 +1,5 @@
 -- Definitions that were read. The laws of runs take a definition to be well read; these parts of it are so of each that bytes denote.
-use Rattle.std.specs.Prelude.{◌≡◌, ℕ, ◌<◌, ◌≤◌, ◌^◌, nat_lt, true, false, List, map, Option, Some, Ok, length}
+use Rattle.std.specs.Prelude.{◌≡◌, ℕ, ◌<◌, ◌≤◌, ◌^◌, nat_lt, true, false, List, map, Some, Ok, length}
 use Rattle.std.specs.List.{list_all, flat_map}
 use Rattle.ui_machine.specs.Definition.{Definition, Class}
 use Rattle.ui_machine.specs.Definition.Types as sorts

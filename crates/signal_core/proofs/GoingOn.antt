@@ -6,7 +6,7 @@ use Rattle.ui_machine.specs.Definition.Properties.{has_flags}
 use Rattle.ui_machine.specs.Rules.EmissionPlan.{runs_for}
 use Rattle.ui_machine.specs.State.Handlers.{Handler}
 use Rattle.signal_core.specs.Connected.{Numbered}
-use Rattle.signal_core.specs.Emission.{Due, Walk, due, first_step, from_after, from_before, from_cleanup, from_first, from_last, from_transfers, has_next_turn, is_ahead, of_bindings, of_class, of_handler, of_handlers, turns_from}
+use Rattle.signal_core.specs.Emission.{Due, Walk, due, first_step, from_after, from_before, from_cleanup, from_first, from_last, from_transfers, has_next_turn, is_ahead, of_class, of_handler, of_handlers, turns_from}
 use Rattle.signal_core.specs.Laws.{TurnsGoOn, after_next}
 use Rattle.signal_core.specs.declared.stage.Stage.{Stage}
 use Rattle.signal_core.specs.declared.stage.Stage.TheVariants as stages

@@ -1,5 +1,5 @@
 -- The numbers of handlers go on rising where one is connected, some go and some are changed.
-use Rattle.std.proofs.Common.{◌≡◌, ℕ, suc, ◌<◌, ◌≤◌, ◌+◌, ◌++◌, Bool, true, false, cond, map, List, [], ◌∷◌, None, Some, arith, refl}
+use Rattle.std.proofs.Common.{◌≡◌, ℕ, ◌<◌, ◌≤◌, ◌+◌, ◌++◌, Bool, true, false, cond, map, List, [], ◌∷◌, None, Some, arith, refl}
 use Rattle.std.specs.List.{filter, find}
 use Rattle.ui_machine.specs.State.Handlers.{Handler}
 use Rattle.signal_core.specs.Connected.{Numbered}

@@ -1,17 +1,15 @@
 -- As an emission begins, its turns are the entries of the machine's plan.
-use Rattle.std.proofs.Common.{◌≡◌, ◌∙◌, refl, sym, ap, ℕ, ◌<◌, ◌≤◌, ◌++◌, ◌&&◌, Bool, true, false, cond, not, map, nat_eq, nat_le, nat_lt, List, [], ◌∷◌, Option, None, Some, arith}
+use Rattle.std.proofs.Common.{◌≡◌, ◌∙◌, refl, sym, ap, ℕ, ◌<◌, ◌≤◌, ◌++◌, ◌&&◌, Bool, true, false, cond, not, map, nat_eq, nat_le, List, [], ◌∷◌, Option, None, Some, arith}
 use Rattle.std.specs.List.{filter, flat_map}
 use Rattle.std.proofs.lemmas.Bool.{le-leb, lt-ltb}
 use Rattle.std.proofs.lemmas.Grind.{flat_map-append}
 use Rattle.std.proofs.lemmas.List.{append-nil}
 use Rattle.ui_machine.specs.Definition.Properties.{has_flags}
-use Rattle.ui_machine.specs.Definition.Signals.{Accumulator}
-use Rattle.ui_machine.specs.Rules.EmissionPlan.{Planned, at_stage, handlers_for, plan, runs_for}
-use Rattle.ui_machine.specs.State.Config.{World}
+use Rattle.ui_machine.specs.Rules.EmissionPlan.{at_stage, handlers_for, runs_for}
 use Rattle.ui_machine.specs.State.Handlers.{Handler}
 use Rattle.ui_machine.specs.State.Tasks.{PlanEntry, handler}
 use Rattle.signal_core.specs.Connected.{Numbered}
-use Rattle.signal_core.specs.Emission.{Due, Walk, due, from_after, from_before, from_cleanup, from_first, from_last, from_transfers, is_ahead, is_over, of_bindings, of_class, of_handler, of_handlers}
+use Rattle.signal_core.specs.Emission.{Due, Walk, due, from_after, from_before, from_cleanup, from_last, from_transfers, is_ahead, is_over, of_bindings, of_class, of_handler, of_handlers}
 use Rattle.signal_core.specs.Laws.{PlanIsWalked, entries_of, number_at, walk_for}
 use Rattle.signal_core.specs.declared.stage.Stage.{Stage}
 use Rattle.signal_core.specs.declared.stage.Stage.TheVariants as stages

@@ -4,7 +4,7 @@ use Rattle.std.proofs.lemmas.List.Sums.{length-filter}
 use Rattle.ui_machine.specs.Definition.{Definition}
 use Rattle.ui_machine.specs.Rules.Connections.{by_code_to, has_room_for_handler}
 use Rattle.ui_machine.specs.State.Config.{World}
-use Rattle.signal_core.specs.Connected.{Connected, has_room_for_code}
+use Rattle.signal_core.specs.Connected.{has_room_for_code}
 
 -- where the list holds the world's handlers, with its last number and the definition's limit
 pub room_is : (d : Definition) (w : World) (to_come most object signal : ℕ) → d.most_handlers ≡ most →

@@ -1,6 +1,6 @@
 -- What an emission has still to come, and which turn of it is the next.
 use Rattle.std.specs.List.{filter, find}
-use Rattle.std.specs.Prelude.{Bool, List, None, Option, Some, [], cond, false, map, nat_eq, nat_le, nat_lt, not, option_map, string_bytes, true, ℕ, ◌&&◌, ◌++◌, ◌||◌, ◌∷◌}
+use Rattle.std.specs.Prelude.{Bool, List, None, Option, Some, [], cond, false, map, nat_eq, nat_le, nat_lt, not, option_map, string_bytes, true, ℕ, ◌&&◌, ◌++◌, ◌∷◌}
 use Rattle.ui_machine.specs.Definition.Properties.{has_flags}
 use Rattle.ui_machine.specs.Definition.Signals as machine
 use Rattle.ui_machine.specs.Definition.Values.{Value}

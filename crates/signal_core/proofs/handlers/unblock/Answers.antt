@@ -1,4 +1,4 @@
-use Rattle.std.proofs.Common.{◌≡◌, ℕ, cond, arith}
+use Rattle.std.proofs.Common.{ℕ, cond, arith}
 use Rattle.ui_machine.specs.State.Handlers.{Handler}
 use Rattle.ui_machine.specs.Rules.Connections.{unblocked, is_on}
 use Rattle.ui_machine.proofs.Mapped.{mapped_written}

@@ -1,7 +1,6 @@
 use Rattle.std.proofs.Common.{not}
 use Rattle.ui_machine.specs.Rules.Connections.{is_on}
 use Rattle.ui_machine.specs.State.Handlers.{Handler}
-use Rattle.signal_core.specs.Connected.{Numbered}
 use Rattle.signal_core.proofs.Numbers.{numbered_filter}
 use Rattle.signal_core.proofs.handlers.Handlers.disconnect_matched.Goals as goal
 

@@ -1,8 +1,6 @@
 use Rattle.std.proofs.Common.{◌≡◌, ◌∙◌, ◌++◌, arith, drop, length, refl, take}
 use Rattle.std.proofs.lemmas.Grind.{common_steps}
 use Rattle.ui_machine.specs.Rules.Connections.{unblocked, is_on}
-use Rattle.ui_machine.specs.State.Handlers.{Handler}
-use Rattle.signal_core.specs.Connected.{Numbered}
 use Rattle.signal_core.proofs.Numbers.{numbered_changed}
 use Rattle.signal_core.proofs.handlers.Handlers.unblock_matched.Goals as goal
 
