@@ -1,5 +1,5 @@
 -- The build's items for adoptions, forward values and bindings.
-use Rattle.std.proofs.Common.{◌≡◌, inl, inr, ◌⊎◌, refl, sym, ap, subst, ◌∙◌, ℕ, zero, suc, ◌+◌, Bool, true, false, cond, List, [], ◌∷◌, ◌++◌, length, Option, None, Some, slice_get, arith}
+use Rattle.std.proofs.Common.{◌≡◌, inl, inr, ◌⊎◌, refl, sym, ap, subst, ◌∙◌, ℕ, suc, ◌+◌, Bool, true, false, cond, List, [], ◌∷◌, ◌++◌, length, Option, None, Some, slice_get, arith}
 use Rattle.std.specs.Prelude.{nat_le}
 use Rattle.std.specs.List.{flat_map}
 use Rattle.ui_machine.specs.Seq.{total}
@@ -16,7 +16,7 @@ use Rattle.law_typing.proofs.EdgeProofs.{append_right}
 use Rattle.law_static.specs.Items.{AdoptsFollow, ForwardsFollow, BindingsFollow}
 use Rattle.law_static.proofs.BuildCostProofs.{made_count}
 use Rattle.law_static.proofs.ItemsProofs.{parts_in}
-use Rattle.law_static.proofs.MakingsProofs.{each_made, each_forward, each_numbered, each_connected, all_zero, late_items, Later, late_make_none, InOrder, bind_count}
+use Rattle.law_static.proofs.MakingsProofs.{each_made, each_forward, each_numbered, each_connected, all_zero, late_items, late_make_none, InOrder, bind_count}
 use Rattle.law_static.proofs.PlanCostProofs.{total_append}
 
 -- ** where an item stands that is none of the early ones
