@@ -14,7 +14,8 @@ mod validating;
 
 pub use error::{OverrideFault, SpecError, SpecFault};
 pub use flags::PropertyFlags;
-pub use name::is_property_name;
+pub use name::{canonical_name, is_property_name};
+pub use overriding::is_same_spec;
 pub use spec::Spec;
 pub use table::{MOST_PROPERTIES, SpecTable};
 pub use validating::{is_valid_default, takes, validate};

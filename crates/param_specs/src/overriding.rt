@@ -1,9 +1,9 @@
 //! Properties of an interface that a type has to have.
 
-ghost use Rattle.std.specs.Prelude.{◌≡◌, ◌<◌, length, position, IfSome};
+ghost use Rattle.std.specs.Prelude.{◌≡◌, ◌<◌, length, position, option_map, IfSome};
 ghost use Rattle.param_specs.specs.View.{spec_view};
 ghost use Rattle.param_specs.specs.Table.{specs_of};
-ghost use Rattle.param_specs.specs.Overriding.{same_range, same_rest, same_spec, is_missing, differs, override_fault, fine_or};
+ghost use Rattle.param_specs.specs.Overriding.{same_range, same_rest, same_spec, spec_named, is_missing, differs, override_fault, fine_or};
 
 use crate::error::OverrideFault;
 use crate::spec::Spec;
@@ -68,20 +68,30 @@ impl SpecTable {
         self.slot(tree, t, wanted.name.as_str()).is_none()
     }
 
-    // Whether a type has another property of this name.
+    /// The property of a type that a name names, its own or inherited, in any spelling.
     #[tactic(auto, using(crate::proofs::Within::slot_within))]
+    pub fn named(&self, tree: &TypeTree, t: TypeId, name: &str) -> Option<&Spec>
+        ensures { option_map (λ s. spec_view s.now) result ≡ spec_named (specs_of tree.now self.now t) name.now }
+    {
+        match self.slot(tree, t, name) {
+            Some(slot) => Some(self.spec_at(tree, t, slot)),
+            None => None,
+        }
+    }
+
+    // Whether a type has another property of this name.
     fn differs(&self, tree: &TypeTree, t: TypeId, wanted: &Spec) -> bool
         ensures { result ≡ differs (specs_of tree.now self.now t) (spec_view wanted.now) }
     {
-        match self.slot(tree, t, wanted.name.as_str()) {
-            Some(slot) => !is_same_spec(self.spec_at(tree, t, slot), wanted),
+        match self.named(tree, t, wanted.name.as_str()) {
+            Some(spec) => !is_same_spec(spec, wanted),
             None => false,
         }
     }
 }
 
-// Whether two properties have one kind, range, default, weakness and flags.
-fn is_same_spec(a: &Spec, b: &Spec) -> bool
+/// Whether two properties have one kind, range, default, weakness and flags.
+pub fn is_same_spec(a: &Spec, b: &Spec) -> bool
     ensures { result ≡ same_spec (spec_view a.now) (spec_view b.now) }
 {
     has_same_range(a, b) && has_same_rest(a, b)

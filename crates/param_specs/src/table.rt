@@ -65,8 +65,8 @@ impl SpecTable {
         }
     }
 
-    // How many properties a type has of its own.
-    fn own_count(&self, t: TypeId) -> usize
+    /// How many properties a type has of its own.
+    pub fn own_count(&self, t: TypeId) -> usize
         ensures count { result ≡ length (own_of self.now t) }
         ensures few { result ≤ 64 }
     {
@@ -98,8 +98,8 @@ impl SpecTable {
         position_of(self.own(t)?, name)
     }
 
-    // The property of a slot of a type's own.
-    fn own_spec(&self, t: TypeId, slot: usize) -> &Spec
+    /// The property of a slot of a type's own, counted from the first of them.
+    pub fn own_spec(&self, t: TypeId, slot: usize) -> &Spec
         requires { slot < length (own_of self.now t) }
         ensures { slice_get (own_of self.now t) slot ≡ Some (spec_view result.now) }
     {

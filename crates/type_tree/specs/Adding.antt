@@ -83,6 +83,10 @@ required_by types i = (read no_type types i).interfaces
 abbrev pub would_be : List GType → ℕ → List ℕ → ℕ → Bool
 would_be types parent interfaces t = is_a types parent t || list_any (nat_eq t) interfaces
 
+-- the first type that an interface requires and that a class of this parent and these interfaces is not
+abbrev pub missing_of : List GType → ℕ → List ℕ → ℕ → Option ℕ
+missing_of types parent interfaces i = find (λ t. not (would_be types parent interfaces t)) (required_by types i)
+
 -- the first type that passes, of those that an interface requires
 abbrev pub first_required : (ℕ → Bool) → (ℕ → List ℕ) → Option ℕ → Option ℕ
 first_required passes required None = None

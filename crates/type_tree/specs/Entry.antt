@@ -1,9 +1,10 @@
 -- What the entries of a tree stand for.
-use Rattle.std.specs.Prelude.{ℕ, pos, false, List, [], map, None, string_bytes}
+use Rattle.std.specs.Prelude.{ℕ, pos, false, List, [], map, None, Some, string_bytes}
 use Rattle.ui_machine.specs.Definition.Types.{GType, Member}
 use Rattle.ui_machine.specs.Definition.Types as sorts
 use Rattle.type_tree.specs.declared.member.EnumMember.{EnumMember}
 use Rattle.type_tree.specs.declared.member.FlagsMember.{FlagsMember}
+use Rattle.type_tree.specs.declared.entry.TypeFlags.{TypeFlags}
 use Rattle.type_tree.specs.declared.entry.TypeSort.{TypeSort}
 use Rattle.type_tree.specs.declared.entry.TypeSort.TheVariants as words
 use Rattle.type_tree.specs.declared.entry.TypeEntry.{TypeEntry}
@@ -21,6 +22,15 @@ flags_member m = record { name = string_bytes m.name; nick = string_bytes m.nick
 abbrev pub plain_type : List ℕ → sorts.Sort → List ℕ → List Member → GType
 plain_type name sort required members =
     record { name = name; sort = sort; parent = None; is_abstract = false; is_final = false; interfaces = required; members = members }
+
+-- a class under a parent, with the interfaces that it implements
+abbrev pub class_type : List ℕ → ℕ → TypeFlags → List ℕ → GType
+class_type name parent flags interfaces =
+    record { name = name; sort = sorts.class; parent = Some parent; is_abstract = flags.is_abstract; is_final = flags.is_final; interfaces = interfaces; members = [] }
+
+-- an interface, with the types that it requires
+abbrev pub interface_type : List ℕ → List ℕ → GType
+interface_type name required = plain_type name sorts.interface required []
 
 -- the type of an entry
 abbrev pub type_of : List ℕ → TypeEntry → GType

@@ -1,10 +1,10 @@
 //! How types are added.
 
-ghost use Rattle.std.specs.Prelude.{◌≡◌, ◌<◌, List, map, length, IfOk, is_some, nat_eq, not, OnOk, IfSome, Option, Some, None};
+ghost use Rattle.std.specs.Prelude.{◌≡◌, ◌<◌, ◌∷◌, ◌++◌, [], List, map, length, IfOk, is_some, nat_eq, not, OnOk, OnErr, IfSome, Option, Some, None};
 ghost use Rattle.std.specs.List.{list_all, list_any, filter_map, find, flat_map};
 ghost use Rattle.ui_machine.specs.Definition.Types.{predeclared};
-ghost use Rattle.type_tree.specs.Adding.{Adds, class_named, interface_named, required_named, name_fault, class_fault, parent_fault, child_fault, interface_fault, required_fault, members_fault, are_named, missing_type, first_required, required_by, would_be, room_fault, new_class, new_interface, new_enum, new_flags};
-ghost use Rattle.type_tree.specs.Entry.{enum_member, flags_member};
+ghost use Rattle.type_tree.specs.Adding.{Adds, class_named, interface_named, required_named, name_fault, class_fault, parent_fault, child_fault, interface_fault, required_fault, members_fault, are_named, missing_type, missing_of, first_required, required_by, would_be, room_fault, new_class, new_interface, new_enum, new_flags};
+ghost use Rattle.type_tree.specs.Entry.{class_type, interface_type, enum_member, flags_member};
 
 use crate::entry::{ClassEntry, TypeEntry, TypeFlags, TypeSort};
 use crate::error::{TypeError, TypeFault, TypeLimit};
@@ -28,8 +28,8 @@ impl TypeTree {
         }
     }
 
-    // The interface of a name.
-    fn find_interface(&self, name: &str) -> Option<TypeId>
+    /// The interface of a name.
+    pub fn find_interface(&self, name: &str) -> Option<TypeId>
         ensures { result ≡ interface_named self.now name.now }
     {
         let t = self.find(name)?;
@@ -40,8 +40,8 @@ impl TypeTree {
         }
     }
 
-    // The class or interface of a name.
-    fn find_required(&self, name: &str) -> Option<TypeId>
+    /// What an interface may require by a name: the class or interface that is called so.
+    pub fn find_required(&self, name: &str) -> Option<TypeId>
         ensures { result ≡ required_named self.now name.now }
     {
         let t = self.find(name)?;
@@ -64,8 +64,8 @@ impl TypeTree {
         }
     }
 
-    // Why no further type is added.
-    fn room_fault(&self) -> Option<TypeFault>
+    /// Why no further type is added: there are 256.
+    pub fn room_fault(&self) -> Option<TypeFault>
         ensures { result ≡ room_fault self.now }
     {
         if self.len() >= MOST_TYPES {
@@ -159,6 +159,28 @@ impl TypeTree {
             }
         }
         None
+    }
+
+    // Whether a class of this parent and these interfaces is the type. The interfaces are looked at first, since a parent may have many ancestors.
+    fn is_one_of(&self, parent: TypeId, interfaces: &[TypeId], t: TypeId) -> bool
+        ensures { result ≡ would_be self.now parent interfaces.now t }
+    {
+        contains(interfaces, t) || self.is_a(parent, t)
+    }
+
+    /// The first type that an interface requires and that a class of this parent and these interfaces is not.
+    pub fn missing_prerequisite(
+        &self,
+        parent: TypeId,
+        interfaces: &[TypeId],
+        interface: TypeId,
+    ) -> Option<TypeId>
+        ensures { result ≡ missing_of self.now parent interfaces.now interface }
+    {
+        self.interfaces(interface)
+            .iter()
+            .copied()
+            .find(|t| !self.is_one_of(parent, interfaces, *t))
     }
 
     // Why a class of this parent is not added.
@@ -288,6 +310,50 @@ impl TypeTree {
             return Err(TypeError::Refused(fault));
         }
         self.append(name, TypeEntry::Flags(members))
+    }
+
+    /// Adds a class whose name and room were tested: under a parent, with the interfaces that it implements.
+    pub fn append_class(
+        &mut self,
+        name: &str,
+        parent: TypeId,
+        flags: TypeFlags,
+        interfaces: Vec<TypeId>,
+    ) -> Result<TypeId, AllocError>
+        requires name { name_fault self.old name.now ≡ None }
+        requires room { room_fault self.old ≡ None }
+        requires parent { parent < length self.old }
+        ensures ok { OnOk result (self.new ≡ self.old ++ class_type name.now parent flags interfaces.items ∷ []) }
+        ensures class { IfOk result (λ t. t ≡ length self.old) }
+        ensures err { OnErr result (self.new ≡ self.old) }
+    {
+        let class = ClassEntry {
+            parent: Some(parent),
+            flags,
+            interfaces,
+        };
+        let Ok(t) = self.append(name, TypeEntry::Class(class)) else {
+            return Err(AllocError);
+        };
+        Ok(t)
+    }
+
+    /// Adds an interface whose name and room were tested, with the types that it requires.
+    pub fn append_interface(
+        &mut self,
+        name: &str,
+        required: Vec<TypeId>,
+    ) -> Result<TypeId, AllocError>
+        requires name { name_fault self.old name.now ≡ None }
+        requires room { room_fault self.old ≡ None }
+        ensures ok { OnOk result (self.new ≡ self.old ++ interface_type name.now required.items ∷ []) }
+        ensures interface { IfOk result (λ t. t ≡ length self.old) }
+        ensures err { OnErr result (self.new ≡ self.old) }
+    {
+        let Ok(t) = self.append(name, TypeEntry::Interface(required)) else {
+            return Err(AllocError);
+        };
+        Ok(t)
     }
 
     /// The tree with `GObject` and its child `GInitiallyUnowned`.
