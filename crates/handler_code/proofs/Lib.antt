@@ -1,0 +1,3 @@
+pub mod RegisterReads
+pub mod MachineSteps
+pub mod FromRegisters

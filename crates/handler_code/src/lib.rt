@@ -1,0 +1,13 @@
+//! What programs compute: the instructions that touch registers alone.
+//!
+//! A program is a handler in bytecode. It has up to 32 registers, each unset or with a value, and its instructions read and write them.
+//! Eleven instructions do nothing else: they compute a value from registers and constants. A contract ties each of them to the machine's
+//! instruction. Writing a register is left to the caller, who counts what registers hold.
+#![tactic(auto)]
+
+mod computation;
+mod computing;
+mod operands;
+
+pub use computation::{Arithmetic, Comparison, Computation, Computed, Register};
+pub use computing::MOST_TEXT_BYTES;
