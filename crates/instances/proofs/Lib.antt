@@ -1,3 +1,12 @@
+pub mod Without
+pub mod Moves
+pub mod Families
+pub mod Marks
+pub mod Forgotten
+pub mod Written
+pub mod Held
+pub mod Exact
+pub mod WriteExact
 pub mod Shown
 pub mod Scan
 pub mod Counts

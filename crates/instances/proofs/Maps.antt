@@ -1,5 +1,5 @@
 -- A map's changes as changes of a look-up.
-use Rattle.std.proofs.Common.{◌≡◌, ◌≢◌, ℕ, suc, ◌+◌, ◌<◌, ◌≤◌, ◌^◌, length, false, true, nat_lt, Option, Some, is_some, Result, sym, ap, ◌∙◌, arith}
+use Rattle.std.proofs.Common.{◌≡◌, ◌≢◌, ℕ, suc, ◌+◌, ◌<◌, ◌≤◌, ◌^◌, List, length, false, true, nat_lt, Option, Some, is_some, Result, sym, ap, ◌∙◌, arith}
 use Rattle.std.proofs.lemmas.Bool.Decides.{nat_tests}
 use Rattle.std.specs.Ordering.{nat_cmp}
 use Rattle.std.specs.BTreeMap.{BTreeMap, get, is_at, Updates, WritesThrough, IsOrdered, btree_map_len}
@@ -8,52 +8,59 @@ use Rattle.ui_machine.specs.declared.arm.Halt.{Halt}
 use Rattle.ui_machine.specs.Outcome.{After, Answer, Gives, Follows}
 use Rattle.ui_machine.specs.State.Objects.{Object, changed, live, most_identities}
 use Rattle.ui_machine.specs.State.References.{next_unheld}
+use Rattle.ui_machine.specs.declared.ids.ObjectId.{ObjectId}
 use Rattle.instances.specs.Store.{Store, count_of, with_objects, with_count, with_object, has_room}
+use Rattle.ui_machine.specs.Rules.Children.{updated}
 use Rattle.instances.specs.View.{object_in, objects_of, store_of, InRange, Replaces, first_unheld}
 use Rattle.instances.specs.declared.instance.Instance.{Instance}
 use Rattle.instances.proofs.Scan.{sorted_scanned}
 use Rattle.instances.proofs.Counts.{live_entries, unheld_entries}
-use Rattle.instances.proofs.Shown.{some_object, counted_in, at_limit, at_end, by_identities, created_next, changes, follows, beside, recounted}
+use Rattle.instances.proofs.Shown.{some_object, counted_in, at_limit, at_end, by_identities, created_next, changes, updates, follows, beside, recounted}
 
 not_at : (a q : ℕ) → q ≢ a → is_at (nat_cmp a) q ≡ false
 not_at a q ne = grind (arith, nat_tests)
 
-pub updated : (m n : BTreeMap ℕ Instance) (id : ℕ) (w : Option Instance) → Updates nat_cmp m n id w
+pub map_updated : (m n : BTreeMap ℕ Instance) (id : ℕ) (w : Option Instance) → Updates nat_cmp m n id w
     → Replaces (get nat_cmp m) (get nat_cmp n) id w
-updated m n id w h = record { changed = h.1; others = λ q ne. h.2 q (not_at id q ne) }
+map_updated m n id w h = record { changed = h.1; others = λ q ne. h.2 q (not_at id q ne) }
 
 pub written : (m n : BTreeMap ℕ Instance) (id : ℕ) (was y : Instance) → get nat_cmp m id ≡ Some was
     → WritesThrough nat_cmp (nat_cmp id) m y n → Replaces (get nat_cmp m) (get nat_cmp n) id (Some y)
-written m n id was y here h = updated m n id (Some y) (h.3 (ap is_some here))
+written m n id was y here h = map_updated m n id (Some y) (h.3 (ap is_some here))
 
 -- ** what is written through what the map lent
 
-module _ (m n : BTreeMap ℕ Instance) (made limit : ℕ) (old : Store) (range : InRange (get nat_cmp m) made)
-    (is : store_of (get nat_cmp m) made limit ≡ old) (id : ℕ) (was y : Instance) (here : get nat_cmp m id ≡ Some was)
+module _ (m n : BTreeMap ℕ Instance) (made limit : ℕ) (floats : List ObjectId) (old : Store) (range : InRange (get nat_cmp m) made)
+    (is : store_of (get nat_cmp m) made limit floats ≡ old) (id : ℕ) (was y : Instance) (here : get nat_cmp m id ≡ Some was)
     (h : WritesThrough nat_cmp (nat_cmp id) m y n) where
   pub written_changes : {X Y : Type 0} (view : X → Y) (change : Object → Answer (After Object Y)) (r : Result X Arm)
       → Gives view r (change was.object) y.object → Gives view r (changed old.objects id change) (objects_of (get nat_cmp n) made)
   written_changes =
-      changes (get nat_cmp m) (get nat_cmp n) made limit old range is id was y here (written m n id was y here h)
+      changes (get nat_cmp m) (get nat_cmp n) made limit floats old range is id was y here (written m n id was y here h)
 
   pub written_follows : {X Y : Type 0} (view : X → Y) (change : Object → Answer (After Object Y)) (r : Result X Halt)
       → Follows view r (change was.object) y.object → Follows view r (changed old.objects id change) (objects_of (get nat_cmp n) made)
   written_follows =
-      follows (get nat_cmp m) (get nat_cmp n) made limit old range is id was y here (written m n id was y here h)
+      follows (get nat_cmp m) (get nat_cmp n) made limit floats old range is id was y here (written m n id was y here h)
 
   pub written_beside : y.mentions ≡ was.mentions
-      → store_of (get nat_cmp n) made limit ≡ with_objects old (objects_of (get nat_cmp n) made)
-  written_beside = beside (get nat_cmp m) (get nat_cmp n) made limit old range is id was y here (written m n id was y here h)
+      → store_of (get nat_cmp n) made limit floats ≡ with_objects old (objects_of (get nat_cmp n) made)
+  written_beside = beside (get nat_cmp m) (get nat_cmp n) made limit floats old range is id was y here (written m n id was y here h)
+
+  pub written_updates : (change : Object → Object) → y.object ≡ change was.object
+      → objects_of (get nat_cmp n) made ≡ updated change id old.objects
+  written_updates =
+      updates (get nat_cmp m) (get nat_cmp n) made limit floats old range is id was y here (written m n id was y here h)
 
   pub written_recounted : (k : ℕ) → y.object ≡ was.object → y.mentions ≡ k
-      → store_of (get nat_cmp n) made limit ≡ with_count old id k
+      → store_of (get nat_cmp n) made limit floats ≡ with_count old id k
   written_recounted =
-      recounted (get nat_cmp m) (get nat_cmp n) made limit old range is id was y here (written m n id was y here h)
+      recounted (get nat_cmp m) (get nat_cmp n) made limit floats old range is id was y here (written m n id was y here h)
 
 -- ** the order of the map
 
-module _ (m : BTreeMap ℕ Instance) (made limit : ℕ) (old : Store) (range : InRange (get nat_cmp m) made)
-    (is : store_of (get nat_cmp m) made limit ≡ old) (ordered : IsOrdered nat_cmp m) where
+module _ (m : BTreeMap ℕ Instance) (made limit : ℕ) (floats : List ObjectId) (old : Store) (range : InRange (get nat_cmp m) made)
+    (is : store_of (get nat_cmp m) made limit floats ≡ old) (ordered : IsOrdered nat_cmp m) where
   live_len : live old.objects ≡ btree_map_len m
   live_len =
       ap (λ (s : Store). live s.objects) (sym is)
@@ -66,21 +73,21 @@ module _ (m : BTreeMap ℕ Instance) (made limit : ℕ) (old : Store) (range : I
       ap (λ (s : Store). next_unheld (count_of old.counts) s.objects) (sym is)
       ∙ unheld_entries (count_of old.counts) (λ j. get nat_cmp m (suc j)) made 1
       (λ j. let next : 1 + j ≡ suc j = omega arith in
-      ap (count_of old.counts) next ∙ counted_in (get nat_cmp m) made limit old range is (suc j))
+      ap (count_of old.counts) next ∙ counted_in (get nat_cmp m) made limit floats old range is (suc j))
       ∙ ap first_unheld (sorted_scanned m.entries made ordered range)
 
   pub full : (n : ℕ) → limit ≤ btree_map_len m + n → has_room n old ≡ false
-  full n h = at_limit (get nat_cmp m) made limit old is n (omega (arith, live_len))
+  full n h = at_limit (get nat_cmp m) made limit floats old is n (omega (arith, live_len))
 
   pub at_last : (n : ℕ) → most_identities ≤ made + n → has_room n old ≡ false
-  at_last n h = at_end (get nat_cmp m) made limit old is n h
+  at_last n h = at_end (get nat_cmp m) made limit floats old is n h
 
   pub below_limit : (n room : ℕ) → btree_map_len m + n < limit → made + room ≡ most_identities → nat_lt n room ≡ has_room n old
-  below_limit n room few left = by_identities (get nat_cmp m) made limit old is n room (omega (arith, live_len)) left
+  below_limit n room few left = by_identities (get nat_cmp m) made limit floats old is n room (omega (arith, live_len)) left
 
   pub stored : (n : BTreeMap ℕ Instance) (id : ℕ) (y : Instance) → Updates nat_cmp m n id (Some y) → id ≡ made + 1 → id < 2 ^ 64
       → btree_map_len m < limit → y.mentions ≡ 0
-      → (has_room 0 old ≡ true) × (id ≡ suc (length old.objects)) × (store_of (get nat_cmp n) id limit ≡ with_object y.object old)
+      → (has_room 0 old ≡ true) × (id ≡ suc (length old.objects)) × (store_of (get nat_cmp n) id limit floats ≡ with_object y.object old)
   stored n id y h next small room none =
-      created_next (get nat_cmp m) (get nat_cmp n) made limit old is id y (omega (arith, next)) (updated m n id (Some y) h)
+      created_next (get nat_cmp m) (get nat_cmp n) made limit floats old is id y (omega (arith, next)) (map_updated m n id (Some y) h)
       (omega (arith, live_len)) (omega (arith, next)) none

@@ -5,6 +5,7 @@ use Rattle.std.specs.Map.{lookup}
 use Rattle.ui_machine.specs.Seq.{read}
 use Rattle.ui_machine.specs.State.Objects.{Objects}
 use Rattle.ui_machine.specs.State.References.{unheld_from, next_unheld}
+use Rattle.ui_machine.specs.declared.ids.ObjectId.{ObjectId}
 use Rattle.instances.specs.Store.{Store, count_of}
 use Rattle.instances.specs.View.{Lookup, store_of, InRange, first_unheld}
 use Rattle.instances.specs.declared.instance.Instance.{Instance}
@@ -43,14 +44,14 @@ none_unheld m i (Some o ∷ os) h =
     (none_unheld m (suc i) os (λ k s. let e : i + suc k ≡ suc i + k = omega arith in subst (λ j. 0 < m j) e (h (suc k) s)))
 
 -- once settled, nothing is found
-module _ (at : Lookup) (made limit : ℕ) (old : Store) (range : InRange at made) (is : store_of at made limit ≡ old) where
+module _ (at : Lookup) (made limit : ℕ) (floats : List ObjectId) (old : Store) (range : InRange at made) (is : store_of at made limit floats ≡ old) where
   pub settled_none : ((id : ℕ) (x : Instance) → at id ≡ Some x → 0 < x.mentions)
       → next_unheld (count_of old.counts) old.objects ≡ None
   settled_none all = none_unheld (count_of old.counts) 1 old.objects (λ k s.
       let next : 1 + k ≡ suc k = omega arith in
       subst (λ j. 0 < count_of old.counts j) (sym next)
       (by k (at (suc k)) refl
-      (sym (some_object (at (suc k))) ∙ ap is_some (sym (found_in at made limit old range is (suc k))) ∙ s)))
+      (sym (some_object (at (suc k))) ∙ ap is_some (sym (found_in at made limit floats old range is (suc k))) ∙ s)))
     where
       by : (k : ℕ) (o : Option Instance) → at (suc k) ≡ o → is_some (at (suc k)) ≡ true → 0 < count_of old.counts (suc k)
       by k None e some =
@@ -58,5 +59,5 @@ module _ (at : Lookup) (made limit : ℕ) (old : Store) (range : InRange at made
           let bad : false ≡ true = sym no ∙ some in
           absurd (cc)
       by k (Some x) e some =
-          let n : count_of old.counts (suc k) ≡ x.mentions = count_is at made limit old range is (suc k) x e in
+          let n : count_of old.counts (suc k) ≡ x.mentions = count_is at made limit floats old range is (suc k) x e in
           omega (arith, n, all (suc k) x e)

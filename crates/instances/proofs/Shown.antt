@@ -10,7 +10,10 @@ use Rattle.ui_machine.specs.Outcome.{After, Answer, ◌>>=◌, known, Gives, Fol
 use Rattle.ui_machine.specs.Seq.{listed}
 use Rattle.ui_machine.specs.State.Objects.{Object, Objects, living, put, live, most_identities, asked, changed}
 use Rattle.ui_machine.proofs.Listed.{read-listed, listed-same, listed-write, listed-more, length-listed}
-use Rattle.instances.specs.Store.{Store, count_of, counts_with, with_count, with_objects, with_object, has_room}
+use Rattle.ui_machine.specs.declared.ids.ObjectId.{ObjectId}
+use Rattle.instances.specs.Store.{ids_of, Store, count_of, counts_with, with_count, with_objects, with_object, has_room}
+use Rattle.std.specs.Option.{option_map}
+use Rattle.ui_machine.specs.Rules.Children.{updated}
 use Rattle.instances.specs.View.{Lookup, object_in, count_in, objects_of, counts_of, store_of, InRange, Replaces}
 use Rattle.instances.specs.declared.instance.Instance.{Instance}
 
@@ -40,7 +43,13 @@ pub some_object : (o : Option Instance) → is_some (object_in o) ≡ is_some o
 some_object None = refl
 some_object (Some x) = refl
 
-module _ (at : Lookup) (made limit : ℕ) (old : Store) (range : InRange at made) (is : store_of at made limit ≡ old) (id : ℕ) where
+put_none : (os : Objects) (id : ℕ) → id ≤ length os → living os id ≡ None → os ≡ put os id None
+put_none os zero small none = refl
+put_none [] (suc i) small none = absurd (omega (arith, small))
+put_none (o ∷ os) (suc zero) small none = ap (λ (p : Option Object). p ∷ os) none
+put_none (o ∷ os) (suc (suc i)) small none = ap (λ (ps : Objects). o ∷ ps) (put_none os (suc i) (omega (arith, small)) none)
+
+module _ (at : Lookup) (made limit : ℕ) (floats : List ObjectId) (old : Store) (range : InRange at made) (is : store_of at made limit floats ≡ old) (id : ℕ) where
   pub found_in : living old.objects id ≡ object_in (at id)
   found_in = ap (λ (s : Store). living s.objects id) (sym is) ∙ found at made id range
 
@@ -59,6 +68,12 @@ module _ (at : Lookup) (made limit : ℕ) (old : Store) (range : InRange at made
 
   pub count_is : (x : Instance) → at id ≡ Some x → count_of old.counts id ≡ x.mentions
   count_is x here = counted_in ∙ ap count_in here
+
+  -- a change of what does not live changes nothing
+  pub absent_updated : (change : Object → Object) → at id ≡ None → id ≤ length old.objects
+      → old.objects ≡ updated change id old.objects
+  absent_updated change none small = put_none old.objects id small (found_in ∙ ap object_in none)
+      ∙ ap (λ (o : Option Object). put old.objects id (option_map change o)) (sym (found_in ∙ ap object_in none))
 
   pub absent_asked : {X : Type 0} (question : Object → Answer X) → at id ≡ None → asked old.objects id question ≡ Err arms.Operand
   unfolding asked
@@ -105,18 +120,18 @@ module _ (at new : Lookup) (made : ℕ) (y : Option Instance) where
         | inr ne ↦ ap f (r.others (suc j) ne)
       ])
 
-module _ (at new : Lookup) (made limit : ℕ) (old : Store) (range : InRange at made) (is : store_of at made limit ≡ old) (id : ℕ) where
+module _ (at new : Lookup) (made limit : ℕ) (floats : List ObjectId) (old : Store) (range : InRange at made) (is : store_of at made limit floats ≡ old) (id : ℕ) where
   -- one that lives and is not held, taken out
   pub removed : IsSome (living old.objects id) → Replaces at new id None → count_of old.counts id ≡ 0
-      → store_of new made limit ≡ with_objects old (put old.objects id None)
+      → store_of new made limit floats ≡ with_objects old (put old.objects id None)
   removed some r unheld =
-      ap (λ (cs : List ℕ). record { objects = objects_of new made; counts = cs; limit = limit })
-      (same_listed at new made None count_in id r (sym unheld ∙ counted_in at made limit old range is id))
-      ∙ ap (λ (os : Objects). record { objects = os; counts = counts_of at made; limit = limit })
-      (put_back at new made None id (range id (lives at made limit old range is id ∙ some)) r)
+      ap (λ (cs : List ℕ). record { objects = objects_of new made; counts = cs; limit = limit; floating = ids_of floats })
+      (same_listed at new made None count_in id r (sym unheld ∙ counted_in at made limit floats old range is id))
+      ∙ ap (λ (os : Objects). record { objects = os; counts = counts_of at made; limit = limit; floating = ids_of floats })
+      (put_back at new made None id (range id (lives at made limit floats old range is id ∙ some)) r)
       ∙ ap (λ (s : Store). with_objects s (put s.objects id None)) is
 
-module _ (at new : Lookup) (made limit : ℕ) (old : Store) (range : InRange at made) (is : store_of at made limit ≡ old) (id : ℕ)
+module _ (at new : Lookup) (made limit : ℕ) (floats : List ObjectId) (old : Store) (range : InRange at made) (is : store_of at made limit floats ≡ old) (id : ℕ)
     (was y : Instance) (here : at id ≡ Some was) (replaces : Replaces at new id (Some y)) where
   given : Given at made id
   given = range id (ap is_some here)
@@ -133,7 +148,7 @@ module _ (at new : Lookup) (made limit : ℕ) (old : Store) (range : InRange at 
       to_one : changed old.objects id change ≡ put_in (change was.object)
       to_one =
           ap (λ (o : Option Object). known arms.Operand o >>= λ o. put_in (change o))
-          (found_in at made limit old range is id ∙ ap object_in here)
+          (found_in at made limit floats old range is id ∙ ap object_in here)
 
       by : (r : Result X Arm) → Gives view r (change was.object) y.object
           → Gives view r (changed old.objects id change) (objects_of new made)
@@ -143,6 +158,14 @@ module _ (at new : Lookup) (made limit : ℕ) (old : Store) (range : InRange at 
           (ap (λ (s : Store). put s.objects id (Some y.object)) (sym is) ∙ sym (put_back at new made (Some y) id given replaces))
       by (Err arm) e = to_one ∙ ap put_in e
 
+  -- and where the change cannot be refused
+  pub updates : (change : Object → Object) → y.object ≡ change was.object → objects_of new made ≡ updated change id old.objects
+  updates change e =
+      put_back at new made (Some y) id given replaces
+      ∙ ap (λ (s : Store). put s.objects id (Some y.object)) is
+      ∙ ap (put old.objects id)
+      (ap Some e ∙ sym (ap (option_map change) (found_in at made limit floats old range is id ∙ ap object_in here)))
+
   pub follows : {X Y : Type 0} (view : X → Y) (change : Object → Answer (After Object Y)) (r : Result X Halt)
       → Follows view r (change was.object) y.object → Follows view r (changed old.objects id change) (objects_of new made)
   follows view change (Ok x) h = changes view change (Ok x) h
@@ -150,27 +173,28 @@ module _ (at new : Lookup) (made limit : ℕ) (old : Store) (range : InRange at 
   follows {X} view change (Err (halts.Stuck arm)) h = let r : Result X Arm = Err arm in changes view change r h
 
   -- and where it keeps the count, the rest is as it was
-  pub beside : y.mentions ≡ was.mentions → store_of new made limit ≡ with_objects old (objects_of new made)
+  pub beside : y.mentions ≡ was.mentions → store_of new made limit floats ≡ with_objects old (objects_of new made)
   beside e =
-      ap (λ (cs : List ℕ). record { objects = objects_of new made; counts = cs; limit = limit })
+      ap (λ (cs : List ℕ). record { objects = objects_of new made; counts = cs; limit = limit; floating = ids_of floats })
       (same_listed at new made (Some y) count_in id replaces (e ∙ sym (ap count_in here)))
       ∙ ap (λ (s : Store). with_objects s (objects_of new made)) is
 
   -- one that keeps its object and has another count
-  pub recounted : (n : ℕ) → y.object ≡ was.object → y.mentions ≡ n → store_of new made limit ≡ with_count old id n
+  pub recounted : (n : ℕ) → y.object ≡ was.object → y.mentions ≡ n → store_of new made limit floats ≡ with_count old id n
   recounted n same e =
-      ap (λ (os : Objects). record { objects = os; counts = counts_of new made; limit = limit })
+      ap (λ (os : Objects). record { objects = os; counts = counts_of new made; limit = limit; floating = ids_of floats })
       (same_listed at new made (Some y) object_in id replaces (ap Some same ∙ sym (ap object_in here)))
-      ∙ ap (λ (cs : List ℕ). record { objects = objects_of at made; counts = cs; limit = limit })
+      ∙ ap (λ (cs : List ℕ). record { objects = objects_of at made; counts = cs; limit = limit; floating = ids_of floats })
       (count_back at new made (Some y) id given replaces ∙ ap (counts_with (counts_of at made) id) e)
       ∙ ap (λ (s : Store). with_count s id n) is
 
 -- ** one more
 
-pub given_out : (at : Lookup) (made limit : ℕ) (old : Store) → store_of at made limit ≡ old → length old.objects ≡ made
-given_out at made limit old is = ap (λ (s : Store). length s.objects) (sym is) ∙ length-listed (λ i. object_in (at (suc i))) made
+pub given_out : (at : Lookup) (made limit : ℕ) (floats : List ObjectId) (old : Store) → store_of at made limit floats ≡ old
+    → length old.objects ≡ made
+given_out at made limit floats old is = ap (λ (s : Store). length s.objects) (sym is) ∙ length-listed (λ i. object_in (at (suc i))) made
 
-module _ (at new : Lookup) (made limit : ℕ) (old : Store) (is : store_of at made limit ≡ old) (id : ℕ) (y : Instance)
+module _ (at new : Lookup) (made limit : ℕ) (floats : List ObjectId) (old : Store) (is : store_of at made limit floats ≡ old) (id : ℕ) (y : Instance)
     (next : id ≡ suc made) (replaces : Replaces at new id (Some y)) where
   more : {A : Type 0} (f : Option Instance → A)
       → listed (λ i. f (new (suc i))) id ≡ listed (λ i. f (at (suc i))) made ++ f (Some y) ∷ []
@@ -181,17 +205,17 @@ module _ (at new : Lookup) (made limit : ℕ) (old : Store) (is : store_of at ma
       (λ i small. ap f (replaces.others (suc i) (λ e. omega arith))))
       ∙ ap (λ o. listed (λ i. f (at (suc i))) made ++ f o ∷ []) (ap new (sym next) ∙ replaces.changed)
 
-  added : y.mentions ≡ 0 → store_of new id limit ≡ with_object y.object old
+  added : y.mentions ≡ 0 → store_of new id limit floats ≡ with_object y.object old
   added none =
-      ap (λ (os : Objects). record { objects = os; counts = counts_of new id; limit = limit }) (more object_in)
-      ∙ ap (λ (cs : List ℕ). record { objects = objects_of at made ++ Some y.object ∷ []; counts = cs; limit = limit })
+      ap (λ (os : Objects). record { objects = os; counts = counts_of new id; limit = limit; floating = ids_of floats }) (more object_in)
+      ∙ ap (λ (cs : List ℕ). record { objects = objects_of at made ++ Some y.object ∷ []; counts = cs; limit = limit; floating = ids_of floats })
       (more count_in ∙ ap (λ k. counts_of at made ++ k ∷ []) none)
       ∙ ap (with_object y.object) is
 
   pub created_next : live old.objects < limit → made < most_identities → y.mentions ≡ 0
-      → (has_room 0 old ≡ true) × (id ≡ suc (length old.objects)) × (store_of new id limit ≡ with_object y.object old)
+      → (has_room 0 old ≡ true) × (id ≡ suc (length old.objects)) × (store_of new id limit floats ≡ with_object y.object old)
   created_next room small none =
-      let many : length old.objects ≡ made = given_out at made limit old is in
+      let many : length old.objects ≡ made = given_out at made limit floats old is in
       let same : limit ≡ old.limit = ap (λ (s : Store). s.limit) is in
       let fits : nat_lt (live old.objects + 0) old.limit ≡ true = grind (arith, nat_tests) in
       let fits_too : nat_lt (length old.objects + 0) most_identities ≡ true = grind (arith, nat_tests) in
@@ -199,7 +223,7 @@ module _ (at new : Lookup) (made limit : ℕ) (old : Store) (is : store_of at ma
 
 -- ** whether there is room
 
-module _ (at : Lookup) (made limit : ℕ) (old : Store) (is : store_of at made limit ≡ old) (n : ℕ) where
+module _ (at : Lookup) (made limit : ℕ) (floats : List ObjectId) (old : Store) (is : store_of at made limit floats ≡ old) (n : ℕ) where
   either : (b : Bool) → (b && false) ≡ false
   either true = refl
   either false = refl
@@ -212,14 +236,14 @@ module _ (at : Lookup) (made limit : ℕ) (old : Store) (is : store_of at made l
 
   pub at_end : most_identities ≤ made + n → has_room n old ≡ false
   at_end full =
-      let many : length old.objects ≡ made = given_out at made limit old is in
+      let many : length old.objects ≡ made = given_out at made limit floats old is in
       let no : nat_lt (length old.objects + n) most_identities ≡ false = grind (arith, nat_tests) in
       rw no (either (nat_lt (live old.objects + n) old.limit))
 
   -- below the limit the identities decide
   pub by_identities : (room : ℕ) → live old.objects + n < limit → made + room ≡ most_identities → nat_lt n room ≡ has_room n old
   by_identities room few left =
-      let many : length old.objects ≡ made = given_out at made limit old is in
+      let many : length old.objects ≡ made = given_out at made limit floats old is in
       let same : limit ≡ old.limit = ap (λ (s : Store). s.limit) is in
       let fits : nat_lt (live old.objects + n) old.limit ≡ true = grind (arith, nat_tests) in
       let ids : nat_lt n room ≡ nat_lt (length old.objects + n) most_identities = grind (arith, nat_tests) in

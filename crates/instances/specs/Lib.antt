@@ -1,2 +1,5 @@
 pub mod Store
+pub mod Family
+pub mod Weak
+pub mod Laws
 pub mod View

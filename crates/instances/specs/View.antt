@@ -2,7 +2,8 @@
 use Rattle.std.specs.Prelude.{◌≡◌, ◌≢◌, ℕ, suc, ◌<◌, ◌≤◌, cond, nat_eq, List, [], ◌∷◌, Bool, true, Option, Some, None, IsSome}
 use Rattle.ui_machine.specs.State.Objects.{Object, Objects}
 use Rattle.ui_machine.specs.Seq.{listed}
-use Rattle.instances.specs.Store.{Store}
+use Rattle.ui_machine.specs.declared.ids.ObjectId.{ObjectId}
+use Rattle.instances.specs.Store.{Store, ids_of}
 use Rattle.instances.specs.declared.instance.Instance.{Instance}
 
 -- what each identity has
@@ -24,8 +25,13 @@ objects_of at n = listed (λ i. object_in (at (suc i))) n
 abbrev pub counts_of : Lookup → ℕ → List ℕ
 counts_of at n = listed (λ i. count_in (at (suc i))) n
 
-abbrev pub store_of : Lookup → ℕ → ℕ → Store
-store_of at made limit = record { objects = objects_of at made; counts = counts_of at made; limit = limit }
+abbrev pub store_of : Lookup → ℕ → ℕ → List ObjectId → Store
+store_of at made limit floats = record {
+  objects = objects_of at made;
+  counts = counts_of at made;
+  limit = limit;
+  floating = ids_of floats;
+}
 
 -- each identity with an instance was given
 abbrev pub InRange : Lookup → ℕ → Type 0

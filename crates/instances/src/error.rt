@@ -1,4 +1,4 @@
-//! Why no object was made.
+//! Why no object was made, or became no child.
 
 use thiserror::Error;
 
@@ -7,6 +7,19 @@ use thiserror::Error;
 pub enum CreateError {
     #[error("as many objects live as may")]
     ObjectLimit,
+    #[error("out of memory")]
+    OutOfMemory,
+}
+
+/// Why an object did not become another's child.
+#[derive(Clone, Copy, Debug, Drop, Error, PartialEq, Eq)]
+pub enum AdoptError {
+    #[error("one of them does not live")]
+    NotLiving,
+    #[error("it has a parent, or is the parent itself")]
+    HasParent,
+    #[error("the parent has as many children as may be")]
+    ChildLimit,
     #[error("out of memory")]
     OutOfMemory,
 }

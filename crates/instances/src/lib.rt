@@ -6,10 +6,22 @@
 #![tactic(auto)]
 
 mod error;
+mod family;
+mod ids;
 mod instance;
+mod laws;
+mod mentions;
 mod object;
+mod object_values;
+mod release;
 mod table;
+mod weak;
 
-pub use error::CreateError;
+pub use error::{AdoptError, CreateError};
+pub use laws::{
+    counted_finds, counts_find, disposing_moves, finalising_moves, forget_counts, hold_counts,
+    join_counts, leave_counts, let_go_counts, sink_counts, write_counts, writing_moves,
+};
 pub use object::Object;
 pub use table::Table;
+pub use weak::WeakSlots;

@@ -1,20 +1,29 @@
 //! One object.
 
-ghost use Rattle.std.specs.Prelude.{◌≡◌, map, reverse, false, []};
+ghost use Rattle.std.specs.Prelude.{◌≡◌, ◌+◌, map, reverse, length, nat_le, false, [], OnOk, OnErr};
 ghost use Rattle.std.specs.Option.{option_map};
 ghost use Rattle.ui_machine.specs.State.Objects.{value_at, with_value};
 ghost use Rattle.ui_machine.specs.Rules.NotifyQueue.{raised, frozen_more, frozen_less};
+ghost use Rattle.ui_machine.specs.Rules.Children.{most_children, with_child, with_parent, without_child};
 ghost use Rattle.ui_machine.specs.Outcome.{Gives, Follows};
+ghost use Rattle.ui_machine.specs.declared.ids.ObjectId.{ObjectId};
 ghost use Rattle.g_values.specs.View.{value_view};
-ghost use Rattle.instances.specs.Store.{made_object, Shows};
+ghost use Rattle.instances.specs.Weak.{forgetting};
+ghost use Rattle.instances.specs.Store.{id_of, made_object, Shows};
 
+use crate::ids::remove_id;
+use crate::object_values::forget_values;
+use crate::weak::WeakSlots;
 use g_values::Value;
 use notify_queue::NotifyQueue;
-use std::alloc::Global;
+use std::alloc::{AllocError, Global};
 use std::marker::Model;
 use std::mem;
 use type_tree::TypeId;
 use ui_machine::{Arm, Halt, ObjectId};
+
+// The most children that an object has.
+const MOST_CHILDREN: usize = 1024;
 
 /// One object: its class and place, the values of its properties by slot, its queue of notifications, its parent and children,
 /// whether it was disposed, and the number of its peer. It is seen as the machine's.
@@ -89,6 +98,59 @@ impl Object {
         ensures { result ≡ self.now.place }
     {
         self.place
+    }
+
+    /// Its parent, if it has one.
+    pub fn parent(&self) -> Option<ObjectId>
+        ensures { id_of result ≡ self.now.parent }
+    {
+        self.parent
+    }
+
+    /// Whether it was disposed.
+    pub fn is_disposed(&self) -> bool
+        ensures { result ≡ self.now.disposed }
+    {
+        self.disposed
+    }
+
+    /// Whether it has as many children as may be.
+    pub fn is_full(&self) -> bool
+        ensures { result ≡ nat_le most_children (length self.now.children) }
+    {
+        self.children.len() >= MOST_CHILDREN
+    }
+
+    // Gives it a parent, or none.
+    pub(crate) fn give_parent(&mut self, parent: Option<ObjectId>)
+        ensures { self.new ≡ with_parent (id_of parent) self.old }
+    {
+        self.parent = parent;
+    }
+
+    // Adds a child behind the others.
+    pub(crate) fn add_child(&mut self, child: ObjectId) -> Result<(), AllocError>
+        ensures ok { OnOk result (self.new ≡ with_child child.0 self.old) }
+        ensures err { OnErr result (self.new ≡ self.old) }
+    {
+        self.children.push(child)?;
+        Ok(())
+    }
+
+    // Takes a child out, and answers how often it was one.
+    pub(crate) fn remove_child(&mut self, child: ObjectId) -> usize
+        ensures object { self.new ≡ without_child child.0 self.old }
+        ensures count { result + length self.new.children ≡ length self.old.children }
+    {
+        remove_id(&mut self.children, child)
+    }
+
+    // Its weak values that name the other object become null.
+    pub(crate) fn forget(&mut self, weak: &WeakSlots, id: ObjectId)
+        ensures { self.new ≡ forgetting weak.now id.0 self.old }
+    {
+        let slots = weak.of(self.class);
+        forget_values(&mut self.values, slots, id);
     }
 
     /// The value of a property.

@@ -1,6 +1,6 @@
 //! The objects by their identities.
 
-ghost use Rattle.std.specs.Prelude.{◌≡◌, ◌+◌, ◌-◌, ◌<◌, ◌^◌, [], IsSome, is_some, None, Ok, map, reverse, OnOk, OnErr};
+ghost use Rattle.std.specs.Prelude.{◌≡◌, ℕ, ◌+◌, ◌-◌, ◌<◌, ◌^◌, [], IsSome, is_some, None, Ok, map, reverse, OnOk, OnErr};
 ghost use Rattle.std.specs.Option.{option_map};
 ghost use Rattle.ui_machine.specs.State.Objects.{asked, changed, living, put, value_at, with_value};
 ghost use Rattle.ui_machine.specs.State.References.{next_unheld};
@@ -8,7 +8,7 @@ ghost use Rattle.ui_machine.specs.Rules.NotifyQueue.{raised, frozen_more, frozen
 ghost use Rattle.ui_machine.specs.Outcome.{Gives, Follows};
 ghost use Rattle.g_values.specs.View.{value_view};
 ghost use Rattle.ui_machine.specs.declared.ids.ObjectId.{ObjectId};
-ghost use Rattle.instances.specs.Store.{Shows, count_of, with_count, with_objects, has_room, Creates};
+ghost use Rattle.instances.specs.Store.{Shows, count_of, with_count, with_objects, has_room, may_hold, so_often, Creates};
 
 use crate::error::CreateError;
 use crate::instance::Instance;
@@ -23,11 +23,12 @@ use ui_machine::{Arm, Halt, ObjectId};
 /// The objects that live, and how often each is held.
 #[derive(Drop)]
 pub struct Table {
-    instances: BTreeMap<u64, Instance>,
+    pub(crate) instances: BTreeMap<u64, Instance>,
     made: u64,
     limit: u32,
+    pub(crate) floating: Vec<ObjectId>,
     // Whether it is known that each object is held.
-    settled: bool,
+    pub(crate) settled: bool,
     alloc: Global,
 }
 
@@ -40,7 +41,7 @@ impl Model for Table {
     ghost use Rattle.std.specs.BTreeMap.{get};
     ghost use Rattle.instances.specs.View.{store_of, InRange, IsSettled};
 
-    ghost view = { λ t. store_of (get nat_cmp t.instances) t.made t.limit };
+    ghost view = { λ t. store_of (get nat_cmp t.instances) t.made t.limit t.floating.items };
 
     ghost invariant = { λ t. InRange (get nat_cmp t.instances) t.made × IsSettled (get nat_cmp t.instances) t.settled };
 }
@@ -48,12 +49,13 @@ impl Model for Table {
 impl Table {
     /// No objects, and how many may live. It takes no memory.
     pub fn new(alloc: Global, limit: u32) -> Self
-        ensures { result ≡ record { objects = []; counts = []; limit = limit } }
+        ensures { result ≡ record { objects = []; counts = []; limit = limit; floating = [] } }
     {
         Table {
             instances: BTreeMap::new(alloc),
             made: 0,
             limit,
+            floating: Vec::new(alloc),
             settled: false,
             alloc,
         }
@@ -131,8 +133,8 @@ impl Table {
         instance.object.read(slot)
     }
 
-    /// Writes a property, and answers what it was. Who holds what is the caller's to count.
-    pub fn write(&mut self, id: ObjectId, slot: u16, value: Value) -> Result<Value, Arm>
+    // Writes a property, and answers what it was. Who holds what is the caller's to count.
+    pub(crate) fn replace(&mut self, id: ObjectId, slot: u16, value: Value) -> Result<Value, Arm>
         ensures changes { Gives value_view result (changed self.old.objects id.0 (with_value slot (value_view value))) self.new.objects }
         ensures beside { self.new ≡ with_objects self.old self.new.objects }
     {
@@ -174,6 +176,28 @@ impl Table {
             return Err(Halt::Stuck(Arm::Operand));
         };
         instance.object.add(slot)
+    }
+
+    /// Whether an object lives and may be held once more.
+    pub fn can_hold(&self, id: ObjectId) -> bool
+        ensures { result ≡ may_hold self.now id.0 }
+    {
+        let Some(instance) = self.instances.get(&id.0) else {
+            return false;
+        };
+        instance.mentions < u128::MAX
+    }
+
+    // Holds an object so many times less, or not at all any more.
+    pub(crate) fn release(&mut self, id: ObjectId, times: u128)
+        ensures counts { (o : ℕ) → count_of self.new.counts o ≡ count_of self.old.counts o - so_often times id.0 o }
+        ensures beside { self.new ≡ record self.old { counts = self.new.counts } }
+    {
+        self.settled = false;
+        let Some(instance) = self.instances.get_mut(&id.0) else {
+            return;
+        };
+        instance.mentions = instance.mentions.saturating_sub(times);
     }
 
     /// Holds an object once more.

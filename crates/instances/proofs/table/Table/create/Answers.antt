@@ -5,14 +5,14 @@ use Rattle.instances.proofs.table.Table.create.Goals as goal
 
 pub returns-then-len-self : goal.returns-then-len-self
 returns-then-len-self c = (
-  full c.self.inside.instances c.self.inside.made c.self.inside.limit _ c.self.invariant.0 c.self.view_is c.len.ensures.ordered 0
+  full c.self.inside.instances c.self.inside.made c.self.inside.limit c.self.inside.floating.items _ c.self.invariant.0 c.self.view_is c.len.ensures.ordered 0
       (omega (arith, c.len.ensures.len, c.if-len-self.true)),
   c.self.view_is,
 )
 
 pub returns-in_default : goal.returns-in_default
 returns-in_default c = (
-  at_last c.self.inside.instances c.self.inside.made c.self.inside.limit _ c.self.invariant.0 c.self.view_is c.len.ensures.ordered 0
+  at_last c.self.inside.instances c.self.inside.made c.self.inside.limit c.self.inside.floating.items _ c.self.invariant.0 c.self.view_is c.len.ensures.ordered 0
       (omega (arith, c.in_default.ensures)),
   c.self.view_is,
 )
@@ -20,6 +20,6 @@ returns-in_default c = (
 pub returns : goal.returns
 returns c =
     let y : Instance = record { object = c.args.object; mentions = 0 } in
-    stored c.self.inside.instances c.self.inside.made c.self.inside.limit _ c.self.invariant.0 c.self.view_is c.len.ensures.ordered
+    stored c.self.inside.instances c.self.inside.made c.self.inside.limit c.self.inside.floating.items _ c.self.invariant.0 c.self.view_is c.len.ensures.ordered
     c.insert.new.self c.in-Some.id y c.in-Ok.ensures.updates c.in-Some.ensures.1 (omega (arith, c.in-Some.ensures))
     (omega (arith, c.len.ensures.len, c.if-len-self.false)) refl

@@ -6,12 +6,12 @@ use Rattle.instances.proofs.table.Table.read.Goals as goal
 
 pub returns-in_default : goal.returns-in_default
 returns-in_default c =
-    absent_asked _ _ c.self.inside.limit _ c.self.invariant.0 c.self.view_is _ _
+    absent_asked _ _ c.self.inside.limit c.self.inside.floating.items _ c.self.invariant.0 c.self.view_is _ _
     (sym c.get.ensures.value ∙ ap option_copied c.in_default.is)
 
 pub returns : goal.returns
 returns c =
     rw
-    (present_asked _ _ c.self.inside.limit _ c.self.invariant.0 c.self.view_is _ _ (value_at c.args.slot)
+    (present_asked _ _ c.self.inside.limit c.self.inside.floating.items _ c.self.invariant.0 c.self.view_is _ _ (value_at c.args.slot)
     (sym c.get.ensures.value ∙ ap option_copied c.in-Some.is))
     c.read.ensures

@@ -1,0 +1,81 @@
+-- Objects that forget one.
+use Rattle.std.proofs.Common.{◌≡◌, ℕ, zero, suc, ◌+◌, ◌<◌, ◌≤◌, List, [], ◌∷◌, map, Bool, true, false, cond, Option, Some, None, is_some, IsSome, refl, sym, ap, ◌∙◌, arith}
+use Rattle.std.specs.Option.{option_map}
+use Rattle.ui_machine.specs.Seq.{read, listed}
+use Rattle.ui_machine.specs.Definition.{Definition}
+use Rattle.ui_machine.specs.Definition.Lookups.{specs_of}
+use Rattle.ui_machine.specs.Definition.Properties.{Spec}
+use Rattle.ui_machine.specs.Definition.Values.{Value}
+use Rattle.ui_machine.specs.State.Objects.{Object, Objects}
+use Rattle.ui_machine.specs.Rules.Disposal.{all_forget, forgets, names_object, nulled}
+use Rattle.ui_machine.proofs.Listed.{listed-same}
+use Rattle.ui_machine.specs.declared.ids.ObjectId.{ObjectId}
+use Rattle.instances.specs.Store.{Store, ids_of, with_objects}
+use Rattle.instances.specs.View.{Lookup, object_in, count_in, objects_of, counts_of, store_of, InRange, IsSettled}
+use Rattle.instances.specs.Weak.{Marks, Knows, masked, forgotten_value, forgetting}
+use Rattle.instances.specs.declared.instance.Instance.{Instance}
+
+-- each object changed, and each count as it was
+pub all_changed : (at new : Lookup) (made limit : ℕ) (floats : List ObjectId) (old : Store) (change : Option Object → Option Object)
+    → store_of at made limit floats ≡ old → ((q : ℕ) → object_in (new q) ≡ change (object_in (at q)))
+    → ((q : ℕ) → count_in (new q) ≡ count_in (at q)) → store_of new made limit floats ≡ with_objects old (map change old.objects)
+all_changed at new made limit floats old change is objects counts =
+    ap (λ (cs : List ℕ). record { objects = objects_of new made; counts = cs; limit = limit; floating = ids_of floats }) (listed-same (λ i. count_in (at (suc i))) (λ i. count_in (new (suc i))) made (λ i small. counts (suc i)))
+    ∙ ap (λ (os : Objects). record { objects = os; counts = counts_of at made; limit = limit; floating = ids_of floats }) (listed-same (λ i. change (object_in (at (suc i)))) (λ i. object_in (new (suc i))) made (λ i small. objects (suc i)) ∙ sym (mapped (λ i. object_in (at (suc i))) made))
+    ∙ ap (λ (s : Store). with_objects s (map change s.objects)) is
+  where
+    mapped : (f : ℕ → Option Object) (n : ℕ) → map change (listed f n) ≡ listed (λ i. change (f i)) n
+    mapped f zero = refl
+    mapped f (suc n) = ap (λ os. change (f 0) ∷ os) (mapped (λ i. f (suc i)) n)
+
+-- one instance that forgets
+abbrev pub forgotten_in : Marks → ℕ → Instance → Instance
+forgotten_in weak id x = record { object = forgetting weak id x.object; mentions = x.mentions }
+
+pub one_object : (weak : Marks) (id : ℕ) (x : Option Instance)
+    → object_in (option_map (forgotten_in weak id) x) ≡ option_map (forgetting weak id) (object_in x)
+one_object weak id None = refl
+one_object weak id (Some x) = refl
+
+pub one_count : (weak : Marks) (id : ℕ) (x : Option Instance) → count_in (option_map (forgotten_in weak id) x) ≡ count_in x
+one_count weak id None = refl
+one_count weak id (Some x) = refl
+
+was_there : (g : Instance → Instance) (o : Option Instance) → is_some (option_map g o) ≡ is_some o
+was_there g None = refl
+was_there g (Some x) = refl
+
+was_more : (g : Instance → Instance) (same : (x : Instance) → (g x).mentions ≡ x.mentions) (o : Option Instance) (y : Instance)
+    → ((x : Instance) → o ≡ Some x → 0 < x.mentions) → option_map g o ≡ Some y → 0 < y.mentions
+was_more g same None y all e = absurd (cc)
+was_more g same (Some x) y all e = let is : y ≡ g x = cc in let n : y.mentions ≡ x.mentions = ap (λ (z : Instance). z.mentions) is
+    ∙ same x in omega (arith, n, all x refl)
+
+-- a change of each instance that keeps its count
+pub still_known : (at new : Lookup) (made : ℕ) (settled : Bool) (g : Instance → Instance)
+    → ((x : Instance) → (g x).mentions ≡ x.mentions) → ((q : ℕ) → new q ≡ option_map g (at q)) → InRange at made
+    → IsSettled at settled → InRange new made × IsSettled new settled
+still_known at new made settled g same is range all =
+    (λ id some. range id (sym (ap is_some (is id) ∙ was_there g (at id)) ∙ some), λ s id y here. was_more g same (at id) y (all s id) (sym (is id) ∙ here))
+
+-- ** in the machine's words
+
+by_marks : (id : ℕ) (specs : List Spec) (vs : List Value)
+    → masked (forgotten_value id) (map (λ (s : Spec). s.weak) specs) vs
+    ≡ nulled (λ s v. cond s.weak (names_object id v) false) specs vs
+by_marks id [] vs = refl
+by_marks id (s ∷ specs) [] = refl
+by_marks id (s ∷ specs) (v ∷ vs) = ap (λ (ws : List Value). forgotten_value id s.weak v ∷ ws) (by_marks id specs vs)
+
+one_forgets : (d : Definition) (weak : Marks) (id : ℕ) → Knows d weak → (o : Object) → forgetting weak id o ≡ forgets d id o
+one_forgets d weak id knows o =
+    ap (λ (bs : List Bool). record o { values = masked (forgotten_value id) bs o.values }) (sym (knows o.class))
+    ∙ ap (λ (vs : List Value). record o { values = vs }) (by_marks id (specs_of d o.class) o.values)
+
+pub all_forgets : (d : Definition) (weak : Marks) (id : ℕ) → Knows d weak → (os : Objects)
+    → map (option_map (forgetting weak id)) os ≡ all_forget d id os
+all_forgets d weak id knows [] = refl
+all_forgets d weak id knows (None ∷ os) = ap (λ (xs : Objects). None ∷ xs) (all_forgets d weak id knows os)
+all_forgets d weak id knows (Some o ∷ os) =
+    ap (λ (x : Object). Some x ∷ map (option_map (forgetting weak id)) os) (one_forgets d weak id knows o)
+    ∙ ap (λ (xs : Objects). Some (forgets d id o) ∷ xs) (all_forgets d weak id knows os)

@@ -1,0 +1,23 @@
+use Rattle.std.proofs.Common.{◌≡◌, is_some, refl, sym, ap, ◌∙◌}
+use Rattle.std.specs.Option.{option_copied_mut}
+use Rattle.ui_machine.specs.Rules.Children.{with_child}
+use Rattle.instances.specs.Store.{with_objects}
+use Rattle.instances.specs.declared.instance.Instance.{Instance}
+use Rattle.instances.proofs.Shown.{lives}
+use Rattle.instances.proofs.Maps.{written_updates, written_beside}
+use Rattle.instances.proofs.table.Table.add_child.Goals as goal
+
+pub returns-clause-ok : goal.returns-clause-ok
+returns-clause-ok c =
+    let here = sym c.get_mut.ensures.value ∙ ap option_copied_mut c.in-Some.is in
+    let y : Instance = record { object = c.add_child.new.self; mentions = c.in-Some.instance.now.mentions } in
+    written_beside c.self.inside.instances (c.get_mut.follows.lender y) _ c.self.inside.limit c.self.inside.floating.items _ c.self.invariant.0 c.self.view_is _ _ y
+    here (c.get_mut.follows.holds y) refl
+    ∙ ap (with_objects c.args.self.now)
+    (written_updates c.self.inside.instances (c.get_mut.follows.lender y) _ c.self.inside.limit c.self.inside.floating.items _ c.self.invariant.0 c.self.view_is _ _ y
+    here (c.get_mut.follows.holds y) (with_child c.args.child.0) c.in_ok-add_child.ensures.ok)
+
+pub returns-clause-live : goal.returns-clause-live
+returns-clause-live c =
+    let here = sym c.get_mut.ensures.value ∙ ap option_copied_mut c.in-Some.is in
+    sym (lives _ _ c.self.inside.limit c.self.inside.floating.items _ c.self.invariant.0 c.self.view_is _) ∙ ap is_some here

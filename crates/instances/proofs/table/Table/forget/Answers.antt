@@ -1,0 +1,32 @@
+use Rattle.std.proofs.Common.{◌≡◌, ℕ, Option, [], map, refl, ap, rules, sym, ◌∙◌}
+use Rattle.std.specs.Option.{option_map}
+use Rattle.std.specs.Ordering.{nat_cmp}
+use Rattle.std.specs.BTreeMap.{get, is_at}
+use Rattle.std.proofs.lemmas.Map.Made.{map_same_pairs, lookup-map_values}
+use Rattle.instances.specs.Store.{with_objects}
+use Rattle.instances.specs.Weak.{forgetting}
+use Rattle.instances.specs.declared.instance.Instance.{Instance}
+use Rattle.instances.specs.View.{object_in, count_in}
+use Rattle.instances.proofs.Forgotten.{forgotten_in, all_changed, one_object, one_count, still_known, all_forgets}
+use Rattle.instances.proofs.table.Table.forget.Goals as goal
+
+pub returns : goal.returns
+returns c d knows =
+    let g : Instance → Instance = forgotten_in c.args.weak.now c.args.id.0 in
+    let e = map_same_pairs _ g _ (λ k v b w f' t. search rules) _ _ c.retain.ensures.filtered in
+    let at : (q : ℕ) → get nat_cmp c.retain.new.self q ≡ option_map g (get nat_cmp c.self.inside.instances q) =
+    λ q. rw e (lookup-map_values g (is_at (nat_cmp q)) c.self.inside.instances.entries) in
+    all_changed (get nat_cmp c.self.inside.instances) (get nat_cmp c.retain.new.self) c.self.inside.made c.self.inside.limit
+    c.self.inside.floating.items c.args.self.now (option_map (forgetting c.args.weak.now c.args.id.0)) c.self.view_is
+    (λ q. ap object_in (at q) ∙ one_object c.args.weak.now c.args.id.0 (get nat_cmp c.self.inside.instances q))
+    (λ q. ap count_in (at q) ∙ one_count c.args.weak.now c.args.id.0 (get nat_cmp c.self.inside.instances q))
+    ∙ ap (with_objects c.args.self.now) (all_forgets d c.args.weak.now c.args.id.0 knows c.args.self.now.objects)
+
+pub invariant_of-self : goal.invariant_of-self
+invariant_of-self c =
+    let g : Instance → Instance = forgotten_in c.args.weak.now c.args.id.0 in
+    let e = map_same_pairs _ g _ (λ k v b w f' t. search rules) _ _ c.retain.ensures.filtered in
+    let at : (q : ℕ) → get nat_cmp c.retain.new.self q ≡ option_map g (get nat_cmp c.self.inside.instances q) =
+    λ q. rw e (lookup-map_values g (is_at (nat_cmp q)) c.self.inside.instances.entries) in
+    still_known (get nat_cmp c.self.inside.instances) (get nat_cmp c.retain.new.self) c.self.inside.made c.self.inside.settled g
+    (λ x. refl) at c.self.invariant.0 c.self.invariant.1

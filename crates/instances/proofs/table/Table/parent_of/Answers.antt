@@ -1,0 +1,18 @@
+use Rattle.std.proofs.Common.{◌≡◌, Option, sym, ap, ◌∙◌}
+use Rattle.std.specs.Option.{option_copied}
+use Rattle.ui_machine.specs.State.Objects.{Object}
+use Rattle.instances.specs.View.{object_in}
+use Rattle.instances.specs.Family.{parent_in}
+use Rattle.instances.proofs.Shown.{found_in}
+use Rattle.instances.proofs.table.Table.parent_of.Goals as goal
+
+pub returns-in_default : goal.returns-in_default
+returns-in_default c =
+    let none = sym c.get.ensures.value ∙ ap option_copied c.in_default.is in
+    ap parent_in (sym (found_in _ _ c.self.inside.limit c.self.inside.floating.items _ c.self.invariant.0 c.self.view_is _ ∙ ap object_in none))
+
+pub returns : goal.returns
+returns c =
+    let here = sym c.get.ensures.value ∙ ap option_copied c.in-Some.is in
+    c.parent.ensures
+    ∙ ap parent_in (sym (found_in _ _ c.self.inside.limit c.self.inside.floating.items _ c.self.invariant.0 c.self.view_is _ ∙ ap object_in here))

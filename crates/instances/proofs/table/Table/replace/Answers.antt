@@ -1,0 +1,23 @@
+use Rattle.std.proofs.Common.{refl, sym, ap, ◌∙◌}
+use Rattle.std.specs.Option.{option_copied_mut}
+use Rattle.instances.specs.declared.instance.Instance.{Instance}
+use Rattle.instances.proofs.Shown.{absent_changed}
+use Rattle.instances.proofs.Maps.{written_changes, written_beside}
+use Rattle.instances.proofs.table.Table.replace.Goals as goal
+
+pub returns-in_default-clause-changes : goal.returns-in_default-clause-changes
+returns-in_default-clause-changes c =
+    absent_changed _ _ c.self.inside.limit c.self.inside.floating.items _ c.self.invariant.0 c.self.view_is _ _
+    (sym c.get_mut.ensures.value ∙ ap option_copied_mut c.in_default.is)
+
+pub returns-clause-changes : goal.returns-clause-changes
+returns-clause-changes c =
+    let y : Instance = record { object = c.write.new.self; mentions = c.in-Some.instance.now.mentions } in
+    written_changes c.self.inside.instances (c.get_mut.follows.lender y) _ c.self.inside.limit c.self.inside.floating.items _ c.self.invariant.0 c.self.view_is _ _ y
+    (sym c.get_mut.ensures.value ∙ ap option_copied_mut c.in-Some.is) (c.get_mut.follows.holds y) _ _ c.write.result c.write.ensures
+
+pub returns-clause-beside : goal.returns-clause-beside
+returns-clause-beside c =
+    let y : Instance = record { object = c.write.new.self; mentions = c.in-Some.instance.now.mentions } in
+    written_beside c.self.inside.instances (c.get_mut.follows.lender y) _ c.self.inside.limit c.self.inside.floating.items _ c.self.invariant.0 c.self.view_is _ _ y
+    (sym c.get_mut.ensures.value ∙ ap option_copied_mut c.in-Some.is) (c.get_mut.follows.holds y) refl

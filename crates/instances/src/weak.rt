@@ -1,0 +1,68 @@
+//! Which properties are weak.
+
+ghost use Rattle.std.specs.Prelude.{◌≡◌, ◌++◌, ◌∷◌, [], OnOk, OnErr};
+ghost use Rattle.ui_machine.specs.Seq.{read};
+ghost use Rattle.instances.specs.Weak.{is_strong};
+
+use std::alloc::{AllocError, Global};
+use std::marker::Model;
+use type_tree::TypeId;
+
+/// For each class, which of its slots are weak: such a property does not hold its object.
+#[derive(Drop)]
+pub struct WeakSlots {
+    classes: Vec<Vec<bool>>,
+}
+
+impl Model for WeakSlots {
+    ghost use Rattle.std.specs.Prelude.{map};
+    ghost use Rattle.instances.specs.Weak.{Marks};
+
+    ghost Value = { Marks };
+
+    ghost view = { λ w. map (λ v. v.items) w.classes.items };
+}
+
+impl WeakSlots {
+    /// No class yet.
+    pub fn new(alloc: Global) -> Self
+        ensures { result ≡ [] }
+    {
+        WeakSlots {
+            classes: Vec::new(alloc),
+        }
+    }
+
+    /// The next class has these slots.
+    pub fn add(&mut self, slots: Vec<bool>) -> Result<(), AllocError>
+        ensures ok { OnOk result (self.new ≡ self.old ++ slots.items ∷ []) }
+        ensures err { OnErr result (self.new ≡ self.old) }
+    {
+        self.classes.push(slots)?;
+        Ok(())
+    }
+
+    /// Whether a slot of a class is there and is not weak.
+    pub fn is_strong(&self, class: TypeId, slot: u16) -> bool
+        ensures { result ≡ is_strong self.now class slot }
+    {
+        let slots = self.of(class);
+        let slot = usize::from(slot);
+        if slot >= slots.len() {
+            return false;
+        }
+        !slots[slot]
+    }
+
+    /// The slots of a class, none if it is not there.
+    pub fn of(&self, class: TypeId) -> &[bool]
+        ensures { result.now ≡ read [] self.now class }
+    {
+        let class = class.index();
+        if class < self.classes.len() {
+            self.classes[class].as_slice()
+        } else {
+            &[]
+        }
+    }
+}
