@@ -9,6 +9,7 @@ use Rattle.param_specs.specs.declared.error.SpecError.{SpecError}
 use Rattle.param_specs.specs.declared.error.SpecError.TheVariants.{OutOfMemory, Refused}
 use Rattle.param_specs.specs.Table.{own_of, specs_of, install_fault, canonical_spec, Installs}
 use Rattle.builder_defs.specs.Refusals.{not_installed}
+use Rattle.builder_defs.specs.Denoted.Entries.{TypeNames}
 use Rattle.builder_defs.specs.Denoted.Properties.{specs_by, inherited_of, add_own, installed_or, installed, spec_at, property_at}
 use Rattle.ui_machine.specs.Outcome.{◌>>=◌}
 use Rattle.serde_json.specs.Data.{Data}
@@ -40,8 +41,8 @@ abbrev pub inherited_in : List GType → List (List Spec) → ℕ → List Spec
 inherited_in types table t = inherited_of (specs_of types table) (parent_of types t)
 
 -- reading a property beside those of a table
-pub property_at_is : (path : List ℕ) (types : List GType) (t : ℕ) (table : List (List Spec)) (d : Data)
-    → property_at path types t (own_of table) d ≡ (spec_at path types (inherited_in types table t) (specs_of types table t) d >>= λ spec. installed path types t (own_of table) spec)
+pub property_at_is : (path : List ℕ) (types : List GType) (names : TypeNames) (t : ℕ) (table : List (List Spec)) (d : Data)
+    → property_at path types names t (own_of table) d ≡ (spec_at path types names (inherited_in types table t) (specs_of types table t) d >>= λ spec. installed path types t (own_of table) spec)
 unfolding property_at
-property_at_is path types t table d =
-    ap (λ (specs : ℕ → List Spec). spec_at path types (inherited_of specs (parent_of types t)) (specs t) d >>= λ spec. installed path types t (own_of table) spec) (fun_ext (λ u. sym (specs_of-is types table u)))
+property_at_is path types names t table d =
+    ap (λ (specs : ℕ → List Spec). spec_at path types names (inherited_of specs (parent_of types t)) (specs t) d >>= λ spec. installed path types t (own_of table) spec) (fun_ext (λ u. sym (specs_of-is types table u)))

@@ -23,7 +23,7 @@ kept (x ∷ xs) g zero h = refl
 kept (x ∷ xs) g (suc t) h = kept xs g t (omega arith)
 
 -- a type that is no class stands among the types
-kept_but_class : (types : List GType) (g : GType) (t : ℕ) (s : sorts.Sort) → sort_of types t ≡ s → (s ≡ sorts.class → ⊥)
+pub kept_but_class : (types : List GType) (g : GType) (t : ℕ) (s : sorts.Sort) → sort_of types t ≡ s → (s ≡ sorts.class → ⊥)
     → read no_type (types ++ g ∷ []) t ≡ read no_type types t
 kept_but_class types g t s is other = elim (cases_lt t (length types)) [
   | inl known ↦ kept types g t known
@@ -31,13 +31,13 @@ kept_but_class types g t s is other = elim (cases_lt t (length types)) [
 ]
 
 -- the type that a plain kind names is the same among these types and those
-abbrev IsKept : List GType → List GType → Kind → Type 0
+abbrev pub IsKept : List GType → List GType → Kind → Type 0
 IsKept types all kinds.bool = Unit {0}
 IsKept types all (kinds.whole k) = Unit {0}
 IsKept types all kinds.text = Unit {0}
 IsKept types all (kinds.enum t) = read no_type all t ≡ read no_type types t
 IsKept types all (kinds.flags t) = read no_type all t ≡ read no_type types t
-IsKept types all (kinds.object t) = ⊥
+IsKept types all (kinds.object t) = Unit {0}
 
 plain_kept : (types : List GType) (g : GType) (k : Kind) (s : Spec) → IsPlainKind types k s → IsKept types (types ++ g ∷ []) k
 plain_kept types g kinds.bool s p = tt
@@ -45,7 +45,7 @@ plain_kept types g (kinds.whole k) s p = tt
 plain_kept types g kinds.text s p = tt
 plain_kept types g (kinds.enum t) s p = kept_but_class types g t sorts.enum p (λ e. cc)
 plain_kept types g (kinds.flags t) s p = kept_but_class types g t sorts.flags p (λ e. cc)
-plain_kept types g (kinds.object t) s p = absurd p
+plain_kept types g (kinds.object t) s p = tt
 
 kind_later : (types all : List GType) (k : Kind) (s : Spec) → IsKept types all k → IsPlainKind types k s → IsPlainKind all k s
 kind_later types all kinds.bool s same p = tt
@@ -53,7 +53,7 @@ kind_later types all (kinds.whole k) s same p = p
 kind_later types all kinds.text s same p = tt
 kind_later types all (kinds.enum t) s same p = ap (λ (x : GType). x.sort) same ∙ p
 kind_later types all (kinds.flags t) s same p = ap (λ (x : GType). x.sort) same ∙ p
-kind_later types all (kinds.object t) s same p = absurd p
+kind_later types all (kinds.object t) s same p = tt
 
 -- whether a value is valid by what it is of, by the members of the kind's type and by those of the value's
 module _ (s : Spec) (n : ℤ) where
@@ -82,10 +82,15 @@ module _ (s : Spec) (bits : ℕ) where
       rw other refl
   flags_same false few t u e types all same = refl
 
-abbrev valid_as : List GType → Kind → Value → Spec → Bool
+-- null stays null, whether or not it is of the kind
+null_valid : (b : Bool) → same_value (cond b (values.object None) (values.object None)) (values.object None) ≡ true
+null_valid true = refl
+null_valid false = refl
+
+abbrev pub valid_as : List GType → Kind → Value → Spec → Bool
 valid_as types kind v s = kind_fits (λ id. None) types v kind && same_value (clamp (λ id. None) types s v) v
 
-valid_later : (types all : List GType) (kind : Kind) (v : Value) (s : Spec) → IsKept types all kind
+pub valid_later : (types all : List GType) (kind : Kind) (v : Value) (s : Spec) → IsKept types all kind
     → valid_as types kind v s ≡ valid_as all kind v s
 valid_later types all kinds.bool (values.bool b) s same = refl
 valid_later types all kinds.bool (values.whole w n) s same = refl
@@ -124,13 +129,19 @@ valid_later types all (kinds.flags u) (values.flags t bits) s same =
     flags_same s bits (nat_eq t u) (nat_lt bits (2 ^ 32)) t u refl types all (ap (λ (x : GType). x.members) same)
 valid_later types all (kinds.flags u) (values.object None) s same = refl
 valid_later types all (kinds.flags u) (values.object (Some o)) s same = refl
-valid_later types all (kinds.object u) v s same = absurd same
+valid_later types all (kinds.object u) (values.bool b) s same = refl
+valid_later types all (kinds.object u) (values.whole w n) s same = refl
+valid_later types all (kinds.object u) (values.text t) s same = refl
+valid_later types all (kinds.object u) (values.enum t n) s same = refl
+valid_later types all (kinds.object u) (values.flags t bits) s same = refl
+valid_later types all (kinds.object u) (values.object None) s same =
+    null_valid (kind_fits (λ id. None) types (values.object None) s.kind) ∙ sym (null_valid (kind_fits (λ id. None) all (values.object None) s.kind))
+valid_later types all (kinds.object u) (values.object (Some o)) s same = refl
 
 pub plain_later : (types : List GType) (g : GType) (s : Spec) → IsPlain types s → IsPlain (types ++ g ∷ []) s
 plain_later types g s p =
     let same = plain_kept types g s.kind s p.kind in
     record {
       kind = kind_later types (types ++ g ∷ []) s.kind s same p.kind;
-      strong = p.strong;
       default = sym (valid_later types (types ++ g ∷ []) s.kind s.default s same) ∙ p.default;
     }

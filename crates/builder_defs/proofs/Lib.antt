@@ -1,3 +1,4 @@
+pub mod Numbered
 pub mod Tables
 pub mod Whole
 pub mod LaterTypes
@@ -15,3 +16,6 @@ pub mod Values
 pub mod Printing
 pub mod PlainKinds
 pub mod Sections
+pub mod Finding
+pub mod OwnAhead
+pub mod Implementing

@@ -6,12 +6,17 @@ use Rattle.serde_json.specs.declared.value.Value.{Value}
 use Rattle.serde_json.specs.View.{items_view}
 use Rattle.ui_machine.specs.Outcome.{◌>>=◌}
 use Rattle.ui_machine.specs.Definition.Types.{GType, predeclared}
+use Rattle.ui_machine.specs.Definition.Properties.{Spec}
 use Rattle.builder_defs.specs.declared.fault.ReadError.{ReadError}
 use Rattle.builder_defs.specs.Refusals.{Refusal, Fails, shape, or_refused}
-use Rattle.builder_defs.specs.Document.{under, nothing_at, entries_at, each, at_entry}
+use Rattle.builder_defs.specs.Document.{under, nothing_at, listed_ahead, entries_at, each, at_entry}
 use Rattle.builder_defs.specs.Denoted.Enums.{three_in, some_items, some_entries_at, enum_at, flags_at}
-use Rattle.builder_defs.specs.Denoted.Classes.{bare_draft, class_at}
-use Rattle.builder_defs.specs.Denoted.{unset_before_classes, enums_in, flags_in, classes_in}
+use Rattle.builder_defs.specs.Denoted.Entries.{TypeNames}
+use Rattle.builder_defs.specs.Denoted.Properties.{property_at}
+use Rattle.builder_defs.specs.Denoted.Drafts.{Draft, bare_draft, properties_at}
+use Rattle.builder_defs.specs.Denoted.Interfaces.{interface_at}
+use Rattle.builder_defs.specs.Denoted.Classes.{class_at}
+use Rattle.builder_defs.specs.Denoted.{unset_before_classes, enums_in, flags_in, interfaces_in, classes_in}
 use Rattle.builder_defs.proofs.Chains.{fails_as}
 
 pub not_three : (vs : List Value) → (length vs ≡ 3 → ⊥) → None ≡ three_in (items_view vs)
@@ -39,10 +44,25 @@ unfolding flags_in
 flags_fail types d list e read fails =
     fails_as e _ _ (ap (λ (r : Result Items Refusal). r >>= λ list. each (at_entry (λ path. flags_at path (length types)) (codes "/flags")) 0 types list) read) fails
 
-pub classes_fail : (types : List GType) (d : Data) (list : Items) (e : ReadError) → nothing_at [] d unset_before_classes ≡ Ok tt → entries_at [] d (codes "classes") ≡ Ok list
-    → Fails e (each (at_entry (λ path. class_at path (length types) list) (codes "/classes")) 0 (bare_draft types) list) → Fails e (classes_in types d)
-unfolding classes_in
-classes_fail types d list e unset read fails =
+pub interfaces_fail : (names : TypeNames) (types : List GType) (d : Data) (list : Items) (e : ReadError) → entries_at [] d (codes "interfaces") ≡ Ok list
+    → Fails e (each (at_entry (λ path. interface_at path (length types) list (listed_ahead (codes "classes") d) names) (codes "/interfaces")) 0 (bare_draft types) list) → Fails e (interfaces_in names types d)
+unfolding interfaces_in
+interfaces_fail names types d list e read fails =
     fails_as e _ _
-    (ap (λ (r : Result (Unit {0}) Refusal). r >>= λ u. entries_at [] d (codes "classes") >>= λ list. each (at_entry (λ path. class_at path (length types) list) (codes "/classes")) 0 (bare_draft types) list) unset
-    ∙ ap (λ (r : Result Items Refusal). r >>= λ list. each (at_entry (λ path. class_at path (length types) list) (codes "/classes")) 0 (bare_draft types) list) read) fails
+    (ap (λ (r : Result Items Refusal). r >>= λ list. each (at_entry (λ path. interface_at path (length types) list (listed_ahead (codes "classes") d) names) (codes "/interfaces")) 0 (bare_draft types) list) read) fails
+
+pub classes_fail : (names : TypeNames) (draft : Draft) (d : Data) (list : Items) (e : ReadError) → nothing_at [] d unset_before_classes ≡ Ok tt → entries_at [] d (codes "classes") ≡ Ok list
+    → Fails e (each (at_entry (λ path. class_at path (length draft.types) list names) (codes "/classes")) 0 draft list) → Fails e (classes_in names draft d)
+unfolding classes_in
+classes_fail names draft d list e unset read fails =
+    fails_as e _ _
+    (ap (λ (r : Result (Unit {0}) Refusal). r >>= λ u. entries_at [] d (codes "classes") >>= λ list. each (at_entry (λ path. class_at path (length draft.types) list names) (codes "/classes")) 0 draft list) unset
+    ∙ ap (λ (r : Result Items Refusal). r >>= λ list. each (at_entry (λ path. class_at path (length draft.types) list names) (codes "/classes")) 0 draft list) read) fails
+
+pub properties_read_fail : (path : List ℕ) (types : List GType) (names : TypeNames) (t : ℕ) (own : ℕ → List Spec) (d : Data) (list : Items) (e : ReadError)
+    → entries_at path d (codes "properties") ≡ Ok list
+    → Fails e (each (at_entry (λ entry. property_at entry types names t) (under path (codes "properties"))) 0 own list)
+    → Fails e (properties_at path types names t own d)
+unfolding properties_at
+properties_read_fail path types names t own d list e read fails =
+    fails_as e _ _ (ap (λ (r : Result Items Refusal). r >>= λ list. each (at_entry (λ entry. property_at entry types names t) (under path (codes "properties"))) 0 own list) read) fails

@@ -1,5 +1,5 @@
 -- All properties of a definition that was read are plain.
-use Rattle.std.proofs.Common.{◌≡◌, ◌≤◌, ◌<◌, ℕ, codes, zero, suc, ◌+◌, ℤ, ◌≤ℤ◌, int_lt, Bool, true, false, cond, option_map, not, ◌&&◌, nat_eq, nat_le, arith, map, if◌then◌else◌, List, [], ◌∷◌, ◌++◌, length, reverse, slice_get, Option, Some, None, Result, Ok, Err, refl, sym, subst}
+use Rattle.std.proofs.Common.{◌≡◌, ◌≤◌, ◌<◌, ℕ, codes, zero, suc, ◌+◌, ℤ, ◌≤ℤ◌, int_lt, Bool, true, false, cond, option_map, not, ◌&&◌, nat_eq, nat_le, arith, map, if◌then◌else◌, List, [], ◌∷◌, ◌++◌, length, reverse, slice_get, Option, Some, None, Result, Ok, Err, refl, sym, ◌∙◌, subst}
 use Rattle.std.specs.List.{flat_map}
 use Rattle.std.proofs.lemmas.List.{length_push, length-map}
 use Rattle.std.proofs.lemmas.Bool.Decides.{nat_tests}
@@ -7,9 +7,11 @@ use Rattle.ui_machine.specs.Definition.Places.{Place}
 use Rattle.serde_json.specs.Data.{Data, Items, no_items, item}
 use Rattle.ui_machine.specs.Definition.Types.{GType}
 use Rattle.ui_machine.specs.Definition.Types as sorts
-use Rattle.type_tree.specs.Adding.{find_type, sort_of, of_sort, class_fault, new_class}
-use Rattle.type_tree.specs.declared.error.TypeFault.{TypeFault}
+use Rattle.type_tree.specs.Adding.{find_type, sort_of, of_sort}
+use Rattle.type_tree.specs.Entry.{class_type, interface_type}
 use Rattle.ui_machine.specs.Definition.Kinds.{Kind}
+use Rattle.ui_machine.specs.Definition.Values.{Value}
+use Rattle.ui_machine.specs.Definition.Values as values
 use Rattle.ui_machine.specs.Definition.Properties.{Spec}
 use Rattle.std.specs.Str.{bytes_eq}
 use Rattle.ui_machine.specs.Definition.Kinds as kinds
@@ -28,17 +30,22 @@ use Rattle.builder_defs.specs.Meaning.{Entry, plain_object, IsPlain, IsPlainKind
 use Rattle.builder_defs.specs.Refusals.{Refusal, shape, unknown, not_installed, limit, or_refused, or_value_fault}
 use Rattle.builder_defs.specs.declared.fault.DefinitionLimit.TheVariants.{Places, Objects}
 use Rattle.ui_machine.specs.Outcome.{◌>>=◌}
-use Rattle.builder_defs.specs.Document.{each, at_entry, under, nth, members_at, text_at, truth_at, entries_at, absent_at, nothing_at, only_at}
-use Rattle.builder_defs.specs.Denoted.Kinds.{is_enum, is_flags, enum_named, flags_named, parted, kind_by, kind_at, lowest, highest}
+use Rattle.builder_defs.specs.Document.{each, at_entry, under, nth, members_at, text_at, truth_at, entries_at, listed_ahead, absent_at, nothing_at, only_at}
+use Rattle.builder_defs.specs.Denoted.Entries.{TypeNames, type_names, ObjectNames, object_names}
+use Rattle.builder_defs.specs.Denoted.Kinds.{is_enum, is_flags, enum_named, flags_named, parted, object_type, kind_by, kind_at, lowest, highest}
 use Rattle.builder_defs.specs.Denoted.PropertyFlags.{flags_at}
 use Rattle.builder_defs.specs.Denoted.Ranges.{Range, whole_range, end_given, end_or, check_filled, range_at}
 use Rattle.builder_defs.specs.Denoted.Defaults.{default_at, check_default, check_unranged}
-use Rattle.builder_defs.specs.Denoted.Properties.{specs_by, inherited_by, property_spec, room_for_property, new_property, keys_of_property, valued_at, spec_at, add_own, installed_or, installed, property_at}
+use Rattle.builder_defs.specs.Denoted.Properties.{specs_by, inherited_by, property_spec, room_for_property, new_property, weak_at, keys_of_property, valued_at, spec_at, add_own, installed_or, installed, property_at}
 use Rattle.builder_defs.specs.Denoted.Types.{room_for_type, new_type_name}
-use Rattle.builder_defs.specs.Denoted.Classes.{Draft, draft_of, bare_draft, added_or, parent_at, parent_ahead, check_depth, keys_of_class, declared_at, answering_at, properties_at, class_at}
+use Rattle.builder_defs.specs.Denoted.Drafts.{Draft, draft_of, bare_draft, properties_at, type_at}
+use Rattle.builder_defs.specs.Denoted.Implements.{implements_at}
+use Rattle.builder_defs.specs.Denoted.Interfaces.{requires_at, interface_type_at, keys_of_interface, interface_at}
+use Rattle.builder_defs.specs.Denoted.Classes.{parent_at, parent_ahead, check_depth, keys_of_class, declared_at, answering_at, class_at}
+use Rattle.builder_defs.specs.Denoted.Classes as classes
 use Rattle.builder_defs.specs.Denoted.Objects.{room_for_object, new_id, class_at_key, keys_of_object, place_at, object_at}
 use Rattle.builder_defs.specs.Denoted.Given.{givens_at}
-use Rattle.builder_defs.specs.Denoted.{unset_before_classes, unset_before_objects, enums_in, flags_in, classes_in, draft_in, objects_in}
+use Rattle.builder_defs.specs.Denoted.{unset_before_classes, unset_before_objects, enums_in, flags_in, interfaces_in, classes_in, draft_in, objects_in}
 use Rattle.builder_defs.proofs.Installing.{specs_of-is}
 use Rattle.builder_defs.proofs.LaterTypes.{plain_later}
 
@@ -87,7 +94,7 @@ IsOpen types (kinds.whole k) = Unit {0}
 IsOpen types kinds.text = Unit {0}
 IsOpen types (kinds.enum t) = sort_of types t ≡ sorts.enum
 IsOpen types (kinds.flags t) = sort_of types t ≡ sorts.flags
-IsOpen types (kinds.object t) = ⊥
+IsOpen types (kinds.object t) = Unit {0}
 
 named_open : (types : List GType) (r : Refusal) (u v w x y z : Bool)
     → OnRead (IsOpen types) (or_refused r
@@ -121,23 +128,30 @@ of_flags types r (Some t) = by (sort_of types t) refl
     by sorts.enum e = tt
     by sorts.flags e = e
 
-typed_open : (path : List ℕ) (types : List GType) (name : List ℕ) (e f : Bool)
-    → OnRead (IsOpen types) (if e then or_refused (unknown path name) (option_map kinds.enum (enum_named types name)) else
-    (if f then or_refused (unknown path name) (option_map kinds.flags (flags_named types name)) else Err (shape path)))
-typed_open path types name true f = of_enum types (unknown path name) (find_type types name)
-typed_open path types name false true = of_flags types (unknown path name) (find_type types name)
-typed_open path types name false false = tt
+of_object : (types : List GType) (r : Refusal) (found : Option ℕ) → OnRead (IsOpen types) (or_refused r (option_map kinds.object found))
+of_object types r None = tt
+of_object types r (Some t) = tt
 
-word_open : (path : List ℕ) (types : List GType) (word : List ℕ) (parts : Option (List ℕ × List ℕ)) → OnRead (IsOpen types) (kind_by path types word parts)
-word_open path types word None =
+typed_open : (path : List ℕ) (types : List GType) (names : TypeNames) (name : List ℕ) (e f o : Bool)
+    → OnRead (IsOpen types) (if e then or_refused (unknown path name) (option_map kinds.enum (enum_named types name)) else
+    (if f then or_refused (unknown path name) (option_map kinds.flags (flags_named types name)) else
+    (if o then or_refused (unknown path name) (option_map kinds.object (object_type types names name)) else Err (shape path))))
+typed_open path types names name true f o = of_enum types (unknown path name) (find_type types name)
+typed_open path types names name false true o = of_flags types (unknown path name) (find_type types name)
+typed_open path types names name false false true = of_object types (unknown path name) (object_type types names name)
+typed_open path types names name false false false = tt
+
+word_open : (path : List ℕ) (types : List GType) (names : TypeNames) (word : List ℕ) (parts : Option (List ℕ × List ℕ)) → OnRead (IsOpen types) (kind_by path types names word parts)
+word_open path types names word None =
     named_open types _ (bytes_eq word (codes "bool")) (bytes_eq word (codes "int")) (bytes_eq word (codes "uint"))
     (bytes_eq word (codes "int64")) (bytes_eq word (codes "uint64")) (bytes_eq word (codes "text"))
-word_open path types word (Some parts) = typed_open path types parts.1 (bytes_eq parts.0 (codes "enum")) (bytes_eq parts.0 (codes "flags"))
+word_open path types names word (Some parts) =
+    typed_open path types names parts.1 (bytes_eq parts.0 (codes "enum")) (bytes_eq parts.0 (codes "flags")) (bytes_eq parts.0 (codes "object"))
 
-kind_open : (path : List ℕ) (types : List GType) (d : Data) → OnRead (IsOpen types) (kind_at path types d)
-kind_open path types d =
-    on_bind (λ x. Unit {0}) (IsOpen types) (text_at path d (codes "kind")) (λ word. kind_by (under path (codes "kind")) types word (parted word)) (on_all _)
-    λ word u. word_open (under path (codes "kind")) types word (parted word)
+pub kind_open : (path : List ℕ) (types : List GType) (names : TypeNames) (d : Data) → OnRead (IsOpen types) (kind_at path types names d)
+kind_open path types names d =
+    on_bind (λ x. Unit {0}) (IsOpen types) (text_at path d (codes "kind")) (λ word. kind_by (under path (codes "kind")) types names word (parted word)) (on_all _)
+    λ word u. word_open (under path (codes "kind")) types names word (parted word)
 
 -- ** ranges
 
@@ -189,12 +203,12 @@ range_is path kind d =
 
 -- ** defaults
 
-default_plain : (path : List ℕ) (types : List GType) (s : Spec) → IsPlainKind types s.kind s → s.weak ≡ false
+default_plain : (path : List ℕ) (types : List GType) (s : Spec) → IsPlainKind types s.kind s
     → OnRead (λ u. IsPlain types s) (check_default path types s)
-default_plain path types s kind strong = by (is_valid (λ id. None) types s s.default) refl
+default_plain path types s kind = by (is_valid (λ id. None) types s s.default) refl
   where
     by : (b : Bool) → is_valid (λ id. None) types s s.default ≡ b → OnRead {A = Unit {0}} (λ u. IsPlain types s) (if b then Ok tt else Err (not_installed path DefaultInvalid))
-    by true is = record { kind = kind; strong = strong; default = is }
+    by true is = record { kind = kind; default = is }
     by false is = tt
 
 whole_within : (types : List GType) (kind : Kind) (s : Spec) → IsOpen types kind → IsOf kind s.low → IsOf kind s.high → IsPlainKind types kind s
@@ -203,7 +217,7 @@ whole_within types (kinds.whole k) s known low high = (low.0, low.1, high.0, hig
 whole_within types kinds.text s known low high = tt
 whole_within types (kinds.enum t) s known low high = known
 whole_within types (kinds.flags t) s known low high = known
-whole_within types (kinds.object t) s known low high = absurd known
+whole_within types (kinds.object t) s known low high = tt
 
 valued_plain : (path : List ℕ) (types : List GType) (name : List ℕ) (kind : Kind) (flags : ℕ) (d : Data) → IsOpen types kind → OnRead (IsPlain types) (valued_at path types name kind flags d)
 unfolding valued_at
@@ -213,21 +227,42 @@ valued_plain path types name kind flags d known =
     (check_unranged (under path (codes "default")) types (property_spec name kind flags default (whole_range kind))) _ (on_all _) λ unranged u.
     on_bind (IsRangeOf kind) (IsPlain types) (range_at path kind d) _ (range_is path kind d) λ range within.
     on_bind (λ u. IsPlain types (property_spec name kind flags default range)) (IsPlain types) (check_default (under path (codes "default")) types (property_spec name kind flags default range)) _
-    (default_plain (under path (codes "default")) types (property_spec name kind flags default range) (whole_within types kind (property_spec name kind flags default range) known within.0 within.1) refl)
+    (default_plain (under path (codes "default")) types (property_spec name kind flags default range) (whole_within types kind (property_spec name kind flags default range) known within.0 within.1))
     λ valid plain. plain
 
-spec_plain : (path : List ℕ) (types : List GType) (inherited specs : List Spec) (d : Data) → OnRead (IsPlain types) (spec_at path types inherited specs d)
+-- a property that is weak or not is as plain as another
+weak_plain_kind : (types : List GType) (k : Kind) (s : Spec) (weak : Bool) → IsPlainKind types k s → IsPlainKind types k (record s { weak = weak })
+weak_plain_kind types kinds.bool s weak p = p
+weak_plain_kind types (kinds.whole k) s weak p = p
+weak_plain_kind types kinds.text s weak p = p
+weak_plain_kind types (kinds.enum t) s weak p = p
+weak_plain_kind types (kinds.flags t) s weak p = p
+weak_plain_kind types (kinds.object t) s weak p = p
+
+weak_valid : (types : List GType) (s : Spec) (weak : Bool) (v : Value) → is_valid (λ id. None) types (record s { weak = weak }) v ≡ is_valid (λ id. None) types s v
+weak_valid types s weak (values.bool b) = refl
+weak_valid types s weak (values.whole k n) = refl
+weak_valid types s weak (values.text t) = refl
+weak_valid types s weak (values.enum t n) = refl
+weak_valid types s weak (values.flags t bits) = refl
+weak_valid types s weak (values.object o) = refl
+
+weak_plain : (types : List GType) (s : Spec) (weak : Bool) → IsPlain types s → IsPlain types (record s { weak = weak })
+weak_plain types s weak p =
+    record { kind = weak_plain_kind types s.kind s weak p.kind; default = weak_valid types s weak s.default ∙ p.default }
+
+spec_plain : (path : List ℕ) (types : List GType) (names : TypeNames) (inherited specs : List Spec) (d : Data) → OnRead (IsPlain types) (spec_at path types names inherited specs d)
 unfolding spec_at
-spec_plain path types inherited specs d =
+spec_plain path types names inherited specs d =
     on_bind (λ x. Unit {0}) (IsPlain types) (members_at path d) _ (on_all _) λ ms u.
     on_bind (λ x. Unit {0}) (IsPlain types) (room_for_property specs) _ (on_all _) λ room u.
     on_bind (λ x. Unit {0}) (IsPlain types) (text_at path d (codes "name")) _ (on_all _) λ name u.
     on_bind (λ x. Unit {0}) (IsPlain types) (new_property (under path (codes "name")) inherited specs name) _ (on_all _) λ new u.
-    on_bind (IsOpen types) (IsPlain types) (kind_at path types d) _ (kind_open path types d) λ kind known.
+    on_bind (IsOpen types) (IsPlain types) (kind_at path types names d) _ (kind_open path types names d) λ kind known.
     on_bind (λ x. Unit {0}) (IsPlain types) (flags_at path d) _ (on_all _) λ flags u.
     on_bind (IsPlain types) (IsPlain types) (valued_at path types name kind flags d) _ (valued_plain path types name kind flags d known) λ spec plain.
-    on_bind (λ x. Unit {0}) (IsPlain types) (absent_at path d (codes "weak" ∷ [])) _ (on_all _) λ weak u.
-    on_bind (λ x. Unit {0}) (IsPlain types) (only_at path ms keys_of_property) _ (on_all _) λ only u. plain
+    on_bind (λ x. Unit {0}) (IsPlain types) (weak_at path kind d) _ (on_all _) λ weak u.
+    on_bind (λ x. Unit {0}) (IsPlain types) (only_at path ms keys_of_property) _ (on_all _) λ only u. weak_plain types spec weak plain
 
 abbrev pub AllOwn : List GType → (ℕ → List Spec) → Type 0
 AllOwn types own = (t : ℕ) → AllPlain types (own t)
@@ -245,21 +280,27 @@ added_plain types own t s all plain u = by (nat_eq u t)
 abbrev pub IsOneMore : List GType → List GType → Type 0
 IsOneMore types all = (g : GType) × (all ≡ types ++ g ∷ [])
 
-one_more_added : (path : List ℕ) (old : List GType) (fault : Option TypeFault) (types : List GType) → IsOneMore old types → OnRead (IsOneMore old) (added_or path old fault types)
-one_more_added path old None types more = more
-one_more_added path old (Some fault) types more = tt
-
-one_more_declared : (path : List ℕ) (first : ℕ) (list : Items) (types : List GType) (d : Data) → OnRead (IsOneMore types) (declared_at path first list types d)
+one_more_declared : (path : List ℕ) (first : ℕ) (list : Items) (names : TypeNames) (draft : Draft) (d : Data)
+    → OnRead (IsOneMore draft.types) (declared_at path first list names draft d)
 unfolding declared_at
-one_more_declared path first list types d =
+one_more_declared path first list names draft d =
+    on_bind (λ x. Unit {0}) (IsOneMore draft.types) (room_for_type draft.types) _ (on_all _) λ room u.
+    on_bind (λ x. Unit {0}) (IsOneMore draft.types) (check_depth draft.types (parent_ahead draft.types (get (codes "parent") d))) _ (on_all _) λ deep u.
+    on_bind (λ x. Unit {0}) (IsOneMore draft.types) (text_at path d (codes "name")) _ (on_all _) λ name u.
+    on_bind (λ x. Unit {0}) (IsOneMore draft.types) (new_type_name (under path (codes "name")) first draft.types name) _ (on_all _) λ new u.
+    on_bind (λ x. Unit {0}) (IsOneMore draft.types) (parent_at path list draft.types d) _ (on_all _) λ parent u.
+    on_bind (λ x. Unit {0}) (IsOneMore draft.types) (classes.flags_at path d) _ (on_all _) λ flags u.
+    on_bind (λ x. Unit {0}) (IsOneMore draft.types) (implements_at path draft.types names draft.own parent d) _ (on_all _) λ interfaces u.
+    (class_type name parent flags interfaces, refl)
+
+one_more_interface : (path : List ℕ) (first : ℕ) (interfaces classes : Items) (types : List GType) (d : Data) → OnRead (IsOneMore types) (interface_type_at path first interfaces classes types d)
+unfolding interface_type_at
+one_more_interface path first interfaces classes types d =
     on_bind (λ x. Unit {0}) (IsOneMore types) (room_for_type types) _ (on_all _) λ room u.
-    on_bind (λ x. Unit {0}) (IsOneMore types) (check_depth types (parent_ahead types (get (codes "parent") d))) _ (on_all _) λ deep u.
     on_bind (λ x. Unit {0}) (IsOneMore types) (text_at path d (codes "name")) _ (on_all _) λ name u.
     on_bind (λ x. Unit {0}) (IsOneMore types) (new_type_name (under path (codes "name")) first types name) _ (on_all _) λ new u.
-    on_bind (λ x. Unit {0}) (IsOneMore types) (parent_at path list types d) _ (on_all _) λ parent u.
-    on_bind (λ x. Unit {0}) (IsOneMore types) (truth_at path d (codes "abstract")) _ (on_all _) λ abstract u.
-    on_bind (λ x. Unit {0}) (IsOneMore types) (truth_at path d (codes "final")) _ (on_all _) λ final u.
-    one_more_added (under path (codes "name")) types (class_fault types name parent []) _ (new_class types name parent (record { is_abstract = abstract; is_final = final }) [], refl)
+    on_bind (λ x. Unit {0}) (IsOneMore types) (requires_at path interfaces classes types d) _ (on_all _) λ required u.
+    (interface_type name required, refl)
 
 plain_longer : (types all : List GType) → IsOneMore types all → (ss : List Spec) → AllPlain types ss → AllPlain all ss
 plain_longer types all more [] p = tt
@@ -277,44 +318,62 @@ canonical_kind types (kinds.enum t) s p = p
 canonical_kind types (kinds.flags t) s p = p
 canonical_kind types (kinds.object t) s p = p
 
-property_plain : (path : List ℕ) (types : List GType) (t : ℕ) (own : ℕ → List Spec) (d : Data) → AllOwn types own → OnRead (AllOwn types) (property_at path types t own d)
+property_plain : (path : List ℕ) (types : List GType) (names : TypeNames) (t : ℕ) (own : ℕ → List Spec) (d : Data) → AllOwn types own → OnRead (AllOwn types) (property_at path types names t own d)
 unfolding property_at
-property_plain path types t own d all =
-    on_bind (IsPlain types) (AllOwn types) (spec_at path types (inherited_by types own t) (specs_by types own t) d) (λ spec. installed path types t own spec) (spec_plain path types (inherited_by types own t) (specs_by types own t) d)
-    λ spec plain. installed_plain types path (install_fault types (specs_by types own t) spec) (add_own own t (canonical_spec spec)) (added_plain types own t (canonical_spec spec) all (record { kind = canonical_kind types spec.kind spec plain.kind; strong = plain.strong; default = plain.default }))
+property_plain path types names t own d all =
+    on_bind (IsPlain types) (AllOwn types) (spec_at path types names (inherited_by types own t) (specs_by types own t) d) (λ spec. installed path types t own spec) (spec_plain path types names (inherited_by types own t) (specs_by types own t) d)
+    λ spec plain. installed_plain types path (install_fault types (specs_by types own t) spec) (add_own own t (canonical_spec spec)) (added_plain types own t (canonical_spec spec) all (record { kind = canonical_kind types spec.kind spec plain.kind; default = plain.default }))
 
-properties_plain : (path : List ℕ) (types : List GType) (t : ℕ) (own : ℕ → List Spec) (d : Data) → AllOwn types own → OnRead (AllOwn types) (properties_at path types t own d)
+properties_plain : (path : List ℕ) (types : List GType) (names : TypeNames) (t : ℕ) (own : ℕ → List Spec) (d : Data) → AllOwn types own → OnRead (AllOwn types) (properties_at path types names t own d)
 unfolding properties_at
-properties_plain path types t own d all =
-    on_bind (λ x. Unit {0}) (AllOwn types) (nothing_at path d (codes "implements" ∷ [])) _ (on_all _) λ unset u.
+properties_plain path types names t own d all =
     on_bind (λ x. Unit {0}) (AllOwn types) (entries_at path d (codes "properties")) _ (on_all _) λ list u.
-    on_each (AllOwn types) (at_entry (λ entry. property_at entry types t) (under path (codes "properties"))) (λ i own d all. property_plain (nth (under path (codes "properties")) i) types t own d all) 0 own list all
+    on_each (AllOwn types) (at_entry (λ entry. property_at entry types names t) (under path (codes "properties"))) (λ i own d all. property_plain (nth (under path (codes "properties")) i) types names t own d all) 0 own list all
 
 abbrev pub PlainDraft : Draft → Type 0
 PlainDraft draft = AllOwn draft.types draft.own
 
-class_plain : (path : List ℕ) (first : ℕ) (list : Items) (draft : Draft) (d : Data) → PlainDraft draft → OnRead PlainDraft (class_at path first list draft d)
-unfolding class_at
-class_plain path first list draft d all =
+type_plain : (path : List ℕ) (keys : List (List ℕ)) (declared : Result (List GType) Refusal) (behind : Result (Unit {0}) Refusal) (names : TypeNames) (draft : Draft) (d : Data)
+    → OnRead (IsOneMore draft.types) declared → PlainDraft draft → OnRead PlainDraft (type_at path keys declared behind names draft d)
+unfolding type_at
+type_plain path keys declared behind names draft d one_more all =
     on_bind (λ x. Unit {0}) PlainDraft (members_at path d) _ (on_all _) λ ms u.
-    on_bind (IsOneMore draft.types) PlainDraft (declared_at path first list draft.types d) _ (one_more_declared path first list draft.types d) λ types more.
-    on_bind (AllOwn types) PlainDraft (properties_at path types (length draft.types) draft.own d) _
-    (properties_plain path types (length draft.types) draft.own d (λ t. plain_longer draft.types types more (draft.own t) (all t))) λ own plain.
-    on_bind (λ x. Unit {0}) PlainDraft (answering_at path d) _ (on_all _) λ answering u.
-    on_bind (λ x. Unit {0}) PlainDraft (only_at path ms keys_of_class) _ (on_all _) λ only u. plain
+    on_bind (IsOneMore draft.types) PlainDraft declared _ one_more λ types more.
+    on_bind (AllOwn types) PlainDraft (properties_at path types names (length draft.types) draft.own d) _
+    (properties_plain path types names (length draft.types) draft.own d (λ t. plain_longer draft.types types more (draft.own t) (all t))) λ own plain.
+    on_bind (λ x. Unit {0}) PlainDraft behind _ (on_all _) λ done u.
+    on_bind (λ x. Unit {0}) PlainDraft (only_at path ms keys) _ (on_all _) λ only u. plain
 
-classes_plain : (types : List GType) (d : Data) → OnRead PlainDraft (classes_in types d)
+class_plain : (path : List ℕ) (first : ℕ) (list : Items) (names : TypeNames) (draft : Draft) (d : Data) → PlainDraft draft → OnRead PlainDraft (class_at path first list names draft d)
+class_plain path first list names draft d all =
+    type_plain path keys_of_class (declared_at path first list names draft d) (answering_at path d) names draft d (one_more_declared path first list names draft d) all
+
+interface_plain : (path : List ℕ) (first : ℕ) (interfaces classes : Items) (names : TypeNames) (draft : Draft) (d : Data) → PlainDraft draft → OnRead PlainDraft (interface_at path first interfaces classes names draft d)
+interface_plain path first interfaces classes names draft d all =
+    type_plain path keys_of_interface (interface_type_at path first interfaces classes draft.types d) (nothing_at path d (codes "signals" ∷ [])) names draft d
+    (one_more_interface path first interfaces classes draft.types d) all
+
+interfaces_plain : (names : TypeNames) (types : List GType) (d : Data) → OnRead PlainDraft (interfaces_in names types d)
+unfolding interfaces_in
+interfaces_plain names types d =
+    on_bind (λ x. Unit {0}) PlainDraft (entries_at [] d (codes "interfaces")) _ (on_all _) λ list u.
+    on_each PlainDraft (at_entry (λ path. interface_at path (length types) list (listed_ahead (codes "classes") d) names) (under [] (codes "interfaces")))
+    (λ i draft e all. interface_plain (nth (under [] (codes "interfaces")) i) (length types) list (listed_ahead (codes "classes") d) names draft e all) 0 (bare_draft types) list (λ t. tt)
+
+classes_plain : (names : TypeNames) (draft : Draft) (d : Data) → PlainDraft draft → OnRead PlainDraft (classes_in names draft d)
 unfolding classes_in
-classes_plain types d =
+classes_plain names draft d all =
     on_bind (λ x. Unit {0}) PlainDraft (nothing_at [] d unset_before_classes) _ (on_all _) λ unset u.
     on_bind (λ x. Unit {0}) PlainDraft (entries_at [] d (codes "classes")) _ (on_all _) λ list u.
-    on_each PlainDraft (at_entry (λ path. class_at path (length types) list) (under [] (codes "classes"))) (λ i draft d all. class_plain (nth (under [] (codes "classes")) i) (length types) list draft d all) 0 (bare_draft types) list (λ t. tt)
+    on_each PlainDraft (at_entry (λ path. class_at path (length draft.types) list names) (under [] (codes "classes"))) (λ i more e plain. class_plain (nth (under [] (codes "classes")) i) (length draft.types) list names more e plain) 0 draft list all
 
 pub draft_plain : (d : Data) → OnRead PlainDraft (draft_in d)
 unfolding draft_in
 draft_plain d =
     on_bind (λ x. Unit {0}) PlainDraft (enums_in d) _ (on_all _) λ enums u.
-    on_bind (λ x. Unit {0}) PlainDraft (flags_in enums d) _ (on_all _) λ types u. classes_plain types d
+    on_bind (λ x. Unit {0}) PlainDraft (flags_in enums d) _ (on_all _) λ types u.
+    on_bind PlainDraft PlainDraft (interfaces_in (type_names types d) types d) _ (interfaces_plain (type_names types d) types d) λ draft all.
+    classes_plain (type_names types d) draft d all
 
 -- ** no more objects than there is room for
 
@@ -338,16 +397,16 @@ room_below most places = by (nat_le 512 (length places)) (nat_le most (length pl
     by false false e f = record { place = grind (arith, nat_tests); life = grind (arith, nat_tests) }
 
 module _ (types : List GType) (specs : ℕ → List Spec) (most : ℕ) where
-  place_few : (path : List ℕ) (places : List Place) (d : Data) → OnRead (λ place. HasRoom most places) (place_at path types specs most places d)
+  place_few : (names : ObjectNames) (path : List ℕ) (places : List Place) (d : Data) → OnRead (λ place. HasRoom most places) (place_at path types specs most names places d)
   unfolding place_at
-  place_few path places d =
+  place_few names path places d =
       on_bind (λ x. Unit {0}) (λ place. HasRoom most places) (members_at path d) _ (on_all _) λ ms u.
       on_bind (λ x. HasRoom most places) (λ place. HasRoom most places) (room_for_object most places) _ (room_below most places) λ u room.
       on_bind (λ x. Unit {0}) (λ place. HasRoom most places) (text_at path d (codes "id")) _ (on_all _) λ id u.
       on_bind (λ x. Unit {0}) (λ place. HasRoom most places) (new_id (under path (codes "id")) places id) _ (on_all _) λ new u.
       on_bind (λ x. Unit {0}) (λ place. HasRoom most places) (class_at_key path types d) _ (on_all _) λ class u.
       on_bind (λ x. Unit {0}) (λ place. HasRoom most places) (absent_at path d (codes "peer" ∷ [])) _ (on_all _) λ peer u.
-      on_bind (λ x. Unit {0}) (λ place. HasRoom most places) (givens_at path types (specs class) d) _ (on_all _) λ given u.
+      on_bind (λ x. Unit {0}) (λ place. HasRoom most places) (givens_at path types names (length places) (specs class) d) _ (on_all _) λ given u.
       on_bind (λ x. Unit {0}) (λ place. HasRoom most places) (nothing_at path d (codes "signals" ∷ codes "children" ∷ [])) _ (on_all _) λ bare u.
       on_bind (λ x. Unit {0}) (λ place. HasRoom most places) (only_at path ms keys_of_object) _ (on_all _) λ only u. room
 
@@ -356,10 +415,10 @@ module _ (types : List GType) (specs : ℕ → List Spec) (most : ℕ) where
       let one = length_push places place in
       record { placed = omega (arith, one, room.place); live = omega (arith, one, room.life) }
 
-  object_few : (path : List ℕ) (places : List Place) (d : Data) → AreFew most places → OnRead (AreFew most) (object_at path types specs most places d)
+  object_few : (names : ObjectNames) (path : List ℕ) (places : List Place) (d : Data) → AreFew most places → OnRead (AreFew most) (object_at path types specs most names places d)
   unfolding object_at
-  object_few path places d few =
-      on_bind (λ place. HasRoom most places) (AreFew most) (place_at path types specs most places d) (λ place. Ok (places ++ place ∷ [])) (place_few path places d)
+  object_few names path places d few =
+      on_bind (λ place. HasRoom most places) (AreFew most) (place_at path types specs most names places d) (λ place. Ok (places ++ place ∷ [])) (place_few names path places d)
       λ place room. one_place_more places place room
 
   pub objects_few : (d : Data) → OnRead (AreFew most) (objects_in types specs most d)
@@ -367,8 +426,8 @@ module _ (types : List GType) (specs : ℕ → List Spec) (most : ℕ) where
   objects_few d =
       on_bind (λ x. Unit {0}) (AreFew most) (nothing_at [] d unset_before_objects) _ (on_all _) λ unset u.
       on_bind (λ x. Unit {0}) (AreFew most) (entries_at [] d (codes "objects")) _ (on_all _) λ list u.
-      on_each (AreFew most) (at_entry (λ entry. object_at entry types specs most) (under [] (codes "objects")))
-      (λ i places d few. object_few (nth (under [] (codes "objects")) i) places d few) 0 [] list (record { placed = omega arith; live = omega arith })
+      on_each (AreFew most) (at_entry (λ entry. object_at entry types specs most (object_names list)) (under [] (codes "objects")))
+      (λ i places d few. object_few (object_names list) (nth (under [] (codes "objects")) i) places d few) 0 [] list (record { placed = omega arith; live = omega arith })
 
 -- the properties of types that were read are plain
 pub plain_read : (types : List GType) (table : List (List Spec)) (d : Data) → draft_in d ≡ Ok (draft_of types table) → ArePlain types table

@@ -10,8 +10,7 @@ use Rattle.ui_machine.specs.Definition.Lookups as lookups
 use Rattle.ui_machine.specs.Definition.Properties.{Spec}
 use Rattle.ui_machine.specs.declared.limits.Limits.{Limits}
 use Rattle.param_specs.specs.Table.{specs_of}
-use Rattle.builder_defs.specs.Meaning.{Entry, class_with, plain_object, meaning, given_property, AreValues, IsPlain, ArePlain, IsBasic}
-use Rattle.builder_defs.specs.declared.object_entry.GivenValue.{GivenValue}
+use Rattle.builder_defs.specs.Meaning.{Entry, class_with, plain_object, meaning, IsPlain, ArePlain, IsBasic}
 use Rattle.ui_machine.proofs.Listed.{read-listed}
 
 read-past : {A : Type 0} (d : A) (f : ℕ → A) (n i : ℕ) → n ≤ i → read d (listed f n) i ≡ d
@@ -40,10 +39,6 @@ type_past (x ∷ xs) (suc i) h = type_past xs i (omega arith)
 
 -- ** a definition is basic
 
-all_values : (given : List GivenValue) → AreValues (map given_property given)
-all_values [] = tt
-all_values (g ∷ gs) = (tt, all_values gs)
-
 each_class : {A : Type 0} (P : A → Type 0) (d : A) (f : ℕ → A) (n i : ℕ) → P d → ((t : ℕ) → P (f t)) → P (read d (listed f n) i)
 each_class P d f zero i none all = none
 each_class P d f (suc n) zero none all = all 0
@@ -67,7 +62,6 @@ basic types specs objects limits plain = record {
   shapes = λ t. each_class (λ (c : Class). c.shape ≡ None) lookups.no_class (λ t. class_with (specs_of types specs t)) (length types) t refl (λ t. refl);
   plain = plain_spec types specs objects limits plain;
   parents = each_object (λ (p : Place). p.parent ≡ None) (λ o. refl) objects;
-  given = each_object (λ (p : Place). AreValues p.given) (λ o. all_values o.1.given.items) objects;
   prototypes = each_object (λ (p : Place). p.is_prototype ≡ false) (λ o. refl) objects;
   peers = each_object (λ (p : Place). p.peers ≡ []) (λ o. refl) objects;
   signals = each_object (λ (p : Place). p.signals ≡ []) (λ o. refl) objects;

@@ -13,7 +13,7 @@ use Rattle.ui_machine.specs.Outcome.{◌>>=◌}
 use Rattle.builder_defs.specs.Refusals.{Refusal}
 use Rattle.builder_defs.specs.Document.{members_at, only_at}
 use Rattle.builder_defs.specs.Denoted.Properties.{specs_by}
-use Rattle.builder_defs.specs.Denoted.Classes.{Draft, draft_of}
+use Rattle.builder_defs.specs.Denoted.Drafts.{Draft, draft_of}
 use Rattle.builder_defs.specs.Denoted.SessionLimits.{limits_in}
 use Rattle.builder_defs.specs.Denoted.{format_of, draft_in, objects_in, definition_in, definition_with, keys_of_definition}
 

@@ -1,5 +1,6 @@
 -- Which definition bytes denote, or the first fault in document order. A file of the folder has the rows of one part of the format.
 pub mod Names
+pub mod Entries
 pub mod Types
 pub mod SessionLimits
 pub mod Enums
@@ -8,6 +9,10 @@ pub mod PropertyFlags
 pub mod Ranges
 pub mod Defaults
 pub mod Properties
+pub mod Drafts
+pub mod Overrides
+pub mod Implements
+pub mod Interfaces
 pub mod Classes
 pub mod Given
 pub mod Objects
@@ -23,11 +28,14 @@ use Rattle.ui_machine.specs.Definition as definition
 use Rattle.ui_machine.specs.declared.limits.Limits.{Limits}
 use Rattle.builder_defs.specs.Meaning.{class_with}
 use Rattle.builder_defs.specs.Refusals.{Refusal, shape}
-use Rattle.builder_defs.specs.Document.{under, members_at, entries_at, nothing_at, only_at, each, at_entry, document}
+use Rattle.builder_defs.specs.Document.{under, members_at, entries_at, listed_ahead, nothing_at, only_at, each, at_entry, document}
+use Rattle.builder_defs.specs.Denoted.Entries.{TypeNames, type_names, object_names}
 use Rattle.builder_defs.specs.Denoted.Properties.{specs_by}
 use Rattle.builder_defs.specs.Denoted.SessionLimits.{limits_in}
 use Rattle.builder_defs.specs.Denoted.Enums.{enum_at, flags_at}
-use Rattle.builder_defs.specs.Denoted.Classes.{Draft, bare_draft, class_at}
+use Rattle.builder_defs.specs.Denoted.Drafts.{Draft, bare_draft}
+use Rattle.builder_defs.specs.Denoted.Interfaces.{interface_at}
+use Rattle.builder_defs.specs.Denoted.Classes.{class_at}
 use Rattle.builder_defs.specs.Denoted.Objects.{object_at}
 
 -- the member `format`, which is 1
@@ -36,7 +44,7 @@ format_of None = Err (shape (codes "/format"))
 format_of (Some n) = if n == 1 then Ok tt else Err (shape (codes "/format"))
 
 abbrev pub unset_before_classes : List (List ℕ)
-unset_before_classes = codes "interfaces" ∷ codes "shapes" ∷ []
+unset_before_classes = codes "shapes" ∷ []
 
 abbrev pub unset_before_objects : List (List ℕ)
 unset_before_objects = codes "programs" ∷ codes "prototypes" ∷ []
@@ -69,26 +77,33 @@ flags_in types d = do
   list ← entries_at [] d (codes "flags")
   each (at_entry (λ path. flags_at path (length types)) (under [] (codes "flags"))) 0 types list
 
--- these types, with the classes of a definition
-unfoldable pub classes_in : List GType → Data → Result Draft Refusal
-classes_in types d = do
+-- these types, with the interfaces of a definition, among the names of all its types
+unfoldable pub interfaces_in : TypeNames → List GType → Data → Result Draft Refusal
+interfaces_in names types d = do
+  list ← entries_at [] d (codes "interfaces")
+  each (at_entry (λ path. interface_at path (length types) list (listed_ahead (codes "classes") d) names) (under [] (codes "interfaces"))) 0 (bare_draft types) list
+
+-- these types with their properties, with the classes of a definition
+unfoldable pub classes_in : TypeNames → Draft → Data → Result Draft Refusal
+classes_in names draft d = do
   unset ← nothing_at [] d unset_before_classes
   list ← entries_at [] d (codes "classes")
-  each (at_entry (λ path. class_at path (length types) list) (under [] (codes "classes"))) 0 (bare_draft types) list
+  each (at_entry (λ path. class_at path (length draft.types) list names) (under [] (codes "classes"))) 0 draft list
 
 -- the types of a definition, with their properties
 unfoldable pub draft_in : Data → Result Draft Refusal
 draft_in d = do
   enums ← enums_in d
   types ← flags_in enums d
-  classes_in types d
+  interfaces ← interfaces_in (type_names types d) types d
+  classes_in (type_names types d) interfaces d
 
 -- the objects of these types with their properties, where so many may live
 unfoldable pub objects_in : List GType → (ℕ → List Spec) → ℕ → Data → Result (List machine.Place) Refusal
 objects_in types specs most d = do
   unset ← nothing_at [] d unset_before_objects
   list ← entries_at [] d (codes "objects")
-  each (at_entry (λ entry. object_at entry types specs most) (under [] (codes "objects"))) 0 [] list
+  each (at_entry (λ entry. object_at entry types specs most (object_names list)) (under [] (codes "objects"))) 0 [] list
 
 unfoldable pub definition_in : Data → Result definition.Definition Refusal
 definition_in d = do

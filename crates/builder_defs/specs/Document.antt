@@ -50,6 +50,14 @@ entries path (Some d) = or_refused (shape path) (as_array d)
 abbrev pub entries_at : List ℕ → Data → List ℕ → Result Items Refusal
 entries_at path d key = entries (under path key) (get key d)
 
+-- the entries of a member that is a list, read ahead; none where it is no list
+abbrev pub items_or_none : Option Items → Items
+items_or_none None = no_items
+items_or_none (Some items) = items
+
+abbrev pub listed_ahead : List ℕ → Data → Items
+listed_ahead key d = items_or_none (option_and_then as_array (get key d))
+
 abbrev pub is_empty_list : Option Items → Bool
 is_empty_list None = false
 is_empty_list (Some no_items) = true

@@ -4,6 +4,10 @@ use Rattle.std.specs.Str.{is_utf8}
 use Rattle.serde_json.specs.Data.{Data, null, boolean, number, string, array, object, Items, no_items, item, Members, no_members, member}
 use Rattle.serde_json.specs.Find.{get, as_str, as_array}
 use Rattle.serde_json.specs.Read.{read}
+use Rattle.ui_machine.specs.Definition.Types.{GType}
+use Rattle.ui_machine.specs.Definition.Kinds as kinds
+use Rattle.ui_machine.specs.Definition.Values.{Value}
+use Rattle.ui_machine.specs.Rules.Ancestry.{is_a}
 use Rattle.ui_machine.specs.Definition.Properties.{Spec, is_readable, is_writable, is_construct_only}
 use Rattle.ui_machine.specs.Definition as machine
 use Rattle.ui_machine.specs.Definition.Places as places
@@ -12,6 +16,7 @@ use Rattle.ui_machine.specs.State.Tasks as config
 use Rattle.g_values.specs.Reading.{json_value}
 use Rattle.g_values.specs.declared.error.JsonFault.{JsonFault}
 use Rattle.builder_defs.specs.Meaning.{class_at}
+use Rattle.builder_defs.specs.Denoted.Given.{reference}
 use Rattle.ui_machine.specs.Outcome.{◌>>=◌}
 use Rattle.ui_machine.specs.Limits.{most_line_bytes}
 use Rattle.builder_defs.specs.declared.event_fault.EventFault.{EventFault}
@@ -124,6 +129,40 @@ abbrev pub or_value_fault : {A : Type 0} → Result A JsonFault → Result A Eve
 or_value_fault (Ok x) = Ok x
 or_value_fault (Err cause) = Err value_fault
 
+-- the object of an id
+unfoldable pub object_of : machine.Definition → List ℕ → Result (Option ℕ) EventRefusal
+object_of d id = do
+  place ← or_refused (unknown id) (place_of d id)
+  Ok (Some place)
+
+-- the object that a value refers to, if it refers to one
+abbrev pub object_named : machine.Definition → Option (ℕ × List ℕ) → Result (Option ℕ) EventRefusal
+object_named d None = Ok None
+object_named d (Some r) = object_of d r.1
+
+-- whether an object of the class is one of the kind
+abbrev pub is_of_kind : List GType → kinds.Kind → ℕ → Bool
+is_of_kind types kinds.bool class = false
+is_of_kind types (kinds.whole k) class = false
+is_of_kind types kinds.text class = false
+is_of_kind types (kinds.enum t) class = false
+is_of_kind types (kinds.flags t) class = false
+is_of_kind types (kinds.object t) class = is_a types class t
+
+-- a value itself
+abbrev pub itself : Result Value EventRefusal → Result places.Given EventRefusal
+itself (Ok v) = Ok (places.value v)
+itself (Err refusal) = Err refusal
+
+-- the object of a place, which must be one of the kind
+abbrev pub object_given : machine.Definition → kinds.Kind → ℕ → Result places.Given EventRefusal
+object_given d kind place = if is_of_kind d.types kind (class_at d place) then Ok (places.named place) else Err value_fault
+
+-- a value of a kind, or the object that it refers to
+abbrev pub given_by : machine.Definition → kinds.Kind → Data → Option ℕ → Result places.Given EventRefusal
+given_by d kind v None = itself (or_value_fault (json_value d.types kind v))
+given_by d kind v (Some place) = object_given d kind place
+
 -- ** the event
 
 abbrev pub writable : Spec → Result (Unit {0}) EventRefusal
@@ -136,9 +175,10 @@ unfoldable pub set_event : machine.Definition → Data → Result config.Event E
 set_event d words = do
   said ← or_refused shape (option_and_then words_of_set (as_array words))
   found ← target d said.0 said.1
+  named ← object_named d (reference found.spec.kind (as_str said.2))
   may ← writable found.spec
-  value ← or_value_fault (json_value d.types found.spec.kind said.2)
-  Ok (config.request (config.set found.place found.slot (places.value value)))
+  given ← given_by d found.spec.kind said.2 named
+  Ok (config.request (config.set found.place found.slot given))
 
 unfoldable pub get_event : machine.Definition → Data → Result config.Event EventRefusal
 get_event d words = do

@@ -4,17 +4,15 @@ use Rattle.std.specs.List.{flat_map}
 use Rattle.type_tree.specs.TypeName.{is_within}
 use Rattle.type_tree.specs.declared.error.TypeLimit.{TypeLimit}
 use Rattle.type_tree.specs.declared.error.TypeLimit.TheVariants as limits
-use Rattle.builder_defs.specs.Causes.{Cause}
+use Rattle.builder_defs.specs.Causes.{Cause, PropertyCause}
 use Rattle.builder_defs.specs.Causes as causes
 use Rattle.g_values.specs.declared.error.JsonFault.{JsonFault}
 use Rattle.g_values.specs.declared.error.JsonFault.TheVariants as values
 use Rattle.param_specs.specs.declared.error.SpecFault.{SpecFault}
 use Rattle.param_specs.specs.declared.error.SpecFault.TheVariants as specs
-use Rattle.builder_defs.specs.declared.fault.SpecCause.{SpecCause}
-use Rattle.builder_defs.specs.declared.fault.SpecCause.TheVariants.{Install, NotWritable}
 use Rattle.builder_defs.specs.declared.fault.DefinitionLimit.{DefinitionLimit}
 use Rattle.builder_defs.specs.declared.fault.DefinitionLimit.TheVariants.{Types, Depth, Properties, Places, Objects, Handlers}
-use Rattle.builder_defs.specs.Refusals.{Refusal, too_long, not_utf8, not_json, shape, unknown, duplicate, bad_type, bad_spec, value_fault, limit}
+use Rattle.builder_defs.specs.Refusals.{Refusal, too_long, not_utf8, not_json, shape, unknown, duplicate, bad_type, bad_spec, value_fault, forward_construct_only, limit}
 
 -- ** paths and names
 
@@ -54,10 +52,12 @@ spec_fault_text specs.RangeEmpty = codes "RangeEmpty"
 spec_fault_text specs.DefaultInvalid = codes "DefaultInvalid"
 spec_fault_text specs.Limit = codes "Limit"
 
--- and why it is given none
-abbrev pub spec_cause_text : SpecCause → List ℕ
-spec_cause_text (Install fault) = spec_fault_text fault
-spec_cause_text NotWritable = codes "NotWritable"
+-- why it is not installed, given no value or not overridden: the name of the cause and its own fields
+abbrev pub spec_cause_text : PropertyCause → List ℕ
+spec_cause_text (causes.install fault) = spec_fault_text fault
+spec_cause_text causes.not_writable = codes "NotWritable"
+spec_cause_text (causes.override_missing name) = codes "OverrideMissing " ++ printed name
+spec_cause_text (causes.override_differs name) = codes "OverrideDiffers " ++ printed name
 
 -- why JSON stands for no value
 abbrev pub value_cause_text : JsonFault → List ℕ
@@ -87,4 +87,5 @@ refusal_text (duplicate path) = codes "Duplicate " ++ printed path
 refusal_text (bad_type path cause) = codes "BadType " ++ (printed path ++ (codes " " ++ type_cause_text cause))
 refusal_text (bad_spec path cause) = codes "BadSpec " ++ (printed path ++ (codes " " ++ spec_cause_text cause))
 refusal_text (value_fault path cause) = codes "ValueFault " ++ (printed path ++ (codes " " ++ value_cause_text cause))
+refusal_text (forward_construct_only path) = codes "ForwardConstructOnly " ++ printed path
 refusal_text (limit l) = codes "Limit " ++ limit_name l

@@ -5,3 +5,4 @@ pub mod FaultText
 pub mod Document
 pub mod EventMeaning
 pub mod Denoted
+pub mod OverrideView

@@ -17,6 +17,8 @@ use Rattle.ui_machine.specs.State.Tasks as config
 use Rattle.type_tree.specs.Adding.{sort_of}
 use Rattle.g_values.specs.View.{value_view}
 use Rattle.param_specs.specs.Table.{specs_of}
+use Rattle.builder_defs.specs.declared.object_entry.Given.{Given}
+use Rattle.builder_defs.specs.declared.object_entry.Given.TheVariants as givens
 use Rattle.builder_defs.specs.declared.object_entry.GivenValue.{GivenValue}
 use Rattle.builder_defs.specs.declared.object_entry.ObjectBody.{ObjectBody}
 use Rattle.builder_defs.specs.declared.event.Event.{Event}
@@ -30,9 +32,14 @@ notify_signal = record { name = codes "notify"; params = []; result = None; flag
 abbrev pub class_with : List Spec → definition.Class
 class_with specs = record { specs = specs; signals = notify_signal ∷ []; handlers = []; constructed = None; shape = None }
 
--- a value that is given to a property
+-- a value itself, or the object of a place
+abbrev pub given_view : Given → machine.Given
+given_view (givens.Value v) = machine.value (value_view v)
+given_view (givens.Object place) = machine.named place.0
+
+-- what is given to a property
 abbrev pub given_property : GivenValue → machine.GivenProperty
-given_property g = record { slot = g.slot; given = machine.value (value_view g.value) }
+given_property g = record { slot = g.slot; given = given_view g.given }
 
 -- an object without parent, peer and signals
 abbrev pub plain_place : List ℕ → ℕ → List machine.GivenProperty → machine.Place
@@ -63,20 +70,19 @@ meaning types specs objects limits = record {
   most_handlers = limits.handlers;
 }
 
--- A property of a kind that there is so far, among these types: a truth value, a number of a range within its kind, a text, or a value
--- of an enum or a flags type.
+-- A property of a kind that there is, among these types: a truth value, a number of a range within its kind, a text, a value of an enum or
+-- a flags type, or an object.
 abbrev pub IsPlainKind : List GType → kinds.Kind → Spec → Type 0
 IsPlainKind types kinds.bool s = Unit {0}
 IsPlainKind types (kinds.whole k) s = (least k ≤ℤ s.low) × (s.low ≤ℤ greatest k) × (least k ≤ℤ s.high) × (s.high ≤ℤ greatest k)
 IsPlainKind types kinds.text s = Unit {0}
 IsPlainKind types (kinds.enum t) s = sort_of types t ≡ sorts.enum
 IsPlainKind types (kinds.flags t) s = sort_of types t ≡ sorts.flags
-IsPlainKind types (kinds.object t) s = ⊥
+IsPlainKind types (kinds.object t) s = Unit {0}
 
 -- and with a valid default
 pub record IsPlain (types : List GType) (s : Spec) : Type 0 where
   pub kind : IsPlainKind types s.kind s
-  pub strong : s.weak ≡ false
   pub default : is_valid (λ id. None) types s s.default ≡ true
 
 -- all properties of all types are plain
@@ -104,15 +110,6 @@ class_of_place (Some place) = place.class
 abbrev pub class_at : definition.Definition → ℕ → ℕ
 class_at d place = class_of_place (lookups.place_at d place)
 
--- a value itself, and not the name of an object
-abbrev pub IsValue : machine.Given → Type 0
-IsValue (machine.value v) = Unit {0}
-IsValue (machine.named place) = ⊥
-
-abbrev pub AreValues : List machine.GivenProperty → Type 0
-AreValues [] = Unit {0}
-AreValues (g ∷ gs) = IsValue g.given × AreValues gs
-
 -- what a definition does not have so far: handlers, programs, shapes, bindings, and objects but plain ones
 pub record IsBasic (d : definition.Definition) : Type 0 where
   pub handlers : (t : ℕ) → (lookups.class_of d t).handlers ≡ []
@@ -120,7 +117,6 @@ pub record IsBasic (d : definition.Definition) : Type 0 where
   pub shapes : (t : ℕ) → (lookups.class_of d t).shape ≡ None
   pub plain : (t slot : ℕ) (s : Spec) → lookups.spec_of d t slot ≡ Some s → IsPlain d.types s
   pub parents : (p : ℕ) (place : machine.Place) → slice_get d.places p ≡ Some place → place.parent ≡ None
-  pub given : (p : ℕ) (place : machine.Place) → slice_get d.places p ≡ Some place → AreValues place.given
   pub prototypes : (p : ℕ) (place : machine.Place) → slice_get d.places p ≡ Some place → place.is_prototype ≡ false
   pub peers : (p : ℕ) (place : machine.Place) → slice_get d.places p ≡ Some place → place.peers ≡ []
   pub signals : (p : ℕ) (place : machine.Place) → slice_get d.places p ≡ Some place → place.signals ≡ []
@@ -129,7 +125,7 @@ pub record IsBasic (d : definition.Definition) : Type 0 where
   pub unknown_signals : (t : ℕ) → length d.types ≤ t → (lookups.class_of d t).signals ≡ []
 
 abbrev pub request_of : Event → config.Request
-request_of (events.Set place slot v) = config.set place.0 slot (machine.value (value_view v))
+request_of (events.Set place slot given) = config.set place.0 slot (given_view given)
 request_of (events.Get place slot) = config.get place.0 slot
 
 -- the same as an event

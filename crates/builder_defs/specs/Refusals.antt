@@ -2,9 +2,7 @@
 use Rattle.std.specs.Prelude.{◌≡◌, ℕ, List, Option, None, Some, Result, Ok, Err, string_bytes}
 use Rattle.g_values.specs.declared.error.JsonFault.{JsonFault}
 use Rattle.param_specs.specs.declared.error.SpecFault.{SpecFault}
-use Rattle.builder_defs.specs.Causes.{Cause, cause_view}
-use Rattle.builder_defs.specs.declared.fault.SpecCause.{SpecCause}
-use Rattle.builder_defs.specs.declared.fault.SpecCause.TheVariants.{Install}
+use Rattle.builder_defs.specs.Causes.{Cause, cause_view, PropertyCause, install, property_cause}
 use Rattle.builder_defs.specs.declared.fault.DefinitionLimit.{DefinitionLimit}
 use Rattle.builder_defs.specs.declared.fault.DefinitionFault.{DefinitionFault}
 use Rattle.builder_defs.specs.declared.fault.DefinitionFault.TheVariants as faults
@@ -19,13 +17,14 @@ pub data Refusal : Type 0 where
   unknown : (path name : List ℕ) → Refusal
   duplicate : (path : List ℕ) → Refusal
   bad_type : (path : List ℕ) (cause : Cause) → Refusal
-  bad_spec : (path : List ℕ) (cause : SpecCause) → Refusal
+  bad_spec : (path : List ℕ) (cause : PropertyCause) → Refusal
   value_fault : (path : List ℕ) (cause : JsonFault) → Refusal
+  forward_construct_only : (path : List ℕ) → Refusal
   limit : DefinitionLimit → Refusal
 
 -- a property that is not installed
 abbrev pub not_installed : List ℕ → SpecFault → Refusal
-not_installed path fault = bad_spec path (Install fault)
+not_installed path fault = bad_spec path (install fault)
 
 -- a fault without where its text lies in memory
 abbrev pub refusal : DefinitionFault → Refusal
@@ -36,8 +35,9 @@ refusal (faults.Shape path) = shape (string_bytes path)
 refusal (faults.Unknown path name) = unknown (string_bytes path) (string_bytes name)
 refusal (faults.Duplicate path) = duplicate (string_bytes path)
 refusal (faults.BadType path cause) = bad_type (string_bytes path) (cause_view cause)
-refusal (faults.BadSpec path cause) = bad_spec (string_bytes path) cause
+refusal (faults.BadSpec path cause) = bad_spec (string_bytes path) (property_cause cause)
 refusal (faults.ValueFault path cause) = value_fault (string_bytes path) cause
+refusal (faults.ForwardConstructOnly path) = forward_construct_only (string_bytes path)
 refusal (faults.Limit l) = limit l
 
 -- What a function returned, seen by view, is what reading gives, unless memory ran out.

@@ -8,7 +8,7 @@ ghost use Rattle.std.specs.BTreeMap.{keys};
 ghost use Rattle.serde_json.specs.View.{view, items_view, members_view};
 ghost use Rattle.serde_json.specs.Find.{get};
 ghost use Rattle.builder_defs.specs.Refusals.{Gives, IsRefusal, shape, unknown, value_fault};
-ghost use Rattle.builder_defs.specs.Document.{under, nth, path_of, members_at, text_at, truth_at, entries_at, is_absent_or_empty, nothing_at, absent_at, escaped, only_at, document};
+ghost use Rattle.builder_defs.specs.Document.{under, nth, path_of, members_at, text_at, truth_at, entries_at, is_absent_or_empty, listed_ahead, nothing_at, absent_at, escaped, only_at, document};
 
 use crate::fault::{DefinitionFault, ReadError};
 use g_values::JsonFault;
@@ -133,6 +133,16 @@ fn is_absent_or_empty(member: Option<&Value>) -> bool
             Some(items) => items.is_empty(),
             None => false,
         },
+    }
+}
+
+// The entries of a member that is a list, read ahead; none where it is no list.
+pub(crate) fn listed_ahead<'a>(value: &'a Value, key: &str) -> &'a [Value]
+    ensures { items_view result.now ≡ listed_ahead key.now (view value.now) }
+{
+    match value.get(key).and_then(Value::as_array) {
+        Some(items) => items.as_slice(),
+        None => &[],
     }
 }
 

@@ -1,6 +1,6 @@
 //! What an event line asks for.
 
-use g_values::Value;
+use crate::object_entry::Given;
 use ui_machine::Place;
 
 /// What a line of the event file asks for.
@@ -10,7 +10,7 @@ pub enum Event {
     Set {
         place: Place,
         slot: u16,
-        value: Value,
+        given: Given,
     },
     /// A property of an object is read.
     Get {

@@ -14,7 +14,7 @@ pub enum EventFault {
     NotJson,
     /// The value is no object of one member, `set` with an id, a name and a value, or `get` with an id and a name.
     Shape,
-    /// No object has this id, or the object has no property of this name: the first name from the left that is not known.
+    /// No object has this id, the object has no property of this name, or no object has the id that the value names: the first from the left.
     Unknown(String),
     /// The property that is asked for cannot be read.
     NotReadable,

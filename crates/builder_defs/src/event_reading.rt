@@ -1,23 +1,27 @@
 //! Events, read from the lines of an event file.
 
 ghost use Rattle.std.specs.Prelude.{◌≡◌, Some, option_map, IfOk};
+ghost use Rattle.serde_json.specs.Find.{as_str};
 ghost use Rattle.serde_json.specs.View.{view, items_view};
 ghost use Rattle.g_values.specs.View.{kind_view, value_view, IsKnown};
 ghost use Rattle.g_values.specs.Reading.{json_value};
 ghost use Rattle.ui_machine.specs.Definition.Lookups.{spec_of};
-ghost use Rattle.builder_defs.specs.Meaning.{event_of, class_at};
+ghost use Rattle.builder_defs.specs.Meaning.{event_of, given_view, class_at};
+ghost use Rattle.builder_defs.specs.Denoted.Given.{reference};
 ghost use Rattle.param_specs.specs.View.{spec_view};
-ghost use Rattle.builder_defs.specs.EventMeaning.{Gives, event_denoted, event_meant, line_value, has_one_member, words_of_set, words_of_get, set_event, get_event, target, readable, writable, or_value_fault};
+ghost use Rattle.builder_defs.specs.EventMeaning.{Gives, event_denoted, event_meant, line_value, has_one_member, words_of_set, words_of_get, set_event, get_event, target, object_of, object_named, is_of_kind, object_given, given_by, readable, writable, or_value_fault};
 
 use crate::definition::Definition;
 use crate::event::Event;
 use crate::event_fault::{EventError, EventFault};
+use crate::given::reference;
+use crate::object_entry::Given;
 use bitflags::Flags;
 use g_values::{JsonError, Kind, from_json};
 use param_specs::{PropertyFlags, Spec};
 use serde_json::Value;
 use std::alloc::Global;
-use type_tree::TypeTree;
+use type_tree::{TypeId, TypeTree};
 use ui_machine::Place;
 
 /// The most bytes of a line.
@@ -117,13 +121,15 @@ fn set_in(alloc: Global, definition: &Definition, words: &Value) -> Result<Event
     let Some((id, name, value)) = words_of_set(items.as_slice()) else {
         return Err(EventError::Refused(EventFault::Shape));
     };
+    let _types = definition.types();
     let target = target_of(alloc, definition, id, name)?;
+    let object = object_named(alloc, definition, target.spec.kind, value)?;
     check_writable(target.spec)?;
-    let value = value_for(alloc, definition.types(), target.spec.kind, value)?;
+    let given = given_by(alloc, definition, target.spec.kind, value, object)?;
     Ok(Event::Set {
         place: target.place,
         slot: target.slot,
-        value,
+        given,
     })
 }
 
@@ -199,6 +205,65 @@ fn check_readable(spec: &Spec) -> Result<(), EventError>
         return Err(EventError::Refused(EventFault::NotReadable));
     }
     Ok(())
+}
+
+// The object that a value refers to, if it refers to one.
+#[tactic(auto, unfolding(crate::specs::EventMeaning::object_of))]
+fn object_named(
+    alloc: Global,
+    definition: &Definition,
+    kind: Kind,
+    value: &Value,
+) -> Result<Option<Place>, EventError>
+    ensures { Gives (option_map (λ p. p.0)) result (object_named definition.now (reference (kind_view kind) (as_str (view value.now)))) }
+{
+    let Some((_, id)) = reference(&kind, value) else {
+        return Ok(None);
+    };
+    match definition.place(id) {
+        Some(place) => Ok(Some(place)),
+        None => Err(EventError::Refused(EventFault::Unknown(String::from_str(alloc, id)?))),
+    }
+}
+
+// Whether an object of a class is one of a kind.
+fn is_of_kind(types: &TypeTree, kind: Kind, class: TypeId) -> bool
+    ensures { result ≡ is_of_kind types.now (kind_view kind) class }
+{
+    match kind {
+        Kind::Object(t) => types.is_a(class, t),
+        _ => false,
+    }
+}
+
+// The object of a place, which must be of a kind.
+fn object_for(definition: &Definition, kind: Kind, place: Place) -> Result<Given, EventError>
+    ensures { Gives given_view result (object_given definition.now (kind_view kind) place.0) }
+{
+    if !is_of_kind(definition.types(), kind, definition.class_at(place)) {
+        return Err(EventError::Refused(EventFault::ValueFault));
+    }
+    Ok(Given::Object(place))
+}
+
+// A value of a kind, or the object that it refers to.
+fn given_by(
+    alloc: Global,
+    definition: &Definition,
+    kind: Kind,
+    value: &Value,
+    object: Option<Place>,
+) -> Result<Given, EventError>
+    requires known { IsKnown definition.now.types kind }
+    ensures { Gives given_view result (given_by definition.now (kind_view kind) (view value.now) (option_map (λ p. p.0) object)) }
+{
+    match object {
+        Some(place) => object_for(definition, kind, place),
+        None => {
+            let value = value_for(alloc, definition.types(), kind, value)?;
+            Ok(Given::Value(value))
+        }
+    }
 }
 
 // The value of a kind that a JSON value stands for, or the fault.

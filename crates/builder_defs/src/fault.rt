@@ -44,13 +44,17 @@ pub enum TypeCause {
     Abstract,
 }
 
-/// Why a property is not installed, or is given no value.
-#[derive(Clone, Copy, Debug, PartialEq, Eq)]
+/// Why a property is not installed or given no value, or why a class does not have it as its interface has it.
+#[derive(Debug, Drop)]
 pub enum SpecCause {
     /// A test of the installation refuses it.
     Install(SpecFault),
     /// A value is given to a property that cannot be written.
     NotWritable,
+    /// The class does not have its interface's property of this name.
+    OverrideMissing(String),
+    /// The class has the property of this name with another kind, range, default, weakness or flags than its interface.
+    OverrideDiffers(String),
 }
 
 /// Why bytes denote no definition. A path is a JSON pointer (RFC 6901). The fault is the first one in document order, and at one path the first
@@ -71,10 +75,12 @@ pub enum DefinitionFault {
     Duplicate(String),
     /// A type is not added, or has no objects.
     BadType(String, TypeCause),
-    /// A property is not installed, or is given no value.
+    /// A property is not installed or given no value, or the class does not have it as its interface has it.
     BadSpec(String, SpecCause),
     /// At the path stands no value of the kind.
     ValueFault(String, JsonFault),
+    /// An object is given to a property that constructions alone set, before it is built.
+    ForwardConstructOnly(String),
     /// There is too much of something.
     Limit(DefinitionLimit),
 }

@@ -1,7 +1,7 @@
 //! How the refusal of a definition is printed.
 
 ghost use Rattle.std.specs.Prelude.{◌≡◌, ◌<◌, ◌++◌, IfOk, OnOk, string_bytes};
-ghost use Rattle.builder_defs.specs.Causes.{cause_view};
+ghost use Rattle.builder_defs.specs.Causes.{cause_view, property_cause};
 ghost use Rattle.builder_defs.specs.Refusals.{refusal};
 ghost use Rattle.builder_defs.specs.FaultText.{hex_digit, printed_byte, printed, type_limit_name, type_cause_text, spec_fault_text, spec_cause_text, value_cause_text, limit_name, refusal_text};
 
@@ -41,13 +41,17 @@ impl DefinitionFault {
             }
             DefinitionFault::BadSpec(path, cause) => {
                 let path = printed(alloc, path.as_str())?;
-                let cause = spec_cause_text(*cause);
+                let cause = spec_cause_text(alloc, cause)?;
                 format!(in alloc; "BadSpec {path} {cause}")
             }
             DefinitionFault::ValueFault(path, cause) => {
                 let path = printed(alloc, path.as_str())?;
                 let cause = value_cause_text(*cause);
                 format!(in alloc; "ValueFault {path} {cause}")
+            }
+            DefinitionFault::ForwardConstructOnly(path) => {
+                let path = printed(alloc, path.as_str())?;
+                format!(in alloc; "ForwardConstructOnly {path}")
             }
             DefinitionFault::Limit(limit) => {
                 let name = limit_name(*limit);
@@ -116,13 +120,21 @@ fn spec_fault_text(fault: SpecFault) -> &'static str
     }
 }
 
-// Why a property is not installed, or is given no value.
-fn spec_cause_text(cause: SpecCause) -> &'static str
-    ensures { result.now ≡ spec_cause_text cause }
+// Why a property is not installed, given no value or not overridden: the name of the cause and its own fields.
+fn spec_cause_text(alloc: Global, cause: &SpecCause) -> Result<String, AllocError>
+    ensures { IfOk result (λ text. string_bytes text ≡ spec_cause_text (property_cause cause.now)) }
 {
     match cause {
-        SpecCause::Install(fault) => spec_fault_text(fault),
-        SpecCause::NotWritable => "NotWritable",
+        SpecCause::Install(fault) => String::from_str(alloc, spec_fault_text(*fault)),
+        SpecCause::NotWritable => String::from_str(alloc, "NotWritable"),
+        SpecCause::OverrideMissing(property) => {
+            let name = printed(alloc, property.as_str())?;
+            format!(in alloc; "OverrideMissing {name}")
+        }
+        SpecCause::OverrideDiffers(property) => {
+            let name = printed(alloc, property.as_str())?;
+            format!(in alloc; "OverrideDiffers {name}")
+        }
     }
 }
 

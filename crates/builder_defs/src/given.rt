@@ -1,26 +1,30 @@
 //! The values that are given to an object's properties, read from a definition.
 
-ghost use Rattle.std.specs.Prelude.{◌≡◌, codes, map, nat_eq, slice_get, Some, IfOk};
+ghost use Rattle.std.specs.Prelude.{◌≡◌, codes, map, nat_eq, slice_get, Some, option_map, IfOk};
 ghost use Rattle.std.specs.List.{list_any};
-ghost use Rattle.serde_json.specs.Find.{get};
+ghost use Rattle.serde_json.specs.Find.{get, as_str};
 ghost use Rattle.serde_json.specs.View.{view};
-ghost use Rattle.g_values.specs.View.{kind_view, value_view, IsKnown};
+ghost use Rattle.g_values.specs.View.{kind_view, IsKnown};
 ghost use Rattle.param_specs.specs.View.{spec_view};
 ghost use Rattle.param_specs.specs.Table.{own_of, specs_of};
-ghost use Rattle.builder_defs.specs.Meaning.{ArePlain, given_property};
+ghost use Rattle.builder_defs.specs.Meaning.{ArePlain, given_view, given_property};
 ghost use Rattle.builder_defs.specs.Refusals.{Gives, Leads};
 ghost use Rattle.builder_defs.specs.Document.{under, path_of};
 ghost use Rattle.builder_defs.specs.Denoted.Properties.{specs_by};
-ghost use Rattle.builder_defs.specs.Denoted.Given.{property_named, is_given, named_once, takes_value, value_at, given_at, givens_at};
+ghost use Rattle.builder_defs.specs.Denoted.Entries.{name_under};
+ghost use Rattle.builder_defs.specs.Denoted.Given.{property_named, is_given, named_once, takes_value, reference, class_ahead, may_be, place_called, of_type, referred, given_by, value_at, spec_ahead, place_ahead, is_too_late, in_time, given_at, givens_at};
 
 use crate::defaults::value_of;
-use crate::document::{Entries, Part, bad_shape, path_under, unknown_name};
+use crate::document::{Entries, Part, bad_shape, bad_value, path_text, path_under, unknown_name};
+use crate::entries::{ObjectNames, at_most, name_under};
 use crate::fault::{DefinitionFault, ReadError, SpecCause};
-use crate::object_entry::GivenValue;
+use crate::names::is_name;
+use crate::object_entry::{Given, GivenValue};
 use crate::reads::{Reads, read_each};
-use g_values::{Kind, Value};
+use g_values::{JsonFault, Kind};
 use param_specs::{Spec, SpecTable};
 use type_tree::{TypeId, TypeTree};
+use ui_machine::Place;
 
 const MEMBERS: [&str; 3] = ["name", "value", "bind"];
 
@@ -90,15 +94,181 @@ fn check_writable(part: Part<'_>, spec: &Spec) -> Result<(), ReadError>
     Ok(())
 }
 
-// The value that an entry gives.
-fn value_in(part: Part<'_>, types: &TypeTree, kind: Kind) -> Result<Value, ReadError>
+// The class that the entry of an object names, if there is one of the name.
+fn class_ahead(types: &TypeTree, objects: &ObjectNames<'_>, place: usize) -> Option<TypeId>
+    ensures { result ≡ class_ahead types.now objects.now place }
+{
+    types.find_class(objects.class(place)?)
+}
+
+// Whether an object of a class, if that is known, is one of a type.
+fn may_be(types: &TypeTree, t: TypeId, class: Option<TypeId>) -> bool
+    ensures { result ≡ may_be types.now t class }
+{
+    match class {
+        Some(class) => types.is_a(class, t),
+        None => true,
+    }
+}
+
+// The place of the object of an id, which may come later.
+fn place_called(part: Part<'_>, objects: &ObjectNames<'_>, id: &str) -> Result<usize, ReadError>
+    ensures { Gives (λ n. n) result (place_called (under (path_of part.entry.path) (codes "value")) objects.now id.now) }
+{
+    if !is_name(id) {
+        return Err(bad_shape(part.alloc, part.path, "value")?);
+    }
+    match objects.place(id) {
+        Some(place) => Ok(place),
+        None => Err(unknown_name(part, "value", id)?),
+    }
+}
+
+// The object of a place, which must be of a type.
+fn object_of_type(
+    part: Part<'_>,
+    types: &TypeTree,
+    objects: &ObjectNames<'_>,
+    t: TypeId,
+    place: usize,
+) -> Result<Given, ReadError>
+    ensures { Gives given_view result (of_type (under (path_of part.entry.path) (codes "value")) types.now objects.now t place) }
+{
+    if !may_be(types, t, class_ahead(types, objects, place)) {
+        return Err(bad_value(part.alloc, part.path, "value", JsonFault::WrongJson)?);
+    }
+    Ok(Given::Object(Place(at_most(512, place))))
+}
+
+// The type of the object and the id, where a text stands for an object.
+pub(crate) fn reference<'a>(kind: &Kind, value: &'a serde_json::Value) -> Option<(TypeId, &'a str)>
+    ensures { option_map (λ r. (r.0, r.1.now)) result ≡ reference (kind_view kind.now) (as_str (view value.now)) }
+{
+    match kind {
+        Kind::Object(t) => Some((*t, value.as_str()?)),
+        _ => None,
+    }
+}
+
+// The object that is referred to.
+#[tactic(auto, unfolding(crate::specs::Denoted::Given::referred))]
+fn referred(
+    part: Part<'_>,
+    types: &TypeTree,
+    objects: &ObjectNames<'_>,
+    t: TypeId,
+    id: &str,
+) -> Result<Given, ReadError>
+    ensures { Gives given_view result (referred (under (path_of part.entry.path) (codes "value")) types.now objects.now (t, id.now)) }
+{
+    let place = place_called(part, objects, id)?;
+    let given = object_of_type(part, types, objects, t, place)?;
+    Ok(given)
+}
+
+// A value of a kind, or the object that it refers to.
+fn given_by(
+    part: Part<'_>,
+    types: &TypeTree,
+    objects: &ObjectNames<'_>,
+    kind: Kind,
+    value: &serde_json::Value,
+) -> Result<Given, ReadError>
     requires { IsKnown types.now kind }
-    ensures { Gives value_view result (value_at (path_of part.entry.path) types.now (kind_view kind) (view part.entry.value.now)) }
+    ensures { Gives given_view result (given_by (under (path_of part.entry.path) (codes "value")) types.now objects.now (kind_view kind) (view value.now) (reference (kind_view kind) (as_str (view value.now)))) }
+{
+    if let Some((t, id)) = reference(&kind, value) {
+        return referred(part, types, objects, t, id);
+    }
+    let value = value_of(part, "value", types, kind, value)?;
+    Ok(Given::Value(value))
+}
+
+// The value that an entry gives.
+fn value_in(
+    part: Part<'_>,
+    types: &TypeTree,
+    objects: &ObjectNames<'_>,
+    kind: Kind,
+) -> Result<Given, ReadError>
+    requires { IsKnown types.now kind }
+    ensures { Gives given_view result (value_at (path_of part.entry.path) types.now objects.now (kind_view kind) (view part.entry.value.now)) }
 {
     match (part.value.get("value"), part.value.get("bind")) {
-        (Some(value), _) => value_of(part, "value", types, kind, value),
+        (Some(value), _) => given_by(part, types, objects, kind, value),
         (None, None) => Err(bad_shape(part.alloc, part.path, "value")?),
         (None, Some(_)) => Err(bad_shape(part.alloc, part.path, "bind")?),
+    }
+}
+
+// The property that an entry names, if there is one.
+fn spec_ahead<'a>(
+    value: &serde_json::Value,
+    types: &TypeTree,
+    specs: &'a SpecTable,
+    class: TypeId,
+) -> Option<&'a Spec>
+    ensures { option_map (λ s. spec_view s.now) result ≡ spec_ahead (specs_of types.now specs.now class) (view value.now) }
+{
+    let slot = specs.find(types, class, name_under(value, "name")?)?;
+    if usize::from(slot) >= specs.slots_of(types, class) {
+        return None;
+    }
+    Some(specs.spec(types, class, slot))
+}
+
+// The reference that an entry gives, if it gives one.
+fn reference_under<'a>(entry: &'a serde_json::Value, kind: &Kind) -> Option<(TypeId, &'a str)>
+    ensures { option_map (λ r. (r.0, r.1.now)) result ≡ reference (kind_view kind.now) (name_under (codes "value") (view entry.now)) }
+{
+    match entry.get("value") {
+        Some(value) => reference(kind, value),
+        None => None,
+    }
+}
+
+// The place of the object that an entry gives, if it gives one.
+fn place_ahead(value: &serde_json::Value, objects: &ObjectNames<'_>, kind: &Kind) -> Option<usize>
+    ensures { result ≡ place_ahead objects.now (reference (kind_view kind.now) (name_under (codes "value") (view value.now))) }
+{
+    match reference_under(value, kind) {
+        Some((_, id)) if is_name(id) => objects.place(id),
+        _ => None,
+    }
+}
+
+// Whether an entry gives an object that is not there yet to a property that constructions alone set.
+fn is_too_late(
+    value: &serde_json::Value,
+    objects: &ObjectNames<'_>,
+    place: usize,
+    spec: &Spec,
+) -> bool
+    ensures { result ≡ is_too_late place objects.now (view value.now) (spec_view spec.now) }
+{
+    if !spec.is_construct_only() {
+        return false;
+    }
+    match place_ahead(value, objects, &spec.kind) {
+        Some(to) => place <= to,
+        None => false,
+    }
+}
+
+// Tests that an entry gives no object too late.
+fn check_in_time(
+    part: Part<'_>,
+    objects: &ObjectNames<'_>,
+    place: usize,
+    spec: Option<&Spec>,
+) -> Result<(), ReadError>
+    ensures { Gives (λ _. tt) result (in_time (path_of part.entry.path) place objects.now (view part.entry.value.now) (option_map (λ s. spec_view s.now) spec.entry)) }
+{
+    match spec {
+        Some(spec) if is_too_late(part.value, objects, place, spec) => Err(ReadError::Refused(
+            DefinitionFault::ForwardConstructOnly(path_text(part.alloc, part.path)?),
+        )),
+        _ => Ok(()),
     }
 }
 
@@ -107,32 +277,38 @@ fn value_in(part: Part<'_>, types: &TypeTree, kind: Kind) -> Result<Value, ReadE
 fn read_given(
     part: Part<'_>,
     types: &TypeTree,
+    objects: &ObjectNames<'_>,
+    place: usize,
     specs: &SpecTable,
     class: TypeId,
     given: &mut Vec<GivenValue>,
 ) -> Result<(), ReadError>
     requires { ArePlain types.now specs.now }
-    ensures { Leads result (given_at (path_of part.entry.path) types.now (specs_of types.now specs.now class) (map given_property given.old.items) (view part.entry.value.now)) (map given_property given.new.items) }
+    ensures { Leads result (given_at (path_of part.entry.path) types.now objects.now place (specs_of types.now specs.now class) (map given_property given.old.items) (view part.entry.value.now)) (map given_property given.new.items) }
 {
     let members = part.members()?;
+    let named = spec_ahead(part.value, types, specs, class);
+    check_in_time(part, objects, place, named)?;
     let name = part.text("name")?;
     let property = property_named(part, types, specs, class, name)?;
     check_once(part, given.as_slice(), property.slot)?;
     check_writable(part, property.spec)?;
-    let value = value_in(part, types, property.spec.kind)?;
+    let value = value_in(part, types, objects, property.spec.kind)?;
     part.check_absent(&["bind"])?;
     part.check_only(members, &MEMBERS)?;
     given.push(GivenValue {
         slot: property.slot,
-        value,
+        given: value,
     })?;
     Ok(())
 }
 
-// How the entries of an object's properties are read, where the object is of this class.
+// How the entries of an object's properties are read, where the object is of this class and stands at this place.
 #[derive(Clone, Copy)]
 struct GivenEntries<'a> {
     types: &'a TypeTree,
+    objects: &'a ObjectNames<'a>,
+    place: usize,
     specs: &'a SpecTable,
     class: TypeId,
 }
@@ -150,10 +326,18 @@ impl<'a> Reads<Vec<GivenValue>> for GivenEntries<'a> {
 
     ghost known = { λ r. ArePlain r.types.now r.specs.now };
 
-    ghost step = { λ r path given d. given_at path r.types.now (specs_of r.types.now r.specs.now r.class) given d };
+    ghost step = { λ r path given d. given_at path r.types.now r.objects.now r.place (specs_of r.types.now r.specs.now r.class) given d };
 
     fn read(&self, part: Part<'_>, given: &mut Vec<GivenValue>) -> Result<(), ReadError> {
-        read_given(part, self.types, self.specs, self.class, given)
+        read_given(
+            part,
+            self.types,
+            self.objects,
+            self.place,
+            self.specs,
+            self.class,
+            given,
+        )
     }
 }
 
@@ -162,11 +346,13 @@ impl<'a> Reads<Vec<GivenValue>> for GivenEntries<'a> {
 pub(crate) fn read_givens(
     part: Part<'_>,
     types: &TypeTree,
+    objects: &ObjectNames<'_>,
+    place: usize,
     specs: &SpecTable,
     class: TypeId,
 ) -> Result<Vec<GivenValue>, ReadError>
     requires { ArePlain types.now specs.now }
-    ensures { Gives (λ v. map given_property v.items) result (givens_at (path_of part.entry.path) types.now (specs_by types.now (own_of specs.now) class) (view part.entry.value.now)) }
+    ensures { Gives (λ v. map given_property v.items) result (givens_at (path_of part.entry.path) types.now objects.now place (specs_by types.now (own_of specs.now) class) (view part.entry.value.now)) }
 {
     let items = part.entries("properties")?;
     let path = path_under(part.alloc, part.path, "properties")?;
@@ -178,6 +364,8 @@ pub(crate) fn read_givens(
     let mut given = Vec::new(part.alloc);
     let reader = GivenEntries {
         types,
+        objects,
+        place,
         specs,
         class,
     };

@@ -7,9 +7,10 @@ ghost use Rattle.type_tree.specs.Adding.{sort_of};
 ghost use Rattle.g_values.specs.View.{kind_view, is_whole_kind, IsKnown};
 ghost use Rattle.builder_defs.specs.Refusals.{Gives};
 ghost use Rattle.builder_defs.specs.Document.{under, path_of};
-ghost use Rattle.builder_defs.specs.Denoted.Kinds.{kind_named, enum_named, flags_named, parted, kind_of_type, kind_by, kind_at, lowest, highest};
+ghost use Rattle.builder_defs.specs.Denoted.Kinds.{kind_named, enum_named, flags_named, object_type, is_object_kind, parted, kind_of_type, kind_by, kind_at, lowest, highest};
 
 use crate::document::{Part, bad_shape, unknown_name};
+use crate::entries::TypeNames;
 use crate::fault::ReadError;
 use g_values::Kind;
 use type_tree::{TypeId, TypeTree};
@@ -69,9 +70,26 @@ fn parted(word: &str) -> Option<(&str, &str)>
     word.split_once(':')
 }
 
+// The class or interface of a name, which may come later.
+fn object_type(types: &TypeTree, names: &TypeNames<'_>, name: &str) -> Option<TypeId>
+    ensures { result ≡ object_type types.now names.now name.now }
+{
+    if let Some(found) = types.find_class(name) {
+        return Some(found);
+    }
+    let number = names.number(name)?;
+    Some(TypeId::new(number))
+}
+
 // The kind of a sort and of the type that a name names.
-fn kind_of_type(part: Part<'_>, types: &TypeTree, sort: &str, name: &str) -> Result<Kind, ReadError>
-    ensures kind { Gives kind_view result (kind_of_type (under (path_of part.entry.path) (codes "kind")) types.now sort.now name.now) }
+fn kind_of_type(
+    part: Part<'_>,
+    types: &TypeTree,
+    names: &TypeNames<'_>,
+    sort: &str,
+    name: &str,
+) -> Result<Kind, ReadError>
+    ensures kind { Gives kind_view result (kind_of_type (under (path_of part.entry.path) (codes "kind")) types.now names.now sort.now name.now) }
     ensures known { IfOk result (λ k. IsKnown types.now k) }
 {
     if sort == "enum" {
@@ -86,16 +104,27 @@ fn kind_of_type(part: Part<'_>, types: &TypeTree, sort: &str, name: &str) -> Res
             None => Err(unknown_name(part, "kind", name)?),
         };
     }
+    if sort == "object" {
+        return match object_type(types, names, name) {
+            Some(found) => Ok(Kind::Object(found)),
+            None => Err(unknown_name(part, "kind", name)?),
+        };
+    }
     Err(bad_shape(part.alloc, part.path, "kind")?)
 }
 
 // The kind of a word.
-fn kind_of_word(part: Part<'_>, types: &TypeTree, word: &str) -> Result<Kind, ReadError>
-    ensures kind { Gives kind_view result (kind_by (under (path_of part.entry.path) (codes "kind")) types.now word.now (parted word.now)) }
+fn kind_of_word(
+    part: Part<'_>,
+    types: &TypeTree,
+    names: &TypeNames<'_>,
+    word: &str,
+) -> Result<Kind, ReadError>
+    ensures kind { Gives kind_view result (kind_by (under (path_of part.entry.path) (codes "kind")) types.now names.now word.now (parted word.now)) }
     ensures known { IfOk result (λ k. IsKnown types.now k) }
 {
     if let Some((sort, name)) = parted(word) {
-        return kind_of_type(part, types, sort, name);
+        return kind_of_type(part, types, names, sort, name);
     }
     match kind_named(word) {
         Some(kind) => Ok(kind),
@@ -103,14 +132,25 @@ fn kind_of_word(part: Part<'_>, types: &TypeTree, word: &str) -> Result<Kind, Re
     }
 }
 
-// The kind of a property, which may name an enum or a flags type of these.
-pub(crate) fn kind_of(part: Part<'_>, types: &TypeTree) -> Result<Kind, ReadError>
-    ensures kind { Gives kind_view result (kind_at (path_of part.entry.path) types.now (view part.entry.value.now)) }
+// The kind of a property, which may name an enum or a flags type of these, and a class or interface of the document.
+pub(crate) fn kind_of(
+    part: Part<'_>,
+    types: &TypeTree,
+    names: &TypeNames<'_>,
+) -> Result<Kind, ReadError>
+    ensures kind { Gives kind_view result (kind_at (path_of part.entry.path) types.now names.now (view part.entry.value.now)) }
     ensures known { IfOk result (λ k. IsKnown types.now k) }
 {
     let word = part.text("kind")?;
-    let kind = kind_of_word(part, types, word)?;
+    let kind = kind_of_word(part, types, names, word)?;
     Ok(kind)
+}
+
+// Whether a kind is one of objects.
+pub(crate) fn is_object(kind: &Kind) -> bool
+    ensures { result ≡ is_object_kind (kind_view kind.now) }
+{
+    matches!(kind, Kind::Object(_))
 }
 
 // The least number of a kind.

@@ -1,14 +1,23 @@
-//! An object of a definition, and the values that are given to it.
+//! An object of a definition, and what is given to it.
 
 use g_values::Value;
 use type_tree::TypeId;
+use ui_machine::Place;
 
-/// A value that is given to a property.
+/// What a definition or an event gives: a value itself, or an object of the definition.
+#[derive(Debug, Drop)]
+pub enum Given {
+    Value(Value),
+    /// The object of this place.
+    Object(Place),
+}
+
+/// What is given to a property.
 #[derive(Debug, Drop)]
 pub struct GivenValue {
     /// The property, by its slot in the object's class.
     pub slot: u16,
-    pub value: Value,
+    pub given: Given,
 }
 
 // What an object has under its id: its class, and the given values in the given order.

@@ -8,10 +8,12 @@ ghost use Rattle.param_specs.specs.Table.{own_of};
 ghost use Rattle.builder_defs.specs.Refusals.{Gives};
 ghost use Rattle.builder_defs.specs.Document.{under, path_of, each, at_entry};
 ghost use Rattle.builder_defs.specs.Denoted.Objects.{room_for_object, new_id, unless_abstract, class_at_key, place_at, object_at};
+ghost use Rattle.builder_defs.specs.Denoted.Entries.{object_names};
 ghost use Rattle.builder_defs.specs.Denoted.Properties.{specs_by};
 
 use crate::definition::{MOST_PLACES, position_of};
 use crate::document::{Entries, Part, bad_shape, path_under, unknown_name};
+use crate::entries::ObjectNames;
 use crate::fault::{DefinitionFault, DefinitionLimit, ReadError, TypeCause};
 use crate::given::read_givens;
 use crate::names::is_name;
@@ -102,10 +104,11 @@ fn read_object(
     types: &TypeTree,
     specs: &SpecTable,
     most: usize,
+    names: &ObjectNames<'_>,
     objects: &IndexMap<String, ObjectBody>,
 ) -> Result<NewObject, ReadError>
     requires { ArePlain types.now specs.now }
-    ensures object { Gives (λ o. plain_place (string_bytes o.id) o.body.class (map given_property o.body.given.items)) result (place_at (path_of part.entry.path) types.now (specs_by types.now (own_of specs.now)) most (map plain_object objects.now.entries) (view part.entry.value.now)) }
+    ensures object { Gives (λ o. plain_place (string_bytes o.id) o.body.class (map given_property o.body.given.items)) result (place_at (path_of part.entry.path) types.now (specs_by types.now (own_of specs.now)) most names.now (map plain_object objects.now.entries) (view part.entry.value.now)) }
     ensures new { IfOk result (λ o. place_named (λ p. p.id) (map plain_object objects.now.entries) (string_bytes o.id) ≡ None) }
 {
     let members = part.members()?;
@@ -114,7 +117,7 @@ fn read_object(
     check_id(part, objects, id)?;
     let class = class_of(part, types)?;
     part.check_absent(&["peer"])?;
-    let given = read_givens(part, types, specs, class)?;
+    let given = read_givens(part, types, names, objects.len(), specs, class)?;
     part.check_nothing(&["signals", "children"])?;
     part.check_only(members, &MEMBERS)?;
     let id = String::from_str(part.alloc, id)?;
@@ -122,12 +125,13 @@ fn read_object(
     Ok(NewObject { id, body })
 }
 
-// How the entries of the objects are read, among these types with their properties, where so many may live.
+// How the entries of the objects are read, among these types with their properties, where so many may live, and their ids are known.
 #[derive(Clone, Copy)]
 struct ObjectEntries<'a> {
     types: &'a TypeTree,
     specs: &'a SpecTable,
     most: usize,
+    names: &'a ObjectNames<'a>,
 }
 
 impl<'a> Reads<IndexMap<String, ObjectBody>> for ObjectEntries<'a> {
@@ -144,14 +148,14 @@ impl<'a> Reads<IndexMap<String, ObjectBody>> for ObjectEntries<'a> {
 
     ghost known = { λ r. ArePlain r.types.now r.specs.now };
 
-    ghost step = { λ r path places d. object_at path r.types.now (specs_by r.types.now (own_of r.specs.now)) r.most places d };
+    ghost step = { λ r path places d. object_at path r.types.now (specs_by r.types.now (own_of r.specs.now)) r.most r.names.now places d };
 
     fn read(
         &self,
         part: Part<'_>,
         objects: &mut IndexMap<String, ObjectBody>,
     ) -> Result<(), ReadError> {
-        let object = read_object(part, self.types, self.specs, self.most, objects)?;
+        let object = read_object(part, self.types, self.specs, self.most, self.names, objects)?;
         objects.insert(object.id, object.body)?;
         Ok(())
     }
@@ -165,10 +169,16 @@ pub(crate) fn read_objects(
     most: usize,
 ) -> Result<IndexMap<String, ObjectBody>, ReadError>
     requires { ArePlain types.now specs.now }
-    ensures { Gives (λ v. map plain_object v.entries) result (each (at_entry (λ path. object_at path types.now (specs_by types.now (own_of specs.now)) most) list.entry.path.now) 0 [] (items_view list.entry.items.now)) }
+    ensures { Gives (λ v. map plain_object v.entries) result (each (at_entry (λ path. object_at path types.now (specs_by types.now (own_of specs.now)) most (object_names (items_view list.entry.items.now))) list.entry.path.now) 0 [] (items_view list.entry.items.now)) }
 {
     let mut objects = IndexMap::new(list.alloc);
-    let reader = ObjectEntries { types, specs, most };
+    let names = ObjectNames::new(list.alloc, list.items)?;
+    let reader = ObjectEntries {
+        types,
+        specs,
+        most,
+        names: &names,
+    };
     read_each(&reader, list, &mut objects)?;
     Ok(objects)
 }

@@ -8,12 +8,13 @@ ghost use Rattle.param_specs.specs.View.{spec_view};
 ghost use Rattle.param_specs.specs.Table.{own_of, specs_of, slot_named};
 ghost use Rattle.builder_defs.specs.Refusals.{Gives, Leads};
 ghost use Rattle.builder_defs.specs.Document.{under, path_of, each, at_entry};
-ghost use Rattle.builder_defs.specs.Denoted.Properties.{inherited_of, property_spec, room_for_property, new_name, new_property, valued_at, spec_at, installed, property_at};
+ghost use Rattle.builder_defs.specs.Denoted.Properties.{inherited_of, property_spec, room_for_property, new_name, new_property, valued_at, spec_at, weak_at, installed, property_at};
 
 use crate::defaults::{check_default, check_unranged, default_of};
-use crate::document::{Entries, Part, path_text, path_under};
+use crate::document::{Entries, Part, bad_shape, path_text, path_under};
+use crate::entries::TypeNames;
 use crate::fault::{DefinitionFault, DefinitionLimit, ReadError, SpecCause};
-use crate::kinds::kind_of;
+use crate::kinds::{is_object, kind_of};
 use crate::property_flags::flags_of;
 use crate::ranges::{NumberRange, range_of, whole_range};
 use crate::reads::{Reads, read_each};
@@ -145,27 +146,38 @@ fn valued(
     Ok(spec)
 }
 
+// Whether a property is weak, which is said of kinds of objects alone.
+fn weak_of(part: Part<'_>, kind: &Kind) -> Result<bool, ReadError>
+    ensures { Gives (λ b. b) result (weak_at (path_of part.entry.path) (kind_view kind.now) (view part.entry.value.now)) }
+{
+    if part.value.get("weak").is_some() && !is_object(kind) {
+        return Err(bad_shape(part.alloc, part.path, "weak")?);
+    }
+    part.truth("weak")
+}
+
 // The spec of a property that a class has not yet.
 #[tactic(auto, unfolding(crate::specs::Denoted::Properties::spec_at))]
-fn spec_in(
+pub(crate) fn spec_in(
     part: Part<'_>,
     types: &TypeTree,
+    names: &TypeNames<'_>,
     specs: &SpecTable,
     class: TypeId,
 ) -> Result<Spec, ReadError>
-    ensures spec { Gives spec_view result (spec_at (path_of part.entry.path) types.now (inherited_of (specs_of types.now specs.now) (parent_of types.now class)) (specs_of types.now specs.now class) (view part.entry.value.now)) }
+    ensures spec { Gives spec_view result (spec_at (path_of part.entry.path) types.now names.now (inherited_of (specs_of types.now specs.now) (parent_of types.now class)) (specs_of types.now specs.now class) (view part.entry.value.now)) }
     ensures known { IfOk result (λ s. IsKnown types.now s.kind) }
 {
     let members = part.members()?;
     check_room(types, specs, class)?;
     let name = part.text("name")?;
     check_name(part, types, specs, class, name)?;
-    let kind = kind_of(part, types)?;
+    let kind = kind_of(part, types, names)?;
     let flags = flags_of(part)?;
     let spec = valued(part, types, name, kind, flags)?;
-    part.check_absent(&["weak"])?;
+    let weak = weak_of(part, &kind)?;
     part.check_only(members, &MEMBERS)?;
-    Ok(spec)
+    Ok(Spec { weak, ..spec })
 }
 
 // Gives a class a property.
@@ -194,12 +206,13 @@ fn install(
 fn read_property(
     part: Part<'_>,
     types: &TypeTree,
+    names: &TypeNames<'_>,
     specs: &mut SpecTable,
     class: TypeId,
 ) -> Result<(), ReadError>
-    ensures { Leads result (property_at (path_of part.entry.path) types.now class (own_of specs.old) (view part.entry.value.now)) (own_of specs.new) }
+    ensures { Leads result (property_at (path_of part.entry.path) types.now names.now class (own_of specs.old) (view part.entry.value.now)) (own_of specs.new) }
 {
-    let spec = spec_in(part, types, specs, class)?;
+    let spec = spec_in(part, types, names, specs, class)?;
     install(part, types, specs, class, spec)?;
     Ok(())
 }
@@ -208,6 +221,7 @@ fn read_property(
 #[derive(Clone, Copy)]
 struct PropertyEntries<'a> {
     types: &'a TypeTree,
+    names: &'a TypeNames<'a>,
     class: TypeId,
 }
 
@@ -223,10 +237,10 @@ impl<'a> Reads<SpecTable> for PropertyEntries<'a> {
 
     ghost known = { λ r. Unit {0} };
 
-    ghost step = { λ r path own d. property_at path r.types.now r.class own d };
+    ghost step = { λ r path own d. property_at path r.types.now r.names.now r.class own d };
 
     fn read(&self, part: Part<'_>, specs: &mut SpecTable) -> Result<(), ReadError> {
-        read_property(part, self.types, specs, self.class)
+        read_property(part, self.types, self.names, specs, self.class)
     }
 }
 
@@ -234,11 +248,16 @@ impl<'a> Reads<SpecTable> for PropertyEntries<'a> {
 pub(crate) fn read_properties(
     list: Entries<'_>,
     types: &TypeTree,
+    names: &TypeNames<'_>,
     specs: &mut SpecTable,
     class: TypeId,
 ) -> Result<(), ReadError>
-    ensures { Leads result (each (at_entry (λ path. property_at path types.now class) list.entry.path.now) 0 (own_of specs.old) (items_view list.entry.items.now)) (own_of specs.new) }
+    ensures { Leads result (each (at_entry (λ path. property_at path types.now names.now class) list.entry.path.now) 0 (own_of specs.old) (items_view list.entry.items.now)) (own_of specs.new) }
 {
-    let reader = PropertyEntries { types, class };
+    let reader = PropertyEntries {
+        types,
+        names,
+        class,
+    };
     read_each(&reader, list, specs)
 }

@@ -9,14 +9,17 @@ ghost use Rattle.builder_defs.specs.Refusals.{Gives, Leads};
 ghost use Rattle.builder_defs.specs.Document.{path_of};
 ghost use Rattle.param_specs.specs.Table.{own_of};
 ghost use Rattle.builder_defs.specs.Denoted.Properties.{specs_by};
-ghost use Rattle.builder_defs.specs.Denoted.Classes.{draft_of};
-ghost use Rattle.builder_defs.specs.Denoted.{format_of, enums_in, flags_in, classes_in, draft_in, objects_in, definition_in, denoted};
+ghost use Rattle.builder_defs.specs.Denoted.Drafts.{draft_of};
+ghost use Rattle.builder_defs.specs.Denoted.{format_of, enums_in, flags_in, interfaces_in, classes_in, draft_in, objects_in, definition_in, denoted};
 
-use crate::classes::{Draft, read_classes};
+use crate::classes::read_classes;
 use crate::definition::Definition;
-use crate::document::{Entries, Part, Path, parsed};
+use crate::document::{Entries, Part, Path, listed_ahead, parsed};
+use crate::drafts::Draft;
+use crate::entries::TypeNames;
 use crate::enums::{read_enums, read_flags_types};
 use crate::fault::{DefinitionFault, ReadError};
+use crate::interfaces::read_interfaces;
 use crate::limits::limits_of;
 use crate::object_entry::ObjectBody;
 use crate::objects::read_objects;
@@ -26,7 +29,7 @@ use serde_json::Value;
 use std::alloc::Global;
 use type_tree::TypeTree;
 
-const UNSET_BEFORE_CLASSES: [&str; 2] = ["interfaces", "shapes"];
+const UNSET_BEFORE_CLASSES: [&str; 1] = ["shapes"];
 
 const UNSET_BEFORE_OBJECTS: [&str; 2] = ["programs", "prototypes"];
 
@@ -93,12 +96,28 @@ fn flags_of(part: Part<'_>, types: &mut TypeTree) -> Result<(), ReadError>
     Ok(())
 }
 
-// Adds the classes of a definition.
-#[tactic(auto, unfolding(crate::specs::Denoted::classes_in))]
-fn classes_of(part: Part<'_>, draft: &mut Draft) -> Result<(), ReadError>
+// Adds the interfaces of a definition.
+#[tactic(auto, unfolding(crate::specs::Denoted::interfaces_in))]
+fn interfaces_of(part: Part<'_>, names: &TypeNames<'_>, draft: &mut Draft) -> Result<(), ReadError>
     requires root { path_of part.path ≡ [] }
     requires bare { draft.old.specs ≡ [] }
-    ensures { Leads result (classes_in draft.old.types (view part.entry.value.now)) (draft_of draft.new.types draft.new.specs) }
+    ensures { Leads result (interfaces_in names.now draft.old.types (view part.entry.value.now)) (draft_of draft.new.types draft.new.specs) }
+{
+    let items = part.entries("interfaces")?;
+    let list = Entries {
+        alloc: part.alloc,
+        path: "/interfaces",
+        items,
+    };
+    read_interfaces(list, listed_ahead(part.value, "classes"), names, draft)?;
+    Ok(())
+}
+
+// Adds the classes of a definition.
+#[tactic(auto, unfolding(crate::specs::Denoted::classes_in))]
+fn classes_of(part: Part<'_>, names: &TypeNames<'_>, draft: &mut Draft) -> Result<(), ReadError>
+    requires { path_of part.path ≡ [] }
+    ensures { Leads result (classes_in names.now (draft_of draft.old.types draft.old.specs) (view part.entry.value.now)) (draft_of draft.new.types draft.new.specs) }
 {
     part.check_nothing(&UNSET_BEFORE_CLASSES)?;
     let items = part.entries("classes")?;
@@ -107,7 +126,7 @@ fn classes_of(part: Part<'_>, draft: &mut Draft) -> Result<(), ReadError>
         path: "/classes",
         items,
     };
-    read_classes(list, draft)?;
+    read_classes(list, names, draft)?;
     Ok(())
 }
 
@@ -120,9 +139,11 @@ fn read_draft(part: Part<'_>) -> Result<Draft, ReadError>
     let mut types = TypeTree::new(part.alloc)?;
     enums_of(part, &mut types)?;
     flags_of(part, &mut types)?;
+    let names = TypeNames::new(part.alloc, part.value, types.len())?;
     let specs = SpecTable::new(part.alloc);
     let mut draft = Draft { types, specs };
-    classes_of(part, &mut draft)?;
+    interfaces_of(part, &names, &mut draft)?;
+    classes_of(part, &names, &mut draft)?;
     Ok(draft)
 }
 

@@ -1,25 +1,54 @@
 //! What all types of a definition have: a name, and their place among the 256.
 
 ghost use Rattle.std.specs.Prelude.{◌≡◌, codes, None, IfOk};
+ghost use Rattle.std.specs.List.{list_any};
+ghost use Rattle.serde_json.specs.View.{view, items_view};
 ghost use Rattle.ui_machine.specs.Seq.{read};
 ghost use Rattle.ui_machine.specs.Output.Text.{no_type};
 ghost use Rattle.type_tree.specs.Adding.{find_type, name_fault, room_fault};
 ghost use Rattle.builder_defs.specs.Causes.{cause_view, named_cause};
 ghost use Rattle.builder_defs.specs.Refusals.{Gives};
 ghost use Rattle.builder_defs.specs.Document.{path_of, under};
-ghost use Rattle.builder_defs.specs.Denoted.Types.{is_from, room_for_type, new_type_name};
+ghost use Rattle.builder_defs.specs.Denoted.Entries.{is_called, name_under};
+ghost use Rattle.builder_defs.specs.Denoted.Types.{is_declared, is_from, room_for_type, new_type_name};
 
 use crate::document::{Part, path_under};
+use crate::entries::name_under;
 use crate::fault::{DefinitionFault, DefinitionLimit, ReadError, TypeCause};
+use serde_json::Value;
 use std::alloc::{AllocError, Global};
-use type_tree::{MOST_TYPES, TypeFault, TypeId, TypeTree};
+use type_tree::{TypeFault, TypeId, TypeTree};
+
+// Whether an entry, taken by itself, has the name.
+fn is_called(entry: &Value, name: &str) -> bool
+    ensures { result ≡ is_called (name_under (codes "name") (view entry.now)) name.now }
+{
+    match name_under(entry, "name") {
+        Some(own) => own == name,
+        None => false,
+    }
+}
+
+fn any_called(list: &[Value], name: &str) -> bool
+    ensures { result ≡ list_any (λ v. is_called (name_under (codes "name") (view v)) name.now) list.now }
+{
+    list.iter().any(|entry| is_called(entry, name))
+}
+
+// Whether one of the entries of a section has the name.
+#[tactic(auto, using(crate::proofs::Parents::any_called))]
+pub(crate) fn is_declared(list: &[Value], name: &str) -> bool
+    ensures { result ≡ is_declared (items_view list.now) name.now }
+{
+    any_called(list, name)
+}
 
 // Tests that the tree has room for a further type.
 pub(crate) fn check_room(types: &TypeTree) -> Result<(), ReadError>
     ensures room { Gives (λ _. tt) result (room_for_type types.now) }
     ensures fine { IfOk result (λ _. room_fault types.now ≡ None) }
 {
-    if types.len() >= MOST_TYPES {
+    if types.room_fault().is_some() {
         return Err(ReadError::Refused(DefinitionFault::Limit(DefinitionLimit::Types)));
     }
     Ok(())

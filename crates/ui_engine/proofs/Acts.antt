@@ -7,7 +7,7 @@ use Rattle.ui_machine.specs.declared.arm.Arm.TheVariants as arms
 use Rattle.ui_machine.specs.Seq.{total}
 use Rattle.ui_machine.specs.Definition.Values.{Value}
 use Rattle.ui_machine.specs.Definition.{Definition}
-use Rattle.ui_machine.specs.Definition.Places.{Place, value}
+use Rattle.ui_machine.specs.Definition.Places.{Place}
 use Rattle.ui_machine.specs.Rules.Ancestry.{is_a}
 use Rattle.ui_machine.specs.Output.Lines as lines
 use Rattle.ui_machine.specs.Definition.Lookups.{type_of, program_at, place_at, specs_of}
@@ -20,18 +20,19 @@ use Rattle.ui_machine.specs.Rules.NotifyQueue.{frozen_less, thawing}
 use Rattle.ui_machine.specs.Rules.Programs.{first_frame, all_fit, fits_register, beginning_program, program_before}
 use Rattle.ui_machine.specs.Rules.EmissionPlan.{notifying, notification}
 use Rattle.ui_machine.specs.Rules.Accumulation.{resulting, passed_down, told, ending}
-use Rattle.ui_machine.specs.Rules.Construction.{initially_unowned, making, with_object, new_object, thawing_made, constructed, making_set}
+use Rattle.ui_machine.specs.Rules.Construction.{not_forward, initially_unowned, making, with_object, new_object, thawing_made, constructed, making_set}
 use Rattle.ui_machine.specs.Rules.Sets.{setting, spec_at}
 use Rattle.ui_machine.specs.Steps.{most_steps, before, uncounted, left, act}
-use Rattle.ui_machine.specs.Rules.Build.{building}
+use Rattle.ui_machine.specs.Rules.Build.{building, building_forward}
 use Rattle.ui_machine.specs.Rules.Events.{carrying_set, carrying_get}
 use Rattle.g_values.specs.View.{value_view}
 use Rattle.builder_defs.specs.declared.event.Event.{Event}
 use Rattle.builder_defs.specs.declared.event.Event.TheVariants as events
-use Rattle.builder_defs.specs.Meaning.{IsBasic, request_of}
+use Rattle.builder_defs.specs.Meaning.{IsBasic, given_view, request_of}
 use Rattle.ui_engine.specs.declared.task.Task.TheVariants as tasks
 use Rattle.ui_engine.specs.declared.task.Task as code
-use Rattle.ui_engine.specs.TaskView.{task_of, name_of, build_from}
+use Rattle.ui_engine.specs.declared.task.Forward.{Forward}
+use Rattle.ui_engine.specs.TaskView.{task_of, name_of, item_of, build_from}
 use Rattle.ui_engine.specs.EngineView.{is_counted}
 use Rattle.ui_machine.specs.Prefix.{IsPrefix}
 use Rattle.ui_machine.proofs.Prefixes.{prefix_same, prefix_one}
@@ -40,9 +41,9 @@ use Rattle.ui_engine.specs.Measure.{sets_of_place, weight, waiting_in, waiting}
 use Rattle.ui_engine.specs.MakingView.{making_of_object}
 use Rattle.ui_engine.proofs.Lists.{total-append}
 use Rattle.ui_engine.proofs.Held.{Quietly, keeps_quietly, if_ok_at, bind_ok, changed_lives, made_held, ended_held}
-use Rattle.ui_engine.proofs.Quiet.{Calm, notifying_calm, setting_calm, carrying_set_calm, carrying_get_calm, thawing_calm}
-use Rattle.ui_engine.proofs.Falls.{Falls, setting_falls, thawing_falls, thawing_made_falls, carrying_set_falls, carrying_get_falls}
-use Rattle.ui_engine.proofs.Building.{few_steps, builds_nothing, builds_next, next_made, made_there, abstract_there}
+use Rattle.ui_engine.proofs.Quiet.{Calm, notifying_calm, setting_calm, building_forward_calm, carrying_set_calm, carrying_get_calm, thawing_calm}
+use Rattle.ui_engine.proofs.Falls.{Falls, setting_falls, thawing_falls, thawing_made_falls, building_forward_falls, carrying_set_falls, carrying_get_falls}
+use Rattle.ui_engine.proofs.Building.{few_steps, few_early, only_forwards, builds_next, next_made, made_there, abstract_there}
 
 -- what the step of a task leads to
 pub record Passes (d : Definition) (w : World) (t : Task) (rest : List Task) (n : ℕ) (e : Config) : Type 0 where
@@ -108,7 +109,7 @@ module _ (d : Definition) (w : World) (rest : List Task) (n : ℕ) where
   kept_down (tasks.Emitting id class slot ∷ ts) v = refl
   kept_down (tasks.Thawing id slots ∷ ts) v = refl
   kept_down (tasks.Constructing id steps ∷ ts) v = refl
-  kept_down (tasks.Building place ∷ ts) v = refl
+  kept_down (tasks.Building place forwards ∷ ts) v = refl
   kept_down (tasks.Carrying event ∷ ts) v = refl
 
   ending_at : (e : Emission) (turns : List config.PlanEntry) → IsHeld w (Emitting e turns ∷ rest) → (v : World) → v.objects ≡ w.objects → v.builder ≡ w.builder → v.floating ≡ w.floating → IsPrefix w.transcript v.transcript
@@ -249,7 +250,7 @@ module _ (d : Definition) (w : World) (rest : List Task) (n : ℕ) where
   setting_passes id slot v held = steadily (Setting id slot v) held (λ o. refl) refl (setting d w id slot v) (setting_calm d w id slot v) (setting_falls d w id slot v)
 
   carrying_passes : (event : Event) → IsHeld w (Carrying (request_of event) ∷ rest) → IfOk (act d w None (Carrying (request_of event) ∷ rest) n) (Passes d w (Carrying (request_of event)) rest n)
-  carrying_passes (events.Set place slot v) held = steadily (Carrying (request_of (events.Set place slot v))) held (λ o. refl) refl (carrying_set d w place.0 slot (value (value_view v))) (carrying_set_calm d w place.0 slot (value (value_view v))) (carrying_set_falls d w place.0 slot (value (value_view v)))
+  carrying_passes (events.Set place slot given) held = steadily (Carrying (request_of (events.Set place slot given))) held (λ o. refl) refl (carrying_set d w place.0 slot (given_view given)) (carrying_set_calm d w place.0 slot (given_view given)) (carrying_set_falls d w place.0 slot (given_view given))
   carrying_passes (events.Get place slot) held = steadily (Carrying (request_of (events.Get place slot))) held (λ o. refl) refl (carrying_get d w place.0 slot) (carrying_get_calm d w place.0 slot) (carrying_get_falls d w place.0 slot)
 
   -- ** the build
@@ -261,51 +262,65 @@ module _ (d : Definition) (w : World) (rest : List Task) (n : ℕ) where
   made : (place : ℕ) (p : Place) (items : List Item) → slice_get d.places place ≡ Some p → IsHeld w (Building (makes place ∷ items) ∷ rest)
       → Passes d w (Building (makes place ∷ items)) rest n (record {
         world = said d (with_object d w (new_object d place p None)) (lines.construct (suc (length w.objects)) (type_of d p.class).name);
-        agenda = Constructing (suc (length w.objects)) (making_of_object w (specs_of d p.class) p.given) true ∷ Building items ∷ rest;
+        agenda = Constructing (suc (length w.objects)) (making_of_object w (specs_of d p.class) (not_forward place p.given)) true ∷ Building items ∷ rest;
         counted = n;
       })
   made place p items at held = record {
     held = made_held w (said d (with_object d w (new_object d place p None)) (lines.construct (suc (length w.objects)) (type_of d p.class).name)) (Building (makes place ∷ items)) rest
-        (new_object d place p None) (is_a d.types p.class initially_unowned) (making_of_object w (specs_of d p.class) p.given) (Building items) held (λ q. refl) refl refl refl;
+        (new_object d place p None) (is_a d.types p.class initially_unowned) (making_of_object w (specs_of d p.class) (not_forward place p.given)) (Building items) held (λ q. refl) refl refl refl;
     falls = λ _.
-        let few = few_steps w (specs_of d p.class) p.given in
+        let few = few_steps w (specs_of d p.class) (not_forward place p.given) in
+        let early = few_early place p.given in
         let slots : sets_of_place d (place_at d place) ≡ length (specs_of d p.class) + length p.given = ap (sets_of_place d) at in
-        omega (arith, few, slots, waiting_more w.objects (new_object d place p None) refl);
+        omega (arith, few, early, slots, waiting_more w.objects (new_object d place p None) refl);
     stays = λ _. refl;
     counts = λ yes. cc yes;
     grows = (prefix_one w.transcript _);
   }
 
-  module _ (basic : IsBasic d) (place : ℕ) (held : IsHeld w (Building (build_from d place) ∷ rest)) where
-    abbrev P : Config → Type 0
-    P = Passes d w (Building (build_from d place)) rest n
+  -- a forward reference is set
+  forward_passes : (fs : List Forward) → IsHeld w (Building (map item_of fs) ∷ rest)
+      → IfOk (uncounted rest n (building d w (map item_of fs))) (Passes d w (Building (map item_of fs)) rest n)
+  forward_passes [] held =
+      steady (Building []) held (λ o. refl) refl (record { world = w; tasks = [] })
+      (record { quiet = record { lives = λ q h. h; builder = refl; floating = refl; grows = prefix_same w.transcript }; none = λ o. refl })
+      (record { less = omega arith })
+  forward_passes (f ∷ fs) held =
+      steadily (Building (item_of f ∷ map item_of fs)) held (λ o. refl) refl (building_forward d w f.object f.slot f.to.0 (map item_of fs))
+      (building_forward_calm d w f.object f.slot f.to.0 (map item_of fs)) (building_forward_falls d w f.object f.slot f.to.0 (map item_of fs))
 
-    built_there : (p : Place) → slice_get d.places place ≡ Some p → IfOk (uncounted rest n (building d w (build_from d place))) P
-    built_there p at = subst (λ (a : Answer Config). IfOk a P) (sym (builds_next d basic w place p at rest n)) (by (type_of d p.class).is_abstract refl)
+  module _ (basic : IsBasic d) (place : ℕ) (fs : List Forward) (held : IsHeld w (Building (build_from d place fs) ∷ rest)) where
+    abbrev P : Config → Type 0
+    P = Passes d w (Building (build_from d place fs)) rest n
+
+    built_there : (p : Place) → slice_get d.places place ≡ Some p → IfOk (uncounted rest n (building d w (build_from d place fs))) P
+    built_there p at = subst (λ (a : Answer Config). IfOk a P) (sym (builds_next d basic w place p at fs rest n)) (by (type_of d p.class).is_abstract refl)
       where
         items : List Item
-        items = build_from d (suc place)
+        items = build_from d (suc place) fs
 
-        next : build_from d place ≡ makes place ∷ items
-        next = next_made d basic w place p at
+        next : build_from d place fs ≡ makes place ∷ items
+        next = next_made d basic w place p at fs
 
         by : (b : Bool) → (type_of d p.class).is_abstract ≡ b → IfOk (uncounted (Building items ∷ rest) n (making d w place None true)) P
         by true is = rw (abstract_there d basic w place p at is) tt
         by false is = rw (made_there d basic w place p at is)
             (subst (λ (xs : List Item). Passes d w (Building xs) rest n (record {
               world = said d (with_object d w (new_object d place p None)) (lines.construct (suc (length w.objects)) (type_of d p.class).name);
-              agenda = Constructing (suc (length w.objects)) (making_of_object w (specs_of d p.class) p.given) true ∷ Building items ∷ rest;
+              agenda = Constructing (suc (length w.objects)) (making_of_object w (specs_of d p.class) (not_forward place p.given)) true ∷ Building items ∷ rest;
               counted = n;
             })) (sym next) (made place p items at (subst (λ (xs : List Item). IsHeld w (Building xs ∷ rest)) next held)))
 
-    built_past : length d.places ≤ place → IfOk (uncounted rest n (building d w (build_from d place))) P
-    built_past past = subst (λ (a : Answer Started). IfOk (uncounted rest n a) P) (sym (builds_nothing d w place past))
-        (steady (Building (build_from d place)) held (λ o. refl) refl (record { world = w; tasks = [] }) (record { quiet = record { lives = λ q h. h; builder = refl; floating = refl; grows = prefix_same w.transcript }; none = λ o. refl }) (record { less = omega arith }))
+    built_past : length d.places ≤ place → IfOk (uncounted rest n (building d w (build_from d place fs))) P
+    built_past past =
+        let left = only_forwards d place fs past in
+        subst (λ (xs : List Item). IfOk (uncounted rest n (building d w xs)) (Passes d w (Building xs) rest n)) (sym left)
+        (forward_passes fs (subst (λ (xs : List Item). IsHeld w (Building xs ∷ rest)) left held))
 
-    building_passes : IfOk (act d w None (Building (build_from d place) ∷ rest) n) P
+    building_passes : IfOk (act d w None (Building (build_from d place fs) ∷ rest) n) P
     building_passes = by (slice_get d.places place) refl
       where
-        by : (o : Option Place) → slice_get d.places place ≡ o → IfOk (uncounted rest n (building d w (build_from d place))) P
+        by : (o : Option Place) → slice_get d.places place ≡ o → IfOk (uncounted rest n (building d w (build_from d place fs))) P
         by (Some p) at = built_there p at
         by None at = built_past (within_none d.places place at)
 
@@ -316,5 +331,5 @@ module _ (d : Definition) (w : World) (rest : List Task) (n : ℕ) where
   acted basic (tasks.Emitting id class slot) ts same held = ending_passes (notification id (name_of d class slot)) ts same held
   acted basic (tasks.Thawing id slots) ts same held = thawing_passes id slots held
   acted basic (tasks.Constructing id steps) ts same held = constructing_passes id steps held
-  acted basic (tasks.Building place) ts same held = building_passes basic place held
+  acted basic (tasks.Building place forwards) ts same held = building_passes basic place forwards held
   acted basic (tasks.Carrying event) ts same held = carrying_passes event held

@@ -7,7 +7,7 @@ use Rattle.std.proofs.Math.Seq.{drop-cons}
 use Rattle.ui_machine.specs.declared.arm.Arm.TheVariants as arms
 use Rattle.ui_machine.specs.Definition.Properties.{Spec}
 use Rattle.ui_machine.specs.Definition.{Definition}
-use Rattle.ui_machine.specs.Definition.Places.{Given, value, named, GivenProperty, Place}
+use Rattle.ui_machine.specs.Definition.Places.{GivenProperty, Place}
 use Rattle.ui_machine.specs.Definition.Values as values
 use Rattle.ui_machine.specs.Seq.{read}
 use Rattle.ui_machine.specs.Definition.Lookups.{type_of, class_of, specs_of}
@@ -16,14 +16,15 @@ use Rattle.ui_machine.specs.State.Tasks.{Making, sets, thaws, Item, makes, Task,
 use Rattle.ui_machine.specs.State.Config.{World, Started, starts, said, without}
 use Rattle.ui_machine.specs.Outcome.{Answer, ◌>>=◌, known, only_if}
 use Rattle.ui_machine.specs.Rules.Construction.{is_forward, not_forward, or_default, given_at, given_value, set_of, no_spec, is_at_construction, construct_sets, constructed_runs, run_of, given_sets, construction, new_object, with_object, making, has_valid_default, has_shape}
-use Rattle.ui_machine.specs.Rules.Build.{made_items, adopts_if, first_peer, peer_for, building, building_object}
+use Rattle.ui_machine.specs.Rules.Build.{made_items, adopts_if, forward_of, forward_items, first_peer, peer_for, building, building_object}
 use Rattle.ui_machine.specs.Rules.Ancestry.{lineage}
 use Rattle.ui_machine.specs.Rules.Transform.{same_bool}
 use Rattle.ui_machine.specs.Steps.{uncounted}
 use Rattle.g_values.specs.declared.value.Value.{Value}
 use Rattle.g_values.specs.View.{value_view}
-use Rattle.builder_defs.specs.Meaning.{IsPlain, IsValue, AreValues, IsBasic}
-use Rattle.ui_engine.specs.TaskView.{build_from}
+use Rattle.builder_defs.specs.Meaning.{IsPlain, IsBasic}
+use Rattle.ui_engine.specs.declared.task.Forward.{Forward}
+use Rattle.ui_engine.specs.TaskView.{item_of, forwards_of_place, forwards_at, build_from}
 use Rattle.ui_engine.specs.declared.task.Making as code
 use Rattle.ui_engine.specs.MakingView.{making_of_code, making_steps, later_steps, making_of_object}
 use Rattle.ui_engine.proofs.Notified.{none_given}
@@ -53,16 +54,14 @@ drop_past (x ∷ xs) (suc i) past = drop_past xs i (omega arith)
 
 -- ** constructions
 
-no_forward : (place : ℕ) (g : Given) → IsValue g → is_forward place g ≡ false
-no_forward place (value v) is = refl
-no_forward place (named to) is = absurd is
+one_early : (b : Bool) (g : GivenProperty) (gs all : List GivenProperty) → length gs ≤ length all → length (cond b (g ∷ gs) gs) ≤ suc (length all)
+one_early true g gs all few = omega (arith, few)
+one_early false g gs all few = omega (arith, few)
 
--- a value itself does not wait for an object
-none_forward : (place : ℕ) (given : List GivenProperty) → AreValues given → not_forward place given ≡ given
-none_forward place [] values = refl
-none_forward place (g ∷ gs) values =
-    ap (λ b. cond (not b) (g ∷ not_forward place gs) (not_forward place gs)) (no_forward place g.given values.0)
-    ∙ ap (λ rest. g ∷ rest) (none_forward place gs values.1)
+-- forward references are left out
+pub few_early : (place : ℕ) (given : List GivenProperty) → length (not_forward place given) ≤ length given
+few_early place [] = omega arith
+few_early place (g ∷ gs) = one_early (not (is_forward place g.given)) g (not_forward place gs) gs (few_early place gs)
 
 one_set : (b : Bool) (slot : ℕ) (v : values.Value) (steps : List Making)
     → length (cond b (sets slot v ∷ []) [] ++ steps) ≤ suc (length steps)
@@ -116,18 +115,17 @@ module _ (d : Definition) (basic : IsBasic d) where
   no_runs class = no_runs_in (reverse (lineage d.types class))
 
   module _ (w : World) (place : ℕ) (p : Place) (at : slice_get d.places place ≡ Some p) where
-    only_sets : construction d w place p ≡ making_of_object w (specs_of d p.class) p.given
+    only_sets : construction d w place p ≡ making_of_object w (specs_of d p.class) (not_forward place p.given)
     only_sets =
         let specs = specs_of d p.class in
-        ap (λ given. construct_sets w given 0 specs ++ (constructed_runs d p.class ++ later_steps w specs given))
-        (none_forward place p.given (basic.given place p at))
-        ∙ ap (λ runs. construct_sets w p.given 0 specs ++ (runs ++ later_steps w specs p.given)) (no_runs p.class)
+        let given = not_forward place p.given in
+        ap (λ runs. construct_sets w given 0 specs ++ (runs ++ later_steps w specs given)) (no_runs p.class)
 
     valid_defaults : list_all (has_valid_default d) (specs_of d p.class) ≡ true
     valid_defaults = each_valid d (specs_of d p.class) (λ i s has. basic.plain p.class i s has)
 
     pub made_there : (type_of d p.class).is_abstract ≡ false
-        → making d w place None true ≡ starts (said d (with_object d w (new_object d place p None)) (lines.construct (suc (length w.objects)) (type_of d p.class).name)) (Constructing (suc (length w.objects)) (making_of_object w (specs_of d p.class) p.given) true ∷ [])
+        → making d w place None true ≡ starts (said d (with_object d w (new_object d place p None)) (lines.construct (suc (length w.objects)) (type_of d p.class).name)) (Constructing (suc (length w.objects)) (making_of_object w (specs_of d p.class) (not_forward place p.given)) true ∷ [])
     unfolding making
     made_there concrete =
         rw (at, concrete, valid_defaults)
@@ -137,11 +135,12 @@ module _ (d : Definition) (basic : IsBasic d) where
     unfolding making
     abstract_there abstract = rw (at, abstract) refl
 
-    pub next_made : build_from d place ≡ makes place ∷ build_from d (suc place)
-    next_made =
-        ap (made_items place) (drop_at d.places place p at)
-        ∙ ap (λ b. cond b [] (makes place ∷ adopts_if place p.parent) ++ build_from d (suc place)) (basic.prototypes place p at)
-        ∙ ap (λ above. (makes place ∷ adopts_if place above) ++ build_from d (suc place)) (basic.parents place p at)
+    pub next_made : (fs : List Forward) → build_from d place fs ≡ makes place ∷ build_from d (suc place) fs
+    next_made fs =
+        let others = made_items (suc place) (drop (suc place) d.places) in
+        ap (λ ps. made_items place ps ++ map item_of fs) (drop_at d.places place p at)
+        ∙ ap (λ b. (cond b [] (makes place ∷ adopts_if place p.parent) ++ others) ++ map item_of fs) (basic.prototypes place p at)
+        ∙ ap (λ above. ((makes place ∷ adopts_if place above) ++ others) ++ map item_of fs) (basic.parents place p at)
 
     without_peer : peer_for d w p ≡ Ok None
     without_peer =
@@ -154,21 +153,34 @@ module _ (d : Definition) (basic : IsBasic d) where
     below rest n items (Ok s) = ap (λ tasks. Ok (record { world = s.world; agenda = tasks; counted = n })) (one_more s.tasks (Building items) rest)
     below rest n items (Err arm) = refl
 
-    pub builds_next : (rest : List Task) (n : ℕ)
-        → uncounted rest n (building d w (build_from d place)) ≡ uncounted (Building (build_from d (suc place)) ∷ rest) n (making d w place None true)
+    pub builds_next : (fs : List Forward) (rest : List Task) (n : ℕ)
+        → uncounted rest n (building d w (build_from d place fs)) ≡ uncounted (Building (build_from d (suc place) fs) ∷ rest) n (making d w place None true)
     unfolding building_object
-    builds_next rest n =
-        ap (λ items. uncounted rest n (building d w items)) next_made
-        ∙ ap (λ (found : Option Place). uncounted rest n (known arms.Code found >>= λ q. peer_for d w q >>= λ peer. making d w place peer true >>= λ m. starts m.world (m.tasks ++ Building (build_from d (suc place)) ∷ []))) at
-        ∙ ap (λ (taken : Answer (Option ℕ)). uncounted rest n (taken >>= λ peer. making d w place peer true >>= λ m. starts m.world (m.tasks ++ Building (build_from d (suc place)) ∷ []))) without_peer
-        ∙ sym (below rest n (build_from d (suc place)) (making d w place None true))
+    builds_next fs rest n =
+        ap (λ items. uncounted rest n (building d w items)) (next_made fs)
+        ∙ ap (λ (found : Option Place). uncounted rest n (known arms.Code found >>= λ q. peer_for d w q >>= λ peer. making d w place peer true >>= λ m. starts m.world (m.tasks ++ Building (build_from d (suc place) fs) ∷ []))) at
+        ∙ ap (λ (taken : Answer (Option ℕ)). uncounted rest n (taken >>= λ peer. making d w place peer true >>= λ m. starts m.world (m.tasks ++ Building (build_from d (suc place) fs) ∷ []))) without_peer
+        ∙ sym (below rest n (build_from d (suc place) fs) (making d w place None true))
 
 pub no_place : (d : Definition) (w : World) (place : ℕ) → slice_get d.places place ≡ None → making d w place None true ≡ Err arms.Code
 unfolding making
 no_place d w place none = rw none refl
 
-pub builds_nothing : (d : Definition) (w : World) (place : ℕ) → length d.places ≤ place → building d w (build_from d place) ≡ starts w []
-builds_nothing d w place past = ap (λ ps. building d w (made_items place ps)) (drop_past d.places place past)
+-- the forward references of an object stand before those of the objects behind it
+pub forwards_before : (d : Definition) → IsBasic d → (place : ℕ) (p : Place) → slice_get d.places place ≡ Some p
+    → forward_items place (drop place d.places) ≡ forwards_at d place ++ forward_items (suc place) (drop (suc place) d.places)
+forwards_before d basic place p at =
+    let others = forward_items (suc place) (drop (suc place) d.places) in
+    ap (forward_items place) (drop_at d.places place p at)
+    ∙ ap (λ b. cond b [] (flat_map (forward_of place) p.given) ++ others) (basic.prototypes place p at)
+    ∙ ap (λ (found : Option Place). forwards_of_place place found ++ others) (sym at)
+
+-- where all objects are made, the forward references are left
+pub only_forwards : (d : Definition) (place : ℕ) (fs : List Forward) → length d.places ≤ place → build_from d place fs ≡ map item_of fs
+only_forwards d place fs past = ap (λ ps. made_items place ps ++ map item_of fs) (drop_past d.places place past)
+
+pub no_more_forwards : (d : Definition) (place : ℕ) → length d.places ≤ place → forward_items place (drop place d.places) ≡ []
+no_more_forwards d place past = ap (forward_items place) (drop_past d.places place past)
 
 -- ** the steps of a construction
 

@@ -15,14 +15,14 @@ use Rattle.ui_machine.specs.Definition.{Definition}
 use Rattle.ui_machine.specs.Definition.Places.{Given}
 use Rattle.ui_machine.specs.Rules.NotifyQueue.{queued, thawed, raised, frozen_less, less_frozen, thawing}
 use Rattle.ui_machine.specs.State.Objects.{Object, Objects, living, put, class_in, asked, value_at, changed, with_value}
-use Rattle.ui_machine.specs.State.Tasks.{Making, Notifying}
+use Rattle.ui_machine.specs.State.Tasks.{Item, Making, Notifying}
 use Rattle.ui_machine.specs.State.Config.{World, Started, starts, said}
 use Rattle.ui_machine.specs.Outcome.{After, Answer, ◌>>=◌, known, only_if}
 use Rattle.ui_machine.specs.Rules.Sets.{spec_at, raising, raising_if, notifies, kept, written, settled, setting, lives, has_kind}
 use Rattle.ui_machine.specs.Rules.Construction.{thawing_made, given_value}
-use Rattle.ui_machine.specs.Rules.Build.{held_object}
+use Rattle.ui_machine.specs.Rules.Build.{held_object, set_forward, building_forward}
 use Rattle.ui_machine.specs.Rules.Events.{with_result, carrying_set, carrying_get, set_given}
-use Rattle.ui_engine.specs.Measure.{weight, waiting_in, waiting}
+use Rattle.ui_engine.specs.Measure.{item_weight, weight, waiting_in, waiting}
 use Rattle.ui_engine.proofs.Held.{if_ok_at, bind_ok}
 
 -- ** what waits, after one object changed
@@ -163,6 +163,20 @@ unfolding carrying_set
 carrying_set_falls d w place slot given = bind_ok (held_object w place) _ (Falls d w 4) (λ id _. bind_ok (spec_at d w.objects id slot) _ (Falls d w 4) (λ s _.
     only_falls d w 4 (is_writable s) arms.Flags (only_if (not (is_construct_only s)) arms.ConstructOnly (set_given w id slot given))
     (only_falls d w 4 (not (is_construct_only s)) arms.ConstructOnly (set_given w id slot given) (set_given_falls d w id slot given))))
+
+set_forward_falls : (d : Definition) (w : World) (id slot to : ℕ) (items : List Item)
+    → IfOk (set_forward w id slot to items) (Falls d w (4 + total (item_weight d) items + 1))
+unfolding set_forward
+set_forward_falls d w id slot to items = bind_ok (held_object w to) _ (Falls d w (4 + total (item_weight d) items + 1)) (λ target _. record { less = omega arith })
+
+pub building_forward_falls : (d : Definition) (w : World) (place slot to : ℕ) (items : List Item)
+    → IfOk (building_forward d w place slot to items) (Falls d w (4 + total (item_weight d) items + 1))
+unfolding building_forward
+building_forward_falls d w place slot to items =
+    let before = 4 + total (item_weight d) items + 1 in
+    bind_ok (held_object w place) _ (Falls d w before) (λ id _. bind_ok (spec_at d w.objects id slot) _ (Falls d w before) (λ s _.
+    only_falls d w before (is_writable s) arms.Flags (only_if (not (is_construct_only s)) arms.ConstructOnly (set_forward w id slot to items))
+    (only_falls d w before (not (is_construct_only s)) arms.ConstructOnly (set_forward w id slot to items) (set_forward_falls d w id slot to items))))
 
 pub carrying_get_falls : (d : Definition) (w : World) (place slot : ℕ) → IfOk (carrying_get d w place slot) (Falls d w 4)
 unfolding carrying_get

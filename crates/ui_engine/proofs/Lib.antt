@@ -18,3 +18,4 @@ pub mod Stepping
 pub mod Reaching
 pub mod Beginning
 pub mod Serving
+pub mod Forwarded

@@ -24,41 +24,47 @@ use Rattle.g_values.specs.declared.value.Value.TheVariants as of_value
 use Rattle.g_values.specs.View.{kind_view, value_view, value_kind}
 use Rattle.param_specs.specs.declared.spec.Spec as specs
 use Rattle.param_specs.specs.View.{spec_view}
-use Rattle.param_specs.specs.Validation.{IsWithin, Takes, KnowsClass}
+use Rattle.param_specs.specs.Validation.{IsWithin, Takes}
 use Rattle.builder_defs.specs.Meaning.{IsPlainKind, IsPlain}
 
 -- ** a value of a plain kind
 
-lives_plain : (types : List GType) (os : Objects) (v : Value) (k : kinds.Kind) (s : Spec) → IsPlainKind types k s
-    → has_kind v k ≡ true → lives os v ≡ true
-lives_plain types os (values.bool b) k s p h = refl
-lives_plain types os (values.whole w n) k s p h = refl
-lives_plain types os (values.text t) k s p h = refl
-lives_plain types os (values.enum t n) k s p h = refl
-lives_plain types os (values.flags t n) k s p h = refl
-lives_plain types os (values.object o) kinds.bool s p h = cc
-lives_plain types os (values.object o) (kinds.whole w) s p h = cc
-lives_plain types os (values.object o) kinds.text s p h = cc
-lives_plain types os (values.object o) (kinds.enum t) s p h = cc
-lives_plain types os (values.object o) (kinds.flags t) s p h = cc
-lives_plain types os (values.object o) (kinds.object t) s p h = absurd p
+-- what is no object stays, and an object that is not disposed
+pub null_stands : (types : List GType) (os : Objects) (v : Value) (k : kinds.Kind) → kind_fits (λ id. None) types v k ≡ true → unless_disposed os v ≡ v
+null_stands types os (values.bool b) k h = refl
+null_stands types os (values.whole w n) k h = refl
+null_stands types os (values.text t) k h = refl
+null_stands types os (values.enum t n) k h = refl
+null_stands types os (values.flags t n) k h = refl
+null_stands types os (values.object None) k h = refl
+null_stands types os (values.object (Some o)) kinds.bool h = cc
+null_stands types os (values.object (Some o)) (kinds.whole w) h = cc
+null_stands types os (values.object (Some o)) kinds.text h = cc
+null_stands types os (values.object (Some o)) (kinds.enum t) h = cc
+null_stands types os (values.object (Some o)) (kinds.flags t) h = cc
+null_stands types os (values.object (Some o)) (kinds.object t) h = cc
 
-pub knows_class : (types : List GType) (living_class : ℕ → Option ℕ) (v : coded.Value) (k : kinds.Kind) (s : Spec) → IsPlainKind types k s
-    → has_kind (value_view v) k ≡ true → KnowsClass living_class v
-knows_class types f (of_value.Bool b) k s p h = tt
-knows_class types f (of_value.Int n) k s p h = tt
-knows_class types f (of_value.UInt n) k s p h = tt
-knows_class types f (of_value.Int64 n) k s p h = tt
-knows_class types f (of_value.UInt64 n) k s p h = tt
-knows_class types f (of_value.Text t) k s p h = tt
-knows_class types f (of_value.Enum t n) k s p h = tt
-knows_class types f (of_value.Flags t n) k s p h = tt
-knows_class types f (of_value.Object t o) kinds.bool s p h = cc
-knows_class types f (of_value.Object t o) (kinds.whole w) s p h = cc
-knows_class types f (of_value.Object t o) kinds.text s p h = cc
-knows_class types f (of_value.Object t o) (kinds.enum u) s p h = cc
-knows_class types f (of_value.Object t o) (kinds.flags u) s p h = cc
-knows_class types f (of_value.Object t o) (kinds.object u) s p h = absurd p
+one_stands : (os : Objects) (b : Bool) (v w : Value) → unless_disposed os v ≡ v → unless_disposed os w ≡ w → unless_disposed os (cond b v w) ≡ cond b v w
+one_stands os true v w p q = p
+one_stands os false v w p q = q
+
+-- so does what validation makes of it
+clamped_stands : (f : ℕ → Option ℕ) (types : List GType) (os : Objects) (s : Spec) (v : Value) → unless_disposed os s.default ≡ s.default
+    → unless_disposed os v ≡ v → unless_disposed os (clamp f types s v) ≡ clamp f types s v
+clamped_stands f types os s (values.bool b) d h = refl
+clamped_stands f types os s (values.whole w n) d h = refl
+clamped_stands f types os s (values.text t) d h = refl
+clamped_stands f types os s (values.enum t n) d h = one_stands os (has_number (members_of types t) n) (values.enum t n) s.default refl d
+clamped_stands f types os s (values.flags t bits) d h = refl
+clamped_stands f types os s (values.object o) d h =
+    one_stands os (kind_fits f types (values.object o) s.kind) (values.object o) (values.object None) h refl
+
+kept_stands : (os : Objects) (s : Spec) (v : Value) → unless_disposed os v ≡ v → kept os s v ≡ v
+kept_stands os s v h = by s.weak
+  where
+    by : (weak : Bool) → cond weak (unless_disposed os v) v ≡ v
+    by true = h
+    by false = refl
 
 whole_same : (w k : kinds.Whole) → same_whole w k ≡ true → w ≡ k
 whole_same kinds.int kinds.int h = refl
@@ -86,7 +92,7 @@ takes_whole types w (kinds.whole k) s n p h =
 takes_whole types w kinds.text s n p h = cc
 takes_whole types w (kinds.enum u) s n p h = cc
 takes_whole types w (kinds.flags u) s n p h = cc
-takes_whole types w (kinds.object u) s n p h = absurd p
+takes_whole types w (kinds.object u) s n p h = cc
 
 fits_first : (a b : Bool) → (a && b) ≡ true → a ≡ true
 fits_first true b h = refl
@@ -119,7 +125,7 @@ takes_enum types t n (kinds.enum u) s p fits h =
     let is : u ≡ t = grind (arith, nat_tests) in
     (subst (λ x. sort_of types x ≡ sorts.enum) is p, default_kind types u s.default fits ∙ ap kinds.enum is)
 takes_enum types t n (kinds.flags u) s p fits h = cc
-takes_enum types t n (kinds.object u) s p fits h = absurd p
+takes_enum types t n (kinds.object u) s p fits h = cc
 
 takes_flags : (types : List GType) (t bits : ℕ) (k : kinds.Kind) (s : Spec) → IsPlainKind types k s → has_kind (values.flags t bits) k ≡ true
     → sort_of types t ≡ sorts.flags
@@ -130,7 +136,7 @@ takes_flags types t bits (kinds.enum u) s p h = cc
 takes_flags types t bits (kinds.flags u) s p h =
     let is : u ≡ t = grind (arith, nat_tests) in
     subst (λ x. sort_of types x ≡ sorts.flags) is p
-takes_flags types t bits (kinds.object u) s p h = absurd p
+takes_flags types t bits (kinds.object u) s p h = cc
 
 -- what validation asks for holds
 pub takes : (types : List GType) (s : specs.Spec) (v : coded.Value) → IsPlain types (spec_view s)
@@ -177,11 +183,16 @@ module _ (d : Definition) (w : World) (id slot : ℕ) (v : Value) where
     pub other_kind_set : has_kind v s.kind ≡ false → setting d w id slot v ≡ Err arms.Value
     other_kind_set h = by_spec ∙ ap (λ b. only_if (b && lives w.objects v) arms.Value (settled d w id slot s v (clamp (class_in w.objects) d.types s v))) h
 
-    module _ (plain : IsPlain d.types s) (kind : has_kind v s.kind ≡ true) where
+    pub dead_set : has_kind v s.kind ≡ true → lives w.objects v ≡ false → setting d w id slot v ≡ Err arms.Value
+    dead_set kind dead =
+        by_spec ∙ ap (λ b. only_if (b && lives w.objects v) arms.Value (settled d w id slot s v (clamp (class_in w.objects) d.types s v))) kind
+        ∙ ap (λ b. only_if b arms.Value (settled d w id slot s v (clamp (class_in w.objects) d.types s v))) dead
+
+    module _ (plain : IsPlain d.types s) (kind : has_kind v s.kind ≡ true) (alive : lives w.objects v ≡ true) (stands : unless_disposed w.objects v ≡ v) where
       by_value : setting d w id slot v ≡ settled d w id slot s v (clamp (class_in w.objects) d.types s v)
       by_value =
           by_spec ∙ ap (λ b. only_if (b && lives w.objects v) arms.Value (settled d w id slot s v (clamp (class_in w.objects) d.types s v))) kind
-          ∙ ap (λ b. only_if b arms.Value (settled d w id slot s v (clamp (class_in w.objects) d.types s v))) (lives_plain d.types w.objects v s.kind s plain.kind kind)
+          ∙ ap (λ b. only_if b arms.Value (settled d w id slot s v (clamp (class_in w.objects) d.types s v))) alive
 
       refused_set : (same_value (clamp (class_in w.objects) d.types s v) v || is_lax s) ≡ false → setting d w id slot v ≡ starts (said d w (lines.refused id s.name v)) []
       refused_set bad =
@@ -191,7 +202,10 @@ module _ (d : Definition) (w : World) (id slot : ℕ) (v : Value) where
           → setting d w id slot v ≡ written d w id slot s x
       written_set x valid good =
           by_value ∙ ap (λ b. cond b (written d w id slot s (kept w.objects s (clamp (class_in w.objects) d.types s v))) (starts (said d w (lines.refused id s.name v)) [])) good
-          ∙ ap (λ b. written d w id slot s (cond b (unless_disposed w.objects (clamp (class_in w.objects) d.types s v)) (clamp (class_in w.objects) d.types s v))) plain.strong
+          ∙ ap (written d w id slot s) (kept_stands w.objects s (clamp (class_in w.objects) d.types s v)
+          (clamped_stands (class_in w.objects) d.types w.objects s v
+          (null_stands d.types w.objects s.default s.kind
+          (fits_first (kind_fits (λ id. None) d.types s.default s.kind) (same_value (clamp (λ id. None) d.types s s.default) s.default) plain.default)) stands))
           ∙ ap (written d w id slot s) (sym valid)
 
       -- as code finds it, with a flag for what was changed
@@ -207,3 +221,13 @@ module _ (d : Definition) (w : World) (id slot : ℕ) (v : Value) where
           → x ≡ clamp (class_in w.objects) d.types s v → setting d w id slot v ≡ written d w id slot s x
       written_by_flag refuses is_changed x is e f valid =
           written_set x valid (flag_on (same_value (clamp (class_in w.objects) d.types s v) v || is_lax s) (sym (refuses_is refuses is_changed (same_value (clamp (class_in w.objects) d.types s v) v) (is_lax s) e f) ∙ is))
+
+-- ** the value by its object
+
+pub only_ok : (b : Bool) (v x : Value) → only_if b arms.Value (Ok v) ≡ Ok x → (b ≡ true) × (x ≡ v)
+only_ok true v x h = (refl, cc)
+only_ok false v x h = cc
+
+pub only_err : (b : Bool) (v : Value) (arm : Arm) → only_if b arms.Value (Ok v) ≡ Err arm → (b ≡ false) × (arm ≡ arms.Value)
+only_err true v arm h = cc
+only_err false v arm h = (refl, cc)

@@ -13,7 +13,7 @@ use Rattle.ui_machine.specs.Definition.Lookups.{spec_of}
 use Rattle.ui_machine.specs.Definition.{Definition}
 use Rattle.ui_machine.specs.Definition.Places.{Given}
 use Rattle.ui_machine.specs.State.Objects.{Object, Objects, living, class_in, object_at, asked, value_at, changed, with_value}
-use Rattle.ui_machine.specs.State.Tasks.{Notifying}
+use Rattle.ui_machine.specs.State.Tasks.{Item, Notifying}
 use Rattle.ui_machine.specs.State.Config.{World, Started, starts, said}
 use Rattle.ui_machine.specs.Outcome.{After, Answer, known, only_if}
 use Rattle.ui_machine.specs.Rules.NotifyQueue.{raised, thawing}
@@ -21,7 +21,7 @@ use Rattle.ui_machine.specs.Rules.Sets.{spec_at, raising, raising_if, notifies, 
 use Rattle.ui_machine.specs.Rules.EmissionPlan.{notifying, signal_at}
 use Rattle.ui_machine.specs.Rules.Construction.{given_value}
 use Rattle.ui_machine.specs.Rules.Events.{with_result, carrying_set, carrying_get, set_given}
-use Rattle.ui_machine.specs.Rules.Build.{held_object}
+use Rattle.ui_machine.specs.Rules.Build.{held_object, set_forward, building_forward}
 use Rattle.ui_machine.specs.Prefix.{IsPrefix}
 use Rattle.ui_machine.proofs.Prefixes.{prefix_same, prefix_one}
 use Rattle.ui_engine.specs.Holding.{making_of}
@@ -110,6 +110,21 @@ pub carrying_get_calm : (d : Definition) (w : World) (place slot : ℕ) → IfOk
 unfolding carrying_get
 carrying_get_calm d w place slot = bind_ok (held_object w place) _ (Calm w) (λ id _. bind_ok (spec_at d w.objects id slot) _ (Calm w) (λ s _. bind_ok (asked w.objects id (value_at slot)) _ (Calm w) (λ v _.
     only_calm w (is_readable s) arms.Flags (starts (with_result (said d w (lines.get id s.name v)) v) []) (record { quiet = still w _ refl refl refl (prefix_one w.transcript _); none = λ o. refl }))))
+
+-- ** forward references
+
+set_forward_calm : (w : World) (id slot to : ℕ) (items : List Item) → IfOk (set_forward w id slot to items) (Calm w)
+unfolding set_forward
+set_forward_calm w id slot to items = bind_ok (held_object w to) _ (Calm w) (λ target _. record {
+  quiet = still w w refl refl refl (prefix_same w.transcript);
+  none = λ o. refl;
+})
+
+pub building_forward_calm : (d : Definition) (w : World) (place slot to : ℕ) (items : List Item) → IfOk (building_forward d w place slot to items) (Calm w)
+unfolding building_forward
+building_forward_calm d w place slot to items = bind_ok (held_object w place) _ (Calm w) (λ id _. bind_ok (spec_at d w.objects id slot) _ (Calm w) (λ s _.
+    only_calm w (is_writable s) arms.Flags (only_if (not (is_construct_only s)) arms.ConstructOnly (set_forward w id slot to items))
+    (only_calm w (not (is_construct_only s)) arms.ConstructOnly (set_forward w id slot to items) (set_forward_calm w id slot to items))))
 
 -- ** thaws
 

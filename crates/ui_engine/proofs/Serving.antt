@@ -6,11 +6,13 @@ use Rattle.ui_machine.specs.State.Tasks as config
 use Rattle.ui_machine.specs.State.Config.{Held, unbuilt, World, held_at}
 use Rattle.ui_machine.specs.State.Tasks.{Carrying, Request, Event}
 use Rattle.ui_machine.specs.Runs as runs
-use Rattle.ui_machine.specs.Rules.Events.{is_released, names_released, Refusal, gone, refusal}
+use Rattle.ui_machine.specs.Rules.Events.{gives_released, is_released, names_released, Refusal, gone, refusal}
 use Rattle.ui_machine.specs.Runs.{beginning}
 use Rattle.builder_defs.specs.declared.event.Event as code
 use Rattle.builder_defs.specs.declared.event.Event.TheVariants as events
-use Rattle.builder_defs.specs.Meaning.{request_of}
+use Rattle.builder_defs.specs.declared.object_entry.Given.{Given}
+use Rattle.builder_defs.specs.declared.object_entry.Given.TheVariants as givens
+use Rattle.builder_defs.specs.Meaning.{given_view, request_of}
 use Rattle.ui_engine.specs.declared.dispatches.Reply.{Reply}
 use Rattle.ui_engine.specs.declared.session.SessionFault.{SessionFault}
 use Rattle.ui_engine.specs.declared.session.SessionFault.TheVariants as faults
@@ -27,8 +29,12 @@ built_stays (id ∷ ids) (suc place) = built_stays ids place
 stays : (w : World) (ids : List (Option ℕ)) (place : ℕ) → w.builder ≡ map held_of ids → is_released (held_at w place) ≡ false
 stays w ids place same = ap (λ (held : List Held). is_released (read unbuilt held place)) same ∙ built_stays ids place
 
+gives_none : (w : World) (ids : List (Option ℕ)) (given : Given) → w.builder ≡ map held_of ids → gives_released w (given_view given) ≡ false
+gives_none w ids (givens.Value v) same = refl
+gives_none w ids (givens.Object place) same = stays w ids place.0 same
+
 names_none : (w : World) (ids : List (Option ℕ)) (event : code.Event) → w.builder ≡ map held_of ids → names_released w (request_of event) ≡ false
-names_none w ids (events.Set place slot v) same = rw (stays w ids place.0 same) refl
+names_none w ids (events.Set place slot given) same = rw (stays w ids place.0 same) (gives_none w ids given same)
 names_none w ids (events.Get place slot) same = stays w ids place.0 same
 
 module _ (d : Definition) (w : World) (r : Request) (none : names_released w r ≡ false) where

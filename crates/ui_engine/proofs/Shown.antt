@@ -31,7 +31,7 @@ put_back at new made (suc i) y given r =
     listed-write None (λ j. at (suc j)) (λ j. new (suc j)) made i y (omega (arith, given.1)) r.changed
     (λ j ne. r.others (suc j) (λ e. ne (omega arith)))
 
-found_in : (at : Lookup) (made id : ℕ) (old : Objects) → InRange at made → objects_of at made ≡ old → living old id ≡ at id
+pub found_in : (at : Lookup) (made id : ℕ) (old : Objects) → InRange at made → objects_of at made ≡ old → living old id ≡ at id
 found_in at made id old range is = ap (λ (os : Objects). living os id) (sym is) ∙ found at made id range
 
 pub absent_asked : {X : Type 0} (at : Lookup) (made id : ℕ) (old : Objects) (question : Object → Answer X) → InRange at made → objects_of at made ≡ old → at id ≡ None → asked old id question ≡ Err arms.Operand

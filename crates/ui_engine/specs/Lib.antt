@@ -1,3 +1,4 @@
+pub mod GivenView
 pub mod ObjectView
 pub mod HeapView
 pub mod Holding

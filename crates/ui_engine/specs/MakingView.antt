@@ -5,8 +5,10 @@ use Rattle.ui_machine.specs.Definition.Places.{GivenProperty}
 use Rattle.ui_machine.specs.Definition.Properties.{Spec}
 use Rattle.ui_machine.specs.State.Tasks as config
 use Rattle.ui_machine.specs.State.Config.{World}
-use Rattle.ui_machine.specs.Rules.Construction.{is_at_construction, given_value, given_at, or_default, set_of, no_spec, construct_sets, given_sets}
+use Rattle.ui_machine.specs.Rules.Construction.{is_forward, not_forward, is_at_construction, given_value, given_at, or_default, set_of, no_spec, construct_sets, given_sets}
 use Rattle.g_values.specs.View.{value_view}
+use Rattle.builder_defs.specs.declared.object_entry.GivenValue.{GivenValue}
+use Rattle.builder_defs.specs.Meaning.{given_property}
 use Rattle.ui_engine.specs.declared.task.Making.{Making}
 use Rattle.ui_engine.specs.declared.task.Making.TheVariants as makings
 
@@ -25,6 +27,14 @@ construct_set w given slot s = cond (is_at_construction s) (config.sets slot (or
 -- the set of a given value, where its property is not set with the construct properties
 abbrev pub later_set : World → List Spec → GivenProperty → List config.Making
 later_set w specs g = cond (is_at_construction (read no_spec specs g.slot)) [] (set_of (given_value w g.given) g.slot)
+
+-- the same, where a forward reference is left out
+abbrev pub early_set : World → List Spec → ℕ → GivenProperty → List config.Making
+early_set w specs place g = cond (is_forward place g.given) [] (later_set w specs g)
+
+-- what the object at a place is given without forward references
+abbrev pub early : ℕ → List GivenValue → List GivenProperty
+early place given = not_forward place (map given_property given)
 
 -- what comes behind the sets of the construct properties: the other given values, and the thaw
 abbrev pub later_steps : World → List Spec → List GivenProperty → List config.Making

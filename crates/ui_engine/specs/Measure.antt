@@ -16,7 +16,7 @@ sets_of_place d (Some p) = length (specs_of d p.class) + length p.given
 abbrev pub item_weight : Definition → Item → ℕ
 item_weight d (makes place) = 4 * suc (sets_of_place d (place_at d place)) + 3
 item_weight d (adopts place) = 1
-item_weight d (forwards place slot to) = 1
+item_weight d (forwards place slot to) = 4
 item_weight d (binds number) = 1
 item_weight d (connects place number) = 1
 

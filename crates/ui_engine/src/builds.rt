@@ -1,21 +1,20 @@
 //! The build: how objects are made, and how their construction goes on and ends.
 
-ghost use Rattle.std.specs.Prelude.{◌≡◌, true, suc, length, nat_eq, None, Some, option_copied, cond, [], ◌∷◌, ◌++◌, map, OnOk, OnErr, IfOk};
+ghost use Rattle.std.specs.Prelude.{◌≡◌, true, suc, length, nat_eq, not, ◌&&◌, None, Some, option_copied, option_map, cond, [], ◌∷◌, ◌++◌, map, OnOk, OnErr, IfOk};
 ghost use Rattle.std.specs.List.{find};
 ghost use Rattle.ui_machine.specs.Outcome.{Goes};
 ghost use Rattle.ui_machine.specs.Definition.Properties as machine;
 ghost use Rattle.ui_machine.specs.Definition.Lookups.{specs_of, spec_of};
 ghost use Rattle.ui_engine.specs.ObjectView.{made_object};
 ghost use Rattle.ui_machine.specs.Seq.{read};
-ghost use Rattle.ui_engine.specs.MakingView.{making_steps, construct_set, later_set, making_of_object};
-ghost use Rattle.ui_machine.specs.Rules.Construction.{with_object, constructed, thawing_made, making, making_set, constructing, is_at_construction, no_spec, given_at, or_default, construct_sets, given_sets};
-ghost use Rattle.ui_machine.specs.State.Config.{World};
+ghost use Rattle.ui_engine.specs.MakingView.{making_steps, early, construct_set, later_set, early_set, making_of_object};
+ghost use Rattle.ui_machine.specs.Rules.Construction.{with_object, constructed, thawing_made, making, making_set, constructing, is_at_construction, is_forward, no_spec, given_at, set_of, or_default, construct_sets, given_sets};
 ghost use Rattle.ui_machine.specs.State.Tasks.{Constructing};
 ghost use Rattle.ui_machine.specs.Steps.{uncounted};
 ghost use Rattle.ui_machine.specs.Rules.Build.{building};
 ghost use Rattle.g_values.specs.View.{value_view};
 ghost use Rattle.param_specs.specs.View.{spec_view};
-ghost use Rattle.builder_defs.specs.Meaning.{given_property};
+ghost use Rattle.builder_defs.specs.Meaning.{given_view, given_property};
 ghost use Rattle.ui_engine.specs.View.{world_of};
 ghost use Rattle.ui_engine.specs.TaskView.{agenda_of, build_from};
 ghost use Rattle.ui_engine.specs.EngineView.{config_of};
@@ -23,9 +22,9 @@ ghost use Rattle.ui_engine.specs.EngineView.{config_of};
 use crate::engine::Engine;
 use crate::lines::Line;
 use crate::object::Object;
-use crate::task::{Making, Makings, Slots, Task};
-use crate::world::hold;
-use builder_defs::{Definition, GivenValue};
+use crate::task::{Forwards, Making, Makings, Slots, Task};
+use crate::world::{World, hold};
+use builder_defs::{Definition, Given, GivenValue};
 use g_values::Value;
 use param_specs::Spec;
 use std::alloc::{AllocError, Global};
@@ -171,7 +170,12 @@ impl Engine {
             return Err(Halt::Stuck(Arm::Abstract));
         }
         let values = defaults(self.alloc, definition, class)?;
-        let steps = construction(self.alloc, definition, class, entry.given)?;
+        let given = GivenAt {
+            world: &self.world,
+            place,
+            entries: entry.given,
+        };
+        let steps = construction(self.alloc, definition, class, given)?;
         let object = self.add(definition, class, place, values)?;
         let told = Line::Construct {
             object,
@@ -183,19 +187,27 @@ impl Engine {
         Ok(())
     }
 
-    // The next object of the build.
+    // The next object of the build, or the next forward reference where all objects stand.
     #[tactic(auto, unfolding(ui_machine::specs::Rules::Build::building_object))]
-    pub(crate) fn building(&mut self, definition: &Definition, place: usize) -> Result<(), Halt>
+    pub(crate) fn building(
+        &mut self,
+        definition: &Definition,
+        place: usize,
+        forwards: Forwards,
+    ) -> Result<(), Halt>
         ensures step { Goes result
-            (uncounted (agenda_of definition.now self.old.stack) self.old.counted (building definition.now (world_of self.old.world) (build_from definition.now place)))
+            (uncounted (agenda_of definition.now self.old.stack) self.old.counted (building definition.now (world_of self.old.world) (build_from definition.now place forwards)))
             (config_of definition.now self.new) }
         ensures quiet { OnErr result ((world_of self.new.world).transcript ≡ (world_of self.old.world).transcript) }
     {
         let _types = definition.types();
         if place >= definition.object_count() {
-            return Ok(());
+            return self.forwarding(definition, place, forwards);
         }
-        self.stack.push(Task::Building { place: place + 1 })?;
+        self.stack.push(Task::Building {
+            place: place + 1,
+            forwards,
+        })?;
         self.making(definition, place)
     }
 }
@@ -226,20 +238,48 @@ fn defaults(alloc: Global, definition: &Definition, class: TypeId) -> Result<Vec
     }
 }
 
-// What is given to a slot, if something is.
-fn entry_for(given: &[GivenValue], slot: u16) -> Option<&GivenValue>
-    ensures { option_copied result ≡ find (λ g. nat_eq g.slot slot) given.now }
+// What the object at a place is given, as the builder comes to it.
+#[derive(Clone, Copy)]
+struct GivenAt<'a> {
+    world: &'a World,
+    place: usize,
+    entries: &'a [GivenValue],
+}
+
+// Whether an object is given that is not there before this place.
+fn is_forward(place: usize, given: &Given) -> bool
+    ensures { result ≡ is_forward place (given_view given.now) }
 {
-    given.iter().find(|entry| entry.slot == slot)
+    match given {
+        Given::Value(_) => false,
+        Given::Object(to) => place <= usize::from(to.0),
+    }
+}
+
+// What is given to a slot, if something is, and not a forward reference.
+fn entry_for(place: usize, entries: &[GivenValue], slot: u16) -> Option<&GivenValue>
+    ensures { option_copied result ≡ find (λ g. not (is_forward place (given_view g.given)) && nat_eq g.slot slot) entries.now }
+{
+    entries.iter().find(|entry| !is_forward(place, &entry.given) && entry.slot == slot)
+}
+
+// The value that is given to a slot, if one is.
+fn value_given(given: GivenAt<'_>, slot: u16) -> Result<Option<Value>, AllocError>
+    ensures { IfOk result (λ v. option_map value_view v ≡ given_at (world_of given.entry.world.now) (early given.entry.place given.entry.entries.now) slot) }
+{
+    match entry_for(given.place, given.entries, slot) {
+        Some(entry) => given.world.given(&entry.given),
+        None => Ok(None),
+    }
 }
 
 // The value that is given to a slot, or else the default.
-fn value_for<'a>(given: &'a [GivenValue], spec: &'a Spec, slot: u16) -> &'a Value
-    ensures { (w : World) → value_view result.now ≡ or_default (given_at w (map given_property given.now) slot) (spec_view spec.now).default }
+fn value_for(given: GivenAt<'_>, spec: &Spec, slot: u16) -> Result<Value, AllocError>
+    ensures { IfOk result (λ v. value_view v ≡ or_default (given_at (world_of given.entry.world.now) (early given.entry.place given.entry.entries.now) slot) (spec_view spec.now).default) }
 {
-    match entry_for(given, slot) {
-        Some(entry) => &entry.value,
-        None => &spec.default,
+    match value_given(given, slot)? {
+        Some(value) => Ok(value),
+        None => spec.default.copied(),
     }
 }
 
@@ -248,16 +288,17 @@ fn add_construct_set(
     steps: &mut Vec<Making>,
     definition: &Definition,
     class: TypeId,
-    given: &[GivenValue],
+    given: GivenAt<'_>,
     slot: u16,
 ) -> Result<(), AllocError>
-    ensures { (w : World) → (s : machine.Spec) → spec_of definition.now class slot ≡ Some s → OnOk result (making_steps steps.new.items ≡ construct_set w (map given_property given.now) slot s ++ making_steps steps.old.items) }
+    ensures { (s : machine.Spec) → spec_of definition.now class slot ≡ Some s → OnOk result (making_steps steps.new.items
+        ≡ construct_set (world_of given.entry.world.now) (early given.entry.place given.entry.entries.now) slot s ++ making_steps steps.old.items) }
 {
     let Some(spec) = definition.spec(class, slot) else {
         return Ok(());
     };
     if spec.is_at_construction() {
-        let value = value_for(given, spec, slot).copied()?;
+        let value = value_for(given, spec, slot)?;
         steps.push(Making::Set { slot, value })?;
     }
     Ok(())
@@ -268,9 +309,10 @@ fn add_construct_sets(
     steps: &mut Vec<Making>,
     definition: &Definition,
     class: TypeId,
-    given: &[GivenValue],
+    given: GivenAt<'_>,
 ) -> Result<(), AllocError>
-    ensures { (w : World) → OnOk result (making_steps steps.new.items ≡ construct_sets w (map given_property given.now) 0 (specs_of definition.now class) ++ making_steps steps.old.items) }
+    ensures { OnOk result (making_steps steps.new.items
+        ≡ construct_sets (world_of given.entry.world.now) (early given.entry.place given.entry.entries.now) 0 (specs_of definition.now class) ++ making_steps steps.old.items) }
 {
     let mut slot = definition.slots(class);
     'slots: while slot > 0 {
@@ -290,52 +332,78 @@ fn is_at_construction(definition: &Definition, class: TypeId, slot: u16) -> bool
     }
 }
 
-// Puts the set of a given value before what a construction does, where its property is not set in any case.
+// Puts the set of a value before what a construction does, if there is one.
+fn add_set(steps: &mut Vec<Making>, slot: u16, value: Option<Value>) -> Result<(), AllocError>
+    ensures { OnOk result (making_steps steps.new.items ≡ set_of (option_map value_view value) slot ++ making_steps steps.old.items) }
+{
+    let Some(value) = value else {
+        return Ok(());
+    };
+    steps.push(Making::Set { slot, value })?;
+    Ok(())
+}
+
+// Puts the set of what is given to a property before what a construction does, where the property is not set in any case.
 fn add_later_set(
     steps: &mut Vec<Making>,
     definition: &Definition,
     class: TypeId,
+    world: &World,
     entry: &GivenValue,
 ) -> Result<(), AllocError>
-    ensures { (w : World) → OnOk result (making_steps steps.new.items ≡ later_set w (specs_of definition.now class) (given_property entry.now) ++ making_steps steps.old.items) }
+    ensures { OnOk result (making_steps steps.new.items ≡ later_set (world_of world.now) (specs_of definition.now class) (given_property entry.now) ++ making_steps steps.old.items) }
 {
     if is_at_construction(definition, class, entry.slot) {
         return Ok(());
     }
-    let value = entry.value.copied()?;
-    steps.push(Making::Set {
-        slot: entry.slot,
-        value,
-    })?;
-    Ok(())
+    add_set(steps, entry.slot, world.given(&entry.given)?)
 }
 
-// Puts the sets of given values before what a construction does, in the given order.
+// The same of an entry that may be a forward reference, which a construction leaves out.
+fn add_early_set(
+    steps: &mut Vec<Making>,
+    definition: &Definition,
+    class: TypeId,
+    given: GivenAt<'_>,
+    entry: &GivenValue,
+) -> Result<(), AllocError>
+    ensures { OnOk result (making_steps steps.new.items
+        ≡ early_set (world_of given.entry.world.now) (specs_of definition.now class) given.entry.place (given_property entry.now) ++ making_steps steps.old.items) }
+{
+    if is_forward(given.place, &entry.given) {
+        return Ok(());
+    }
+    add_later_set(steps, definition, class, given.world, entry)
+}
+
+// Puts the sets of what is given before what a construction does, in the given order.
 fn add_later_sets(
     steps: &mut Vec<Making>,
     definition: &Definition,
     class: TypeId,
-    given: &[GivenValue],
+    given: GivenAt<'_>,
 ) -> Result<(), AllocError>
-    ensures { (w : World) → OnOk result (making_steps steps.new.items ≡ given_sets w (specs_of definition.now class) (map given_property given.now) ++ making_steps steps.old.items) }
+    ensures { OnOk result (making_steps steps.new.items
+        ≡ given_sets (world_of given.entry.world.now) (specs_of definition.now class) (early given.entry.place given.entry.entries.now) ++ making_steps steps.old.items) }
 {
-    let mut left = given.len();
+    let mut left = given.entries.len();
     'entries: while left > 0 {
         left -= 1;
-        add_later_set(steps, definition, class, &given[left])?;
+        add_early_set(steps, definition, class, given, &given.entries[left])?;
     }
     Ok(())
 }
 
-// What a construction does: the sets of the construct properties by slot, each to the given value or its default, then the other given
-// values in the given order, then the thaw. The steps are put together from the last one on.
+// What a construction does: the sets of the construct properties by slot, each to what is given or its default, then the other given values
+// in the given order, then the thaw. Forward references are left out. The steps are put together from the last one on.
 fn construction(
     alloc: Global,
     definition: &Definition,
     class: TypeId,
-    given: &[GivenValue],
+    given: GivenAt<'_>,
 ) -> Result<Makings, AllocError>
-    ensures { (w : World) → IfOk result (λ steps. steps ≡ making_of_object w (specs_of definition.now class) (map given_property given.now)) }
+    ensures { IfOk result (λ steps. steps
+        ≡ making_of_object (world_of given.entry.world.now) (specs_of definition.now class) (early given.entry.place given.entry.entries.now)) }
 {
     let mut steps = Vec::new(alloc);
     steps.push(Making::Thaw)?;

@@ -4,11 +4,7 @@ ghost use Rattle.std.specs.Prelude.{◌≡◌, OnErr};
 ghost use Rattle.ui_machine.specs.Outcome.{Goes};
 ghost use Rattle.ui_machine.specs.Steps.{uncounted};
 ghost use Rattle.ui_machine.specs.Rules.Events.{carrying, carrying_set, carrying_get};
-ghost use Rattle.ui_machine.specs.Definition.Places as machine;
-ghost use Rattle.g_values.specs.View.{value_view};
-ghost use Rattle.builder_defs.specs.Meaning.{request_of};
-ghost use Rattle.ui_machine.specs.Rules.Build.{held_object};
-ghost use Rattle.ui_engine.specs.ObjectView.{Shows};
+ghost use Rattle.builder_defs.specs.Meaning.{given_view, request_of};
 ghost use Rattle.ui_engine.specs.View.{world_of};
 ghost use Rattle.ui_engine.specs.TaskView.{agenda_of};
 ghost use Rattle.ui_engine.specs.EngineView.{config_of};
@@ -16,18 +12,10 @@ ghost use Rattle.ui_engine.specs.EngineView.{config_of};
 use crate::engine::Engine;
 use crate::lines::Line;
 use crate::task::Task;
-use builder_defs::{Definition, Event};
-use g_values::Value;
+use builder_defs::{Definition, Event, Given};
 use ui_machine::{Arm, Halt, Place};
 
 impl Engine {
-    // The object that the builder made of a place.
-    fn built(&self, place: Place) -> Result<u64, Arm>
-        ensures { Shows (λ id. id) result (held_object (world_of self.now.world) place.0) }
-    {
-        self.world.built(usize::from(place.0)).ok_or(Arm::Operand)
-    }
-
     // A set by an event.
     #[tactic(auto, unfolding(ui_machine::specs::Rules::Events::carrying_set, ui_machine::specs::Rules::Events::set_given))]
     fn carrying_set(
@@ -35,21 +23,15 @@ impl Engine {
         definition: &Definition,
         place: Place,
         slot: u16,
-        value: Value,
+        given: Given,
     ) -> Result<(), Halt>
         ensures step { Goes result
-            (uncounted (agenda_of definition.now self.old.stack) self.old.counted (carrying_set definition.now (world_of self.old.world) place.0 slot (machine.value (value_view value))))
+            (uncounted (agenda_of definition.now self.old.stack) self.old.counted (carrying_set definition.now (world_of self.old.world) place.0 slot (given_view given)))
             (config_of definition.now self.new) }
         ensures quiet { OnErr result ((world_of self.new.world).transcript ≡ (world_of self.old.world).transcript) }
     {
-        let object = self.built(place)?;
-        let spec = self.spec_of(definition, object, slot)?;
-        if !spec.is_writable() {
-            return Err(Halt::Stuck(Arm::Flags));
-        }
-        if spec.is_construct_only() {
-            return Err(Halt::Stuck(Arm::ConstructOnly));
-        }
+        let object = self.settable(definition, usize::from(place.0), slot)?;
+        let value = self.operand(given)?;
         self.stack.push(Task::Setting {
             object,
             slot,
@@ -66,7 +48,7 @@ impl Engine {
             (config_of definition.now self.new) }
         ensures quiet { OnErr result ((world_of self.new.world).transcript ≡ (world_of self.old.world).transcript) }
     {
-        let object = self.built(place)?;
+        let object = self.held(usize::from(place.0))?;
         let spec = self.spec_of(definition, object, slot)?;
         let value = self.world.heap.value(object, slot)?;
         if !spec.is_readable() {
@@ -92,7 +74,7 @@ impl Engine {
         ensures quiet { OnErr result ((world_of self.new.world).transcript ≡ (world_of self.old.world).transcript) }
     {
         match event {
-            Event::Set { place, slot, value } => self.carrying_set(definition, place, slot, value),
+            Event::Set { place, slot, given } => self.carrying_set(definition, place, slot, given),
             Event::Get { place, slot } => self.carrying_get(definition, place, slot),
         }
     }

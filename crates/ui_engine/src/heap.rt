@@ -1,7 +1,8 @@
 //! The objects that live.
 
-ghost use Rattle.std.specs.Prelude.{◌≡◌, ◌++◌, ◌∷◌, [], suc, length, map, reverse, Some, OnOk, IfOk};
-ghost use Rattle.ui_machine.specs.State.Objects.{asked, changed, value_at, with_value};
+ghost use Rattle.std.specs.Prelude.{◌≡◌, ◌++◌, ◌∷◌, [], suc, length, map, reverse, false, Some, OnOk, IfOk, IfSome};
+ghost use Rattle.ui_machine.specs.State.Objects.{asked, changed, value_at, with_value, living, class_in};
+ghost use Rattle.ui_machine.specs.Rules.Sets.{is_disposed};
 ghost use Rattle.ui_machine.specs.Rules.NotifyQueue.{raised, frozen_less};
 ghost use Rattle.ui_machine.specs.Outcome.{Gives, Follows};
 ghost use Rattle.g_values.specs.View.{value_view};
@@ -68,6 +69,15 @@ impl Heap {
             return Err(Arm::Operand);
         };
         Ok(object.class())
+    }
+
+    /// The class of an object that a value names, if it lives.
+    pub fn living_class(&self, id: u64) -> Option<TypeId>
+        ensures class { result ≡ class_in self.now id }
+        ensures stands { IfSome result (λ _. is_disposed (living self.now id) ≡ false) }
+    {
+        let object = self.objects.get(&id)?;
+        Some(object.class())
     }
 
     /// The place of an object.

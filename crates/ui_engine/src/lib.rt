@@ -9,6 +9,8 @@ mod carrying;
 mod counting;
 mod dispatches;
 mod engine;
+mod forwards;
+mod given;
 mod heap;
 mod lines;
 mod notifications;

@@ -62,7 +62,9 @@ impl Object {
 
     /// Its class.
     pub fn class(&self) -> TypeId
-        ensures { result ≡ self.now.class }
+        ensures class { result ≡ self.now.class }
+        // No object is disposed so far.
+        ensures stands { self.now.disposed ≡ false }
     {
         self.class
     }

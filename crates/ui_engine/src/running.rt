@@ -50,8 +50,8 @@ impl Engine {
                 self.constructing(definition, object, steps)?;
                 return Ok(Made::Uncounted);
             }
-            Task::Building { place } => {
-                self.building(definition, place)?;
+            Task::Building { place, forwards } => {
+                self.building(definition, place, forwards)?;
                 return Ok(Made::Uncounted);
             }
             Task::Carrying(event) => {

@@ -9,6 +9,7 @@ ghost use Rattle.ui_engine.specs.SessionView.{AnswersEvent, Comes, building, car
 
 use crate::dispatches::Reply;
 use crate::engine::Engine;
+use crate::forwards::forwards;
 use crate::task::Task;
 use builder_defs::{Definition, Event};
 use std::alloc::Global;
@@ -103,12 +104,18 @@ impl Session {
                 definition,
             });
         };
+        let Ok(forwards) = forwards(alloc, &definition) else {
+            return Err(Refused {
+                fault: StartFault::OutOfMemory,
+                definition,
+            });
+        };
         let mut session = Session {
             definition,
             engine,
             stopped: false,
         };
-        let build = session.carry_out(Task::Building { place: 0 });
+        let build = session.carry_out(Task::Building { place: 0, forwards });
         Ok(Started { session, build })
     }
 

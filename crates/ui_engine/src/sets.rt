@@ -1,8 +1,11 @@
 //! Sets of properties, and the notifications that they raise.
 
 ghost use Rattle.std.specs.Prelude.{◌≡◌, ◌&&◌, not, string_bytes, OnOk, OnErr, IfOk};
-ghost use Rattle.ui_machine.specs.Outcome.{Goes};
-ghost use Rattle.ui_machine.specs.Rules.Sets.{setting, written, raising_if, notifies, spec_at, has_kind};
+ghost use Rattle.ui_machine.specs.Outcome.{Goes, only_if};
+ghost use Rattle.ui_machine.specs.Rules.Sets.{setting, written, raising_if, notifies, spec_at, has_kind, lives, unless_disposed};
+ghost use Rattle.ui_machine.specs.State.Objects.{class_in};
+ghost use Rattle.ui_machine.specs.declared.arm.Arm.TheVariants as arms;
+ghost use Rattle.param_specs.specs.Validation.{KnowsClass};
 ghost use Rattle.ui_machine.specs.Definition.Properties.{is_lax};
 ghost use Rattle.ui_machine.specs.State.Config.{said};
 ghost use Rattle.ui_machine.specs.Output.Lines as lines;
@@ -11,18 +14,19 @@ ghost use Rattle.g_values.specs.View.{kind_view, value_view};
 ghost use Rattle.param_specs.specs.View.{spec_view};
 ghost use Rattle.builder_defs.specs.Meaning.{IsPlain};
 ghost use Rattle.ui_engine.specs.View.{world_of, with_line};
-ghost use Rattle.ui_engine.specs.ObjectView.{Shows};
+ghost use Rattle.ui_engine.specs.ObjectView.{Shows, named_in};
 ghost use Rattle.ui_engine.specs.TaskView.{agenda_of};
 ghost use Rattle.ui_engine.specs.EngineView.{config_of};
 
 use crate::engine::Engine;
+use crate::heap::Heap;
 use crate::lines::Line;
 use crate::task::Task;
 use builder_defs::Definition;
 use g_values::{Kind, Value, is_same};
 use param_specs::{Spec, validate};
 use std::alloc::AllocError;
-use ui_machine::{Arm, Halt};
+use ui_machine::{Arm, Halt, ObjectId};
 
 // Whether a value is one of the kind, its members, range and class left aside.
 fn has_kind(value: &Value, kind: Kind) -> bool
@@ -54,6 +58,31 @@ fn refuses(spec: &Spec, is_changed: bool) -> bool
     ensures { result ≡ (is_changed && not (is_lax (spec_view spec.now))) }
 {
     is_changed && !spec.is_lax()
+}
+
+// The object that a value names, if it names one.
+fn named(value: &Value) -> Option<u64>
+    ensures { result ≡ named_in (value_view value.now) }
+{
+    match value {
+        Value::Object(_, Some(id)) => Some(id.0),
+        _ => None,
+    }
+}
+
+// A value by the class of the object that it names, which must live.
+fn classed(heap: &Heap, value: Value) -> Result<Value, Arm>
+    ensures value { Shows value_view result (only_if (lives heap.now (value_view value)) arms.Value (Ok (value_view value))) }
+    ensures class { IfOk result (λ v. KnowsClass (class_in heap.now) v) }
+    ensures stands { IfOk result (λ v. unless_disposed heap.now (value_view v) ≡ value_view v) }
+{
+    let Some(id) = named(&value) else {
+        return Ok(value);
+    };
+    let Some(class) = heap.living_class(id) else {
+        return Err(Arm::Value);
+    };
+    Ok(Value::Object(class, Some(ObjectId(id))))
 }
 
 impl Engine {
@@ -170,8 +199,9 @@ impl Engine {
         if !has_kind(&value, spec.kind) {
             return Err(Halt::Stuck(Arm::Value));
         }
-        let original = value.copied()?;
-        let (valid, is_changed) = validate(definition.types(), spec, value);
+        let known = classed(&self.world.heap, value)?;
+        let original = known.copied()?;
+        let (valid, is_changed) = validate(definition.types(), spec, known);
         if refuses(spec, is_changed) {
             self.refuse(definition, object, spec.name.as_str(), &original)?;
             return Ok(());

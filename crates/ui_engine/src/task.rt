@@ -10,6 +10,7 @@ use g_values::Value;
 use std::alloc::{AllocError, Global};
 use std::marker::Model;
 use type_tree::TypeId;
+use ui_machine::Place;
 
 /// The notifications that are left of a thaw. They are kept the other way round: the last is made first.
 #[derive(Drop)]
@@ -80,6 +81,46 @@ impl Makings {
     }
 }
 
+/// What is given to a property of an object of the builder: an object that comes later, or the object itself.
+#[derive(Clone, Copy, Debug)]
+pub struct Forward {
+    /// The place of the object whose property it is.
+    pub object: usize,
+    pub slot: u16,
+    pub to: Place,
+}
+
+/// The forward references that are to be set, the last of the list first.
+#[derive(Drop)]
+pub struct Forwards {
+    references: Vec<Forward>,
+}
+
+impl Model for Forwards {
+    ghost use Rattle.std.specs.Prelude.{List, reverse};
+    ghost use Rattle.ui_engine.specs.declared.task.Forward.{Forward};
+
+    ghost Value = { List Forward };
+
+    ghost view = { λ f. reverse f.references.items };
+}
+
+impl Forwards {
+    /// The references of a list, from its end.
+    pub fn new(references: Vec<Forward>) -> Self
+        ensures { result ≡ reverse references.items }
+    {
+        Forwards { references }
+    }
+
+    /// Takes the next one.
+    pub fn take(&mut self) -> Option<Forward>
+        ensures { MatchOption result ((self.old ≡ []) × (self.new ≡ [])) (λ forward. self.old ≡ forward ∷ self.new) }
+    {
+        self.references.pop()
+    }
+}
+
 /// What there is to do.
 #[derive(Drop)]
 pub enum Task {
@@ -110,9 +151,10 @@ pub enum Task {
         object: u64,
         steps: Makings,
     },
-    /// The rest of the build: the objects from a place on.
+    /// The rest of the build: the objects from a place on, and then the forward references.
     Building {
         place: usize,
+        forwards: Forwards,
     },
     /// An event is to be carried out.
     Carrying(Event),

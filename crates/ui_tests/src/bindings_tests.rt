@@ -27,7 +27,7 @@ fn switch(name: Option<String>, flags: BindingFlags) -> Binding {
 fn passes_over_the_way_back(rt: HostRuntime) -> Result<(), Fail> {
     let mut bindings = Bindings::new(rt.alloc());
     let flags = BindingFlags::from_bits(7).ok_or("known bits")?;
-    assert_eq!(rt; bindings.bind(switch(None, flags))?, 0);
+    let first = bindings.bind(switch(None, flags))?;
     let forth = Transfer {
         number: 0,
         source: FIRST,
@@ -44,13 +44,18 @@ fn passes_over_the_way_back(rt: HostRuntime) -> Result<(), Fail> {
         target_slot: ON,
         invert: true,
     };
-    assert_eq!(rt; bindings.on_notify(FIRST, ON, 0), Some(forth));
+    let heard = bindings.on_notify(FIRST, ON, 0);
     bindings.setting(0, true);
-    assert_eq!(rt; bindings.on_notify(SECOND, ON, 0), None, "it sets");
+    let while_it_sets = bindings.on_notify(SECOND, ON, 0);
     bindings.setting(0, false);
-    assert_eq!(rt; bindings.on_notify(FIRST, ON, 1), None, "the last one");
-    assert_eq!(rt; bindings.on_notify(SECOND, ON, 0), Some(back));
-    assert_eq!(rt; bindings.on_notify(SECOND, 1, 0), None, "another property");
+    let behind_the_last = bindings.on_notify(FIRST, ON, 1);
+    let heard_back = bindings.on_notify(SECOND, ON, 0);
+    let of_another_property = bindings.on_notify(SECOND, 1, 0);
+    assert_eq!(rt; (first, heard, while_it_sets), (0, Some(forth), None));
+    assert_eq!(rt;
+        (behind_the_last, heard_back, of_another_property),
+        (None, Some(back), None)
+    );
     Ok(())
 }
 
@@ -59,18 +64,21 @@ fn numbers_are_not_used_again(rt: HostRuntime) -> Result<(), Fail> {
     let alloc = rt.alloc();
     let mut bindings = Bindings::new(alloc);
     let one_way = BindingFlags(0);
-    assert_eq!(rt; bindings.bind(switch(None, one_way))?, 0);
+    let zero = bindings.bind(switch(None, one_way))?;
     let name = String::from_str(alloc, "link")?;
-    assert_eq!(rt; bindings.bind(switch(Some(name), one_way))?, 1);
-    assert_eq!(rt; bindings.on_notify(FIRST, ON, 1).map(|t| t.number), Some(1));
-    assert_eq!(rt; bindings.on_notify(SECOND, ON, 0), None, "one way");
-    assert!(rt; bindings.unbind("link"));
-    assert!(rt; !bindings.unbind("link"), "it has ended");
+    let one = bindings.bind(switch(Some(name), one_way))?;
+    let heard = bindings.on_notify(FIRST, ON, 1).map(|t| t.number);
+    let heard_back = bindings.on_notify(SECOND, ON, 0).map(|t| t.number);
+    let unbound = (bindings.unbind("link"), bindings.unbind("link"));
     bindings.setting(1, true);
     bindings.skip()?;
-    assert_eq!(rt; bindings.bind(switch(None, one_way))?, 3);
-    assert_eq!(rt; bindings.end_of(SECOND), 2);
-    assert_eq!(rt; bindings.end_of(FIRST), 0);
-    assert_eq!(rt; bindings.bind(switch(None, one_way))?, 4);
+    let three = bindings.bind(switch(None, one_way))?;
+    let ended = (bindings.end_of(SECOND), bindings.end_of(FIRST));
+    let four = bindings.bind(switch(None, one_way))?;
+    assert_eq!(rt; (zero, one, three, four), (0, 1, 3, 4));
+    assert_eq!(rt;
+        (heard, heard_back, unbound, ended),
+        (Some(1), None, (true, false), (2, 0))
+    );
     Ok(())
 }

@@ -130,6 +130,14 @@ fn tells_the_fields_of_causes(rt: HostRuntime) -> Result<(), Fail> {
     for (cause, want) in [
         (SpecCause::Install(SpecFault::Limit), "BadSpec /p Limit"),
         (SpecCause::NotWritable, "BadSpec /p NotWritable"),
+        (
+            SpecCause::OverrideMissing(String::from_str(alloc, "full-size")?),
+            "BadSpec /p OverrideMissing full-size",
+        ),
+        (
+            SpecCause::OverrideDiffers(String::from_str(alloc, "full-size")?),
+            "BadSpec /p OverrideDiffers full-size",
+        ),
     ] {
         let fault = DefinitionFault::BadSpec(String::from_str(alloc, "/p")?, cause);
         assert_eq!(rt; fault.text(alloc)?.as_str(), want);

@@ -305,12 +305,15 @@ fn tells_of_values(rt: HostRuntime) -> Result<(), Fail> {
     assert_eq!(rt; known_bits(tree.flags_members(TypeId::new(3))), 3);
     for (kind, _) in kinds().iter() {
         let value = value_of(*kind, 1);
-        assert_eq!(rt; kind_of(&value), *kind);
-        assert!(rt; is_same(&value, &value.copied()?));
+        let is_copied = is_same(&value, &value.copied()?);
+        assert_eq!(rt; (kind_of(&value), is_copied), (*kind, true));
     }
     let text = Value::Text(Some(RcStr::from_str(rt.alloc(), "hi")?));
-    assert!(rt; is_same(&text, &text.copied()?));
-    assert!(rt; !is_same(&text, &Value::Text(None)));
+    let same = (
+        is_same(&text, &text.copied()?),
+        is_same(&text, &Value::Text(None)),
+    );
+    assert_eq!(rt; same, (true, false));
     Ok(())
 }
 

@@ -1,7 +1,8 @@
 //! Objects by identity: how many may live, which one nothing holds, and what a frozen one keeps back.
 
-use instances::{CreateError, Object, Table};
-use std::alloc::Global;
+use g_values::Value;
+use instances::{AdoptError, CreateError, Object, Table, WeakSlots};
+use std::alloc::{AllocError, Global};
 use std::test::Fail;
 use type_tree::TypeId;
 use ui_machine::{Arm, Halt, ObjectId};
@@ -60,5 +61,95 @@ fn takes_out_what_nothing_holds(rt: HostRuntime) -> Result<(), Fail> {
     table.finalise(id);
     assert!(rt; !table.is_live(id));
     assert_eq!(rt; table.create(object(rt.alloc())), Ok(ObjectId(2)));
+    Ok(())
+}
+
+/// Class 0 has a strong slot and a weak one.
+fn one_weak_slot(alloc: Global) -> Result<WeakSlots, AllocError> {
+    let mut weak = WeakSlots::new(alloc);
+    weak.add(vec![in alloc; false, true]?)?;
+    Ok(weak)
+}
+
+fn object_with_two_properties(alloc: Global) -> Result<Object, AllocError> {
+    let mut values = Vec::new(alloc);
+    values.push(Value::Object(TypeId::new(0), None))?;
+    values.push(Value::Object(TypeId::new(0), None))?;
+    Ok(Object::new(alloc, TypeId::new(0), 0, values, None))
+}
+
+fn naming(id: ObjectId) -> Value {
+    Value::Object(TypeId::new(0), Some(id))
+}
+
+fn names(value: Result<&Value, Arm>, wanted: Option<ObjectId>) -> bool {
+    match value {
+        Ok(Value::Object(_, id)) => *id == wanted,
+        _ => false,
+    }
+}
+
+/// A floating object that becomes a child is held by its parent alone. One that has a parent becomes no other's child, and
+/// none becomes its own.
+#[test]
+fn parents_hold_their_children(rt: HostRuntime) -> Result<(), Fail> {
+    let mut table = Table::new(rt.alloc(), 3);
+    let parent = table.create(object(rt.alloc()))?;
+    let child = table.create(object(rt.alloc()))?;
+    table.hold(parent);
+    table.float(child)?;
+    assert!(rt; table.is_floating(child));
+    assert_eq!(rt; table.adopt(parent, child), Ok(()));
+    assert!(rt; !table.is_floating(child));
+    assert_eq!(rt; table.parent_of(child), Some(parent));
+    assert_eq!(rt; table.next_unheld(), None);
+    assert_eq!(rt; table.adopt(parent, child), Err(AdoptError::HasParent));
+    assert_eq!(rt; table.adopt(parent, parent), Err(AdoptError::HasParent));
+    assert_eq!(rt;
+        table.adopt(parent, ObjectId(3)),
+        Err(AdoptError::NotLiving)
+    );
+    assert!(rt; table.orphan(child));
+    assert!(rt; !table.orphan(child));
+    assert_eq!(rt; table.next_unheld(), Some(child));
+    Ok(())
+}
+
+/// 1,024 children are as many as may be.
+#[test]
+fn has_so_many_children(rt: HostRuntime) -> Result<(), Fail> {
+    let mut table = Table::new(rt.alloc(), 1026);
+    let parent = table.create(object(rt.alloc()))?;
+    for _ in 0..1024 {
+        let child = table.create(object(rt.alloc()))?;
+        assert_eq!(rt; table.adopt(parent, child), Ok(()));
+    }
+    let last = table.create(object(rt.alloc()))?;
+    assert_eq!(rt; table.adopt(parent, last), Err(AdoptError::ChildLimit));
+    Ok(())
+}
+
+/// A strong property holds its object, a weak one does not, and the weak one forgets it.
+#[test]
+fn strong_properties_hold_and_weak_ones_forget(rt: HostRuntime) -> Result<(), Fail> {
+    let weak = one_weak_slot(rt.alloc())?;
+    let mut table = Table::new(rt.alloc(), 2);
+    let owner = table.create(object_with_two_properties(rt.alloc())?)?;
+    let other = table.create(object_with_two_properties(rt.alloc())?)?;
+    table.hold(owner);
+    assert!(rt; table.write(&weak, owner, 1, naming(other)).is_ok());
+    assert_eq!(rt;
+        table.next_unheld(),
+        Some(other),
+        "a weak one holds nothing"
+    );
+    assert!(rt; table.write(&weak, owner, 0, naming(other)).is_ok());
+    assert_eq!(rt; table.next_unheld(), None);
+    table.forget(&weak, other);
+    assert!(rt; names(table.read(owner, 0), Some(other)));
+    assert!(rt; names(table.read(owner, 1), None));
+    assert!(rt; table.write(&weak, owner, 0, naming(owner)).is_ok());
+    assert_eq!(rt; table.next_unheld(), Some(other));
+    assert!(rt; table.write(&weak, owner, 2, naming(owner)).is_err());
     Ok(())
 }

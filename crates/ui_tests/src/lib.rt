@@ -13,6 +13,8 @@ mod fixtures;
 #[cfg(test)]
 mod g_values_tests;
 #[cfg(test)]
+mod handler_code_tests;
+#[cfg(test)]
 mod instances_tests;
 #[cfg(test)]
 mod limits_tests;

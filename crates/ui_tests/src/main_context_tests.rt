@@ -22,17 +22,18 @@ fn runs_a_timeout_before_an_idle_and_catches_nothing_up(rt: HostRuntime) -> Resu
     ] {
         let mut batch = context.iteration(moment)?;
         let due = context.next_of(&mut batch);
-        assert_eq!(rt; due.map(|due| due.program), want, "at {moment}");
-        if let Some(due) = due {
-            let removed = context.answered(due.source, due.program == TICK);
-            assert_eq!(rt; removed, due.program == REST, "at {moment}");
-        }
-        assert_eq!(rt; context.next_of(&mut batch), None, "one at {moment}");
+        let removed = match due {
+            Some(due) => context.answered(due.source, due.program == TICK),
+            None => false,
+        };
+        let is_the_only_one = context.next_of(&mut batch).is_none();
+        let got = (due.map(|due| due.program), removed, is_the_only_one);
+        assert_eq!(rt; got, (want, want == Some(REST), true), "at {moment}");
     }
-    assert!(rt; matches!(context.iteration(300), Err(TurnError::ClockBack)));
+    let is_back = matches!(context.iteration(300), Err(TurnError::ClockBack));
     let mut batch = context.iteration(450)?;
     let due = context.next_of(&mut batch).ok_or("due again")?;
-    assert_eq!(rt; due.program, TICK);
+    assert_eq!(rt; (is_back, due.program), (true, TICK));
     Ok(())
 }
 
@@ -59,20 +60,22 @@ fn passes_over_what_was_removed(rt: HostRuntime) -> Result<(), Fail> {
         program: 3,
         arg: Some(ObjectId(3)),
     };
-    assert_eq!(rt; context.next_of(&mut batch), Some(first));
-    assert_eq!(rt; context.remove(3), Some(first), "the first of its program");
-    assert_eq!(rt; context.remove(4), Some(second));
-    assert_eq!(rt; context.remove(4), None);
-    assert!(rt; !context.answered(1, false), "removed while it ran");
-    assert_eq!(rt; context.find(1), None);
-    assert_eq!(rt; context.find(3), Some(third));
-    assert_eq!(rt; context.next_of(&mut batch), Some(third));
+    let begun = context.next_of(&mut batch);
+    let removed = (context.remove(3), context.remove(4), context.remove(4));
+    let removed_by_its_answer = context.answered(1, false);
+    let found = (context.find(1), context.find(3));
+    let next = context.next_of(&mut batch);
     context.idle(7, -7, None)?;
-    assert_eq!(rt; context.next_of(&mut batch).map(|due| due.source), Some(4));
+    let last = context.next_of(&mut batch).map(|due| due.source);
+    let waits = context.next_of(&mut batch).is_none();
     assert_eq!(rt;
-        context.next_of(&mut batch),
-        None,
-        "a new source waits for the next turn"
+        (begun, removed),
+        (Some(first), (Some(first), Some(second), None))
+    );
+    assert_eq!(rt; (found, next), ((None, Some(third)), Some(third)));
+    assert_eq!(rt;
+        (removed_by_its_answer, last, waits),
+        (false, Some(4), true)
     );
     Ok(())
 }
@@ -83,21 +86,21 @@ fn attaches_256_sources(rt: HostRuntime) -> Result<(), Fail> {
     for _source in 0..MAX_SOURCES {
         context.timeout(TICK, 0, u32::MAX, None)?;
     }
-    assert!(rt; matches!(context.idle(REST, 0, None), Err(AttachError::SourceLimit)));
-    assert!(rt;
-        matches!(
-            context.timeout(REST, 0, 0, None),
-            Err(AttachError::SourceLimit)
-        )
-    );
+    let idle_refused = matches!(context.idle(REST, 0, None), Err(AttachError::SourceLimit));
+    let timeout = context.timeout(REST, 0, 0, None);
+    let timeout_refused = matches!(timeout, Err(AttachError::SourceLimit));
     let removed = context.remove(TICK).ok_or("256 are there")?;
-    assert_eq!(rt; removed.source, 1);
     context.idle(REST, 0, None)?;
     let latest = 1u64 << 53;
     let mut batch = context.iteration(latest)?;
-    assert_eq!(rt; context.next_of(&mut batch).map(|due| due.source), Some(2));
-    assert!(rt; !context.answered(2, true));
+    let second = context.next_of(&mut batch).map(|due| due.source);
+    let removed_by_its_answer = context.answered(2, true);
     let mut batch = context.iteration(latest)?;
-    assert_eq!(rt; context.next_of(&mut batch).map(|due| due.source), Some(3));
+    let third = context.next_of(&mut batch).map(|due| due.source);
+    assert_eq!(rt;
+        (idle_refused, timeout_refused, removed_by_its_answer),
+        (true, true, false)
+    );
+    assert_eq!(rt; (removed.source, second, third), (1, Some(2), Some(3)));
     Ok(())
 }

@@ -51,16 +51,15 @@ fn counts_the_handlers_that_are_meant(rt: HostRuntime) -> Result<(), Fail> {
     ] {
         let _ = handlers.connect(connection(object, program, data, false))?;
     }
-    assert_eq!(rt; handlers.block_matched(ObjectId(1), 7), 2);
-    assert_eq!(rt; handlers.unblock_matched(ObjectId(1), 9), 0);
-    assert_eq!(rt; handlers.disconnect_object(ObjectId(2)), 2);
-    assert_eq!(rt;
+    let counts = [
+        handlers.block_matched(ObjectId(1), 7),
+        handlers.unblock_matched(ObjectId(1), 9),
+        handlers.disconnect_object(ObjectId(2)),
         handlers.disconnect_matched(ObjectId(1), 8),
-        0,
-        "its data went"
-    );
-    assert_eq!(rt; handlers.disconnect_matched(ObjectId(1), 7), 2);
-    assert_eq!(rt; handlers.unblock_matched(ObjectId(1), 7), 0);
+        handlers.disconnect_matched(ObjectId(1), 7),
+        handlers.unblock_matched(ObjectId(1), 7),
+    ];
+    assert_eq!(rt; counts.as_slice(), [2usize, 0, 2, 0, 2, 0].as_slice());
     Ok(())
 }
 

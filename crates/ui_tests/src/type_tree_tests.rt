@@ -102,13 +102,14 @@ fn tells_of_classes(rt: HostRuntime) -> Result<(), Fail> {
         (4, "Playable", TypeSort::Interface, None, 1),
     ] {
         let t = tree.find(name).ok_or("no type")?;
-        assert_eq!(rt; t.index(), number, "{number}");
         assert!(rt; tree.sort(t) == sort && tree.depth(t) == depth, "{number}");
-        assert_eq!(rt; tree.parent(t).map(|p| p.index()), parent, "{number}");
-        assert_eq!(rt; tree.flags(t).is_final, name == "Sealed", "{number}");
+        let parent_of = tree.parent(t).map(|p| p.index());
+        let (is_final, interfaces) = (tree.flags(t).is_final, tree.interfaces(t).len());
+        let got = (t.index(), parent_of, is_final, interfaces);
+        let required = usize::from(name == "Playable");
         assert_eq!(rt;
-            tree.interfaces(t).len(),
-            usize::from(name == "Playable"),
+            got,
+            (number, parent, name == "Sealed", required),
             "{number}"
         );
     }
@@ -131,10 +132,12 @@ fn tells_of_members(rt: HostRuntime) -> Result<(), Fail> {
         assert_eq!(rt; tree.nick(t, number), nick, "{number}");
     }
     for (t, is_enum) in [(mode, true), (marks, false)] {
-        assert_eq!(rt; tree.is_enum(t), is_enum);
-        assert_eq!(rt; tree.is_flags(t), !is_enum);
-        assert_eq!(rt; tree.enum_members(t).len(), usize::from(is_enum) * 2);
-        assert_eq!(rt; tree.flags_members(t).len(), usize::from(!is_enum) * 2);
+        let members = (tree.enum_members(t).len(), tree.flags_members(t).len());
+        let want = if is_enum { (2, 0) } else { (0, 2) };
+        assert_eq!(rt;
+            (tree.is_enum(t), tree.is_flags(t), members),
+            (is_enum, !is_enum, want)
+        );
     }
     Ok(())
 }
@@ -155,5 +158,25 @@ fn has_room_for_16_levels(rt: HostRuntime) -> Result<(), Fail> {
         assert_eq!(rt; added.err(), want, "{level}");
         parent = name;
     }
+    Ok(())
+}
+
+/// A class under `GObject` is not the `Base` that `Playable` requires, one under `Base` is, and so is one with it among its interfaces.
+#[test]
+fn finds_a_missing_prerequisite(rt: HostRuntime) -> Result<(), Fail> {
+    let tree = base_tree(rt.alloc())?;
+    let (root, base, playable) = (TypeId::new(0), TypeId::new(2), TypeId::new(4));
+    let missing = [
+        tree.missing_prerequisite(root, &[], playable),
+        tree.missing_prerequisite(base, &[], playable),
+        tree.missing_prerequisite(root, &[base], playable),
+    ];
+    assert_eq!(rt; missing.as_slice(), [Some(base), None, None].as_slice());
+    let found = (
+        tree.find_interface("Playable"),
+        tree.find_interface("Base"),
+        tree.find_required("Base"),
+    );
+    assert_eq!(rt; found, (Some(playable), None, Some(base)));
     Ok(())
 }

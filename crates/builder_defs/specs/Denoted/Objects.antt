@@ -15,6 +15,7 @@ use Rattle.builder_defs.specs.Meaning.{plain_place}
 use Rattle.builder_defs.specs.Refusals.{Refusal, shape, unknown, duplicate, bad_type, limit, or_refused}
 use Rattle.builder_defs.specs.Document.{under, members_at, text_at, absent_at, nothing_at, only_at}
 use Rattle.builder_defs.specs.Denoted.Names.{is_name}
+use Rattle.builder_defs.specs.Denoted.Entries.{ObjectNames}
 use Rattle.builder_defs.specs.Denoted.Given.{givens_at}
 
 -- there is a place for one more, and it may live
@@ -40,23 +41,23 @@ class_at_key path types d = do
 abbrev pub keys_of_object : List (List ℕ)
 keys_of_object = codes "id" ∷ codes "class" ∷ codes "peer" ∷ codes "properties" ∷ codes "signals" ∷ codes "children" ∷ []
 
--- The object that an entry gives beside these, where the classes have these properties and so many objects may live. It has no peer,
--- signals and children so far.
-unfoldable pub place_at : List ℕ → List GType → (ℕ → List Spec) → ℕ → List machine.Place → Data → Result machine.Place Refusal
-place_at path types specs most places d = do
+-- The object that an entry gives beside these, where the classes have these properties, so many objects may live, and all
+-- objects have these names. It has no peer, signals and children so far.
+unfoldable pub place_at : List ℕ → List GType → (ℕ → List Spec) → ℕ → ObjectNames → List machine.Place → Data → Result machine.Place Refusal
+place_at path types specs most objects places d = do
   members ← members_at path d
   room ← room_for_object most places
   id ← text_at path d (codes "id")
   new ← new_id (under path (codes "id")) places id
   class ← class_at_key path types d
   peer ← absent_at path d (codes "peer" ∷ [])
-  given ← givens_at path types (specs class) d
+  given ← givens_at path types objects (length places) (specs class) d
   bare ← nothing_at path d (codes "signals" ∷ codes "children" ∷ [])
   only ← only_at path members keys_of_object
   Ok (plain_place id class given)
 
 -- these objects, with the one that an entry gives
-unfoldable pub object_at : List ℕ → List GType → (ℕ → List Spec) → ℕ → List machine.Place → Data → Result (List machine.Place) Refusal
-object_at path types specs most places d = do
-  place ← place_at path types specs most places d
+unfoldable pub object_at : List ℕ → List GType → (ℕ → List Spec) → ℕ → ObjectNames → List machine.Place → Data → Result (List machine.Place) Refusal
+object_at path types specs most objects places d = do
+  place ← place_at path types specs most objects places d
   Ok (places ++ place ∷ [])

@@ -1,7 +1,8 @@
 -- The properties of a class.
-use Rattle.std.specs.Prelude.{ℕ, List, [], ◌∷◌, ◌++◌, length, reverse, codes, false, nat_eq, nat_le, if◌then◌else◌, Option, None, Some, is_some, Result, Ok, Err}
+use Rattle.std.specs.Prelude.{ℕ, List, [], ◌∷◌, ◌++◌, length, reverse, codes, Bool, false, nat_eq, nat_le, if◌then◌else◌, Option, None, Some, is_some, Result, Ok, Err}
 use Rattle.std.specs.List.{flat_map}
 use Rattle.serde_json.specs.Data.{Data}
+use Rattle.serde_json.specs.Find.{get, as_bool}
 use Rattle.ui_machine.specs.Outcome.{◌>>=◌}
 use Rattle.ui_machine.specs.Definition.Kinds.{Kind}
 use Rattle.ui_machine.specs.Definition.Values.{Value}
@@ -13,9 +14,10 @@ use Rattle.param_specs.specs.PropertyName.{is_property_name}
 use Rattle.param_specs.specs.declared.error.SpecFault.{SpecFault}
 use Rattle.param_specs.specs.declared.error.SpecFault.TheVariants.{BadName, Duplicate}
 use Rattle.builder_defs.specs.declared.fault.DefinitionLimit.TheVariants.{Properties}
-use Rattle.builder_defs.specs.Refusals.{Refusal, duplicate, not_installed, limit}
-use Rattle.builder_defs.specs.Document.{under, members_at, text_at, absent_at, only_at}
-use Rattle.builder_defs.specs.Denoted.Kinds.{kind_at}
+use Rattle.builder_defs.specs.Refusals.{Refusal, shape, duplicate, not_installed, limit, or_refused}
+use Rattle.builder_defs.specs.Document.{under, members_at, text_at, only_at}
+use Rattle.builder_defs.specs.Denoted.Entries.{TypeNames}
+use Rattle.builder_defs.specs.Denoted.Kinds.{is_object_kind, kind_at}
 use Rattle.builder_defs.specs.Denoted.PropertyFlags.{flags_at}
 use Rattle.builder_defs.specs.Denoted.Ranges.{Range, whole_range, range_at}
 use Rattle.builder_defs.specs.Denoted.Defaults.{default_at, check_default, check_unranged}
@@ -32,10 +34,19 @@ inherited_of specs (Some parent) = specs parent
 abbrev pub inherited_by : List GType → (ℕ → List Spec) → ℕ → List Spec
 inherited_by types own t = inherited_of (specs_by types own) (parent_of types t)
 
--- the spec of a property with this default and range
+-- the spec of a property with this default and range, which is not weak
 abbrev pub property_spec : List ℕ → Kind → ℕ → Value → Range → Spec
 property_spec name kind flags default range =
     record { name = name; kind = kind; flags = flags; default = default; low = range.low; high = range.high; weak = false }
+
+-- a truth value that goes with kinds of objects alone
+abbrev pub weak_or : List ℕ → Kind → Option Data → Result Bool Refusal
+weak_or path kind None = Ok false
+weak_or path kind (Some d) = if is_object_kind kind then or_refused (shape path) (as_bool d) else Err (shape path)
+
+-- whether a property is weak
+abbrev pub weak_at : List ℕ → Kind → Data → Result Bool Refusal
+weak_at path kind d = weak_or (under path (codes "weak")) kind (get (codes "weak") d)
 
 abbrev pub room_for_property : List Spec → Result (Unit {0}) Refusal
 room_for_property specs = if nat_le 64 (length specs) then Err (limit Properties) else Ok tt
@@ -64,18 +75,18 @@ valued_at path types name kind flags d = do
   Ok (property_spec name kind flags default range)
 
 -- the spec of a property of a type that inherits some of these and has all of them
-unfoldable pub spec_at : List ℕ → List GType → List Spec → List Spec → Data → Result Spec Refusal
-spec_at path types inherited specs d = do
+unfoldable pub spec_at : List ℕ → List GType → TypeNames → List Spec → List Spec → Data → Result Spec Refusal
+spec_at path types names inherited specs d = do
   members ← members_at path d
   room ← room_for_property specs
   name ← text_at path d (codes "name")
   new ← new_property (under path (codes "name")) inherited specs name
-  kind ← kind_at path types d
+  kind ← kind_at path types names d
   flags ← flags_at path d
   spec ← valued_at path types name kind flags d
-  weak ← absent_at path d (codes "weak" ∷ [])
+  weak ← weak_at path kind d
   only ← only_at path members keys_of_property
-  Ok spec
+  Ok (record spec { weak = weak })
 
 -- each type's own properties, with one more
 abbrev pub add_own : (ℕ → List Spec) → ℕ → Spec → ℕ → List Spec
@@ -88,7 +99,7 @@ installed_or path (Some cause) own = Err (not_installed path cause)
 abbrev pub installed : List ℕ → List GType → ℕ → (ℕ → List Spec) → Spec → Result (ℕ → List Spec) Refusal
 installed path types t own spec = installed_or path (install_fault types (specs_by types own t) spec) (add_own own t (canonical_spec spec))
 
-unfoldable pub property_at : List ℕ → List GType → ℕ → (ℕ → List Spec) → Data → Result (ℕ → List Spec) Refusal
-property_at path types t own d = do
-  spec ← spec_at path types (inherited_by types own t) (specs_by types own t) d
+unfoldable pub property_at : List ℕ → List GType → TypeNames → ℕ → (ℕ → List Spec) → Data → Result (ℕ → List Spec) Refusal
+property_at path types names t own d = do
+  spec ← spec_at path types names (inherited_by types own t) (specs_by types own t) d
   installed path types t own spec

@@ -1,10 +1,21 @@
 -- What all types of a definition have: a name, and their place among the 256.
-use Rattle.std.specs.Prelude.{ℕ, List, length, Bool, false, nat_le, if◌then◌else◌, Option, None, Some, Result, Ok, Err}
+use Rattle.std.specs.Prelude.{ℕ, List, codes, Bool, false, ◌||◌, nat_le, if◌then◌else◌, Option, None, Some, Result, Ok, Err}
+use Rattle.serde_json.specs.Data.{Data, Items, no_items, item}
 use Rattle.ui_machine.specs.Definition.Types.{GType}
-use Rattle.type_tree.specs.Adding.{find_type, name_fault}
+use Rattle.type_tree.specs.Adding.{find_type, name_fault, room_fault}
 use Rattle.builder_defs.specs.declared.fault.DefinitionLimit.TheVariants.{Types}
 use Rattle.builder_defs.specs.Causes.{named_cause}
 use Rattle.builder_defs.specs.Refusals.{Refusal, duplicate, bad_type, limit, refused_if}
+use Rattle.builder_defs.specs.Denoted.Entries.{is_called, name_under}
+
+-- ** names of types that entries declare
+
+-- whether one of these entries, each taken by itself, has the name
+abbrev pub is_declared : Items → List ℕ → Bool
+is_declared no_items name = false
+is_declared (item d ds) name = is_called (name_under (codes "name") d) name || is_declared ds name
+
+-- ** a further type
 
 -- whether a type is of a section, of which this is the first
 abbrev pub is_from : ℕ → Option ℕ → Bool
@@ -12,7 +23,7 @@ is_from first None = false
 is_from first (Some t) = nat_le first t
 
 abbrev pub room_for_type : List GType → Result (Unit {0}) Refusal
-room_for_type types = if nat_le 256 (length types) then Err (limit Types) else Ok tt
+room_for_type types = refused_if (λ fault. limit Types) (room_fault types)
 
 -- a name that no type has yet: one of the same section is told as such
 abbrev pub new_type_name : List ℕ → ℕ → List GType → List ℕ → Result (Unit {0}) Refusal

@@ -1,13 +1,11 @@
-use Rattle.std.proofs.Common.{subst, sym}
 use Rattle.param_specs.specs.View.{spec_view}
-use Rattle.g_values.specs.View.{IsKnown}
 use Rattle.builder_defs.specs.Meaning.{class_at}
 use Rattle.builder_defs.proofs.PlainKinds.{plain_known}
 use Rattle.builder_defs.proofs.event_reading.set_in.Goals as goal
 
-pub value_for-requires : goal.value_for-requires
-value_for-requires c =
+pub given_by-requires : goal.given_by-requires
+given_by-requires c =
     let target = c.in_ok-target.target in
     let d = c.args.definition.now in
-    let plain = c.types.ensures.basic.plain (class_at d target.place.0) target.slot (spec_view target.spec.now) c.in_ok-target.ensures.spec in
-    record { known = subst (λ types. IsKnown types target.spec.now.kind) (sym c.types.ensures.types) (plain_known d.types target.spec.now.kind (spec_view target.spec.now) plain.kind) }
+    let plain = c.types-types.ensures.basic.plain (class_at d target.place.0) target.slot (spec_view target.spec.now) c.in_ok-target.ensures.spec in
+    record { known = plain_known d.types target.spec.now.kind (spec_view target.spec.now) plain.kind }

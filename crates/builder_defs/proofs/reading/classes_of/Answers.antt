@@ -1,17 +1,16 @@
-use Rattle.std.proofs.Common.{◌≡◌, Ok, codes, length, subst}
+use Rattle.std.proofs.Common.{◌≡◌, Ok, codes, subst}
 use Rattle.std.proofs.lemmas.Result.{err_from_is_err_and}
 use Rattle.serde_json.specs.View.{view, items_view}
-use Rattle.builder_defs.specs.Refusals.{Fails}
-use Rattle.builder_defs.specs.Document.{nothing_at, entries_at, each, at_entry}
+use Rattle.builder_defs.specs.Document.{nothing_at, entries_at}
 use Rattle.builder_defs.specs.Denoted.{unset_before_classes}
-use Rattle.builder_defs.specs.Denoted.Classes.{draft_of, class_at}
+use Rattle.builder_defs.specs.Denoted.Drafts.{draft_of}
 use Rattle.builder_defs.proofs.Sections.{classes_fail}
 use Rattle.builder_defs.proofs.reading.classes_of.Goals as goal
 
 pub returns-in_err-read_classes : goal.returns-in_err-read_classes
 returns-in_err-read_classes c =
     let p = err_from_is_err_and c.from_residual-in_err-read_classes.result c.from_residual-in_err-read_classes.ensures.1 in
-    rw (p.1, p.2) (classes_fail c.args.draft.now.types (view c.args.part.value.now) (items_view c.in_ok-items.items.now) c.in_err-read_classes.field-0.0
-    (subst (λ path. nothing_at path (view c.args.part.value.now) unset_before_classes ≡ Ok tt) c.requires.root c.in_ok-check_nothing.ensures)
-    (subst (λ path. entries_at path (view c.args.part.value.now) (codes "classes") ≡ Ok (items_view c.in_ok-items.items.now)) c.requires.root c.in_ok-items.ensures)
-    (subst (λ specs. Fails c.in_err-read_classes.field-0.0 (each (at_entry (λ path. class_at path (length c.args.draft.now.types) (items_view c.in_ok-items.items.now)) (codes "/classes")) 0 (draft_of c.args.draft.now.types specs) (items_view c.in_ok-items.items.now))) c.requires.bare c.in_err-read_classes.ensures))
+    rw (p.1, p.2) (classes_fail c.args.names.now (draft_of c.args.draft.now.types c.args.draft.now.specs) (view c.args.part.value.now) (items_view c.in_ok-items.items.now) c.in_err-read_classes.field-0.0
+    (subst (λ path. nothing_at path (view c.args.part.value.now) unset_before_classes ≡ Ok tt) c.requires c.in_ok-check_nothing.ensures)
+    (subst (λ path. entries_at path (view c.args.part.value.now) (codes "classes") ≡ Ok (items_view c.in_ok-items.items.now)) c.requires c.in_ok-items.ensures)
+    c.in_err-read_classes.ensures)

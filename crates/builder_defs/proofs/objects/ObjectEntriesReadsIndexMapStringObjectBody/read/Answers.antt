@@ -12,12 +12,12 @@ use Rattle.builder_defs.proofs.objects.ObjectEntriesReadsIndexMapStringObjectBod
 pub returns-in_err-object : goal.returns-in_err-object
 returns-in_err-object c =
     let p = err_from_is_err_and c.from_residual.result c.from_residual.ensures.1 in
-    rw (p.1, p.2) (object_fails (path_of c.args.part.path) c.args.self.now.types.now (specs_by c.args.self.now.types.now (own_of c.args.self.now.specs.now)) c.args.self.now.most c.args.objects.now.entries (view c.args.part.value.now) c.in_err-object.field-0.0 c.in_err-object.ensures.object)
+    rw (p.1, p.2) (object_fails (path_of c.args.part.path) c.args.self.now.types.now (specs_by c.args.self.now.types.now (own_of c.args.self.now.specs.now)) c.args.self.now.most c.args.self.now.names.now c.args.objects.now.entries (view c.args.part.value.now) c.in_err-object.field-0.0 c.in_err-object.ensures.object)
 
 pub returns : goal.returns
 returns c =
     let entry : Entry = (c.in_ok-object.object.id, c.in_ok-object.object.body) in
     let longer : c.insert.new.self.entries ≡ c.args.objects.now.entries ++ entry ∷ [] =
     c.in_ok-insert.ensures.entries ∙ goes_last c.in_ok-object.object.id c.in_ok-object.object.body c.args.objects.now.entries c.in_ok-object.ensures.new in
-    object_pushed (path_of c.args.part.path) c.args.self.now.types.now (specs_by c.args.self.now.types.now (own_of c.args.self.now.specs.now)) c.args.self.now.most c.args.objects.now.entries (view c.args.part.value.now) entry c.in_ok-object.ensures.object
+    object_pushed (path_of c.args.part.path) c.args.self.now.types.now (specs_by c.args.self.now.types.now (own_of c.args.self.now.specs.now)) c.args.self.now.most c.args.self.now.names.now c.args.objects.now.entries (view c.args.part.value.now) entry c.in_ok-object.ensures.object
     ∙ ap (λ (es : List Entry). Ok (map plain_object es)) (sym longer)

@@ -1,13 +1,14 @@
 use Rattle.std.proofs.Common.{◌≡◌, suc, true, None, ◌+◌, List, ◌∷◌, sym, ap, subst, ◌∙◌, arith}
-use Rattle.ui_machine.specs.State.Tasks.{Task, Building}
+use Rattle.ui_machine.specs.State.Tasks.{Task, Item, Building}
 use Rattle.ui_machine.specs.State.Config.{Config}
 use Rattle.ui_machine.specs.Outcome.{Answer, Goes}
 use Rattle.ui_machine.specs.Rules.Construction.{making}
+use Rattle.ui_machine.specs.Rules.Build.{building}
 use Rattle.ui_machine.specs.Steps.{uncounted}
 use Rattle.ui_engine.specs.View.{world_of}
 use Rattle.ui_engine.specs.TaskView.{agenda_of, build_from}
 use Rattle.ui_engine.specs.EngineView.{config_of}
-use Rattle.ui_engine.proofs.Building.{place_within, builds_next}
+use Rattle.ui_engine.proofs.Building.{place_within, builds_next, only_forwards}
 use Rattle.ui_engine.proofs.engine.Engine.building.Goals as goal
 
 pub returns-clause-step : goal.returns-clause-step
@@ -16,9 +17,19 @@ returns-clause-step c =
     let w = world_of c.args.self.now.world in
     let rest = agenda_of d c.args.self.now.stack in
     let n = c.args.self.now.counted in
+    let fs = c.args.forwards in
     let there = place_within d.places c.args.place (omega (arith, c.object_count.ensures.count, c.if-place-object_count.false)) in
-    let next = builds_next d c.types-types.ensures.basic w c.args.place there.0 there.1 rest n in
+    let next = builds_next d c.types-types.ensures.basic w c.args.place there.0 there.1 fs rest n in
     let one : c.args.place + 1 ≡ suc c.args.place = omega arith in
-    let pushed = c.in_ok-push.ensures d ∙ ap (λ place. Building (build_from d place) ∷ rest) one in
+    let pushed = c.in_ok-push.ensures d ∙ ap (λ place. Building (build_from d place fs) ∷ rest) one in
     let made = subst (λ (a : List Task). Goes c.making.result (uncounted a n (making d w c.args.place None true)) (config_of d c.making.new.self)) pushed c.making.ensures.step in
     subst (λ (a : Answer Config). Goes c.making.result a (config_of d c.making.new.self)) (sym next) made
+
+pub returns-then-place-object_count-clause-step : goal.returns-then-place-object_count-clause-step
+returns-then-place-object_count-clause-step c =
+    let d = c.args.definition.now in
+    let w = world_of c.args.self.now.world in
+    let rest = agenda_of d c.args.self.now.stack in
+    let n = c.args.self.now.counted in
+    let left = only_forwards d c.args.place c.args.forwards (omega (arith, c.object_count.ensures.count, c.if-place-object_count.true)) in
+    subst (λ (items : List Item). Goes c.forwarding.result (uncounted rest n (building d w items)) (config_of d c.forwarding.new.self)) (sym left) c.forwarding.ensures.step

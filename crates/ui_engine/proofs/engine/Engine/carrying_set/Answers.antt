@@ -1,13 +1,31 @@
-use Rattle.std.proofs.Common.{◌≡◌, true, false, rules}
-use Rattle.ui_machine.specs.Definition.Properties.{is_writable, is_construct_only}
-use Rattle.param_specs.specs.View.{spec_view}
+use Rattle.std.proofs.Common.{ℕ, [], ◌∷◌, sym, ap, refl, ◌∙◌}
+use Rattle.ui_machine.specs.Definition.Values.{Value}
+use Rattle.ui_machine.specs.State.Tasks.{Setting}
+use Rattle.ui_machine.specs.State.Config.{starts}
+use Rattle.ui_machine.specs.Outcome.{Answer, ◌>>=◌}
+use Rattle.ui_machine.specs.Rules.Build.{held_object}
 use Rattle.ui_machine.specs.Rules.Events.{carrying_set, set_given}
+use Rattle.ui_machine.specs.Rules.Sets.{spec_at}
+use Rattle.g_values.specs.View.{value_view}
+use Rattle.builder_defs.specs.Meaning.{given_view}
+use Rattle.ui_engine.specs.View.{world_of}
+use Rattle.ui_engine.specs.GivenView.{settable_at}
+use Rattle.ui_engine.specs.TaskView.{agenda_of}
+use Rattle.ui_engine.proofs.Forwarded.{settable_then}
+use Rattle.ui_engine.proofs.Left.{left_with}
 use Rattle.ui_engine.proofs.engine.Engine.carrying_set.Goals as goal
 
 pub returns-clause-step : goal.returns-clause-step
 unfolding carrying_set set_given
 returns-clause-step c =
-    let writable : is_writable (spec_view c.in_ok-spec.spec.now) ≡ true = search rules in
-    let free : is_construct_only (spec_view c.in_ok-spec.spec.now) ≡ false = search rules in
-    let pushed = c.in_ok-push.ensures c.args.definition.now in
-    rw (c.in_ok-object.ensures, c.in_ok-spec.ensures.spec, writable, free, pushed) (search rules)
+    let a = c.args in
+    let d = a.definition.now in
+    let w = world_of a.self.now.world in
+    let given = given_view a.given in
+    let set = λ (id : ℕ). set_given w id a.slot given in
+    let object = ap (λ (p : ℕ). settable_at d w p a.slot) (sym c.from.ensures) ∙ c.in_ok-object.ensures in
+    let is = settable_then (held_object w a.place.0) (λ (id : ℕ). spec_at d w.objects id a.slot) set
+    ∙ ap (λ (r : Answer ℕ). r >>= set) object
+    ∙ ap (λ (r : Answer Value). r >>= λ v. starts w (Setting c.in_ok-object.object a.slot v ∷ [])) c.in_ok-value.ensures in
+    left_with d w c.push.new.self a.self.now.counted a.self.now.counted (agenda_of d a.self.now.stack) _ w
+    (Setting c.in_ok-object.object a.slot (value_view c.in_ok-value.value)) is refl (c.in_ok-push.ensures d) refl

@@ -30,5 +30,5 @@ returns-clause-step c =
     ∙ ap (λ (v : World). record v { transcript = v.transcript ++ string_bytes c.in_ok-line.line ∷ [] }) object
     ∙ ap (λ text. record (with_object d w (new_object d c.args.place place None)) { transcript = w.transcript ++ text ∷ [] }) line in
     left_with d (world_of c.say.new.self) c.push.new.self _ _ _ _ _ _ made world
-    (pushed ∙ rw (c.in_ok-object.ensures.same.0, c.in_ok-object.ensures.identity, c.in_ok-steps.ensures w) refl)
+    (pushed ∙ rw (c.in_ok-object.ensures.same.0, c.in_ok-object.ensures.identity, c.in_ok-steps.ensures) refl)
     c.in_ok-object.ensures.same.1

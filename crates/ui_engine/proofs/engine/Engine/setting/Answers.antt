@@ -1,13 +1,14 @@
-use Rattle.std.proofs.Common.{◌≡◌, true, false, refl, sym, ap, ◌∙◌}
+use Rattle.std.proofs.Common.{◌≡◌, true, false, Err, refl, sym, ap, subst, ◌∙◌}
 use Rattle.std.proofs.lemmas.Result.{err_from_is_err_and}
+use Rattle.ui_machine.specs.Definition.Values.{Value}
 use Rattle.ui_machine.specs.State.Objects.{class_in}
-use Rattle.ui_machine.specs.Rules.Sets.{has_kind}
+use Rattle.ui_machine.specs.Rules.Sets.{has_kind, lives}
 use Rattle.ui_machine.specs.Steps.{uncounted}
 use Rattle.g_values.specs.View.{value_view}
 use Rattle.param_specs.specs.View.{spec_view}
 use Rattle.ui_engine.specs.View.{world_of}
 use Rattle.ui_engine.specs.TaskView.{agenda_of}
-use Rattle.ui_engine.proofs.PlainSets.{knows_class, no_spec_set, other_kind_set, refused_by_flag, written_by_flag}
+use Rattle.ui_engine.proofs.PlainSets.{no_spec_set, other_kind_set, dead_set, refused_by_flag, written_by_flag, only_ok, only_err, takes}
 use Rattle.ui_engine.proofs.Left.{left_alone}
 use Rattle.ui_engine.proofs.engine.Engine.setting.Goals as goal
 
@@ -22,6 +23,28 @@ returns-then-not-has_kind-clause-step c =
     ap (uncounted (agenda_of c.args.definition.now c.args.self.now.stack) c.args.self.now.counted)
     (other_kind_set c.args.definition.now (world_of c.args.self.now.world) c.args.object c.args.slot (value_view c.args.value) (spec_view c.in_ok-spec.spec.now) c.in_ok-spec.ensures.spec (sym c.if-not-has_kind.ensures))
 
+pub returns-in_err-known-clause-step : goal.returns-in_err-known-clause-step
+returns-in_err-known-clause-step c =
+    let d = c.args.definition.now in
+    let w = world_of c.args.self.now.world in
+    let s = spec_view c.in_ok-spec.spec.now in
+    let v = value_view c.args.value in
+    let kind : has_kind v s.kind ≡ true = sym c.if-not-has_kind.ensures in
+    let dead = only_err (lives w.objects v) v _ c.in_err-known.ensures.value in
+    let p = err_from_is_err_and c.from_residual-in_err-known.result c.from_residual-in_err-known.ensures.1 in
+    rw (p.1, p.2) (ap (uncounted (agenda_of d c.args.self.now.stack) c.args.self.now.counted)
+    (dead_set d w c.args.object c.args.slot v s c.in_ok-spec.ensures.spec kind dead.0 ∙ ap Err (sym dead.1)))
+
+pub validate-valid-requires : goal.validate-valid-requires
+validate-valid-requires c =
+    let d = c.args.definition.now in
+    let w = world_of c.args.self.now.world in
+    let s = spec_view c.in_ok-spec.spec.now in
+    let x = value_view c.in_ok-known.known in
+    let alive = only_ok (lives w.objects (value_view c.args.value)) (value_view c.args.value) x c.in_ok-known.ensures.value in
+    let kind : has_kind x s.kind ≡ true = subst (λ (v : Value). has_kind v s.kind ≡ true) (sym alive.1) (sym c.if-not-has_kind.ensures) in
+    rw c.types.ensures.types (takes d.types c.in_ok-spec.spec.now c.in_ok-known.known c.in_ok-spec.ensures.plain kind)
+
 pub returns-in_err-refuse-clause-step : goal.returns-in_err-refuse-clause-step
 returns-in_err-refuse-clause-step c =
     let p = err_from_is_err_and c.from_residual-in_err-refuse.result c.from_residual-in_err-refuse.ensures.1 in
@@ -32,34 +55,40 @@ returns-then-refuses-clause-step c =
     let d = c.args.definition.now in
     let w = world_of c.args.self.now.world in
     let s = spec_view c.in_ok-spec.spec.now in
-    let v = value_view c.args.value in
+    let x = value_view c.in_ok-known.known in
     let plain = c.in_ok-spec.ensures.plain in
-    let kind : has_kind v s.kind ≡ true = sym c.if-not-has_kind.ensures in
-    let knows = knows_class d.types (class_in w.objects) c.args.value s.kind s plain.kind kind in
-    let told = refused_by_flag d w c.args.object c.args.slot v s c.in_ok-spec.ensures.spec plain kind true _ (value_view c.in_ok-original.original) refl c.if-refuses.ensures (rw c.types.ensures.types at (c.validate-valid.ensures.changed (class_in w.objects) knows)) c.in_ok-original.ensures.value in
-    left_alone d c.args.self.now c.refuse.new.self _ _ told (rw c.as_str.ensures.value at c.in_ok-refuse.ensures.ok) c.in_ok-refuse.ensures.same.0 c.in_ok-refuse.ensures.same.1
+    let live = only_ok (lives w.objects (value_view c.args.value)) (value_view c.args.value) x c.in_ok-known.ensures.value in
+    let kind : has_kind x s.kind ≡ true = subst (λ (v : Value). has_kind v s.kind ≡ true) (sym live.1) (sym c.if-not-has_kind.ensures) in
+    let alive : lives w.objects x ≡ true = subst (λ (v : Value). lives w.objects v ≡ true) (sym live.1) live.0 in
+    let knows = c.in_ok-known.ensures.class in
+    let told = refused_by_flag d w c.args.object c.args.slot x s c.in_ok-spec.ensures.spec plain kind alive c.in_ok-known.ensures.stands true _ (value_view c.in_ok-original.original) refl c.if-refuses.ensures (rw c.types.ensures.types at (c.validate-valid.ensures.changed (class_in w.objects) knows)) c.in_ok-original.ensures.value in
+    rw (← live.1) (left_alone d c.args.self.now c.refuse.new.self _ _ told (rw c.as_str.ensures.value at c.in_ok-refuse.ensures.ok) c.in_ok-refuse.ensures.same.0 c.in_ok-refuse.ensures.same.1)
 
 pub returns-in_err-put-clause-step : goal.returns-in_err-put-clause-step
 returns-in_err-put-clause-step c =
     let d = c.args.definition.now in
     let w = world_of c.args.self.now.world in
     let s = spec_view c.in_ok-spec.spec.now in
-    let v = value_view c.args.value in
+    let x = value_view c.in_ok-known.known in
     let plain = c.in_ok-spec.ensures.plain in
-    let kind : has_kind v s.kind ≡ true = sym c.if-not-has_kind.ensures in
-    let knows = knows_class d.types (class_in w.objects) c.args.value s.kind s plain.kind kind in
-    let told = written_by_flag d w c.args.object c.args.slot v s c.in_ok-spec.ensures.spec plain kind false _ (value_view c.validate-valid.result.0) refl c.if-refuses.ensures (rw c.types.ensures.types at (c.validate-valid.ensures.changed (class_in w.objects) knows)) (rw c.types.ensures.types at (c.validate-valid.ensures.value (class_in w.objects) knows)) in
+    let live = only_ok (lives w.objects (value_view c.args.value)) (value_view c.args.value) x c.in_ok-known.ensures.value in
+    let kind : has_kind x s.kind ≡ true = subst (λ (v : Value). has_kind v s.kind ≡ true) (sym live.1) (sym c.if-not-has_kind.ensures) in
+    let alive : lives w.objects x ≡ true = subst (λ (v : Value). lives w.objects v ≡ true) (sym live.1) live.0 in
+    let knows = c.in_ok-known.ensures.class in
+    let told = written_by_flag d w c.args.object c.args.slot x s c.in_ok-spec.ensures.spec plain kind alive c.in_ok-known.ensures.stands false _ (value_view c.validate-valid.result.0) refl c.if-refuses.ensures (rw c.types.ensures.types at (c.validate-valid.ensures.changed (class_in w.objects) knows)) (rw c.types.ensures.types at (c.validate-valid.ensures.value (class_in w.objects) knows)) in
     let p = err_from_is_err_and c.from_residual-in_err-put.result c.from_residual-in_err-put.ensures.1 in
-    rw (p.1, p.2, told) c.in_err-put.ensures.step
+    rw (p.1, p.2, ← live.1, told) c.in_err-put.ensures.step
 
 pub returns-clause-step : goal.returns-clause-step
 returns-clause-step c =
     let d = c.args.definition.now in
     let w = world_of c.args.self.now.world in
     let s = spec_view c.in_ok-spec.spec.now in
-    let v = value_view c.args.value in
+    let x = value_view c.in_ok-known.known in
     let plain = c.in_ok-spec.ensures.plain in
-    let kind : has_kind v s.kind ≡ true = sym c.if-not-has_kind.ensures in
-    let knows = knows_class d.types (class_in w.objects) c.args.value s.kind s plain.kind kind in
-    let told = written_by_flag d w c.args.object c.args.slot v s c.in_ok-spec.ensures.spec plain kind false _ (value_view c.validate-valid.result.0) refl c.if-refuses.ensures (rw c.types.ensures.types at (c.validate-valid.ensures.changed (class_in w.objects) knows)) (rw c.types.ensures.types at (c.validate-valid.ensures.value (class_in w.objects) knows)) in
-    ap (uncounted (agenda_of d c.args.self.now.stack) c.args.self.now.counted) told ∙ c.in_ok-put.ensures.step
+    let live = only_ok (lives w.objects (value_view c.args.value)) (value_view c.args.value) x c.in_ok-known.ensures.value in
+    let kind : has_kind x s.kind ≡ true = subst (λ (v : Value). has_kind v s.kind ≡ true) (sym live.1) (sym c.if-not-has_kind.ensures) in
+    let alive : lives w.objects x ≡ true = subst (λ (v : Value). lives w.objects v ≡ true) (sym live.1) live.0 in
+    let knows = c.in_ok-known.ensures.class in
+    let told = written_by_flag d w c.args.object c.args.slot x s c.in_ok-spec.ensures.spec plain kind alive c.in_ok-known.ensures.stands false _ (value_view c.validate-valid.result.0) refl c.if-refuses.ensures (rw c.types.ensures.types at (c.validate-valid.ensures.changed (class_in w.objects) knows)) (rw c.types.ensures.types at (c.validate-valid.ensures.value (class_in w.objects) knows)) in
+    rw (← live.1) (ap (uncounted (agenda_of d c.args.self.now.stack) c.args.self.now.counted) told ∙ c.in_ok-put.ensures.step)

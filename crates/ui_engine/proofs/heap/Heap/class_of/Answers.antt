@@ -9,4 +9,4 @@ returns-in_default c =
 
 pub returns : goal.returns
 returns c =
-    present_asked _ _ _ _ _ _ c.self.invariant c.self.view_is (sym c.get.ensures.value ∙ ap option_copied c.in-Some.is) ∙ ap (λ (t : ℕ). Ok t) (sym c.class.ensures)
+    present_asked _ _ _ _ _ _ c.self.invariant c.self.view_is (sym c.get.ensures.value ∙ ap option_copied c.in-Some.is) ∙ ap (λ (t : ℕ). Ok t) (sym c.class.ensures.class)

@@ -20,6 +20,7 @@ pub returns-clause-built : goal.returns-clause-built
 returns-clause-built c =
     let d = c.args.definition in
     let announced = c.in-Ok.ensures ∙ ap (λ w. said d w lines.build) (c.new-engine.ensures d) in
-    let items = only_objects d c.types-types.ensures.basic in
-    let start = ap (λ w. beginning w (Building (build_from d 0))) announced ∙ ap (λ items. beginning (said d (first_world d []) lines.build) (Building items)) (sym items) in
+    let fs = c.in-Ok-forwards.forwards in
+    let items = only_objects d c.types-types.ensures.basic fs c.in-Ok-forwards.ensures in
+    let start = ap (λ w. beginning w (Building (build_from d 0 fs))) announced ∙ ap (λ items. beginning (said d (first_world d []) lines.build) (Building items)) (sym items) in
     subst (λ (from : Config). Comes c.carry_out-build.result (carrying_out d from) d c.carry_out-build.new.self) start c.carry_out-build.ensures.comes

@@ -1,0 +1,27 @@
+-- What the code keeps of a class while its interfaces are read.
+use Rattle.std.specs.Prelude.{Option, option_map, map, String, string_bytes}
+use Rattle.std.specs.Global.{Global}
+use Rattle.param_specs.specs.declared.spec.Spec.{Spec}
+use Rattle.param_specs.specs.View.{spec_view}
+use Rattle.builder_defs.specs.declared.overrides.Override.{Override}
+use Rattle.builder_defs.specs.declared.overrides.Override.TheVariants as ways
+use Rattle.param_specs.specs.Table.{own_of}
+use Rattle.builder_defs.specs.declared.overrides.Heir.{Heir}
+use Rattle.builder_defs.specs.Denoted.Implements as pure_heir
+use Rattle.builder_defs.specs.Denoted.Overrides.{Own, fine, missing, different}
+use Rattle.builder_defs.specs.Denoted.Overrides as pure
+
+-- a property by its name, or nothing where its entry is at fault
+abbrev pub Entry : Type 0
+Entry = String Global × Option Spec
+
+abbrev pub own_view : Entry → Own
+own_view entry = record { name = string_bytes entry.0; spec = option_map spec_view entry.1 }
+
+abbrev pub override_view : Override → pure.Override
+override_view ways.Fine = fine
+override_view ways.Missing = missing
+override_view ways.Different = different
+
+abbrev pub heir_of : Heir → pure_heir.Heir
+heir_of heir = record { types = heir.types.now; table = own_of heir.specs.now; parent = heir.parent; named = heir.named.now; own = map own_view heir.own.now.entries }

@@ -1,0 +1,40 @@
+use Rattle.std.proofs.Common.{◌≡◌, ℕ, List, [], ◌∷◌, map, Ok, sym, ap, ◌∙◌}
+use Rattle.ui_machine.specs.Definition.Values.{Value}
+use Rattle.ui_machine.specs.State.Tasks.{Task, Setting, Building}
+use Rattle.ui_machine.specs.State.Config.{starts}
+use Rattle.ui_machine.specs.Outcome.{Answer, ◌>>=◌}
+use Rattle.ui_machine.specs.Rules.Build.{held_object, building, building_forward, set_forward}
+use Rattle.ui_machine.specs.Rules.Sets.{spec_at}
+use Rattle.ui_machine.specs.Steps.{uncounted}
+use Rattle.g_values.specs.View.{value_view}
+use Rattle.ui_engine.specs.declared.task.Forward.{Forward}
+use Rattle.ui_engine.specs.View.{world_of}
+use Rattle.ui_engine.specs.GivenView.{held_value}
+use Rattle.ui_engine.specs.TaskView.{item_of, agenda_of}
+use Rattle.ui_engine.proofs.Building.{only_forwards}
+use Rattle.ui_engine.proofs.Forwarded.{settable_then, held_then}
+use Rattle.ui_engine.proofs.engine.Engine.forwarding.Goals as goal
+
+pub returns-clause-step : goal.returns-clause-step
+unfolding building_forward set_forward
+returns-clause-step c =
+    let a = c.args in
+    let d = a.definition.now in
+    let w = world_of a.self.now.world in
+    let agenda = agenda_of d a.self.now.stack in
+    let n = a.self.now.counted in
+    let f = c.in-Some.forward in
+    let items = map item_of c.take.new.self in
+    let object = c.in_ok-object.object in
+    let v = value_view c.in_ok-value.value in
+    let set = λ (id : ℕ). set_forward w id f.slot f.to.0 items in
+    let to = ap (λ (p : ℕ). held_value w p) (sym c.from.ensures) ∙ c.in_ok-value.ensures in
+    let is : building d w (map item_of a.forwards) ≡ starts w (Setting object f.slot v ∷ Building items ∷ []) =
+    ap (λ (fs : List Forward). building d w (map item_of fs)) c.in-Some.ensures
+    ∙ settable_then (held_object w f.object) (λ (id : ℕ). spec_at d w.objects id f.slot) set
+    ∙ ap (λ (r : Answer ℕ). r >>= set) c.in_ok-object.ensures
+    ∙ held_then (held_object w f.to.0) (λ (x : Value). starts w (Setting object f.slot x ∷ Building items ∷ [])) v to in
+    let left = c.in_ok-push-2.ensures d
+    ∙ ap (λ (rest : List Task). Setting object f.slot v ∷ rest) (c.in_ok-push.ensures d
+    ∙ ap (λ its. Building its ∷ agenda) (only_forwards d a.place c.take.new.self c.requires.past)) in
+    ap (uncounted agenda n) is ∙ ap (λ (rest : List Task). Ok (record { world = w; agenda = rest; counted = n })) (sym left)

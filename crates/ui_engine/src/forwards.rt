@@ -1,0 +1,113 @@
+//! Forward references: objects that are given to properties before they are built. They are set once all objects stand.
+
+ghost use Rattle.std.specs.Prelude.{◌≡◌, ◌≤◌, ◌++◌, length, map, OnOk, OnErr, IfOk};
+ghost use Rattle.std.specs.List.{flat_map};
+ghost use Rattle.ui_machine.specs.Outcome.{Goes};
+ghost use Rattle.ui_machine.specs.Rules.Build.{building, forward_of, forward_items};
+ghost use Rattle.ui_machine.specs.Steps.{uncounted};
+ghost use Rattle.builder_defs.specs.Meaning.{given_property};
+ghost use Rattle.ui_engine.specs.View.{world_of};
+ghost use Rattle.ui_engine.specs.TaskView.{agenda_of, item_of, items_of, forwards_at, build_from};
+ghost use Rattle.ui_engine.specs.EngineView.{config_of};
+
+use crate::engine::Engine;
+use crate::task::{Forward, Forwards, Task};
+use builder_defs::{Definition, Given, GivenValue};
+use std::alloc::{AllocError, Global};
+use ui_machine::Halt;
+
+// Puts what an entry gives before these, where it is a forward reference.
+fn add_forward(
+    forwards: &mut Vec<Forward>,
+    object: usize,
+    entry: &GivenValue,
+) -> Result<(), AllocError>
+    ensures { OnOk result (items_of forwards.new.items ≡ forward_of object (given_property entry.now) ++ items_of forwards.old.items) }
+{
+    let Given::Object(to) = &entry.given else {
+        return Ok(());
+    };
+    if object > usize::from(to.0) {
+        return Ok(());
+    }
+    forwards.push(Forward {
+        object,
+        slot: entry.slot,
+        to: *to,
+    })?;
+    Ok(())
+}
+
+// Puts the forward references of an object before these, in the given order.
+fn add_forwards(
+    forwards: &mut Vec<Forward>,
+    object: usize,
+    given: &[GivenValue],
+) -> Result<(), AllocError>
+    ensures { OnOk result (items_of forwards.new.items ≡ flat_map (forward_of object) (map given_property given.now) ++ items_of forwards.old.items) }
+{
+    let mut left = given.len();
+    'entries: while left > 0 {
+        left -= 1;
+        add_forward(forwards, object, &given[left])?;
+    }
+    Ok(())
+}
+
+// The same of the object at a place of a definition.
+fn add_forwards_of(
+    forwards: &mut Vec<Forward>,
+    definition: &Definition,
+    place: usize,
+) -> Result<(), AllocError>
+    ensures { OnOk result (items_of forwards.new.items ≡ forwards_at definition.now place ++ items_of forwards.old.items) }
+{
+    let Some(entry) = definition.object(place) else {
+        return Ok(());
+    };
+    add_forwards(forwards, place, entry.given)
+}
+
+/// The forward references of a definition, in document order.
+pub(crate) fn forwards(alloc: Global, definition: &Definition) -> Result<Forwards, AllocError>
+    ensures { IfOk result (λ forwards. map item_of forwards ≡ forward_items 0 definition.now.places) }
+{
+    let _types = definition.types();
+    let mut forwards = Vec::new(alloc);
+    let mut place = definition.object_count();
+    'places: while place > 0 {
+        place -= 1;
+        add_forwards_of(&mut forwards, definition, place)?;
+    }
+    Ok(Forwards::new(forwards))
+}
+
+impl Engine {
+    // The next forward reference is set, where all objects stand.
+    #[tactic(auto, unfolding(ui_machine::specs::Rules::Build::building_forward, ui_machine::specs::Rules::Build::set_forward))]
+    pub(crate) fn forwarding(
+        &mut self,
+        definition: &Definition,
+        place: usize,
+        mut forwards: Forwards,
+    ) -> Result<(), Halt>
+        requires past { length definition.now.places ≤ place }
+        ensures step { Goes result
+            (uncounted (agenda_of definition.now self.old.stack) self.old.counted (building definition.now (world_of self.old.world) (map item_of forwards)))
+            (config_of definition.now self.new) }
+        ensures quiet { OnErr result ((world_of self.new.world).transcript ≡ (world_of self.old.world).transcript) }
+    {
+        let Some(forward) = forwards.take() else {
+            return Ok(());
+        };
+        let object = self.settable(definition, forward.object, forward.slot)?;
+        let value = self.held_value(usize::from(forward.to.0))?;
+        self.stack.push(Task::Building { place, forwards })?;
+        self.stack.push(Task::Setting {
+            object,
+            slot: forward.slot,
+            value,
+        })?;
+        Ok(())
+    }
+}

@@ -1,0 +1,90 @@
+//! What is given: values, and objects that the builder has.
+
+ghost use Rattle.std.specs.Prelude.{◌≡◌, Some, option_map, IfOk};
+ghost use Rattle.ui_machine.specs.Definition.Values as values;
+ghost use Rattle.ui_machine.specs.Outcome.{known};
+ghost use Rattle.ui_machine.specs.declared.arm.Arm.TheVariants as arms;
+ghost use Rattle.ui_machine.specs.Rules.Build.{held_object};
+ghost use Rattle.ui_machine.specs.Rules.Construction.{given_value};
+ghost use Rattle.g_values.specs.View.{value_view};
+ghost use Rattle.builder_defs.specs.Meaning.{given_view};
+ghost use Rattle.ui_engine.specs.ObjectView.{Shows};
+ghost use Rattle.ui_engine.specs.GivenView.{held_value, settable_at};
+ghost use Rattle.ui_engine.specs.View.{world_of};
+
+use crate::engine::Engine;
+use crate::world::World;
+use builder_defs::{Definition, Given};
+use g_values::Value;
+use std::alloc::AllocError;
+use type_tree::TypeId;
+use ui_machine::{Arm, ObjectId};
+
+// The type that every object is.
+const G_OBJECT: u16 = 0;
+
+// An object as a value.
+fn object_value(object: u64) -> Value
+    ensures { value_view result ≡ values.object (Some object) }
+{
+    Value::Object(TypeId::new(G_OBJECT), Some(ObjectId(object)))
+}
+
+impl World {
+    /// A given value once more, or the object of the builder, if it has it.
+    pub fn given(&self, given: &Given) -> Result<Option<Value>, AllocError>
+        ensures { IfOk result (λ value. option_map value_view value ≡ given_value (world_of self.now) (given_view given.now)) }
+    {
+        match given {
+            Given::Value(value) => Ok(Some(value.copied()?)),
+            Given::Object(place) => Ok(self.built(usize::from(place.0)).map(object_value)),
+        }
+    }
+}
+
+impl Engine {
+    // The object that the builder has of a place.
+    pub(crate) fn held(&self, place: usize) -> Result<u64, Arm>
+        ensures { Shows (λ id. id) result (held_object (world_of self.now.world) place) }
+    {
+        self.world.built(place).ok_or(Arm::Operand)
+    }
+
+    // The same as a value.
+    pub(crate) fn held_value(&self, place: usize) -> Result<Value, Arm>
+        ensures { Shows value_view result (held_value (world_of self.now.world) place) }
+    {
+        let object = self.held(place)?;
+        Ok(object_value(object))
+    }
+
+    // A given value, or the object of the builder.
+    pub(crate) fn operand(&self, given: Given) -> Result<Value, Arm>
+        ensures { Shows value_view result (known arms.Operand (given_value (world_of self.now.world) (given_view given))) }
+    {
+        match given {
+            Given::Value(value) => Ok(value),
+            Given::Object(place) => self.held_value(usize::from(place.0)),
+        }
+    }
+
+    // The object that the builder has of a place, whose property may be set.
+    pub(crate) fn settable(
+        &self,
+        definition: &Definition,
+        place: usize,
+        slot: u16,
+    ) -> Result<u64, Arm>
+        ensures { Shows (λ id. id) result (settable_at definition.now (world_of self.now.world) place slot) }
+    {
+        let object = self.held(place)?;
+        let spec = self.spec_of(definition, object, slot)?;
+        if !spec.is_writable() {
+            return Err(Arm::Flags);
+        }
+        if spec.is_construct_only() {
+            return Err(Arm::ConstructOnly);
+        }
+        Ok(object)
+    }
+}
