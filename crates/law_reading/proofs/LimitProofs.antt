@@ -1,5 +1,5 @@
 -- The limits of a definition that was read.
-use Rattle.std.proofs.Common.{◌≡◌, ℕ, suc, ◌+◌, ◌≤◌, ℤ, pos, negsuc, Bool, true, false, cond, not, ◌&&◌, List, [], ◌∷◌, length, Option, None, Some, Ok, Err, refl, subst, arith}
+use Rattle.std.proofs.Common.{◌≡◌, ℕ, suc, ◌+◌, ◌≤◌, ℤ, pos, negsuc, Bool, true, false, cond, not, ◌&&◌, List, [], ◌∷◌, length, Option, None, Some, Ok, Err, refl, arith}
 use Rattle.std.specs.Prelude.{int_lt, unsigned_abs, if◌then◌else◌, codes}
 use Rattle.std.proofs.lemmas.Int.{ints}
 use Rattle.serde_json.specs.Data.{Data}
@@ -14,15 +14,12 @@ use Rattle.builder_defs.specs.Meaning.{default_limits}
 use Rattle.builder_defs.specs.Refusals.{shape, limit, or_refused}
 use Rattle.builder_defs.specs.Document.{under, members_at, only_at}
 use Rattle.builder_defs.specs.Denoted.SessionLimits.{limit_within, given_limit, limit_or, keys_of_limits, given_limits, limits_or, limits_in}
-use Rattle.builder_defs.specs.Denoted.Classes.{Draft}
-use Rattle.builder_defs.specs.Denoted.{definition_with}
-use Rattle.builder_defs.proofs.Soundness.{OnRead, on_bind, on_all, AreFew}
+use Rattle.builder_defs.proofs.Soundness.{OnRead, on_bind, on_all}
 use Rattle.law_typing.specs.Laws.WellRead.{is_object}
-use Rattle.law_reading.specs.Reading.{LimitsRead}
 
-record Small (limits : Limits) : Type 0 where
-  objects : limits.objects ≤ 4096
-  handlers : limits.handlers ≤ 16
+pub record Small (limits : Limits) : Type 0 where
+  pub objects : limits.objects ≤ 4096
+  pub handlers : limits.handlers ≤ 16
 
 below : (n : ℤ) (low high : ℕ) → int_lt n (pos low) ≡ false → int_lt (pos high) n ≡ false → unsigned_abs n ≤ high
 below (pos k) low high p q = omega (arith, ints, q)
@@ -52,31 +49,27 @@ given_small : (path : List ℕ) (d : Data) → OnRead Small (given_limits path d
 unfolding given_limits
 given_small path d =
     on_bind (λ x. Unit {0}) Small (members_at path d) _ (on_all _) λ ms u.
-    on_bind (λ m. m ≤ 4096) Small (limit_or (under path (codes "objects")) Objects (pos 1) (pos 4096) default_limits.objects (get (codes "objects") d)) _
+    on_bind (λ m. m ≤ 4096) Small
+    (limit_or (under path (codes "objects")) Objects (pos 1) (pos 4096) default_limits.objects (get (codes "objects") d)) _
     (limited (under path (codes "objects")) Objects 1 4096 default_limits.objects (get (codes "objects") d) (omega arith)) λ objects few.
-    on_bind (λ m. m ≤ 16) Small (limit_or (under path (codes "handlers")) Handlers (pos 0) (pos 16) default_limits.handlers (get (codes "handlers") d)) _
-    (limited (under path (codes "handlers")) Handlers 0 16 default_limits.handlers (get (codes "handlers") d) (omega arith)) λ handlers small.
+    on_bind (λ m. m ≤ 16) Small
+    (limit_or (under path (codes "handlers")) Handlers (pos 0) (pos 16) default_limits.handlers (get (codes "handlers") d)) _
+    (limited (under path (codes "handlers")) Handlers 0 16 default_limits.handlers (get (codes "handlers") d) (omega arith))
+    λ handlers small.
     on_bind (λ x. Unit {0}) Small (only_at path ms keys_of_limits) _ (on_all _) λ only u. record { objects = few; handlers = small }
 
 small_or : (path : List ℕ) (d : Option Data) → OnRead Small (limits_or path d)
 small_or path None = record { objects = omega arith; handlers = omega arith }
 small_or path (Some d) = given_small path d
 
-limits_small : (d : Data) → OnRead Small (limits_in d)
+pub limits_small : (d : Data) → OnRead Small (limits_in d)
 limits_small d = small_or (under [] (codes "limits")) (get (codes "limits") d)
 
-all_objects : (places : List Place) → total is_object places ≤ length places
-all_objects [] = omega arith
-all_objects (p ∷ ps) = by p.is_prototype (all_objects ps)
+-- no more objects than places
+pub objects_few : (places : List Place) → total is_object places ≤ length places
+objects_few [] = omega arith
+objects_few (p ∷ ps) = by p.is_prototype (objects_few ps)
   where
     by : (b : Bool) → total is_object ps ≤ length ps → cond b 0 1 + total is_object ps ≤ suc (length ps)
     by true h = omega (arith, h)
     by false h = omega (arith, h)
-
-pub limits_read : (draft : Draft) (places : List Place) (limits : Limits) (v : Data) → limits_in v ≡ Ok limits
-    → AreFew limits.objects places
-    → LimitsRead (definition_with draft places limits)
-limits_read draft places limits v read few =
-    let small : Small limits = subst (OnRead Small) read (limits_small v) in
-    let all = all_objects places in
-    record { most_objects = small.objects; most_handlers = small.handlers; objects = omega (arith, all, few.live) }

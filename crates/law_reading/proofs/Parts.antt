@@ -1,15 +1,15 @@
 -- The parts of a definition that was read.
-use Rattle.std.proofs.Common.{◌≡◌, ℕ, List, [], Result, Ok, Err, codes, option_and_then, refl, subst}
+use Rattle.std.proofs.Common.{◌≡◌, ℕ, List, [], Option, None, Some, Result, Ok, Err, codes, option_and_then, refl, ap, subst}
 use Rattle.serde_json.specs.Find.{get, as_number, as_u64}
 use Rattle.serde_json.specs.Data.{Data}
 use Rattle.ui_machine.specs.Outcome.{◌>>=◌}
 use Rattle.ui_machine.specs.Definition.{Definition}
 use Rattle.ui_machine.specs.Definition.Places.{Place}
 use Rattle.ui_machine.specs.declared.limits.Limits.{Limits}
-use Rattle.builder_defs.specs.Refusals.{Refusal}
+use Rattle.builder_defs.specs.Refusals.{Refusal, or_refused}
 use Rattle.builder_defs.specs.Document.{document, members_at, only_at}
 use Rattle.builder_defs.specs.Denoted.Properties.{specs_by}
-use Rattle.builder_defs.specs.Denoted.Classes.{Draft}
+use Rattle.builder_defs.specs.Denoted.Drafts.{Draft}
 use Rattle.builder_defs.specs.Denoted.SessionLimits.{limits_in}
 use Rattle.builder_defs.specs.Denoted.{keys_of_definition, format_of, draft_in, objects_in, definition_in, definition_with, denoted}
 use Rattle.builder_defs.proofs.Soundness.{OnRead}
@@ -19,6 +19,11 @@ pub on_read : {A B : Type 0} (P : B → Type 0) (r : Result A Refusal) (f : A �
     → ((x : A) → r ≡ Ok x → OnRead P (f x)) → OnRead P (r >>= f)
 on_read P (Ok x) f h = h x refl
 on_read P (Err e) f h = tt
+
+-- what was taken is there
+pub taken : {A : Type 0} (refusal : Refusal) (found : Option A) (x : A) → or_refused refusal found ≡ Ok x → found ≡ Some x
+taken refusal None x e = absurd (cc)
+taken refusal (Some y) x e = let same : y ≡ x = cc in ap Some same
 
 pub record IsRead (d : Definition) : Type 0 where
   pub value : Data

@@ -15,14 +15,15 @@ use Rattle.param_specs.specs.declared.error.SpecFault.{SpecFault}
 use Rattle.param_specs.specs.Table.{fault_if, ◌or_else◌, install_fault, slot_named, canonical_spec}
 use Rattle.param_specs.specs.PropertyName.{is_property_name}
 use Rattle.param_specs.specs.declared.error.SpecFault.TheVariants.{BadName, Duplicate, FlagsClash, RangeEmpty, DefaultInvalid, Limit}
-use Rattle.builder_defs.specs.Denoted.Classes.{properties_at}
+use Rattle.builder_defs.specs.Denoted.Drafts.{properties_at}
 use Rattle.builder_defs.specs.Refusals.{Refusal, shape, or_refused}
-use Rattle.builder_defs.specs.Document.{each, at_entry, under, nth, members_at, text_at, entries_at, absent_at, nothing_at, only_at}
+use Rattle.builder_defs.specs.Document.{each, at_entry, under, nth, members_at, text_at, entries_at, absent_at, only_at}
+use Rattle.builder_defs.specs.Denoted.Entries.{TypeNames}
 use Rattle.builder_defs.specs.Denoted.Kinds.{kind_at}
 use Rattle.builder_defs.specs.Denoted.PropertyFlags.{flag_if, flag_at, check_flags, listed_flags, flags_or, flags_at}
 use Rattle.builder_defs.specs.Denoted.Ranges.{whole_range, range_at}
 use Rattle.builder_defs.specs.Denoted.Defaults.{default_at, check_default, check_unranged}
-use Rattle.builder_defs.specs.Denoted.Properties.{specs_by, inherited_by, property_spec, room_for_property, new_property, keys_of_property, valued_at, spec_at, add_own, installed_or, installed, property_at}
+use Rattle.builder_defs.specs.Denoted.Properties.{specs_by, inherited_by, property_spec, room_for_property, new_property, weak_at, keys_of_property, valued_at, spec_at, add_own, installed_or, installed, property_at}
 use Rattle.builder_defs.proofs.Soundness.{OnRead, on_bind, on_all, on_each}
 use Rattle.type_tree.specs.Tree.{IsTree}
 use Rattle.law_typing.specs.Verdict.Accepted.{Each}
@@ -38,7 +39,8 @@ AreFlags flags = flags < 2 ^ 32
 
 one_flag : (r : Refusal) (u v w x y z : Bool)
     → OnRead AreFlags (or_refused r
-    (if u then Some 1 else (if v then Some 2 else (if w then Some 4 else (if x then Some 8 else (if y then Some 16 else (if z then Some 1073741824 else None)))))))
+    (if u then Some 1 else (if v then Some 2 else (if w then Some 4 else (if x then Some 8 else
+    (if y then Some 16 else (if z then Some 1073741824 else None)))))))
 one_flag r true v w x y z = omega arith
 one_flag r false true w x y z = omega arith
 one_flag r false false true x y z = omega arith
@@ -56,7 +58,8 @@ named_flag r (Some word) =
 flag_more : (path : List ℕ) (flags : ℕ) (d : Data) → AreFlags flags → OnRead AreFlags (flag_at path flags d)
 unfolding flag_at
 flag_more path flags d h =
-    on_bind AreFlags AreFlags (or_refused (shape path) (flag_if (as_str d))) _ (named_flag (shape path) (as_str d)) λ flag f. or_lt 32 flags flag h f
+    on_bind AreFlags AreFlags (or_refused (shape path) (flag_if (as_str d))) _ (named_flag (shape path) (as_str d)) λ flag f.
+    or_lt 32 flags flag h f
 
 flags_listed : (path : List ℕ) (d : Data) → OnRead AreFlags (listed_flags path d)
 unfolding listed_flags
@@ -78,22 +81,25 @@ valued_flags : (path : List ℕ) (types : List GType) (name : List ℕ) (kind : 
 unfolding valued_at
 valued_flags path types name kind flags d h =
     on_bind (λ x. Unit {0}) HasFlags (default_at path types kind d) _ (on_all _) λ default u.
-    on_bind (λ x. Unit {0}) HasFlags (check_unranged (under path (codes "default")) types (property_spec name kind flags default (whole_range kind))) _ (on_all _) λ unranged u.
+    on_bind (λ x. Unit {0}) HasFlags
+    (check_unranged (under path (codes "default")) types (property_spec name kind flags default (whole_range kind))) _ (on_all _)
+    λ unranged u.
     on_bind (λ x. Unit {0}) HasFlags (range_at path kind d) _ (on_all _) λ range u.
-    on_bind (λ x. Unit {0}) HasFlags (check_default (under path (codes "default")) types (property_spec name kind flags default range)) _ (on_all _) λ valid u. h
+    on_bind (λ x. Unit {0}) HasFlags (check_default (under path (codes "default")) types (property_spec name kind flags default range)) _
+    (on_all _) λ valid u. h
 
-spec_flags : (path : List ℕ) (types : List GType) (inherited specs : List Spec) (d : Data)
-    → OnRead HasFlags (spec_at path types inherited specs d)
+spec_flags : (path : List ℕ) (types : List GType) (names : TypeNames) (inherited specs : List Spec) (d : Data)
+    → OnRead HasFlags (spec_at path types names inherited specs d)
 unfolding spec_at
-spec_flags path types inherited specs d =
+spec_flags path types names inherited specs d =
     on_bind (λ x. Unit {0}) HasFlags (members_at path d) _ (on_all _) λ ms u.
     on_bind (λ x. Unit {0}) HasFlags (room_for_property specs) _ (on_all _) λ room u.
     on_bind (λ x. Unit {0}) HasFlags (text_at path d (codes "name")) _ (on_all _) λ name u.
     on_bind (λ x. Unit {0}) HasFlags (new_property (under path (codes "name")) inherited specs name) _ (on_all _) λ new u.
-    on_bind (λ x. Unit {0}) HasFlags (kind_at path types d) _ (on_all _) λ kind u.
+    on_bind (λ x. Unit {0}) HasFlags (kind_at path types names d) _ (on_all _) λ kind u.
     on_bind AreFlags HasFlags (flags_at path d) _ (flags_given (under path (codes "flags")) (get (codes "flags") d)) λ flags h.
     on_bind HasFlags HasFlags (valued_at path types name kind flags d) _ (valued_flags path types name kind flags d h) λ spec f.
-    on_bind (λ x. Unit {0}) HasFlags (absent_at path d (codes "weak" ∷ [])) _ (on_all _) λ weak u.
+    on_bind (λ x. Unit {0}) HasFlags (weak_at path kind d) _ (on_all _) λ weak u.
     on_bind (λ x. Unit {0}) HasFlags (only_at path ms keys_of_property) _ (on_all _) λ only u. f
 
 -- ** what a table keeps
@@ -145,7 +151,8 @@ other_than u last h = by (nat_eq u last) refl
     by true e = absurd (h (eqb-true u last e))
     by false e = e
 
-module _ (types : List GType) (tree : IsTree types) (last : ℕ) (is : suc last ≡ length types) (own : ℕ → List Spec) (old : OwnRead types own) (spec : Spec) where
+module _ (types : List GType) (tree : IsTree types) (last : ℕ) (is : suc last ≡ length types) (own : ℕ → List Spec)
+    (old : OwnRead types own) (spec : Spec) where
   one_kept : (u : ℕ) → IsKept (canonical_spec spec) → Each IsKept (add_own own last (canonical_spec spec) u)
   one_kept u new = by (nat_eq u last)
     where
@@ -180,9 +187,11 @@ module _ (types : List GType) (tree : IsTree types) (last : ℕ) (is : suc last 
           → OnRead (OwnRead types) (installed_or path f (add_own own last (canonical_spec spec)))
       by (Some cause) e = tt
       by None e =
-          let fine = no_fault (not (is_property_name spec.name)) (is_some (slot_named (specs_by types own last) spec.name)) (is_clash spec.flags)
+          let known = is_some (slot_named (specs_by types own last) spec.name) in
+          let fine = no_fault (not (is_property_name spec.name)) known (is_clash spec.flags)
           BadName Duplicate FlagsClash (fault_if (int_lt spec.high spec.low) RangeEmpty or_else
-          fault_if (not (is_valid (λ id. None) types spec spec.default)) DefaultInvalid or_else fault_if (nat_le 64 (length (specs_by types own last))) Limit) e in
+          fault_if (not (is_valid (λ id. None) types spec spec.default)) DefaultInvalid or_else
+          fault_if (nat_le 64 (length (specs_by types own last))) Limit) e in
           let read : OwnRead types (add_own own last (canonical_spec spec)) = record {
             kept = λ u. one_kept u (kept_one flags fine.1);
             past = none_past;
@@ -190,18 +199,46 @@ module _ (types : List GType) (tree : IsTree types) (last : ℕ) (is : suc last 
           } in read
 
 module _ (types : List GType) (tree : IsTree types) (last : ℕ) (is : suc last ≡ length types) where
-  property_read : (path : List ℕ) (own : ℕ → List Spec) (d : Data) → OwnRead types own
-      → OnRead (OwnRead types) (property_at path types last own d)
+  property_read : (names : TypeNames) (path : List ℕ) (own : ℕ → List Spec) (d : Data) → OwnRead types own
+      → OnRead (OwnRead types) (property_at path types names last own d)
   unfolding property_at
-  property_read path own d old =
-      on_bind HasFlags (OwnRead types) (spec_at path types (inherited_by types own last) (specs_by types own last) d) (λ spec. installed path types last own spec)
-      (spec_flags path types (inherited_by types own last) (specs_by types own last) d) λ spec flags. installed_read types tree last is own old spec path flags
+  property_read names path own d old =
+      on_bind HasFlags (OwnRead types) (spec_at path types names (inherited_by types own last) (specs_by types own last) d)
+      (λ spec. installed path types last own spec)
+      (spec_flags path types names (inherited_by types own last) (specs_by types own last) d) λ spec flags.
+      installed_read types tree last is own old spec path flags
 
-  pub properties_read : (path : List ℕ) (own : ℕ → List Spec) (d : Data) → OwnRead types own
-      → OnRead (OwnRead types) (properties_at path types last own d)
+  pub properties_read : (names : TypeNames) (path : List ℕ) (own : ℕ → List Spec) (d : Data) → OwnRead types own
+      → OnRead (OwnRead types) (properties_at path types names last own d)
   unfolding properties_at
-  properties_read path own d old =
-      on_bind (λ x. Unit {0}) (OwnRead types) (nothing_at path d (codes "implements" ∷ [])) _ (on_all _) λ unset u.
+  properties_read names path own d old =
       on_bind (λ x. Unit {0}) (OwnRead types) (entries_at path d (codes "properties")) _ (on_all _) λ list u.
-      on_each (OwnRead types) (at_entry (λ entry. property_at entry types last) (under path (codes "properties")))
-      (λ i own d all. property_read (nth (under path (codes "properties")) i) own d all) 0 own list old
+      on_each (OwnRead types) (at_entry (λ entry. property_at entry types names last) (under path (codes "properties")))
+      (λ i own d all. property_read names (nth (under path (codes "properties")) i) own d all) 0 own list old
+
+-- ** what stays
+
+-- only the own properties of one type are others
+abbrev pub OnlyAt : ℕ → (ℕ → List Spec) → (ℕ → List Spec) → Type 0
+OnlyAt last own changed = (u : ℕ) → nat_eq u last ≡ false → changed u ≡ own u
+
+module _ (types : List GType) (names : TypeNames) (last : ℕ) (first : ℕ → List Spec) where
+  installed_only : (path : List ℕ) (own : ℕ → List Spec) (s : Spec) (f : Option SpecFault) → OnlyAt last first own
+      → OnRead (OnlyAt last first) (installed_or path f (add_own own last (canonical_spec s)))
+  installed_only path own s None old = λ u h. ap (λ b. cond b (own u ++ canonical_spec s ∷ []) (own u)) h ∙ old u h
+  installed_only path own s (Some cause) old = tt
+
+  property_only : (path : List ℕ) (own : ℕ → List Spec) (d : Data) → OnlyAt last first own
+      → OnRead (OnlyAt last first) (property_at path types names last own d)
+  unfolding property_at
+  property_only path own d old =
+      on_bind (λ x. Unit {0}) (OnlyAt last first) (spec_at path types names (inherited_by types own last) (specs_by types own last) d)
+      (λ spec. installed path types last own spec) (on_all _) λ spec u.
+      installed_only path own spec (install_fault types (specs_by types own last) spec) old
+
+  pub properties_only : (path : List ℕ) (d : Data) → OnRead (OnlyAt last first) (properties_at path types names last first d)
+  unfolding properties_at
+  properties_only path d =
+      on_bind (λ x. Unit {0}) (OnlyAt last first) (entries_at path d (codes "properties")) _ (on_all _) λ list u.
+      on_each (OnlyAt last first) (at_entry (λ entry. property_at entry types names last) (under path (codes "properties")))
+      (λ i own d all. property_only (nth (under path (codes "properties")) i) own d all) 0 first list (λ u h. refl)

@@ -1,10 +1,8 @@
 -- The signals of a definition that was read: each type has `notify` alone.
-use Rattle.std.proofs.Common.{◌≡◌, ℕ, zero, suc, ◌<◌, ◌≤◌, Bool, true, List, [], ◌∷◌, length, Option, None, Some, slice_get, refl, sym, ap, subst, ◌∙◌, arith, inl, inr, ◌⊎◌}
-use Rattle.std.specs.Prelude.{◌&&◌}
+use Rattle.std.proofs.Common.{◌≡◌, ℕ, zero, suc, ◌<◌, ◌≤◌, true, List, [], ◌∷◌, length, Option, None, Some, slice_get, refl, sym, ap, subst, ◌∙◌, arith, inl, inr, ◌⊎◌}
 use Rattle.std.specs.List.{list_all}
 use Rattle.std.proofs.lemmas.Bool.{cases_lt}
 use Rattle.std.proofs.lemmas.Option.{none-some}
-use Rattle.ui_machine.specs.Seq.{read, listed}
 use Rattle.ui_machine.specs.Definition.{Class}
 use Rattle.ui_machine.specs.Definition.Places.{Place}
 use Rattle.ui_machine.specs.Definition.Signals.{Signal}
@@ -15,26 +13,13 @@ use Rattle.ui_machine.specs.Rules.EmissionPlan.{signal_of, first_given}
 use Rattle.ui_machine.specs.Rules.Construction.{nearest_shape}
 use Rattle.ui_machine.specs.Rules.Ancestry.{lineage}
 use Rattle.ui_machine.specs.declared.limits.Limits.{Limits}
-use Rattle.ui_machine.proofs.Listed.{read-listed}
+use Rattle.ui_machine.proofs.Listed.{read-listed, length-listed}
 use Rattle.builder_defs.specs.Meaning.{class_with, notify_signal}
 use Rattle.builder_defs.specs.Denoted.Properties.{specs_by}
-use Rattle.builder_defs.specs.Denoted.Classes.{Draft}
+use Rattle.builder_defs.specs.Denoted.Drafts.{Draft}
 use Rattle.builder_defs.specs.Denoted.{definition_with}
 use Rattle.law_typing.specs.Laws.WellRead.{HasNotify, result_has_values}
-use Rattle.law_reading.specs.Reading.{SignalsRead}
-
-read_past : {A : Type 0} (d : A) (f : ℕ → A) (n i : ℕ) → n ≤ i → read d (listed f n) i ≡ d
-read_past d f zero i h = refl
-read_past d f (suc n) zero h = absurd (omega arith)
-read_past d f (suc n) (suc i) h = read_past d (λ j. f (suc j)) n i (omega arith)
-
-length_listed : {A : Type 0} (f : ℕ → A) (n : ℕ) → length (listed f n) ≡ n
-length_listed f zero = refl
-length_listed f (suc n) = ap suc (length_listed (λ i. f (suc i)) n)
-
-pub all_listed : {A : Type 0} (test : A → Bool) (f : ℕ → A) (n : ℕ) → ((i : ℕ) → test (f i) ≡ true) → list_all test (listed f n) ≡ true
-all_listed test f zero all = refl
-all_listed test f (suc n) all = ap (λ b. b && list_all test (listed (λ i. f (suc i)) n)) (all 0) ∙ all_listed test (λ i. f (suc i)) n (λ i. all (suc i))
+use Rattle.law_reading.proofs.ListProofs.{all_listed, read_past}
 
 none_given : (f : ℕ → Option ℕ) → ((t : ℕ) → f t ≡ None) → (ts : List ℕ) → first_given f ts ≡ None
 none_given f all [] = refl
@@ -43,12 +28,13 @@ none_given f all (t ∷ ts) = let e = all t in let rest = none_given f all ts in
 module _ (draft : Draft) (places : List Place) (limits : Limits) where
   pub known : (t : ℕ) → t < length draft.types
       → class_of (definition_with draft places limits) t ≡ class_with (specs_by draft.types draft.own t)
-  known t h = read-listed no_class (λ t. class_with (specs_by draft.types draft.own t)) (length draft.types) t (λ past. absurd (omega arith))
+  known t h =
+      read-listed no_class (λ t. class_with (specs_by draft.types draft.own t)) (length draft.types) t (λ past. absurd (omega arith))
 
   pub past : (t : ℕ) → length draft.types ≤ t → class_of (definition_with draft places limits) t ≡ no_class
   past t h = read_past no_class (λ t. class_with (specs_by draft.types draft.own t)) (length draft.types) t h
 
-  has_notify : (t : ℕ) → t < length draft.types → HasNotify (definition_with draft places limits) t
+  pub has_notify : (t : ℕ) → t < length draft.types → HasNotify (definition_with draft places limits) t
   has_notify t h = record {
     signal = notify_signal;
     is = ap (λ (c : Class). slice_get c.signals 0) (known t h);
@@ -58,7 +44,7 @@ module _ (draft : Draft) (places : List Place) (limits : Limits) where
     result = refl;
   }
 
-  some_signal : (t number : ℕ) (s : Signal) → signal_of (definition_with draft places limits) t number ≡ Some s → t < length draft.types
+  pub some_signal : (t number : ℕ) (s : Signal) → signal_of (definition_with draft places limits) t number ≡ Some s → t < length draft.types
   some_signal t number s e = by (cases_lt t (length draft.types))
     where
       by : (t < length draft.types) ⊎ (length draft.types ≤ t) → t < length draft.types
@@ -67,25 +53,26 @@ module _ (draft : Draft) (places : List Place) (limits : Limits) where
 
   one_signal : (number : ℕ) (s : Signal) → slice_get (notify_signal ∷ []) number ≡ Some s
       → place_named (λ (s : Signal). s.name) (notify_signal ∷ []) (canonical s.name) ≡ Some number
-  one_signal zero s e = let same : notify_signal ≡ s = cc in subst (λ (x : Signal). place_named (λ (s : Signal). s.name) (notify_signal ∷ []) (canonical x.name) ≡ Some 0) same refl
+  one_signal zero s e =
+      let same : notify_signal ≡ s = cc in
+      subst (λ (x : Signal). place_named (λ (s : Signal). s.name) (notify_signal ∷ []) (canonical x.name) ≡ Some 0) same refl
   one_signal (suc n) s e = absurd (cc)
 
-  found : (t number : ℕ) (s : Signal) → signal_of (definition_with draft places limits) t number ≡ Some s
+  pub found : (t number : ℕ) (s : Signal) → signal_of (definition_with draft places limits) t number ≡ Some s
       → signal_number (definition_with draft places limits) t s.name ≡ Some number
   found t number s e =
       let h = some_signal t number s e in
       ap (λ (c : Class). place_named (λ (s : Signal). s.name) c.signals (canonical s.name)) (known t h)
       ∙ one_signal number s (sym (ap (λ (c : Class). slice_get c.signals number) (known t h)) ∙ e)
 
-  pub signals_read : SignalsRead (definition_with draft places limits)
-  signals_read = record {
-    classes = length_listed (λ t. class_with (specs_by draft.types draft.own t)) (length draft.types);
-    notify = λ t h e. has_notify t h;
-    first = λ t number s e. has_notify t (some_signal t number s e);
-    signals = found;
-    results = all_listed (λ (c : Class). list_all (result_has_values (definition_with draft places limits)) c.signals) (λ t. class_with (specs_by draft.types draft.own t)) (length draft.types) (λ i. refl);
-    replies = refl;
-  }
+  pub as_many : length (definition_with draft places limits).classes ≡ length draft.types
+  as_many = length-listed (λ t. class_with (specs_by draft.types draft.own t)) (length draft.types)
+
+  pub results_filled : list_all (λ (c : Class). list_all (result_has_values (definition_with draft places limits)) c.signals)
+      (definition_with draft places limits).classes ≡ true
+  results_filled =
+      all_listed (λ (c : Class). list_all (result_has_values (definition_with draft places limits)) c.signals)
+      (λ t. class_with (specs_by draft.types draft.own t)) (length draft.types) (λ i h. refl)
 
   bare_shape : (t : ℕ) → (class_of (definition_with draft places limits) t).shape ≡ None
   bare_shape t = by (cases_lt t (length draft.types))

@@ -1,44 +1,67 @@
--- The types of a definition that was read are a tree, in which no type has interfaces.
-use Rattle.std.proofs.Common.{◌≡◌, ℕ, zero, suc, ◌+◌, ◌<◌, Bool, true, false, cond, nat_le, List, [], ◌∷◌, ◌++◌, length, Option, None, Some, Ok, Err, refl, sym, ap, subst, ◌∙◌, arith, reverse, length-append}
+-- The types of a definition that was read are a tree, in which classes implement interfaces.
+use Rattle.std.proofs.Common.{◌≡◌, ℕ, zero, suc, ◌+◌, ◌<◌, ◌≤◌, ◌⊎◌, inl, inr, Bool, true, false, cond, not, ◌||◌, nat_eq, nat_le, slice_get, is_some, option_and_then, List, [], ◌∷◌, ◌++◌, length, Option, None, Some, Result, Ok, Err, refl, sym, ap, subst, ◌∙◌, arith, reverse, length-append}
 use Rattle.std.specs.Prelude.{codes, if◌then◌else◌}
-use Rattle.std.specs.Option.{ForSome}
+use Rattle.std.specs.Option.{ForSome, option_or}
+use Rattle.std.proofs.lemmas.Bool.{cases_lt, eqb-true}
 use Rattle.std.proofs.lemmas.Bool.Decides.{nat_tests}
 use Rattle.std.proofs.lemmas.Option.{none-some}
-use Rattle.serde_json.specs.Data.{Data, Items}
-use Rattle.serde_json.specs.Find.{get}
+use Rattle.serde_json.specs.Data.{Data, Items, no_items, item}
+use Rattle.serde_json.specs.Find.{get, as_str, as_array}
 use Rattle.ui_machine.specs.Seq.{read}
-use Rattle.ui_machine.specs.Definition.Types.{GType, predeclared}
-use Rattle.ui_machine.specs.Definition.Names.{same_name, place_from}
+use Rattle.ui_machine.specs.Definition.Types.{GType, Sort, predeclared}
+use Rattle.ui_machine.specs.Definition.Types as sorts
 use Rattle.ui_machine.specs.Output.Text.{no_type}
-use Rattle.ui_machine.specs.Rules.Ancestry.{parent_of}
+use Rattle.ui_machine.specs.Rules.Ancestry.{parent_of, implemented, implemented_by}
 use Rattle.type_tree.specs.Tree.{IsTree}
-use Rattle.type_tree.specs.Adding.{find_type, sort_of, is_class, of_sort, class_fault, new_class, new_enum, new_flags}
+use Rattle.type_tree.specs.Adding.{find_type, sort_of, is_class, is_interface, of_sort, class_named, interface_named, new_enum, new_flags, fault_if, ◌or_else◌}
+use Rattle.type_tree.specs.declared.error.TypeFault.TheVariants as faults
+use Rattle.type_tree.specs.declared.error.TypeLimit.TheVariants as limits
+use Rattle.type_tree.specs.Entry.{class_type, interface_type}
 use Rattle.type_tree.specs.declared.entry.TypeFlags.{TypeFlags}
-use Rattle.type_tree.specs.declared.error.TypeFault.{TypeFault}
-use Rattle.type_tree.proofs.Entries.{IsTree-append}
-use Rattle.builder_defs.specs.Refusals.{limit}
+use Rattle.type_tree.specs.declared.error.TypeFault.TheVariants.{BadName, Duplicate}
+use Rattle.type_tree.specs.TypeName.{is_type_name}
+use Rattle.type_tree.proofs.Entries.{IsTree-append, read-front, read-past, read-last}
+use Rattle.builder_defs.specs.Causes.{unknown_parent, final_parent, named_cause}
+use Rattle.builder_defs.specs.Refusals.{Refusal, limit, shape, unknown, duplicate, bad_type, bad_spec, or_refused, refused_if}
 use Rattle.builder_defs.specs.declared.fault.DefinitionLimit.TheVariants.{Types}
-use Rattle.builder_defs.specs.Document.{at_entry, under, nth, members_at, text_at, truth_at, entries_at, nothing_at, only_at}
-use Rattle.builder_defs.specs.Denoted.Types.{room_for_type, new_type_name}
+use Rattle.builder_defs.specs.Document.{each, entries, at_entry, under, nth, members_at, text_at, entries_at, listed_ahead, nothing_at, only_at}
+use Rattle.builder_defs.specs.Denoted.Types.{is_declared, is_from, room_for_type, new_type_name}
 use Rattle.builder_defs.specs.Denoted.Enums.{enum_at, flags_at, enum_member_at, flags_member_at, members_with, keys_of_members}
-use Rattle.builder_defs.specs.Denoted.Classes.{Draft, bare_draft, added_or, parent_at, parent_ahead, check_depth, keys_of_class, declared_at, answering_at, properties_at, class_at}
-use Rattle.builder_defs.specs.Denoted.{unset_before_classes, enums_in, flags_in, classes_in, draft_in}
+use Rattle.builder_defs.specs.Denoted.Entries.{TypeNames, type_names, name_under, names_under, number_from, listed, section}
+use Rattle.builder_defs.specs.Denoted.Drafts.{Draft, bare_draft, properties_at, type_at}
+use Rattle.builder_defs.specs.Denoted.Overrides.{Own, own_ahead, override_cause}
+use Rattle.builder_defs.specs.Denoted.Properties.{specs_by}
+use Rattle.builder_defs.specs.Denoted.Implements.{Heir, heir_with, check_prerequisites, check_overrides, newly_implemented, interface_at_entry, implemented_at, named_at, implements_listed, implements_of, implements_at}
+use Rattle.builder_defs.specs.Denoted.Interfaces.{requires_at, interface_type_at, keys_of_interface, interface_at}
+use Rattle.builder_defs.specs.Denoted.Classes.{parent_found, parent_called, named_parent, parent_or, parent_at, parent_ahead, check_depth, keys_of_class, declared_at, answering_at, class_at}
+use Rattle.builder_defs.specs.Denoted.Classes as classes
+use Rattle.builder_defs.specs.Denoted.{unset_before_classes, enums_in, flags_in, interfaces_in, classes_in, draft_in}
 use Rattle.builder_defs.proofs.Soundness.{OnRead, on_bind, on_all, on_each}
-use Rattle.std.specs.List.{flat_map}
+use Rattle.std.specs.List.{flat_map, list_any}
 use Rattle.ui_machine.specs.Definition.Properties.{Spec}
 use Rattle.ui_machine.specs.Rules.Ancestry.{lineage}
-use Rattle.law_reading.proofs.Ancestors.{Bare, specs_before}
+use Rattle.law_reading.proofs.Ancestors.{AreInterfaces, Implements, specs_before}
+use Rattle.law_reading.proofs.ListProofs.{named_within}
+use Rattle.law_reading.proofs.MemberProofs.{AreMembers, HasMembers, has_these, enum_members, flags_members}
 use Rattle.law_reading.proofs.NameProofs.{AreNamed}
-use Rattle.law_reading.proofs.PropertyProofs.{OwnRead, properties_read}
+use Rattle.law_reading.proofs.Parts.{on_read, taken}
+use Rattle.law_reading.proofs.PropertyProofs.{OwnRead, OnlyAt, properties_only, properties_read}
+use Rattle.law_reading.proofs.ProvidedProofs.{Provides, all_provide}
+use Rattle.law_reading.proofs.ImplementProofs.{AreOverridden, class_provides}
+use Rattle.law_reading.proofs.ReadAheadProofs.{read_ahead}
+use Rattle.law_reading.proofs.NumberProofs.{on_rest, ClassesLeft, InterfacesLeft, IsNext, is_next, class_left, interface_left, no_interface_left}
 
 pub record Grown (types : List GType) : Type 0 where
   pub tree : IsTree types
-  pub bare : Bare types
+  pub heirs : Implements types
+  pub members : (t : ℕ) → HasMembers (read no_type types t)
 
 -- a type that may be added
 record Fresh (types : List GType) (g : GType) : Type 0 where
   parent : ForSome g.parent (λ p. p < length types)
-  bare : g.interfaces ≡ []
+  root : g.sort ≡ sorts.interface → g.parent ≡ None
+  interfaces : AreInterfaces types (implemented g.sort g.interfaces)
+  members : HasMembers g
 
 each_type : (P : GType → Type 0) (types : List GType) (g : GType) → ((t : ℕ) → P (read no_type types t)) → P g
     → (t : ℕ) → P (read no_type (types ++ g ∷ []) t)
@@ -47,24 +70,46 @@ each_type P [] g all new (suc t) = all 0
 each_type P (x ∷ xs) g all new zero = all 0
 each_type P (x ∷ xs) g all new (suc t) = each_type P xs g (λ u. all (suc u)) new t
 
+-- an interface stays one where a type is added
+stays : (types : List GType) (g : GType) (i : ℕ) → sort_of types i ≡ sorts.interface → sort_of (types ++ g ∷ []) i ≡ sorts.interface
+stays types g i e = by (cases_lt i (length types))
+  where
+    by : (i < length types) ⊎ (length types ≤ i) → sort_of (types ++ g ∷ []) i ≡ sorts.interface
+    by (inl h) = ap (λ (x : GType). x.sort) (read-front no_type g types i h) ∙ e
+    by (inr h) = let other : sorts.class ≡ sorts.interface = sym (ap (λ (x : GType). x.sort) (read-past no_type types i h)) ∙ e in absurd (cc)
+
+stay : (types : List GType) (g : GType) (is : List ℕ) → AreInterfaces types is → AreInterfaces (types ++ g ∷ []) is
+stay types g [] all = tt
+stay types g (i ∷ is) all = (stays types g i all.0, stay types g is all.1)
+
 one_more : (types : List GType) (g : GType) → Grown types → length types < 256 → Fresh types g → Grown (types ++ g ∷ [])
 one_more types g old room new = record {
   tree = IsTree-append types g old.tree room new.parent;
-  bare = each_type (λ (x : GType). x.interfaces ≡ []) types g old.bare new.bare;
+  heirs = record {
+    root = each_type (λ (x : GType). x.sort ≡ sorts.interface → x.parent ≡ None) types g old.heirs.root new.root;
+    interfaces = each_type (λ (x : GType). AreInterfaces (types ++ g ∷ []) (implemented x.sort x.interfaces)) types g
+        (λ t. stay types g (implemented_by types t) (old.heirs.interfaces t)) (stay types g (implemented g.sort g.interfaces) new.interfaces);
+  };
+  members = each_type HasMembers types g old.members new.members;
 }
 
 room_left : (types : List GType) → OnRead (λ u. length types < 256) (room_for_type types)
 room_left types = by (nat_le 256 (length types)) refl
   where
     by : (b : Bool) → nat_le 256 (length types) ≡ b
-        → OnRead {A = Unit {0}} (λ u. length types < 256) (if b then Err (limit Types) else Ok tt)
+        → OnRead {A = Unit {0}} (λ u. length types < 256) (refused_if (λ fault. limit Types) (fault_if b (faults.Limit limits.Types)))
     by true e = tt
     by false e = grind (arith, nat_tests)
 
 -- ** enums and flags types
 
-plain_fresh : (types : List GType) (g : GType) → g.parent ≡ None → g.interfaces ≡ [] → Fresh types g
-plain_fresh types g none bare = record { parent = λ p e. absurd (none-some p (sym none ∙ e)); bare = bare }
+plain_fresh : (types : List GType) (g : GType) → g.parent ≡ None → implemented g.sort g.interfaces ≡ [] → HasMembers g → Fresh types g
+plain_fresh types g none bare members = record {
+  parent = λ p e. absurd (none-some p (sym none ∙ e));
+  root = λ e. none;
+  interfaces = subst (AreInterfaces types) (sym bare) tt;
+  members = members;
+}
 
 enum_grown : (path : List ℕ) (first : ℕ) (types : List GType) (d : Data) → Grown types → OnRead Grown (enum_at path first types d)
 unfolding enum_at
@@ -73,9 +118,9 @@ enum_grown path first types d old =
     on_bind (λ x. length types < 256) Grown (room_for_type types) _ (room_left types) λ r room.
     on_bind (λ x. Unit {0}) Grown (text_at path d (codes "name")) _ (on_all _) λ name u.
     on_bind (λ x. Unit {0}) Grown (new_type_name (under path (codes "name")) first types name) _ (on_all _) λ new u.
-    on_bind (λ x. Unit {0}) Grown (members_with enum_member_at path d) _ (on_all _) λ members u.
+    on_bind AreMembers Grown (members_with enum_member_at path d) _ (enum_members path d) λ members all.
     on_bind (λ x. Unit {0}) Grown (only_at path ms keys_of_members) _ (on_all _) λ only u.
-    one_more types (new_enum name members) old room (plain_fresh types (new_enum name members) refl refl)
+    one_more types (new_enum name members) old room (plain_fresh types (new_enum name members) refl refl (has_these (new_enum name members) all))
 
 flags_grown : (path : List ℕ) (first : ℕ) (types : List GType) (d : Data) → Grown types → OnRead Grown (flags_at path first types d)
 unfolding flags_at
@@ -84,57 +129,236 @@ flags_grown path first types d old =
     on_bind (λ x. length types < 256) Grown (room_for_type types) _ (room_left types) λ r room.
     on_bind (λ x. Unit {0}) Grown (text_at path d (codes "name")) _ (on_all _) λ name u.
     on_bind (λ x. Unit {0}) Grown (new_type_name (under path (codes "name")) first types name) _ (on_all _) λ new u.
-    on_bind (λ x. Unit {0}) Grown (members_with flags_member_at path d) _ (on_all _) λ members u.
+    on_bind AreMembers Grown (members_with flags_member_at path d) _ (flags_members path d) λ members all.
     on_bind (λ x. Unit {0}) Grown (only_at path ms keys_of_members) _ (on_all _) λ only u.
-    one_more types (new_flags name members) old room (plain_fresh types (new_flags name members) refl refl)
+    one_more types (new_flags name members) old room (plain_fresh types (new_flags name members) refl refl (has_these (new_flags name members) all))
 
 -- ** classes
 
-found_within : (k : ℕ) (types : List GType) (name : List ℕ) (i : ℕ) → place_from (λ (g : GType). g.name) k types name ≡ Some i
-    → i < k + length types
-found_within k [] name i h = absurd (none-some i h)
-found_within k (g ∷ gs) name i h = by (same_name g.name name) h (found_within (suc k) gs name i)
-  where
-    by : (b : Bool) → cond b (Some k) (place_from (λ (g : GType). g.name) (suc k) gs name) ≡ Some i
-        → (place_from (λ (g : GType). g.name) (suc k) gs name ≡ Some i → i < suc k + length gs) → i < k + suc (length gs)
-    by true e rest = let same : k ≡ i = cc in omega (arith, same)
-    by false e rest = let later = rest e in omega (arith, later)
+-- a class among the types
+pub record IsClass (types : List GType) (t : ℕ) : Type 0 where
+  pub known : t < length types
+  pub sort : sort_of types t ≡ sorts.class
 
-class_within : (types : List GType) (name : List ℕ) (found : Option ℕ) → find_type types name ≡ found
-    → ForSome (of_sort is_class types found) (λ p. p < length types)
-class_within types name None e p h = absurd (none-some p h)
-class_within types name (Some t) e p h = by (is_class (sort_of types t)) h
+pub class_is : (types : List GType) (name : List ℕ) (found : Option ℕ) → find_type types name ≡ found
+    → ForSome (of_sort is_class types found) (IsClass types)
+class_is types name None e p h = absurd (none-some p h)
+class_is types name (Some t) e p h = by (sort_of types t) refl h
   where
-    by : (b : Bool) → cond b (Some t) None ≡ Some p → p < length types
-    by true x = let same : t ≡ p = cc in let in_it = found_within 0 types name t e in omega (arith, same, in_it)
-    by false x = absurd (none-some p x)
+    by : (s : Sort) → sort_of types t ≡ s → cond (is_class s) (Some t) None ≡ Some p → IsClass types p
+    by sorts.class is x =
+        let same : t ≡ p = cc in
+        let there : IsClass types t = record { known = named_within (λ (g : GType). g.name) types name t e; sort = is } in
+        subst (IsClass types) same there
+    by sorts.interface is x = absurd (none-some p x)
+    by sorts.enum is x = absurd (none-some p x)
+    by sorts.flags is x = absurd (none-some p x)
 
-class_fresh : (types : List GType) (name parent : List ℕ) (flags : TypeFlags) → Fresh types (new_class types name parent flags [])
-class_fresh types name parent flags = record { parent = class_within types parent (find_type types parent) refl; bare = refl }
+parent_found_in : (path : List ℕ) (list : Items) (types : List GType) (name : List ℕ) (found : Option ℕ) → ForSome found (λ p. p < length types)
+    → OnRead (λ p. p < length types) (parent_found path list types name found)
+parent_found_in path list types name None h = by (is_declared list name)
+  where
+    by : (b : Bool) → OnRead {A = ℕ} (λ p. p < length types) (if b then Err (bad_type path unknown_parent) else Err (unknown path name))
+    by true = tt
+    by false = tt
+parent_found_in path list types name (Some t) h = by (read no_type types t).is_final
+  where
+    by : (b : Bool) → OnRead {A = ℕ} (λ p. p < length types) (if b then Err (bad_type path final_parent) else Ok t)
+    by true = tt
+    by false = h t refl
+
+parent_called_in : (path : List ℕ) (list : Items) (types : List GType) (name : List ℕ) → OnRead (λ p. p < length types) (parent_called path list types name)
+parent_called_in path list types name =
+    parent_found_in path list types name (class_named types name)
+    (λ p e. (class_is types name (find_type types name) refl p e).known)
+
+parent_in : (path : List ℕ) (list : Items) (types : List GType) (d : Option Data) → OnRead (λ p. p < length types) (parent_or path list types d)
+unfolding named_parent
+parent_in path list types None = parent_called_in path list types (codes "GObject")
+parent_in path list types (Some d) =
+    on_bind (λ x. Unit {0}) (λ p. p < length types) (or_refused (shape path) (as_str d)) _ (on_all _) λ name u. parent_called_in path list types name
+
+-- ** implemented interfaces
+
+named_interface : (types : List GType) (r : Refusal) (found : Option ℕ)
+    → OnRead (λ i. sort_of types i ≡ sorts.interface) (or_refused r (of_sort is_interface types found))
+named_interface types r None = tt
+named_interface types r (Some t) = by (sort_of types t) refl
+  where
+    by : (s : sorts.Sort) → sort_of types t ≡ s → OnRead (λ i. sort_of types i ≡ sorts.interface) (or_refused r (cond (is_interface s) (Some t) None))
+    by sorts.class e = tt
+    by sorts.interface e = e
+    by sorts.enum e = tt
+    by sorts.flags e = tt
+
+with_interface : (types : List GType) (is : List ℕ) (i : ℕ) → AreInterfaces types is → sort_of types i ≡ sorts.interface → AreInterfaces types (is ++ i ∷ [])
+with_interface types [] i all one = (one, tt)
+with_interface types (j ∷ is) i all one = (all.0, with_interface types is i all.1 one)
+
+one_of : (is : List ℕ) (i j : ℕ) → list_any (nat_eq j) (is ++ i ∷ []) ≡ true → (list_any (nat_eq j) is ≡ true) ⊎ (j ≡ i)
+one_of [] i j h = by (nat_eq j i) refl h
+  where
+    by : (b : Bool) → nat_eq j i ≡ b → (b || false) ≡ true → (false ≡ true) ⊎ (j ≡ i)
+    by true e h = inr (eqb-true j i e)
+    by false e h = absurd (cc)
+one_of (k ∷ is) i j h = by (nat_eq j k) h (one_of is i j)
+  where
+    by : (b : Bool) → (b || list_any (nat_eq j) (is ++ i ∷ [])) ≡ true
+        → (list_any (nat_eq j) (is ++ i ∷ []) ≡ true → (list_any (nat_eq j) is ≡ true) ⊎ (j ≡ i)) → ((b || list_any (nat_eq j) is) ≡ true) ⊎ (j ≡ i)
+    by true h rest = inl refl
+    by false h rest = rest h
+
+-- nothing is wrong with the overrides of these interfaces
+abbrev IsHeir : Heir → List ℕ → Type 0
+IsHeir heir is = (i : ℕ) → list_any (nat_eq i) is ≡ true → override_cause (specs_by heir.types heir.table heir.parent) heir.own (heir.table i) ≡ None
+
+one_overridden : (heir : Heir) (is : List ℕ) (i : ℕ) → IsHeir heir is
+    → override_cause (specs_by heir.types heir.table heir.parent) heir.own (heir.table i) ≡ None → IsHeir heir (is ++ i ∷ [])
+one_overridden heir is i all one j h = by (one_of is i j h)
+  where
+    by : (list_any (nat_eq j) is ≡ true) ⊎ (j ≡ i) → override_cause (specs_by heir.types heir.table heir.parent) heir.own (heir.table j) ≡ None
+    by (inl e) = all j e
+    by (inr e) = ap (λ k. override_cause (specs_by heir.types heir.table heir.parent) heir.own (heir.table k)) e ∙ one
+
+nothing_refused : {A : Type 0} (refusal : A → Refusal) (found : Option A) (u : Unit {0}) → refused_if refusal found ≡ Ok u → found ≡ None
+nothing_refused refusal None u e = refl
+nothing_refused refusal (Some x) u e = absurd (cc)
+
+-- what is so of all that is read is so of what is read
+more_on : {A : Type 0} (P Q : A → Type 0) (r : Result A Refusal) → ((x : A) → P x → Q x) → OnRead P r → OnRead Q r
+more_on P Q (Ok x) more p = more x p
+more_on P Q (Err e) more p = tt
+
+implemented_are : (types : List GType) (path : List ℕ) (heir : Heir) → heir.types ≡ types → (is : List ℕ) (d : Data) → AreInterfaces types is × IsHeir heir is
+    → OnRead (λ is. AreInterfaces types is × IsHeir heir is) (implemented_at path heir is d)
+unfolding implemented_at interface_at_entry newly_implemented
+implemented_are types path heir same is d all =
+    on_bind (λ i. sort_of types i ≡ sorts.interface) (λ is. AreInterfaces types is × IsHeir heir is) (interface_at_entry path heir.types d) _
+    (on_bind (λ x. Unit {0}) (λ i. sort_of types i ≡ sorts.interface) (or_refused (shape path) (as_str d)) _ (on_all _) λ name u.
+    subst (λ ts. OnRead (λ i. sort_of types i ≡ sorts.interface) (or_refused (unknown path name) (interface_named ts name))) (sym same)
+    (named_interface types (unknown path name) (find_type types name))) λ i one. by i one (list_any (nat_eq i) is)
+  where
+    by : (i : ℕ) → sort_of types i ≡ sorts.interface → (b : Bool)
+        → OnRead (λ is. AreInterfaces types is × IsHeir heir is) (if b then Ok is else newly_implemented path heir i is)
+    by i one true = all
+    by i one false =
+        on_bind (λ x. Unit {0}) (λ is. AreInterfaces types is × IsHeir heir is) (check_prerequisites path heir i) _ (on_all _) λ required u.
+        on_read (λ is. AreInterfaces types is × IsHeir heir is) (check_overrides path heir i) _ λ overridden fine. (
+          with_interface types is i all.0 one,
+          one_overridden heir is i all.1 (nothing_refused (bad_spec path)
+              (override_cause (specs_by heir.types heir.table heir.parent) heir.own (heir.table i)) overridden fine),
+        )
+
+module _ (types : List GType) (names : TypeNames) (table : ℕ → List Spec) (parent : ℕ) where
+  abbrev AreImplemented : List ℕ → Data → List ℕ → Type 0
+  AreImplemented path d is = AreInterfaces types is × AreOverridden types names table parent path d is
+
+  listed_are : (path : List ℕ) (d : Data) (list : Items) → OnRead (AreImplemented path d) (implements_of path types names table parent d list)
+  unfolding implements_listed
+  listed_are path d no_items = (tt, λ i named own e. absurd (cc))
+  listed_are path d (item x xs) =
+      on_bind (λ x. Unit {0}) (AreImplemented path d) (each (at_entry (λ entry. named_at entry types) (under path (codes "implements"))) 0 [] (item x xs)) _ (on_all _) λ named u.
+      on_read (AreImplemented path d) (own_ahead path types names table parent d) _ λ own read.
+      more_on (λ is. AreInterfaces types is × IsHeir (heir_with types table parent named own) is) (AreImplemented path d)
+      (each (at_entry (λ entry. implemented_at entry (heir_with types table parent named own)) (under path (codes "implements"))) 0 [] (item x xs))
+      (λ is all. (
+        all.0,
+        λ i h ahead e. let same : own ≡ ahead = one_answer own ahead (sym read ∙ e) in
+            ap (λ a. override_cause (specs_by types table parent) a (table i)) (sym same) ∙ all.1 i h,
+      ))
+      (on_each (λ is. AreInterfaces types is × IsHeir (heir_with types table parent named own) is)
+      (at_entry (λ entry. implemented_at entry (heir_with types table parent named own)) (under path (codes "implements")))
+      (λ i is e all. implemented_are types (nth (under path (codes "implements")) i) (heir_with types table parent named own) refl is e all) 0 [] (item x xs)
+      (tt, λ i h. absurd (cc)))
+    where
+      one_answer : (a b : List Own) → ◌≡◌ {A = Result (List Own) Refusal} (Ok a) (Ok b) → a ≡ b
+      one_answer a b e = cc
+
+  implements_are : (path : List ℕ) (d : Data) → OnRead (AreImplemented path d) (implements_at path types names table parent d)
+  unfolding implements_at
+  implements_are path d =
+      on_bind (λ x. Unit {0}) (AreImplemented path d) (entries_at path d (codes "implements")) _ (on_all _) λ list u. listed_are path d list
+
+class_fresh : (types : List GType) (name : List ℕ) (parent : ℕ) (flags : TypeFlags) (interfaces : List ℕ) → parent < length types → AreInterfaces types interfaces
+    → Fresh types (class_type name parent flags interfaces)
+class_fresh types name parent flags interfaces within all = record {
+  parent = λ p e. let same : parent ≡ p = cc in omega (arith, same, within);
+  root = λ e. let other : sorts.class ≡ sorts.interface = e in absurd (cc);
+  interfaces = all;
+  members = record { filled = λ e. absurd (cc); few = refl };
+}
 
 -- a type more than these
 abbrev pub More : List GType → List GType → Type 0
 More types all = Grown all × ((g : GType) × (all ≡ types ++ g ∷ []))
 
-added_grown : (path : List ℕ) (old : List GType) (fault : Option TypeFault) (types : List GType) → More old types
-    → OnRead (More old) (added_or path old fault types)
-added_grown path old None types more = more
-added_grown path old (Some fault) types more = tt
+-- whatever own properties an entry gives to a type behind these, the type has those of the interfaces that it names
+abbrev Offers : List ℕ → TypeNames → Draft → Data → List GType → Type 0
+Offers path names draft d all =
+    (own : ℕ → List Spec) → properties_at path all names (length draft.types) draft.own d ≡ Ok own → Provides all own (length draft.types)
 
-declared_grown : (path : List ℕ) (first : ℕ) (list : Items) (types : List GType) (d : Data) → Grown types
-    → OnRead (More types) (declared_at path first list types d)
+-- the type behind these has the entry's name
+abbrev pub IsCalled : Data → List GType → List GType → Type 0
+IsCalled d types all = (g : GType) × (all ≡ types ++ g ∷ []) × (name_under (codes "name") d ≡ Some g.name)
+
+abbrev pub Declared : List ℕ → TypeNames → Draft → Data → List GType → Type 0
+Declared path names draft d all = More draft.types all × Offers path names draft d all × IsCalled d draft.types all
+
+unfound : (path : List ℕ) (first : ℕ) (types : List GType) (name : List ℕ) (u : Unit {0}) → new_type_name path first types name ≡ Ok u → find_type types name ≡ None
+unfound path first types name u = by (find_type types name) (is_type_name name)
+  where
+    later : (first t : ℕ) (valid : Bool) (b : Bool) → (if b then Err (duplicate path) else refused_if (λ fault. bad_type path (named_cause types fault))
+        (fault_if (not valid) BadName or_else fault_if true Duplicate)) ≡ Ok u → ⊥
+    later first t valid true e = cc
+    later first t true false e = cc
+    later first t false false e = cc
+
+    by : (found : Option ℕ) (valid : Bool)
+        → (if is_from first found then Err (duplicate path) else refused_if (λ fault. bad_type path (named_cause types fault))
+        (fault_if (not valid) BadName or_else fault_if (is_some found) Duplicate)) ≡ Ok u → found ≡ None
+    by None valid e = refl
+    by (Some t) valid e = absurd (later first t valid (nat_le first t) e)
+
+declared_grown : (path : List ℕ) (first : ℕ) (list : Items) (names : TypeNames) (draft : Draft) (d : Data) → Grown draft.types
+    → OwnRead draft.types draft.own → IsNext names draft.types d → OnRead (Declared path names draft d) (declared_at path first list names draft d)
 unfolding declared_at
-declared_grown path first list types d old =
-    on_bind (λ x. length types < 256) (More types) (room_for_type types) _ (room_left types) λ r room.
-    on_bind (λ x. Unit {0}) (More types) (check_depth types (parent_ahead types (get (codes "parent") d))) _ (on_all _) λ deep u.
-    on_bind (λ x. Unit {0}) (More types) (text_at path d (codes "name")) _ (on_all _) λ name u.
-    on_bind (λ x. Unit {0}) (More types) (new_type_name (under path (codes "name")) first types name) _ (on_all _) λ new u.
-    on_bind (λ x. Unit {0}) (More types) (parent_at path list types d) _ (on_all _) λ parent u.
-    on_bind (λ x. Unit {0}) (More types) (truth_at path d (codes "abstract")) _ (on_all _) λ abstract u.
-    on_bind (λ x. Unit {0}) (More types) (truth_at path d (codes "final")) _ (on_all _) λ final u.
-    let flags : TypeFlags = record { is_abstract = abstract; is_final = final } in
-    added_grown (under path (codes "name")) types (class_fault types name parent []) (types ++ new_class types name parent flags [] ∷ [])
-    (one_more types (new_class types name parent flags []) old room (class_fresh types name parent flags), (new_class types name parent flags [], refl))
+declared_grown path first list names draft d old read next =
+    on_bind (λ x. length draft.types < 256) (Declared path names draft d) (room_for_type draft.types) _ (room_left draft.types) λ r room.
+    on_bind (λ x. Unit {0}) (Declared path names draft d) (check_depth draft.types (parent_ahead draft.types (get (codes "parent") d))) _ (on_all _) λ deep u.
+    on_read (Declared path names draft d) (text_at path d (codes "name")) _ λ name called.
+    on_read (Declared path names draft d) (new_type_name (under path (codes "name")) first draft.types name) _ λ new fresh.
+    on_bind (λ p. p < length draft.types) (Declared path names draft d) (parent_at path list draft.types d) _
+    (parent_in (under path (codes "parent")) list draft.types (get (codes "parent") d)) λ parent within.
+    on_bind (λ x. Unit {0}) (Declared path names draft d) (classes.flags_at path d) _ (on_all _) λ flags u.
+    on_bind (AreImplemented draft.types names draft.own parent path d) (Declared path names draft d) (implements_at path draft.types names draft.own parent d) _
+    (implements_are draft.types names draft.own parent path d) λ interfaces all.
+    let g = class_type name parent flags interfaces in
+    let more = one_more draft.types g old room (class_fresh draft.types name parent flags interfaces within all.0) in
+    let is = taken (shape (under path (codes "name"))) (option_and_then as_str (get (codes "name") d)) name called in
+    let number =
+    next name is
+    (unfound (under path (codes "name")) first draft.types name new fresh) in (
+      (more, (g, refl)),
+      class_provides draft.types g old.tree more.tree old.heirs draft.own read parent within refl names
+          (read_ahead draft.types g refl room names number old.tree draft.own parent) path d interfaces refl all.0 all.1,
+      (g, refl, is),
+    )
+
+interface_grown : (path : List ℕ) (first : ℕ) (interfaces classes : Items) (names : TypeNames) (draft : Draft) (d : Data) → Grown draft.types
+    → OnRead (Declared path names draft d) (interface_type_at path first interfaces classes draft.types d)
+unfolding interface_type_at
+interface_grown path first interfaces classes names draft d old =
+    on_bind (λ x. length draft.types < 256) (Declared path names draft d) (room_for_type draft.types) _ (room_left draft.types) λ r room.
+    on_read (Declared path names draft d) (text_at path d (codes "name")) _ λ name called.
+    on_bind (λ x. Unit {0}) (Declared path names draft d) (new_type_name (under path (codes "name")) first draft.types name) _ (on_all _) λ new u.
+    on_bind (λ x. Unit {0}) (Declared path names draft d) (requires_at path interfaces classes draft.types d) _ (on_all _) λ required u.
+    let g = interface_type name required in (
+      (one_more draft.types g old room (plain_fresh draft.types g refl refl (record { filled = λ e. absurd (cc); few = refl })), (g, refl)),
+      (λ own e i named slot s at.
+          let none : false ≡ true =
+          sym (ap (λ (x : GType). list_any (nat_eq i) (implemented x.sort x.interfaces)) (read-last no_type g draft.types)) ∙ named in absurd (cc)),
+      (g, refl, taken (shape (under path (codes "name"))) (option_and_then as_str (get (codes "name") d)) name called),
+    )
 
 -- ** properties
 
@@ -154,19 +378,37 @@ one_longer : (types all : List GType) → More types all → suc (length types) 
 one_longer types all more = let same = ap length more.1.1 in let one = length-append types (more.1.0 ∷ []) in omega (arith, same, one)
 
 abbrev pub GrownDraft : Draft → Type 0
-GrownDraft draft = Grown draft.types × OwnRead draft.types draft.own
+GrownDraft draft = Grown draft.types × OwnRead draft.types draft.own × ((t : ℕ) → Provides draft.types draft.own t)
 
-class_grown : (path : List ℕ) (first : ℕ) (list : Items) (draft : Draft) (d : Data) → GrownDraft draft
-    → OnRead GrownDraft (class_at path first list draft d)
-unfolding class_at
-class_grown path first list draft d old =
-    on_bind (λ x. Unit {0}) GrownDraft (members_at path d) _ (on_all _) λ ms u.
-    on_bind (More draft.types) GrownDraft (declared_at path first list draft.types d) _ (declared_grown path first list draft.types d old.0) λ types more.
-    on_bind (OwnRead types) GrownDraft (properties_at path types (length draft.types) draft.own d) _
-    (properties_read types more.0.tree (length draft.types) (one_longer draft.types types more) path draft.own d
-    (longer_by draft.types types draft.own old.0.tree more old.1)) λ own read.
-    on_bind (λ x. Unit {0}) GrownDraft (answering_at path d) _ (on_all _) λ answering u.
-    on_bind (λ x. Unit {0}) GrownDraft (only_at path ms keys_of_class) _ (on_all _) λ only u. (more.0, read)
+provides_by : (types all : List GType) (own changed : ℕ → List Spec) → Grown types → OwnRead types own → More types all
+    → OnlyAt (length types) own changed → ((t : ℕ) → Provides types own t) → Provides all changed (length types) → (t : ℕ) → Provides all changed t
+provides_by types all own changed grown read more same old new =
+    subst (λ ts. IsTree ts → Provides ts changed (length types) → (t : ℕ) → Provides ts changed t) (sym more.1.1)
+    (λ tree new. all_provide types more.1.0 grown.tree tree grown.heirs own changed read.past same old new) more.0.tree new
+
+-- a draft that is grown, and of whose types this is so
+abbrev With : (List GType → Type 0) → Draft → Type 0
+With Q draft = GrownDraft draft × Q draft.types
+
+type_grown : (Q : List GType → Type 0) (path : List ℕ) (keys : List (List ℕ)) (declared : Result (List GType) Refusal) (behind : Result (Unit {0}) Refusal) (names : TypeNames)
+    (draft : Draft) (d : Data) → OnRead (Declared path names draft d) declared → GrownDraft draft
+    → ((g : GType) → name_under (codes "name") d ≡ Some g.name → Q (draft.types ++ g ∷ [])) → OnRead (With Q) (type_at path keys declared behind names draft d)
+unfolding type_at
+type_grown Q path keys declared behind names draft d grown old left =
+    on_bind (λ x. Unit {0}) (With Q) (members_at path d) _ (on_all _) λ ms u.
+    on_bind (Declared path names draft d) (With Q) declared _ grown λ types more.
+    on_read (With Q) (properties_at path types names (length draft.types) draft.own d) _ λ own e.
+    on_bind (λ x. Unit {0}) (With Q) behind _ (on_all _) λ done u.
+    on_bind (λ x. Unit {0}) (With Q) (only_at path ms keys) _ (on_all _) λ only u. (
+      (
+        more.0.0,
+        subst (OnRead (OwnRead types)) e (properties_read types more.0.0.tree (length draft.types) (one_longer draft.types types more.0) names path draft.own d
+            (longer_by draft.types types draft.own old.0.tree more.0 old.1)),
+        provides_by draft.types types draft.own own old.0 old.1 more.0
+            (subst (OnRead (OnlyAt (length draft.types) draft.own)) e (properties_only types names (length draft.types) draft.own path d)) old.2 (more.1 own e),
+      ),
+      subst Q (sym more.2.1) (left more.2.0 more.2.2),
+    )
 
 abbrev no_specs : ℕ → List Spec
 no_specs t = []
@@ -182,26 +424,62 @@ bare_read types = record {
   named = λ t. subst AreNamed (sym (nothing_flat (reverse (lineage types t)))) refl;
 }
 
-classes_grown : (types : List GType) (d : Data) → Grown types → OnRead GrownDraft (classes_in types d)
+interfaces_grown : (names : TypeNames) (types : List GType) (d : Data) → Grown types
+    → ((list : Items) → entries_at [] d (codes "interfaces") ≡ Ok list → InterfacesLeft names types list)
+    → OnRead (With (λ ts. InterfacesLeft names ts no_items)) (interfaces_in names types d)
+unfolding interfaces_in
+interfaces_grown names types d old begin =
+    on_read (With (λ ts. InterfacesLeft names ts no_items)) (entries_at [] d (codes "interfaces")) _ λ list listed.
+    on_rest (λ draft ds. With (λ ts. InterfacesLeft names ts ds) draft)
+    (at_entry (λ path. interface_at path (length types) list (listed_ahead (codes "classes") d) names) (under [] (codes "interfaces")))
+    (λ i draft e ds all. type_grown (λ ts. InterfacesLeft names ts ds) (nth (under [] (codes "interfaces")) i) keys_of_interface
+    (interface_type_at (nth (under [] (codes "interfaces")) i) (length types) list (listed_ahead (codes "classes") d) draft.types e)
+    (nothing_at (nth (under [] (codes "interfaces")) i) e (codes "signals" ∷ [])) names draft e
+    (interface_grown (nth (under [] (codes "interfaces")) i) (length types) list (listed_ahead (codes "classes") d) names draft e all.0.0) all.0
+    (λ g called. interface_left names draft.types e ds g called all.1))
+    0 (bare_draft types) list ((old, bare_read types, λ t i named slot s at. absurd (cc)), begin list listed)
+
+classes_grown : (names : TypeNames) (draft : Draft) (d : Data) → GrownDraft draft
+    → ((list : Items) → entries_at [] d (codes "classes") ≡ Ok list → ClassesLeft names draft.types list) → OnRead GrownDraft (classes_in names draft d)
 unfolding classes_in
-classes_grown types d old =
+classes_grown names draft d old begin =
     on_bind (λ x. Unit {0}) GrownDraft (nothing_at [] d unset_before_classes) _ (on_all _) λ unset u.
-    on_bind (λ x. Unit {0}) GrownDraft (entries_at [] d (codes "classes")) _ (on_all _) λ list u.
-    on_each GrownDraft (at_entry (λ path. class_at path (length types) list) (under [] (codes "classes")))
-    (λ i draft d all. class_grown (nth (under [] (codes "classes")) i) (length types) list draft d all) 0 (bare_draft types) list (old, bare_read types)
+    on_read GrownDraft (entries_at [] d (codes "classes")) _ λ list listed.
+    more_on (With (λ ts. ClassesLeft names ts no_items)) GrownDraft
+    (each (at_entry (λ path. class_at path (length draft.types) list names) (under [] (codes "classes"))) 0 draft list) (λ x all. all.0)
+    (on_rest (λ more ds. With (λ ts. ClassesLeft names ts ds) more)
+    (at_entry (λ path. class_at path (length draft.types) list names) (under [] (codes "classes")))
+    (λ i more e ds all. type_grown (λ ts. ClassesLeft names ts ds) (nth (under [] (codes "classes")) i) keys_of_class
+    (declared_at (nth (under [] (codes "classes")) i) (length draft.types) list names more e) (answering_at (nth (under [] (codes "classes")) i) e) names more e
+    (declared_grown (nth (under [] (codes "classes")) i) (length draft.types) list names more e all.0.0 all.0.1 (is_next names more.types e ds all.1)) all.0
+    (λ g called. class_left names more.types e ds g called all.1)) 0 draft list (old, begin list listed))
 
 first_parents : (t p : ℕ) → parent_of predeclared t ≡ Some p → p < t
 first_parents zero p h = absurd (cc)
 first_parents (suc zero) p h = let same : 0 ≡ p = cc in omega (arith, same)
 first_parents (suc (suc t)) p h = absurd (cc)
 
-first_bare : (t : ℕ) → (read no_type predeclared t).interfaces ≡ []
-first_bare zero = refl
-first_bare (suc zero) = refl
-first_bare (suc (suc t)) = refl
+first_root : (t : ℕ) → sort_of predeclared t ≡ sorts.interface → parent_of predeclared t ≡ None
+first_root zero e = refl
+first_root (suc zero) e = let other : sorts.class ≡ sorts.interface = e in absurd (cc)
+first_root (suc (suc t)) e = refl
+
+first_interfaces : (t : ℕ) → AreInterfaces predeclared (implemented_by predeclared t)
+first_interfaces zero = tt
+first_interfaces (suc zero) = tt
+first_interfaces (suc (suc t)) = tt
+
+first_members : (t : ℕ) → HasMembers (read no_type predeclared t)
+first_members zero = record { filled = λ e. absurd (cc); few = refl }
+first_members (suc zero) = record { filled = λ e. absurd (cc); few = refl }
+first_members (suc (suc t)) = record { filled = λ e. absurd (cc); few = refl }
 
 first_grown : Grown predeclared
-first_grown = record { tree = record { parents_first = first_parents; few = omega arith }; bare = first_bare }
+first_grown = record {
+  tree = record { parents_first = first_parents; few = omega arith };
+  heirs = record { root = first_root; interfaces = first_interfaces };
+  members = first_members;
+}
 
 enums_grown : (d : Data) → OnRead Grown (enums_in d)
 unfolding enums_in
@@ -217,8 +495,25 @@ all_flags_grown types d old =
     on_each Grown (at_entry (λ path. flags_at path (length types)) (under [] (codes "flags")))
     (λ i more d all. flags_grown (nth (under [] (codes "flags")) i) (length types) more d all) 0 types list old
 
+-- the entries of a section are those of its list
+section_is : (key : List ℕ) (d : Data) (list : Items) → entries_at [] d key ≡ Ok list → section key d ≡ list
+section_is key d list = by (get key d)
+  where
+    by : (o : Option Data) → entries (under [] key) o ≡ Ok list → listed (option_and_then as_array o) ≡ list
+    by None e = cc
+    by (Some x) e = ap listed (taken (shape (under [] key)) (as_array x) list e)
+
 pub draft_grown : (d : Data) → OnRead GrownDraft (draft_in d)
 unfolding draft_in
 draft_grown d =
     on_bind Grown GrownDraft (enums_in d) _ (enums_grown d) λ enums old.
-    on_bind Grown GrownDraft (flags_in enums d) _ (all_flags_grown enums d old) λ types more. classes_grown types d more
+    on_bind Grown GrownDraft (flags_in enums d) _ (all_flags_grown enums d old) λ types more.
+    on_bind (With (λ ts. InterfacesLeft (type_names types d) ts no_items)) GrownDraft (interfaces_in (type_names types d) types d) _
+    (interfaces_grown (type_names types d) types d more (λ list e. begin types list (section_is (codes "interfaces") d list e)))
+    λ draft all. classes_grown (type_names types d) draft d all.0 (λ list e. no_interface_left (type_names types d) draft.types list
+    (ap (names_under (codes "name")) (section_is (codes "classes") d list e)) all.1)
+  where
+    begin : (types : List GType) (list : Items) → section (codes "interfaces") d ≡ list → InterfacesLeft (type_names types d) types list
+    begin types list is name none =
+        ap (λ (ds : Items). option_or (number_from (length types) (names_under (codes "name") ds) name)
+        (number_from (length types + length (names_under (codes "name") ds)) (names_under (codes "name") (section (codes "classes") d)) name)) is

@@ -1,69 +1,103 @@
--- What is so of each definition that was read, of its parts.
-use Rattle.std.proofs.Common.{sym, subst, ◌∙◌}
+-- Each definition that bytes denote is well read, and each event that a line denotes for it names what is there and fits.
+use Rattle.std.proofs.Common.{◌≡◌, ℕ, false, List, Some, slice_get, refl, sym, ap, subst, ◌∙◌, arith, IfOk}
 use Rattle.std.proofs.lemmas.Option.{none-some}
 use Rattle.ui_machine.specs.Definition.{Definition}
+use Rattle.ui_machine.specs.Definition.Places.{Place}
+use Rattle.ui_machine.specs.Output.Text.{no_type, members_of}
+use Rattle.ui_machine.specs.Definition.Lookups.{place_at}
+use Rattle.ui_machine.specs.declared.limits.Limits.{Limits}
 use Rattle.builder_defs.specs.Denoted.{definition_with}
+use Rattle.builder_defs.specs.Denoted.Drafts.{Draft}
 use Rattle.builder_defs.specs.Denoted.Properties.{specs_by}
-use Rattle.builder_defs.proofs.Soundness.{OnRead, AreFew, objects_few, PlainDraft, draft_plain}
-use Rattle.law_reading.specs.Reading.{OfEachRead, LimitsRead, SignalsRead, AncestorsRead, ProgramsRead, PropertiesRead, PlacesRead}
+use Rattle.builder_defs.proofs.Soundness as soundness
+use Rattle.builder_defs.proofs.Soundness.{OnRead, AreFew, PlainDraft, draft_plain}
+use Rattle.law_typing.specs.Laws.WellRead.{TypesRead, WellRead}
+use Rattle.law_reading.specs.Reading.{ReadingIsWell, EventsAreRead}
+use Rattle.law_reading.proofs.EventProofs.{event_read}
+use Rattle.law_reading.proofs.ValueProofs.{HaveFewBits}
+use Rattle.law_sessions.specs.Sessions.{EventRead}
 use Rattle.law_reading.proofs.Parts.{IsRead, parts}
 use Rattle.law_reading.proofs.Ancestors.{transitive}
-use Rattle.law_reading.proofs.SignalProofs.{signals_read, no_shape}
-use Rattle.law_reading.proofs.LimitProofs.{limits_read}
-use Rattle.law_reading.proofs.TreeProofs.{Grown, GrownDraft, draft_grown}
-use Rattle.law_reading.proofs.PlaceProofs.{AreBare, places_bare, places_read}
-use Rattle.law_reading.proofs.SpecProofs.{properties_read}
+use Rattle.law_reading.proofs.LimitProofs.{Small, limits_small, objects_few}
+use Rattle.law_reading.proofs.ListProofs.{all_read}
+use Rattle.law_reading.proofs.PlaceProofs.{AreObjects, all_objects, place_read, place_order, peers_apart}
+use Rattle.law_reading.proofs.SignalProofs.{as_many, has_notify, some_signal, found, results_filled, no_shape}
+use Rattle.law_reading.proofs.SpecProofs.{spec_read, names_apart, specs_inherited}
+use Rattle.law_reading.proofs.TreeProofs.{GrownDraft, draft_grown}
 
-limits_of : (d : Definition) → IsRead d → LimitsRead d
-limits_of d r =
-    let few : AreFew r.limits.objects r.places =
-    subst (OnRead (AreFew r.limits.objects)) r.placed (objects_few r.draft.types (specs_by r.draft.types r.draft.own) r.limits.objects r.value) in
-    subst LimitsRead r.is (limits_read r.draft r.places r.limits r.value r.limited few)
+module _ (draft : Draft) (places : List Place) (limits : Limits) (grown : GrownDraft draft) (plain : PlainDraft draft)
+    (objects : AreObjects draft.types (specs_by draft.types draft.own) places) (small : Small limits)
+    (few : AreFew limits.objects places) where
+  types_read : TypesRead (definition_with draft places limits)
+  types_read = record {
+    classes = as_many draft places limits;
+    parents = grown.0.tree.parents_first;
+    transitive = transitive draft.types grown.0.tree grown.0.heirs;
+    inherits = specs_inherited draft places limits grown plain;
+    shapes = λ class type shape h e. absurd (none-some shape (sym (no_shape draft places limits type) ∙ e));
+    notify = λ class known sort. has_notify draft places limits class known;
+    first = λ type number s e. has_notify draft places limits type (some_signal draft places limits type number s e);
+    specs = spec_read draft places limits grown plain;
+    names = names_apart draft places limits grown plain;
+    replies = refl;
+    results = results_filled draft places limits;
+    signals = found draft places limits;
+    members = all_read no_type _ draft.types (λ t. (grown.0.members t).few);
+  }
 
-pub limits_are : OfEachRead LimitsRead
-limits_are bytes d h = limits_of d (parts bytes d h)
+  well : WellRead (definition_with draft places limits)
+  well =
+      let all = objects_few places in
+      record {
+        types = types_read;
+        programs = λ number p e. absurd (cc);
+        places = place_read draft places limits objects few.placed;
+        order = place_order draft places limits objects few.placed;
+        peers = peers_apart draft.types (specs_by draft.types draft.own) places objects;
+        bindings = tt;
+        objects = omega (arith, all, few.live);
+        most_objects = small.objects;
+        most_handlers = small.handlers;
+      }
 
-signals_of : (d : Definition) → IsRead d → SignalsRead d
-signals_of d r = subst SignalsRead r.is (signals_read r.draft r.places r.limits)
+-- what is so of the parts of a definition that was read
+pub record Facts (d : Definition) : Type 0 where
+  pub read : IsRead d
+  pub grown : GrownDraft read.draft
+  pub plain : PlainDraft read.draft
+  pub objects : AreObjects read.draft.types (specs_by read.draft.types read.draft.own) read.places
+  pub small : Small read.limits
+  pub few : AreFew read.limits.objects read.places
 
-pub signals_are : OfEachRead SignalsRead
-signals_are bytes d h = signals_of d (parts bytes d h)
-
-ancestors_of : (d : Definition) → IsRead d → AncestorsRead d
-ancestors_of d r =
-    let grown : Grown r.draft.types = (subst (OnRead GrownDraft) r.drafted (draft_grown r.value)).0 in
-    let read : AncestorsRead (definition_with r.draft r.places r.limits) = record {
-      parents = grown.tree.parents_first;
-      transitive = transitive r.draft.types grown.tree grown.bare;
-      shapes = λ class type shape h e. absurd (none-some shape (sym (no_shape r.draft r.places r.limits type) ∙ e));
-    } in
-    subst AncestorsRead r.is read
-
-pub ancestors_are : OfEachRead AncestorsRead
-ancestors_are bytes d h = ancestors_of d (parts bytes d h)
-
-programs_of : (d : Definition) → IsRead d → ProgramsRead d
-programs_of d r =
-    let read : ProgramsRead (definition_with r.draft r.places r.limits) = record { programs = λ number p e. absurd (cc); bindings = tt } in
-    subst ProgramsRead r.is read
-
-pub programs_are : OfEachRead ProgramsRead
-programs_are bytes d h = programs_of d (parts bytes d h)
-
-properties_of : (d : Definition) → IsRead d → PropertiesRead d
-properties_of d r =
+pub facts : (d : Definition) → IsRead d → Facts d
+facts d r =
+    let specs = specs_by r.draft.types r.draft.own in
     let grown : GrownDraft r.draft = subst (OnRead GrownDraft) r.drafted (draft_grown r.value) in
-    let plain : PlainDraft r.draft = subst (OnRead PlainDraft) r.drafted (draft_plain r.value) in
-    subst PropertiesRead r.is (properties_read r.draft r.places r.limits grown.1 plain)
+    record {
+      read = r;
+      grown = grown;
+      plain = subst (OnRead PlainDraft) r.drafted (draft_plain r.value);
+      objects = subst (OnRead (AreObjects r.draft.types specs)) r.placed
+          (all_objects r.draft.types (λ t. (grown.0.members t).few) specs r.limits.objects r.value);
+      small = subst (OnRead Small) r.limited (limits_small r.value);
+      few = subst (OnRead (AreFew r.limits.objects)) r.placed (soundness.objects_few r.draft.types specs r.limits.objects r.value);
+    }
 
-pub properties_are : OfEachRead PropertiesRead
-properties_are bytes d h = properties_of d (parts bytes d h)
+-- no prototype is a place of it
+no_prototype : (d : Definition) → Facts d → (place : ℕ) (p : Place) → place_at d place ≡ Some p → p.is_prototype ≡ false
+no_prototype d f place p e =
+    let there : slice_get f.read.places place ≡ Some p = ap (λ (x : Definition). slice_get x.places place) f.read.is ∙ e in
+    (f.objects.all place p there).object
 
-places_of : (d : Definition) → IsRead d → PlacesRead d
-places_of d r =
-    let all : AreBare r.places =
-    subst (OnRead AreBare) r.placed (places_bare r.draft.types (specs_by r.draft.types r.draft.own) r.limits.objects r.value) in
-    subst PlacesRead r.is (places_read r.draft r.places r.limits all)
+few_bits : (d : Definition) → Facts d → (t : ℕ) → HaveFewBits (members_of d.types t)
+few_bits d f t = subst (λ (x : Definition). HaveFewBits (members_of x.types t)) f.read.is (f.grown.0.members t).few
 
-pub places_are : OfEachRead PlacesRead
-places_are bytes d h = places_of d (parts bytes d h)
+pub events_read : EventsAreRead
+events_read bytes d h line event e =
+    let f = facts d (parts bytes d h) in
+    subst (λ r. IfOk r (EventRead d)) e (event_read d (few_bits d f) (no_prototype d f) line)
+
+pub well_read : ReadingIsWell
+well_read bytes d h =
+    let f = facts d (parts bytes d h) in
+    subst WellRead f.read.is (well f.read.draft f.read.places f.read.limits f.grown f.plain f.objects f.small f.few)

@@ -1,17 +1,28 @@
-//! What reading gives is well read: each definition that bytes denote is, in these parts, as the laws of runs take it to be.
+//! What reading gives is what the laws of runs take.
 #![tactic(auto)]
 
-ghost use Rattle.law_reading.specs.Reading.{OfEachRead, LimitsRead, SignalsRead, AncestorsRead, ProgramsRead, PropertiesRead, PlacesRead};
+ghost use Rattle.law_reading.specs.Reading.{ReadingIsWell, EventsAreRead};
+ghost use Rattle.law_reading.specs.ReadRuns.{ReadNeverStuck, ReadReportIsKept, ReadRunsRest, ReadRunsAreThere, ReadHaltsForMemory};
+ghost use Rattle.law_reading.specs.WorkedReading.{PremisesMet};
 
-/// Of each definition that bytes denote: the limits are no more than they may be and the objects no more than may live; each type has `notify`,
-/// and a signal is found by its name; parents stand before children, and what a type is its ancestors are; programs and bindings are as they should be;
-/// and no class has two properties of one name, their flags go together, their ranges are of numbers of their kind, and their defaults are valid. Objects stand
-/// before prototypes, and no peer is named twice.
+/// Each definition that bytes denote is well read, and each event that a line denotes for it names what is there and fits.
 pub fn reading()
-    ensures limits { OfEachRead LimitsRead }
-    ensures signals { OfEachRead SignalsRead }
-    ensures ancestors { OfEachRead AncestorsRead }
-    ensures programs { OfEachRead ProgramsRead }
-    ensures properties { OfEachRead PropertiesRead }
-    ensures places { OfEachRead PlacesRead }
+    ensures well { ReadingIsWell }
+    ensures events { EventsAreRead }
+{}
+
+/// So what is promised of runs of an accepted definition is so of each that bytes denote, over the events that lines denote: each dispatch
+/// of each run keeps it, and does so by the numbers of the report; a run leaves the world at rest; all lines together have a run; and where
+/// an event halts no memory is found.
+pub fn runs()
+    ensures keep { ReadNeverStuck }
+    ensures report { ReadReportIsKept }
+    ensures rest { ReadRunsRest }
+    ensures there { ReadRunsAreThere }
+    ensures halting { ReadHaltsForMemory }
+{}
+
+/// The bytes and the lines of the first run meet what this asks.
+pub fn premises()
+    ensures { PremisesMet }
 {}
