@@ -9,23 +9,18 @@ fn gives_each_slot_once_at_the_last_thaw(rt: HostRuntime) -> Result<(), Fail> {
     let mut queue = NotifyQueue::new(rt.alloc());
     for _round in 0u8..2 {
         for _freeze in 0u8..2 {
+            assert!(rt; queue.can_freeze());
             queue.freeze();
         }
         for slot in [1u16, 2, 1] {
             queue.add(slot)?;
         }
-        let can_freeze_more = queue.can_freeze();
-        let gives_nothing = queue.thaw().is_none();
-        let stays_frozen = queue.is_frozen();
+        assert!(rt; queue.is_frozen());
+        assert!(rt; queue.thaw().is_none());
+        assert!(rt; queue.is_frozen());
         let slots = queue.thaw().ok_or("the last thaw gives the queue")?;
         assert_eq!(rt; slots.as_slice(), [1u16, 2].as_slice());
-        let got = (
-            can_freeze_more,
-            gives_nothing,
-            stays_frozen,
-            queue.is_frozen(),
-        );
-        assert_eq!(rt; got, (true, true, true, false));
+        assert!(rt; !queue.is_frozen());
     }
     Ok(())
 }
