@@ -5,7 +5,7 @@ ghost use Rattle.std.specs.List.{list_any};
 ghost use Rattle.std.specs.Str.{bytes_eq};
 ghost use Rattle.serde_json.specs.View.{view, items_view};
 ghost use Rattle.serde_json.specs.Find.{get, as_array, as_str};
-ghost use Rattle.type_tree.specs.Adding.{members_fault, new_enum, new_flags};
+ghost use Rattle.type_tree.specs.Adding.{new_enum, new_flags};
 ghost use Rattle.type_tree.specs.Entry.{enum_member, flags_member};
 ghost use Rattle.g_values.specs.Reading.{whole_number};
 ghost use Rattle.builder_defs.specs.Refusals.{Gives, Leads, IsRefusal, shape};
@@ -20,8 +20,7 @@ use crate::reads::{Reads, read_each};
 use crate::types::{check_room, check_type_name};
 use g_values::has_number;
 use serde_json::Value;
-use std::alloc::AllocError;
-use type_tree::{EnumMember, FlagsMember, TypeError, TypeTree};
+use type_tree::{EnumMember, FlagsMember, TypeTree};
 
 const MEMBERS: [&str; 2] = ["name", "members"];
 
@@ -262,30 +261,6 @@ fn flags_members(part: Part<'_>) -> Result<Vec<FlagsMember>, ReadError>
     Ok(members)
 }
 
-// Adds an enum that nothing forbids.
-fn add_enum(types: &mut TypeTree, name: &str, members: Vec<EnumMember>) -> Result<(), AllocError>
-    requires { members_fault types.old name.now ≡ None }
-    ensures { OnOk result (types.new ≡ types.old ++ new_enum name.now (map enum_member members.items) ∷ []) }
-{
-    match types.add_enum(name, members) {
-        Ok(_) => Ok(()),
-        Err(TypeError::OutOfMemory) => Err(AllocError),
-        Err(TypeError::Refused(_)) => unreachable!(),
-    }
-}
-
-// Adds a flags type that nothing forbids.
-fn add_flags(types: &mut TypeTree, name: &str, members: Vec<FlagsMember>) -> Result<(), AllocError>
-    requires { members_fault types.old name.now ≡ None }
-    ensures { OnOk result (types.new ≡ types.old ++ new_flags name.now (map flags_member members.items) ∷ []) }
-{
-    match types.add_flags(name, members) {
-        Ok(_) => Ok(()),
-        Err(TypeError::OutOfMemory) => Err(AllocError),
-        Err(TypeError::Refused(_)) => unreachable!(),
-    }
-}
-
 // Adds the enum of an entry, where the enums begin with the first.
 #[tactic(auto, unfolding(crate::specs::Denoted::Enums::enum_at))]
 fn read_enum(part: Part<'_>, first: usize, types: &mut TypeTree) -> Result<(), ReadError>
@@ -297,7 +272,7 @@ fn read_enum(part: Part<'_>, first: usize, types: &mut TypeTree) -> Result<(), R
     check_type_name(part, first, types, name)?;
     let listed = enum_members(part)?;
     part.check_only(members, &MEMBERS)?;
-    add_enum(types, name, listed)?;
+    types.append_enum(name, listed)?;
     Ok(())
 }
 
@@ -312,7 +287,7 @@ fn read_flags(part: Part<'_>, first: usize, types: &mut TypeTree) -> Result<(), 
     check_type_name(part, first, types, name)?;
     let listed = flags_members(part)?;
     part.check_only(members, &MEMBERS)?;
-    add_flags(types, name, listed)?;
+    types.append_flags(name, listed)?;
     Ok(())
 }
 

@@ -356,6 +356,42 @@ impl TypeTree {
         Ok(t)
     }
 
+    /// Adds an enum whose name and room were tested.
+    pub fn append_enum(
+        &mut self,
+        name: &str,
+        members: Vec<EnumMember>,
+    ) -> Result<TypeId, AllocError>
+        requires name { name_fault self.old name.now ≡ None }
+        requires room { room_fault self.old ≡ None }
+        ensures ok { OnOk result (self.new ≡ self.old ++ new_enum name.now (map enum_member members.items) ∷ []) }
+        ensures enumerated { IfOk result (λ t. t ≡ length self.old) }
+        ensures err { OnErr result (self.new ≡ self.old) }
+    {
+        let Ok(t) = self.append(name, TypeEntry::Enum(members)) else {
+            return Err(AllocError);
+        };
+        Ok(t)
+    }
+
+    /// Adds a flags type whose name and room were tested.
+    pub fn append_flags(
+        &mut self,
+        name: &str,
+        members: Vec<FlagsMember>,
+    ) -> Result<TypeId, AllocError>
+        requires name { name_fault self.old name.now ≡ None }
+        requires room { room_fault self.old ≡ None }
+        ensures ok { OnOk result (self.new ≡ self.old ++ new_flags name.now (map flags_member members.items) ∷ []) }
+        ensures flags { IfOk result (λ t. t ≡ length self.old) }
+        ensures err { OnErr result (self.new ≡ self.old) }
+    {
+        let Ok(t) = self.append(name, TypeEntry::Flags(members)) else {
+            return Err(AllocError);
+        };
+        Ok(t)
+    }
+
     /// The tree with `GObject` and its child `GInitiallyUnowned`.
     pub fn new(alloc: Global) -> Result<Self, AllocError>
         ensures { IfOk result (λ tree. tree ≡ predeclared) }
