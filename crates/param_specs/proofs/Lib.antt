@@ -1,5 +1,4 @@
 pub mod Specs
-pub mod Dashes
 pub mod Same
 pub mod Lists
 pub mod First

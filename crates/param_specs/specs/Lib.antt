@@ -1,5 +1,5 @@
 pub mod Flags
-pub mod PropertyName
+pub use Rattle.type_tree.specs.PropertyName
 pub mod View
 pub mod Table
 pub mod Validation

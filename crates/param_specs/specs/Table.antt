@@ -12,7 +12,7 @@ use Rattle.param_specs.specs.declared.error.SpecFault.TheVariants.{BadName, Dupl
 use Rattle.param_specs.specs.declared.error.SpecError.{SpecError}
 use Rattle.param_specs.specs.declared.error.SpecError.TheVariants.{OutOfMemory, Refused}
 use Rattle.param_specs.specs.Flags.{is_clash}
-use Rattle.param_specs.specs.PropertyName.{is_property_name}
+use Rattle.type_tree.specs.PropertyName.{is_property_name}
 
 -- the specs that were installed for a type itself
 abbrev pub own_of : List (List Spec) → ℕ → List Spec

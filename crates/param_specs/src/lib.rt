@@ -6,7 +6,6 @@
 mod error;
 mod flags;
 mod growing;
-mod name;
 mod overriding;
 mod spec;
 mod table;
@@ -14,8 +13,8 @@ mod validating;
 
 pub use error::{OverrideFault, SpecError, SpecFault};
 pub use flags::PropertyFlags;
-pub use name::{canonical_name, is_property_name};
 pub use overriding::is_same_spec;
 pub use spec::Spec;
 pub use table::{MOST_PROPERTIES, SpecTable};
+pub use type_tree::{canonical_name, is_property_name};
 pub use validating::{is_valid_default, takes, validate};

@@ -5,18 +5,19 @@ ghost use Rattle.ui_machine.specs.Definition.Names.{same_name, canonical, place_
 ghost use Rattle.param_specs.specs.View.{spec_view, specs_in, AreNamed, entries_or_none};
 ghost use Rattle.indexmap.specs.IndexMap.{keys};
 ghost use Rattle.g_values.specs.View.{IsKnown};
-ghost use Rattle.param_specs.specs.PropertyName.{is_property_name};
+ghost use Rattle.type_tree.specs.PropertyName.{is_property_name};
 ghost use Rattle.param_specs.specs.Table.{own_of, specs_of, slot_named, AddsSpec, SameSpecs, Installs, install_fault};
 
 use crate::error::{SpecError, SpecFault};
 use crate::growing::{add, grow};
-use crate::name::{canonical_name, has_canonical_bytes, is_property_name, is_spelling};
 use crate::spec::Spec;
 use crate::validating::is_valid_default;
 use indexmap::IndexMap;
 use std::alloc::{AllocError, Global};
 use std::marker::Model;
-use type_tree::{TypeId, TypeTree};
+use type_tree::{
+    TypeId, TypeTree, canonical_name, has_canonical_bytes, is_property_name, is_spelling,
+};
 
 /// The most properties of a type, with the inherited ones.
 pub const MOST_PROPERTIES: usize = 64;

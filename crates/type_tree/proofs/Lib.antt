@@ -4,3 +4,4 @@ pub mod Lines
 pub mod Missing
 pub mod Texts
 pub mod Nicks
+pub mod Dashes

@@ -1,4 +1,5 @@
 pub mod TypeName
+pub mod PropertyName
 pub mod Entry
 pub mod Tree
 pub mod Adding

@@ -1,4 +1,4 @@
-//! The tree of types: classes, interfaces, enums and flags.
+//! The tree of types: classes, interfaces, enums and flags, and the rules of the names of types, properties and signals.
 //!
 //! A contract sees a tree as a list of types, the pure records of the abstract machine, and a `TypeId` as a place in that list.
 #![tactic(auto)]
@@ -7,6 +7,7 @@ mod adding;
 mod entry;
 mod error;
 mod member;
+mod member_name;
 mod name;
 mod nick;
 mod tree;
@@ -15,6 +16,7 @@ mod type_id;
 pub use entry::{TypeFlags, TypeSort};
 pub use error::{TypeError, TypeFault, TypeLimit};
 pub use member::{EnumMember, FlagsMember};
+pub use member_name::{canonical_name, has_canonical_bytes, is_property_name, is_spelling};
 pub use name::is_type_name;
 pub use tree::{MOST_DEPTH, MOST_TYPES, TypeTree};
 pub use type_id::TypeId;

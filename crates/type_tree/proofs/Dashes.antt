@@ -5,7 +5,7 @@ use Rattle.std.proofs.lemmas.Bool.{false≢true}
 use Rattle.std.proofs.lemmas.Bool.Decides.{nat_tests}
 use Rattle.std.proofs.lemmas.Str.{IsUtf8-from_ascii}
 use Rattle.std.proofs.lemmas.Str.Ascii.{IsAscii-nil, IsAscii-cons}
-use Rattle.param_specs.specs.PropertyName.{is_property_name, segments_follow, is_letter, is_letter_or_digit, is_separator}
+use Rattle.type_tree.specs.PropertyName.{is_property_name, segments_follow, is_letter, is_letter_or_digit, is_separator}
 use Rattle.ui_machine.specs.Definition.Names.{canonical}
 
 pub canonical_is_map : (bytes : List ℕ) → canonical bytes ≡ map (λ b. cond (nat_eq b 95) 45 b) bytes

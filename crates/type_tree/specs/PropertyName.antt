@@ -1,8 +1,6 @@
 -- Names of properties and signals (GObject manual, GParamSpec and GSignal: names are made of segments of letters and digits).
-use Rattle.std.specs.Prelude.{ℕ, Bool, true, false, cond, ◌&&◌, ◌||◌, nat_eq, nat_le, List, [], ◌∷◌}
-
-abbrev pub is_within : ℕ → ℕ → ℕ → Bool
-is_within low high x = nat_le low x && nat_le x high
+use Rattle.std.specs.Prelude.{ℕ, Bool, true, false, cond, ◌&&◌, ◌||◌, nat_eq, List, [], ◌∷◌}
+use Rattle.type_tree.specs.TypeName.{is_within}
 
 -- an ASCII letter
 abbrev pub is_letter : ℕ → Bool

@@ -1,6 +1,6 @@
 use Rattle.std.proofs.Common.{◌≡◌, ℕ, ◌<◌, ◌≤◌, List, [], ◌∷◌, length, false, refl, arith}
 use Rattle.ui_machine.specs.Definition.Names.{same_name, canonical}
-use Rattle.param_specs.proofs.name.+spells.Goals as goal
+use Rattle.type_tree.proofs.member_name.+spells.Goals as goal
 
 shorter : (stored name : List ℕ) → length stored < 1 → 1 ≤ length name → false ≡ same_name stored (canonical name)
 shorter [] [] h l = absurd (omega arith)

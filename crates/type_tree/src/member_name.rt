@@ -1,9 +1,11 @@
-//! Names of properties.
+//! Names of properties and signals, in either spelling.
+//!
+//! `-` and `_` are one in them (GObject manual, GParamSpec: canonical parameter names). The canonical spelling has `-`.
 
 ghost use Rattle.std.specs.Prelude.{◌≡◌, cond, nat_eq, not, map, true, IfOk, string_bytes};
 ghost use Rattle.std.specs.List.{list_all};
 ghost use Rattle.ui_machine.specs.Definition.Names.{same_name, canonical};
-ghost use Rattle.param_specs.specs.PropertyName.{is_property_name, segments_follow, is_letter, is_letter_or_digit, is_separator};
+ghost use Rattle.type_tree.specs.PropertyName.{is_property_name, segments_follow, is_letter, is_letter_or_digit, is_separator};
 
 use std::alloc::{AllocError, Global};
 

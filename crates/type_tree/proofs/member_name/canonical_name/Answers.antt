@@ -1,7 +1,7 @@
 use Rattle.std.proofs.Common.{◌∙◌, sym, ap, subst, IsUtf8}
 use Rattle.ui_machine.specs.Definition.Names.{canonical}
-use Rattle.param_specs.proofs.Dashes.{canonical_utf8}
-use Rattle.param_specs.proofs.name.canonical_name.Goals as goal
+use Rattle.type_tree.proofs.Dashes.{canonical_utf8}
+use Rattle.type_tree.proofs.member_name.canonical_name.Goals as goal
 
 pub unreachable-requires : goal.unreachable-requires
 unreachable-requires c =
