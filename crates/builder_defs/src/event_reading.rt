@@ -121,6 +121,7 @@ fn set_in(alloc: Global, definition: &Definition, words: &Value) -> Result<Event
     let Some((id, name, value)) = words_of_set(items.as_slice()) else {
         return Err(EventError::Refused(EventFault::Shape));
     };
+    // For the proof: what is known of a definition's types.
     let _types = definition.types();
     let target = target_of(alloc, definition, id, name)?;
     let object = object_named(alloc, definition, target.spec.kind, value)?;

@@ -112,6 +112,7 @@ impl TypeTree {
         ensures few { IfSome result (λ p. p < 256) }
         ensures tree { IsTree self.now }
     {
+        // For the proof: the tree's invariant is known once a field is read.
         let _ = &self.types;
         self.entry(t)?.parent()
     }
@@ -189,6 +190,7 @@ impl TypeTree {
     pub fn is_a(&self, a: TypeId, b: TypeId) -> bool
         ensures { result ≡ is_a self.now a b }
     {
+        // For the proof: the tree's invariant is known once a field is read.
         let _ = &self.types;
         if self.is_or_implements(a, b) {
             return true;
@@ -204,6 +206,7 @@ impl TypeTree {
         ensures depth { result ≡ depth self.now t }
         ensures bound { result ≤ t + 1 }
     {
+        // For the proof: the tree's invariant is known once a field is read.
         let _ = &self.types;
         match self.parent(t) {
             Some(parent) => self.depth(parent) + 1,
