@@ -51,7 +51,7 @@ forget_exact d beside s id counted o =
 
 -- ** one child more
 
-one_more : (o child : ℕ) (ids : List ℕ) → total (same o) (ids ++ child ∷ []) ≡ total (same o) ids + same o child
+pub one_more : (o child : ℕ) (ids : List ℕ) → total (same o) (ids ++ child ∷ []) ≡ total (same o) ids + same o child
 one_more o child [] = omega arith
 one_more o child (i ∷ is) = omega (arith, one_more o child is)
 

@@ -13,3 +13,4 @@ pub mod Counts
 pub mod Maps
 pub mod Settled
 pub mod Values
+pub mod Created
