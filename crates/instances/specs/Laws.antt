@@ -1,5 +1,5 @@
 -- How mentions move where objects are written, disposed and finalised.
-use Rattle.std.specs.Prelude.{◌≡◌, ℕ, ◌+◌, ◌-◌, ◌<◌, ◌≤◌, ◌++◌, ◌∷◌, [], length, cond, true, List, Option, Some, None, slice_get, slice_set, IsSome}
+use Rattle.std.specs.Prelude.{◌≡◌, ℕ, ◌+◌, ◌-◌, ◌<◌, ◌++◌, ◌∷◌, [], cond, true, List, Option, Some, None, slice_get, slice_set, IsSome}
 use Rattle.std.specs.List.{list_all}
 use Rattle.ui_machine.specs.Seq.{total}
 use Rattle.ui_machine.specs.Definition.{Definition}
@@ -93,8 +93,8 @@ JoinCounts =
 -- a child that leaves its parent is held by it no more
 abbrev pub LeaveCounts : Type 0
 LeaveCounts =
-    (d : Definition) (beside : ℕ → ℕ) (s n : Store) (parent child : ℕ) → parent ≤ length s.objects
-    → Leaves parent child s n → Counted d beside s → Counted d beside n
+    (d : Definition) (beside : ℕ → ℕ) (s n : Store) (parent child : ℕ) → Leaves parent child s n → Counted d beside s
+    → Counted d beside n
 
 -- a written property moves just the counts that it moves
 abbrev pub WriteCounts : Type 0

@@ -9,6 +9,7 @@ ghost use Rattle.ui_machine.specs.Outcome.{Gives, Follows};
 ghost use Rattle.ui_machine.specs.declared.ids.ObjectId.{ObjectId};
 ghost use Rattle.g_values.specs.View.{value_view};
 ghost use Rattle.instances.specs.Weak.{forgetting};
+ghost use Rattle.instances.specs.Family.{KeepsKin};
 ghost use Rattle.instances.specs.Store.{id_of, made_object, Shows};
 
 use crate::ids::remove_id;
@@ -163,7 +164,8 @@ impl Object {
     /// Writes a property, and answers what it was.
     #[tactic(auto, unfolding(ui_machine::specs::State::Objects::with_value))]
     pub fn write(&mut self, slot: u16, value: Value) -> Result<Value, Arm>
-        ensures { Gives value_view result (with_value slot (value_view value) self.old) self.new }
+        ensures changes { Gives value_view result (with_value slot (value_view value) self.old) self.new }
+        ensures kin { KeepsKin self.old self.new }
     {
         let slot = usize::from(slot);
         if slot >= self.values.len() {
@@ -175,7 +177,8 @@ impl Object {
 
     /// Adds one freeze, unless there are as many as may be.
     pub fn freeze(&mut self) -> Result<(), Arm>
-        ensures { Gives (λ _. tt) result (frozen_more self.old) self.new }
+        ensures changes { Gives (λ _. tt) result (frozen_more self.old) self.new }
+        ensures kin { KeepsKin self.old self.new }
     {
         if !self.queue.can_freeze() {
             return Err(Arm::Freeze);
@@ -186,7 +189,8 @@ impl Object {
 
     /// Takes one freeze off, and answers the notifications that are then made, the last first.
     pub fn thaw(&mut self, alloc: Global) -> Result<Vec<u16>, Arm>
-        ensures { Gives (λ slots. reverse slots.items) result (frozen_less self.old) self.new }
+        ensures changes { Gives (λ slots. reverse slots.items) result (frozen_less self.old) self.new }
+        ensures kin { KeepsKin self.old self.new }
     {
         if !self.queue.is_frozen() {
             return Err(Arm::Freeze);
@@ -199,7 +203,8 @@ impl Object {
 
     /// Queues a notification while frozen, and else answers that it is to be made at once.
     pub fn add(&mut self, slot: u16) -> Result<bool, Halt>
-        ensures { Follows (λ now. now) result (raised slot self.old) self.new }
+        ensures changes { Follows (λ now. now) result (raised slot self.old) self.new }
+        ensures kin { KeepsKin self.old self.new }
     {
         if !self.queue.is_frozen() {
             return Ok(true);
