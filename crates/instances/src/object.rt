@@ -1,6 +1,6 @@
 //! One object.
 
-ghost use Rattle.std.specs.Prelude.{◌≡◌, ◌+◌, map, reverse, length, nat_le, false, [], OnOk, OnErr};
+ghost use Rattle.std.specs.Prelude.{◌≡◌, ◌+◌, map, reverse, length, nat_le, false, [], slice_get, OnOk, OnErr};
 ghost use Rattle.std.specs.Option.{option_map};
 ghost use Rattle.ui_machine.specs.State.Objects.{value_at, with_value};
 ghost use Rattle.ui_machine.specs.Rules.NotifyQueue.{raised, frozen_more, frozen_less};
@@ -10,10 +10,11 @@ ghost use Rattle.ui_machine.specs.declared.ids.ObjectId.{ObjectId};
 ghost use Rattle.g_values.specs.View.{value_view};
 ghost use Rattle.instances.specs.Weak.{forgetting};
 ghost use Rattle.instances.specs.Family.{KeepsKin};
-ghost use Rattle.instances.specs.Store.{id_of, made_object, Shows};
+ghost use Rattle.instances.specs.Release.{emptied, name_in};
+ghost use Rattle.instances.specs.Store.{id_of, ids_of, made_object, Shows};
 
 use crate::ids::remove_id;
-use crate::object_values::forget_values;
+use crate::object_values::{drop_values, forget_values, named};
 use crate::weak::WeakSlots;
 use g_values::Value;
 use notify_queue::NotifyQueue;
@@ -152,6 +153,24 @@ impl Object {
     {
         let slots = weak.of(self.class);
         forget_values(&mut self.values, slots, id);
+    }
+
+    // The object that the value of a slot names.
+    pub(crate) fn named_at(&self, slot: usize) -> Option<ObjectId>
+        ensures { id_of result ≡ name_in (slice_get self.now.values slot) }
+    {
+        named(self.values.get(slot)?)
+    }
+
+    // Its strong values of an object kind become null, it has no children any more, and it is disposed. It answers what its
+    // children were.
+    pub(crate) fn dispose(&mut self, alloc: Global, weak: &WeakSlots) -> Vec<ObjectId>
+        ensures object { self.new ≡ emptied weak.now self.old }
+        ensures children { ids_of result.items ≡ self.old.children }
+    {
+        drop_values(&mut self.values, weak.of(self.class));
+        self.disposed = true;
+        mem::replace(&mut self.children, Vec::new(alloc))
     }
 
     /// The value of a property.
