@@ -88,7 +88,7 @@ orphaned : (d : Definition) (o : ℕ) (ids : List ℕ) (os : Objects) → total 
 orphaned d o [] os = refl
 orphaned d o (id ∷ ids) os = orphaned d o ids (put os id (option_map without_parent (living os id))) ∙ put_same d o os id
 
-find_mapped : (g : Object → Object) (os : Objects) (i : ℕ) → read None (map (option_map g) os) i ≡ option_map g (read None os i)
+pub find_mapped : (g : Object → Object) (os : Objects) (i : ℕ) → read None (map (option_map g) os) i ≡ option_map g (read None os i)
 find_mapped g [] i = refl
 find_mapped g (o ∷ os) zero = refl
 find_mapped g (o ∷ os) (suc i) = find_mapped g os i

@@ -156,6 +156,13 @@ module _ (at : Lookup) (made id : ℕ) (kin : KinInRange at made) (was : Instanc
     λ p e. small p (sym (ap (λ (x : Object). x.parent) is) ∙ e),
   )
 
+  -- one without children
+  pub childless_given : o.children ≡ [] → o.parent ≡ was.object.parent → KinGiven made (Some o)
+  childless_given none same_one = (
+    λ c some. let no : 0 < total (same c) [] = subst (λ (is : List ℕ). 0 < total (same c) is) none some in absurd (omega (arith, no)),
+    λ p e. parent_was p (sym same_one ∙ e),
+  )
+
 -- ** what is seen of it
 
 module _ (at : Lookup) (made limit : ℕ) (floats : List ObjectId) (old : Store) (range : InRange at made)

@@ -1,6 +1,6 @@
 //! Laws about what objects hold, over the machine's definitions.
 
-ghost use Rattle.instances.specs.Laws.{WritesMove, WriteCounts, DisposeMoves, FinaliseMoves, CountsFind, CreateCounts, MadeHoldsNothing, FloatCounts, HoldCounts, LetGoCounts, SinkCounts, ForgetCounts, JoinCounts, LeaveCounts, CountedFinds};
+ghost use Rattle.instances.specs.Laws.{WritesMove, WriteCounts, DisposeMoves, FinaliseMoves, CountsFind, CreateCounts, MadeHoldsNothing, FloatCounts, HoldCounts, LetGoCounts, SinkCounts, ForgetCounts, JoinCounts, LeaveCounts, MarksKnown, DisposeCounts, FinaliseCounts, CountedFinds};
 
 /// A strong property that is written moves one mention.
 pub fn writing_moves()
@@ -15,6 +15,11 @@ pub fn disposing_moves()
 /// So does finalising.
 pub fn finalising_moves()
     ensures { FinaliseMoves }
+{}
+
+/// Whatever slots are marked weak, they are those of a definition.
+pub fn marks_known()
+    ensures { MarksKnown }
 {}
 
 /// Counts that equal the mentions of what lives find the same object to finalise.
@@ -65,6 +70,16 @@ pub fn join_counts()
 /// They stay exact where an object leaves its parent.
 pub fn leave_counts()
     ensures { LeaveCounts }
+{}
+
+/// They stay exact where an object is disposed.
+pub fn dispose_counts()
+    ensures { DisposeCounts }
+{}
+
+/// They stay exact where one is finalised.
+pub fn finalise_counts()
+    ensures { FinaliseCounts }
 {}
 
 /// They stay exact where a property is written.

@@ -2,7 +2,7 @@
 
 ghost use Rattle.std.specs.Prelude.{◌≡◌, ℕ, ◌+◌, ◌-◌, ◌<◌, ◌^◌, [], IsSome, is_some, None, Ok, map, reverse, OnOk, OnErr};
 ghost use Rattle.std.specs.Option.{option_map};
-ghost use Rattle.ui_machine.specs.State.Objects.{asked, changed, living, put, value_at, with_value};
+ghost use Rattle.ui_machine.specs.State.Objects.{asked, changed, living, value_at, with_value};
 ghost use Rattle.ui_machine.specs.State.References.{next_unheld};
 ghost use Rattle.ui_machine.specs.Rules.NotifyQueue.{raised, frozen_more, frozen_less};
 ghost use Rattle.ui_machine.specs.Outcome.{Gives, Follows};
@@ -29,7 +29,7 @@ pub struct Table {
     pub(crate) floating: Vec<ObjectId>,
     // Whether it is known that each object is held.
     pub(crate) settled: bool,
-    alloc: Global,
+    pub(crate) alloc: Global,
 }
 
 impl Model for Table {
@@ -244,14 +244,5 @@ impl Table {
         }
         self.settled = true;
         None
-    }
-
-    /// Takes an object out that nothing holds. Its identity is not given again.
-    pub fn finalise(&mut self, id: ObjectId)
-        requires live { IsSome (living self.old.objects id.0) }
-        requires unheld { count_of self.old.counts id.0 ≡ 0 }
-        ensures { self.new ≡ with_objects self.old (put self.old.objects id.0 None) }
-    {
-        self.instances.remove(&id.0);
     }
 }

@@ -1,8 +1,15 @@
-use Rattle.instances.proofs.Shown.{removed}
-use Rattle.instances.proofs.Maps.{map_updated}
+use Rattle.std.proofs.Common.{◌≡◌, ℕ, IsSome, ap, subst, sym, arith}
+use Rattle.ui_machine.specs.State.Objects.{Objects, living}
+use Rattle.instances.proofs.Disposed.{disposed_lives, known_by}
 use Rattle.instances.proofs.table.Table.finalise.Goals as goal
 
-pub returns : goal.returns
-returns c =
-    removed _ _ _ c.self.inside.limit c.self.inside.floating.items _ c.self.invariant.0 c.self.view_is _ c.requires.live
-    (map_updated c.self.inside.instances c.remove.new.self _ _ c.remove.ensures.updates) c.requires.unheld
+pub take_out-requires-clause-live : goal.take_out-requires-clause-live
+take_out-requires-clause-live c =
+    let known = known_by c.args.weak.now in
+    subst (λ (os : Objects). IsSome (living os c.args.id.0)) (sym (c.dispose.ensures known.0 known.1).objects)
+    (disposed_lives known.0 c.args.self.now.objects c.args.id.0 c.requires.live)
+
+pub take_out-requires-clause-unheld : goal.take_out-requires-clause-unheld
+take_out-requires-clause-unheld c =
+    let known = known_by c.args.weak.now in
+    omega (arith, (c.dispose.ensures known.0 known.1).counts c.args.id.0, c.requires.unheld)
