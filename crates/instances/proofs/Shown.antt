@@ -179,6 +179,15 @@ module _ (at new : Lookup) (made limit : ℕ) (floats : List ObjectId) (old : St
       (same_listed at new made (Some y) count_in id replaces (e ∙ sym (ap count_in here)))
       ∙ ap (λ (s : Store). with_objects s (objects_of new made)) is
 
+  -- and where it keeps the object too, all is as it was
+  pub kept : y.object ≡ was.object → y.mentions ≡ was.mentions → store_of new made limit floats ≡ old
+  kept same e =
+      ap (λ (cs : List ℕ). record { objects = objects_of new made; counts = cs; limit = limit; floating = ids_of floats })
+      (same_listed at new made (Some y) count_in id replaces (e ∙ sym (ap count_in here)))
+      ∙ ap (λ (os : Objects). record { objects = os; counts = counts_of at made; limit = limit; floating = ids_of floats })
+      (same_listed at new made (Some y) object_in id replaces (ap Some same ∙ sym (ap object_in here)))
+      ∙ is
+
   -- one that keeps its object and has another count
   pub recounted : (n : ℕ) → y.object ≡ was.object → y.mentions ≡ n → store_of new made limit floats ≡ with_count old id n
   recounted n same e =

@@ -5,6 +5,8 @@ ghost use Rattle.std.specs.Option.{option_map};
 ghost use Rattle.ui_machine.specs.State.Objects.{asked, changed, living, value_at, with_value};
 ghost use Rattle.ui_machine.specs.State.References.{next_unheld};
 ghost use Rattle.ui_machine.specs.Rules.NotifyQueue.{raised, frozen_more, frozen_less};
+ghost use Rattle.ui_machine.specs.Rules.Sets.{is_disposed};
+ghost use Rattle.ui_machine.specs.Rules.Disposal.{peer_of};
 ghost use Rattle.ui_machine.specs.Outcome.{Gives, Follows};
 ghost use Rattle.g_values.specs.View.{value_view};
 ghost use Rattle.ui_machine.specs.declared.ids.ObjectId.{ObjectId};
@@ -127,6 +129,26 @@ impl Table {
         Ok(instance.object.place())
     }
 
+    /// Whether an object lives and was disposed.
+    pub fn is_disposed(&self, id: ObjectId) -> bool
+        ensures { result ≡ is_disposed (living self.now.objects id.0) }
+    {
+        let Some(instance) = self.instances.get(&id.0) else {
+            return false;
+        };
+        instance.object.is_disposed()
+    }
+
+    /// The number of the peer of an object, if it lives and has one.
+    pub fn peer_of(&self, id: ObjectId) -> Option<usize>
+        ensures { result ≡ peer_of (living self.now.objects id.0) }
+    {
+        let Some(instance) = self.instances.get(&id.0) else {
+            return None;
+        };
+        instance.object.peer()
+    }
+
     /// The value of a property.
     pub fn read(&self, id: ObjectId, slot: u16) -> Result<&Value, Arm>
         ensures { Shows (λ v. value_view v.now) result (asked self.now.objects id.0 (value_at slot)) }
@@ -141,6 +163,7 @@ impl Table {
     pub(crate) fn replace(&mut self, id: ObjectId, slot: u16, value: Value) -> Result<Value, Arm>
         ensures changes { Gives value_view result (changed self.old.objects id.0 (with_value slot (value_view value))) self.new.objects }
         ensures beside { self.new ≡ with_objects self.old self.new.objects }
+        ensures refused { OnErr result (self.new ≡ self.old) }
     {
         let Some(instance) = self.instances.get_mut(&id.0) else {
             return Err(Arm::Operand);
@@ -152,6 +175,7 @@ impl Table {
     pub fn freeze(&mut self, id: ObjectId) -> Result<(), Arm>
         ensures changes { Gives (λ _. tt) result (changed self.old.objects id.0 frozen_more) self.new.objects }
         ensures beside { self.new ≡ with_objects self.old self.new.objects }
+        ensures refused { OnErr result (self.new ≡ self.old) }
     {
         let Some(instance) = self.instances.get_mut(&id.0) else {
             return Err(Arm::Operand);
@@ -163,6 +187,7 @@ impl Table {
     pub fn thaw(&mut self, id: ObjectId) -> Result<Vec<u16>, Arm>
         ensures changes { Gives (λ slots. reverse slots.items) result (changed self.old.objects id.0 frozen_less) self.new.objects }
         ensures beside { self.new ≡ with_objects self.old self.new.objects }
+        ensures refused { OnErr result (self.new ≡ self.old) }
     {
         let alloc = self.alloc;
         let Some(instance) = self.instances.get_mut(&id.0) else {
@@ -175,6 +200,7 @@ impl Table {
     pub fn add(&mut self, id: ObjectId, slot: u16) -> Result<bool, Halt>
         ensures changes { Follows (λ now. now) result (changed self.old.objects id.0 (raised slot)) self.new.objects }
         ensures beside { self.new ≡ with_objects self.old self.new.objects }
+        ensures refused { OnErr result (self.new ≡ self.old) }
     {
         let Some(instance) = self.instances.get_mut(&id.0) else {
             return Err(Halt::Stuck(Arm::Operand));
