@@ -1,6 +1,6 @@
 //! The objects by their identities.
 
-ghost use Rattle.std.specs.Prelude.{◌≡◌, ℕ, ◌+◌, ◌-◌, ◌<◌, ◌^◌, [], IsSome, is_some, None, Ok, map, reverse, OnOk, OnErr};
+ghost use Rattle.std.specs.Prelude.{◌≡◌, ℕ, ◌+◌, ◌-◌, ◌<◌, ◌^◌, [], IfSome, IsSome, is_some, None, Ok, map, reverse, OnOk, OnErr};
 ghost use Rattle.std.specs.Option.{option_map};
 ghost use Rattle.ui_machine.specs.State.Objects.{asked, changed, living, value_at, with_value};
 ghost use Rattle.ui_machine.specs.State.References.{next_unheld};
@@ -258,6 +258,8 @@ impl Table {
     /// it last found each of them held.
     pub fn next_unheld(&mut self) -> Option<ObjectId>
         ensures found { option_map (λ (i : ObjectId). i.0) result ≡ next_unheld (count_of self.old.counts) self.old.objects }
+        ensures live { IfSome result (λ id. IsSome (living self.old.objects id.0)) }
+        ensures unheld { IfSome result (λ id. count_of self.old.counts id.0 ≡ 0) }
         ensures same { self.new ≡ self.old }
     {
         if self.settled {
