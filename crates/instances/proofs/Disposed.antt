@@ -1,5 +1,5 @@
 -- An object that is disposed and finalised: what is left of it, and counts that stay exact.
-use Rattle.std.proofs.Common.{◌≡◌, ℕ, zero, suc, ◌+◌, ◌-◌, List, [], ◌∷◌, map, length, Bool, true, false, cond, Option, Some, None, is_some, IsSome, refl, sym, ap, subst, ◌∙◌, arith}
+use Rattle.std.proofs.Common.{◌≡◌, ℕ, zero, suc, ◌+◌, ◌-◌, List, [], ◌∷◌, map, Bool, true, false, cond, Option, Some, None, is_some, IsSome, refl, sym, ap, ◌∙◌, arith}
 use Rattle.std.specs.Option.{option_map}
 use Rattle.ui_machine.specs.Seq.{read, total}
 use Rattle.ui_machine.specs.Definition.{Class, Definition}
@@ -13,7 +13,7 @@ use Rattle.ui_machine.specs.Rules.Construction.{no_spec}
 use Rattle.ui_machine.specs.Rules.Disposal.{all_forget, children_of, forgets, is_object, lets_go, nulled, objects_disposed, one_lets_go, orphans, without_parent}
 use Rattle.instances.specs.Store.{Store, count_of, with_objects}
 use Rattle.instances.specs.Weak.{Marks, Knows, masked, dropped_value}
-use Rattle.instances.specs.Release.{emptied, in_strong, marks_in, values_in, Disposes, Finalises}
+use Rattle.instances.specs.Release.{emptied, in_strong, marks_in, values_in, Disposes}
 use Rattle.instances.specs.Laws.{MarksKnown, DisposeCounts, FinaliseCounts}
 use Rattle.instances.proofs.Families.{still_live}
 use Rattle.instances.proofs.Held.{dispose_moves, finalise_moves, find_mapped, forgets_nothing}

@@ -1,4 +1,4 @@
-use Rattle.std.proofs.Common.{◌≡◌, ℕ, List, refl, ap, ◌∙◌, arith}
+use Rattle.std.proofs.Common.{ℕ, List, refl, ap, ◌∙◌, arith}
 use Rattle.instances.specs.declared.instance.Instance.{Instance}
 use Rattle.instances.specs.View.{store_of}
 use Rattle.instances.proofs.Scan.{look}

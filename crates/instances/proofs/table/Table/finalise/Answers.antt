@@ -1,4 +1,4 @@
-use Rattle.std.proofs.Common.{◌≡◌, ℕ, IsSome, ap, subst, sym, arith}
+use Rattle.std.proofs.Common.{IsSome, subst, sym, arith}
 use Rattle.ui_machine.specs.State.Objects.{Objects, living}
 use Rattle.instances.proofs.Disposed.{disposed_lives, known_by}
 use Rattle.instances.proofs.table.Table.finalise.Goals as goal

@@ -1,4 +1,4 @@
-use Rattle.std.proofs.Common.{◌≡◌, ℕ, ◌+◌, ◌-◌, List, Bool, false, cond, Option, [], get_or, take, sym, ap, ◌∙◌, arith}
+use Rattle.std.proofs.Common.{◌-◌, List, Bool, false, cond, Option, [], get_or, sym, ap, ◌∙◌, arith}
 use Rattle.std.proofs.Math.Nat.{sub-zero}
 use Rattle.std.proofs.lemmas.List.{take_all}
 use Rattle.std.specs.Option.{option_copied}
