@@ -66,6 +66,14 @@ module _ (at : Lookup) (made limit : ℕ) (floats : List ObjectId) (old : Store)
   pub not_held : at id ≡ None → 0 < count_of old.counts id → ⊥
   not_held none some = let no : count_of old.counts id ≡ 0 = counted_in ∙ ap count_in none in omega arith
 
+  -- and what does not live is not held
+  pub dead_unheld : living old.objects id ≡ None → ◌≡◌ {A = ℕ} (count_of old.counts id) 0
+  dead_unheld gone = by (at id) refl
+    where
+      by : (o : Option Instance) → at id ≡ o → ◌≡◌ {A = ℕ} (count_of old.counts id) 0
+      by None e = counted_in ∙ ap count_in e
+      by (Some x) e = let here : Some x.object ≡ None = sym (found_in ∙ ap object_in e) ∙ gone in absurd (cc)
+
   pub count_is : (x : Instance) → at id ≡ Some x → count_of old.counts id ≡ x.mentions
   count_is x here = counted_in ∙ ap count_in here
 

@@ -45,6 +45,10 @@ CountsFind =
 abbrev pub Counted : Definition → (ℕ → ℕ) → Store → Type 0
 Counted d beside s = (o : ℕ) → count_of s.counts o ≡ total (in_object d o) s.objects + (total (same o) s.floating + beside o)
 
+-- where nothing is, nothing is held
+abbrev pub NoneCounts : Type 0
+NoneCounts = (d : Definition) (limit : ℕ) → Counted d (λ o. 0) (record { objects = []; counts = []; limit = limit; floating = [] })
+
 -- what a new object holds was held beside the others
 abbrev pub CreateCounts : Type 0
 CreateCounts =

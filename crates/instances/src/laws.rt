@@ -1,6 +1,6 @@
 //! Laws about what objects hold, over the machine's definitions.
 
-ghost use Rattle.instances.specs.Laws.{WritesMove, WriteCounts, DisposeMoves, FinaliseMoves, CountsFind, CreateCounts, MadeHoldsNothing, FloatCounts, HoldCounts, LetGoCounts, SinkCounts, ForgetCounts, JoinCounts, LeaveCounts, MarksKnown, DisposeCounts, FinaliseCounts, CountedFinds};
+ghost use Rattle.instances.specs.Laws.{NoneCounts, WritesMove, WriteCounts, DisposeMoves, FinaliseMoves, CountsFind, CreateCounts, MadeHoldsNothing, FloatCounts, HoldCounts, LetGoCounts, SinkCounts, ForgetCounts, JoinCounts, LeaveCounts, MarksKnown, DisposeCounts, FinaliseCounts, CountedFinds};
 
 /// A strong property that is written moves one mention.
 pub fn writing_moves()
@@ -30,6 +30,11 @@ pub fn counts_find()
 /// An object that the machine makes holds nothing.
 pub fn made_holds_nothing()
     ensures { MadeHoldsNothing }
+{}
+
+/// The counts of no objects are exact.
+pub fn none_counts()
+    ensures { NoneCounts }
 {}
 
 /// Exact counts stay exact where an object is made of what was held.

@@ -29,7 +29,8 @@ impl Table {
     /// memory, and the object still lives.
     pub fn dispose(&mut self, weak: &WeakSlots, id: ObjectId)
         requires live { IsSome (living self.old.objects id.0) }
-        ensures { (d : machine.Definition) → Knows d weak.now → Disposes d id.0 self.old self.new }
+        ensures disposes { (d : machine.Definition) → Knows d weak.now → Disposes d id.0 self.old self.new }
+        ensures made { length self.new.objects ≡ length self.old.objects }
     {
         self.forget(weak, id);
         self.release_values(weak, id);
@@ -82,7 +83,8 @@ impl Table {
         ensures objects { self.new.objects ≡ updated (emptied weak.now) id.0 self.old.objects }
         ensures beside { self.new ≡ with_objects self.old self.new.objects }
         ensures children { ids_of result.items ≡ children_of (living self.old.objects id.0) }
-        ensures given { (child : ℕ) → 0 < total (same child) (ids_of result.items) → child ≤ length self.old.objects }
+        ensures given { (child : ℕ) → 0 < total (same child) (ids_of result.items) → child ≤ length self.new.objects }
+        ensures made { length self.new.objects ≡ length self.old.objects }
     {
         let alloc = self.alloc;
         let Some(instance) = self.instances.get_mut(&id.0) else {
@@ -97,6 +99,7 @@ impl Table {
         ensures objects { self.new.objects ≡ orphans (ids_of children.now) self.old.objects }
         ensures counts { (i : ℕ) → count_of self.new.counts i ≡ count_of self.old.counts i - total (same i) (ids_of children.now) }
         ensures beside { self.new ≡ record self.old { objects = self.new.objects; counts = self.new.counts } }
+        ensures made { length self.new.objects ≡ length self.old.objects }
     {
         for child in children {
             self.give_parent(*child, None);
@@ -109,7 +112,8 @@ impl Table {
     pub fn finalise(&mut self, weak: &WeakSlots, id: ObjectId)
         requires live { IsSome (living self.old.objects id.0) }
         requires unheld { count_of self.old.counts id.0 ≡ 0 }
-        ensures { (d : machine.Definition) → Knows d weak.now → Finalises d id.0 self.old self.new }
+        ensures finalises { (d : machine.Definition) → Knows d weak.now → Finalises d id.0 self.old self.new }
+        ensures made { length self.new.objects ≡ length self.old.objects }
     {
         self.dispose(weak, id);
         self.take_out(id);

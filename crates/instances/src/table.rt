@@ -102,9 +102,10 @@ impl Table {
         Ok(ObjectId(id))
     }
 
-    /// Whether the object lives.
+    /// Whether the object lives. What does not is not held.
     pub fn is_live(&self, id: ObjectId) -> bool
-        ensures { result ≡ is_some (living self.now.objects id.0) }
+        ensures dead { (o : ℕ) → living self.now.objects o ≡ None → count_of self.now.counts o ≡ 0 }
+        ensures live { result ≡ is_some (living self.now.objects id.0) }
     {
         self.instances.contains_key(&id.0)
     }
@@ -255,9 +256,10 @@ impl Table {
     }
 
     /// The lowest identity of an object that nothing holds. It looks through the objects only if one was made or let go of since
-    /// it last found each of them held.
+    /// it last found each of them held. What does not live is not held.
     pub fn next_unheld(&mut self) -> Option<ObjectId>
         ensures found { option_map (λ (i : ObjectId). i.0) result ≡ next_unheld (count_of self.old.counts) self.old.objects }
+        ensures dead { (o : ℕ) → living self.old.objects o ≡ None → count_of self.old.counts o ≡ 0 }
         ensures live { IfSome result (λ id. IsSome (living self.old.objects id.0)) }
         ensures unheld { IfSome result (λ id. count_of self.old.counts id.0 ≡ 0) }
         ensures same { self.new ≡ self.old }

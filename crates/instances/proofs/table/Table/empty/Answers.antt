@@ -1,14 +1,17 @@
-use Rattle.std.proofs.Common.{◌<◌, refl, sym, ap, subst, ◌∙◌}
+use Rattle.std.proofs.Common.{◌≡◌, ◌<◌, ℕ, IsSome, length, refl, sym, ap, subst, ◌∙◌, arith}
 use Rattle.std.specs.Ordering.{nat_cmp}
 use Rattle.std.specs.BTreeMap.{get}
 use Rattle.std.specs.Option.{option_copied_mut}
 use Rattle.ui_machine.specs.Seq.{total}
-use Rattle.ui_machine.specs.State.Objects.{Object}
+use Rattle.ui_machine.specs.State.Objects.{Object, Objects, living}
 use Rattle.ui_machine.specs.State.References.{same}
 use Rattle.ui_machine.specs.Rules.Disposal.{children_of}
+use Rattle.ui_machine.specs.Rules.Children.{updated}
+use Rattle.instances.specs.Weak.{Marks}
 use Rattle.instances.specs.Release.{emptied}
 use Rattle.instances.specs.View.{object_in}
 use Rattle.instances.specs.declared.instance.Instance.{Instance}
+use Rattle.instances.proofs.Families.{length_updated, was_made}
 use Rattle.instances.proofs.Shown.{found_in, not_absent}
 use Rattle.instances.proofs.Maps.{written_updates, written_beside}
 use Rattle.instances.proofs.Kin.{children_made, kin_well, childless_given}
@@ -53,10 +56,23 @@ returns-clause-children c =
     c.dispose.ensures.children
     ∙ ap children_of (sym (found_in _ _ c.self.inside.limit c.self.inside.floating.items _ c.self.invariant.0 c.self.view_is _ ∙ ap object_in here))
 
+-- as many were made as before
+many : (old new : Objects) (weak : Marks) (id : ℕ) → IsSome (living old id) → new ≡ updated (emptied weak) id old → length new ≡ length old
+many old new weak id live e = ap (λ (os : Objects). length os) e ∙ length_updated (emptied weak) old id (was_made old id live).1
+
+pub returns-in_default-clause-made : goal.returns-in_default-clause-made
+returns-in_default-clause-made c =
+    let none = sym c.get_mut.ensures.value ∙ ap option_copied_mut c.in_default.is in
+    absurd (not_absent _ _ c.self.inside.limit c.self.inside.floating.items _ c.self.invariant.0 c.self.view_is _ none c.requires.live)
+
+pub returns-clause-made : goal.returns-clause-made
+returns-clause-made c = many c.args.self.now.objects _ c.args.weak.now c.args.id.0 c.requires.live (returns-clause-objects c)
+
 pub returns-clause-given : goal.returns-clause-given
 returns-clause-given c child some =
     let here = sym c.get_mut.ensures.value ∙ ap option_copied_mut c.in-Some.is in
     let children = c.dispose.ensures.children
     ∙ ap children_of (sym (found_in _ _ c.self.inside.limit c.self.inside.floating.items _ c.self.invariant.0 c.self.view_is _ ∙ ap object_in here)) in
-    children_made (get nat_cmp c.self.inside.instances) _ c.self.inside.limit c.self.inside.floating.items _ c.self.invariant.0 c.self.view_is c.self.invariant.2 c.args.id.0
-    child (subst (λ is. 0 < total (same child) is) children some)
+    let small = children_made (get nat_cmp c.self.inside.instances) _ c.self.inside.limit c.self.inside.floating.items _ c.self.invariant.0 c.self.view_is c.self.invariant.2 c.args.id.0
+    child (subst (λ is. 0 < total (same child) is) children some) in
+    omega (arith, small, returns-clause-made c)
