@@ -6,7 +6,7 @@ use Rattle.ui_machine.specs.Definition.Names.{canonical, same_name}
 use Rattle.ui_machine.specs.Definition.Signals.{Accumulator, ClassHandler, Signal, first_wins, true_handled}
 use Rattle.ui_machine.specs.Definition.Types.{GType}
 use Rattle.ui_machine.specs.Rules.Ancestry.{lineage}
-use Rattle.ui_machine.specs.Rules.EmissionPlan.{first_given, handler_in}
+use Rattle.ui_machine.specs.Rules.EmissionPlan.{Planned, first_given, handler_in}
 use Rattle.ui_machine.specs.Seq.{read, total}
 use Rattle.type_tree.specs.PropertyName.{is_property_name}
 use Rattle.signal_core.specs.Sources.{number_named, own_of, signals_of}
@@ -97,6 +97,17 @@ named_of handlers t = read [] handlers t
 -- the program that a class or else its nearest ancestor names for a signal
 abbrev pub class_handler_named : List GType → List (List ClassHandler) → ℕ → List ℕ → Option ℕ
 class_handler_named types handlers t name = first_given (λ c. handler_in (named_of handlers c) name) (lineage types t)
+
+-- what the turns of an emission of a type's signal are taken from, where it makes no transfers
+abbrev pub planned_for : List GType → List (List ClassHandler) → (t object number : ℕ) → (detail : Option (List ℕ)) → Signal → Planned
+planned_for types handlers t object number detail s = record {
+  object = object;
+  signal = number;
+  detail = detail;
+  flags = s.flags;
+  class_program = class_handler_named types handlers t s.name;
+  transfers = [];
+}
 
 -- a class handler of this name with a program
 abbrev pub with_program : List ℕ → ℕ → ClassHandler → ClassHandler

@@ -52,8 +52,8 @@ impl SignalTable {
         }
     }
 
-    // The same, by the signal's canonical name.
-    fn handler_named(&self, tree: &TypeTree, t: TypeId, name: &str) -> Option<u16>
+    /// The same, by the signal's canonical name.
+    pub(crate) fn handler_named(&self, tree: &TypeTree, t: TypeId, name: &str) -> Option<u16>
         ensures { result ≡ class_handler_named tree.now self.now.handlers t name.now }
     {
         if let Some(program) = self.own_handler(t, name) {

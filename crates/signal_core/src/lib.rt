@@ -12,6 +12,7 @@
 //! walk, whose turns still to come are taken from the handlers as they stand.
 #![tactic(auto)]
 
+mod beginning;
 mod class_handler;
 mod class_handlers;
 mod connected;
