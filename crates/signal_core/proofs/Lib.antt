@@ -9,3 +9,4 @@ pub mod Once
 pub mod Walks
 pub mod Lists
 pub mod Naming
+pub mod Inherited

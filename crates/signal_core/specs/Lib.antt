@@ -5,3 +5,4 @@ pub mod Growing
 pub mod SignalView
 pub mod Sources
 pub mod Table
+pub mod TableLaws

@@ -24,8 +24,8 @@ impl SignalTable {
     ) -> Option<Emission>
         ensures { (greatest : ℕ) → option_map (λ e. begun e greatest) result
             ≡ option_map (λ s. walk_for greatest s.accumulator
-                (planned_for tree.now self.now.handlers t object.0 number (option_map (λ d. string_bytes d) detail) s))
-                (slice_get (signals_of tree.now self.now.signals t) number) }
+            (planned_for tree.now self.now.handlers t object.0 number (option_map (λ d. string_bytes d) detail) s))
+            (slice_get (signals_of tree.now self.now.signals t) number) }
     {
         match self.signal(tree, t, number) {
             Some(signal) => Some(Emission {
