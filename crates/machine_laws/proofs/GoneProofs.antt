@@ -852,10 +852,11 @@ module _ (gone : ℕ → Bool) (d : Definition) where
   asks_after c None = asks_first c.world c.agenda
   asks_after c (Some id) = refl
 
-  steps_first : (reply : Option Reply) (c : Config) → AreGone gone c.world → is_next gone c.agenda ≡ false → (id : Option ℕ)
+  steps_first : (reply : Option Reply) (c : Config) → AreGone gone c.world → (id : Option ℕ) → (id ≡ None → is_next gone c.agenda ≡ false)
       → first_of d reply (pruned_at gone c) id ≡ mapped (pruned_at gone) (first_of d reply c id)
-  steps_first reply c apart stands None = sym (acts c.world apart reply c.agenda c.counted stands)
-  steps_first reply c apart stands (Some id) = sym (is_counted c.agenda c.counted (finalising d c.world id) (finalising d c.world id) (is_finalised c.world id))
+  steps_first reply c apart None stands = sym (acts c.world apart reply c.agenda c.counted (stands refl))
+  steps_first reply c apart (Some id) stands =
+      sym (is_counted c.agenda c.counted (finalising d c.world id) (finalising d c.world id) (is_finalised c.world id))
 
   -- ** turns that are gone
 
@@ -909,7 +910,8 @@ question_does_without gone d c =
 
 pub step_does_without : StepsDoWithout
 step_does_without gone d reply c apart stands =
-    ap (first_of d reply (pruned_at gone c)) (unheld_as gone d c) ∙ steps_first gone d reply c apart stands (next_unheld (mentions d c) c.world.objects)
+    ap (first_of d reply (pruned_at gone c)) (unheld_as gone d c)
+    ∙ steps_first gone d reply c apart (next_unheld (mentions d c) c.world.objects) stands
 
 pub gone_turns_pass : GoneTurnsPass
 gone_turns_pass gone d reply c apart held is =

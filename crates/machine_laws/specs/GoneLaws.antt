@@ -49,7 +49,8 @@ GoneTurnsPass =
 -- each other step leads to the same without them: no line, count or result is another one, and it is stuck by the same arm
 abbrev pub StepsDoWithout : Type 0
 StepsDoWithout =
-    (gone : ℕ → Bool) (d : Definition) (reply : Option Reply) (c : Config) → AreGone gone c.world → is_next gone c.agenda ≡ false →
+    (gone : ℕ → Bool) (d : Definition) (reply : Option Reply) (c : Config) → AreGone gone c.world →
+    (next_unheld (mentions d c) c.world.objects ≡ None → is_next gone c.agenda ≡ false) →
     step d reply (pruned_at gone c) ≡ mapped (pruned_at gone) (step d reply c)
 
 -- and it asks the same of peers
