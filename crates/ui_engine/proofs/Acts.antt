@@ -21,7 +21,7 @@ use Rattle.ui_machine.specs.Rules.Programs.{first_frame, all_fit, fits_register,
 use Rattle.ui_machine.specs.Rules.EmissionPlan.{notifying, notification}
 use Rattle.ui_machine.specs.Rules.Accumulation.{resulting, passed_down, told, ending}
 use Rattle.ui_machine.specs.Rules.Construction.{not_forward, initially_unowned, making, with_object, new_object, thawing_made, constructed, making_set}
-use Rattle.ui_machine.specs.Rules.Sets.{setting, spec_at}
+use Rattle.ui_machine.specs.Rules.Sets.{setting, spec_at, is_disposed}
 use Rattle.ui_machine.specs.Steps.{most_steps, before, uncounted, left, act}
 use Rattle.ui_machine.specs.Rules.Build.{building, building_forward}
 use Rattle.ui_machine.specs.Rules.Events.{carrying_set, carrying_get}
@@ -40,8 +40,8 @@ use Rattle.ui_engine.specs.Holding.{making_of, IsHeld}
 use Rattle.ui_engine.specs.Measure.{sets_of_place, weight, waiting_in, waiting}
 use Rattle.ui_engine.specs.MakingView.{making_of_object}
 use Rattle.ui_engine.proofs.Lists.{total-append}
-use Rattle.ui_engine.proofs.Held.{Quietly, keeps_quietly, if_ok_at, bind_ok, changed_lives, made_held, ended_held}
-use Rattle.ui_engine.proofs.Quiet.{Calm, notifying_calm, setting_calm, building_forward_calm, carrying_set_calm, carrying_get_calm, thawing_calm}
+use Rattle.ui_engine.proofs.Held.{Quietly, keeps_quietly, if_ok_at, bind_ok, changed_lives, changed_whole, made_held, ended_held}
+use Rattle.ui_engine.proofs.Quiet.{Calm, frozen_spares, notifying_calm, setting_calm, building_forward_calm, carrying_set_calm, carrying_get_calm, thawing_calm}
 use Rattle.ui_engine.proofs.Falls.{Falls, setting_falls, thawing_falls, thawing_made_falls, building_forward_falls, carrying_set_falls, carrying_get_falls}
 use Rattle.ui_engine.proofs.Building.{few_steps, few_early, only_forwards, builds_next, next_made, made_there, abstract_there}
 
@@ -115,7 +115,7 @@ module _ (d : Definition) (w : World) (rest : List Task) (n : ℕ) where
   ending_at : (e : Emission) (turns : List config.PlanEntry) → IsHeld w (Emitting e turns ∷ rest) → (v : World) → v.objects ≡ w.objects → v.builder ≡ w.builder → v.floating ≡ w.floating → IsPrefix w.transcript v.transcript
       → Passes d w (Emitting e turns) rest n (record { world = v; agenda = rest; counted = n })
   ending_at e turns held v objects builder floating grows = record {
-    held = keeps_quietly w (Emitting e turns) rest (record { world = v; tasks = [] }) held (record { lives = λ q h. subst (λ (os : Objects). is_some (living os q) ≡ true) objects h; builder = builder; floating = floating; grows = grows }) (λ o. refl);
+    held = keeps_quietly w (Emitting e turns) rest (record { world = v; tasks = [] }) held (record { lives = λ q h. subst (λ (os : Objects). is_some (living os q) ≡ true) objects h; whole = λ q h. subst (λ (os : Objects). is_disposed (living os q) ≡ false) (sym objects) h; builder = builder; floating = floating; grows = grows }) (λ o. refl);
     falls = λ _. let same = ap waiting objects in omega (arith, same);
     stays = λ _. refl;
     counts = λ yes. cc yes;
@@ -184,7 +184,7 @@ module _ (d : Definition) (w : World) (rest : List Task) (n : ℕ) where
 
       by : (b : Bool) → IfOk (only_if b arms.Flags (starts w (Setting id slot v ∷ Constructing id steps true ∷ []))) P
       by true = handing whole held refl (record { world = w; tasks = Setting id slot v ∷ Constructing id steps true ∷ [] })
-          (record { lives = λ q h. h; builder = refl; floating = refl; grows = prefix_same w.transcript })
+          (record { lives = λ q h. h; whole = λ q h. h; builder = refl; floating = refl; grows = prefix_same w.transcript })
           (λ o. omega arith)
           (record { less = omega arith })
       by false = tt
@@ -215,7 +215,7 @@ module _ (d : Definition) (w : World) (rest : List Task) (n : ℕ) where
       begins : IfOk (beginning_program d w program args) Begins
       begins = bind_ok (known arms.Code (program_at d program)) _ Begins (λ p _.
           only (all_fit (fits_register d w.objects) args p.params) (record { world = said d w (lines.run p.name); tasks = Running (first_frame program p args) ∷ [] })
-          (record { lives = λ q h. h; builder = refl; floating = refl; grows = prefix_one w.transcript _ }, (λ o. refl), omega arith, refl))
+          (record { lives = λ q h. h; whole = λ q h. h; builder = refl; floating = refl; grows = prefix_one w.transcript _ }, (λ o. refl), omega arith, refl))
 
   thaws_passes : (id : ℕ) (steps : List Making) → IsHeld w (Constructing id (config.thaws ∷ steps) true ∷ rest)
       → IfOk (uncounted rest n (thawing_made w id steps true)) (Passes d w (Constructing id (config.thaws ∷ steps) true) rest n)
@@ -233,7 +233,8 @@ module _ (d : Definition) (w : World) (rest : List Task) (n : ℕ) where
       hands : IfOk (thawing_made w id steps true) Hands
       hands = bind_ok (changed w.objects id frozen_less) _ Hands (λ r e.
           let h = if_ok_at (λ (r : After Objects (List ℕ)). (q : ℕ) → is_some (living r.state q) ≡ true → is_some (living w.objects q) ≡ true) (changed w.objects id frozen_less) r (changed_lives w.objects id frozen_less) e in
-          (record { lives = h; builder = refl; floating = refl; grows = prefix_same w.transcript }, λ o. omega arith))
+          let k = if_ok_at (λ (r : After Objects (List ℕ)). (q : ℕ) → is_disposed (living w.objects q) ≡ false → is_disposed (living r.state q) ≡ false) (changed w.objects id frozen_less) r (changed_whole w.objects id frozen_less frozen_spares) e in
+          (record { lives = h; whole = k; builder = refl; floating = refl; grows = prefix_same w.transcript }, λ o. omega arith))
 
   constructing_passes : (id : ℕ) (steps : List Making) → IsHeld w (Constructing id steps true ∷ rest) → IfOk (act d w None (Constructing id steps true ∷ rest) n) (Passes d w (Constructing id steps true) rest n)
   constructing_passes id [] held = constructed_passes id held
@@ -267,7 +268,7 @@ module _ (d : Definition) (w : World) (rest : List Task) (n : ℕ) where
       })
   made place p items at held = record {
     held = made_held w (said d (with_object d w (new_object d place p None)) (lines.construct (suc (length w.objects)) (type_of d p.class).name)) (Building (makes place ∷ items)) rest
-        (new_object d place p None) (is_a d.types p.class initially_unowned) (making_of_object w (specs_of d p.class) (not_forward place p.given)) (Building items) held (λ q. refl) refl refl refl;
+        (new_object d place p None) (is_a d.types p.class initially_unowned) (making_of_object w (specs_of d p.class) (not_forward place p.given)) (Building items) refl held (λ q. refl) refl refl refl;
     falls = λ _.
         let few = few_steps w (specs_of d p.class) (not_forward place p.given) in
         let early = few_early place p.given in
@@ -283,7 +284,7 @@ module _ (d : Definition) (w : World) (rest : List Task) (n : ℕ) where
       → IfOk (uncounted rest n (building d w (map item_of fs))) (Passes d w (Building (map item_of fs)) rest n)
   forward_passes [] held =
       steady (Building []) held (λ o. refl) refl (record { world = w; tasks = [] })
-      (record { quiet = record { lives = λ q h. h; builder = refl; floating = refl; grows = prefix_same w.transcript }; none = λ o. refl })
+      (record { quiet = record { lives = λ q h. h; whole = λ q h. h; builder = refl; floating = refl; grows = prefix_same w.transcript }; none = λ o. refl })
       (record { less = omega arith })
   forward_passes (f ∷ fs) held =
       steadily (Building (item_of f ∷ map item_of fs)) held (λ o. refl) refl (building_forward d w f.object f.slot f.to.0 (map item_of fs))
@@ -326,10 +327,10 @@ module _ (d : Definition) (w : World) (rest : List Task) (n : ℕ) where
 
   -- what the step of each task of the engine leads to
   pub acted : IsBasic d → (t : code.Task) (ts : List code.Task) → map (task_of d) ts ≡ rest → IsHeld w (task_of d t ∷ rest) → IfOk (act d w None (task_of d t ∷ rest) n) (Passes d w (task_of d t) rest n)
-  acted basic (tasks.Setting id slot v) ts same held = setting_passes id slot (value_view v) held
-  acted basic (tasks.Notifying id slot) ts same held = notifying_passes id slot held
-  acted basic (tasks.Emitting id class slot) ts same held = ending_passes (notification id (name_of d class slot)) ts same held
-  acted basic (tasks.Thawing id slots) ts same held = thawing_passes id slots held
-  acted basic (tasks.Constructing id steps) ts same held = constructing_passes id steps held
+  acted basic (tasks.Setting id slot v) ts same held = setting_passes id.0 slot (value_view v) held
+  acted basic (tasks.Notifying id slot) ts same held = notifying_passes id.0 slot held
+  acted basic (tasks.Emitting id class slot) ts same held = ending_passes (notification id.0 (name_of d class slot)) ts same held
+  acted basic (tasks.Thawing id slots) ts same held = thawing_passes id.0 slots held
+  acted basic (tasks.Constructing id steps) ts same held = constructing_passes id.0 steps held
   acted basic (tasks.Building place forwards) ts same held = building_passes basic place forwards held
   acted basic (tasks.Carrying event) ts same held = carrying_passes event held

@@ -1,5 +1,5 @@
 -- How the build begins: nothing lives, and objects are all that there is to make.
-use Rattle.std.proofs.Common.{◌≡◌, ℕ, zero, suc, true, List, [], ◌∷◌, ◌++◌, Some, is_some, slice_get, map, refl, sym, ap, subst, ◌∙◌, arith}
+use Rattle.std.proofs.Common.{◌≡◌, ℕ, zero, suc, true, false, List, [], ◌∷◌, ◌++◌, Some, is_some, slice_get, map, refl, sym, ap, subst, ◌∙◌, arith}
 use Rattle.std.proofs.lemmas.List.{append-nil}
 use Rattle.ui_machine.specs.Seq.{total}
 use Rattle.ui_machine.specs.Definition.{Definition}
@@ -10,6 +10,7 @@ use Rattle.ui_machine.specs.State.Config.{World}
 use Rattle.ui_machine.specs.State.References.{same}
 use Rattle.ui_machine.specs.Rules.Build.{made_items, forward_items, numbered, connected_items, build_items}
 use Rattle.builder_defs.specs.Meaning.{IsBasic}
+use Rattle.ui_machine.specs.Rules.Sets.{is_disposed}
 use Rattle.ui_engine.specs.Holding.{IsHeld}
 use Rattle.ui_engine.specs.declared.task.Forward.{Forward}
 use Rattle.ui_engine.specs.TaskView.{item_of, build_from}
@@ -18,9 +19,14 @@ nothing_lives : (os : Objects) (id : ℕ) → os ≡ [] → is_some (living os i
 nothing_lives os zero none h = let e : is_some (living [] 0) ≡ true = subst (λ (xs : Objects). is_some (living xs 0) ≡ true) none h in cc e
 nothing_lives os (suc i) none h = let e : is_some (living [] (suc i)) ≡ true = subst (λ (xs : Objects). is_some (living xs (suc i)) ≡ true) none h in cc e
 
+none_disposed : (os : Objects) (id : ℕ) → os ≡ [] → is_disposed (living os id) ≡ false
+none_disposed os zero none = refl
+none_disposed os (suc i) none = ap (λ (xs : Objects). is_disposed (living xs (suc i))) none
+
 pub none_held : (w : World) → w.objects ≡ [] → w.floating ≡ [] → IsHeld w []
 none_held w objects floating = record {
   lives = λ id some. absurd (nothing_lives w.objects id objects some);
+  whole = λ id. none_disposed w.objects id objects;
   floats = λ id some. absurd (let e : total (same id) w.floating ≡ 0 = ap (total (same id)) floating in omega (arith, e, some));
 }
 

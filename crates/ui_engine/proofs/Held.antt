@@ -1,5 +1,5 @@
 -- While the builder and constructions hold all objects, no object is without a mention.
-use Rattle.std.proofs.Common.{◌≡◌, ◌≢◌, ℕ, suc, ◌+◌, ◌<◌, ◌≤◌, Bool, true, false, cond, nat_eq, List, [], ◌∷◌, ◌++◌, length, Option, Some, None, is_some, Ok, Err, refl, sym, ap, subst, ◌∙◌, arith, inl, inr}
+use Rattle.std.proofs.Common.{◌≡◌, ◌≢◌, ℕ, zero, suc, ◌+◌, ◌<◌, ◌≤◌, Bool, true, false, cond, nat_eq, List, [], ◌∷◌, ◌++◌, length, Option, Some, None, is_some, Ok, Err, refl, sym, ap, subst, ◌∙◌, arith, inl, inr}
 use Rattle.std.specs.Prelude.{IfOk}
 use Rattle.std.proofs.lemmas.Bool.{cases_eq}
 use Rattle.std.proofs.lemmas.Bool.Decides.{nat_tests}
@@ -14,7 +14,8 @@ use Rattle.ui_machine.specs.State.References.{unheld_from, next_unheld, same, in
 use Rattle.ui_machine.specs.Prefix.{IsPrefix}
 use Rattle.ui_machine.proofs.Prefixes.{prefix_on}
 use Rattle.ui_engine.specs.Holding.{making_of, IsHeld}
-use Rattle.ui_engine.proofs.Lists.{living-beside, living-more, total-append, total-written}
+use Rattle.ui_machine.specs.Rules.Sets.{is_disposed}
+use Rattle.ui_engine.proofs.Lists.{living-put, living-beside, living-more, total-append, total-written}
 
 -- ** no object is without a mention
 
@@ -59,6 +60,7 @@ none_unmentioned d c held = none_unheld (mentions d c) 1 c.world.objects (λ k s
 
 pub record Quietly (w new : World) : Type 0 where
   pub lives : (q : ℕ) → is_some (living new.objects q) ≡ true → is_some (living w.objects q) ≡ true
+  pub whole : (q : ℕ) → is_disposed (living w.objects q) ≡ false → is_disposed (living new.objects q) ≡ false
   pub builder : new.builder ≡ w.builder
   pub floating : new.floating ≡ w.floating
   pub grows : IsPrefix w.transcript new.transcript
@@ -66,6 +68,7 @@ pub record Quietly (w new : World) : Type 0 where
 pub quietly_on : {w v new : World} → Quietly w v → Quietly v new → Quietly w new
 quietly_on p q = record {
   lives = λ i h. p.lives i (q.lives i h);
+  whole = λ i h. q.whole i (p.whole i h);
   builder = q.builder ∙ p.builder;
   floating = q.floating ∙ p.floating;
   grows = prefix_on p.grows q.grows;
@@ -92,6 +95,28 @@ changed_lives {X} os id change = by (living os id) refl
       | inr ne ↦ ap is_some (sym (living-beside os id q (Some new.state) ne)) ∙ h
     ])
 
+-- a change that disposes nothing
+abbrev pub Spares : {X : Type 0} → (Object → Answer (After Object X)) → Type 0
+Spares change = (x : Object) → IfOk (change x) (λ r. x.disposed ≡ false → r.state.disposed ≡ false)
+
+pub changed_whole : {X : Type 0} (os : Objects) (id : ℕ) (change : Object → Answer (After Object X)) → Spares change → IfOk (changed os id change) (λ r. (q : ℕ) → is_disposed (living os q) ≡ false → is_disposed (living r.state q) ≡ false)
+unfolding changed
+changed_whole {X} os zero change spares = tt
+changed_whole {X} os (suc i) change spares = by (living os (suc i)) refl
+  where
+    P : After Objects X → Type 0
+    P = λ r. (q : ℕ) → is_disposed (living os q) ≡ false → is_disposed (living r.state q) ≡ false
+
+    by : (o : Option Object) → living os (suc i) ≡ o → IfOk (known arms.Operand o >>= λ x. change x >>= λ new. Ok (record { state = put os (suc i) (Some new.state); answer = new.answer })) P
+    by None e = tt
+    by (Some x) e = bind_ok (change x) (λ new. Ok (record { state = put os (suc i) (Some new.state); answer = new.answer })) P (λ new is q h. elim (cases_eq q (suc i)) [
+      | inl at ↦
+          let was : x.disposed ≡ false = ap is_disposed (sym e) ∙ ap (λ j. is_disposed (living os j)) (sym at) ∙ h in
+          let now : new.state.disposed ≡ false = if_ok_at (λ (r : After Object X). x.disposed ≡ false → r.state.disposed ≡ false) (change x) new (spares x) is was in
+          ap (λ j. is_disposed (living (put os (suc i) (Some new.state)) j)) at ∙ ap is_disposed (living-put os (suc i) (Some new.state) (omega arith)) ∙ now
+      | inr ne ↦ ap is_disposed (living-beside os (suc i) q (Some new.state) ne) ∙ h
+    ])
+
 -- a step that keeps them and hands on its part of the constructions
 pub keeps_quietly : (w : World) (t : Task) (rest : List Task) (s : Started) → IsHeld w (t ∷ rest) → Quietly w s.world → ((o : ℕ) → total (making_of o) s.tasks ≡ making_of o t) → IsHeld s.world (s.tasks ++ rest)
 keeps_quietly w t rest s held quiet parts = record {
@@ -103,6 +128,7 @@ keeps_quietly w t rest s held quiet parts = record {
       let f : total (same id) s.world.floating ≡ total (same id) w.floating = ap (total (same id)) quiet.floating in
       let h = held.floats id (omega (arith, some, f)) in
       omega (arith, h, parts id, total-append (making_of id) s.tasks rest);
+  whole = λ id. quiet.whole id (held.whole id);
 }
 
 -- ** an object more
@@ -117,10 +143,20 @@ floats_more : (b : Bool) (q id : ℕ) (fl : List ℕ) → 0 < total (same q) (co
 floats_more true q id fl h = omega (arith, total-append (same q) fl (id ∷ []))
 floats_more false q id fl h = omega arith
 
-pub made_held : (w new : World) (t : Task) (rest : List Task) (o : Object) (b : Bool) (steps : List Making) (items : Task) → IsHeld w (t ∷ rest) → ((q : ℕ) → making_of q t ≡ 0)
+read-whole : (os : Objects) (o : Object) (i : ℕ) → o.disposed ≡ false → is_disposed (read None os i) ≡ false → is_disposed (read None (os ++ Some o ∷ []) i) ≡ false
+read-whole [] o zero fresh h = fresh
+read-whole [] o (suc i) fresh h = refl
+read-whole (x ∷ os) o zero fresh h = h
+read-whole (x ∷ os) o (suc i) fresh h = read-whole os o i fresh h
+
+whole-more : (os : Objects) (o : Object) (id : ℕ) → o.disposed ≡ false → is_disposed (living os id) ≡ false → is_disposed (living (os ++ Some o ∷ []) id) ≡ false
+whole-more os o zero fresh h = refl
+whole-more os o (suc i) fresh h = read-whole os o i fresh h
+
+pub made_held : (w new : World) (t : Task) (rest : List Task) (o : Object) (b : Bool) (steps : List Making) (items : Task) → o.disposed ≡ false → IsHeld w (t ∷ rest) → ((q : ℕ) → making_of q t ≡ 0)
     → new.objects ≡ w.objects ++ Some o ∷ [] → new.builder ≡ w.builder → new.floating ≡ cond b (w.floating ++ suc (length w.objects) ∷ []) w.floating
     → IsHeld new (Constructing (suc (length w.objects)) steps true ∷ items ∷ rest)
-made_held w new t rest o b steps items held none os builder floating = record {
+made_held w new t rest o b steps items fresh held none os builder floating = record {
   lives = λ id some. elim (cases_eq id (suc (length w.objects))) as (λ _. 0 < total (in_held id) new.builder + (same id (suc (length w.objects)) + (making_of id items + total (making_of id) rest))) [
     | inl is ↦ let e : same id (suc (length w.objects)) ≡ 1 = ap (same id) (sym is) ∙ same_self id in omega arith
     | inr ne ↦
@@ -140,6 +176,7 @@ made_held w new t rest o b steps items held none os builder floating = record {
             let y = none id in
             omega arith
       ];
+  whole = λ id. ap (λ (xs : Objects). is_disposed (living xs id)) os ∙ whole-more w.objects o id fresh (held.whole id);
 }
 
 -- ** the end of a construction
@@ -181,6 +218,7 @@ ended_held w id place rest new held = record {
         let h = held.floats q (omega arith) in
         omega (arith, h, z)
   ];
+  whole = held.whole;
 }
 
 -- nothing floats where nothing is under construction

@@ -1,14 +1,13 @@
-pub mod Shown
-pub mod Maps
 pub mod Lists
+pub mod Objects
 pub mod Held
 pub mod Quiet
 pub mod Strings
-pub mod Values
 pub mod Falls
 pub mod SpecAt
 pub mod PlainSets
 pub mod Left
+pub mod Marks
 pub mod Notified
 pub mod Built
 pub mod Acts

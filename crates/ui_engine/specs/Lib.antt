@@ -1,6 +1,5 @@
 pub mod GivenView
-pub mod ObjectView
-pub mod HeapView
+pub mod WeakView
 pub mod Holding
 pub mod View
 pub mod MakingView

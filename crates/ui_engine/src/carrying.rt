@@ -50,7 +50,7 @@ impl Engine {
     {
         let object = self.held(usize::from(place.0))?;
         let spec = self.spec_of(definition, object, slot)?;
-        let value = self.world.heap.value(object, slot)?;
+        let value = self.world.table.read(object, slot)?;
         if !spec.is_readable() {
             return Err(Halt::Stuck(Arm::Flags));
         }

@@ -12,12 +12,12 @@ ghost use Rattle.ui_engine.specs.Holding.{IsHeld};
 ghost use Rattle.ui_engine.specs.Stepping.{Carried};
 
 use crate::engine::Engine;
-use crate::heap::Heap;
 use crate::lines::Line;
 use crate::task::{Stack, Task};
 use crate::world::World;
 use builder_defs::Definition;
 use g_values::Value;
+use instances::{Table, WeakSlots};
 use std::alloc::{AllocError, Global};
 use ui_machine::Halt;
 
@@ -34,14 +34,14 @@ pub struct Reply {
 
 impl Engine {
     /// Nothing is built yet, and there is nothing to do.
-    pub fn new(alloc: Global) -> Self
+    pub fn new(alloc: Global, weak: WeakSlots, limit: u32) -> Self
         ensures { (d : machine.Definition) → world_of result.world ≡ first_world d [] }
     {
         Engine {
             world: World {
-                heap: Heap::new(alloc),
+                table: Table::new(alloc, limit),
+                weak,
                 builder: Vec::new(alloc),
-                floating: Vec::new(alloc),
                 transcript: Vec::new(alloc),
                 result: None,
             },

@@ -11,15 +11,14 @@ mod dispatches;
 mod engine;
 mod forwards;
 mod given;
-mod heap;
 mod lines;
 mod notifications;
-mod object;
 mod running;
 mod runs;
 mod session;
 mod sets;
 mod task;
+mod weak_slots;
 mod world;
 
 pub use dispatches::Reply;

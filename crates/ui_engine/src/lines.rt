@@ -20,29 +20,29 @@ pub enum Line<'a> {
     Build,
     /// An object is made.
     Construct {
-        object: u64,
+        object: ObjectId,
         class: &'a str,
     },
     /// A property is written.
     Set {
-        object: u64,
+        object: ObjectId,
         property: &'a str,
         value: &'a Value,
     },
     /// A value is not taken by its property.
     Refused {
-        object: u64,
+        object: ObjectId,
         property: &'a str,
         value: &'a Value,
     },
     /// A notification begins.
     Notify {
-        object: u64,
+        object: ObjectId,
         property: &'a str,
     },
     /// A property is read.
     Get {
-        object: u64,
+        object: ObjectId,
         property: &'a str,
         value: &'a Value,
     },
@@ -64,23 +64,23 @@ impl Line<'_> {
     {
         match self {
             Line::Build => String::from_str(alloc, "build"),
-            Line::Construct { object, class } => construct_line(alloc, object, class),
+            Line::Construct { object, class } => construct_line(alloc, object.0, class),
             Line::Set {
                 object,
                 property,
                 value,
-            } => value_line(alloc, types, "set #", object, property, value),
+            } => value_line(alloc, types, "set #", object.0, property, value),
             Line::Refused {
                 object,
                 property,
                 value,
-            } => value_line(alloc, types, "refused #", object, property, value),
-            Line::Notify { object, property } => notify_line(alloc, object, property),
+            } => value_line(alloc, types, "refused #", object.0, property, value),
+            Line::Notify { object, property } => notify_line(alloc, object.0, property),
             Line::Get {
                 object,
                 property,
                 value,
-            } => value_line(alloc, types, "get #", object, property, value),
+            } => value_line(alloc, types, "get #", object.0, property, value),
             Line::End { steps } => end_line(alloc, steps),
         }
     }

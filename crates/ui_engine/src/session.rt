@@ -11,6 +11,7 @@ use crate::dispatches::Reply;
 use crate::engine::Engine;
 use crate::forwards::forwards;
 use crate::task::Task;
+use crate::weak_slots::weak_slots;
 use builder_defs::{Definition, Event};
 use std::alloc::Global;
 use std::marker::Model;
@@ -97,7 +98,13 @@ impl Session {
         ensures refused { IfErr result (λ refused. refused.definition ≡ definition) }
     {
         let _types = definition.types();
-        let mut engine = Engine::new(alloc);
+        let Ok(weak) = weak_slots(alloc, &definition) else {
+            return Err(Refused {
+                fault: StartFault::OutOfMemory,
+                definition,
+            });
+        };
+        let mut engine = Engine::new(alloc, weak, definition.limits().objects);
         let Ok(()) = engine.announce() else {
             return Err(Refused {
                 fault: StartFault::OutOfMemory,

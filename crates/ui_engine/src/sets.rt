@@ -14,18 +14,20 @@ ghost use Rattle.g_values.specs.View.{kind_view, value_view};
 ghost use Rattle.param_specs.specs.View.{spec_view};
 ghost use Rattle.builder_defs.specs.Meaning.{IsPlain};
 ghost use Rattle.ui_engine.specs.View.{world_of, with_line};
-ghost use Rattle.ui_engine.specs.ObjectView.{Shows, named_in};
+ghost use Rattle.instances.specs.Store.{Shows, id_of, named_by};
 ghost use Rattle.ui_engine.specs.TaskView.{agenda_of};
 ghost use Rattle.ui_engine.specs.EngineView.{config_of};
+ghost use Rattle.ui_engine.specs.Holding.{NoneDisposed};
 
 use crate::engine::Engine;
-use crate::heap::Heap;
 use crate::lines::Line;
 use crate::task::Task;
 use builder_defs::Definition;
 use g_values::{Kind, Value, is_same};
+use instances::Table;
 use param_specs::{Spec, validate};
 use std::alloc::AllocError;
+use type_tree::TypeId;
 use ui_machine::{Arm, Halt, ObjectId};
 
 // Whether a value is one of the kind, its members, range and class left aside.
@@ -61,28 +63,39 @@ fn refuses(spec: &Spec, is_changed: bool) -> bool
 }
 
 // The object that a value names, if it names one.
-fn named(value: &Value) -> Option<u64>
-    ensures { result ≡ named_in (value_view value.now) }
+fn named(value: &Value) -> Option<ObjectId>
+    ensures { id_of result ≡ named_by (value_view value.now) }
 {
     match value {
-        Value::Object(_, Some(id)) => Some(id.0),
+        Value::Object(_, id) => *id,
         _ => None,
     }
 }
 
+// The class of an object, if it lives.
+fn living_class(table: &Table, id: ObjectId) -> Option<TypeId>
+    ensures { result ≡ class_in table.now.objects id.0 }
+{
+    match table.class_of(id) {
+        Ok(class) => Some(class),
+        Err(_) => None,
+    }
+}
+
 // A value by the class of the object that it names, which must live.
-fn classed(heap: &Heap, value: Value) -> Result<Value, Arm>
-    ensures value { Shows value_view result (only_if (lives heap.now (value_view value)) arms.Value (Ok (value_view value))) }
-    ensures class { IfOk result (λ v. KnowsClass (class_in heap.now) v) }
-    ensures stands { IfOk result (λ v. unless_disposed heap.now (value_view v) ≡ value_view v) }
+fn classed(table: &Table, value: Value) -> Result<Value, Arm>
+    requires whole { NoneDisposed table.now.objects }
+    ensures value { Shows value_view result (only_if (lives table.now.objects (value_view value)) arms.Value (Ok (value_view value))) }
+    ensures class { IfOk result (λ v. KnowsClass (class_in table.now.objects) v) }
+    ensures stands { IfOk result (λ v. unless_disposed table.now.objects (value_view v) ≡ value_view v) }
 {
     let Some(id) = named(&value) else {
         return Ok(value);
     };
-    let Some(class) = heap.living_class(id) else {
+    let Some(class) = living_class(table, id) else {
         return Err(Arm::Value);
     };
-    Ok(Value::Object(class, Some(ObjectId(id))))
+    Ok(Value::Object(class, Some(id)))
 }
 
 impl Engine {
@@ -91,14 +104,14 @@ impl Engine {
     pub(crate) fn spec_of<'a>(
         &self,
         definition: &'a Definition,
-        object: u64,
+        object: ObjectId,
         slot: u16,
     ) -> Result<&'a Spec, Arm>
-        ensures spec { Shows (λ s. spec_view s.now) result (spec_at definition.now (world_of self.now.world).objects object slot) }
+        ensures spec { Shows (λ s. spec_view s.now) result (spec_at definition.now (world_of self.now.world).objects object.0 slot) }
         ensures plain { IfOk result (λ s. IsPlain definition.now.types (spec_view s.now)) }
     {
         let _types = definition.types();
-        let class = self.world.heap.class_of(object)?;
+        let class = self.world.table.class_of(object)?;
         let Some(spec) = definition.spec(class, slot) else {
             return Err(Arm::Code);
         };
@@ -110,13 +123,13 @@ impl Engine {
     fn say_and_raise(
         &mut self,
         definition: &Definition,
-        object: u64,
+        object: ObjectId,
         slot: u16,
         line: String,
         is_told: bool,
     ) -> Result<(), Halt>
         ensures step { Goes result
-            (uncounted (agenda_of definition.now self.old.stack) self.old.counted (raising_if is_told (with_line (string_bytes line) (world_of self.old.world)) object slot))
+            (uncounted (agenda_of definition.now self.old.stack) self.old.counted (raising_if is_told (with_line (string_bytes line) (world_of self.old.world)) object.0 slot))
             (config_of definition.now self.new) }
         ensures quiet { OnErr result ((world_of self.new.world).transcript ≡ (world_of self.old.world).transcript) }
     {
@@ -125,7 +138,7 @@ impl Engine {
             self.world.say(line)?;
             return Ok(());
         }
-        if self.world.heap.raise(object, slot)? {
+        if self.world.table.add(object, slot)? {
             self.stack.push(Task::Notifying { object, slot })?;
             self.world.say(line)?;
             return Ok(());
@@ -139,13 +152,13 @@ impl Engine {
     fn put(
         &mut self,
         definition: &Definition,
-        object: u64,
+        object: ObjectId,
         slot: u16,
         spec: &Spec,
         value: Value,
     ) -> Result<(), Halt>
         ensures step { Goes result
-            (uncounted (agenda_of definition.now self.old.stack) self.old.counted (written definition.now (world_of self.old.world) object slot (spec_view spec.now) (value_view value)))
+            (uncounted (agenda_of definition.now self.old.stack) self.old.counted (written definition.now (world_of self.old.world) object.0 slot (spec_view spec.now) (value_view value)))
             (config_of definition.now self.new) }
         ensures quiet { OnErr result ((world_of self.new.world).transcript ≡ (world_of self.old.world).transcript) }
     {
@@ -155,7 +168,10 @@ impl Engine {
             value: &value,
         };
         let line = told.text(self.alloc, definition.types())?;
-        let old = self.world.heap.write(object, slot, value.copied()?)?;
+        let old = self
+            .world
+            .table
+            .write(&self.world.weak, object, slot, value.copied()?)?;
         let is_told = notifies(spec, &old, &value);
         self.say_and_raise(definition, object, slot, line, is_told)
     }
@@ -164,11 +180,11 @@ impl Engine {
     pub(crate) fn refuse(
         &mut self,
         definition: &Definition,
-        object: u64,
+        object: ObjectId,
         name: &str,
         value: &Value,
     ) -> Result<(), AllocError>
-        ensures ok { OnOk result (world_of self.new.world ≡ said definition.now (world_of self.old.world) (lines.refused object name.now (value_view value.now))) }
+        ensures ok { OnOk result (world_of self.new.world ≡ said definition.now (world_of self.old.world) (lines.refused object.0 name.now (value_view value.now))) }
         ensures err { OnErr result (world_of self.new.world ≡ world_of self.old.world) }
         ensures same { (self.new.stack ≡ self.old.stack) × (self.new.counted ≡ self.old.counted) }
     {
@@ -186,12 +202,13 @@ impl Engine {
     pub(crate) fn setting(
         &mut self,
         definition: &Definition,
-        object: u64,
+        object: ObjectId,
         slot: u16,
         value: Value,
     ) -> Result<(), Halt>
+        requires whole { NoneDisposed (world_of self.now.world).objects }
         ensures step { Goes result
-            (uncounted (agenda_of definition.now self.old.stack) self.old.counted (setting definition.now (world_of self.old.world) object slot (value_view value)))
+            (uncounted (agenda_of definition.now self.old.stack) self.old.counted (setting definition.now (world_of self.old.world) object.0 slot (value_view value)))
             (config_of definition.now self.new) }
         ensures quiet { OnErr result ((world_of self.new.world).transcript ≡ (world_of self.old.world).transcript) }
     {
@@ -199,7 +216,7 @@ impl Engine {
         if !has_kind(&value, spec.kind) {
             return Err(Halt::Stuck(Arm::Value));
         }
-        let known = classed(&self.world.heap, value)?;
+        let known = classed(&self.world.table, value)?;
         let original = known.copied()?;
         let (valid, is_changed) = validate(definition.types(), spec, known);
         if refuses(spec, is_changed) {

@@ -29,7 +29,7 @@ returns-clause-carried c =
       record { at = e; reached = reached; ended = ran.1; counts = refl; leaves = sym said },
       c.in_ok-result.ensures ∙ ap (λ (w : World). w.result) (sym said),
       refl,
-      subst (λ (w : World). IsHeld w []) (sym said) (record { lives = held.lives; floats = held.floats }),
+      subst (λ (w : World). IsHeld w []) (sym said) (record { lives = held.lives; floats = held.floats; whole = held.whole }),
     )
 
 pub returns-clause-grows : goal.returns-clause-grows

@@ -6,7 +6,7 @@ use Rattle.ui_machine.specs.Definition.Values.{Value}
 use Rattle.ui_machine.specs.State.Config.{World, said}
 use Rattle.ui_machine.specs.Rules.Construction.{with_object, new_object}
 use Rattle.builder_defs.specs.Meaning.{plain_place, given_property}
-use Rattle.ui_engine.specs.ObjectView.{made_object}
+use Rattle.instances.specs.Store.{made_object}
 use Rattle.ui_engine.specs.View.{world_of}
 use Rattle.ui_engine.proofs.Building.{made_there}
 use Rattle.ui_engine.proofs.Left.{left_with}
@@ -22,7 +22,7 @@ returns-clause-step c =
     let concrete : (type_of d class).is_abstract ≡ false = search rules in
     let made = made_there d c.types-types.ensures.basic w c.args.place place at concrete in
     let object : world_of c.add.new.self.world ≡ with_object d w (new_object d c.args.place place None) =
-    c.in_ok-object.ensures.world ∙ ap (λ (vs : List Value). with_object d w (made_object class c.args.place vs)) c.in_ok-values.ensures in
+    c.in_ok-object.ensures.world ∙ ap (λ (vs : List Value). with_object d w (made_object class c.args.place vs None)) c.in_ok-values.ensures in
     let line : string_bytes c.in_ok-line.line ≡ text_of_line d.types (lines.construct (suc (length w.objects)) (type_of d class).name) = rw (c.class_name.ensures, c.in_ok-object.ensures.identity) at c.in_ok-line.ensures in
     let pushed = c.in_ok-push.ensures d in
     let world : world_of c.say.new.self ≡ said d (with_object d w (new_object d c.args.place place None)) (lines.construct (suc (length w.objects)) (type_of d class).name) =

@@ -13,13 +13,13 @@ pub invariant_of-session : goal.invariant_of-session
 invariant_of-session c _ =
     let d = c.args.definition in
     let first = c.new-engine.ensures d in
-    let said = c.in-Ok.ensures in
+    let said = c.in-Ok-announce.ensures in
     none_held (world_of c.announce.new.self.world) (ap (λ (w : World). w.objects) said ∙ ap (λ (w : World). w.objects) first) (ap (λ (w : World). w.floating) said ∙ ap (λ (w : World). w.floating) first)
 
 pub returns-clause-built : goal.returns-clause-built
 returns-clause-built c =
     let d = c.args.definition in
-    let announced = c.in-Ok.ensures ∙ ap (λ w. said d w lines.build) (c.new-engine.ensures d) in
+    let announced = c.in-Ok-announce.ensures ∙ ap (λ w. said d w lines.build) (c.new-engine.ensures d) in
     let fs = c.in-Ok-forwards.forwards in
     let items = only_objects d c.types-types.ensures.basic fs c.in-Ok-forwards.ensures in
     let start = ap (λ w. beginning w (Building (build_from d 0 fs))) announced ∙ ap (λ items. beginning (said d (first_world d []) lines.build) (Building items)) (sym items) in

@@ -1,0 +1,15 @@
+-- Which properties of a definition's types are marked weak.
+use Rattle.std.specs.Prelude.{◌≡◌, ℕ, ◌<◌, length, Bool, List, [], map}
+use Rattle.ui_machine.specs.Seq.{read}
+use Rattle.ui_machine.specs.Definition.{Definition}
+use Rattle.ui_machine.specs.Definition.Lookups.{specs_of}
+use Rattle.ui_machine.specs.Definition.Properties.{Spec}
+use Rattle.instances.specs.Weak.{Marks}
+
+-- of each slot, whether it is weak
+abbrev pub weak_of : List Spec → List Bool
+weak_of specs = map (λ (s : Spec). s.weak) specs
+
+-- the marks of each type are those of its properties
+abbrev pub KnowsTypes : Definition → Marks → Type 0
+KnowsTypes d weak = (class : ℕ) → class < length d.types → weak_of (specs_of d class) ≡ read [] weak class
