@@ -27,7 +27,7 @@ let_go_exact d beside s id there counted o =
     omega (arith, counted o, once, less_at s.counts id (count_of s.counts id - 1) 1 there refl o)
 
 -- what floats of an object, and what goes as it is taken out
-split : (id o : ℕ) (floats : List ℕ) → total (same o) (without id floats) + so_often (total (same id) floats) id o ≡ total (same o) floats
+pub split : (id o : ℕ) (floats : List ℕ) → total (same o) (without id floats) + so_often (total (same id) floats) id o ≡ total (same o) floats
 split id o floats = by (nat_eq id o) refl
   where
     by : (b : Bool) → nat_eq id o ≡ b → total (same o) (without id floats) + cond b (total (same id) floats) 0 ≡ total (same o) floats
@@ -51,7 +51,7 @@ forget_exact d beside s id counted o =
 
 -- ** one child more
 
-one_more : (o child : ℕ) (ids : List ℕ) → total (same o) (ids ++ child ∷ []) ≡ total (same o) ids + same o child
+pub one_more : (o child : ℕ) (ids : List ℕ) → total (same o) (ids ++ child ∷ []) ≡ total (same o) ids + same o child
 one_more o child [] = omega arith
 one_more o child (i ∷ is) = omega (arith, one_more o child is)
 
@@ -128,10 +128,10 @@ take_child d o child os (suc i) =
     )
 
 pub leave_exact : LeaveCounts
-leave_exact d beside s n parent child made left counted o =
+leave_exact d beside s n parent child left counted o =
     let ms : Objects = updated (without_child child) parent s.objects in
     let objects : total (in_object d o) n.objects ≡ total (in_object d o) (updated (with_parent None) child ms) =
-    ap (λ (os : Objects). total (in_object d o) os) (left.objects made) in
+    ap (λ (os : Objects). total (in_object d o) os) left.objects in
     let floats : total (same o) n.floating ≡ total (same o) s.floating = ap (λ (is : List ℕ). total (same o) is) left.floating in
     omega (arith, objects, floats, put_parent d o None ms child, take_child d o child s.objects parent, counted o, left.counts o)
 

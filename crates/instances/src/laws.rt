@@ -1,6 +1,6 @@
 //! Laws about what objects hold, over the machine's definitions.
 
-ghost use Rattle.instances.specs.Laws.{WritesMove, WriteCounts, DisposeMoves, FinaliseMoves, CountsFind, HoldCounts, LetGoCounts, SinkCounts, ForgetCounts, JoinCounts, LeaveCounts, CountedFinds};
+ghost use Rattle.instances.specs.Laws.{WritesMove, WriteCounts, DisposeMoves, FinaliseMoves, CountsFind, CreateCounts, MadeHoldsNothing, FloatCounts, HoldCounts, LetGoCounts, SinkCounts, ForgetCounts, JoinCounts, LeaveCounts, CountedFinds};
 
 /// A strong property that is written moves one mention.
 pub fn writing_moves()
@@ -22,7 +22,22 @@ pub fn counts_find()
     ensures { CountsFind }
 {}
 
-/// Exact counts stay exact where something is held once more.
+/// An object that the machine makes holds nothing.
+pub fn made_holds_nothing()
+    ensures { MadeHoldsNothing }
+{}
+
+/// Exact counts stay exact where an object is made of what was held.
+pub fn create_counts()
+    ensures { CreateCounts }
+{}
+
+/// They stay exact where an object begins floating.
+pub fn float_counts()
+    ensures { FloatCounts }
+{}
+
+/// They stay exact where something is held once more.
 pub fn hold_counts()
     ensures { HoldCounts }
 {}

@@ -19,8 +19,9 @@ mod weak;
 
 pub use error::{AdoptError, CreateError};
 pub use laws::{
-    counted_finds, counts_find, disposing_moves, finalising_moves, forget_counts, hold_counts,
-    join_counts, leave_counts, let_go_counts, sink_counts, write_counts, writing_moves,
+    counted_finds, counts_find, create_counts, disposing_moves, finalising_moves, float_counts,
+    forget_counts, hold_counts, join_counts, leave_counts, let_go_counts, made_holds_nothing,
+    sink_counts, write_counts, writing_moves,
 };
 pub use object::Object;
 pub use table::Table;

@@ -39,11 +39,13 @@ impl Model for Table {
 
     ghost use Rattle.std.specs.Ordering.{nat_cmp};
     ghost use Rattle.std.specs.BTreeMap.{get};
-    ghost use Rattle.instances.specs.View.{store_of, InRange, IsSettled};
+    ghost use Rattle.instances.specs.View.{store_of, InRange, IsSettled, KinInRange};
 
     ghost view = { λ t. store_of (get nat_cmp t.instances) t.made t.limit t.floating.items };
 
-    ghost invariant = { λ t. InRange (get nat_cmp t.instances) t.made × IsSettled (get nat_cmp t.instances) t.settled };
+    ghost invariant = { λ t. InRange (get nat_cmp t.instances) t.made
+        × IsSettled (get nat_cmp t.instances) t.settled
+        × KinInRange (get nat_cmp t.instances) t.made };
 }
 
 impl Table {
@@ -74,8 +76,10 @@ impl Table {
         u64::from(to_come) < u64::MAX - self.made
     }
 
-    /// One more object, which nothing holds yet, under the next identity.
+    /// One more object, which nothing holds yet, under the next identity. It has neither children nor a parent.
     pub fn create(&mut self, object: Object) -> Result<ObjectId, CreateError>
+        requires childless { object.children ≡ [] }
+        requires parentless { object.parent ≡ None }
         ensures { Creates result object self.old self.new }
     {
         self.settled = false;

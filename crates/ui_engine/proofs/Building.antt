@@ -113,7 +113,7 @@ module _ (d : Definition) (basic : IsBasic d) where
         let given = not_forward place p.given in
         ap (λ runs. construct_sets w given 0 specs ++ (runs ++ later_steps w specs given)) (no_runs p.class)
 
-    valid_defaults : list_all (has_valid_default d) (specs_of d p.class) ≡ true
+    pub valid_defaults : list_all (has_valid_default d) (specs_of d p.class) ≡ true
     valid_defaults = each_valid d (specs_of d p.class) (λ i s has. basic.plain p.class i s has)
 
     pub made_there : (type_of d p.class).is_abstract ≡ false

@@ -133,7 +133,7 @@ keeps_quietly w t rest s held quiet parts = record {
 
 -- ** an object more
 
-same_self : (o : ℕ) → same o o ≡ 1
+pub same_self : (o : ℕ) → same o o ≡ 1
 same_self o = grind (arith, nat_tests)
 
 same_other : (o i : ℕ) → i ≢ o → same o i ≡ 0
@@ -198,7 +198,7 @@ without_less id q [] = omega arith
 without_less id q (i ∷ fl) = less_with q i (without id fl) fl (nat_eq i id) (without_less id q fl)
 
 -- a place that the builder has not come to holds nothing
-holds_nothing : (q : ℕ) (h : Held) → is_unbuilt h ≡ true → in_held q h ≡ 0
+pub holds_nothing : (q : ℕ) (h : Held) → is_unbuilt h ≡ true → in_held q h ≡ 0
 holds_nothing q unbuilt e = refl
 holds_nothing q (built id) e = absurd (cc)
 holds_nothing q released e = refl

@@ -8,6 +8,7 @@ pub mod SpecAt
 pub mod PlainSets
 pub mod Left
 pub mod Marks
+pub mod Counts
 pub mod Notified
 pub mod Built
 pub mod Acts

@@ -1,8 +1,7 @@
 -- Objects by identity: their class, and one that is just made.
-use Rattle.std.proofs.Common.{◌≡◌, ℕ, suc, [], ◌∷◌, ◌++◌, length, Option, Some, None, IsSome, is_some, Ok, Err, refl, sym, ap}
+use Rattle.std.proofs.Common.{◌≡◌, ℕ, Option, Some, None, Ok, Err, refl, sym, ap, ◌∙◌}
 use Rattle.ui_machine.specs.declared.arm.Arm.{Arm}
 use Rattle.ui_machine.specs.declared.arm.Arm.TheVariants as arms
-use Rattle.ui_machine.specs.Seq.{read}
 use Rattle.ui_machine.specs.Outcome.{known, ◌>>=◌}
 use Rattle.ui_machine.specs.State.Objects.{Object, Objects, living, class_in, asked}
 
@@ -22,10 +21,8 @@ class_absent os id arm = by (living os id) refl
     by None is h = rw is refl
     by (Some x) is h = cc h
 
-read-last : (os : Objects) (o : Object) → read None (os ++ Some o ∷ []) (length os) ≡ Some o
-read-last [] o = refl
-read-last (x ∷ os) o = read-last os o
-
--- an object that was just made lives
-pub made_lives : (os new : Objects) (o : Object) (id : ℕ) → new ≡ os ++ Some o ∷ [] → id ≡ suc (length os) → IsSome (living new id)
-made_lives os new o id is at = rw (is, at) (ap is_some (read-last os o))
+pub class_here : (os : Objects) (id class : ℕ) (x : Object) → asked os id (λ o. Ok o.class) ≡ Ok class → living os id ≡ Some x → class ≡ x.class
+unfolding asked
+class_here os id class x h here =
+    let e : (known arms.Operand (Some x) >>= λ (o : Object). Ok o.class) ≡ Ok class = ap (λ (o : Option Object). known arms.Operand o >>= λ y. Ok y.class) (sym here) ∙ h in
+    cc e

@@ -7,5 +7,6 @@ pub mod LineView
 pub mod TaskView
 pub mod Measure
 pub mod EngineView
+pub mod Counting
 pub mod Stepping
 pub mod SessionView

@@ -7,10 +7,20 @@ use Rattle.ui_machine.specs.Steps.{most_steps}
 use Rattle.ui_machine.specs.Runs.{Step, Reaches, HasEnded, HaltsAt, Dispatches, Halts}
 use Rattle.g_values.specs.View.{value_view}
 use Rattle.ui_engine.specs.declared.dispatches.Reply.{Reply}
+use Rattle.ui_engine.specs.declared.engine.Engine.{Engine}
+use Rattle.ui_engine.specs.View.{world_of}
+use Rattle.ui_engine.specs.TaskView.{agenda_of}
+use Rattle.ui_engine.specs.Counting.{Counts, nothing}
 use Rattle.ui_engine.specs.Holding.{IsHeld}
 use Rattle.ui_engine.specs.Measure.{work}
 use Rattle.ui_engine.specs.declared.engine.Made.{Made}
 use Rattle.ui_engine.specs.declared.engine.Made.TheVariants as mades
+
+-- an engine with nothing left to do: each living object is held, and each is counted as often as it is mentioned
+pub record IsAtRest (d : Definition) (e : Engine) : Type 0 where
+  pub held : IsHeld (world_of e.world) []
+  pub counts : Counts d nothing e
+  pub idle : agenda_of d e.stack ≡ []
 
 -- one step: an uncounted one leaves less work, and a counted one was still to be had
 abbrev pub Stepped : Result Made Halt → Definition → Config → Config → Type 0
@@ -33,5 +43,5 @@ Ran (Err halt) d c e = Halts d [] c halt e.world.transcript
 -- a whole dispatch, or how far it came
 abbrev pub Carried : Result Reply Halt → Definition → Config → World → Type 0
 Carried (Ok reply) d c new = Dispatches d [] c reply.steps new × (option_map value_view reply.result ≡ new.result)
-    × (reply.dispatches ≡ 1) × IsHeld new []
+    × (reply.dispatches ≡ 1)
 Carried (Err halt) d c new = Halts d [] c halt new.transcript

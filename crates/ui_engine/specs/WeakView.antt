@@ -11,5 +11,6 @@ abbrev pub weak_of : List Spec → List Bool
 weak_of specs = map (λ (s : Spec). s.weak) specs
 
 -- the marks of each type are those of its properties
-abbrev pub KnowsTypes : Definition → Marks → Type 0
-KnowsTypes d weak = (class : ℕ) → class < length d.types → weak_of (specs_of d class) ≡ read [] weak class
+pub record KnowsTypes (d : Definition) (weak : Marks) : Type 0 where
+  pub types : length weak ≡ length d.types
+  pub at : (class : ℕ) → class < length d.types → weak_of (specs_of d class) ≡ read [] weak class

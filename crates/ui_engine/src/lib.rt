@@ -11,6 +11,7 @@ mod dispatches;
 mod engine;
 mod forwards;
 mod given;
+mod holding;
 mod lines;
 mod notifications;
 mod running;

@@ -1,5 +1,7 @@
 //! Runs: steps until nothing is left to do.
 
+ghost use Rattle.std.specs.Prelude.{OnOk};
+ghost use Rattle.ui_engine.specs.Counting.{Counts, nothing};
 ghost use Rattle.ui_engine.specs.View.{world_of};
 ghost use Rattle.ui_engine.specs.TaskView.{agenda_of};
 ghost use Rattle.ui_engine.specs.EngineView.{config_of};
@@ -8,6 +10,7 @@ ghost use Rattle.ui_engine.specs.Holding.{IsHeld};
 ghost use Rattle.ui_engine.specs.Stepping.{Stepped, Advanced, Ran};
 
 use crate::engine::{Engine, Made};
+use crate::holding::let_go_any;
 use builder_defs::Definition;
 use ui_machine::Halt;
 
@@ -15,6 +18,8 @@ impl Engine {
     // Makes the step of the first task, if there is one.
     fn step(&mut self, definition: &Definition) -> Result<Made, Halt>
         requires held { IsHeld (world_of self.now.world) (agenda_of definition.now self.now.stack) }
+        requires counted { Counts definition.now nothing self.now }
+        ensures counted { OnOk result (Counts definition.now nothing self.new) }
         ensures stepped { Stepped result definition.now (config_of definition.now self.old) (config_of definition.now self.new) }
         ensures grows { IsPrefix (world_of self.old.world).transcript (world_of self.new.world).transcript }
     {
@@ -22,12 +27,17 @@ impl Engine {
         let Some(task) = self.stack.pop() else {
             return Ok(Made::Nothing);
         };
-        self.act(definition, task)
+        let held = task.object();
+        let made = self.act(definition, task)?;
+        let_go_any(&mut self.world.table, held);
+        Ok(made)
     }
 
     // Makes steps until a counted one is made or none is left, and answers whether one was made.
     fn advance(&mut self, definition: &Definition) -> Result<bool, Halt>
         requires held { IsHeld (world_of self.now.world) (agenda_of definition.now self.now.stack) }
+        requires counted { Counts definition.now nothing self.now }
+        ensures counted { OnOk result (Counts definition.now nothing self.new) }
         ensures advanced { Advanced result definition.now (config_of definition.now self.old) (config_of definition.now self.new) }
         ensures grows { IsPrefix (world_of self.old.world).transcript (world_of self.new.world).transcript }
     {
@@ -43,6 +53,8 @@ impl Engine {
     /// Makes steps until none is left.
     pub(crate) fn run(&mut self, definition: &Definition) -> Result<(), Halt>
         requires held { IsHeld (world_of self.now.world) (agenda_of definition.now self.now.stack) }
+        requires counted { Counts definition.now nothing self.now }
+        ensures counted { OnOk result (Counts definition.now nothing self.new) }
         ensures ran { Ran result definition.now (config_of definition.now self.old) (config_of definition.now self.new) }
         ensures grows { IsPrefix (world_of self.old.world).transcript (world_of self.new.world).transcript }
     {

@@ -55,13 +55,13 @@ impl Model for Session {
     ghost use Rattle.ui_engine.specs.TaskView.{task_of};
     ghost use Rattle.ui_engine.specs.SessionView.{SessionState};
     ghost use Rattle.ui_engine.specs.View.{world_of};
-    ghost use Rattle.ui_engine.specs.Holding.{IsHeld};
+    ghost use Rattle.ui_engine.specs.Stepping.{IsAtRest};
 
     ghost Value = { SessionState };
 
     ghost view = { λ s. record { definition = s.definition; world = world_of s.engine.world; stopped = s.stopped } };
 
-    ghost invariant = { λ s. s.stopped ≡ false → IsHeld (world_of s.engine.world) [] };
+    ghost invariant = { λ s. s.stopped ≡ false → IsAtRest s.definition s.engine };
 }
 
 /// A session whose definition was built, or whose build stopped it.

@@ -1,14 +1,15 @@
 //! Sets of properties, and the notifications that they raise.
 
-ghost use Rattle.std.specs.Prelude.{◌≡◌, ◌&&◌, not, string_bytes, OnOk, OnErr, IfOk};
-ghost use Rattle.ui_machine.specs.Outcome.{Goes, only_if};
+ghost use Rattle.std.specs.Prelude.{◌≡◌, ◌<◌, length, Some, ◌&&◌, not, string_bytes, OnOk, OnErr, IfOk};
+ghost use Rattle.ui_machine.specs.Outcome.{Goes, Follows, only_if};
 ghost use Rattle.ui_machine.specs.Rules.Sets.{setting, written, raising_if, notifies, spec_at, has_kind, lives, unless_disposed};
-ghost use Rattle.ui_machine.specs.State.Objects.{class_in};
+ghost use Rattle.ui_machine.specs.State.Objects.{Object, living, class_in, changed, with_value};
 ghost use Rattle.ui_machine.specs.declared.arm.Arm.TheVariants as arms;
 ghost use Rattle.param_specs.specs.Validation.{KnowsClass};
 ghost use Rattle.ui_machine.specs.Definition.Properties.{is_lax};
-ghost use Rattle.ui_machine.specs.State.Config.{said};
+ghost use Rattle.ui_machine.specs.State.Config.{said, with_objects};
 ghost use Rattle.ui_machine.specs.Output.Lines as lines;
+ghost use Rattle.ui_machine.specs.Definition.Lookups.{specs_of};
 ghost use Rattle.ui_machine.specs.Steps.{uncounted};
 ghost use Rattle.g_values.specs.View.{kind_view, value_view};
 ghost use Rattle.param_specs.specs.View.{spec_view};
@@ -16,10 +17,12 @@ ghost use Rattle.builder_defs.specs.Meaning.{IsPlain};
 ghost use Rattle.ui_engine.specs.View.{world_of, with_line};
 ghost use Rattle.instances.specs.Store.{Shows, id_of, named_by};
 ghost use Rattle.ui_engine.specs.TaskView.{agenda_of};
+ghost use Rattle.ui_engine.specs.Counting.{KeepsCounts};
 ghost use Rattle.ui_engine.specs.EngineView.{config_of};
 ghost use Rattle.ui_engine.specs.Holding.{NoneDisposed};
 
 use crate::engine::Engine;
+use crate::holding::can_hold_named;
 use crate::lines::Line;
 use crate::task::Task;
 use builder_defs::Definition;
@@ -82,6 +85,17 @@ fn living_class(table: &Table, id: ObjectId) -> Option<TypeId>
     }
 }
 
+// How many properties the class of an object has, and none where the object does not live.
+fn slots_of(table: &Table, definition: &Definition, id: ObjectId) -> usize
+    ensures { (x : Object) → living table.now.objects id.0 ≡ Some x → 0 < length (specs_of definition.now x.class)
+        → x.class < length definition.now.types }
+{
+    match table.class_of(id) {
+        Ok(class) => definition.slots(class),
+        Err(_) => 0,
+    }
+}
+
 // A value by the class of the object that it names, which must live.
 fn classed(table: &Table, value: Value) -> Result<Value, Arm>
     requires whole { NoneDisposed table.now.objects }
@@ -132,6 +146,7 @@ impl Engine {
             (uncounted (agenda_of definition.now self.old.stack) self.old.counted (raising_if is_told (with_line (string_bytes line) (world_of self.old.world)) object.0 slot))
             (config_of definition.now self.new) }
         ensures quiet { OnErr result ((world_of self.new.world).transcript ≡ (world_of self.old.world).transcript) }
+        ensures counted { OnOk result (KeepsCounts definition.now self.old self.new) }
     {
         let _ = definition;
         if !is_told {
@@ -139,12 +154,37 @@ impl Engine {
             return Ok(());
         }
         if self.world.table.add(object, slot)? {
-            self.stack.push(Task::Notifying { object, slot })?;
+            self.push(Task::Notifying { object, slot })?;
             self.world.say(line)?;
             return Ok(());
         }
         self.world.say(line)?;
         Ok(())
+    }
+
+    // Writes a property, and answers what it was.
+    fn write(
+        &mut self,
+        definition: &Definition,
+        object: ObjectId,
+        slot: u16,
+        value: Value,
+    ) -> Result<Value, Halt>
+        ensures changes { Follows value_view result (changed (world_of self.old.world).objects object.0 (with_value slot (value_view value))) (world_of self.new.world).objects }
+        ensures world { world_of self.new.world ≡ with_objects (world_of self.old.world) (world_of self.new.world).objects }
+        ensures same { (self.new.stack ≡ self.old.stack) × (self.new.counted ≡ self.old.counted) }
+        ensures counted { OnOk result (KeepsCounts definition.now self.old self.new) }
+    {
+        // For the proof: it is a known class that has properties.
+        let _slots = slots_of(&self.world.table, definition, object);
+        if !can_hold_named(&self.world.table, &value) {
+            return Err(Halt::OutOfMemory);
+        }
+        let old = self
+            .world
+            .table
+            .write(&self.world.weak, object, slot, value)?;
+        Ok(old)
     }
 
     // Writes a value and tells of it, and raises the notification.
@@ -161,6 +201,7 @@ impl Engine {
             (uncounted (agenda_of definition.now self.old.stack) self.old.counted (written definition.now (world_of self.old.world) object.0 slot (spec_view spec.now) (value_view value)))
             (config_of definition.now self.new) }
         ensures quiet { OnErr result ((world_of self.new.world).transcript ≡ (world_of self.old.world).transcript) }
+        ensures counted { OnOk result (KeepsCounts definition.now self.old self.new) }
     {
         let told = Line::Set {
             object,
@@ -168,10 +209,7 @@ impl Engine {
             value: &value,
         };
         let line = told.text(self.alloc, definition.types())?;
-        let old = self
-            .world
-            .table
-            .write(&self.world.weak, object, slot, value.copied()?)?;
+        let old = self.write(definition, object, slot, value.copied()?)?;
         let is_told = notifies(spec, &old, &value);
         self.say_and_raise(definition, object, slot, line, is_told)
     }
@@ -186,6 +224,7 @@ impl Engine {
     ) -> Result<(), AllocError>
         ensures ok { OnOk result (world_of self.new.world ≡ said definition.now (world_of self.old.world) (lines.refused object.0 name.now (value_view value.now))) }
         ensures err { OnErr result (world_of self.new.world ≡ world_of self.old.world) }
+        ensures counted { OnOk result (KeepsCounts definition.now self.old self.new) }
         ensures same { (self.new.stack ≡ self.old.stack) × (self.new.counted ≡ self.old.counted) }
     {
         let told = Line::Refused {
@@ -211,6 +250,7 @@ impl Engine {
             (uncounted (agenda_of definition.now self.old.stack) self.old.counted (setting definition.now (world_of self.old.world) object.0 slot (value_view value)))
             (config_of definition.now self.new) }
         ensures quiet { OnErr result ((world_of self.new.world).transcript ≡ (world_of self.old.world).transcript) }
+        ensures counted { OnOk result (KeepsCounts definition.now self.old self.new) }
     {
         let spec = self.spec_of(definition, object, slot)?;
         if !has_kind(&value, spec.kind) {

@@ -28,6 +28,7 @@ impl World {
     pub fn say(&mut self, line: String) -> Result<(), AllocError>
         ensures ok { OnOk result (world_of self.new ≡ record (world_of self.old) { transcript = (world_of self.old).transcript ++ string_bytes line ∷ [] }) }
         ensures err { OnErr result (world_of self.new ≡ world_of self.old) }
+        ensures beside { self.new ≡ record self.old { transcript = self.new.transcript } }
     {
         self.transcript.push(line)?;
         Ok(())

@@ -35,5 +35,10 @@ types-preserved c =
     }
 
 pub returns : goal.returns
-returns c = λ class small.
-    c.types.invariant.known class (omega (arith, c.types-test.false, c.len-count.ensures, ap length c.types-types.ensures.types, small))
+returns c =
+    let all = ap length c.types-types.ensures.types in
+    let i = c.types.invariant in
+    record {
+      types = omega (arith, i.long, c.types-test.false, c.types.auto.class-end, c.len-count.ensures, all);
+      at = λ class small. i.known class (omega (arith, c.types-test.false, c.len-count.ensures, all, small));
+    }

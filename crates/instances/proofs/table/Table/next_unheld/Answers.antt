@@ -18,4 +18,4 @@ invariant_of-self c =
     let none : first_unheld c.self.inside.instances.entries ≡ None =
     sym (lowest c.self.inside.instances _ c.self.inside.limit c.self.inside.floating.items _ c.self.invariant.0 c.self.view_is c.iter-id-items.ensures.ordered)
     ∙ c.loop-id.invariant ∙ ap first_unheld c.in-None.ensures.steps.0
-    in (c.self.invariant.0, λ _ id x here. all_held _ c.self.inside.instances.entries x none here)
+    in (c.self.invariant.0, λ _ id x here. all_held _ c.self.inside.instances.entries x none here, c.self.invariant.2)

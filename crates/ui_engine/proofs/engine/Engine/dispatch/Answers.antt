@@ -7,6 +7,8 @@ use Rattle.ui_engine.specs.View.{world_of}
 use Rattle.ui_engine.specs.TaskView.{task_of}
 use Rattle.ui_engine.specs.EngineView.{config_of}
 use Rattle.ui_engine.specs.Holding.{IsHeld}
+use Rattle.ui_engine.specs.Counting.{nothing}
+use Rattle.ui_engine.proofs.Counts.{keeps_said}
 use Rattle.ui_machine.proofs.Prefixes.{prefix_by, prefix_on}
 use Rattle.ui_engine.proofs.Reaching.{reaches_here}
 use Rattle.ui_engine.proofs.engine.Engine.dispatch.Goals as goal
@@ -24,13 +26,25 @@ returns-clause-carried c =
     let e = config_of d c.run.new.self in
     let ran = c.in_ok-run.ensures.ran in
     let reached = subst (λ (from : Config). Reaches d [] from e) c.in_ok-begin.ensures.ok ran.0 in
-    let said = c.in_ok-say.ensures.ok ∙ ap (λ line. record (world_of c.run.new.self.world) { transcript = (world_of c.run.new.self.world).transcript ++ line ∷ [] }) c.in_ok-line.ensures in
-    let held = subst (λ (ts : List Task). IsHeld (world_of c.run.new.self.world) ts) ran.1.agenda ran.2 in (
+    let said = c.in_ok-say.ensures.ok ∙ ap (λ line. record (world_of c.run.new.self.world) { transcript = (world_of c.run.new.self.world).transcript ++ line ∷ [] }) c.in_ok-line.ensures in (
       record { at = e; reached = reached; ended = ran.1; counts = refl; leaves = sym said },
       c.in_ok-result.ensures ∙ ap (λ (w : World). w.result) (sym said),
       refl,
-      subst (λ (w : World). IsHeld w []) (sym said) (record { lives = held.lives; floats = held.floats; whole = held.whole }),
     )
+
+pub run-requires-clause-counted : goal.run-requires-clause-counted
+run-requires-clause-counted c = c.in_ok-begin.ensures.counted.at nothing c.requires.rests.counts
+
+pub returns-clause-rests : goal.returns-clause-rests
+returns-clause-rests c =
+    let d = c.args.definition.now in
+    let ran = c.in_ok-run.ensures.ran in
+    let held = subst (λ (ts : List Task). IsHeld (world_of c.run.new.self.world) ts) ran.1.agenda ran.2 in
+    record {
+      held = subst (λ (w : World). IsHeld w []) (sym c.in_ok-say.ensures.ok) (record { lives = held.lives; floats = held.floats; whole = held.whole });
+      counts = (keeps_said d c.run.new.self c.say.new.self c.say.ensures.beside).at nothing c.in_ok-run.ensures.counted;
+      idle = ran.1.agenda;
+    }
 
 pub returns-clause-grows : goal.returns-clause-grows
 returns-clause-grows c =

@@ -27,4 +27,4 @@ pub loop-preserved : goal.loop-preserved
 loop-preserved c =
     let d = c.args.definition.now in
     let a = subst (λ (more : Bool). Advanced (Ok more) d (config_of d c.loop.self) (config_of d c.advance.new.self)) c.if-not-branch.false c.in_ok-advance.ensures.advanced in
-    record { reached = reaches_on d c.loop.invariant.reached a.0; held = a.1; grows = prefix_on c.loop.invariant.grows c.in_ok-advance.ensures.grows }
+    record { reached = reaches_on d c.loop.invariant.reached a.0; held = a.1; counts = c.in_ok-advance.ensures.counted; grows = prefix_on c.loop.invariant.grows c.in_ok-advance.ensures.grows }
