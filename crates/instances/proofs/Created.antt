@@ -1,5 +1,5 @@
 -- Objects that are made, and counts that stay exact where they are and where they begin floating.
-use Rattle.std.proofs.Common.{◌≡◌, ℕ, ◌+◌, zero, suc, List, [], ◌∷◌, ◌++◌, map, Option, Some, None, IsSome, Bool, true, false, ◌&&◌, cond, refl, sym, ap, ◌∙◌, arith}
+use Rattle.std.proofs.Common.{◌≡◌, ℕ, ◌+◌, zero, suc, List, [], ◌∷◌, ◌++◌, map, Option, Some, None, Bool, true, false, ◌&&◌, cond, refl, arith}
 use Rattle.std.specs.List.{list_all}
 use Rattle.ui_machine.specs.Seq.{read, total}
 use Rattle.ui_machine.specs.Definition.{Definition}
@@ -14,8 +14,8 @@ use Rattle.ui_machine.specs.Rules.Construction.{has_valid_default}
 use Rattle.ui_machine.specs.Rules.Transform.{kind_fits}
 use Rattle.ui_machine.specs.State.Objects.{Object, Objects}
 use Rattle.ui_machine.specs.State.References.{same, in_object, in_value, in_values}
-use Rattle.instances.specs.Store.{Store, count_of, so_often}
-use Rattle.instances.specs.Laws.{CreateCounts, FloatCounts, MadeHoldsNothing}
+use Rattle.instances.specs.Store.{count_of, so_often}
+use Rattle.instances.specs.Laws.{CreateCounts, FloatCounts, MadeHoldsNothing, NoneCounts}
 use Rattle.instances.proofs.Families.{was_made}
 use Rattle.instances.proofs.Exact.{one_more}
 use Rattle.instances.proofs.Moves.{more_at}
@@ -55,6 +55,12 @@ defaults d o (s ∷ specs) all =
 
 pub made_holds : MadeHoldsNothing
 made_holds d place p peer o all = omega (arith, defaults d o (specs_of d p.class) all)
+
+-- ** no object
+
+pub none_exact : NoneCounts
+none_exact d limit zero = refl
+none_exact d limit (suc o) = refl
 
 -- ** one object more
 

@@ -1,9 +1,9 @@
 -- Counts that stay exact.
-use Rattle.std.proofs.Common.{◌≡◌, ℕ, ◌+◌, ◌-◌, ◌<◌, zero, suc, List, [], ◌∷◌, ◌++◌, Option, Some, None, IsSome, Bool, true, false, cond, nat_eq, refl, sym, ap, ◌∙◌, arith}
+use Rattle.std.proofs.Common.{◌≡◌, ℕ, ◌+◌, ◌-◌, zero, suc, List, [], ◌∷◌, ◌++◌, Option, Some, None, IsSome, Bool, true, false, cond, nat_eq, refl, sym, ap, arith}
 use Rattle.std.proofs.lemmas.Bool.Decides.{nat_tests}
 use Rattle.ui_machine.specs.Seq.{read, total}
 use Rattle.ui_machine.specs.State.Config.{without}
-use Rattle.ui_machine.specs.State.Objects.{Object, Objects, living, put}
+use Rattle.ui_machine.specs.State.Objects.{Object, Objects, living}
 use Rattle.ui_machine.specs.Definition.{Definition}
 use Rattle.std.specs.Option.{option_map}
 use Rattle.ui_machine.specs.Rules.Children.{updated, with_child, with_parent, without_child}

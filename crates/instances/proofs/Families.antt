@@ -1,18 +1,16 @@
 -- Objects that are changed at one identity, and why one is no child.
-use Rattle.std.proofs.Common.{◌≡◌, ℕ, zero, suc, ◌+◌, ◌-◌, ◌<◌, ◌≤◌, List, [], ◌∷◌, length, Bool, true, false, cond, ◌||◌, ◌&&◌, nat_lt, nat_eq, nat_le, Option, Some, None, is_some, IsSome, refl, sym, ap, ◌∙◌, arith}
-use Rattle.std.proofs.lemmas.Bool.Decides.{nat_tests}
+use Rattle.std.proofs.Common.{◌≡◌, ℕ, zero, suc, ◌+◌, ◌-◌, ◌<◌, ◌≤◌, [], ◌∷◌, length, Bool, true, false, ◌&&◌, nat_lt, nat_eq, nat_le, Option, Some, None, is_some, IsSome, refl, sym, ap, ◌∙◌, arith}
 use Rattle.std.specs.Option.{option_map}
 use Rattle.ui_machine.specs.Seq.{read, write, total}
 use Rattle.ui_machine.specs.State.Config.{without}
 use Rattle.ui_machine.specs.State.Objects.{Object, Objects, living, put}
 use Rattle.ui_machine.specs.State.References.{same}
-use Rattle.ui_machine.specs.Rules.Children.{is_unadoptable, most_children, updated, with_child, with_parent, without_child}
+use Rattle.ui_machine.specs.Rules.Children.{most_children, updated, with_child, with_parent, without_child}
 use Rattle.ui_machine.specs.Rules.Disposal.{children_of}
 use Rattle.ui_machine.specs.declared.ids.ObjectId.{ObjectId}
 use Rattle.instances.specs.Store.{Store, id_of, may_hold, count_of, so_often, with_count, with_objects}
 use Rattle.instances.specs.Family.{refusal, refusal_in, parent_in, Joins, Leaves, Sinks}
-use Rattle.instances.specs.declared.error.AdoptError.{AdoptError}
-use Rattle.instances.specs.declared.error.AdoptError.TheVariants.{NotLiving, HasParent, ChildLimit, OutOfMemory}
+use Rattle.instances.specs.declared.error.AdoptError.TheVariants.{NotLiving, HasParent, ChildLimit}
 use Rattle.instances.proofs.Moves.{more_at}
 
 -- what lives was made

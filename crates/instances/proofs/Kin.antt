@@ -1,6 +1,6 @@
 -- What a change of one instance keeps of all: that each was given, that each is held once it is so known, and that children and
 -- parents were given.
-use Rattle.std.proofs.Common.{◌≡◌, ℕ, ◌<◌, ◌≤◌, List, [], ◌∷◌, ◌++◌, length, cond, nat_eq, refl, Bool, true, false, Option, Some, None, is_some, IsSome, inl, inr, sym, ap, subst, ◌∙◌, arith}
+use Rattle.std.proofs.Common.{◌≡◌, ℕ, ◌<◌, ◌≤◌, List, [], ◌∷◌, ◌++◌, length, cond, nat_eq, refl, Bool, true, false, Option, Some, is_some, IsSome, inl, inr, sym, ap, subst, ◌∙◌, arith}
 use Rattle.std.proofs.lemmas.Bool.{cases_eq}
 use Rattle.std.proofs.lemmas.Bool.Decides.{nat_tests}
 use Rattle.std.specs.Ordering.{nat_cmp}
@@ -154,6 +154,13 @@ module _ (at : Lookup) (made id : ℕ) (kin : KinInRange at made) (was : Instanc
   parent_given parent is small = (
     λ c some. children_were c (subst (λ (x : Object). 0 < total (same c) x.children) is some),
     λ p e. small p (sym (ap (λ (x : Object). x.parent) is) ∙ e),
+  )
+
+  -- one without children
+  pub childless_given : o.children ≡ [] → o.parent ≡ was.object.parent → KinGiven made (Some o)
+  childless_given none same_one = (
+    λ c some. let no : 0 < total (same c) [] = subst (λ (is : List ℕ). 0 < total (same c) is) none some in absurd (omega (arith, no)),
+    λ p e. parent_was p (sym same_one ∙ e),
   )
 
 -- ** what is seen of it

@@ -15,3 +15,5 @@ pub mod Settled
 pub mod Kin
 pub mod Values
 pub mod Created
+pub mod Released
+pub mod Disposed

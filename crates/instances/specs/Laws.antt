@@ -13,6 +13,7 @@ use Rattle.ui_machine.specs.Rules.Construction.{has_valid_default, new_object}
 use Rattle.ui_machine.specs.Rules.Disposal.{all_forget, objects_disposed}
 use Rattle.instances.specs.Store.{Store, count_of, with_count, with_object, with_objects}
 use Rattle.instances.specs.Weak.{Marks, Knows, is_strong}
+use Rattle.instances.specs.Release.{Disposes, Finalises}
 use Rattle.instances.specs.Family.{Joins, Leaves, Sinks}
 
 -- a strong property that is written lets its old value go and holds the new one, and a weak one moves nothing
@@ -44,6 +45,10 @@ CountsFind =
 abbrev pub Counted : Definition → (ℕ → ℕ) → Store → Type 0
 Counted d beside s = (o : ℕ) → count_of s.counts o ≡ total (in_object d o) s.objects + (total (same o) s.floating + beside o)
 
+-- where nothing is, nothing is held
+abbrev pub NoneCounts : Type 0
+NoneCounts = (d : Definition) (limit : ℕ) → Counted d (λ o. 0) (record { objects = []; counts = []; limit = limit; floating = [] })
+
 -- what a new object holds was held beside the others
 abbrev pub CreateCounts : Type 0
 CreateCounts =
@@ -61,6 +66,10 @@ abbrev pub FloatCounts : Type 0
 FloatCounts =
     (d : Definition) (beside : ℕ → ℕ) (s : Store) (id : ℕ) → IsSome (living s.objects id) → Counted d beside s
     → Counted d beside (with_count (record s { floating = s.floating ++ id ∷ [] }) id (count_of s.counts id + 1))
+
+-- whatever is marked, there is a definition with these marks
+abbrev pub MarksKnown : Type 0
+MarksKnown = (weak : Marks) → (d : Definition) × Knows d weak
 
 -- what is held once more is held so beside them
 abbrev pub HoldCounts : Type 0
@@ -95,6 +104,16 @@ abbrev pub LeaveCounts : Type 0
 LeaveCounts =
     (d : Definition) (beside : ℕ → ℕ) (s n : Store) (parent child : ℕ) → Leaves parent child s n → Counted d beside s
     → Counted d beside n
+
+-- what is disposed holds nothing any more, and the counts say so
+abbrev pub DisposeCounts : Type 0
+DisposeCounts =
+    (d : Definition) (beside : ℕ → ℕ) (s n : Store) (id : ℕ) → Disposes d id s n → Counted d beside s → Counted d beside n
+
+-- and neither does what is finalised
+abbrev pub FinaliseCounts : Type 0
+FinaliseCounts =
+    (d : Definition) (beside : ℕ → ℕ) (s n : Store) (id : ℕ) → Finalises d id s n → Counted d beside s → Counted d beside n
 
 -- a written property moves just the counts that it moves
 abbrev pub WriteCounts : Type 0

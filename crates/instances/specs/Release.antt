@@ -3,7 +3,7 @@ use Rattle.std.specs.Prelude.{◌≡◌, ℕ, ◌+◌, ◌-◌, true, cond, Bool
 use Rattle.ui_machine.specs.Seq.{read}
 use Rattle.ui_machine.specs.Definition.{Definition}
 use Rattle.ui_machine.specs.Definition.Values.{Value}
-use Rattle.ui_machine.specs.State.Objects.{Object, Objects, living, put}
+use Rattle.ui_machine.specs.State.Objects.{Object, living, put}
 use Rattle.ui_machine.specs.State.References.{in_object, in_value}
 use Rattle.ui_machine.specs.Rules.Disposal.{objects_disposed}
 use Rattle.instances.specs.Store.{Store, count_of, named_by}

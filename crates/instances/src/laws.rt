@@ -1,6 +1,6 @@
 //! Laws about what objects hold, over the machine's definitions.
 
-ghost use Rattle.instances.specs.Laws.{WritesMove, WriteCounts, DisposeMoves, FinaliseMoves, CountsFind, CreateCounts, MadeHoldsNothing, FloatCounts, HoldCounts, LetGoCounts, SinkCounts, ForgetCounts, JoinCounts, LeaveCounts, CountedFinds};
+ghost use Rattle.instances.specs.Laws.{NoneCounts, WritesMove, WriteCounts, DisposeMoves, FinaliseMoves, CountsFind, CreateCounts, MadeHoldsNothing, FloatCounts, HoldCounts, LetGoCounts, SinkCounts, ForgetCounts, JoinCounts, LeaveCounts, MarksKnown, DisposeCounts, FinaliseCounts, CountedFinds};
 
 /// A strong property that is written moves one mention.
 pub fn writing_moves()
@@ -17,6 +17,11 @@ pub fn finalising_moves()
     ensures { FinaliseMoves }
 {}
 
+/// Whatever slots are marked weak, they are those of a definition.
+pub fn marks_known()
+    ensures { MarksKnown }
+{}
+
 /// Counts that equal the mentions of what lives find the same object to finalise.
 pub fn counts_find()
     ensures { CountsFind }
@@ -25,6 +30,11 @@ pub fn counts_find()
 /// An object that the machine makes holds nothing.
 pub fn made_holds_nothing()
     ensures { MadeHoldsNothing }
+{}
+
+/// The counts of no objects are exact.
+pub fn none_counts()
+    ensures { NoneCounts }
 {}
 
 /// Exact counts stay exact where an object is made of what was held.
@@ -65,6 +75,16 @@ pub fn join_counts()
 /// They stay exact where an object leaves its parent.
 pub fn leave_counts()
     ensures { LeaveCounts }
+{}
+
+/// They stay exact where an object is disposed.
+pub fn dispose_counts()
+    ensures { DisposeCounts }
+{}
+
+/// They stay exact where one is finalised.
+pub fn finalise_counts()
+    ensures { FinaliseCounts }
 {}
 
 /// They stay exact where a property is written.

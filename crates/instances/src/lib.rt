@@ -19,9 +19,10 @@ mod weak;
 
 pub use error::{AdoptError, CreateError};
 pub use laws::{
-    counted_finds, counts_find, create_counts, disposing_moves, finalising_moves, float_counts,
-    forget_counts, hold_counts, join_counts, leave_counts, let_go_counts, made_holds_nothing,
-    sink_counts, write_counts, writing_moves,
+    counted_finds, counts_find, create_counts, dispose_counts, disposing_moves, finalise_counts,
+    finalising_moves, float_counts, forget_counts, hold_counts, join_counts, leave_counts,
+    let_go_counts, made_holds_nothing, marks_known, none_counts, sink_counts, write_counts,
+    writing_moves,
 };
 pub use object::Object;
 pub use table::Table;

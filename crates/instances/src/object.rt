@@ -109,6 +109,13 @@ impl Object {
         self.parent
     }
 
+    /// The number of its peer, if it has one.
+    pub fn peer(&self) -> Option<usize>
+        ensures { result ≡ self.now.peer }
+    {
+        self.peer
+    }
+
     /// Whether it was disposed.
     pub fn is_disposed(&self) -> bool
         ensures { result ≡ self.now.disposed }
@@ -185,6 +192,7 @@ impl Object {
     pub fn write(&mut self, slot: u16, value: Value) -> Result<Value, Arm>
         ensures changes { Gives value_view result (with_value slot (value_view value) self.old) self.new }
         ensures kin { KeepsKin self.old self.new }
+        ensures refused { OnErr result (self.new ≡ self.old) }
     {
         let slot = usize::from(slot);
         if slot >= self.values.len() {
@@ -198,6 +206,7 @@ impl Object {
     pub fn freeze(&mut self) -> Result<(), Arm>
         ensures changes { Gives (λ _. tt) result (frozen_more self.old) self.new }
         ensures kin { KeepsKin self.old self.new }
+        ensures refused { OnErr result (self.new ≡ self.old) }
     {
         if !self.queue.can_freeze() {
             return Err(Arm::Freeze);
@@ -210,6 +219,7 @@ impl Object {
     pub fn thaw(&mut self, alloc: Global) -> Result<Vec<u16>, Arm>
         ensures changes { Gives (λ slots. reverse slots.items) result (frozen_less self.old) self.new }
         ensures kin { KeepsKin self.old self.new }
+        ensures refused { OnErr result (self.new ≡ self.old) }
     {
         if !self.queue.is_frozen() {
             return Err(Arm::Freeze);
@@ -224,6 +234,7 @@ impl Object {
     pub fn add(&mut self, slot: u16) -> Result<bool, Halt>
         ensures changes { Follows (λ now. now) result (raised slot self.old) self.new }
         ensures kin { KeepsKin self.old self.new }
+        ensures refused { OnErr result (self.new ≡ self.old) }
     {
         if !self.queue.is_frozen() {
             return Ok(true);

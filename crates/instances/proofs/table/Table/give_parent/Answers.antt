@@ -1,12 +1,12 @@
-use Rattle.std.proofs.Common.{◌≡◌, ℕ, refl, sym, ap, ◌∙◌, arith, None, Some, is_some, List}
+use Rattle.std.proofs.Common.{◌≡◌, ℕ, refl, sym, ap, ◌∙◌, arith}
 use Rattle.std.specs.Ordering.{nat_cmp}
 use Rattle.std.specs.BTreeMap.{BTreeMap, get}
 use Rattle.instances.specs.View.{objects_of}
 use Rattle.std.specs.Option.{option_copied_mut}
-use Rattle.ui_machine.specs.Rules.Children.{with_child, with_parent, without_child}
-use Rattle.instances.specs.Store.{id_of, Store, with_objects}
+use Rattle.ui_machine.specs.Rules.Children.{with_parent}
+use Rattle.instances.specs.Store.{id_of, Store}
 use Rattle.instances.specs.declared.instance.Instance.{Instance}
-use Rattle.instances.proofs.Shown.{given_out, absent_updated, found_in, lives}
+use Rattle.instances.proofs.Shown.{given_out, absent_updated}
 use Rattle.instances.proofs.Maps.{written_updates, written_beside}
 use Rattle.instances.proofs.Kin.{kin_well, parent_given}
 use Rattle.instances.proofs.table.Table.give_parent.Goals as goal

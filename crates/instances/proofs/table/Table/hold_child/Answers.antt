@@ -1,6 +1,6 @@
-use Rattle.std.proofs.Common.{◌≡◌, ℕ, IsSome, sym, ap, subst, ◌∙◌}
+use Rattle.std.proofs.Common.{IsSome, sym, subst}
 use Rattle.ui_machine.specs.Rules.Children.{with_child}
-use Rattle.ui_machine.specs.State.Objects.{Objects, living}
+use Rattle.ui_machine.specs.State.Objects.{living}
 use Rattle.instances.specs.Store.{Store}
 use Rattle.instances.proofs.Families.{still_live, was_made}
 use Rattle.instances.proofs.table.Table.hold_child.Goals as goal

@@ -1,4 +1,4 @@
-use Rattle.std.proofs.Common.{◌≡◌, ℕ, Option, Some, None, is_some, length, sym, ap, ◌∙◌, arith}
+use Rattle.std.proofs.Common.{is_some, length, sym, ap, ◌∙◌, arith}
 use Rattle.ui_machine.specs.Rules.Children.{without_child}
 use Rattle.ui_machine.specs.State.Objects.{Objects}
 use Rattle.instances.specs.Store.{id_of}

@@ -1,8 +1,7 @@
-use Rattle.std.proofs.Common.{◌≡◌, Option, sym, ap, ◌∙◌}
+use Rattle.std.proofs.Common.{sym, ap, ◌∙◌}
 use Rattle.std.specs.Ordering.{nat_cmp}
 use Rattle.std.specs.BTreeMap.{get}
 use Rattle.std.specs.Option.{option_copied}
-use Rattle.ui_machine.specs.State.Objects.{Object}
 use Rattle.instances.specs.View.{object_in}
 use Rattle.instances.specs.Family.{parent_in}
 use Rattle.instances.proofs.Shown.{found_in}

@@ -1,8 +1,8 @@
-use Rattle.std.proofs.Common.{◌≡◌, ℕ, ◌-◌, List, is_some, refl, sym, ap, ◌∙◌, arith}
+use Rattle.std.proofs.Common.{◌≡◌, ℕ, ◌-◌, List, is_some, refl, sym, ap, ◌∙◌}
 use Rattle.std.specs.Ordering.{nat_cmp}
 use Rattle.std.specs.BTreeMap.{BTreeMap, get}
 use Rattle.std.specs.Option.{option_copied_mut}
-use Rattle.instances.specs.Store.{Store, count_of, with_count}
+use Rattle.instances.specs.Store.{Store, count_of}
 use Rattle.instances.specs.View.{count_in, counts_of}
 use Rattle.instances.specs.declared.instance.Instance.{Instance}
 use Rattle.instances.proofs.Shown.{counted_in, count_is}
