@@ -68,4 +68,5 @@ basic types specs objects limits plain = record {
   bindings = refl;
   known_signals = λ t known. ap (λ (c : Class). c.signals) (read-listed lookups.no_class (λ t. class_with (specs_of types specs t)) (length types) t (λ past. absurd (omega arith)));
   unknown_signals = λ t past. ap (λ (c : Class). c.signals) (read-past lookups.no_class (λ t. class_with (specs_of types specs t)) (length types) t past);
+  unknown_specs = λ t past. ap (λ (c : Class). c.specs) (read-past lookups.no_class (λ t. class_with (specs_of types specs t)) (length types) t past);
 }

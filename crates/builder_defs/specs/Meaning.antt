@@ -123,6 +123,7 @@ pub record IsBasic (d : definition.Definition) : Type 0 where
   pub bindings : d.bindings ≡ []
   pub known_signals : (t : ℕ) → t < length d.types → (lookups.class_of d t).signals ≡ notify_signal ∷ []
   pub unknown_signals : (t : ℕ) → length d.types ≤ t → (lookups.class_of d t).signals ≡ []
+  pub unknown_specs : (t : ℕ) → length d.types ≤ t → lookups.specs_of d t ≡ []
 
 abbrev pub request_of : Event → config.Request
 request_of (events.Set place slot given) = config.set place.0 slot (given_view given)
