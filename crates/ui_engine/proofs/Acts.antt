@@ -36,18 +36,18 @@ use Rattle.ui_engine.specs.TaskView.{task_of, name_of, item_of, build_from}
 use Rattle.ui_engine.specs.EngineView.{is_counted}
 use Rattle.ui_machine.specs.Prefix.{IsPrefix}
 use Rattle.ui_machine.proofs.Prefixes.{prefix_same, prefix_one}
-use Rattle.ui_engine.specs.Holding.{making_of, IsHeld}
+use Rattle.ui_engine.specs.Floating.{making_of, FloatsInMaking}
 use Rattle.ui_engine.specs.Measure.{sets_of_place, weight, waiting_in, waiting}
 use Rattle.ui_engine.specs.MakingView.{making_of_object}
 use Rattle.ui_engine.proofs.Lists.{total-append}
-use Rattle.ui_engine.proofs.Held.{Quietly, keeps_quietly, if_ok_at, bind_ok, changed_lives, changed_whole, made_held, ended_held}
-use Rattle.ui_engine.proofs.Quiet.{Calm, frozen_spares, notifying_calm, setting_calm, building_forward_calm, carrying_set_calm, carrying_get_calm, thawing_calm}
+use Rattle.ui_engine.proofs.Floats.{Quietly, keeps_quietly, if_ok_at, bind_ok, made_floats, ended_floats}
+use Rattle.ui_engine.proofs.Quiet.{Calm, notifying_calm, setting_calm, building_forward_calm, carrying_set_calm, carrying_get_calm, thawing_calm}
 use Rattle.ui_engine.proofs.Falls.{Falls, setting_falls, thawing_falls, thawing_made_falls, building_forward_falls, carrying_set_falls, carrying_get_falls}
 use Rattle.ui_engine.proofs.Building.{few_steps, few_early, only_forwards, builds_next, next_made, made_there, abstract_there}
 
 -- what the step of a task leads to
 pub record Passes (d : Definition) (w : World) (t : Task) (rest : List Task) (n : ℕ) (e : Config) : Type 0 where
-  pub held : IsHeld e.world e.agenda
+  pub held : FloatsInMaking e.world e.agenda
   pub falls : is_counted t ≡ false → total (weight d) e.agenda + waiting e.world.objects < total (weight d) (t ∷ rest) + waiting w.objects
   pub stays : is_counted t ≡ false → e.counted ≡ n
   pub counts : is_counted t ≡ true → (n < most_steps) × (e.counted ≡ suc n)
@@ -68,7 +68,7 @@ module _ (d : Definition) (w : World) (rest : List Task) (n : ℕ) where
   uncounted_if t (Err arm) h = tt
 
   -- a step that starts no construction
-  steady : (t : Task) → IsHeld w (t ∷ rest) → ((o : ℕ) → making_of o t ≡ 0) → is_counted t ≡ false → (s : Started) → Calm w s → Falls d w (weight d t) s → Passes d w t rest n (before rest n s)
+  steady : (t : Task) → FloatsInMaking w (t ∷ rest) → ((o : ℕ) → making_of o t ≡ 0) → is_counted t ≡ false → (s : Started) → Calm w s → Falls d w (weight d t) s → Passes d w t rest n (before rest n s)
   steady t held none plain s calm falls = record {
     held = keeps_quietly w t rest s held calm.quiet (λ o. calm.none o ∙ sym (none o));
     falls = λ _. let l = falls.less in omega (arith, l, total-append (weight d) s.tasks rest);
@@ -77,12 +77,12 @@ module _ (d : Definition) (w : World) (rest : List Task) (n : ℕ) where
     grows = calm.quiet.grows;
   }
 
-  steadily : (t : Task) → IsHeld w (t ∷ rest) → ((o : ℕ) → making_of o t ≡ 0) → is_counted t ≡ false → (a : Answer Started) → IfOk a (Calm w) → IfOk a (Falls d w (weight d t)) → IfOk (uncounted rest n a) (Passes d w t rest n)
+  steadily : (t : Task) → FloatsInMaking w (t ∷ rest) → ((o : ℕ) → making_of o t ≡ 0) → is_counted t ≡ false → (a : Answer Started) → IfOk a (Calm w) → IfOk a (Falls d w (weight d t)) → IfOk (uncounted rest n a) (Passes d w t rest n)
   steadily t held none plain a calm falls = uncounted_if t a (both (Calm w) (Falls d w (weight d t)) (λ s. Passes d w t rest n (before rest n s)) a calm falls (steady t held none plain))
 
   -- ** notifications
 
-  notified : (id slot : ℕ) → IsHeld w (Notifying id slot ∷ rest) → n < most_steps → (a : Answer Started) → IfOk a (Calm w) → IfOk (uncounted rest (suc n) a) (Passes d w (Notifying id slot) rest n)
+  notified : (id slot : ℕ) → FloatsInMaking w (Notifying id slot ∷ rest) → n < most_steps → (a : Answer Started) → IfOk a (Calm w) → IfOk (uncounted rest (suc n) a) (Passes d w (Notifying id slot) rest n)
   notified id slot held small (Ok s) calm = record {
     held = keeps_quietly w (Notifying id slot) rest s held calm.quiet (λ o. calm.none o);
     falls = λ no. cc no;
@@ -92,7 +92,7 @@ module _ (d : Definition) (w : World) (rest : List Task) (n : ℕ) where
   }
   notified id slot held small (Err arm) calm = tt
 
-  notifying_passes : (id slot : ℕ) → IsHeld w (Notifying id slot ∷ rest) → IfOk (act d w None (Notifying id slot ∷ rest) n) (Passes d w (Notifying id slot) rest n)
+  notifying_passes : (id slot : ℕ) → FloatsInMaking w (Notifying id slot ∷ rest) → IfOk (act d w None (Notifying id slot ∷ rest) n) (Passes d w (Notifying id slot) rest n)
   notifying_passes id slot held = by (nat_lt n most_steps) refl
     where
       by : (b : Bool) → nat_lt n most_steps ≡ b → IfOk (only_if b arms.Steps (uncounted rest (suc n) (notifying d w id slot))) (Passes d w (Notifying id slot) rest n)
@@ -112,28 +112,28 @@ module _ (d : Definition) (w : World) (rest : List Task) (n : ℕ) where
   kept_down (tasks.Building place forwards ∷ ts) v = refl
   kept_down (tasks.Carrying event ∷ ts) v = refl
 
-  ending_at : (e : Emission) (turns : List config.PlanEntry) → IsHeld w (Emitting e turns ∷ rest) → (v : World) → v.objects ≡ w.objects → v.builder ≡ w.builder → v.floating ≡ w.floating → IsPrefix w.transcript v.transcript
+  ending_at : (e : Emission) (turns : List config.PlanEntry) → FloatsInMaking w (Emitting e turns ∷ rest) → (v : World) → v.objects ≡ w.objects → v.floating ≡ w.floating → IsPrefix w.transcript v.transcript
       → Passes d w (Emitting e turns) rest n (record { world = v; agenda = rest; counted = n })
-  ending_at e turns held v objects builder floating grows = record {
-    held = keeps_quietly w (Emitting e turns) rest (record { world = v; tasks = [] }) held (record { lives = λ q h. subst (λ (os : Objects). is_some (living os q) ≡ true) objects h; whole = λ q h. subst (λ (os : Objects). is_disposed (living os q) ≡ false) (sym objects) h; builder = builder; floating = floating; grows = grows }) (λ o. refl);
+  ending_at e turns held v objects floating grows = record {
+    held = keeps_quietly w (Emitting e turns) rest (record { world = v; tasks = [] }) held (record { floating = floating; grows = grows }) (λ o. refl);
     falls = λ _. let same = ap waiting objects in omega (arith, same);
     stays = λ _. refl;
     counts = λ yes. cc yes;
     grows = grows;
   }
 
-  ended : (e : Emission) (turns : List config.PlanEntry) → IsHeld w (Emitting e turns ∷ rest) → (v : Option Value) (b : Bool)
+  ended : (e : Emission) (turns : List config.PlanEntry) → FloatsInMaking w (Emitting e turns ∷ rest) → (v : Option Value) (b : Bool)
       → Passes d w (Emitting e turns) rest n (record { world = told d w b v; agenda = rest; counted = n })
-  ended e turns held None b = ending_at e turns held w refl refl refl (prefix_same w.transcript)
-  ended e turns held (Some v) false = ending_at e turns held w refl refl refl (prefix_same w.transcript)
-  ended e turns held (Some v) true = ending_at e turns held (told d w true (Some v)) refl refl refl (prefix_one w.transcript _)
+  ended e turns held None b = ending_at e turns held w refl refl (prefix_same w.transcript)
+  ended e turns held (Some v) false = ending_at e turns held w refl refl (prefix_same w.transcript)
+  ended e turns held (Some v) true = ending_at e turns held (told d w true (Some v)) refl refl (prefix_one w.transcript _)
 
   left_if : (t : Task) (a : Answer Left) → IfOk a (λ l. Passes d w t rest n (record { world = l.world; agenda = l.agenda; counted = n })) → IfOk (left n a) (Passes d w t rest n)
   unfolding left
   left_if t (Ok l) h = h
   left_if t (Err arm) h = tt
 
-  ending_passes : (e : Emission) (ts : List code.Task) → map (task_of d) ts ≡ rest → IsHeld w (Emitting e [] ∷ rest) → IfOk (left n (ending d w e rest)) (Passes d w (Emitting e []) rest n)
+  ending_passes : (e : Emission) (ts : List code.Task) → map (task_of d) ts ≡ rest → FloatsInMaking w (Emitting e [] ∷ rest) → IfOk (left n (ending d w e rest)) (Passes d w (Emitting e []) rest n)
   unfolding ending
   ending_passes e ts same held = left_if (Emitting e []) (ending d w e rest) (bind_ok (resulting d w e) _ Left_passes (λ v _.
       let down : passed_down rest v ≡ Ok rest = subst (λ (r : List Task). passed_down r v ≡ Ok r) same (kept_down ts v) in
@@ -144,7 +144,7 @@ module _ (d : Definition) (w : World) (rest : List Task) (n : ℕ) where
 
   -- ** constructions
 
-  constructed_passes : (id : ℕ) → IsHeld w (Constructing id [] true ∷ rest) → IfOk (uncounted rest n (constructed w id true)) (Passes d w (Constructing id [] true) rest n)
+  constructed_passes : (id : ℕ) → FloatsInMaking w (Constructing id [] true ∷ rest) → IfOk (uncounted rest n (constructed w id true)) (Passes d w (Constructing id [] true) rest n)
   unfolding constructed
   constructed_passes id held = uncounted_if (Constructing id [] true) (constructed w id true) (bind_ok (object_at w.objects id) _ P (λ o _. by o.place (is_unbuilt (held_at w o.place)) refl))
     where
@@ -153,7 +153,7 @@ module _ (d : Definition) (w : World) (rest : List Task) (n : ℕ) where
 
       by : (place : ℕ) (b : Bool) → is_unbuilt (held_at w place) ≡ b → IfOk (only_if b arms.Code (starts (sunk (with_held w place (built id)) id) [])) P
       by place true new = record {
-        held = ended_held w id place rest new held;
+        held = ended_floats w id place rest held;
         falls = λ _. omega arith;
         stays = λ _. refl;
         counts = λ yes. cc yes;
@@ -162,7 +162,7 @@ module _ (d : Definition) (w : World) (rest : List Task) (n : ℕ) where
       by place false old = tt
 
   -- a step that hands its part of a construction on
-  handing : (t : Task) → IsHeld w (t ∷ rest) → is_counted t ≡ false → (s : Started) → Quietly w s.world → ((o : ℕ) → total (making_of o) s.tasks ≡ making_of o t) → Falls d w (weight d t) s → Passes d w t rest n (before rest n s)
+  handing : (t : Task) → FloatsInMaking w (t ∷ rest) → is_counted t ≡ false → (s : Started) → Quietly w s.world → ((o : ℕ) → total (making_of o) s.tasks ≡ making_of o t) → Falls d w (weight d t) s → Passes d w t rest n (before rest n s)
   handing t held plain s quiet parts falls = record {
     held = keeps_quietly w t rest s held quiet parts;
     falls = λ _. let l = falls.less in omega (arith, l, total-append (weight d) s.tasks rest);
@@ -171,7 +171,7 @@ module _ (d : Definition) (w : World) (rest : List Task) (n : ℕ) where
     grows = quiet.grows;
   }
 
-  sets_passes : (id slot : ℕ) (v : Value) (steps : List Making) → IsHeld w (Constructing id (config.sets slot v ∷ steps) true ∷ rest)
+  sets_passes : (id slot : ℕ) (v : Value) (steps : List Making) → FloatsInMaking w (Constructing id (config.sets slot v ∷ steps) true ∷ rest)
       → IfOk (uncounted rest n (making_set d w id slot v (Constructing id steps true ∷ []))) (Passes d w (Constructing id (config.sets slot v ∷ steps) true) rest n)
   unfolding making_set
   sets_passes id slot v steps held = uncounted_if whole (making_set d w id slot v (Constructing id steps true ∷ [])) (bind_ok (spec_at d w.objects id slot) _ P (λ s _. by (is_writable s)))
@@ -184,12 +184,12 @@ module _ (d : Definition) (w : World) (rest : List Task) (n : ℕ) where
 
       by : (b : Bool) → IfOk (only_if b arms.Flags (starts w (Setting id slot v ∷ Constructing id steps true ∷ []))) P
       by true = handing whole held refl (record { world = w; tasks = Setting id slot v ∷ Constructing id steps true ∷ [] })
-          (record { lives = λ q h. h; whole = λ q h. h; builder = refl; floating = refl; grows = prefix_same w.transcript })
+          (record { floating = refl; grows = prefix_same w.transcript })
           (λ o. omega arith)
           (record { less = omega arith })
       by false = tt
 
-  runs_passes : (id program : ℕ) (steps : List Making) → IsHeld w (Constructing id (config.runs program ∷ steps) true ∷ rest) → (args : List Value)
+  runs_passes : (id program : ℕ) (steps : List Making) → FloatsInMaking w (Constructing id (config.runs program ∷ steps) true ∷ rest) → (args : List Value)
       → IfOk (uncounted rest n (program_before d w program args (Constructing id steps true ∷ []))) (Passes d w (Constructing id (config.runs program ∷ steps) true) rest n)
   unfolding program_before beginning_program
   runs_passes id program steps held args = uncounted_if whole (program_before d w program args (Constructing id steps true ∷ [])) (bind_ok (beginning_program d w program args) _ P (λ s is.
@@ -215,9 +215,9 @@ module _ (d : Definition) (w : World) (rest : List Task) (n : ℕ) where
       begins : IfOk (beginning_program d w program args) Begins
       begins = bind_ok (known arms.Code (program_at d program)) _ Begins (λ p _.
           only (all_fit (fits_register d w.objects) args p.params) (record { world = said d w (lines.run p.name); tasks = Running (first_frame program p args) ∷ [] })
-          (record { lives = λ q h. h; whole = λ q h. h; builder = refl; floating = refl; grows = prefix_one w.transcript _ }, (λ o. refl), omega arith, refl))
+          (record { floating = refl; grows = prefix_one w.transcript _ }, (λ o. refl), omega arith, refl))
 
-  thaws_passes : (id : ℕ) (steps : List Making) → IsHeld w (Constructing id (config.thaws ∷ steps) true ∷ rest)
+  thaws_passes : (id : ℕ) (steps : List Making) → FloatsInMaking w (Constructing id (config.thaws ∷ steps) true ∷ rest)
       → IfOk (uncounted rest n (thawing_made w id steps true)) (Passes d w (Constructing id (config.thaws ∷ steps) true) rest n)
   unfolding thawing_made
   thaws_passes id steps held = uncounted_if whole (thawing_made w id steps true)
@@ -231,12 +231,9 @@ module _ (d : Definition) (w : World) (rest : List Task) (n : ℕ) where
       Hands = λ s. Quietly w s.world × ((o : ℕ) → total (making_of o) s.tasks ≡ making_of o whole)
 
       hands : IfOk (thawing_made w id steps true) Hands
-      hands = bind_ok (changed w.objects id frozen_less) _ Hands (λ r e.
-          let h = if_ok_at (λ (r : After Objects (List ℕ)). (q : ℕ) → is_some (living r.state q) ≡ true → is_some (living w.objects q) ≡ true) (changed w.objects id frozen_less) r (changed_lives w.objects id frozen_less) e in
-          let k = if_ok_at (λ (r : After Objects (List ℕ)). (q : ℕ) → is_disposed (living w.objects q) ≡ false → is_disposed (living r.state q) ≡ false) (changed w.objects id frozen_less) r (changed_whole w.objects id frozen_less frozen_spares) e in
-          (record { lives = h; whole = k; builder = refl; floating = refl; grows = prefix_same w.transcript }, λ o. omega arith))
+      hands = bind_ok (changed w.objects id frozen_less) _ Hands (λ r e. (record { floating = refl; grows = prefix_same w.transcript }, λ o. omega arith))
 
-  constructing_passes : (id : ℕ) (steps : List Making) → IsHeld w (Constructing id steps true ∷ rest) → IfOk (act d w None (Constructing id steps true ∷ rest) n) (Passes d w (Constructing id steps true) rest n)
+  constructing_passes : (id : ℕ) (steps : List Making) → FloatsInMaking w (Constructing id steps true ∷ rest) → IfOk (act d w None (Constructing id steps true ∷ rest) n) (Passes d w (Constructing id steps true) rest n)
   constructing_passes id [] held = constructed_passes id held
   constructing_passes id (config.sets slot v ∷ steps) held = sets_passes id slot v steps held
   constructing_passes id (config.runs program ∷ steps) held = runs_passes id program steps held _
@@ -244,13 +241,13 @@ module _ (d : Definition) (w : World) (rest : List Task) (n : ℕ) where
 
   -- ** thaws and events
 
-  thawing_passes : (id : ℕ) (slots : List ℕ) → IsHeld w (Thawing id slots ∷ rest) → IfOk (act d w None (Thawing id slots ∷ rest) n) (Passes d w (Thawing id slots) rest n)
+  thawing_passes : (id : ℕ) (slots : List ℕ) → FloatsInMaking w (Thawing id slots ∷ rest) → IfOk (act d w None (Thawing id slots ∷ rest) n) (Passes d w (Thawing id slots) rest n)
   thawing_passes id slots held = steadily (Thawing id slots) held (λ o. refl) refl (thawing w id slots) (thawing_calm w id slots) (thawing_falls d w id slots)
 
-  setting_passes : (id slot : ℕ) (v : Value) → IsHeld w (Setting id slot v ∷ rest) → IfOk (act d w None (Setting id slot v ∷ rest) n) (Passes d w (Setting id slot v) rest n)
+  setting_passes : (id slot : ℕ) (v : Value) → FloatsInMaking w (Setting id slot v ∷ rest) → IfOk (act d w None (Setting id slot v ∷ rest) n) (Passes d w (Setting id slot v) rest n)
   setting_passes id slot v held = steadily (Setting id slot v) held (λ o. refl) refl (setting d w id slot v) (setting_calm d w id slot v) (setting_falls d w id slot v)
 
-  carrying_passes : (event : Event) → IsHeld w (Carrying (request_of event) ∷ rest) → IfOk (act d w None (Carrying (request_of event) ∷ rest) n) (Passes d w (Carrying (request_of event)) rest n)
+  carrying_passes : (event : Event) → FloatsInMaking w (Carrying (request_of event) ∷ rest) → IfOk (act d w None (Carrying (request_of event) ∷ rest) n) (Passes d w (Carrying (request_of event)) rest n)
   carrying_passes (events.Set place slot given) held = steadily (Carrying (request_of (events.Set place slot given))) held (λ o. refl) refl (carrying_set d w place.0 slot (given_view given)) (carrying_set_calm d w place.0 slot (given_view given)) (carrying_set_falls d w place.0 slot (given_view given))
   carrying_passes (events.Get place slot) held = steadily (Carrying (request_of (events.Get place slot))) held (λ o. refl) refl (carrying_get d w place.0 slot) (carrying_get_calm d w place.0 slot) (carrying_get_falls d w place.0 slot)
 
@@ -260,15 +257,15 @@ module _ (d : Definition) (w : World) (rest : List Task) (n : ℕ) where
   waiting_more os o none = let e = ap (λ (q : List ℕ). 2 * length q) none in omega (arith, e, total-append waiting_in os (Some o ∷ []))
 
   -- an object is made, and its construction begins
-  made : (place : ℕ) (p : Place) (items : List Item) → slice_get d.places place ≡ Some p → IsHeld w (Building (makes place ∷ items) ∷ rest)
+  made : (place : ℕ) (p : Place) (items : List Item) → slice_get d.places place ≡ Some p → FloatsInMaking w (Building (makes place ∷ items) ∷ rest)
       → Passes d w (Building (makes place ∷ items)) rest n (record {
         world = said d (with_object d w (new_object d place p None)) (lines.construct (suc (length w.objects)) (type_of d p.class).name);
         agenda = Constructing (suc (length w.objects)) (making_of_object w (specs_of d p.class) (not_forward place p.given)) true ∷ Building items ∷ rest;
         counted = n;
       })
   made place p items at held = record {
-    held = made_held w (said d (with_object d w (new_object d place p None)) (lines.construct (suc (length w.objects)) (type_of d p.class).name)) (Building (makes place ∷ items)) rest
-        (new_object d place p None) (is_a d.types p.class initially_unowned) (making_of_object w (specs_of d p.class) (not_forward place p.given)) (Building items) refl held (λ q. refl) refl refl refl;
+    held = made_floats w (said d (with_object d w (new_object d place p None)) (lines.construct (suc (length w.objects)) (type_of d p.class).name)) (Building (makes place ∷ items)) rest
+        (suc (length w.objects)) (is_a d.types p.class initially_unowned) (making_of_object w (specs_of d p.class) (not_forward place p.given)) (Building items) held (λ q. refl) refl;
     falls = λ _.
         let few = few_steps w (specs_of d p.class) (not_forward place p.given) in
         let early = few_early place p.given in
@@ -280,17 +277,17 @@ module _ (d : Definition) (w : World) (rest : List Task) (n : ℕ) where
   }
 
   -- a forward reference is set
-  forward_passes : (fs : List Forward) → IsHeld w (Building (map item_of fs) ∷ rest)
+  forward_passes : (fs : List Forward) → FloatsInMaking w (Building (map item_of fs) ∷ rest)
       → IfOk (uncounted rest n (building d w (map item_of fs))) (Passes d w (Building (map item_of fs)) rest n)
   forward_passes [] held =
       steady (Building []) held (λ o. refl) refl (record { world = w; tasks = [] })
-      (record { quiet = record { lives = λ q h. h; whole = λ q h. h; builder = refl; floating = refl; grows = prefix_same w.transcript }; none = λ o. refl })
+      (record { quiet = record { floating = refl; grows = prefix_same w.transcript }; none = λ o. refl })
       (record { less = omega arith })
   forward_passes (f ∷ fs) held =
       steadily (Building (item_of f ∷ map item_of fs)) held (λ o. refl) refl (building_forward d w f.object f.slot f.to.0 (map item_of fs))
       (building_forward_calm d w f.object f.slot f.to.0 (map item_of fs)) (building_forward_falls d w f.object f.slot f.to.0 (map item_of fs))
 
-  module _ (basic : IsBasic d) (place : ℕ) (fs : List Forward) (held : IsHeld w (Building (build_from d place fs) ∷ rest)) where
+  module _ (basic : IsBasic d) (place : ℕ) (fs : List Forward) (held : FloatsInMaking w (Building (build_from d place fs) ∷ rest)) where
     abbrev P : Config → Type 0
     P = Passes d w (Building (build_from d place fs)) rest n
 
@@ -310,13 +307,13 @@ module _ (d : Definition) (w : World) (rest : List Task) (n : ℕ) where
               world = said d (with_object d w (new_object d place p None)) (lines.construct (suc (length w.objects)) (type_of d p.class).name);
               agenda = Constructing (suc (length w.objects)) (making_of_object w (specs_of d p.class) (not_forward place p.given)) true ∷ Building items ∷ rest;
               counted = n;
-            })) (sym next) (made place p items at (subst (λ (xs : List Item). IsHeld w (Building xs ∷ rest)) next held)))
+            })) (sym next) (made place p items at (subst (λ (xs : List Item). FloatsInMaking w (Building xs ∷ rest)) next held)))
 
     built_past : length d.places ≤ place → IfOk (uncounted rest n (building d w (build_from d place fs))) P
     built_past past =
         let left = only_forwards d place fs past in
         subst (λ (xs : List Item). IfOk (uncounted rest n (building d w xs)) (Passes d w (Building xs) rest n)) (sym left)
-        (forward_passes fs (subst (λ (xs : List Item). IsHeld w (Building xs ∷ rest)) left held))
+        (forward_passes fs (subst (λ (xs : List Item). FloatsInMaking w (Building xs ∷ rest)) left held))
 
     building_passes : IfOk (act d w None (Building (build_from d place fs) ∷ rest) n) P
     building_passes = by (slice_get d.places place) refl
@@ -326,7 +323,7 @@ module _ (d : Definition) (w : World) (rest : List Task) (n : ℕ) where
         by None at = built_past (within_none d.places place at)
 
   -- what the step of each task of the engine leads to
-  pub acted : IsBasic d → (t : code.Task) (ts : List code.Task) → map (task_of d) ts ≡ rest → IsHeld w (task_of d t ∷ rest) → IfOk (act d w None (task_of d t ∷ rest) n) (Passes d w (task_of d t) rest n)
+  pub acted : IsBasic d → (t : code.Task) (ts : List code.Task) → map (task_of d) ts ≡ rest → FloatsInMaking w (task_of d t ∷ rest) → IfOk (act d w None (task_of d t ∷ rest) n) (Passes d w (task_of d t) rest n)
   acted basic (tasks.Setting id slot v) ts same held = setting_passes id.0 slot (value_view v) held
   acted basic (tasks.Notifying id slot) ts same held = notifying_passes id.0 slot held
   acted basic (tasks.Emitting id class slot) ts same held = ending_passes (notification id.0 (name_of d class slot)) ts same held

@@ -11,24 +11,12 @@ use Rattle.ui_machine.specs.State.References.{same}
 use Rattle.ui_machine.specs.Rules.Build.{made_items, forward_items, numbered, connected_items, build_items}
 use Rattle.builder_defs.specs.Meaning.{IsBasic}
 use Rattle.ui_machine.specs.Rules.Sets.{is_disposed}
-use Rattle.ui_engine.specs.Holding.{IsHeld}
+use Rattle.ui_engine.specs.Floating.{FloatsInMaking}
 use Rattle.ui_engine.specs.declared.task.Forward.{Forward}
 use Rattle.ui_engine.specs.TaskView.{item_of, build_from}
 
-nothing_lives : (os : Objects) (id : ℕ) → os ≡ [] → is_some (living os id) ≡ true → ⊥
-nothing_lives os zero none h = let e : is_some (living [] 0) ≡ true = subst (λ (xs : Objects). is_some (living xs 0) ≡ true) none h in cc e
-nothing_lives os (suc i) none h = let e : is_some (living [] (suc i)) ≡ true = subst (λ (xs : Objects). is_some (living xs (suc i)) ≡ true) none h in cc e
-
-none_disposed : (os : Objects) (id : ℕ) → os ≡ [] → is_disposed (living os id) ≡ false
-none_disposed os zero none = refl
-none_disposed os (suc i) none = ap (λ (xs : Objects). is_disposed (living xs (suc i))) none
-
-pub none_held : (w : World) → w.objects ≡ [] → w.floating ≡ [] → IsHeld w []
-none_held w objects floating = record {
-  lives = λ id some. absurd (nothing_lives w.objects id objects some);
-  whole = λ id. none_disposed w.objects id objects;
-  floats = λ id some. absurd (let e : total (same id) w.floating ≡ 0 = ap (total (same id)) floating in omega (arith, e, some));
-}
+pub none_floating : (w : World) → w.floating ≡ [] → FloatsInMaking w []
+none_floating w floating = record { at = λ id some. absurd (let e : total (same id) w.floating ≡ 0 = ap (total (same id)) floating in omega (arith, e, some)) }
 
 no_connections : (place : ℕ) (ps : List Place) → ((i : ℕ) (p : Place) → slice_get ps i ≡ Some p → p.signals ≡ []) → connected_items place ps ≡ []
 no_connections place [] signals = refl

@@ -1,26 +1,26 @@
 -- Counts that move as the machine's mentions do.
 use Rattle.std.proofs.Common.{◌≡◌, ℕ, zero, suc, ◌+◌, ◌-◌, ◌<◌, ◌≤◌, Bool, true, false, cond, not, nat_eq, nat_lt, List, [], ◌∷◌, length, map, Option, Some, None, slice_get, slice_set, Ok, refl, sym, ap, subst, ◌∙◌, inl, inr, arith}
 use Rattle.std.specs.Prelude.{IfOk}
-use Rattle.std.proofs.lemmas.Bool.{cases_lt}
 use Rattle.std.proofs.lemmas.Bool.Decides.{nat_tests}
 use Rattle.ui_machine.specs.declared.arm.Arm.TheVariants as arms
 use Rattle.ui_machine.specs.Seq.{read, total}
-use Rattle.ui_machine.specs.Definition.{Definition, Class}
-use Rattle.ui_machine.specs.Definition.Lookups.{no_class, specs_of}
-use Rattle.ui_machine.specs.Definition.Properties.{Spec}
+use Rattle.ui_machine.specs.Definition.{Definition}
 use Rattle.ui_machine.specs.Definition.Values.{Value}
 use Rattle.ui_machine.specs.Outcome.{After, Answer, ◌>>=◌, known, only_if}
 use Rattle.ui_machine.specs.Rules.NotifyQueue.{queued, raised, less_frozen, frozen_less}
 use Rattle.ui_machine.specs.State.Config.{Held, said}
 use Rattle.ui_machine.specs.State.Objects.{Object, Objects, living, put, asked, changed, value_at, with_value}
-use Rattle.ui_machine.specs.State.References.{same, in_value, in_object, in_held, in_task, mentions}
+use Rattle.ui_machine.specs.State.References.{same, in_value, in_object, in_held, in_task, mentions, next_unheld}
 use Rattle.ui_machine.specs.State.Tasks.{Task}
 use Rattle.instances.specs.Family.{Sinks}
 use Rattle.instances.specs.Laws.{Counted}
 use Rattle.instances.specs.Store.{Store, count_of, counts_with, so_often, with_objects, with_object}
 use Rattle.instances.specs.Weak.{Marks, Knows, is_strong, strong_in}
 use Rattle.instances.proofs.Created.{create_exact}
+use Rattle.instances.proofs.Disposed.{finalise_exact}
 use Rattle.instances.proofs.Exact.{sink_exact}
+use Rattle.instances.proofs.Held.{counted_finds}
+use Rattle.instances.specs.Release.{Finalises}
 use Rattle.instances.proofs.Held.{total_put}
 use Rattle.instances.proofs.Moves.{less_at}
 use Rattle.instances.proofs.WriteExact.{write_exact}
@@ -33,9 +33,8 @@ use Rattle.ui_machine.specs.State.Config as config
 use Rattle.ui_engine.specs.EngineView.{config_of}
 use Rattle.ui_engine.specs.View.{held_of, world_of}
 use Rattle.ui_engine.specs.TaskView.{agenda_of}
-use Rattle.ui_engine.specs.WeakView.{weak_of, KnowsTypes}
 use Rattle.ui_engine.specs.Counting.{OnlyCounts, Counts, KeepsCounts, nothing}
-use Rattle.ui_engine.proofs.Held.{if_ok_at, bind_ok}
+use Rattle.ui_engine.proofs.Floats.{if_ok_at, bind_ok}
 
 -- ** counts by what holds
 
@@ -128,36 +127,6 @@ frozen_alike d x = by (nat_lt 0 x.freezes)
 
 -- ** a property that is written
 
--- the marks of all classes
-ideal : Definition → Marks
-ideal d = map (λ (c : Class). weak_of c.specs) d.classes
-
-read-mapped : (cs : List Class) (i : ℕ) → weak_of (read no_class cs i).specs ≡ read [] (map (λ (c : Class). weak_of c.specs) cs) i
-read-mapped [] i = refl
-read-mapped (c ∷ cs) zero = refl
-read-mapped (c ∷ cs) (suc i) = read-mapped cs i
-
-knows_ideal : (d : Definition) → Knows d (ideal d)
-unfolding ideal
-knows_ideal d class = read-mapped d.classes class
-
-read-past : {A : Type 0} (none : A) (xs : List A) (i : ℕ) → length xs ≤ i → read none xs i ≡ none
-read-past none [] i past = refl
-read-past none (x ∷ xs) zero past = absurd (omega arith)
-read-past none (x ∷ xs) (suc i) past = read-past none xs i (omega arith)
-
--- what is known of types is known of a class that has properties
-known_marks : (d : Definition) (m : Marks) (class : ℕ) → KnowsTypes d m → (0 < length (specs_of d class) → class < length d.types)
-    → weak_of (specs_of d class) ≡ read [] m class
-known_marks d m class knows has = elim (cases_lt class (length d.types)) as (λ _. weak_of (specs_of d class) ≡ read [] m class) [
-  | inl small ↦ knows.at class small
-  | inr past ↦ none (specs_of d class) has past ∙ sym (read-past [] m class (omega (arith, past, knows.types)))
-]
-  where
-    none : (specs : List Spec) → (0 < length specs → class < length d.types) → length d.types ≤ class → weak_of specs ≡ []
-    none [] has past = refl
-    none (s ∷ specs) has past = absurd (omega (arith, has (omega arith), past))
-
 state_of : (r s : After Objects Value) → ◌≡◌ {A = Answer (After Objects Value)} (Ok r) (Ok s) → r.state ≡ s.state
 state_of r s e = let same : r ≡ s = cc e in ap (λ (a : After Objects Value). a.state) same
 
@@ -173,14 +142,13 @@ module _ (d : Definition) (m : Marks) (t n : Store) (id slot : ℕ) (v : Value) 
   set_in : Object → Value → Answer (After Object Value)
   set_in x old = Ok (record { state = record x { values = slice_set x.values slot v }; answer = old })
 
-  pub written_exact : (taken : ℕ → ℕ) (b : List Held) (a : List Task) (was : Value) → KnowsTypes d m
-      → ((x : Object) → living t.objects id ≡ Some x → 0 < length (specs_of d x.class) → x.class < length d.types)
+  pub written_exact : (taken : ℕ → ℕ) (b : List Held) (a : List Task) (was : Value) → Knows d m
       → changed t.objects id (with_value slot v) ≡ Ok (record { state = n.objects; answer = was })
       → n ≡ record t { objects = n.objects; counts = n.counts }
       → ((w : Value) → asked t.objects id (value_at slot) ≡ Ok w → Moved w)
       → Exact d taken t b a → Exact d taken n b a
   unfolding changed asked with_value put_in set_in
-  written_exact taken b a was knows has is beside moves h = by (living t.objects id) refl is moves
+  written_exact taken b a was knows is beside moves h = by (living t.objects id) refl is moves
     where
       of_value : (x : Object) → living t.objects id ≡ Some x → (old : Option Value) → slice_get x.values slot ≡ old
           → ((known arms.Code old >>= set_in x) >>= put_in) ≡ Ok (record { state = n.objects; answer = was })
@@ -188,12 +156,10 @@ module _ (d : Definition) (m : Marks) (t n : Store) (id slot : ℕ) (v : Value) 
       of_value x here None at f moved = cc f
       of_value x here (Some w) at f moved =
           let objects : n.objects ≡ put t.objects id (Some (record x { values = slice_set x.values slot v })) = sym (state_of _ _ f) in
-          let marks : read [] m x.class ≡ read [] (ideal d) x.class = sym (known_marks d m x.class knows (has x here)) ∙ knows_ideal d x.class in
-          let strong : strong_in m slot (living t.objects id) ≡ is_strong (ideal d) x.class slot =
-          ap (strong_in m slot) here ∙ ap (λ (bs : List Bool). not (read true bs slot)) marks in
+          let strong : strong_in m slot (living t.objects id) ≡ is_strong m x.class slot = ap (strong_in m slot) here in
           let floats : n.floating ≡ t.floating = ap (λ (s : Store). s.floating) beside in
           from_counted d taken n b a
-          (write_exact d (ideal d) (beside_of taken b a) t n id slot x w v (knows_ideal d) here at objects floats
+          (write_exact d m (beside_of taken b a) t n id slot x w v knows here at objects floats
           (λ o. moved w refl o ∙ ap (λ c. count_of t.counts o + cond c (in_value o v) 0 - cond c (in_value o w) 0) strong)
           (to_counted d taken t b a h))
 
@@ -207,12 +173,12 @@ module _ (d : Definition) (m : Marks) (t n : Store) (id slot : ℕ) (v : Value) 
 
 module _ (d : Definition) (e new : Engine) where
   pub keeps_by : new.world.weak ≡ e.world.weak
-      → ((taken : ℕ → ℕ) → KnowsTypes d e.world.weak → Exact d taken e.world.table (map held_of e.world.builder.items) (agenda_of d e.stack)
+      → ((taken : ℕ → ℕ) → Knows d e.world.weak → Exact d taken e.world.table (map held_of e.world.builder.items) (agenda_of d e.stack)
       → Exact d taken new.world.table (map held_of new.world.builder.items) (agenda_of d new.stack))
       → KeepsCounts d e new
   keeps_by weak moves = record {
     at = λ taken h. record {
-      knows = subst (λ (m : Marks). KnowsTypes d m) (sym weak) h.knows;
+      knows = subst (λ (m : Marks). Knows d m) (sym weak) h.knows;
       exact = moves taken h.knows h.exact;
     };
   }
@@ -314,10 +280,10 @@ none_of : (o : ℕ) → count_of [] o ≡ 0
 none_of zero = refl
 none_of (suc o) = refl
 
-pub none_counted : (d : Definition) (e : Engine) (m : Marks) → KnowsTypes d m → e.world.weak ≡ m → e.world.table.counts ≡ [] → world_of e.world ≡ said d (first_world d []) lines.build
+pub none_counted : (d : Definition) (e : Engine) (m : Marks) → Knows d m → e.world.weak ≡ m → e.world.table.counts ≡ [] → world_of e.world ≡ said d (first_world d []) lines.build
     → agenda_of d e.stack ≡ [] → Counts d nothing e
 none_counted d e m knows marks counts world idle = record {
-  knows = subst (λ (w : Marks). KnowsTypes d w) (sym marks) knows;
+  knows = subst (λ (w : Marks). Knows d w) (sym marks) knows;
   exact = λ o.
       let none : count_of e.world.table.counts o ≡ 0 = ap (λ cs. count_of cs o) counts ∙ none_of o in
       let same : mentions d (config_of d e) o ≡ 0 =
@@ -325,3 +291,25 @@ none_counted d e m knows marks counts world idle = record {
       ∙ omega (arith, ap (λ (ts : List Task). total (in_task o) ts) idle) in
       omega (arith, none, same);
 }
+
+-- ** what is to be finalised
+
+-- the table finds what the machine does
+pub finds_mentioned : (d : Definition) (e : Engine) → Counts d nothing e
+    → next_unheld (count_of e.world.table.counts) e.world.table.objects ≡ next_unheld (mentions d (config_of d e)) e.world.table.objects
+finds_mentioned d e h =
+    counted_finds e.world.table.objects (count_of e.world.table.counts) (mentions d (config_of d e)) (λ id some. omega (arith, h.exact id))
+
+-- what is finalised held what it let go of
+pub keeps_finalised : (d : Definition) (e : Engine) (t : Store) (w : World) (id n : ℕ) → (Knows d e.world.weak → Finalises d id e.world.table t)
+    → w ≡ record (record e.world { table = t }) { transcript = w.transcript } → KeepsCounts d e (record e { world = w; counted = n })
+keeps_finalised d e t w id n finalises is =
+    keeps_by d e (record e { world = w; counted = n }) (ap (λ (v : World). v.weak) is) (λ taken knows h.
+    let b = map held_of e.world.builder.items in
+    let a = agenda_of d e.stack in
+    let after = from_counted d taken t b a (finalise_exact d (beside_of taken b a) e.world.table t id (finalises knows) (to_counted d taken e.world.table b a h)) in
+    subst (λ (v : World). Exact d taken v.table (map held_of v.builder.items) a) (sym is) after)
+
+-- the engine with another table
+abbrev pub with_table : Engine → Store → Engine
+with_table e t = record e { world = record e.world { table = t } }

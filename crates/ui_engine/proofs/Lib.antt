@@ -1,6 +1,6 @@
 pub mod Lists
 pub mod Objects
-pub mod Held
+pub mod Floats
 pub mod Quiet
 pub mod Strings
 pub mod Falls
@@ -8,6 +8,7 @@ pub mod SpecAt
 pub mod PlainSets
 pub mod Left
 pub mod Marks
+pub mod Finalising
 pub mod Counts
 pub mod Notified
 pub mod Built

@@ -1,5 +1,5 @@
 -- Which properties are weak, as code lists it.
-use Rattle.std.proofs.Common.{◌≡◌, ℕ, zero, suc, ◌<◌, Bool, List, [], ◌∷◌, ◌++◌, length, take, Some, slice_get, refl, sym, ap, ◌∙◌, inl, inr, arith}
+use Rattle.std.proofs.Common.{◌≡◌, ℕ, zero, suc, ◌<◌, ◌≤◌, Bool, List, [], ◌∷◌, ◌++◌, length, take, Some, slice_get, refl, sym, ap, ◌∙◌, inl, inr, arith}
 use Rattle.std.proofs.lemmas.Bool.{cases_eq}
 use Rattle.ui_machine.specs.Seq.{read}
 use Rattle.ui_machine.specs.Definition.Properties.{Spec}
@@ -30,3 +30,8 @@ one_type_more of rows n long known class small = elim (cases_eq class n) [
   | inl is ↦ ap of is ∙ sym (read-last rows (of n)) ∙ ap (read [] (rows ++ of n ∷ [])) (long ∙ sym is)
   | inr ne ↦ let less : class < n = omega arith in known class less ∙ sym (read-first rows (of n) class (omega (arith, long, less)))
 ]
+
+pub read_past : {A : Type 0} (none : A) (xs : List A) (i : ℕ) → length xs ≤ i → read none xs i ≡ none
+read_past none [] i past = refl
+read_past none (x ∷ xs) zero past = absurd (omega arith)
+read_past none (x ∷ xs) (suc i) past = read_past none xs i (omega arith)

@@ -21,8 +21,3 @@ class_absent os id arm = by (living os id) refl
     by None is h = rw is refl
     by (Some x) is h = cc h
 
-pub class_here : (os : Objects) (id class : ℕ) (x : Object) → asked os id (λ o. Ok o.class) ≡ Ok class → living os id ≡ Some x → class ≡ x.class
-unfolding asked
-class_here os id class x h here =
-    let e : (known arms.Operand (Some x) >>= λ (o : Object). Ok o.class) ≡ Ok class = ap (λ (o : Option Object). known arms.Operand o >>= λ y. Ok y.class) (sym here) ∙ h in
-    cc e

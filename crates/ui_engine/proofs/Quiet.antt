@@ -24,46 +24,13 @@ use Rattle.ui_machine.specs.Rules.Events.{with_result, carrying_set, carrying_ge
 use Rattle.ui_machine.specs.Rules.Build.{held_object, set_forward, building_forward}
 use Rattle.ui_machine.specs.Prefix.{IsPrefix}
 use Rattle.ui_machine.proofs.Prefixes.{prefix_same, prefix_one}
-use Rattle.ui_engine.specs.Holding.{making_of}
-use Rattle.ui_engine.proofs.Held.{Quietly, quietly_on, if_ok_at, bind_ok, changed_lives, Spares, changed_whole}
+use Rattle.ui_engine.specs.Floating.{making_of}
+use Rattle.ui_engine.proofs.Floats.{Quietly, quietly_on, if_ok_at, bind_ok}
 
 -- a step that keeps what holds the objects, and starts no construction
 pub record Calm (w : World) (s : Started) : Type 0 where
   pub quiet : Quietly w s.world
   pub none : (o : ℕ) → total (making_of o) s.tasks ≡ 0
-
--- ** changes that dispose nothing
-
-spared_by : (b : Bool) (slot : ℕ) (x : Object) → x.disposed ≡ false
-    → (let r : After Object Bool = cond b (record { state = x; answer = true }) (record { state = record x { queue = queued x.queue slot }; answer = false }) in r.state.disposed ≡ false)
-spared_by true slot x h = h
-spared_by false slot x h = h
-
-raised_spares : (slot : ℕ) → Spares (raised slot)
-raised_spares slot x h = spared_by (nat_eq x.freezes 0) slot x h
-
-value_spares : (slot : ℕ) (v : Value) → Spares (with_value slot v)
-unfolding with_value
-value_spares slot v x =
-    bind_ok (value_at slot x) _ (λ (r : After Object Value). x.disposed ≡ false → r.state.disposed ≡ false) (λ old _ h. h)
-
-less_spares : (n : ℕ) (x : Object) → x.disposed ≡ false → (less_frozen n x).state.disposed ≡ false
-less_spares zero x h = h
-less_spares (suc n) x h = h
-
-pub frozen_spares : Spares frozen_less
-frozen_spares x = by (nat_lt 0 x.freezes)
-  where
-    by : (b : Bool) → IfOk (only_if b arms.Freeze (Ok (less_frozen (x.freezes - 1) x))) (λ r. x.disposed ≡ false → r.state.disposed ≡ false)
-    by true = less_spares (x.freezes - 1) x
-    by false = tt
-
--- a world with other objects, as a change of one left them
-same_lives : {X : Type 0} (w new : World) (id : ℕ) (change : Object → Answer (After Object X)) → Spares change → (os : After Objects X) → changed w.objects id change ≡ Ok os → new.objects ≡ os.state → new.builder ≡ w.builder → new.floating ≡ w.floating → IsPrefix w.transcript new.transcript → Quietly w new
-same_lives {X} w new id change spares os e objects builder floating grows =
-    let h = if_ok_at (λ (r : After Objects X). (q : ℕ) → is_some (living r.state q) ≡ true → is_some (living w.objects q) ≡ true) (changed w.objects id change) os (changed_lives w.objects id change) e in
-    let k = if_ok_at (λ (r : After Objects X). (q : ℕ) → is_disposed (living w.objects q) ≡ false → is_disposed (living r.state q) ≡ false) (changed w.objects id change) os (changed_whole w.objects id change spares) e in
-    record { lives = λ q s. h q (subst (λ (xs : Objects). is_some (living xs q) ≡ true) objects s); whole = λ q s. subst (λ (xs : Objects). is_disposed (living xs q) ≡ false) (sym objects) (k q s); builder = builder; floating = floating; grows = grows }
 
 -- ** notifications
 
@@ -74,7 +41,7 @@ none_made false id slot o = refl
 pub raising_calm : (w : World) (id slot : ℕ) → IfOk (raising w id slot) (Calm w)
 unfolding raising
 raising_calm w id slot = bind_ok (changed w.objects id (raised slot)) _ (Calm w) (λ r e. record {
-  quiet = same_lives w (record w { objects = r.state }) id (raised slot) (raised_spares slot) r e refl refl refl (prefix_same w.transcript);
+  quiet = record { floating = refl; grows = prefix_same w.transcript };
   none = none_made r.answer id slot;
 })
 
@@ -85,7 +52,7 @@ calm_on w v (Err arm) q h = tt
 pub notifying_calm : (d : Definition) (w : World) (id slot : ℕ) → IfOk (notifying d w id slot) (Calm w)
 unfolding notifying
 notifying_calm d w id slot = bind_ok (object_at w.objects id) _ (Calm w) (λ o _. bind_ok (known arms.Code (spec_of d o.class slot)) _ (Calm w) (λ p _. bind_ok (signal_at d o.class 0) _ (Calm w) (λ s _. record {
-  quiet = record { lives = λ q h. h; whole = λ q h. h; builder = refl; floating = refl; grows = (prefix_one w.transcript _) };
+  quiet = record { floating = refl; grows = (prefix_one w.transcript _) };
   none = λ o. refl;
 })))
 
@@ -98,14 +65,14 @@ told_calm false w v id slot q = record { quiet = q; none = λ o. refl }
 pub written_calm : (d : Definition) (w : World) (id slot : ℕ) (s : Spec) (v : Value) → IfOk (written d w id slot s v) (Calm w)
 unfolding written
 written_calm d w id slot s v = bind_ok (changed w.objects id (with_value slot v)) _ (Calm w) (λ r e.
-    told_calm (notifies s r.answer v) w _ id slot (same_lives w _ id (with_value slot v) (value_spares slot v) r e refl refl refl (prefix_one w.transcript _)))
+    told_calm (notifies s r.answer v) w _ id slot (record { floating = refl; grows = prefix_one w.transcript _ }))
 
 settled_calm : (d : Definition) (w : World) (id slot : ℕ) (s : Spec) (v valid : Value) → IfOk (settled d w id slot s v valid) (Calm w)
 settled_calm d w id slot s v valid = by (same_value valid v || is_lax s)
   where
     by : (b : Bool) → IfOk (cond b (written d w id slot s (kept w.objects s valid)) (starts (said d w (lines.refused id s.name v)) [])) (Calm w)
     by true = written_calm d w id slot s (kept w.objects s valid)
-    by false = record { quiet = record { lives = λ q h. h; whole = λ q h. h; builder = refl; floating = refl; grows = (prefix_one w.transcript _) }; none = λ o. refl }
+    by false = record { quiet = record { floating = refl; grows = (prefix_one w.transcript _) }; none = λ o. refl }
 
 only_calm : (w : World) (b : Bool) (arm : Arm) (a : Answer Started) → IfOk a (Calm w) → IfOk (only_if b arm a) (Calm w)
 only_calm w true arm a h = h
@@ -117,13 +84,10 @@ setting_calm d w id slot v = bind_ok (spec_at d w.objects id slot) _ (Calm w) (�
 
 -- ** events
 
-still : (w new : World) → new.objects ≡ w.objects → new.builder ≡ w.builder → new.floating ≡ w.floating → IsPrefix w.transcript new.transcript → Quietly w new
-still w new objects builder floating grows = record { lives = λ q h. subst (λ (xs : Objects). is_some (living xs q) ≡ true) objects h; whole = λ q h. subst (λ (xs : Objects). is_disposed (living xs q) ≡ false) (sym objects) h; builder = builder; floating = floating; grows = grows }
-
 set_given_calm : (w : World) (id slot : ℕ) (given : Given) → IfOk (set_given w id slot given) (Calm w)
 unfolding set_given
 set_given_calm w id slot given = bind_ok (known arms.Operand (given_value w given)) _ (Calm w) (λ v _. record {
-  quiet = still w w refl refl refl (prefix_same w.transcript);
+  quiet = record { floating = refl; grows = prefix_same w.transcript };
   none = λ o. refl;
 })
 
@@ -136,14 +100,14 @@ carrying_set_calm d w place slot given = bind_ok (held_object w place) _ (Calm w
 pub carrying_get_calm : (d : Definition) (w : World) (place slot : ℕ) → IfOk (carrying_get d w place slot) (Calm w)
 unfolding carrying_get
 carrying_get_calm d w place slot = bind_ok (held_object w place) _ (Calm w) (λ id _. bind_ok (spec_at d w.objects id slot) _ (Calm w) (λ s _. bind_ok (asked w.objects id (value_at slot)) _ (Calm w) (λ v _.
-    only_calm w (is_readable s) arms.Flags (starts (with_result (said d w (lines.get id s.name v)) v) []) (record { quiet = still w _ refl refl refl (prefix_one w.transcript _); none = λ o. refl }))))
+    only_calm w (is_readable s) arms.Flags (starts (with_result (said d w (lines.get id s.name v)) v) []) (record { quiet = record { floating = refl; grows = prefix_one w.transcript _ }; none = λ o. refl }))))
 
 -- ** forward references
 
 set_forward_calm : (w : World) (id slot to : ℕ) (items : List Item) → IfOk (set_forward w id slot to items) (Calm w)
 unfolding set_forward
 set_forward_calm w id slot to items = bind_ok (held_object w to) _ (Calm w) (λ target _. record {
-  quiet = still w w refl refl refl (prefix_same w.transcript);
+  quiet = record { floating = refl; grows = prefix_same w.transcript };
   none = λ o. refl;
 })
 
@@ -156,5 +120,5 @@ building_forward_calm d w place slot to items = bind_ok (held_object w place) _ 
 -- ** thaws
 
 pub thawing_calm : (w : World) (id : ℕ) (slots : List ℕ) → IfOk (thawing w id slots) (Calm w)
-thawing_calm w id [] = record { quiet = still w w refl refl refl (prefix_same w.transcript); none = λ o. refl }
-thawing_calm w id (slot ∷ slots) = record { quiet = still w w refl refl refl (prefix_same w.transcript); none = λ o. refl }
+thawing_calm w id [] = record { quiet = record { floating = refl; grows = prefix_same w.transcript }; none = λ o. refl }
+thawing_calm w id (slot ∷ slots) = record { quiet = record { floating = refl; grows = prefix_same w.transcript }; none = λ o. refl }

@@ -1,5 +1,5 @@
--- While objects are held, the machine's step is the first task's.
-use Rattle.std.proofs.Common.{◌≡◌, List, ◌∷◌, reverse, None, Result, Ok, Err, refl, sym, ap, subst, ◌∙◌}
+-- Where nothing is to be finalised, the machine's step is the first task's; else it is the finalisation.
+use Rattle.std.proofs.Common.{◌≡◌, ℕ, ◌+◌, suc, ◌<◌, List, ◌∷◌, reverse, Some, None, arith, Result, Ok, Err, refl, sym, ap, subst, ◌∙◌}
 use Rattle.std.specs.Prelude.{IfOk, OnErr}
 use Rattle.ui_machine.specs.declared.arm.Halt.{Halt}
 use Rattle.ui_machine.specs.declared.arm.Halt.TheVariants as halts
@@ -7,7 +7,9 @@ use Rattle.ui_machine.specs.Definition.{Definition}
 use Rattle.ui_machine.specs.State.Tasks.{Task}
 use Rattle.ui_machine.specs.State.Config.{World, Config}
 use Rattle.ui_machine.specs.Outcome.{Goes, Stops}
-use Rattle.ui_machine.specs.Steps.{act, first_of, step, asked_first, asked_after, question}
+use Rattle.ui_machine.specs.State.References.{mentions, next_unheld, same}
+use Rattle.ui_machine.specs.Seq.{total}
+use Rattle.ui_machine.specs.Steps.{act, counted, finalising, most_steps, first_of, step, asked_first, asked_after, question}
 use Rattle.ui_machine.specs.Runs.{HaltsAt}
 use Rattle.builder_defs.specs.Meaning.{IsBasic}
 use Rattle.ui_engine.specs.declared.task.Task as code
@@ -19,15 +21,15 @@ use Rattle.ui_engine.specs.TaskView.{task_of, agenda_of}
 use Rattle.ui_engine.specs.EngineView.{IsMade}
 use Rattle.ui_machine.specs.Prefix.{IsPrefix}
 use Rattle.ui_machine.proofs.Prefixes.{prefix_by}
-use Rattle.ui_engine.specs.Holding.{IsHeld}
-use Rattle.ui_engine.specs.Stepping.{Stepped}
-use Rattle.ui_engine.proofs.Held.{none_unmentioned, if_ok_at}
+use Rattle.ui_engine.specs.Floating.{making_of, FloatsInMaking}
+use Rattle.ui_engine.specs.Stepping.{NoneUnheld, Stepped}
+use Rattle.ui_engine.proofs.Floats.{if_ok_at}
 use Rattle.ui_engine.proofs.Notified.{reverse-map}
 use Rattle.ui_engine.proofs.Acts.{Passes, acted}
 
 -- nothing is unheld, so that the first task acts
-pub step_acts : (d : Definition) (c : Config) → IsHeld c.world c.agenda → step d None c ≡ act d c.world None c.agenda c.counted
-step_acts d c held = ap (first_of d None c) (none_unmentioned d c held)
+pub step_acts : (d : Definition) (c : Config) → NoneUnheld d c → step d None c ≡ act d c.world None c.agenda c.counted
+step_acts d c none = ap (first_of d None c) none
 
 -- no task of the engine asks a peer
 asks_none : (d : Definition) (w : World) (task : code.Task) (rest : List Task) → asked_first w (task_of d task ∷ rest) ≡ None
@@ -44,16 +46,16 @@ halts_at : (d : Definition) (c : Config) (halt : Halt) → question d c ≡ None
 halts_at d c halts.OutOfMemory none stops = tt
 halts_at d c (halts.Stuck arm) none stops = record { reply = None; asks = none; stuck = stops }
 
-module _ (d : Definition) (basic : IsBasic d) (c e : Config) (held : IsHeld c.world c.agenda) (task : code.Task) (s : Stack) (first : c.agenda ≡ task_of d task ∷ agenda_of d s) where
+module _ (d : Definition) (basic : IsBasic d) (c e : Config) (none : NoneUnheld d c) (held : FloatsInMaking c.world c.agenda) (task : code.Task) (s : Stack) (first : c.agenda ≡ task_of d task ∷ agenda_of d s) where
   acts : step d None c ≡ act d c.world None (task_of d task ∷ agenda_of d s) c.counted
-  acts = step_acts d c held ∙ ap (λ (ts : List Task). act d c.world None ts c.counted) first
+  acts = step_acts d c none ∙ ap (λ (ts : List Task). act d c.world None ts c.counted) first
 
   asks : question d c ≡ None
-  asks = ap (asked_after c) (none_unmentioned d c held) ∙ ap (λ (ts : List Task). asked_first c.world ts) first ∙ asks_none d c.world task (agenda_of d s)
+  asks = ap (asked_after c) none ∙ ap (λ (ts : List Task). asked_first c.world ts) first ∙ asks_none d c.world task (agenda_of d s)
 
   passes : act d c.world None (task_of d task ∷ agenda_of d s) c.counted ≡ Ok e → Passes d c.world (task_of d task) (agenda_of d s) c.counted e
   passes is =
-      let held' = subst (λ (ts : List Task). IsHeld c.world ts) first held in
+      let held' = subst (λ (ts : List Task). FloatsInMaking c.world ts) first held in
       if_ok_at (Passes d c.world (task_of d task) (agenda_of d s) c.counted) (act d c.world None (task_of d task ∷ agenda_of d s) c.counted) e
       (acted d c.world (agenda_of d s) c.counted basic task (reverse s.tasks.items) (sym (reverse-map (task_of d) s.tasks.items)) held') is
 
@@ -70,3 +72,26 @@ module _ (d : Definition) (basic : IsBasic d) (c e : Config) (held : IsHeld c.wo
   pub first_grows : (result : Result Made Halt) → Goes result (act d c.world None (task_of d task ∷ agenda_of d s) c.counted) e → OnErr result (e.world.transcript ≡ c.world.transcript) → IsPrefix c.world.transcript e.world.transcript
   first_grows (Ok made) goes quiet = (passes goes).grows
   first_grows (Err halt) goes quiet = prefix_by quiet
+
+-- the step that finalises an object
+module _ (d : Definition) (c e : Config) (id : ℕ) (unheld : next_unheld (mentions d c) c.world.objects ≡ Some id) where
+  finalises : step d None c ≡ counted c.agenda c.counted (finalising d c.world id)
+  finalises = ap (first_of d None c) unheld
+
+  asks_nothing : question d c ≡ None
+  asks_nothing = ap (asked_after c) unheld
+
+  pub finalise_stepped : counted c.agenda c.counted (finalising d c.world id) ≡ Ok e → FloatsInMaking c.world c.agenda → e.world.floating ≡ c.world.floating → e.agenda ≡ c.agenda
+      → (c.counted < most_steps) × (e.counted ≡ suc c.counted) → Stepped (Ok mades.Counted) d c e
+  finalise_stepped leads held floating agenda counts = (
+    record { asks = asks_nothing; leads = finalises ∙ leads },
+    record { at = λ q some.
+        let f : total (same q) e.world.floating ≡ total (same q) c.world.floating = ap (total (same q)) floating in
+        let m : total (making_of q) e.agenda ≡ total (making_of q) c.agenda = ap (total (making_of q)) agenda in
+        omega (arith, m, held.at q (omega (arith, f, some))) },
+    counts.0,
+    counts.1,
+  )
+
+  pub finalise_halts : (halt : Halt) → Stops halt (counted c.agenda c.counted (finalising d c.world id)) → HaltsAt d c halt
+  finalise_halts halt stops = halts_at d c halt asks_nothing (subst (Stops halt) (sym finalises) stops)

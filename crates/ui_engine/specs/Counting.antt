@@ -4,7 +4,7 @@ use Rattle.ui_machine.specs.Definition.{Definition}
 use Rattle.ui_machine.specs.State.References.{mentions}
 use Rattle.instances.specs.Store.{Store, count_of}
 use Rattle.ui_engine.specs.declared.engine.Engine.{Engine}
-use Rattle.ui_engine.specs.WeakView.{KnowsTypes}
+use Rattle.instances.specs.Weak.{Knows}
 use Rattle.ui_engine.specs.EngineView.{config_of}
 
 -- nothing but the counts of a table differs
@@ -15,7 +15,7 @@ pub record OnlyCounts (old new : Store) : Type 0 where
 -- Each object is counted as often as it is mentioned, and so often more as is said: so much holds a task that was taken off and is not done yet.
 -- It is known which properties are weak.
 pub record Counts (d : Definition) (taken : ℕ → ℕ) (e : Engine) : Type 0 where
-  pub knows : KnowsTypes d e.world.weak
+  pub knows : Knows d e.world.weak
   pub exact : (o : ℕ) → count_of e.world.table.counts o ≡ mentions d (config_of d e) o + taken o
 
 -- what code keeps that counts all that it moves

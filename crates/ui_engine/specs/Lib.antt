@@ -1,6 +1,6 @@
 pub mod GivenView
 pub mod WeakView
-pub mod Holding
+pub mod Floating
 pub mod View
 pub mod MakingView
 pub mod LineView

@@ -11,4 +11,6 @@ line_view (code.Set object property value) = lines.set object.0 property.now (va
 line_view (code.Refused object property value) = lines.refused object.0 property.now (value_view value.now)
 line_view (code.Notify object property) = lines.notify object.0 property.now
 line_view (code.Get object property value) = lines.get object.0 property.now (value_view value.now)
+line_view (code.Dispose object) = lines.dispose object.0
+line_view (code.Final object) = lines.final object.0
 line_view (code.End steps) = lines.end steps

@@ -9,6 +9,7 @@ mod carrying;
 mod counting;
 mod dispatches;
 mod engine;
+mod finalisation;
 mod forwards;
 mod given;
 mod holding;

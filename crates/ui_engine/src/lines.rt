@@ -46,6 +46,14 @@ pub enum Line<'a> {
         property: &'a str,
         value: &'a Value,
     },
+    /// An object is disposed, for the first time.
+    Dispose {
+        object: ObjectId,
+    },
+    /// An object is taken out.
+    Final {
+        object: ObjectId,
+    },
     /// A dispatch ends, after so many counted steps.
     End {
         steps: u64,
@@ -81,6 +89,8 @@ impl Line<'_> {
                 property,
                 value,
             } => value_line(alloc, types, "get #", object.0, property, value),
+            Line::Dispose { object } => object_line(alloc, "dispose #", object.0),
+            Line::Final { object } => object_line(alloc, "final #", object.0),
             Line::End { steps } => end_line(alloc, steps),
         }
     }
@@ -101,6 +111,15 @@ fn notify_line(alloc: Global, object: u64, property: &str) -> Result<String, All
 {
     let mut line = String::with_capacity(alloc, room(property))?;
     write!(line, "notify #{object}.{property}")?;
+    Ok(line)
+}
+
+// `dispose #1`, or with another word in front
+fn object_line(alloc: Global, word: &str, object: u64) -> Result<String, AllocError>
+    ensures { IfOk result (λ line. string_bytes line ≡ word.now ++ decimal object) }
+{
+    let mut line = String::with_capacity(alloc, room(word))?;
+    write!(line, "{word}{object}")?;
     Ok(line)
 }
 

@@ -7,7 +7,6 @@ ghost use Rattle.ui_engine.specs.View.{world_of};
 ghost use Rattle.ui_engine.specs.TaskView.{task_of, agenda_of};
 ghost use Rattle.ui_engine.specs.Counting.{KeepsCounts};
 ghost use Rattle.ui_engine.specs.EngineView.{config_of, IsMade};
-ghost use Rattle.ui_engine.specs.Holding.{NoneDisposed};
 
 use crate::engine::{Engine, Made};
 use crate::task::Task;
@@ -17,7 +16,6 @@ use ui_machine::Halt;
 impl Engine {
     // Does what a task says, and answers whether that was counted.
     pub(crate) fn act(&mut self, definition: &Definition, task: Task) -> Result<Made, Halt>
-        requires whole { NoneDisposed (world_of self.now.world).objects }
         ensures step { Goes result
             (act definition.now (world_of self.old.world) None (task_of definition.now task ∷ agenda_of definition.now self.old.stack) self.old.counted)
             (config_of definition.now self.new) }

@@ -6,8 +6,8 @@ ghost use Rattle.ui_engine.specs.View.{world_of};
 ghost use Rattle.ui_engine.specs.TaskView.{agenda_of};
 ghost use Rattle.ui_engine.specs.EngineView.{config_of};
 ghost use Rattle.ui_machine.specs.Prefix.{IsPrefix};
-ghost use Rattle.ui_engine.specs.Holding.{IsHeld};
-ghost use Rattle.ui_engine.specs.Stepping.{Stepped, Advanced, Ran};
+ghost use Rattle.ui_engine.specs.Floating.{FloatsInMaking};
+ghost use Rattle.ui_engine.specs.Stepping.{NoneUnheld, Stepped, Advanced, Ran};
 
 use crate::engine::{Engine, Made};
 use crate::holding::let_go_any;
@@ -15,9 +15,10 @@ use builder_defs::Definition;
 use ui_machine::Halt;
 
 impl Engine {
-    // Makes the step of the first task, if there is one.
-    fn step(&mut self, definition: &Definition) -> Result<Made, Halt>
-        requires held { IsHeld (world_of self.now.world) (agenda_of definition.now self.now.stack) }
+    // Makes the step of the first task, if there is one, where nothing is to be finalised.
+    fn first_task(&mut self, definition: &Definition) -> Result<Made, Halt>
+        requires none { NoneUnheld definition.now (config_of definition.now self.now) }
+        requires floats { FloatsInMaking (world_of self.now.world) (agenda_of definition.now self.now.stack) }
         requires counted { Counts definition.now nothing self.now }
         ensures counted { OnOk result (Counts definition.now nothing self.new) }
         ensures stepped { Stepped result definition.now (config_of definition.now self.old) (config_of definition.now self.new) }
@@ -33,9 +34,24 @@ impl Engine {
         Ok(made)
     }
 
+    // Makes a step, if there is one to make: what nothing holds is finalised first, and then comes the first task.
+    fn step(&mut self, definition: &Definition) -> Result<Made, Halt>
+        requires floats { FloatsInMaking (world_of self.now.world) (agenda_of definition.now self.now.stack) }
+        requires counted { Counts definition.now nothing self.now }
+        ensures counted { OnOk result (Counts definition.now nothing self.new) }
+        ensures stepped { Stepped result definition.now (config_of definition.now self.old) (config_of definition.now self.new) }
+        ensures grows { IsPrefix (world_of self.old.world).transcript (world_of self.new.world).transcript }
+    {
+        let Some(object) = self.world.table.next_unheld() else {
+            return self.first_task(definition);
+        };
+        self.finalise(definition, object)?;
+        Ok(Made::Counted)
+    }
+
     // Makes steps until a counted one is made or none is left, and answers whether one was made.
     fn advance(&mut self, definition: &Definition) -> Result<bool, Halt>
-        requires held { IsHeld (world_of self.now.world) (agenda_of definition.now self.now.stack) }
+        requires floats { FloatsInMaking (world_of self.now.world) (agenda_of definition.now self.now.stack) }
         requires counted { Counts definition.now nothing self.now }
         ensures counted { OnOk result (Counts definition.now nothing self.new) }
         ensures advanced { Advanced result definition.now (config_of definition.now self.old) (config_of definition.now self.new) }
@@ -52,7 +68,7 @@ impl Engine {
 
     /// Makes steps until none is left.
     pub(crate) fn run(&mut self, definition: &Definition) -> Result<(), Halt>
-        requires held { IsHeld (world_of self.now.world) (agenda_of definition.now self.now.stack) }
+        requires floats { FloatsInMaking (world_of self.now.world) (agenda_of definition.now self.now.stack) }
         requires counted { Counts definition.now nothing self.now }
         ensures counted { OnOk result (Counts definition.now nothing self.new) }
         ensures ran { Ran result definition.now (config_of definition.now self.old) (config_of definition.now self.new) }

@@ -1,15 +1,14 @@
 //! Sets of properties, and the notifications that they raise.
 
-ghost use Rattle.std.specs.Prelude.{◌≡◌, ◌<◌, length, Some, ◌&&◌, not, string_bytes, OnOk, OnErr, IfOk};
+ghost use Rattle.std.specs.Prelude.{◌≡◌, ◌&&◌, not, string_bytes, OnOk, OnErr, IfOk};
 ghost use Rattle.ui_machine.specs.Outcome.{Goes, Follows, only_if};
-ghost use Rattle.ui_machine.specs.Rules.Sets.{setting, written, raising_if, notifies, spec_at, has_kind, lives, unless_disposed};
-ghost use Rattle.ui_machine.specs.State.Objects.{Object, living, class_in, changed, with_value};
+ghost use Rattle.ui_machine.specs.Rules.Sets.{setting, kept, written, raising_if, notifies, spec_at, has_kind, lives, unless_disposed};
+ghost use Rattle.ui_machine.specs.State.Objects.{class_in, changed, with_value};
 ghost use Rattle.ui_machine.specs.declared.arm.Arm.TheVariants as arms;
 ghost use Rattle.param_specs.specs.Validation.{KnowsClass};
 ghost use Rattle.ui_machine.specs.Definition.Properties.{is_lax};
 ghost use Rattle.ui_machine.specs.State.Config.{said, with_objects};
 ghost use Rattle.ui_machine.specs.Output.Lines as lines;
-ghost use Rattle.ui_machine.specs.Definition.Lookups.{specs_of};
 ghost use Rattle.ui_machine.specs.Steps.{uncounted};
 ghost use Rattle.g_values.specs.View.{kind_view, value_view};
 ghost use Rattle.param_specs.specs.View.{spec_view};
@@ -19,7 +18,6 @@ ghost use Rattle.instances.specs.Store.{Shows, id_of, named_by};
 ghost use Rattle.ui_engine.specs.TaskView.{agenda_of};
 ghost use Rattle.ui_engine.specs.Counting.{KeepsCounts};
 ghost use Rattle.ui_engine.specs.EngineView.{config_of};
-ghost use Rattle.ui_engine.specs.Holding.{NoneDisposed};
 
 use crate::engine::Engine;
 use crate::holding::can_hold_named;
@@ -85,23 +83,10 @@ fn living_class(table: &Table, id: ObjectId) -> Option<TypeId>
     }
 }
 
-// How many properties the class of an object has, and none where the object does not live.
-fn slots_of(table: &Table, definition: &Definition, id: ObjectId) -> usize
-    ensures { (x : Object) → living table.now.objects id.0 ≡ Some x → 0 < length (specs_of definition.now x.class)
-        → x.class < length definition.now.types }
-{
-    match table.class_of(id) {
-        Ok(class) => definition.slots(class),
-        Err(_) => 0,
-    }
-}
-
 // A value by the class of the object that it names, which must live.
 fn classed(table: &Table, value: Value) -> Result<Value, Arm>
-    requires whole { NoneDisposed table.now.objects }
     ensures value { Shows value_view result (only_if (lives table.now.objects (value_view value)) arms.Value (Ok (value_view value))) }
     ensures class { IfOk result (λ v. KnowsClass (class_in table.now.objects) v) }
-    ensures stands { IfOk result (λ v. unless_disposed table.now.objects (value_view v) ≡ value_view v) }
 {
     let Some(id) = named(&value) else {
         return Ok(value);
@@ -110,6 +95,30 @@ fn classed(table: &Table, value: Value) -> Result<Value, Arm>
         return Err(Arm::Value);
     };
     Ok(Value::Object(class, Some(id)))
+}
+
+// Null in place of a disposed object.
+fn unless_disposed(table: &Table, value: Value) -> Value
+    ensures { value_view result ≡ unless_disposed table.now.objects (value_view value) }
+{
+    let Value::Object(class, Some(id)) = &value else {
+        return value;
+    };
+    let (class, id) = (*class, *id);
+    if table.is_disposed(id) {
+        return Value::Object(class, None);
+    }
+    value
+}
+
+// The value that is written: a weak property takes no disposed object.
+fn kept(table: &Table, spec: &Spec, value: Value) -> Value
+    ensures { value_view result ≡ kept table.now.objects (spec_view spec.now) (value_view value) }
+{
+    if !spec.weak {
+        return value;
+    }
+    unless_disposed(table, value)
 }
 
 impl Engine {
@@ -175,8 +184,7 @@ impl Engine {
         ensures same { (self.new.stack ≡ self.old.stack) × (self.new.counted ≡ self.old.counted) }
         ensures counted { OnOk result (KeepsCounts definition.now self.old self.new) }
     {
-        // For the proof: it is a known class that has properties.
-        let _slots = slots_of(&self.world.table, definition, object);
+        let _ = definition;
         if !can_hold_named(&self.world.table, &value) {
             return Err(Halt::OutOfMemory);
         }
@@ -245,7 +253,6 @@ impl Engine {
         slot: u16,
         value: Value,
     ) -> Result<(), Halt>
-        requires whole { NoneDisposed (world_of self.now.world).objects }
         ensures step { Goes result
             (uncounted (agenda_of definition.now self.old.stack) self.old.counted (setting definition.now (world_of self.old.world) object.0 slot (value_view value)))
             (config_of definition.now self.new) }
@@ -263,7 +270,8 @@ impl Engine {
             self.refuse(definition, object, spec.name.as_str(), &original)?;
             return Ok(());
         }
-        self.put(definition, object, slot, spec, valid)?;
+        let kept = kept(&self.world.table, spec, valid);
+        self.put(definition, object, slot, spec, kept)?;
         Ok(())
     }
 }

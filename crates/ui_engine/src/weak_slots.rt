@@ -3,7 +3,8 @@
 ghost use Rattle.std.specs.Prelude.{◌≡◌, ◌<◌, length, map, IfOk};
 ghost use Rattle.ui_machine.specs.Seq.{read};
 ghost use Rattle.ui_machine.specs.Definition.Lookups.{specs_of};
-ghost use Rattle.ui_engine.specs.WeakView.{weak_of, KnowsTypes};
+ghost use Rattle.ui_engine.specs.WeakView.{weak_of};
+ghost use Rattle.instances.specs.Weak.{Knows};
 
 use builder_defs::Definition;
 use instances::WeakSlots;
@@ -28,7 +29,7 @@ fn weak_of(alloc: Global, definition: &Definition, class: TypeId) -> Result<Vec<
 
 /// The weak properties of each type.
 pub(crate) fn weak_slots(alloc: Global, definition: &Definition) -> Result<WeakSlots, AllocError>
-    ensures { IfOk result (λ weak. KnowsTypes definition.now weak) }
+    ensures { IfOk result (λ weak. Knows definition.now weak) }
 {
     let types = definition.types();
     // For the proof: this call says how many types there are at most.

@@ -1,6 +1,6 @@
 //! All but the tasks.
 
-ghost use Rattle.std.specs.Prelude.{◌≡◌, ◌∷◌, [], ◌++◌, OnOk, OnErr, map, slice_get, string_bytes};
+ghost use Rattle.std.specs.Prelude.{◌≡◌, ◌∷◌, [], ◌++◌, cond, OnOk, OnErr, map, slice_get, string_bytes};
 ghost use Rattle.ui_machine.specs.Seq.{write};
 ghost use Rattle.ui_machine.specs.State.Config.{built, unbuilt, held_at};
 ghost use Rattle.ui_machine.specs.Rules.Build.{identity_held};
@@ -31,6 +31,29 @@ impl World {
         ensures beside { self.new ≡ record self.old { transcript = self.new.transcript } }
     {
         self.transcript.push(line)?;
+        Ok(())
+    }
+
+    /// Two lines more, the first only if it is to be told, or none.
+    pub fn say_both(
+        &mut self,
+        is_told: bool,
+        first: String,
+        second: String,
+    ) -> Result<(), AllocError>
+        ensures ok { OnOk result (world_of self.new ≡ record (world_of self.old) { transcript =
+            cond is_told ((world_of self.old).transcript ++ string_bytes first ∷ []) (world_of self.old).transcript ++ string_bytes second ∷ [] }) }
+        ensures err { OnErr result (world_of self.new ≡ world_of self.old) }
+        ensures beside { self.new ≡ record self.old { transcript = self.new.transcript } }
+    {
+        if !is_told {
+            return self.say(second);
+        }
+        self.say(first)?;
+        let Ok(()) = self.say(second) else {
+            self.transcript.pop();
+            return Err(AllocError);
+        };
         Ok(())
     }
 

@@ -2,7 +2,7 @@ use Rattle.std.proofs.Common.{◌≡◌, ℕ, ◌<◌, Option, ap, arith}
 use Rattle.ui_machine.specs.declared.ids.ObjectId.{ObjectId}
 use Rattle.ui_machine.specs.State.References.{same, in_option}
 use Rattle.instances.specs.Store.{Store, id_of, count_of}
-use Rattle.ui_engine.proofs.Held.{same_self}
+use Rattle.ui_engine.proofs.Floats.{same_self}
 use Rattle.ui_engine.proofs.Counts.{let_go_less}
 use Rattle.ui_engine.proofs.holding.let_go_any.Goals as goal
 

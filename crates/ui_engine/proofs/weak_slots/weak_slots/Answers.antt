@@ -3,7 +3,9 @@ use Rattle.ui_machine.specs.Seq.{read}
 use Rattle.ui_machine.specs.Definition.Lookups.{specs_of}
 use Rattle.instances.specs.Weak.{Marks}
 use Rattle.ui_engine.specs.WeakView.{weak_of}
-use Rattle.ui_engine.proofs.Marks.{one_type_more}
+use Rattle.std.proofs.lemmas.Bool.{cases_lt}
+use Rattle.std.proofs.Common.{inl, inr}
+use Rattle.ui_engine.proofs.Marks.{one_type_more, read_past}
 use Rattle.ui_engine.proofs.weak_slots.weak_slots.Goals as goal
 
 pub types-init : goal.types-init
@@ -35,10 +37,13 @@ types-preserved c =
     }
 
 pub returns : goal.returns
-returns c =
+returns c class =
+    let d = c.args.definition.now in
     let all = ap length c.types-types.ensures.types in
     let i = c.types.invariant in
-    record {
-      types = omega (arith, i.long, c.types-test.false, c.types.auto.class-end, c.len-count.ensures, all);
-      at = λ class small. i.known class (omega (arith, c.types-test.false, c.len-count.ensures, all, small));
-    }
+    elim (cases_lt class (length d.types)) as (λ _. weak_of (specs_of d class) ≡ read [] c.types.weak class) [
+      | inl small ↦ i.known class (omega (arith, c.types-test.false, c.len-count.ensures, all, small))
+      | inr past ↦
+          ap weak_of (c.types-types.ensures.basic.unknown_specs class past)
+          ∙ sym (read_past [] c.types.weak class (omega (arith, i.long, c.types.auto.class-end, c.len-count.ensures, all, past)))
+    ]

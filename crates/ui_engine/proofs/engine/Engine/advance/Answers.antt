@@ -12,7 +12,7 @@ pub loop-preserved : goal.loop-preserved
 loop-preserved c =
     let d = c.args.definition.now in
     let s = subst (λ (made : Made). Stepped (Ok made) d (config_of d c.loop.self) (config_of d c.step.new.self)) c.in-Uncounted.is c.in_ok-step.ensures.stepped in
-    record { reached = reaches_more d c.loop.invariant.reached s.0; held = s.1; counts = c.in_ok-step.ensures.counted; grows = prefix_on c.loop.invariant.grows c.in_ok-step.ensures.grows; counted = s.3 ∙ c.loop.invariant.counted }
+    record { reached = reaches_more d c.loop.invariant.reached s.0; floats = s.1; counts = c.in_ok-step.ensures.counted; grows = prefix_on c.loop.invariant.grows c.in_ok-step.ensures.grows; counted = s.3 ∙ c.loop.invariant.counted }
 
 pub returns-in-Counted-clause-advanced : goal.returns-in-Counted-clause-advanced
 returns-in-Counted-clause-advanced c =

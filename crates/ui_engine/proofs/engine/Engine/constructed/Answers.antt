@@ -12,7 +12,7 @@ use Rattle.ui_machine.specs.State.Config.{Held, unbuilt, built}
 use Rattle.ui_machine.specs.State.References.{same, in_held}
 use Rattle.ui_engine.specs.View.{held_of}
 use Rattle.ui_engine.proofs.Lists.{total-written}
-use Rattle.ui_engine.proofs.Held.{holds_nothing}
+use Rattle.ui_engine.proofs.Floats.{holds_nothing}
 use Rattle.ui_engine.proofs.Counts.{keeps_by, holder_more, sunk_exact}
 use Rattle.ui_engine.proofs.engine.Engine.constructed.Goals as goal
 

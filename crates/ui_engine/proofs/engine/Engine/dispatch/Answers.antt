@@ -6,7 +6,7 @@ use Rattle.ui_machine.specs.Runs.{Reaches, beginning}
 use Rattle.ui_engine.specs.View.{world_of}
 use Rattle.ui_engine.specs.TaskView.{task_of}
 use Rattle.ui_engine.specs.EngineView.{config_of}
-use Rattle.ui_engine.specs.Holding.{IsHeld}
+use Rattle.ui_engine.specs.Floating.{FloatsInMaking}
 use Rattle.ui_engine.specs.Counting.{nothing}
 use Rattle.ui_engine.proofs.Counts.{keeps_said}
 use Rattle.ui_machine.proofs.Prefixes.{prefix_by, prefix_on}
@@ -39,9 +39,9 @@ pub returns-clause-rests : goal.returns-clause-rests
 returns-clause-rests c =
     let d = c.args.definition.now in
     let ran = c.in_ok-run.ensures.ran in
-    let held = subst (λ (ts : List Task). IsHeld (world_of c.run.new.self.world) ts) ran.1.agenda ran.2 in
+    let held = subst (λ (ts : List Task). FloatsInMaking (world_of c.run.new.self.world) ts) ran.1.agenda ran.2 in
     record {
-      held = subst (λ (w : World). IsHeld w []) (sym c.in_ok-say.ensures.ok) (record { lives = held.lives; floats = held.floats; whole = held.whole });
+      floats = subst (λ (w : World). FloatsInMaking w []) (sym c.in_ok-say.ensures.ok) (record { at = held.at });
       counts = (keeps_said d c.run.new.self c.say.new.self c.say.ensures.beside).at nothing c.in_ok-run.ensures.counted;
       idle = ran.1.agenda;
     }

@@ -1,63 +1,65 @@
-use Rattle.std.proofs.Common.{◌≡◌, [], Ok, Err, ap, ◌∙◌, sym, subst, arith}
+use Rattle.std.proofs.Common.{◌≡◌, Some, None, Option, Ok, Err, ap, sym, subst, ◌∙◌}
+use Rattle.std.specs.Option.{option_map}
 use Rattle.std.proofs.lemmas.Result.{err_from_is_err_and}
-use Rattle.ui_machine.specs.State.Config.{Config}
-use Rattle.ui_machine.specs.State.References.{in_task}
-use Rattle.ui_engine.specs.Stepping.{Stepped}
-use Rattle.ui_engine.specs.TaskView.{task_of, agenda_of}
-use Rattle.ui_engine.specs.View.{world_of}
+use Rattle.ui_machine.specs.declared.ids.ObjectId.{ObjectId}
+use Rattle.ui_machine.specs.State.References.{mentions, next_unheld}
+use Rattle.ui_machine.proofs.Prefixes.{prefix_by}
+use Rattle.instances.specs.Store.{Store, id_of, count_of}
+use Rattle.ui_engine.specs.declared.engine.Engine.{Engine}
+use Rattle.ui_engine.specs.declared.engine.Made.TheVariants as mades
+use Rattle.ui_engine.specs.declared.task.Stack.{Stack}
 use Rattle.ui_engine.specs.EngineView.{config_of}
-use Rattle.ui_engine.proofs.Counts.{config_same, taken_off, given_back, same_tasks}
-use Rattle.ui_engine.proofs.Stepping.{first_stepped, first_grows}
+use Rattle.ui_engine.specs.View.{world_of}
+use Rattle.ui_engine.specs.TaskView.{agenda_of}
+use Rattle.ui_engine.specs.Counting.{Counts, nothing}
+use Rattle.ui_engine.specs.Floating.{FloatsInMaking}
+use Rattle.ui_machine.specs.Runs.{HaltsAt}
+use Rattle.ui_engine.specs.Stepping.{NoneUnheld, Stepped}
+use Rattle.ui_engine.proofs.Counts.{finds_mentioned, with_table}
+use Rattle.ui_engine.proofs.Stepping.{finalise_stepped, finalise_halts}
 use Rattle.ui_engine.proofs.engine.Engine.step.Goals as goal
 
-pub returns-in_default-clause-counted : goal.returns-in_default-clause-counted
-returns-in_default-clause-counted c =
+pub first_task-requires-clause-none : goal.first_task-requires-clause-none
+first_task-requires-clause-none c =
     let d = c.args.definition.now in
-    let none = c.in_default.ensures d in
-    same_tasks d c.args.self.now c.pop.new.self (none.1 ∙ sym none.0) c.requires.counted
-
-pub returns-in_default-clause-stepped : goal.returns-in_default-clause-stepped
-returns-in_default-clause-stepped c =
-    let d = c.args.definition.now in
-    let none = c.in_default.ensures d in
-    let before : agenda_of d c.args.self.now.stack ≡ [] = none.0 in
-    let after : agenda_of d c.pop.new.self ≡ [] = none.1 in
-    (before, ap (λ agenda. record { world = world_of c.args.self.now.world; agenda = agenda; counted = c.args.self.now.counted }) (after ∙ sym before))
-
-pub returns-in_err-made-clause-stepped : goal.returns-in_err-made-clause-stepped
-returns-in_err-made-clause-stepped c =
-    let p = err_from_is_err_and c.from_residual.result c.from_residual.ensures.1 in
-    let d = c.args.definition.now in
-    rw (p.1, p.2)
-    (first_stepped d c.types-types.ensures.basic (config_of d c.args.self.now) (config_of d c.act.new.self) c.requires.held c.in-Some.task c.pop.new.self (c.in-Some.ensures d)
-    (Err _) c.in_err-made.ensures.step tt c.in_err-made.ensures.quiet)
-
-pub let_go_any-requires : goal.let_go_any-requires
-let_go_any-requires c = record {
-  held = λ o.
-      let d = c.args.definition.now in
-      let t = task_of d c.in-Some.task in
-      let counted = c.in_ok-made.ensures.counted.at (λ q. in_task q t) (taken_off d c.args.self.now c.pop.new.self t (c.in-Some.ensures d) c.requires.counted) in
-      omega (arith, counted.exact o, c.object-held.ensures d o);
-}
+    let e = c.args.self.now in
+    let none : next_unheld (count_of e.world.table.counts) e.world.table.objects ≡ None = sym c.next_unheld.ensures.found ∙ ap id_of c.in_default.is in
+    subst (λ (t : Store). NoneUnheld d (config_of d (with_table e t))) (sym c.next_unheld.ensures.same) (sym (finds_mentioned d e c.requires.counted) ∙ none)
 
 pub returns-clause-counted : goal.returns-clause-counted
 returns-clause-counted c =
     let d = c.args.definition.now in
-    let t = task_of d c.in-Some.task in
-    let counted = c.in_ok-made.ensures.counted.at (λ q. in_task q t) (taken_off d c.args.self.now c.pop.new.self t (c.in-Some.ensures d) c.requires.counted) in
-    given_back d c.act.new.self c.let_go_any.new.table (λ o. in_task o t) c.let_go_any.ensures.only
-    (λ o. omega (arith, c.let_go_any.ensures.counts o, c.object-held.ensures d o)) counted
+    let e = c.args.self.now in
+    c.in_ok-finalise.ensures.counted.at nothing (subst (λ (t : Store). Counts d nothing (with_table e t)) (sym c.next_unheld.ensures.same) c.requires.counted)
 
 pub returns-clause-stepped : goal.returns-clause-stepped
 returns-clause-stepped c =
     let d = c.args.definition.now in
-    subst (λ (e : Config). Stepped (Ok c.in_ok-made.made) d (config_of d c.args.self.now) e) (sym (config_same d c.act.new.self c.let_go_any.new.table c.let_go_any.ensures.only))
-    (first_stepped d c.types-types.ensures.basic (config_of d c.args.self.now) (config_of d c.act.new.self) c.requires.held c.in-Some.task c.pop.new.self (c.in-Some.ensures d)
-    (Ok c.in_ok-made.made) c.in_ok-made.ensures.step c.in_ok-made.ensures.made tt)
+    let e = c.args.self.now in
+    let new = c.finalise.new.self in
+    let t = c.next_unheld.new.self in
+    let id = c.in-Some.object.0 in
+    let same = c.next_unheld.ensures.same in
+    let one : next_unheld (count_of e.world.table.counts) e.world.table.objects ≡ Some id = sym c.next_unheld.ensures.found ∙ ap id_of c.in-Some.is in
+    let unheld = subst (λ (s : Store). next_unheld (mentions d (config_of d (with_table e s))) s.objects ≡ Some id) (sym same) (sym (finds_mentioned d e c.requires.counted) ∙ one) in
+    let agenda = ap (λ (s : Stack). agenda_of d s) c.in_ok-finalise.ensures.same.0 in
+    subst (λ (s : Store). Stepped (Ok mades.Counted) d (config_of d (with_table e s)) (config_of d new)) same
+    (finalise_stepped d (config_of d (with_table e t)) (config_of d new) id unheld c.in_ok-finalise.ensures.step
+    (subst (λ (s : Store). FloatsInMaking (world_of (with_table e s).world) (agenda_of d e.stack)) (sym same) c.requires.floats)
+    c.in_ok-finalise.ensures.same.1 agenda c.in_ok-finalise.ensures.counts)
 
-pub returns-clause-grows : goal.returns-clause-grows
-returns-clause-grows c =
+pub returns-in_err-finalise-clause-stepped : goal.returns-in_err-finalise-clause-stepped
+returns-in_err-finalise-clause-stepped c =
+    let p = err_from_is_err_and c.from_residual.result c.from_residual.ensures.1 in
     let d = c.args.definition.now in
-    first_grows d c.types-types.ensures.basic (config_of d c.args.self.now) (config_of d c.act.new.self) c.requires.held c.in-Some.task c.pop.new.self (c.in-Some.ensures d)
-    (Ok c.in_ok-made.made) c.in_ok-made.ensures.step tt
+    let e = c.args.self.now in
+    let t = c.next_unheld.new.self in
+    let id = c.in-Some.object.0 in
+    let same = c.next_unheld.ensures.same in
+    let one : next_unheld (count_of e.world.table.counts) e.world.table.objects ≡ Some id = sym c.next_unheld.ensures.found ∙ ap id_of c.in-Some.is in
+    let unheld = subst (λ (s : Store). next_unheld (mentions d (config_of d (with_table e s))) s.objects ≡ Some id) (sym same) (sym (finds_mentioned d e c.requires.counted) ∙ one) in
+    rw (p.1, p.2) (
+      subst (λ (s : Store). HaltsAt d (config_of d (with_table e s)) c.in_err-finalise.field-0.0) same
+      (finalise_halts d (config_of d (with_table e t)) (config_of d e) id unheld c.in_err-finalise.field-0.0 c.in_err-finalise.ensures.step),
+      c.in_err-finalise.ensures.quiet,
+    )

@@ -9,7 +9,7 @@ use Rattle.ui_engine.proofs.Counts.{none_counted}
 use Rattle.ui_engine.specs.View.{world_of}
 use Rattle.ui_engine.specs.TaskView.{build_from}
 use Rattle.ui_engine.specs.SessionView.{Comes, carrying_out}
-use Rattle.ui_engine.proofs.Beginning.{none_held, only_objects}
+use Rattle.ui_engine.proofs.Beginning.{none_floating, only_objects}
 use Rattle.ui_engine.proofs.session.Session.start.Goals as goal
 
 pub invariant_of-session : goal.invariant_of-session
@@ -23,7 +23,7 @@ invariant_of-session c _ =
     let marks = ap (λ (e : Engine). e.world.weak) beside ∙ c.new-engine.ensures.marks in
     let counts = ap (λ (e : Engine). e.world.table.counts) beside ∙ c.new-engine.ensures.counts in
     record {
-      held = none_held (world_of c.announce.new.self.world) (ap (λ (w : World). w.objects) told ∙ ap (λ (w : World). w.objects) first) (ap (λ (w : World). w.floating) told ∙ ap (λ (w : World). w.floating) first);
+      floats = none_floating (world_of c.announce.new.self.world) (ap (λ (w : World). w.floating) told ∙ ap (λ (w : World). w.floating) first);
       counts = none_counted d c.announce.new.self c.in-Ok.weak c.in-Ok.ensures marks counts world idle;
       idle = idle;
     }

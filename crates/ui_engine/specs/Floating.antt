@@ -1,11 +1,9 @@
--- What holds the objects of a session whose definition has no programs: the builder, or their own construction.
-use Rattle.std.specs.Prelude.{◌≡◌, ℕ, ◌+◌, ◌<◌, true, false, List, IsSome}
+-- What floats where there are no programs: objects whose construction goes on.
+use Rattle.std.specs.Prelude.{ℕ, ◌<◌, true, false, List}
 use Rattle.ui_machine.specs.Seq.{total}
 use Rattle.ui_machine.specs.State.Tasks.{Task, Setting, Notifying, Beginning, Emitting, Transferring, Unsetting, Thawing, Running, Answering, Calling, Constructing, Building, Carrying, Due}
 use Rattle.ui_machine.specs.State.Config.{World}
-use Rattle.ui_machine.specs.State.Objects.{Objects, living}
-use Rattle.ui_machine.specs.Rules.Sets.{is_disposed}
-use Rattle.ui_machine.specs.State.References.{same, in_held}
+use Rattle.ui_machine.specs.State.References.{same}
 
 -- 1 for the construction of the object that the builder will hold
 abbrev pub making_of : ℕ → Task → ℕ
@@ -25,12 +23,6 @@ making_of o (Building items) = 0
 making_of o (Carrying request) = 0
 making_of o (Due source) = 0
 
--- no object that lives was disposed
-abbrev pub NoneDisposed : Objects → Type 0
-NoneDisposed os = (id : ℕ) → is_disposed (living os id) ≡ false
-
--- each living object is held, what floats is under construction, and nothing was disposed
-pub record IsHeld (w : World) (agenda : List Task) : Type 0 where
-  pub lives : (id : ℕ) → IsSome (living w.objects id) → 0 < total (in_held id) w.builder + total (making_of id) agenda
-  pub floats : (id : ℕ) → 0 < total (same id) w.floating → 0 < total (making_of id) agenda
-  pub whole : NoneDisposed w.objects
+-- what floats is under construction
+pub record FloatsInMaking (w : World) (agenda : List Task) : Type 0 where
+  pub at : (id : ℕ) → 0 < total (same id) w.floating → 0 < total (making_of id) agenda
