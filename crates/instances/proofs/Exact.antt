@@ -1,5 +1,5 @@
 -- Counts that stay exact.
-use Rattle.std.proofs.Common.{◌≡◌, ℕ, ◌+◌, ◌-◌, zero, suc, List, [], ◌∷◌, ◌++◌, Option, Some, None, IsSome, Bool, true, false, cond, nat_eq, refl, sym, ap, arith}
+use Rattle.std.proofs.Common.{◌≡◌, ℕ, ◌+◌, ◌-◌, zero, suc, List, [], ◌∷◌, ◌++◌, Option, Some, None, IsSome, is_some, Bool, true, false, cond, nat_eq, refl, sym, ap, arith}
 use Rattle.std.proofs.lemmas.Bool.Decides.{nat_tests}
 use Rattle.ui_machine.specs.Seq.{read, total}
 use Rattle.ui_machine.specs.State.Config.{without}
@@ -10,7 +10,7 @@ use Rattle.ui_machine.specs.Rules.Children.{updated, with_child, with_parent, wi
 use Rattle.ui_machine.specs.Rules.Disposal.{children_of, forgets}
 use Rattle.ui_machine.specs.State.References.{same, in_object}
 use Rattle.instances.specs.Store.{Store, count_of, so_often}
-use Rattle.instances.specs.Laws.{HoldCounts, LetGoCounts, SinkCounts, ForgetCounts, JoinCounts, LeaveCounts, CountedFinds}
+use Rattle.instances.specs.Laws.{HoldCounts, LetGoCounts, SinkCounts, ForgetCounts, JoinCounts, LeaveCounts, CountedFinds, HeldLives}
 use Rattle.instances.proofs.Families.{was_made}
 use Rattle.instances.proofs.Held.{counted_finds, forgets_nothing, total_kept, total_put}
 use Rattle.instances.proofs.Moves.{more_at, less_at}
@@ -139,3 +139,10 @@ pub exact_finds : CountedFinds
 exact_finds d beside s counted =
     counted_finds s.objects (count_of s.counts) (λ o. total (in_object d o) s.objects + (total (same o) s.floating + beside o))
     (λ id some. counted id)
+
+pub held_alive : HeldLives
+held_alive d beside s o counted dead held = by (living s.objects o) refl
+  where
+    by : (x : Option Object) → living s.objects o ≡ x → IsSome (living s.objects o)
+    by None e = absurd (omega (arith, counted o, dead o e, held))
+    by (Some x) e = ap is_some e

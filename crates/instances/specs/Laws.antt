@@ -45,6 +45,13 @@ CountsFind =
 abbrev pub Counted : Definition → (ℕ → ℕ) → Store → Type 0
 Counted d beside s = (o : ℕ) → count_of s.counts o ≡ total (in_object d o) s.objects + (total (same o) s.floating + beside o)
 
+-- where the counts are exact and what does not live is not held, all that is held lives
+abbrev pub HeldLives : Type 0
+HeldLives =
+    (d : Definition) (beside : ℕ → ℕ) (s : Store) (o : ℕ) → Counted d beside s
+    → ((i : ℕ) → living s.objects i ≡ None → count_of s.counts i ≡ 0)
+    → 0 < total (in_object d o) s.objects + (total (same o) s.floating + beside o) → IsSome (living s.objects o)
+
 -- where nothing is, nothing is held
 abbrev pub NoneCounts : Type 0
 NoneCounts = (d : Definition) (limit : ℕ) → Counted d (λ o. 0) (record { objects = []; counts = []; limit = limit; floating = [] })

@@ -1,6 +1,6 @@
 //! Parents and children, and what floats.
 
-ghost use Rattle.std.specs.Prelude.{◌≡◌, ℕ, is_some, ◌+◌, ◌-◌, ◌*◌, ◌^◌, ◌<◌, ◌≤◌, ◌++◌, ◌∷◌, [], IsSome, Some, None, length, nat_eq, OnOk, OnErr};
+ghost use Rattle.std.specs.Prelude.{◌≡◌, ℕ, is_some, ◌+◌, ◌-◌, ◌*◌, ◌^◌, ◌<◌, ◌≤◌, ◌++◌, ◌∷◌, [], IsSome, Some, None, length, nat_eq, slice_get, OnOk, OnErr};
 ghost use Rattle.std.specs.List.{list_any};
 ghost use Rattle.ui_machine.specs.Seq.{total};
 ghost use Rattle.ui_machine.specs.State.Config.{without};
@@ -157,7 +157,14 @@ impl Table {
         is_among(&self.floating, id)
     }
 
-    /// An object begins floating, and is held so once more.
+    /// The one that has floated longest, if something floats.
+    pub fn first_floating(&self) -> Option<ObjectId>
+        ensures { id_of result ≡ slice_get self.now.floating 0 }
+    {
+        self.floating.first().copied()
+    }
+
+    /// An object begins floating, and is held so once more. An error leaves all as it was.
     pub fn float(&mut self, id: ObjectId) -> Result<(), AllocError>
         requires live { IsSome (living self.old.objects id.0) }
         requires room { count_of self.old.counts id.0 < 2 ^ 128 - 1 }

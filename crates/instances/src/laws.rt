@@ -1,6 +1,9 @@
 //! Laws about what objects hold, over the machine's definitions.
 
-ghost use Rattle.instances.specs.Laws.{NoneCounts, WritesMove, WriteCounts, DisposeMoves, FinaliseMoves, CountsFind, CreateCounts, MadeHoldsNothing, FloatCounts, HoldCounts, LetGoCounts, SinkCounts, ForgetCounts, JoinCounts, LeaveCounts, MarksKnown, DisposeCounts, FinaliseCounts, CountedFinds};
+ghost use Rattle.instances.specs.Laws.{WritesMove, DisposeMoves, FinaliseMoves, MarksKnown, MadeHoldsNothing};
+ghost use Rattle.instances.specs.Laws.{CountsFind, CountedFinds, HeldLives, NoneCounts, CreateCounts, FloatCounts, HoldCounts};
+ghost use Rattle.instances.specs.Laws.{LetGoCounts, SinkCounts, ForgetCounts, JoinCounts, LeaveCounts, DisposeCounts};
+ghost use Rattle.instances.specs.Laws.{FinaliseCounts, WriteCounts};
 
 /// A strong property that is written moves one mention.
 pub fn writing_moves()
@@ -95,4 +98,9 @@ pub fn write_counts()
 /// Exact counts find the lowest object that nothing holds.
 pub fn counted_finds()
     ensures { CountedFinds }
+{}
+
+/// Where the counts are exact, what is held lives.
+pub fn held_lives()
+    ensures { HeldLives }
 {}

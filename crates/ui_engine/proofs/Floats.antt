@@ -34,10 +34,11 @@ bind_ok (Err arm) f P h = tt
 
 -- a step that keeps it and hands on its part of the constructions
 pub keeps_quietly : (w : World) (t : Task) (rest : List Task) (s : Started) → FloatsInMaking w (t ∷ rest) → Quietly w s.world → ((o : ℕ) → total (making_of o) s.tasks ≡ making_of o t) → FloatsInMaking s.world (s.tasks ++ rest)
-keeps_quietly w t rest s held quiet parts = record { at = λ id some.
-    let f : total (same id) s.world.floating ≡ total (same id) w.floating = ap (total (same id)) quiet.floating in
-    let h = held.at id (omega (arith, some, f)) in
-    omega (arith, h, parts id, total-append (making_of id) s.tasks rest);
+keeps_quietly w t rest s held quiet parts = record {
+  at = λ id some.
+      let f : total (same id) s.world.floating ≡ total (same id) w.floating = ap (total (same id)) quiet.floating in
+      let h = held.at id (omega (arith, some, f)) in
+      omega (arith, h, parts id, total-append (making_of id) s.tasks rest);
 }
 
 -- ** an object more
@@ -54,16 +55,17 @@ floats_more false q id fl h = omega arith
 
 pub made_floats : (w new : World) (t : Task) (rest : List Task) (id : ℕ) (b : Bool) (steps : List Making) (items : Task) → FloatsInMaking w (t ∷ rest) → ((q : ℕ) → making_of q t ≡ 0)
     → new.floating ≡ cond b (w.floating ++ id ∷ []) w.floating → FloatsInMaking new (Constructing id steps true ∷ items ∷ rest)
-made_floats w new t rest id b steps items held none floating = record { at = λ q some.
-    let f : 0 < total (same q) w.floating + same q id = floats_more b q id w.floating (subst (λ (fl : List ℕ). 0 < total (same q) fl) floating some) in
-    elim (cases_eq q id) as (λ _. 0 < same q id + (making_of q items + total (making_of q) rest)) [
-      | inl is ↦ let e : same q id ≡ 1 = ap (same q) (sym is) ∙ same_self q in omega arith
-      | inr ne ↦
-          let z : same q id ≡ 0 = same_other q id (λ e. ne (sym e)) in
-          let h = held.at q (omega (arith, f, z)) in
-          let y = none q in
-          omega arith
-    ];
+made_floats w new t rest id b steps items held none floating = record {
+  at = λ q some.
+      let f : 0 < total (same q) w.floating + same q id = floats_more b q id w.floating (subst (λ (fl : List ℕ). 0 < total (same q) fl) floating some) in
+      elim (cases_eq q id) as (λ _. 0 < same q id + (making_of q items + total (making_of q) rest)) [
+        | inl is ↦ let e : same q id ≡ 1 = ap (same q) (sym is) ∙ same_self q in omega arith
+        | inr ne ↦
+            let z : same q id ≡ 0 = same_other q id (λ e. ne (sym e)) in
+            let h = held.at q (omega (arith, f, z)) in
+            let y = none q in
+            omega arith
+      ];
 }
 
 -- ** the end of a construction
@@ -92,14 +94,16 @@ holds_nothing q released e = refl
 
 pub ended_floats : (w : World) (id place : ℕ) (rest : List Task) → FloatsInMaking w (Constructing id [] true ∷ rest)
     → FloatsInMaking (sunk (with_held w place (built id)) id) rest
-ended_floats w id place rest held = record { at = λ q some. elim (cases_eq q id) as (λ _. 0 < total (making_of q) rest) [
-  | inl is ↦ let z : total (same q) (without id w.floating) ≡ 0 = subst (λ j. total (same j) (without id w.floating) ≡ 0) (sym is) (without_none id w.floating) in absurd (omega arith)
-  | inr ne ↦
-      let z : same q id ≡ 0 = same_other q id (λ e. ne (sym e)) in
-      let l = without_less id q w.floating in
-      let h = held.at q (omega arith) in
-      omega (arith, h, z)
-]; }
+ended_floats w id place rest held = record {
+  at = λ q some. elim (cases_eq q id) as (λ _. 0 < total (making_of q) rest) [
+    | inl is ↦ let z : total (same q) (without id w.floating) ≡ 0 = subst (λ j. total (same j) (without id w.floating) ≡ 0) (sym is) (without_none id w.floating) in absurd (omega arith)
+    | inr ne ↦
+        let z : same q id ≡ 0 = same_other q id (λ e. ne (sym e)) in
+        let l = without_less id q w.floating in
+        let h = held.at q (omega arith) in
+        omega (arith, h, z)
+  ];
+}
 
 -- nothing floats where nothing is under construction
 pub none_floats : (w : World) → FloatsInMaking w [] → w.floating ≡ []

@@ -20,4 +20,3 @@ class_absent os id arm = by (living os id) refl
     by : (o : Option Object) → living os id ≡ o → (known arms.Operand o >>= λ x. Ok x.class) ≡ Err arm → None ≡ class_in os id
     by None is h = rw is refl
     by (Some x) is h = cc h
-

@@ -85,10 +85,12 @@ module _ (d : Definition) (c e : Config) (id : ℕ) (unheld : next_unheld (menti
       → (c.counted < most_steps) × (e.counted ≡ suc c.counted) → Stepped (Ok mades.Counted) d c e
   finalise_stepped leads held floating agenda counts = (
     record { asks = asks_nothing; leads = finalises ∙ leads },
-    record { at = λ q some.
-        let f : total (same q) e.world.floating ≡ total (same q) c.world.floating = ap (total (same q)) floating in
-        let m : total (making_of q) e.agenda ≡ total (making_of q) c.agenda = ap (total (making_of q)) agenda in
-        omega (arith, m, held.at q (omega (arith, f, some))) },
+    record {
+      at = λ q some.
+          let f : total (same q) e.world.floating ≡ total (same q) c.world.floating = ap (total (same q)) floating in
+          let m : total (making_of q) e.agenda ≡ total (making_of q) c.agenda = ap (total (making_of q)) agenda in
+          omega (arith, m, held.at q (omega (arith, f, some)));
+    },
     counts.0,
     counts.1,
   )

@@ -19,11 +19,7 @@ use ui_machine::{Arm, Halt, ObjectId};
 
 impl Engine {
     // An object that nothing holds is disposed, again if it was, and taken out. It is a counted step.
-    pub(crate) fn finalise(
-        &mut self,
-        definition: &Definition,
-        object: ObjectId,
-    ) -> Result<(), Halt>
+    pub(crate) fn finalise(&mut self, definition: &Definition, object: ObjectId) -> Result<(), Halt>
         requires live { IsSome (living self.now.world.table.objects object.0) }
         requires unheld { count_of self.now.world.table.counts object.0 ≡ 0 }
         requires knows { Knows definition.now self.now.world.weak }

@@ -41,8 +41,10 @@ impl World {
         first: String,
         second: String,
     ) -> Result<(), AllocError>
-        ensures ok { OnOk result (world_of self.new ≡ record (world_of self.old) { transcript =
-            cond is_told ((world_of self.old).transcript ++ string_bytes first ∷ []) (world_of self.old).transcript ++ string_bytes second ∷ [] }) }
+        ensures ok { OnOk result (world_of self.new ≡ record (world_of self.old) {
+          transcript =
+              cond is_told ((world_of self.old).transcript ++ string_bytes first ∷ []) (world_of self.old).transcript ++ string_bytes second ∷ [];
+        }) }
         ensures err { OnErr result (world_of self.new ≡ world_of self.old) }
         ensures beside { self.new ≡ record self.old { transcript = self.new.transcript } }
     {

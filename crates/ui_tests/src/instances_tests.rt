@@ -112,8 +112,10 @@ fn parents_hold_their_children(rt: HostRuntime) -> Result<(), Fail> {
     table.hold(parent);
     table.float(child)?;
     assert!(rt; table.is_floating(child));
+    assert_eq!(rt; table.first_floating(), Some(child));
     assert_eq!(rt; table.adopt(parent, child), Ok(()));
     assert!(rt; !table.is_floating(child));
+    assert_eq!(rt; table.first_floating(), None);
     assert_eq!(rt; table.parent_of(child), Some(parent));
     assert_eq!(rt; table.next_unheld(), None);
     assert_eq!(rt; table.adopt(parent, child), Err(AdoptError::HasParent));

@@ -60,6 +60,6 @@ returns-in_err-finalise-clause-stepped c =
     let unheld = subst (λ (s : Store). next_unheld (mentions d (config_of d (with_table e s))) s.objects ≡ Some id) (sym same) (sym (finds_mentioned d e c.requires.counted) ∙ one) in
     rw (p.1, p.2) (
       subst (λ (s : Store). HaltsAt d (config_of d (with_table e s)) c.in_err-finalise.field-0.0) same
-      (finalise_halts d (config_of d (with_table e t)) (config_of d e) id unheld c.in_err-finalise.field-0.0 c.in_err-finalise.ensures.step),
+          (finalise_halts d (config_of d (with_table e t)) (config_of d e) id unheld c.in_err-finalise.field-0.0 c.in_err-finalise.ensures.step),
       c.in_err-finalise.ensures.quiet,
     )
