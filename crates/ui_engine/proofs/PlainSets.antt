@@ -1,5 +1,5 @@
 -- A set of a plain property, by what validation says of the value and the property's flags.
-use Rattle.std.proofs.Common.{◌≡◌, ℕ, Bool, true, false, cond, ◌&&◌, ◌||◌, not, List, [], Option, None, Some, Ok, Err, nat_eq, arith, refl, sym, ap, subst, ◌∙◌, ℤ, pos}
+use Rattle.std.proofs.Common.{◌≡◌, ℕ, Bool, true, false, cond, ◌&&◌, ◌||◌, not, List, [], None, Some, Ok, Err, nat_eq, arith, refl, sym, ap, subst, ◌∙◌, ℤ, pos}
 use Rattle.std.proofs.lemmas.Bool.Decides.{nat_tests}
 use Rattle.ui_machine.specs.declared.arm.Arm.{Arm}
 use Rattle.ui_machine.specs.declared.arm.Arm.TheVariants as arms
@@ -15,10 +15,10 @@ use Rattle.ui_machine.specs.Rules.Validation.{clamp}
 use Rattle.ui_machine.specs.Definition.Properties.{Spec, is_lax}
 use Rattle.ui_machine.specs.Definition.{Definition}
 use Rattle.ui_machine.specs.Output.Lines as lines
-use Rattle.ui_machine.specs.State.Objects.{Objects, class_in}
+use Rattle.ui_machine.specs.State.Objects.{class_in}
 use Rattle.ui_machine.specs.State.Config.{World, starts, said}
 use Rattle.ui_machine.specs.Outcome.{Answer, ◌>>=◌, only_if}
-use Rattle.ui_machine.specs.Rules.Sets.{spec_at, has_kind, lives, kept, unless_disposed, written, settled, setting}
+use Rattle.ui_machine.specs.Rules.Sets.{spec_at, has_kind, lives, kept, written, settled, setting}
 use Rattle.g_values.specs.declared.value.Value as coded
 use Rattle.g_values.specs.declared.value.Value.TheVariants as of_value
 use Rattle.g_values.specs.View.{kind_view, value_view, value_kind}

@@ -1,6 +1,5 @@
 pub mod GivenView
 pub mod WeakView
-pub mod Floating
 pub mod View
 pub mod MakingView
 pub mod LineView

@@ -9,10 +9,8 @@ use Rattle.ui_machine.specs.Runs.{Step, Reaches, HasEnded, HaltsAt, Dispatches, 
 use Rattle.g_values.specs.View.{value_view}
 use Rattle.ui_engine.specs.declared.dispatches.Reply.{Reply}
 use Rattle.ui_engine.specs.declared.engine.Engine.{Engine}
-use Rattle.ui_engine.specs.View.{world_of}
 use Rattle.ui_engine.specs.TaskView.{agenda_of}
 use Rattle.ui_engine.specs.Counting.{Counts, nothing}
-use Rattle.ui_engine.specs.Floating.{FloatsInMaking}
 use Rattle.ui_engine.specs.Measure.{work}
 use Rattle.ui_engine.specs.declared.engine.Made.{Made}
 use Rattle.ui_engine.specs.declared.engine.Made.TheVariants as mades
@@ -23,26 +21,25 @@ NoneUnheld d c = next_unheld (mentions d c) c.world.objects ≡ None
 
 -- an engine with nothing left to do, in which each object is counted as often as it is mentioned
 pub record IsAtRest (d : Definition) (e : Engine) : Type 0 where
-  pub floats : FloatsInMaking (world_of e.world) []
   pub counts : Counts d nothing e
   pub idle : agenda_of d e.stack ≡ []
 
 -- one step: an uncounted one leaves less work, and a counted one was still to be had
 abbrev pub Stepped : Result Made Halt → Definition → Config → Config → Type 0
-Stepped (Ok mades.Nothing) d c e = NoneUnheld d c × (c.agenda ≡ []) × (e ≡ c)
-Stepped (Ok mades.Uncounted) d c e = Step d None c e × FloatsInMaking e.world e.agenda × (work d e < work d c) × (e.counted ≡ c.counted)
-Stepped (Ok mades.Counted) d c e = Step d None c e × FloatsInMaking e.world e.agenda × (c.counted < most_steps) × (e.counted ≡ suc c.counted)
+Stepped (Ok mades.Nothing) d c e = HasEnded d c × (e ≡ c)
+Stepped (Ok mades.Uncounted) d c e = Step d None c e × (work d e < work d c) × (e.counted ≡ c.counted)
+Stepped (Ok mades.Counted) d c e = Step d None c e × (c.counted < most_steps) × (e.counted ≡ suc c.counted)
 Stepped (Err halt) d c e = HaltsAt d c halt × (e.world.transcript ≡ c.world.transcript)
 
 -- steps up to a counted one, or to the end
 abbrev pub Advanced : Result Bool Halt → Definition → Config → Config → Type 0
-Advanced (Ok true) d c e = Reaches d [] c e × FloatsInMaking e.world e.agenda × (c.counted < most_steps) × (e.counted ≡ suc c.counted)
-Advanced (Ok false) d c e = Reaches d [] c e × FloatsInMaking e.world e.agenda × NoneUnheld d e × (e.agenda ≡ [])
+Advanced (Ok true) d c e = Reaches d [] c e × (c.counted < most_steps) × (e.counted ≡ suc c.counted)
+Advanced (Ok false) d c e = Reaches d [] c e × HasEnded d e
 Advanced (Err halt) d c e = Halts d [] c halt e.world.transcript
 
 -- all steps
 abbrev pub Ran : {X : Type 0} → Result X Halt → Definition → Config → Config → Type 0
-Ran (Ok _) d c e = Reaches d [] c e × HasEnded d e × FloatsInMaking e.world e.agenda
+Ran (Ok _) d c e = Reaches d [] c e × HasEnded d e
 Ran (Err halt) d c e = Halts d [] c halt e.world.transcript
 
 -- a whole dispatch, or how far it came

@@ -1,12 +1,11 @@
 //! Runs: steps until nothing is left to do.
 
-ghost use Rattle.std.specs.Prelude.{OnOk};
+ghost use Rattle.std.specs.Prelude.{◌≡◌, [], Ok, OnOk};
 ghost use Rattle.ui_engine.specs.Counting.{Counts, nothing};
 ghost use Rattle.ui_engine.specs.View.{world_of};
 ghost use Rattle.ui_engine.specs.TaskView.{agenda_of};
 ghost use Rattle.ui_engine.specs.EngineView.{config_of};
 ghost use Rattle.ui_machine.specs.Prefix.{IsPrefix};
-ghost use Rattle.ui_engine.specs.Floating.{FloatsInMaking};
 ghost use Rattle.ui_engine.specs.Stepping.{NoneUnheld, Stepped, Advanced, Ran};
 
 use crate::engine::{Engine, Made};
@@ -15,10 +14,26 @@ use builder_defs::Definition;
 use ui_machine::Halt;
 
 impl Engine {
-    // Makes the step of the first task, if there is one, where nothing is to be finalised.
+    // What has floated longest, if something floats, floats no longer, where nothing else is left to do.
+    fn settle(&mut self, definition: &Definition) -> Made
+        requires none { NoneUnheld definition.now (config_of definition.now self.now) }
+        requires idle { agenda_of definition.now self.now.stack ≡ [] }
+        requires counted { Counts definition.now nothing self.now }
+        ensures counted { Counts definition.now nothing self.new }
+        ensures stepped { Stepped (Ok result) definition.now (config_of definition.now self.old) (config_of definition.now self.new) }
+        ensures same { (world_of self.new.world).transcript ≡ (world_of self.old.world).transcript }
+    {
+        let _ = definition;
+        let Some(object) = self.world.table.first_floating() else {
+            return Made::Nothing;
+        };
+        self.world.table.sink(object);
+        Made::Uncounted
+    }
+
+    // Makes the step of the first task, or else of what floats, where nothing is to be finalised.
     fn first_task(&mut self, definition: &Definition) -> Result<Made, Halt>
         requires none { NoneUnheld definition.now (config_of definition.now self.now) }
-        requires floats { FloatsInMaking (world_of self.now.world) (agenda_of definition.now self.now.stack) }
         requires counted { Counts definition.now nothing self.now }
         ensures counted { OnOk result (Counts definition.now nothing self.new) }
         ensures stepped { Stepped result definition.now (config_of definition.now self.old) (config_of definition.now self.new) }
@@ -26,7 +41,7 @@ impl Engine {
     {
         let _types = definition.types();
         let Some(task) = self.stack.pop() else {
-            return Ok(Made::Nothing);
+            return Ok(self.settle(definition));
         };
         let held = task.object();
         let made = self.act(definition, task)?;
@@ -34,9 +49,9 @@ impl Engine {
         Ok(made)
     }
 
-    // Makes a step, if there is one to make: what nothing holds is finalised first, and then comes the first task.
+    // Makes a step, if there is one to make: what nothing holds is finalised first, then comes the first task, and at
+    // last what floats.
     fn step(&mut self, definition: &Definition) -> Result<Made, Halt>
-        requires floats { FloatsInMaking (world_of self.now.world) (agenda_of definition.now self.now.stack) }
         requires counted { Counts definition.now nothing self.now }
         ensures counted { OnOk result (Counts definition.now nothing self.new) }
         ensures stepped { Stepped result definition.now (config_of definition.now self.old) (config_of definition.now self.new) }
@@ -51,7 +66,6 @@ impl Engine {
 
     // Makes steps until a counted one is made or none is left, and answers whether one was made.
     fn advance(&mut self, definition: &Definition) -> Result<bool, Halt>
-        requires floats { FloatsInMaking (world_of self.now.world) (agenda_of definition.now self.now.stack) }
         requires counted { Counts definition.now nothing self.now }
         ensures counted { OnOk result (Counts definition.now nothing self.new) }
         ensures advanced { Advanced result definition.now (config_of definition.now self.old) (config_of definition.now self.new) }
@@ -68,7 +82,6 @@ impl Engine {
 
     /// Makes steps until none is left.
     pub(crate) fn run(&mut self, definition: &Definition) -> Result<(), Halt>
-        requires floats { FloatsInMaking (world_of self.now.world) (agenda_of definition.now self.now.stack) }
         requires counted { Counts definition.now nothing self.now }
         ensures counted { OnOk result (Counts definition.now nothing self.new) }
         ensures ran { Ran result definition.now (config_of definition.now self.old) (config_of definition.now self.new) }

@@ -1,12 +1,10 @@
-use Rattle.std.proofs.Common.{List, [], ◌∷◌, ◌++◌, refl, sym, ap, subst, ◌∙◌}
+use Rattle.std.proofs.Common.{[], ◌∷◌, ◌++◌, refl, sym, ap, subst, ◌∙◌}
 use Rattle.std.proofs.lemmas.Result.{err_from_is_err_and}
-use Rattle.ui_machine.specs.State.Tasks.{Task}
 use Rattle.ui_machine.specs.State.Config.{World, Config}
 use Rattle.ui_machine.specs.Runs.{Reaches, beginning}
 use Rattle.ui_engine.specs.View.{world_of}
 use Rattle.ui_engine.specs.TaskView.{task_of}
 use Rattle.ui_engine.specs.EngineView.{config_of}
-use Rattle.ui_engine.specs.Floating.{FloatsInMaking}
 use Rattle.ui_engine.specs.Counting.{nothing}
 use Rattle.ui_engine.proofs.Counts.{keeps_said}
 use Rattle.ui_machine.proofs.Prefixes.{prefix_by, prefix_on}
@@ -32,16 +30,14 @@ returns-clause-carried c =
       refl,
     )
 
-pub run-requires-clause-counted : goal.run-requires-clause-counted
-run-requires-clause-counted c = c.in_ok-begin.ensures.counted.at nothing c.requires.rests.counts
+pub run-requires : goal.run-requires
+run-requires c = record { counted = c.in_ok-begin.ensures.counted.at nothing c.requires.rests.counts }
 
 pub returns-clause-rests : goal.returns-clause-rests
 returns-clause-rests c =
     let d = c.args.definition.now in
     let ran = c.in_ok-run.ensures.ran in
-    let held = subst (λ (ts : List Task). FloatsInMaking (world_of c.run.new.self.world) ts) ran.1.agenda ran.2 in
     record {
-      floats = subst (λ (w : World). FloatsInMaking w []) (sym c.in_ok-say.ensures.ok) (record { at = held.at });
       counts = (keeps_said d c.run.new.self c.say.new.self c.say.ensures.beside).at nothing c.in_ok-run.ensures.counted;
       idle = ran.1.agenda;
     }

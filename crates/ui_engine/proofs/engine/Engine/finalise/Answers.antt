@@ -1,4 +1,4 @@
-use Rattle.std.proofs.Common.{◌≡◌, suc, not, List, IsSome, string_bytes, sym, ap, subst, ◌∙◌}
+use Rattle.std.proofs.Common.{suc, not, List, IsSome, sym, ap, subst, ◌∙◌}
 use Rattle.ui_machine.specs.Definition.Types.{GType}
 use Rattle.ui_machine.specs.Output.Lines as lines
 use Rattle.ui_machine.specs.Output.Text.{text_of_line}

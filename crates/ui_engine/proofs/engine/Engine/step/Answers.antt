@@ -1,18 +1,10 @@
-use Rattle.std.proofs.Common.{◌≡◌, Some, None, Option, Ok, Err, ap, sym, subst, ◌∙◌}
-use Rattle.std.specs.Option.{option_map}
+use Rattle.std.proofs.Common.{◌≡◌, Some, None, Ok, ap, sym, subst, ◌∙◌}
 use Rattle.std.proofs.lemmas.Result.{err_from_is_err_and}
-use Rattle.ui_machine.specs.declared.ids.ObjectId.{ObjectId}
 use Rattle.ui_machine.specs.State.References.{mentions, next_unheld}
-use Rattle.ui_machine.proofs.Prefixes.{prefix_by}
 use Rattle.instances.specs.Store.{Store, id_of, count_of}
-use Rattle.ui_engine.specs.declared.engine.Engine.{Engine}
 use Rattle.ui_engine.specs.declared.engine.Made.TheVariants as mades
-use Rattle.ui_engine.specs.declared.task.Stack.{Stack}
 use Rattle.ui_engine.specs.EngineView.{config_of}
-use Rattle.ui_engine.specs.View.{world_of}
-use Rattle.ui_engine.specs.TaskView.{agenda_of}
 use Rattle.ui_engine.specs.Counting.{Counts, nothing}
-use Rattle.ui_engine.specs.Floating.{FloatsInMaking}
 use Rattle.ui_machine.specs.Runs.{HaltsAt}
 use Rattle.ui_engine.specs.Stepping.{NoneUnheld, Stepped}
 use Rattle.ui_engine.proofs.Counts.{finds_mentioned, with_table}
@@ -42,11 +34,8 @@ returns-clause-stepped c =
     let same = c.next_unheld.ensures.same in
     let one : next_unheld (count_of e.world.table.counts) e.world.table.objects ≡ Some id = sym c.next_unheld.ensures.found ∙ ap id_of c.in-Some.is in
     let unheld = subst (λ (s : Store). next_unheld (mentions d (config_of d (with_table e s))) s.objects ≡ Some id) (sym same) (sym (finds_mentioned d e c.requires.counted) ∙ one) in
-    let agenda = ap (λ (s : Stack). agenda_of d s) c.in_ok-finalise.ensures.same.0 in
     subst (λ (s : Store). Stepped (Ok mades.Counted) d (config_of d (with_table e s)) (config_of d new)) same
-    (finalise_stepped d (config_of d (with_table e t)) (config_of d new) id unheld c.in_ok-finalise.ensures.step
-    (subst (λ (s : Store). FloatsInMaking (world_of (with_table e s).world) (agenda_of d e.stack)) (sym same) c.requires.floats)
-    c.in_ok-finalise.ensures.same.1 agenda c.in_ok-finalise.ensures.counts)
+    (finalise_stepped d (config_of d (with_table e t)) (config_of d new) id unheld c.in_ok-finalise.ensures.step c.in_ok-finalise.ensures.counts)
 
 pub returns-in_err-finalise-clause-stepped : goal.returns-in_err-finalise-clause-stepped
 returns-in_err-finalise-clause-stepped c =

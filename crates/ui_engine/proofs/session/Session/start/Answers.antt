@@ -1,15 +1,14 @@
 use Rattle.std.proofs.Common.{[], ap, subst, sym, ◌∙◌}
-use Rattle.ui_machine.specs.State.Config.{World, Config, said}
+use Rattle.ui_machine.specs.State.Config.{Config, said}
 use Rattle.ui_machine.specs.State.Tasks.{Building}
 use Rattle.ui_machine.specs.Output.Lines as lines
 use Rattle.ui_machine.specs.Runs.{beginning, first_world}
 use Rattle.ui_engine.specs.declared.engine.Engine.{Engine}
 use Rattle.ui_engine.specs.TaskView.{agenda_of}
 use Rattle.ui_engine.proofs.Counts.{none_counted}
-use Rattle.ui_engine.specs.View.{world_of}
 use Rattle.ui_engine.specs.TaskView.{build_from}
 use Rattle.ui_engine.specs.SessionView.{Comes, carrying_out}
-use Rattle.ui_engine.proofs.Beginning.{none_floating, only_objects}
+use Rattle.ui_engine.proofs.Beginning.{only_objects}
 use Rattle.ui_engine.proofs.session.Session.start.Goals as goal
 
 pub invariant_of-session : goal.invariant_of-session
@@ -23,7 +22,6 @@ invariant_of-session c _ =
     let marks = ap (λ (e : Engine). e.world.weak) beside ∙ c.new-engine.ensures.marks in
     let counts = ap (λ (e : Engine). e.world.table.counts) beside ∙ c.new-engine.ensures.counts in
     record {
-      floats = none_floating (world_of c.announce.new.self.world) (ap (λ (w : World). w.floating) told ∙ ap (λ (w : World). w.floating) first);
       counts = none_counted d c.announce.new.self c.in-Ok.weak c.in-Ok.ensures marks counts world idle;
       idle = idle;
     }
