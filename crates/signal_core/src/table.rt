@@ -274,7 +274,7 @@ fn notify<'a>() -> DeclaredSignal<'a>
         name: NOTIFY,
         params: &[],
         result: None,
-        flags: SignalFlags(17),
+        flags: SignalFlags(SignalFlags::RUN_FIRST.0 | SignalFlags::DETAILED.0),
         accumulator: None,
     }
 }

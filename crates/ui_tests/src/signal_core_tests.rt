@@ -8,7 +8,7 @@ use signal_core::{
 };
 use std::alloc::Global;
 use std::test::Fail;
-use type_tree::{TypeFlags, TypeTree};
+use type_tree::{TypeFlags, TypeId, TypeTree};
 use ui_machine::ObjectId;
 
 const CLICKED: u16 = 1;
@@ -325,34 +325,53 @@ fn declares_up_to_the_most(rt: HostRuntime) -> Result<(), Fail> {
     Ok(())
 }
 
+// Whether the signal of a number has this very name.
+fn is_called(table: &SignalTable, tree: &TypeTree, t: TypeId, number: u16, name: &str) -> bool {
+    match table.signal(tree, t, number) {
+        Some(signal) => signal.name == name,
+        None => false,
+    }
+}
+
 /// `notify` comes first, then from the root down each class's own and those of its interfaces, each interface once.
 #[test]
 fn numbers_signals(rt: HostRuntime) -> Result<(), Fail> {
     let alloc = rt.alloc();
     let tree = tree_of_signals(alloc)?;
     let table = declared_table(alloc, &tree)?;
+    let t = tree.find("Tip").ok_or("no type")?;
+    for (number, name) in [
+        (0, "notify"),
+        (1, "base"),
+        (2, "leaf"),
+        (3, "last-leaf"),
+        (4, "one"),
+        (5, "two"),
+        (6, "tip"),
+    ] {
+        assert_eq!(rt; table.find(&tree, t, name), Some(number));
+        assert!(rt; is_called(&table, &tree, t, number, name), "{number}");
+    }
+    assert_eq!(rt; table.find(&tree, t, "last_leaf"), Some(3));
+    assert_eq!(rt; table.find(&tree, t, "go"), None);
+    Ok(())
+}
+
+/// A class has no signal of a child, and an interface its own alone.
+#[test]
+fn numbers_its_own_signals(rt: HostRuntime) -> Result<(), Fail> {
+    let alloc = rt.alloc();
+    let tree = tree_of_signals(alloc)?;
+    let table = declared_table(alloc, &tree)?;
     for (type_name, name, want) in [
-        ("Tip", "notify", Some(0)),
-        ("Tip", "base", Some(1)),
-        ("Tip", "leaf", Some(2)),
-        ("Tip", "last-leaf", Some(3)),
-        ("Tip", "last_leaf", Some(3)),
-        ("Tip", "one", Some(4)),
-        ("Tip", "two", Some(5)),
-        ("Tip", "tip", Some(6)),
-        ("Tip", "go", None),
         ("Base", "base", Some(1)),
         ("Base", "leaf", None),
         ("Two", "two", Some(1)),
         ("One", "two", None),
+        ("One", "notify", Some(0)),
     ] {
         let t = tree.find(type_name).ok_or("no type")?;
-        let number = table.find(&tree, t, name);
-        assert_eq!(rt; number, want, "{type_name} {name}");
-        if let Some(number) = number {
-            let signal = table.signal(&tree, t, number).ok_or("no signal")?;
-            assert_eq!(rt; signal.name == name, name != "last_leaf", "{name}");
-        }
+        assert_eq!(rt; table.find(&tree, t, name), want);
     }
     Ok(())
 }
