@@ -1,5 +1,5 @@
 -- What code computed of registers is what the machine's instruction leads to.
-use Rattle.std.proofs.Common.{◌≡◌, ℕ, Bool, true, false, cond, ◌++◌, List, length, nat_lt, Option, None, Some, option_map, Result, Ok, Err, refl, sym, ap, ◌∙◌, subst, codes}
+use Rattle.std.proofs.Common.{◌≡◌, ℕ, Bool, cond, ◌++◌, List, Option, None, Some, option_map, Result, Ok, Err, sym, ap, ◌∙◌, subst, codes}
 use Rattle.std.specs.Prelude.{MatchOption}
 use Rattle.ui_machine.specs.Seq.{read}
 use Rattle.ui_machine.specs.Outcome.{Answer}

@@ -1,3 +1,4 @@
 pub mod RegisterReads
 pub mod MachineSteps
 pub mod FromRegisters
+pub mod Shapes

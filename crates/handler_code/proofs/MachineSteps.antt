@@ -1,34 +1,22 @@
 -- What the machine's instructions on registers lead to, by what their registers hold.
-use Rattle.std.proofs.Common.{◌≡◌, ℕ, ℤ, Bool, true, false, cond, not, ◌&&◌, ◌||◌, ◌++◌, List, Option, None, Some, option_map, Result, Ok, Err, refl, sym, ap, ◌∙◌, subst}
-use Rattle.std.specs.Prelude.{MatchOption}
+use Rattle.std.proofs.Common.{◌≡◌, ℕ, ℤ, Bool, true, false, cond, not, ◌&&◌, ◌||◌, ◌++◌, List, Option, None, Some, option_map, Err, refl, ap, ◌∙◌}
 use Rattle.ui_machine.specs.Seq.{read}
-use Rattle.ui_machine.specs.Outcome.{◌>>=◌, Answer, known, only_if, Stops}
+use Rattle.ui_machine.specs.Outcome.{◌>>=◌, Answer, known, only_if}
 use Rattle.ui_machine.specs.declared.arm.Arm.TheVariants as arms
-use Rattle.ui_machine.specs.declared.arm.Halt.{Halt}
-use Rattle.ui_machine.specs.declared.arm.Halt.TheVariants as halts
 use Rattle.ui_machine.specs.Definition.{Definition}
-use Rattle.ui_machine.specs.Definition.Types.{GType}
 use Rattle.ui_machine.specs.Definition.Kinds.{Kind, Whole}
-use Rattle.ui_machine.specs.Definition.Kinds as kinds
-use Rattle.ui_machine.specs.Definition.Programs.{Arithmetic, Comparison, Instruction}
-use Rattle.ui_machine.specs.Definition.Programs as words
+use Rattle.ui_machine.specs.Definition.Programs.{Arithmetic, Comparison}
 use Rattle.ui_machine.specs.Definition.Values as values
 use Rattle.ui_machine.specs.State.Config.{Started, World}
-use Rattle.ui_machine.specs.State.Tasks.{Frame, Registers, Task}
+use Rattle.ui_machine.specs.State.Tasks.{Frame}
 use Rattle.ui_machine.specs.Rules.Accumulation.{or_zero}
 use Rattle.ui_machine.specs.Rules.Sets.{has_kind}
 use Rattle.ui_machine.specs.Rules.Transform.{same_value, same_whole, transformed, wrapped, zero_value}
-use Rattle.ui_machine.specs.Instructions.{in_front, instructed}
-use Rattle.ui_machine.specs.Instructions.Arithmetic.{reckoned, holds, of_one_kind, reckoning, comparing, sameness, negating, conjunction, disjunction, joining, converting, kind_of, gives_from, within_bytes, bytes_of, is_object_kind}
+use Rattle.ui_machine.specs.Instructions.Arithmetic.{reckoned, holds, of_one_kind, reckoning, comparing, sameness, negating, conjunction, disjunction, joining, converting, kind_of, gives_from, within_bytes, bytes_of}
 use Rattle.ui_machine.specs.Instructions.Registers.{gives, moving, text_in, truth_in, value_in, whole_in}
 use Rattle.ui_machine.specs.Instructions.Registers as machine
 use Rattle.g_values.specs.Arithmetic.{Pair, pair_of, calculated, compared}
-use Rattle.g_values.specs.declared.value.Value.{Value}
-use Rattle.g_values.specs.declared.value.Value.TheVariants as of_value
-use Rattle.g_values.specs.View.{value_view, value_kind}
-use Rattle.handler_code.specs.declared.computation.Computed.{Computed}
-use Rattle.handler_code.specs.declared.computation.Computed.TheVariants as computed
-use Rattle.handler_code.specs.Computing.{Computes, Converts, Copies, Joins, JoinsRegisters, convertible_in, converted_or_zero, may_convert, of_one, of_two, sameness_of, text_of, truth_of, value_or}
+use Rattle.handler_code.specs.Computing.{convertible_in, converted_or_zero, may_convert, of_one, of_two, sameness_of, text_of, truth_of, value_or}
 
 -- what is given where something is there, and the arm of registers where nothing is
 abbrev pub given : {X : Type 0} → (X → Answer Started) → Option X → Answer Started

@@ -11,7 +11,7 @@ use Rattle.ui_machine.specs.Definition.Types.{GType}
 use Rattle.ui_machine.specs.Definition.Values as values
 use Rattle.ui_machine.specs.Definition.Programs.{Instruction}
 use Rattle.ui_machine.specs.Definition.Programs as words
-use Rattle.ui_machine.specs.State.Config.{Left, Started, World, said}
+use Rattle.ui_machine.specs.State.Config.{Started, World, said}
 use Rattle.ui_machine.specs.State.Tasks.{Frame, Registers, Task}
 use Rattle.ui_machine.specs.Rules.Sets.{has_kind}
 use Rattle.ui_machine.specs.Rules.Transform.{is_transformable, same_value, transformed, zero_value}

@@ -4,7 +4,7 @@ use g_values::{Kind, Value};
 
 /// A register of a program, by its number.
 #[derive(Clone, Copy, Debug, PartialEq, Eq)]
-pub struct Register(pub u8);
+pub struct Register(pub usize);
 
 /// An operation on two whole numbers of one kind. The result keeps the low bits that the kind has.
 #[derive(Clone, Copy, Debug, PartialEq, Eq)]

@@ -7,7 +7,15 @@
 
 mod computation;
 mod computing;
+mod fault;
+mod instruction;
 mod operands;
+mod program;
+mod shape;
 
 pub use computation::{Arithmetic, Comparison, Computation, Computed, Register};
 pub use computing::MOST_TEXT_BYTES;
+pub use fault::{ProgramFault, ProgramLimit};
+pub use instruction::{BlockNumber, Connection, Instruction};
+pub use program::{Block, Program, RegisterKind};
+pub use shape::{MOST_BLOCKS, MOST_INSTRUCTIONS, MOST_REGISTERS};

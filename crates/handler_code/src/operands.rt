@@ -12,9 +12,8 @@ use g_values::Value;
 pub fn value_at(registers: &[Option<Value>], at: Register) -> Option<&Value>
     ensures { option_map (λ v. value_view v.now) result ≡ read None (registers_of registers.now) at.0 }
 {
-    let at = at.0 as usize;
-    if at < registers.len() {
-        registers[at].as_ref()
+    if at.0 < registers.len() {
+        registers[at.0].as_ref()
     } else {
         None
     }

@@ -1,4 +1,4 @@
-use Rattle.std.proofs.Common.{◌∙◌, ap, sym, refl, subst, Bool, not, ◌&&◌, ◌||◌, None, Some, option_map}
+use Rattle.std.proofs.Common.{◌∙◌, ap, sym, refl, subst, not, ◌&&◌, ◌||◌, None, Some, option_map}
 use Rattle.ui_machine.specs.Seq.{read}
 use Rattle.ui_machine.specs.Definition.Programs as words
 use Rattle.ui_machine.specs.Definition.Values as values
@@ -6,7 +6,7 @@ use Rattle.ui_machine.specs.Instructions.{in_front}
 use Rattle.g_values.specs.Arithmetic.{calculated, compared}
 use Rattle.g_values.specs.View.{kind_view}
 use Rattle.handler_code.specs.declared.computation.Computation.{Computation}
-use Rattle.handler_code.specs.Computing.{Computes, registers_of, instruction_of, operation_of, comparison_of, of_one, of_two, sameness_of, text_of, truth_of}
+use Rattle.handler_code.specs.Computing.{Computes, registers_of, instruction_of, operation_of, comparison_of, of_one, of_two, sameness_of, truth_of}
 use Rattle.handler_code.proofs.MachineSteps.{reckons, compares, is_sameness, negates, is_conjunction, is_disjunction}
 use Rattle.handler_code.proofs.FromRegisters.{from_value, from_copy, from_texts, from_conversion}
 use Rattle.handler_code.proofs.computation.Computation.compute.Goals as goal
