@@ -2,3 +2,4 @@ pub mod RegisterReads
 pub mod MachineSteps
 pub mod FromRegisters
 pub mod Shapes
+pub mod OperandLists

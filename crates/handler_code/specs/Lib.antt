@@ -1,3 +1,7 @@
 pub mod Computing
 pub mod View
 pub mod Shape
+pub mod KindWords
+pub mod Operands
+pub mod OptionView
+pub mod Rows

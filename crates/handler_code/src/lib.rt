@@ -7,15 +7,30 @@
 
 mod computation;
 mod computing;
+mod error;
 mod fault;
 mod instruction;
+mod instruction_reading;
+mod jump_rows;
+mod kind_words;
+mod object_rows;
+mod operand_lists;
+mod operand_shapes;
+mod operand_words;
 mod operands;
 mod program;
+mod register_rows;
+mod scope;
 mod shape;
+mod signal_rows;
+mod source_rows;
 
 pub use computation::{Arithmetic, Comparison, Computation, Computed, Register};
 pub use computing::MOST_TEXT_BYTES;
+pub use error::InstructionError;
 pub use fault::{ProgramFault, ProgramLimit};
 pub use instruction::{BlockNumber, Connection, Instruction};
+pub use instruction_reading::read_instruction;
 pub use program::{Block, Program, RegisterKind};
+pub use scope::Scope;
 pub use shape::{MOST_BLOCKS, MOST_INSTRUCTIONS, MOST_REGISTERS};

@@ -1,0 +1,31 @@
+//! Why no instruction is read.
+
+ghost use Rattle.std.specs.Prelude.{◌≡◌};
+ghost use Rattle.handler_code.specs.declared.error.InstructionError.TheVariants as errors;
+
+use std::alloc::{AllocError, AllocFailed};
+
+/// Why no instruction is read.
+#[derive(Clone, Copy, Debug, PartialEq, Eq)]
+pub enum InstructionError {
+    /// No memory was found.
+    OutOfMemory,
+    /// The value is no instruction.
+    BadInstruction,
+}
+
+impl From<AllocError> for InstructionError {
+    ghost from_gives = { λ _ error. error ≡ errors.OutOfMemory };
+
+    fn from(_error: AllocError) -> InstructionError {
+        InstructionError::OutOfMemory
+    }
+}
+
+impl<T: Drop> From<AllocFailed<T>> for InstructionError {
+    ghost from_gives = { λ _ error. error ≡ errors.OutOfMemory };
+
+    fn from(_error: AllocFailed<T>) -> InstructionError {
+        InstructionError::OutOfMemory
+    }
+}
