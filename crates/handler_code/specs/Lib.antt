@@ -5,3 +5,4 @@ pub mod KindWords
 pub mod Operands
 pub mod OptionView
 pub mod Rows
+pub mod Known

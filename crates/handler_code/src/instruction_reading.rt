@@ -2,8 +2,10 @@
 //!
 //! An instruction is a JSON array: a word, then its operands. A contract has one row for each word, with its operands in their order.
 
+ghost use Rattle.std.specs.Prelude.{IfOk};
 ghost use Rattle.serde_json.specs.View.{view};
 ghost use Rattle.handler_code.specs.View.{instruction_view};
+ghost use Rattle.handler_code.specs.Known.{HasKnownKinds};
 ghost use Rattle.handler_code.specs.Operands.{Gives};
 ghost use Rattle.handler_code.specs.Rows.{scope_view, register_word, object_word, signal_word, source_word, jump_word, instruction_at};
 
@@ -30,8 +32,9 @@ use std::alloc::Global;
 
 /// Reads the instruction that a JSON array stands for.
 ///
-/// Registers and blocks are numbers below those of the scope. Kinds and values are read as those of properties are, objects by null alone.
-/// Names are texts: whether they name something, and whether the operands have the right kinds, is not tested here.
+/// Registers and blocks are numbers below those of the scope. Kinds and values are read as those of properties are, objects by null alone. An
+/// enum or flags type that a kind names is there. Other names are texts: whether they name something, and whether the operands have the right
+/// kinds, is not tested here.
 ///
 /// `BadInstruction` where the value is no array, its first entry is no word, or its operands are not those of the word: too few, too many, or
 /// of another sort. `OutOfMemory` where a name, a text or a list can't be made.
@@ -41,7 +44,8 @@ pub fn read_instruction(
     scope: &Scope<'_>,
     json: &Value,
 ) -> Result<Instruction, InstructionError>
-    ensures { Gives instruction_view result (instruction_at (scope_view scope.now) (view json.now)) }
+    ensures read { Gives instruction_view result (instruction_at (scope_view scope.now) (view json.now)) }
+    ensures known { IfOk result (λ i. HasKnownKinds scope.now.types.now i) }
 {
     let word = text_at(json, 0)?;
     read_register_word(alloc, scope, word, json)
@@ -55,7 +59,8 @@ fn read_register_word(
     word: &str,
     json: &Value,
 ) -> Result<Instruction, InstructionError>
-    ensures { Gives instruction_view result (register_word (scope_view scope.now) word.now (view json.now)) }
+    ensures read { Gives instruction_view result (register_word (scope_view scope.now) word.now (view json.now)) }
+    ensures known { IfOk result (λ i. HasKnownKinds scope.now.types.now i) }
 {
     if word == "const" {
         return read_const(alloc, scope, json);
@@ -107,7 +112,8 @@ fn read_object_word(
     word: &str,
     json: &Value,
 ) -> Result<Instruction, InstructionError>
-    ensures { Gives instruction_view result (object_word (scope_view scope.now) word.now (view json.now)) }
+    ensures read { Gives instruction_view result (object_word (scope_view scope.now) word.now (view json.now)) }
+    ensures known { IfOk result (λ i. HasKnownKinds scope.now.types.now i) }
 {
     if word == "get" {
         return read_get(alloc, scope, json);
@@ -153,7 +159,8 @@ fn read_signal_word(
     word: &str,
     json: &Value,
 ) -> Result<Instruction, InstructionError>
-    ensures { Gives instruction_view result (signal_word (scope_view scope.now) word.now (view json.now)) }
+    ensures read { Gives instruction_view result (signal_word (scope_view scope.now) word.now (view json.now)) }
+    ensures known { IfOk result (λ i. HasKnownKinds scope.now.types.now i) }
 {
     if word == "emit" {
         return read_emit(alloc, scope, json);
@@ -187,7 +194,8 @@ fn read_source_word(
     word: &str,
     json: &Value,
 ) -> Result<Instruction, InstructionError>
-    ensures { Gives instruction_view result (source_word (scope_view scope.now) word.now (view json.now)) }
+    ensures read { Gives instruction_view result (source_word (scope_view scope.now) word.now (view json.now)) }
+    ensures known { IfOk result (λ i. HasKnownKinds scope.now.types.now i) }
 {
     if word == "idle" {
         return read_idle(alloc, scope, json);
@@ -211,7 +219,8 @@ fn read_jump_word(
     word: &str,
     json: &Value,
 ) -> Result<Instruction, InstructionError>
-    ensures { Gives instruction_view result (jump_word (scope_view scope.now) word.now (view json.now)) }
+    ensures read { Gives instruction_view result (jump_word (scope_view scope.now) word.now (view json.now)) }
+    ensures known { IfOk result (λ i. HasKnownKinds scope.now.types.now i) }
 {
     if word == "jump" {
         return read_jump(scope, json);

@@ -1,7 +1,9 @@
 //! The rows of the instructions that end a block.
 
+ghost use Rattle.std.specs.Prelude.{IfOk};
 ghost use Rattle.serde_json.specs.View.{view};
 ghost use Rattle.handler_code.specs.View.{instruction_view};
+ghost use Rattle.handler_code.specs.Known.{HasKnownKinds};
 ghost use Rattle.handler_code.specs.Operands.{Gives};
 ghost use Rattle.handler_code.specs.Rows.{scope_view, jump_row, branch_row, branch_null_row, return_row};
 
@@ -15,7 +17,8 @@ use serde_json::Value;
 // `jump b`
 #[tactic(auto, unfolding(crate::specs::Rows::jump_row))]
 pub(crate) fn read_jump(scope: &Scope<'_>, json: &Value) -> Result<Instruction, InstructionError>
-    ensures { Gives instruction_view result (jump_row (scope_view scope.now) (view json.now)) }
+    ensures read { Gives instruction_view result (jump_row (scope_view scope.now) (view json.now)) }
+    ensures known { IfOk result (λ i. HasKnownKinds scope.now.types.now i) }
 {
     check_none(json, 2)?;
     let to = block_at(json, 1, scope.blocks)?;
@@ -25,7 +28,8 @@ pub(crate) fn read_jump(scope: &Scope<'_>, json: &Value) -> Result<Instruction, 
 // `if a b b`
 #[tactic(auto, unfolding(crate::specs::Rows::branch_row))]
 pub(crate) fn read_branch(scope: &Scope<'_>, json: &Value) -> Result<Instruction, InstructionError>
-    ensures { Gives instruction_view result (branch_row (scope_view scope.now) (view json.now)) }
+    ensures read { Gives instruction_view result (branch_row (scope_view scope.now) (view json.now)) }
+    ensures known { IfOk result (λ i. HasKnownKinds scope.now.types.now i) }
 {
     let (on, then_to, else_to) = register_and_blocks(scope, json)?;
     Ok(Instruction::Branch {
@@ -41,7 +45,8 @@ pub(crate) fn read_branch_null(
     scope: &Scope<'_>,
     json: &Value,
 ) -> Result<Instruction, InstructionError>
-    ensures { Gives instruction_view result (branch_null_row (scope_view scope.now) (view json.now)) }
+    ensures read { Gives instruction_view result (branch_null_row (scope_view scope.now) (view json.now)) }
+    ensures known { IfOk result (λ i. HasKnownKinds scope.now.types.now i) }
 {
     let (on, then_to, else_to) = register_and_blocks(scope, json)?;
     Ok(Instruction::BranchNull {
@@ -54,7 +59,8 @@ pub(crate) fn read_branch_null(
 // `return z`
 #[tactic(auto, unfolding(crate::specs::Rows::return_row))]
 pub(crate) fn read_return(scope: &Scope<'_>, json: &Value) -> Result<Instruction, InstructionError>
-    ensures { Gives instruction_view result (return_row (scope_view scope.now) (view json.now)) }
+    ensures read { Gives instruction_view result (return_row (scope_view scope.now) (view json.now)) }
+    ensures known { IfOk result (λ i. HasKnownKinds scope.now.types.now i) }
 {
     check_none(json, 2)?;
     let from = register_or_null_at(json, 1, scope.registers)?;

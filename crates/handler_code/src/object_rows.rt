@@ -1,7 +1,9 @@
 //! The rows of the instructions on properties and objects.
 
+ghost use Rattle.std.specs.Prelude.{IfOk};
 ghost use Rattle.serde_json.specs.View.{view};
 ghost use Rattle.handler_code.specs.View.{instruction_view};
+ghost use Rattle.handler_code.specs.Known.{HasKnownKinds};
 ghost use Rattle.handler_code.specs.Operands.{Gives};
 ghost use Rattle.handler_code.specs.Rows.{scope_view, get_row, set_row, object_row, new_row, sink_row, orphan_row, dispose_row, freeze_row, thaw_row, adopt_row, notify_row};
 
@@ -20,7 +22,8 @@ pub(crate) fn read_get(
     scope: &Scope<'_>,
     json: &Value,
 ) -> Result<Instruction, InstructionError>
-    ensures { Gives instruction_view result (get_row (scope_view scope.now) (view json.now)) }
+    ensures read { Gives instruction_view result (get_row (scope_view scope.now) (view json.now)) }
+    ensures known { IfOk result (λ i. HasKnownKinds scope.now.types.now i) }
 {
     check_none(json, 4)?;
     let to = register_at(json, 1, scope.registers)?;
@@ -40,7 +43,8 @@ pub(crate) fn read_set(
     scope: &Scope<'_>,
     json: &Value,
 ) -> Result<Instruction, InstructionError>
-    ensures { Gives instruction_view result (set_row (scope_view scope.now) (view json.now)) }
+    ensures read { Gives instruction_view result (set_row (scope_view scope.now) (view json.now)) }
+    ensures known { IfOk result (λ i. HasKnownKinds scope.now.types.now i) }
 {
     check_none(json, 4)?;
     let object = register_at(json, 1, scope.registers)?;
@@ -60,7 +64,8 @@ pub(crate) fn read_object(
     scope: &Scope<'_>,
     json: &Value,
 ) -> Result<Instruction, InstructionError>
-    ensures { Gives instruction_view result (object_row (scope_view scope.now) (view json.now)) }
+    ensures read { Gives instruction_view result (object_row (scope_view scope.now) (view json.now)) }
+    ensures known { IfOk result (λ i. HasKnownKinds scope.now.types.now i) }
 {
     let (to, id) = register_and_name(alloc, scope, json)?;
     Ok(Instruction::Object { to, id })
@@ -73,7 +78,8 @@ pub(crate) fn read_new(
     scope: &Scope<'_>,
     json: &Value,
 ) -> Result<Instruction, InstructionError>
-    ensures { Gives instruction_view result (new_row (scope_view scope.now) (view json.now)) }
+    ensures read { Gives instruction_view result (new_row (scope_view scope.now) (view json.now)) }
+    ensures known { IfOk result (λ i. HasKnownKinds scope.now.types.now i) }
 {
     let (to, id) = register_and_name(alloc, scope, json)?;
     Ok(Instruction::New { to, id })
@@ -82,7 +88,8 @@ pub(crate) fn read_new(
 // `sink o`
 #[tactic(auto, unfolding(crate::specs::Rows::sink_row))]
 pub(crate) fn read_sink(scope: &Scope<'_>, json: &Value) -> Result<Instruction, InstructionError>
-    ensures { Gives instruction_view result (sink_row (scope_view scope.now) (view json.now)) }
+    ensures read { Gives instruction_view result (sink_row (scope_view scope.now) (view json.now)) }
+    ensures known { IfOk result (λ i. HasKnownKinds scope.now.types.now i) }
 {
     let object = one_register(scope, json)?;
     Ok(Instruction::Sink(object))
@@ -91,7 +98,8 @@ pub(crate) fn read_sink(scope: &Scope<'_>, json: &Value) -> Result<Instruction, 
 // `orphan o`
 #[tactic(auto, unfolding(crate::specs::Rows::orphan_row))]
 pub(crate) fn read_orphan(scope: &Scope<'_>, json: &Value) -> Result<Instruction, InstructionError>
-    ensures { Gives instruction_view result (orphan_row (scope_view scope.now) (view json.now)) }
+    ensures read { Gives instruction_view result (orphan_row (scope_view scope.now) (view json.now)) }
+    ensures known { IfOk result (λ i. HasKnownKinds scope.now.types.now i) }
 {
     let object = one_register(scope, json)?;
     Ok(Instruction::Orphan(object))
@@ -100,7 +108,8 @@ pub(crate) fn read_orphan(scope: &Scope<'_>, json: &Value) -> Result<Instruction
 // `dispose o`
 #[tactic(auto, unfolding(crate::specs::Rows::dispose_row))]
 pub(crate) fn read_dispose(scope: &Scope<'_>, json: &Value) -> Result<Instruction, InstructionError>
-    ensures { Gives instruction_view result (dispose_row (scope_view scope.now) (view json.now)) }
+    ensures read { Gives instruction_view result (dispose_row (scope_view scope.now) (view json.now)) }
+    ensures known { IfOk result (λ i. HasKnownKinds scope.now.types.now i) }
 {
     let object = one_register(scope, json)?;
     Ok(Instruction::Dispose(object))
@@ -109,7 +118,8 @@ pub(crate) fn read_dispose(scope: &Scope<'_>, json: &Value) -> Result<Instructio
 // `freeze o`
 #[tactic(auto, unfolding(crate::specs::Rows::freeze_row))]
 pub(crate) fn read_freeze(scope: &Scope<'_>, json: &Value) -> Result<Instruction, InstructionError>
-    ensures { Gives instruction_view result (freeze_row (scope_view scope.now) (view json.now)) }
+    ensures read { Gives instruction_view result (freeze_row (scope_view scope.now) (view json.now)) }
+    ensures known { IfOk result (λ i. HasKnownKinds scope.now.types.now i) }
 {
     let object = one_register(scope, json)?;
     Ok(Instruction::Freeze(object))
@@ -118,7 +128,8 @@ pub(crate) fn read_freeze(scope: &Scope<'_>, json: &Value) -> Result<Instruction
 // `thaw o`
 #[tactic(auto, unfolding(crate::specs::Rows::thaw_row))]
 pub(crate) fn read_thaw(scope: &Scope<'_>, json: &Value) -> Result<Instruction, InstructionError>
-    ensures { Gives instruction_view result (thaw_row (scope_view scope.now) (view json.now)) }
+    ensures read { Gives instruction_view result (thaw_row (scope_view scope.now) (view json.now)) }
+    ensures known { IfOk result (λ i. HasKnownKinds scope.now.types.now i) }
 {
     let object = one_register(scope, json)?;
     Ok(Instruction::Thaw(object))
@@ -127,7 +138,8 @@ pub(crate) fn read_thaw(scope: &Scope<'_>, json: &Value) -> Result<Instruction, 
 // `adopt d o o`
 #[tactic(auto, unfolding(crate::specs::Rows::adopt_row))]
 pub(crate) fn read_adopt(scope: &Scope<'_>, json: &Value) -> Result<Instruction, InstructionError>
-    ensures { Gives instruction_view result (adopt_row (scope_view scope.now) (view json.now)) }
+    ensures read { Gives instruction_view result (adopt_row (scope_view scope.now) (view json.now)) }
+    ensures known { IfOk result (λ i. HasKnownKinds scope.now.types.now i) }
 {
     let (to, a, b) = three_registers(scope, json)?;
     Ok(Instruction::Adopt {
@@ -144,7 +156,8 @@ pub(crate) fn read_notify(
     scope: &Scope<'_>,
     json: &Value,
 ) -> Result<Instruction, InstructionError>
-    ensures { Gives instruction_view result (notify_row (scope_view scope.now) (view json.now)) }
+    ensures read { Gives instruction_view result (notify_row (scope_view scope.now) (view json.now)) }
+    ensures known { IfOk result (λ i. HasKnownKinds scope.now.types.now i) }
 {
     let (object, property) = register_and_name(alloc, scope, json)?;
     Ok(Instruction::Notify { object, property })

@@ -1,7 +1,9 @@
 //! The rows of the instructions that touch registers alone.
 
+ghost use Rattle.std.specs.Prelude.{IfOk};
 ghost use Rattle.serde_json.specs.View.{view};
 ghost use Rattle.handler_code.specs.View.{instruction_view};
+ghost use Rattle.handler_code.specs.Known.{HasKnownKinds};
 ghost use Rattle.handler_code.specs.Operands.{Gives};
 ghost use Rattle.handler_code.specs.Rows.{scope_view, const_row, move_row, clear_row, arithmetic_row, compare_row, same_row, not_row, and_row, or_row, join_row, convert_row};
 ghost use Rattle.handler_code.specs.Computing.{operation_of};
@@ -22,7 +24,8 @@ pub(crate) fn read_const(
     scope: &Scope<'_>,
     json: &Value,
 ) -> Result<Instruction, InstructionError>
-    ensures { Gives instruction_view result (const_row (scope_view scope.now) (view json.now)) }
+    ensures read { Gives instruction_view result (const_row (scope_view scope.now) (view json.now)) }
+    ensures known { IfOk result (λ i. HasKnownKinds scope.now.types.now i) }
 {
     check_none(json, 4)?;
     let to = register_at(json, 1, scope.registers)?;
@@ -37,7 +40,8 @@ pub(crate) fn read_const(
 // `move d s`
 #[tactic(auto, unfolding(crate::specs::Rows::move_row))]
 pub(crate) fn read_move(scope: &Scope<'_>, json: &Value) -> Result<Instruction, InstructionError>
-    ensures { Gives instruction_view result (move_row (scope_view scope.now) (view json.now)) }
+    ensures read { Gives instruction_view result (move_row (scope_view scope.now) (view json.now)) }
+    ensures known { IfOk result (λ i. HasKnownKinds scope.now.types.now i) }
 {
     let (to, a) = two_registers(scope, json)?;
     Ok(Instruction::Compute {
@@ -49,7 +53,8 @@ pub(crate) fn read_move(scope: &Scope<'_>, json: &Value) -> Result<Instruction, 
 // `clear d`
 #[tactic(auto, unfolding(crate::specs::Rows::clear_row))]
 pub(crate) fn read_clear(scope: &Scope<'_>, json: &Value) -> Result<Instruction, InstructionError>
-    ensures { Gives instruction_view result (clear_row (scope_view scope.now) (view json.now)) }
+    ensures read { Gives instruction_view result (clear_row (scope_view scope.now) (view json.now)) }
+    ensures known { IfOk result (λ i. HasKnownKinds scope.now.types.now i) }
 {
     let to = one_register(scope, json)?;
     Ok(Instruction::Compute {
@@ -65,7 +70,8 @@ pub(crate) fn read_arithmetic(
     scope: &Scope<'_>,
     json: &Value,
 ) -> Result<Instruction, InstructionError>
-    ensures { Gives instruction_view result (arithmetic_row (operation_of operation) (scope_view scope.now) (view json.now)) }
+    ensures read { Gives instruction_view result (arithmetic_row (operation_of operation) (scope_view scope.now) (view json.now)) }
+    ensures known { IfOk result (λ i. HasKnownKinds scope.now.types.now i) }
 {
     let (to, a, b) = three_registers(scope, json)?;
     Ok(Instruction::Compute {
@@ -77,7 +83,8 @@ pub(crate) fn read_arithmetic(
 // `cmp d op a b`
 #[tactic(auto, unfolding(crate::specs::Rows::compare_row))]
 pub(crate) fn read_compare(scope: &Scope<'_>, json: &Value) -> Result<Instruction, InstructionError>
-    ensures { Gives instruction_view result (compare_row (scope_view scope.now) (view json.now)) }
+    ensures read { Gives instruction_view result (compare_row (scope_view scope.now) (view json.now)) }
+    ensures known { IfOk result (λ i. HasKnownKinds scope.now.types.now i) }
 {
     check_none(json, 5)?;
     let to = register_at(json, 1, scope.registers)?;
@@ -93,7 +100,8 @@ pub(crate) fn read_compare(scope: &Scope<'_>, json: &Value) -> Result<Instructio
 // `same d a b`
 #[tactic(auto, unfolding(crate::specs::Rows::same_row))]
 pub(crate) fn read_same(scope: &Scope<'_>, json: &Value) -> Result<Instruction, InstructionError>
-    ensures { Gives instruction_view result (same_row (scope_view scope.now) (view json.now)) }
+    ensures read { Gives instruction_view result (same_row (scope_view scope.now) (view json.now)) }
+    ensures known { IfOk result (λ i. HasKnownKinds scope.now.types.now i) }
 {
     let (to, a, b) = three_registers(scope, json)?;
     Ok(Instruction::Compute {
@@ -105,7 +113,8 @@ pub(crate) fn read_same(scope: &Scope<'_>, json: &Value) -> Result<Instruction, 
 // `not d a`
 #[tactic(auto, unfolding(crate::specs::Rows::not_row))]
 pub(crate) fn read_not(scope: &Scope<'_>, json: &Value) -> Result<Instruction, InstructionError>
-    ensures { Gives instruction_view result (not_row (scope_view scope.now) (view json.now)) }
+    ensures read { Gives instruction_view result (not_row (scope_view scope.now) (view json.now)) }
+    ensures known { IfOk result (λ i. HasKnownKinds scope.now.types.now i) }
 {
     let (to, a) = two_registers(scope, json)?;
     Ok(Instruction::Compute {
@@ -117,7 +126,8 @@ pub(crate) fn read_not(scope: &Scope<'_>, json: &Value) -> Result<Instruction, I
 // `and d a b`
 #[tactic(auto, unfolding(crate::specs::Rows::and_row))]
 pub(crate) fn read_and(scope: &Scope<'_>, json: &Value) -> Result<Instruction, InstructionError>
-    ensures { Gives instruction_view result (and_row (scope_view scope.now) (view json.now)) }
+    ensures read { Gives instruction_view result (and_row (scope_view scope.now) (view json.now)) }
+    ensures known { IfOk result (λ i. HasKnownKinds scope.now.types.now i) }
 {
     let (to, a, b) = three_registers(scope, json)?;
     Ok(Instruction::Compute {
@@ -129,7 +139,8 @@ pub(crate) fn read_and(scope: &Scope<'_>, json: &Value) -> Result<Instruction, I
 // `or d a b`
 #[tactic(auto, unfolding(crate::specs::Rows::or_row))]
 pub(crate) fn read_or(scope: &Scope<'_>, json: &Value) -> Result<Instruction, InstructionError>
-    ensures { Gives instruction_view result (or_row (scope_view scope.now) (view json.now)) }
+    ensures read { Gives instruction_view result (or_row (scope_view scope.now) (view json.now)) }
+    ensures known { IfOk result (λ i. HasKnownKinds scope.now.types.now i) }
 {
     let (to, a, b) = three_registers(scope, json)?;
     Ok(Instruction::Compute {
@@ -141,7 +152,8 @@ pub(crate) fn read_or(scope: &Scope<'_>, json: &Value) -> Result<Instruction, In
 // `join d a b`
 #[tactic(auto, unfolding(crate::specs::Rows::join_row))]
 pub(crate) fn read_join(scope: &Scope<'_>, json: &Value) -> Result<Instruction, InstructionError>
-    ensures { Gives instruction_view result (join_row (scope_view scope.now) (view json.now)) }
+    ensures read { Gives instruction_view result (join_row (scope_view scope.now) (view json.now)) }
+    ensures known { IfOk result (λ i. HasKnownKinds scope.now.types.now i) }
 {
     let (to, a, b) = three_registers(scope, json)?;
     Ok(Instruction::Compute {
@@ -153,7 +165,8 @@ pub(crate) fn read_join(scope: &Scope<'_>, json: &Value) -> Result<Instruction, 
 // `convert d a k`
 #[tactic(auto, unfolding(crate::specs::Rows::convert_row))]
 pub(crate) fn read_convert(scope: &Scope<'_>, json: &Value) -> Result<Instruction, InstructionError>
-    ensures { Gives instruction_view result (convert_row (scope_view scope.now) (view json.now)) }
+    ensures read { Gives instruction_view result (convert_row (scope_view scope.now) (view json.now)) }
+    ensures known { IfOk result (λ i. HasKnownKinds scope.now.types.now i) }
 {
     check_none(json, 4)?;
     let to = register_at(json, 1, scope.registers)?;

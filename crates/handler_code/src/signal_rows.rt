@@ -1,7 +1,9 @@
 //! The rows of the instructions on signals, handlers and bindings.
 
+ghost use Rattle.std.specs.Prelude.{IfOk};
 ghost use Rattle.serde_json.specs.View.{view};
 ghost use Rattle.handler_code.specs.View.{instruction_view};
+ghost use Rattle.handler_code.specs.Known.{HasKnownKinds};
 ghost use Rattle.handler_code.specs.Operands.{Gives};
 ghost use Rattle.handler_code.specs.Rows.{scope_view, emit_row, connect_row, disconnect_row, block_row, unblock_row, stop_row, unbind_row};
 
@@ -21,7 +23,8 @@ pub(crate) fn read_emit(
     scope: &Scope<'_>,
     json: &Value,
 ) -> Result<Instruction, InstructionError>
-    ensures { Gives instruction_view result (emit_row (scope_view scope.now) (view json.now)) }
+    ensures read { Gives instruction_view result (emit_row (scope_view scope.now) (view json.now)) }
+    ensures known { IfOk result (λ i. HasKnownKinds scope.now.types.now i) }
 {
     check_none(json, 6)?;
     let into = register_or_null_at(json, 1, scope.registers)?;
@@ -45,7 +48,8 @@ pub(crate) fn read_connect(
     scope: &Scope<'_>,
     json: &Value,
 ) -> Result<Instruction, InstructionError>
-    ensures { Gives instruction_view result (connect_row (scope_view scope.now) (view json.now)) }
+    ensures read { Gives instruction_view result (connect_row (scope_view scope.now) (view json.now)) }
+    ensures known { IfOk result (λ i. HasKnownKinds scope.now.types.now i) }
 {
     check_none(json, 8)?;
     let to = register_at(json, 1, scope.registers)?;
@@ -65,7 +69,8 @@ pub(crate) fn read_disconnect(
     scope: &Scope<'_>,
     json: &Value,
 ) -> Result<Instruction, InstructionError>
-    ensures { Gives instruction_view result (disconnect_row (scope_view scope.now) (view json.now)) }
+    ensures read { Gives instruction_view result (disconnect_row (scope_view scope.now) (view json.now)) }
+    ensures known { IfOk result (λ i. HasKnownKinds scope.now.types.now i) }
 {
     let (object, program) = register_and_name(alloc, scope, json)?;
     Ok(Instruction::Disconnect { object, program })
@@ -78,7 +83,8 @@ pub(crate) fn read_block(
     scope: &Scope<'_>,
     json: &Value,
 ) -> Result<Instruction, InstructionError>
-    ensures { Gives instruction_view result (block_row (scope_view scope.now) (view json.now)) }
+    ensures read { Gives instruction_view result (block_row (scope_view scope.now) (view json.now)) }
+    ensures known { IfOk result (λ i. HasKnownKinds scope.now.types.now i) }
 {
     let (object, program) = register_and_name(alloc, scope, json)?;
     Ok(Instruction::Block { object, program })
@@ -91,7 +97,8 @@ pub(crate) fn read_unblock(
     scope: &Scope<'_>,
     json: &Value,
 ) -> Result<Instruction, InstructionError>
-    ensures { Gives instruction_view result (unblock_row (scope_view scope.now) (view json.now)) }
+    ensures read { Gives instruction_view result (unblock_row (scope_view scope.now) (view json.now)) }
+    ensures known { IfOk result (λ i. HasKnownKinds scope.now.types.now i) }
 {
     let (object, program) = register_and_name(alloc, scope, json)?;
     Ok(Instruction::Unblock { object, program })
@@ -100,7 +107,8 @@ pub(crate) fn read_unblock(
 // `stop`
 #[tactic(auto, unfolding(crate::specs::Rows::stop_row))]
 pub(crate) fn read_stop(scope: &Scope<'_>, json: &Value) -> Result<Instruction, InstructionError>
-    ensures { Gives instruction_view result (stop_row (scope_view scope.now) (view json.now)) }
+    ensures read { Gives instruction_view result (stop_row (scope_view scope.now) (view json.now)) }
+    ensures known { IfOk result (λ i. HasKnownKinds scope.now.types.now i) }
 {
     check_none(json, 1)?;
     Ok(Instruction::Stop)
@@ -113,7 +121,8 @@ pub(crate) fn read_unbind(
     scope: &Scope<'_>,
     json: &Value,
 ) -> Result<Instruction, InstructionError>
-    ensures { Gives instruction_view result (unbind_row (scope_view scope.now) (view json.now)) }
+    ensures read { Gives instruction_view result (unbind_row (scope_view scope.now) (view json.now)) }
+    ensures known { IfOk result (λ i. HasKnownKinds scope.now.types.now i) }
 {
     let name = one_name(alloc, json)?;
     Ok(Instruction::Unbind(name))

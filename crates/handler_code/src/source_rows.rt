@@ -1,7 +1,9 @@
 //! The rows of the instructions on sources and peers.
 
+ghost use Rattle.std.specs.Prelude.{IfOk};
 ghost use Rattle.serde_json.specs.View.{view};
 ghost use Rattle.handler_code.specs.View.{instruction_view};
+ghost use Rattle.handler_code.specs.Known.{HasKnownKinds};
 ghost use Rattle.handler_code.specs.Operands.{Gives};
 ghost use Rattle.handler_code.specs.Rows.{scope_view, idle_row, timeout_row, remove_row, call_row};
 
@@ -23,7 +25,8 @@ pub(crate) fn read_idle(
     scope: &Scope<'_>,
     json: &Value,
 ) -> Result<Instruction, InstructionError>
-    ensures { Gives instruction_view result (idle_row (scope_view scope.now) (view json.now)) }
+    ensures read { Gives instruction_view result (idle_row (scope_view scope.now) (view json.now)) }
+    ensures known { IfOk result (λ i. HasKnownKinds scope.now.types.now i) }
 {
     check_none(json, 5)?;
     let to = register_at(json, 1, scope.registers)?;
@@ -45,7 +48,8 @@ pub(crate) fn read_timeout(
     scope: &Scope<'_>,
     json: &Value,
 ) -> Result<Instruction, InstructionError>
-    ensures { Gives instruction_view result (timeout_row (scope_view scope.now) (view json.now)) }
+    ensures read { Gives instruction_view result (timeout_row (scope_view scope.now) (view json.now)) }
+    ensures known { IfOk result (λ i. HasKnownKinds scope.now.types.now i) }
 {
     check_none(json, 6)?;
     let to = register_at(json, 1, scope.registers)?;
@@ -69,7 +73,8 @@ pub(crate) fn read_remove(
     scope: &Scope<'_>,
     json: &Value,
 ) -> Result<Instruction, InstructionError>
-    ensures { Gives instruction_view result (remove_row (scope_view scope.now) (view json.now)) }
+    ensures read { Gives instruction_view result (remove_row (scope_view scope.now) (view json.now)) }
+    ensures known { IfOk result (λ i. HasKnownKinds scope.now.types.now i) }
 {
     let program = one_name(alloc, json)?;
     Ok(Instruction::Remove(program))
@@ -82,7 +87,8 @@ pub(crate) fn read_call(
     scope: &Scope<'_>,
     json: &Value,
 ) -> Result<Instruction, InstructionError>
-    ensures { Gives instruction_view result (call_row (scope_view scope.now) (view json.now)) }
+    ensures read { Gives instruction_view result (call_row (scope_view scope.now) (view json.now)) }
+    ensures known { IfOk result (λ i. HasKnownKinds scope.now.types.now i) }
 {
     check_none(json, 5)?;
     let to = register_at(json, 1, scope.registers)?;
