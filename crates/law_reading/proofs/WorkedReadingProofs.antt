@@ -10,7 +10,7 @@ use Rattle.builder_defs.specs.Denoted.Classes.{named_parent, flags_at, declared_
 use Rattle.builder_defs.specs.Denoted.Drafts.{properties_at, type_at}
 use Rattle.builder_defs.specs.Denoted.Implements.{implements_at}
 use Rattle.builder_defs.specs.Denoted.Given.{property_named, given_at, givens_at}
-use Rattle.builder_defs.specs.Denoted.Objects.{place_at, object_at}
+use Rattle.builder_defs.specs.Denoted.Objects.{place_at, added_at, object_at}
 use Rattle.builder_defs.specs.Denoted.Properties.{valued_at, spec_at, property_at}
 use Rattle.builder_defs.specs.Denoted.Ranges.{range_at}
 use Rattle.builder_defs.specs.EventMeaning.{line_value, target, object_of, set_event, get_event, event_meant, event_denoted}
@@ -35,7 +35,7 @@ unfolding property_at spec_at valued_at range_at
 properties_on_literals = tt
 
 unfoldable objects_on_literals : ⊤
-unfolding objects_in object_at place_at givens_at given_at property_named
+unfolding objects_in object_at added_at place_at givens_at given_at property_named
 objects_on_literals = tt
 
 unfoldable lines_on_literals : ⊤
