@@ -20,10 +20,10 @@ use crate::fault::{ReadError, SpecCause};
 use crate::properties::spec_in;
 use crate::reads::{Reads, read_each};
 use indexmap::IndexMap;
-use param_specs::{Spec, SpecTable, canonical_name, is_property_name, is_same_spec};
+use param_specs::{Spec, SpecTable, is_same_spec};
 use serde_json::Value;
 use std::alloc::{AllocError, Global};
-use type_tree::{TypeId, TypeTree};
+use type_tree::{TypeId, TypeTree, canonical_name, is_property_name};
 
 /// A class's own properties by their canonical names, read ahead: nothing where an entry is at fault.
 pub(crate) type OwnAhead = IndexMap<String, Option<Spec>>;

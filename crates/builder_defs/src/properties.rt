@@ -19,10 +19,8 @@ use crate::property_flags::flags_of;
 use crate::ranges::{NumberRange, range_of, whole_range};
 use crate::reads::{Reads, read_each};
 use g_values::Kind;
-use param_specs::{
-    MOST_PROPERTIES, PropertyFlags, Spec, SpecError, SpecFault, SpecTable, is_property_name,
-};
-use type_tree::{TypeId, TypeTree};
+use param_specs::{MOST_PROPERTIES, PropertyFlags, Spec, SpecError, SpecFault, SpecTable};
+use type_tree::{TypeId, TypeTree, is_property_name};
 
 const MEMBERS: [&str; 7] = ["name", "kind", "flags", "default", "min", "max", "weak"];
 

@@ -13,7 +13,7 @@ use Rattle.ui_machine.specs.Rules.Validation.{is_valid}
 use Rattle.param_specs.specs.Flags.{is_clash}
 use Rattle.param_specs.specs.declared.error.SpecFault.{SpecFault}
 use Rattle.param_specs.specs.Table.{fault_if, ◌or_else◌, install_fault, slot_named, canonical_spec}
-use Rattle.param_specs.specs.PropertyName.{is_property_name}
+use Rattle.type_tree.specs.PropertyName.{is_property_name}
 use Rattle.param_specs.specs.declared.error.SpecFault.TheVariants.{BadName, Duplicate, FlagsClash, RangeEmpty, DefaultInvalid, Limit}
 use Rattle.builder_defs.specs.Denoted.Drafts.{properties_at}
 use Rattle.builder_defs.specs.Refusals.{Refusal, shape, or_refused}

@@ -24,7 +24,7 @@ use Rattle.type_tree.specs.Tree.{IsTree}
 use Rattle.type_tree.specs.Adding.{find_type, sort_of, of_sort, is_class}
 use Rattle.type_tree.proofs.Entries.{read-front, read-last}
 use Rattle.param_specs.specs.Table.{slot_named}
-use Rattle.param_specs.specs.PropertyName.{is_property_name}
+use Rattle.type_tree.specs.PropertyName.{is_property_name}
 use Rattle.param_specs.specs.declared.error.SpecFault.TheVariants.{Duplicate, BadName, DefaultInvalid}
 use Rattle.builder_defs.specs.declared.fault.DefinitionLimit.TheVariants.{Properties}
 use Rattle.builder_defs.specs.Refusals.{Refusal, shape, duplicate, not_installed, limit, or_value_fault}

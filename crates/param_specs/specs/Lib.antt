@@ -1,5 +1,4 @@
 pub mod Flags
-pub use Rattle.type_tree.specs.PropertyName
 pub mod View
 pub mod Table
 pub mod Validation

@@ -16,5 +16,4 @@ pub use flags::PropertyFlags;
 pub use overriding::is_same_spec;
 pub use spec::Spec;
 pub use table::{MOST_PROPERTIES, SpecTable};
-pub use type_tree::{canonical_name, is_property_name};
 pub use validating::{is_valid_default, takes, validate};

@@ -10,7 +10,7 @@ use Rattle.ui_machine.specs.Definition.Types.{GType}
 use Rattle.ui_machine.specs.Definition.Names.{canonical}
 use Rattle.ui_machine.specs.Definition.Properties.{Spec}
 use Rattle.param_specs.specs.Overriding.{same_spec, spec_named}
-use Rattle.param_specs.specs.PropertyName.{is_property_name}
+use Rattle.type_tree.specs.PropertyName.{is_property_name}
 use Rattle.builder_defs.specs.Causes.{PropertyCause, override_missing, override_differs}
 use Rattle.builder_defs.specs.Refusals.{Refusal}
 use Rattle.builder_defs.specs.Document.{under, listed_ahead, each, at_entry}

@@ -10,7 +10,7 @@ use Rattle.ui_machine.specs.Definition.Types.{GType}
 use Rattle.ui_machine.specs.Rules.Ancestry.{lineage, parent_of}
 use Rattle.ui_machine.specs.Definition.Properties.{Spec}
 use Rattle.param_specs.specs.Table.{slot_named, install_fault, canonical_spec}
-use Rattle.param_specs.specs.PropertyName.{is_property_name}
+use Rattle.type_tree.specs.PropertyName.{is_property_name}
 use Rattle.param_specs.specs.declared.error.SpecFault.{SpecFault}
 use Rattle.param_specs.specs.declared.error.SpecFault.TheVariants.{BadName, Duplicate}
 use Rattle.builder_defs.specs.declared.fault.DefinitionLimit.TheVariants.{Properties}
