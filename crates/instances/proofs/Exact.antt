@@ -1,16 +1,16 @@
 -- Counts that stay exact.
-use Rattle.std.proofs.Common.{◌≡◌, ℕ, ◌+◌, ◌-◌, ◌<◌, zero, suc, List, [], ◌∷◌, ◌++◌, Option, Some, None, IsSome, Bool, true, false, cond, nat_eq, refl, sym, ap, ◌∙◌, arith}
+use Rattle.std.proofs.Common.{◌≡◌, ℕ, ◌+◌, ◌-◌, zero, suc, List, [], ◌∷◌, ◌++◌, Option, Some, None, IsSome, is_some, Bool, true, false, cond, nat_eq, refl, sym, ap, arith}
 use Rattle.std.proofs.lemmas.Bool.Decides.{nat_tests}
 use Rattle.ui_machine.specs.Seq.{read, total}
 use Rattle.ui_machine.specs.State.Config.{without}
-use Rattle.ui_machine.specs.State.Objects.{Object, Objects, living, put}
+use Rattle.ui_machine.specs.State.Objects.{Object, Objects, living}
 use Rattle.ui_machine.specs.Definition.{Definition}
 use Rattle.std.specs.Option.{option_map}
 use Rattle.ui_machine.specs.Rules.Children.{updated, with_child, with_parent, without_child}
 use Rattle.ui_machine.specs.Rules.Disposal.{children_of, forgets}
 use Rattle.ui_machine.specs.State.References.{same, in_object}
 use Rattle.instances.specs.Store.{Store, count_of, so_often}
-use Rattle.instances.specs.Laws.{HoldCounts, LetGoCounts, SinkCounts, ForgetCounts, JoinCounts, LeaveCounts, CountedFinds}
+use Rattle.instances.specs.Laws.{HoldCounts, LetGoCounts, SinkCounts, ForgetCounts, JoinCounts, LeaveCounts, CountedFinds, HeldLives}
 use Rattle.instances.proofs.Families.{was_made}
 use Rattle.instances.proofs.Held.{counted_finds, forgets_nothing, total_kept, total_put}
 use Rattle.instances.proofs.Moves.{more_at, less_at}
@@ -27,7 +27,7 @@ let_go_exact d beside s id there counted o =
     omega (arith, counted o, once, less_at s.counts id (count_of s.counts id - 1) 1 there refl o)
 
 -- what floats of an object, and what goes as it is taken out
-split : (id o : ℕ) (floats : List ℕ) → total (same o) (without id floats) + so_often (total (same id) floats) id o ≡ total (same o) floats
+pub split : (id o : ℕ) (floats : List ℕ) → total (same o) (without id floats) + so_often (total (same id) floats) id o ≡ total (same o) floats
 split id o floats = by (nat_eq id o) refl
   where
     by : (b : Bool) → nat_eq id o ≡ b → total (same o) (without id floats) + cond b (total (same id) floats) 0 ≡ total (same o) floats
@@ -51,7 +51,7 @@ forget_exact d beside s id counted o =
 
 -- ** one child more
 
-one_more : (o child : ℕ) (ids : List ℕ) → total (same o) (ids ++ child ∷ []) ≡ total (same o) ids + same o child
+pub one_more : (o child : ℕ) (ids : List ℕ) → total (same o) (ids ++ child ∷ []) ≡ total (same o) ids + same o child
 one_more o child [] = omega arith
 one_more o child (i ∷ is) = omega (arith, one_more o child is)
 
@@ -128,10 +128,10 @@ take_child d o child os (suc i) =
     )
 
 pub leave_exact : LeaveCounts
-leave_exact d beside s n parent child made left counted o =
+leave_exact d beside s n parent child left counted o =
     let ms : Objects = updated (without_child child) parent s.objects in
     let objects : total (in_object d o) n.objects ≡ total (in_object d o) (updated (with_parent None) child ms) =
-    ap (λ (os : Objects). total (in_object d o) os) (left.objects made) in
+    ap (λ (os : Objects). total (in_object d o) os) left.objects in
     let floats : total (same o) n.floating ≡ total (same o) s.floating = ap (λ (is : List ℕ). total (same o) is) left.floating in
     omega (arith, objects, floats, put_parent d o None ms child, take_child d o child s.objects parent, counted o, left.counts o)
 
@@ -139,3 +139,10 @@ pub exact_finds : CountedFinds
 exact_finds d beside s counted =
     counted_finds s.objects (count_of s.counts) (λ o. total (in_object d o) s.objects + (total (same o) s.floating + beside o))
     (λ id some. counted id)
+
+pub held_alive : HeldLives
+held_alive d beside s o counted dead held = by (living s.objects o) refl
+  where
+    by : (x : Option Object) → living s.objects o ≡ x → IsSome (living s.objects o)
+    by None e = absurd (omega (arith, counted o, dead o e, held))
+    by (Some x) e = ap is_some e

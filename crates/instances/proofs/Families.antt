@@ -1,18 +1,16 @@
 -- Objects that are changed at one identity, and why one is no child.
-use Rattle.std.proofs.Common.{◌≡◌, ℕ, zero, suc, ◌+◌, ◌-◌, ◌<◌, ◌≤◌, List, [], ◌∷◌, length, Bool, true, false, cond, ◌||◌, ◌&&◌, nat_lt, nat_eq, nat_le, Option, Some, None, is_some, IsSome, refl, sym, ap, ◌∙◌, arith}
-use Rattle.std.proofs.lemmas.Bool.Decides.{nat_tests}
+use Rattle.std.proofs.Common.{◌≡◌, ℕ, zero, suc, ◌+◌, ◌-◌, ◌<◌, ◌≤◌, [], ◌∷◌, length, Bool, true, false, ◌&&◌, nat_lt, nat_eq, nat_le, Option, Some, None, is_some, IsSome, refl, sym, ap, ◌∙◌, arith}
 use Rattle.std.specs.Option.{option_map}
 use Rattle.ui_machine.specs.Seq.{read, write, total}
 use Rattle.ui_machine.specs.State.Config.{without}
 use Rattle.ui_machine.specs.State.Objects.{Object, Objects, living, put}
 use Rattle.ui_machine.specs.State.References.{same}
-use Rattle.ui_machine.specs.Rules.Children.{is_unadoptable, most_children, updated, with_child, with_parent, without_child}
+use Rattle.ui_machine.specs.Rules.Children.{most_children, updated, with_child, with_parent, without_child}
 use Rattle.ui_machine.specs.Rules.Disposal.{children_of}
 use Rattle.ui_machine.specs.declared.ids.ObjectId.{ObjectId}
 use Rattle.instances.specs.Store.{Store, id_of, may_hold, count_of, so_often, with_count, with_objects}
 use Rattle.instances.specs.Family.{refusal, refusal_in, parent_in, Joins, Leaves, Sinks}
-use Rattle.instances.specs.declared.error.AdoptError.{AdoptError}
-use Rattle.instances.specs.declared.error.AdoptError.TheVariants.{NotLiving, HasParent, ChildLimit, OutOfMemory}
+use Rattle.instances.specs.declared.error.AdoptError.TheVariants.{NotLiving, HasParent, ChildLimit}
 use Rattle.instances.proofs.Moves.{more_at}
 
 -- what lives was made
@@ -45,6 +43,10 @@ still_live change os (suc i) (suc j) some = by os i j some
     by (x ∷ xs) zero (suc j) some = some
     by (x ∷ xs) (suc i) zero some = some
     by (x ∷ xs) (suc i) (suc j) some = by xs i j some
+
+-- as many were made after a change of one that was
+pub length_updated : (change : Object → Object) (os : Objects) (id : ℕ) → id ≤ length os → length (updated change id os) ≡ length os
+length_updated change os id small = length_put os id (option_map change (living os id)) small
 
 -- ** refusals
 
@@ -90,7 +92,7 @@ held_lives s id e = by (is_some (living s.objects id)) refl e
 
 -- ** an object that became a child
 
-both_live : (s : Store) (parent child : ℕ) → refusal_in s parent child ≡ None
+pub both_live : (s : Store) (parent child : ℕ) → refusal_in s parent child ≡ None
     → IsSome (living s.objects parent) × IsSome (living s.objects child)
 both_live s parent child none = by (living s.objects parent) refl (living s.objects child) refl none
   where
@@ -102,20 +104,15 @@ both_live s parent child none = by (living s.objects parent) refl (living s.obje
 
 pub joins : (s h g n : Store) (parent child : ℕ) → refusal_in s parent child ≡ None
     → h ≡ with_count (with_objects s (updated (with_child child) parent s.objects)) child (count_of s.counts child + 1)
-    → (child ≤ length h.objects → g.objects ≡ updated (with_parent (Some parent)) child h.objects)
-    → g ≡ with_objects h g.objects → Sinks child g n → Joins parent child s n
+    → g.objects ≡ updated (with_parent (Some parent)) child h.objects → g ≡ with_objects h g.objects → Sinks child g n
+    → Joins parent child s n
 joins s h g n parent child none held given beside sinks =
     let live = both_live s parent child none in
-    let above = was_made s.objects parent live.0 in
     let below = was_made s.objects child live.1 in
     let objects : h.objects ≡ updated (with_child child) parent s.objects = ap (λ (t : Store). t.objects) held in
-    let many : length h.objects ≡ length s.objects =
-    ap (λ (os : Objects). length os) objects
-    ∙ length_put s.objects parent (option_map (with_child child) (living s.objects parent)) above.1 in
     let floats : g.floating ≡ s.floating = ap (λ (t : Store). t.floating) beside ∙ ap (λ (t : Store). t.floating) held in
     record {
-      objects = ap (λ (t : Store). t.objects) sinks.beside ∙ given (omega (arith, many, below.1))
-          ∙ ap (updated (with_parent (Some parent)) child) objects;
+      objects = ap (λ (t : Store). t.objects) sinks.beside ∙ given ∙ ap (updated (with_parent (Some parent)) child) objects;
       floating = ap (λ (t : Store). t.floating) sinks.beside ∙ ap (without child) floats;
       limit = ap (λ (t : Store). t.limit) sinks.beside ∙ ap (λ (t : Store). t.limit) beside ∙ ap (λ (t : Store). t.limit) held;
       counts = λ o.
@@ -131,7 +128,7 @@ joins s h g n parent child none held given beside sinks =
 pub some_id : (i : ℕ) → ◌≡◌ {A = Option ℕ} None (Some i) → ⊥
 some_id i e = absurd (cc)
 
-has_one : (s : Store) (child parent : ℕ) → parent_in (living s.objects child) ≡ Some parent → IsSome (living s.objects child)
+pub has_one : (s : Store) (child parent : ℕ) → parent_in (living s.objects child) ≡ Some parent → IsSome (living s.objects child)
 has_one s child parent e = by (living s.objects child) refl e
   where
     by : (o : Option Object) → living s.objects child ≡ o → parent_in o ≡ Some parent → IsSome (living s.objects child)
@@ -140,24 +137,16 @@ has_one s child parent e = by (living s.objects child) refl e
 
 pub leaves : (s r g n : Store) (found parent child gone : ℕ) → Some found ≡ parent_in (living s.objects child)
     → parent_in (living s.objects child) ≡ Some parent
-    → (found ≤ length s.objects → r.objects ≡ updated (without_child child) found s.objects) → r ≡ with_objects s r.objects
+    → r.objects ≡ updated (without_child child) found s.objects → r ≡ with_objects s r.objects
     → gone ≡ total (same child) (children_of (living s.objects found))
-    → (child ≤ length r.objects → g.objects ≡ updated (with_parent None) child r.objects) → g ≡ with_objects r g.objects
+    → g.objects ≡ updated (with_parent None) child r.objects → g ≡ with_objects r g.objects
     → ((o : ℕ) → count_of n.counts o ≡ count_of g.counts o - so_often gone child o) → n ≡ record g { counts = n.counts }
     → Leaves parent child s n
 leaves s r g n found parent child gone some here removed left many given beside counts same_rest =
     let is : found ≡ parent = (let e : Some found ≡ Some parent = some ∙ here in cc) in
-    let below = was_made s.objects child (has_one s child parent here) in
     record {
-      objects = λ small.
-          let fits : found ≤ length s.objects = omega (arith, is, small) in
-          let objects : r.objects ≡ updated (without_child child) parent s.objects =
-          removed fits ∙ ap (λ p. updated (without_child child) p s.objects) is in
-          let long : length r.objects ≡ length s.objects =
-          ap (λ (os : Objects). length os) objects
-          ∙ length_put s.objects parent (option_map (without_child child) (living s.objects parent)) small in
-          ap (λ (t : Store). t.objects) same_rest ∙ given (omega (arith, long, below.1))
-          ∙ ap (updated (with_parent None) child) objects;
+      objects = ap (λ (t : Store). t.objects) same_rest ∙ given
+          ∙ ap (updated (with_parent None) child) (removed ∙ ap (λ p. updated (without_child child) p s.objects) is);
       floating =
           ap (λ (t : Store). t.floating) same_rest ∙ ap (λ (t : Store). t.floating) beside ∙ ap (λ (t : Store). t.floating) left;
       limit = ap (λ (t : Store). t.limit) same_rest ∙ ap (λ (t : Store). t.limit) beside ∙ ap (λ (t : Store). t.limit) left;

@@ -1,17 +1,19 @@
 -- Objects that forget one.
-use Rattle.std.proofs.Common.{◌≡◌, ℕ, zero, suc, ◌+◌, ◌<◌, ◌≤◌, List, [], ◌∷◌, map, Bool, true, false, cond, Option, Some, None, is_some, IsSome, refl, sym, ap, ◌∙◌, arith}
+use Rattle.std.proofs.Common.{◌≡◌, ℕ, zero, suc, ◌<◌, List, [], ◌∷◌, map, Bool, false, cond, Option, Some, None, is_some, refl, sym, ap, subst, ◌∙◌, arith}
 use Rattle.std.specs.Option.{option_map}
-use Rattle.ui_machine.specs.Seq.{read, listed}
+use Rattle.ui_machine.specs.Seq.{listed, total}
+use Rattle.ui_machine.specs.State.References.{same as same_as}
 use Rattle.ui_machine.specs.Definition.{Definition}
 use Rattle.ui_machine.specs.Definition.Lookups.{specs_of}
 use Rattle.ui_machine.specs.Definition.Properties.{Spec}
 use Rattle.ui_machine.specs.Definition.Values.{Value}
 use Rattle.ui_machine.specs.State.Objects.{Object, Objects}
-use Rattle.ui_machine.specs.Rules.Disposal.{all_forget, forgets, names_object, nulled}
+use Rattle.ui_machine.specs.Rules.Disposal.{all_forget, children_of, forgets, names_object, nulled}
 use Rattle.ui_machine.proofs.Listed.{listed-same}
 use Rattle.ui_machine.specs.declared.ids.ObjectId.{ObjectId}
 use Rattle.instances.specs.Store.{Store, ids_of, with_objects}
-use Rattle.instances.specs.View.{Lookup, object_in, count_in, objects_of, counts_of, store_of, InRange, IsSettled}
+use Rattle.instances.specs.Family.{parent_in, KeepsKin}
+use Rattle.instances.specs.View.{Lookup, object_in, count_in, objects_of, counts_of, store_of, InRange, IsSettled, KinInRange}
 use Rattle.instances.specs.Weak.{Marks, Knows, masked, forgotten_value, forgetting}
 use Rattle.instances.specs.declared.instance.Instance.{Instance}
 
@@ -51,12 +53,34 @@ was_more g same None y all e = absurd (cc)
 was_more g same (Some x) y all e = let is : y ≡ g x = cc in let n : y.mentions ≡ x.mentions = ap (λ (z : Instance). z.mentions) is
     ∙ same x in omega (arith, n, all x refl)
 
--- a change of each instance that keeps its count
+children_kept : (g : Instance → Instance) → ((x : Instance) → KeepsKin x.object (g x).object) → (o : Option Instance)
+    → children_of (object_in (option_map g o)) ≡ children_of (object_in o)
+children_kept g keeps None = refl
+children_kept g keeps (Some x) = (keeps x).children
+
+parent_kept : (g : Instance → Instance) → ((x : Instance) → KeepsKin x.object (g x).object) → (o : Option Instance)
+    → parent_in (object_in (option_map g o)) ≡ parent_in (object_in o)
+parent_kept g keeps None = refl
+parent_kept g keeps (Some x) = (keeps x).parent
+
+-- a change of each instance that keeps its count and its kin
 pub still_known : (at new : Lookup) (made : ℕ) (settled : Bool) (g : Instance → Instance)
-    → ((x : Instance) → (g x).mentions ≡ x.mentions) → ((q : ℕ) → new q ≡ option_map g (at q)) → InRange at made
-    → IsSettled at settled → InRange new made × IsSettled new settled
-still_known at new made settled g same is range all =
-    (λ id some. range id (sym (ap is_some (is id) ∙ was_there g (at id)) ∙ some), λ s id y here. was_more g same (at id) y (all s id) (sym (is id) ∙ here))
+    → ((x : Instance) → (g x).mentions ≡ x.mentions) → ((x : Instance) → KeepsKin x.object (g x).object)
+    → ((q : ℕ) → new q ≡ option_map g (at q)) → InRange at made × IsSettled at settled × KinInRange at made
+    → InRange new made × IsSettled new settled × KinInRange new made
+still_known at new made settled g same keeps is well = (
+  λ id some. well.0 id (sym (ap is_some (is id) ∙ was_there g (at id)) ∙ some),
+  λ s id y here. was_more g same (at id) y (well.1 s id) (sym (is id) ∙ here),
+  (
+    λ id child some.
+        well.2.0 id child
+        (subst (λ (is : List ℕ). 0 < total (same_as child) is)
+        (ap (λ (o : Option Instance). children_of (object_in o)) (is id) ∙ children_kept g keeps (at id)) some),
+    λ id parent e.
+        well.2.1 id parent
+        (sym (ap (λ (o : Option Instance). parent_in (object_in o)) (is id) ∙ parent_kept g keeps (at id)) ∙ e),
+  ),
+)
 
 -- ** in the machine's words
 

@@ -1,8 +1,7 @@
 -- What holds objects as they are written, disposed and finalised.
-use Rattle.std.proofs.Common.{◌≡◌, refl, ap, sym, ◌∙◌, ℕ, zero, suc, ◌+◌, Bool, true, false, cond, nat_eq, List, [], ◌∷◌, map, Option, None, Some, is_some, IsSome, slice_get, slice_set, inl, inr, arith}
+use Rattle.std.proofs.Common.{◌≡◌, refl, ap, sym, ◌∙◌, ℕ, zero, suc, ◌+◌, Bool, true, false, cond, List, [], ◌∷◌, map, Option, None, Some, IsSome, inl, inr, arith}
 use Rattle.std.proofs.lemmas.Bool.{cases_eq}
 use Rattle.std.specs.Option.{option_map}
-use Rattle.std.proofs.lemmas.Bool.Decides.{nat_tests}
 use Rattle.ui_machine.specs.Seq.{read, write, total}
 use Rattle.ui_machine.specs.Definition.Values.{Value}
 use Rattle.ui_machine.specs.Definition.Values as values
@@ -88,7 +87,7 @@ orphaned : (d : Definition) (o : ℕ) (ids : List ℕ) (os : Objects) → total 
 orphaned d o [] os = refl
 orphaned d o (id ∷ ids) os = orphaned d o ids (put os id (option_map without_parent (living os id))) ∙ put_same d o os id
 
-find_mapped : (g : Object → Object) (os : Objects) (i : ℕ) → read None (map (option_map g) os) i ≡ option_map g (read None os i)
+pub find_mapped : (g : Object → Object) (os : Objects) (i : ℕ) → read None (map (option_map g) os) i ≡ option_map g (read None os i)
 find_mapped g [] i = refl
 find_mapped g (o ∷ os) zero = refl
 find_mapped g (o ∷ os) (suc i) = find_mapped g os i

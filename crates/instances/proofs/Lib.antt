@@ -12,4 +12,8 @@ pub mod Scan
 pub mod Counts
 pub mod Maps
 pub mod Settled
+pub mod Kin
 pub mod Values
+pub mod Created
+pub mod Released
+pub mod Disposed

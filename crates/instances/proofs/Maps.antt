@@ -1,5 +1,5 @@
 -- A map's changes as changes of a look-up.
-use Rattle.std.proofs.Common.{◌≡◌, ◌≢◌, ℕ, suc, ◌+◌, ◌<◌, ◌≤◌, ◌^◌, List, length, false, true, nat_lt, Option, Some, is_some, Result, sym, ap, ◌∙◌, arith}
+use Rattle.std.proofs.Common.{◌≡◌, ◌≢◌, ℕ, suc, ◌+◌, ◌-◌, ◌<◌, ◌≤◌, ◌^◌, List, length, false, true, nat_lt, Option, Some, is_some, Result, Ok, Err, OnErr, sym, ap, ◌∙◌, arith}
 use Rattle.std.proofs.lemmas.Bool.Decides.{nat_tests}
 use Rattle.std.specs.Ordering.{nat_cmp}
 use Rattle.std.specs.BTreeMap.{BTreeMap, get, is_at, Updates, WritesThrough, IsOrdered, btree_map_len}
@@ -15,7 +15,7 @@ use Rattle.instances.specs.View.{object_in, objects_of, store_of, InRange, Repla
 use Rattle.instances.specs.declared.instance.Instance.{Instance}
 use Rattle.instances.proofs.Scan.{sorted_scanned}
 use Rattle.instances.proofs.Counts.{live_entries, unheld_entries}
-use Rattle.instances.proofs.Shown.{some_object, counted_in, at_limit, at_end, by_identities, created_next, changes, updates, follows, beside, recounted}
+use Rattle.instances.proofs.Shown.{some_object, counted_in, at_limit, at_end, by_identities, created_next, changes, updates, follows, beside, kept, recounted}
 
 not_at : (a q : ℕ) → q ≢ a → is_at (nat_cmp a) q ≡ false
 not_at a q ne = grind (arith, nat_tests)
@@ -46,6 +46,13 @@ module _ (m n : BTreeMap ℕ Instance) (made limit : ℕ) (floats : List ObjectI
   pub written_beside : y.mentions ≡ was.mentions
       → store_of (get nat_cmp n) made limit floats ≡ with_objects old (objects_of (get nat_cmp n) made)
   written_beside = beside (get nat_cmp m) (get nat_cmp n) made limit floats old range is id was y here (written m n id was y here h)
+
+  -- what is refused leaves all as it was, if it left the object
+  pub written_refused : {X E : Type 0} (r : Result X E) → OnErr r (y.object ≡ was.object) → y.mentions ≡ was.mentions
+      → OnErr r (store_of (get nat_cmp n) made limit floats ≡ old)
+  written_refused (Ok x) same e = tt
+  written_refused (Err why) same e =
+      kept (get nat_cmp m) (get nat_cmp n) made limit floats old range is id was y here (written m n id was y here h) same e
 
   pub written_updates : (change : Object → Object) → y.object ≡ change was.object
       → objects_of (get nat_cmp n) made ≡ updated change id old.objects
@@ -84,6 +91,12 @@ module _ (m : BTreeMap ℕ Instance) (made limit : ℕ) (floats : List ObjectId)
 
   pub below_limit : (n room : ℕ) → btree_map_len m + n < limit → made + room ≡ most_identities → nat_lt n room ≡ has_room n old
   below_limit n room few left = by_identities (get nat_cmp m) made limit floats old is n room (omega (arith, live_len)) left
+
+  -- below the limit there is room for one more, if there is an identity
+  pub next_fits : (id : ℕ) → id ≡ made + 1 → id < 2 ^ 64 → btree_map_len m < limit → has_room 0 old ≡ true
+  next_fits id next small room =
+      let some : nat_lt 0 (most_identities - made) ≡ true = (let left : 0 < most_identities - made = omega arith in grind (arith, nat_tests)) in
+      sym (below_limit 0 (most_identities - made) (omega arith) (omega arith)) ∙ some
 
   pub stored : (n : BTreeMap ℕ Instance) (id : ℕ) (y : Instance) → Updates nat_cmp m n id (Some y) → id ≡ made + 1 → id < 2 ^ 64
       → btree_map_len m < limit → y.mentions ≡ 0

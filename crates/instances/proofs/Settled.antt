@@ -1,9 +1,9 @@
 -- When each instance is held.
-use Rattle.std.proofs.Common.{◌≡◌, ℕ, suc, ◌+◌, ◌<◌, List, [], ◌∷◌, Bool, true, false, nat_eq, Option, Some, None, is_some, refl, sym, ap, subst, ◌∙◌, arith}
+use Rattle.std.proofs.Common.{◌≡◌, ℕ, suc, ◌+◌, ◌<◌, List, [], ◌∷◌, Bool, true, false, cond, nat_eq, Option, Some, None, is_some, IsSome, refl, sym, ap, subst, ◌∙◌, arith}
 use Rattle.std.proofs.lemmas.Bool.Decides.{nat_tests}
 use Rattle.std.specs.Map.{lookup}
 use Rattle.ui_machine.specs.Seq.{read}
-use Rattle.ui_machine.specs.State.Objects.{Objects}
+use Rattle.ui_machine.specs.State.Objects.{Objects, living}
 use Rattle.ui_machine.specs.State.References.{unheld_from, next_unheld}
 use Rattle.ui_machine.specs.declared.ids.ObjectId.{ObjectId}
 use Rattle.instances.specs.Store.{Store, count_of}
@@ -61,3 +61,31 @@ module _ (at : Lookup) (made limit : ℕ) (floats : List ObjectId) (old : Store)
       by k (Some x) e some =
           let n : count_of old.counts (suc k) ≡ x.mentions = count_is at made limit floats old range is (suc k) x e in
           omega (arith, n, all (suc k) x e)
+
+-- ** what is found
+
+pub found_lives : (m : ℕ → ℕ) (i : ℕ) (os : Objects) (id : ℕ) → unheld_from m i os ≡ Some id
+    → (j : ℕ) × (id ≡ i + j) × IsSome (read None os j) × (m id ≡ 0)
+found_lives m i [] id e = absurd (cc)
+found_lives m i (None ∷ os) id e =
+    let rest = found_lives m (suc i) os id e in
+    (suc rest.0, omega (arith, rest.1), rest.2, rest.3)
+found_lives m i (Some o ∷ os) id e = by (found_lives m (suc i) os id) (nat_eq (m i) 0) refl e
+  where
+    by : (unheld_from m (suc i) os ≡ Some id → (j : ℕ) × (id ≡ suc i + j) × IsSome (read None os j) × (m id ≡ 0)) → (b : Bool)
+        → nat_eq (m i) 0 ≡ b → cond b (Some i) (unheld_from m (suc i) os) ≡ Some id
+        → (j : ℕ) × (id ≡ i + j) × IsSome (read None (Some o ∷ os) j) × (m id ≡ 0)
+    by rest true none f =
+        let is : i ≡ id = cc in
+        let no : m i ≡ 0 = grind (arith, nat_tests) in
+        (0, omega (arith, is), refl, ap m (sym is) ∙ no)
+    by rest false more f =
+        let later = rest f in
+        (suc later.0, omega (arith, later.1), later.2, later.3)
+
+-- the object that is found lives, and nothing holds it
+pub next_ready : (m : ℕ → ℕ) (os : Objects) (id : ℕ) → next_unheld m os ≡ Some id → IsSome (living os id) × (m id ≡ 0)
+next_ready m os id e =
+    let found = found_lives m 1 os id e in
+    let is : suc found.0 ≡ id = omega (arith, found.1) in
+    (subst (λ k. IsSome (living os k)) is found.2, found.3)

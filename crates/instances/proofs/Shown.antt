@@ -66,6 +66,14 @@ module _ (at : Lookup) (made limit : ℕ) (floats : List ObjectId) (old : Store)
   pub not_held : at id ≡ None → 0 < count_of old.counts id → ⊥
   not_held none some = let no : count_of old.counts id ≡ 0 = counted_in ∙ ap count_in none in omega arith
 
+  -- and what does not live is not held
+  pub dead_unheld : living old.objects id ≡ None → ◌≡◌ {A = ℕ} (count_of old.counts id) 0
+  dead_unheld gone = by (at id) refl
+    where
+      by : (o : Option Instance) → at id ≡ o → ◌≡◌ {A = ℕ} (count_of old.counts id) 0
+      by None e = counted_in ∙ ap count_in e
+      by (Some x) e = let here : Some x.object ≡ None = sym (found_in ∙ ap object_in e) ∙ gone in absurd (cc)
+
   pub count_is : (x : Instance) → at id ≡ Some x → count_of old.counts id ≡ x.mentions
   count_is x here = counted_in ∙ ap count_in here
 
@@ -178,6 +186,15 @@ module _ (at new : Lookup) (made limit : ℕ) (floats : List ObjectId) (old : St
       ap (λ (cs : List ℕ). record { objects = objects_of new made; counts = cs; limit = limit; floating = ids_of floats })
       (same_listed at new made (Some y) count_in id replaces (e ∙ sym (ap count_in here)))
       ∙ ap (λ (s : Store). with_objects s (objects_of new made)) is
+
+  -- and where it keeps the object too, all is as it was
+  pub kept : y.object ≡ was.object → y.mentions ≡ was.mentions → store_of new made limit floats ≡ old
+  kept same e =
+      ap (λ (cs : List ℕ). record { objects = objects_of new made; counts = cs; limit = limit; floating = ids_of floats })
+      (same_listed at new made (Some y) count_in id replaces (e ∙ sym (ap count_in here)))
+      ∙ ap (λ (os : Objects). record { objects = os; counts = counts_of at made; limit = limit; floating = ids_of floats })
+      (same_listed at new made (Some y) object_in id replaces (ap Some same ∙ sym (ap object_in here)))
+      ∙ is
 
   -- one that keeps its object and has another count
   pub recounted : (n : ℕ) → y.object ≡ was.object → y.mentions ≡ n → store_of new made limit floats ≡ with_count old id n

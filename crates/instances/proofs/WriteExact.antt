@@ -1,5 +1,5 @@
 -- Counts that stay exact where a property is written.
-use Rattle.std.proofs.Common.{◌≡◌, ℕ, zero, suc, ◌+◌, ◌-◌, ◌<◌, List, [], ◌∷◌, map, Bool, true, false, not, cond, Option, Some, None, slice_get, slice_set, refl, sym, ap, ◌∙◌, arith}
+use Rattle.std.proofs.Common.{◌≡◌, ℕ, zero, suc, ◌+◌, List, [], ◌∷◌, map, Bool, true, false, not, cond, Option, Some, None, slice_get, slice_set, refl, sym, ap, arith}
 use Rattle.ui_machine.specs.Seq.{read, total}
 use Rattle.ui_machine.specs.Definition.{Definition}
 use Rattle.ui_machine.specs.Definition.Lookups.{specs_of}
@@ -7,8 +7,7 @@ use Rattle.ui_machine.specs.Definition.Properties.{Spec}
 use Rattle.ui_machine.specs.Definition.Values.{Value}
 use Rattle.ui_machine.specs.State.Objects.{Object, Objects, living, put}
 use Rattle.ui_machine.specs.State.References.{same, in_object, in_value, in_values}
-use Rattle.instances.specs.Store.{Store, count_of}
-use Rattle.instances.specs.Weak.{Marks, Knows, is_strong}
+use Rattle.instances.specs.Weak.{is_strong}
 use Rattle.instances.specs.Laws.{WriteCounts}
 use Rattle.instances.proofs.Held.{total_put, writes_move}
 

@@ -1,6 +1,5 @@
 -- What a property that is written moves.
-use Rattle.std.proofs.Common.{◌≡◌, ℕ, zero, suc, ◌+◌, ◌-◌, ◌<◌, ◌≤◌, length, get_or, List, [], ◌∷◌, Bool, true, false, not, cond, nat_eq, Option, Some, None, slice_get, slice_set, Result, Ok, Err, refl, sym, ap, ◌∙◌, arith}
-use Rattle.std.proofs.Math.Nat.{sub-zero}
+use Rattle.std.proofs.Common.{◌≡◌, ℕ, zero, suc, ◌<◌, ◌≤◌, length, get_or, List, [], ◌∷◌, Bool, true, false, Option, Some, None, slice_get, slice_set, Ok, Err, refl, ap, arith}
 use Rattle.ui_machine.specs.Seq.{read}
 use Rattle.ui_machine.specs.Definition.Values.{Value}
 use Rattle.ui_machine.specs.Definition.Values as values
@@ -9,7 +8,7 @@ use Rattle.ui_machine.specs.Outcome.{After, Answer, ◌>>=◌, known}
 use Rattle.ui_machine.specs.declared.arm.Arm.{Arm}
 use Rattle.ui_machine.specs.declared.arm.Arm.TheVariants as arms
 use Rattle.ui_machine.specs.State.References.{in_option, in_value}
-use Rattle.instances.specs.Store.{Store, count_of, named_by}
+use Rattle.instances.specs.Store.{named_by}
 use Rattle.instances.specs.Weak.{Marks, is_strong, strong_in}
 
 pub strong_none : (weak : Marks) (slot : ℕ) (o : Option Object) → o ≡ None → false ≡ strong_in weak slot o

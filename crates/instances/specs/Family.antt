@@ -1,5 +1,5 @@
 -- Parents and children: why an object does not become another's child, and what it leaves where it does.
-use Rattle.std.specs.Prelude.{◌≡◌, ◌+◌, ◌-◌, ◌||◌, ◌≤◌, length, ℕ, cond, nat_eq, is_some, Option, Some, None, Result, Ok, Err}
+use Rattle.std.specs.Prelude.{◌≡◌, ◌+◌, ◌-◌, ◌||◌, ℕ, cond, nat_eq, is_some, Option, Some, None, Result, Ok, Err}
 use Rattle.ui_machine.specs.Seq.{total}
 use Rattle.ui_machine.specs.State.Config.{without}
 use Rattle.ui_machine.specs.State.Objects.{Object, living}
@@ -19,6 +19,11 @@ refusal parent (Some p) child (Some c) =
 
 abbrev pub refusal_in : Store → ℕ → ℕ → Option AdoptError
 refusal_in s parent child = refusal parent (living s.objects parent) child (living s.objects child)
+
+-- an object keeps its children and its parent
+pub record KeepsKin (old new : Object) : Type 0 where
+  pub children : new.children ≡ old.children
+  pub parent : new.parent ≡ old.parent
 
 -- An object no longer floats. As often as it floated it is held less.
 pub record Sinks (id : ℕ) (old new : Store) : Type 0 where
@@ -40,8 +45,7 @@ parent_in (Some o) = o.parent
 
 -- An object is taken out of its parent's children. As often as it was one it is held less.
 pub record Leaves (parent child : ℕ) (old new : Store) : Type 0 where
-  pub objects : parent ≤ length old.objects
-      → new.objects ≡ updated (with_parent None) child (updated (without_child child) parent old.objects)
+  pub objects : new.objects ≡ updated (with_parent None) child (updated (without_child child) parent old.objects)
   pub floating : new.floating ≡ old.floating
   pub limit : new.limit ≡ old.limit
   pub counts : (o : ℕ) → count_of new.counts o

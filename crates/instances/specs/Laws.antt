@@ -1,14 +1,19 @@
 -- How mentions move where objects are written, disposed and finalised.
-use Rattle.std.specs.Prelude.{◌≡◌, ℕ, ◌+◌, ◌-◌, ◌<◌, ◌≤◌, length, cond, List, Option, Some, None, slice_get, slice_set, IsSome}
+use Rattle.std.specs.Prelude.{◌≡◌, ℕ, ◌+◌, ◌-◌, ◌<◌, ◌++◌, ◌∷◌, [], cond, true, List, Option, Some, None, slice_get, slice_set, IsSome}
+use Rattle.std.specs.List.{list_all}
 use Rattle.ui_machine.specs.Seq.{total}
 use Rattle.ui_machine.specs.Definition.{Definition}
+use Rattle.ui_machine.specs.Definition.Lookups.{specs_of}
+use Rattle.ui_machine.specs.Definition.Places.{Place}
 use Rattle.ui_machine.specs.Definition.Properties.{Spec}
 use Rattle.ui_machine.specs.Definition.Values.{Value}
 use Rattle.ui_machine.specs.State.Objects.{Object, Objects, living, put}
 use Rattle.ui_machine.specs.State.References.{in_object, in_value, in_values, next_unheld, same}
+use Rattle.ui_machine.specs.Rules.Construction.{has_valid_default, new_object}
 use Rattle.ui_machine.specs.Rules.Disposal.{all_forget, objects_disposed}
-use Rattle.instances.specs.Store.{Store, count_of, with_count, with_objects}
+use Rattle.instances.specs.Store.{Store, count_of, with_count, with_object, with_objects}
 use Rattle.instances.specs.Weak.{Marks, Knows, is_strong}
+use Rattle.instances.specs.Release.{Disposes, Finalises}
 use Rattle.instances.specs.Family.{Joins, Leaves, Sinks}
 
 -- a strong property that is written lets its old value go and holds the new one, and a weak one moves nothing
@@ -39,6 +44,39 @@ CountsFind =
 -- each count is what the objects and what floats hold of it, and what is held beside them
 abbrev pub Counted : Definition → (ℕ → ℕ) → Store → Type 0
 Counted d beside s = (o : ℕ) → count_of s.counts o ≡ total (in_object d o) s.objects + (total (same o) s.floating + beside o)
+
+-- where the counts are exact and what does not live is not held, all that is held lives
+abbrev pub HeldLives : Type 0
+HeldLives =
+    (d : Definition) (beside : ℕ → ℕ) (s : Store) (o : ℕ) → Counted d beside s
+    → ((i : ℕ) → living s.objects i ≡ None → count_of s.counts i ≡ 0)
+    → 0 < total (in_object d o) s.objects + (total (same o) s.floating + beside o) → IsSome (living s.objects o)
+
+-- where nothing is, nothing is held
+abbrev pub NoneCounts : Type 0
+NoneCounts = (d : Definition) (limit : ℕ) → Counted d (λ o. 0) (record { objects = []; counts = []; limit = limit; floating = [] })
+
+-- what a new object holds was held beside the others
+abbrev pub CreateCounts : Type 0
+CreateCounts =
+    (d : Definition) (beside : ℕ → ℕ) (s : Store) (x : Object) → Counted d (λ o. beside o + in_object d o (Some x)) s
+    → Counted d beside (with_object x s)
+
+-- as the machine makes an object, it holds nothing
+abbrev pub MadeHoldsNothing : Type 0
+MadeHoldsNothing =
+    (d : Definition) (place : ℕ) (p : Place) (peer : Option ℕ) (o : ℕ) → list_all (has_valid_default d) (specs_of d p.class) ≡ true
+    → in_object d o (Some (new_object d place p peer)) ≡ 0
+
+-- what begins floating is held once more
+abbrev pub FloatCounts : Type 0
+FloatCounts =
+    (d : Definition) (beside : ℕ → ℕ) (s : Store) (id : ℕ) → IsSome (living s.objects id) → Counted d beside s
+    → Counted d beside (with_count (record s { floating = s.floating ++ id ∷ [] }) id (count_of s.counts id + 1))
+
+-- whatever is marked, there is a definition with these marks
+abbrev pub MarksKnown : Type 0
+MarksKnown = (weak : Marks) → (d : Definition) × Knows d weak
 
 -- what is held once more is held so beside them
 abbrev pub HoldCounts : Type 0
@@ -71,8 +109,18 @@ JoinCounts =
 -- a child that leaves its parent is held by it no more
 abbrev pub LeaveCounts : Type 0
 LeaveCounts =
-    (d : Definition) (beside : ℕ → ℕ) (s n : Store) (parent child : ℕ) → parent ≤ length s.objects
-    → Leaves parent child s n → Counted d beside s → Counted d beside n
+    (d : Definition) (beside : ℕ → ℕ) (s n : Store) (parent child : ℕ) → Leaves parent child s n → Counted d beside s
+    → Counted d beside n
+
+-- what is disposed holds nothing any more, and the counts say so
+abbrev pub DisposeCounts : Type 0
+DisposeCounts =
+    (d : Definition) (beside : ℕ → ℕ) (s n : Store) (id : ℕ) → Disposes d id s n → Counted d beside s → Counted d beside n
+
+-- and neither does what is finalised
+abbrev pub FinaliseCounts : Type 0
+FinaliseCounts =
+    (d : Definition) (beside : ℕ → ℕ) (s n : Store) (id : ℕ) → Finalises d id s n → Counted d beside s → Counted d beside n
 
 -- a written property moves just the counts that it moves
 abbrev pub WriteCounts : Type 0

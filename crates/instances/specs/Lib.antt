@@ -1,5 +1,6 @@
 pub mod Store
 pub mod Family
 pub mod Weak
+pub mod Release
 pub mod Laws
 pub mod View

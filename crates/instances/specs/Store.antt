@@ -89,11 +89,12 @@ has_room to_come s = nat_lt (live s.objects + to_come) s.limit && nat_lt (length
 abbrev pub with_object : Object → Store → Store
 with_object o s = record s { objects = s.objects ++ Some o ∷ []; counts = s.counts ++ 0 ∷ [] }
 
--- One more object under the next identity, or the limit exactly where there is no room. An error leaves all as it was.
+-- One more object under the next identity, or the limit exactly where there is no room. Memory is asked for only where there is room. An
+-- error leaves all as it was.
 abbrev pub Creates : Result ObjectId CreateError → Object → Store → Store → Type 0
 Creates (Ok id) o old new = (has_room 0 old ≡ true) × (id.0 ≡ suc (length old.objects)) × (new ≡ with_object o old)
 Creates (Err ObjectLimit) o old new = (has_room 0 old ≡ false) × (new ≡ old)
-Creates (Err OutOfMemory) o old new = new ≡ old
+Creates (Err OutOfMemory) o old new = (has_room 0 old ≡ true) × (new ≡ old)
 
 -- ** answers
 

@@ -1,9 +1,12 @@
 -- Instances under their identities, seen as a store.
 use Rattle.std.specs.Prelude.{◌≡◌, ◌≢◌, ℕ, suc, ◌<◌, ◌≤◌, cond, nat_eq, List, [], ◌∷◌, Bool, true, Option, Some, None, IsSome}
 use Rattle.ui_machine.specs.State.Objects.{Object, Objects}
-use Rattle.ui_machine.specs.Seq.{listed}
+use Rattle.ui_machine.specs.State.References.{same}
+use Rattle.ui_machine.specs.Rules.Disposal.{children_of}
+use Rattle.ui_machine.specs.Seq.{listed, total}
 use Rattle.ui_machine.specs.declared.ids.ObjectId.{ObjectId}
 use Rattle.instances.specs.Store.{Store, ids_of}
+use Rattle.instances.specs.Family.{parent_in}
 use Rattle.instances.specs.declared.instance.Instance.{Instance}
 
 -- what each identity has
@@ -40,6 +43,12 @@ InRange at made = (id : ℕ) → IsSome (at id) → (0 < id) × (id ≤ made)
 -- once it is settled, each instance is held
 abbrev pub IsSettled : Lookup → Bool → Type 0
 IsSettled at settled = settled ≡ true → (id : ℕ) (x : Instance) → at id ≡ Some x → 0 < x.mentions
+
+-- each child and each parent was given
+abbrev pub KinInRange : Lookup → ℕ → Type 0
+KinInRange at made =
+    ((id child : ℕ) → 0 < total (same child) (children_of (object_in (at id))) → child ≤ made)
+    × ((id parent : ℕ) → parent_in (object_in (at id)) ≡ Some parent → parent ≤ made)
 
 -- one identity has this instance, or none, and each other has what it had
 pub record Replaces (at new : Lookup) (id : ℕ) (instance : Option Instance) : Type 0 where

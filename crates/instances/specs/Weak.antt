@@ -1,5 +1,5 @@
 -- Which properties are weak, by class and slot, and values that change by that.
-use Rattle.std.specs.Prelude.{◌≡◌, ℕ, Bool, true, cond, false, not, List, [], ◌∷◌, map, Option, None, Some, option_map}
+use Rattle.std.specs.Prelude.{◌≡◌, ℕ, Bool, true, cond, false, not, List, [], ◌∷◌, map, Option, None, Some}
 use Rattle.ui_machine.specs.Seq.{read}
 use Rattle.ui_machine.specs.Definition.Values.{Value}
 use Rattle.ui_machine.specs.Definition.Values as values

@@ -1,6 +1,6 @@
 //! Parents and children, and what floats.
 
-ghost use Rattle.std.specs.Prelude.{◌≡◌, ℕ, is_some, ◌+◌, ◌-◌, ◌≤◌, ◌++◌, ◌∷◌, [], IsSome, Some, None, length, nat_eq, OnOk, OnErr, IfSome};
+ghost use Rattle.std.specs.Prelude.{◌≡◌, ℕ, is_some, ◌+◌, ◌-◌, ◌*◌, ◌^◌, ◌<◌, ◌≤◌, ◌++◌, ◌∷◌, [], IsSome, Some, None, length, nat_eq, slice_get, OnOk, OnErr};
 ghost use Rattle.std.specs.List.{list_any};
 ghost use Rattle.ui_machine.specs.Seq.{total};
 ghost use Rattle.ui_machine.specs.State.Config.{without};
@@ -18,8 +18,9 @@ use std::alloc::AllocError;
 use ui_machine::ObjectId;
 
 impl Table {
-    /// An object becomes another's child: the parent holds it, and it no longer floats.
+    /// An object becomes another's child: the parent holds it, and it no longer floats. An error leaves all as it was.
     pub fn adopt(&mut self, parent: ObjectId, child: ObjectId) -> Result<(), AdoptError>
+        requires room { count_of self.old.counts child.0 < 2 ^ 128 - 1 }
         ensures { Adopts result parent.0 child.0 self.old self.new }
     {
         if let Some(refusal) = self.refusal(parent, child) {
@@ -57,7 +58,8 @@ impl Table {
 
     /// The parent of an object, if it has one.
     pub fn parent_of(&self, id: ObjectId) -> Option<ObjectId>
-        ensures { id_of result ≡ parent_in (living self.now.objects id.0) }
+        ensures parent { id_of result ≡ parent_in (living self.now.objects id.0) }
+        ensures given { (parent : ℕ) → parent_in (living self.now.objects id.0) ≡ Some parent → parent ≤ length self.now.objects }
     {
         let Some(instance) = self.instances.get(&id.0) else {
             return None;
@@ -82,12 +84,11 @@ impl Table {
 
     // One object more is among the children of the other, which holds it.
     fn hold_child(&mut self, parent: ObjectId, child: ObjectId) -> Result<(), AllocError>
+        requires live { IsSome (living self.old.objects child.0) }
+        requires room { count_of self.old.counts child.0 < 2 ^ 128 - 1 }
         ensures ok { OnOk result (self.new ≡ with_count (with_objects self.old (updated (with_child child.0) parent.0 self.old.objects)) child.0 (count_of self.old.counts child.0 + 1)) }
         ensures err { OnErr result (self.new ≡ self.old) }
     {
-        if !self.can_hold(child) {
-            return Err(AllocError);
-        }
         self.add_child(parent, child)?;
         self.hold(child);
         Ok(())
@@ -95,6 +96,7 @@ impl Table {
 
     // Adds a child to an object.
     fn add_child(&mut self, parent: ObjectId, child: ObjectId) -> Result<(), AllocError>
+        requires given { child.0 ≤ length self.old.objects }
         ensures ok { OnOk result (self.new ≡ with_objects self.old (updated (with_child child.0) parent.0 self.old.objects)) }
         ensures live { OnOk result (IsSome (living self.old.objects parent.0)) }
         ensures err { OnErr result (self.new ≡ self.old) }
@@ -108,7 +110,8 @@ impl Table {
 
     // Takes a child out of an object's, and answers how often it was there.
     fn remove_child(&mut self, parent: ObjectId, child: ObjectId) -> usize
-        ensures objects { parent.0 ≤ length self.old.objects → self.new.objects ≡ updated (without_child child.0) parent.0 self.old.objects }
+        requires given { parent.0 ≤ length self.old.objects }
+        ensures objects { self.new.objects ≡ updated (without_child child.0) parent.0 self.old.objects }
         ensures count { result ≡ total (same child.0) (children_of (living self.old.objects parent.0)) }
         ensures beside { self.new ≡ with_objects self.old self.new.objects }
     {
@@ -120,7 +123,9 @@ impl Table {
 
     // Gives an object a parent, or none.
     pub(crate) fn give_parent(&mut self, id: ObjectId, parent: Option<ObjectId>)
-        ensures objects { id.0 ≤ length self.old.objects → self.new.objects ≡ updated (with_parent (id_of parent)) id.0 self.old.objects }
+        requires given { id.0 ≤ length self.old.objects }
+        requires kin { (p : ℕ) → id_of parent ≡ Some p → p ≤ length self.old.objects }
+        ensures objects { self.new.objects ≡ updated (with_parent (id_of parent)) id.0 self.old.objects }
         ensures beside { self.new ≡ with_objects self.old self.new.objects }
     {
         let Some(instance) = self.instances.get_mut(&id.0) else {
@@ -152,15 +157,20 @@ impl Table {
         is_among(&self.floating, id)
     }
 
-    /// An object begins floating, and is held so once more.
+    /// The one that has floated longest, if something floats.
+    pub fn first_floating(&self) -> Option<ObjectId>
+        ensures { id_of result ≡ slice_get self.now.floating 0 }
+    {
+        self.floating.first().copied()
+    }
+
+    /// An object begins floating, and is held so once more. An error leaves all as it was.
     pub fn float(&mut self, id: ObjectId) -> Result<(), AllocError>
         requires live { IsSome (living self.old.objects id.0) }
+        requires room { count_of self.old.counts id.0 < 2 ^ 128 - 1 }
         ensures ok { OnOk result (self.new ≡ with_count (record self.old { floating = self.old.floating ++ id.0 ∷ [] }) id.0 (count_of self.old.counts id.0 + 1)) }
         ensures err { OnErr result (self.new ≡ self.old) }
     {
-        if !self.can_hold(id) {
-            return Err(AllocError);
-        }
         self.floating.push(id)?;
         self.hold(id);
         Ok(())

@@ -1,6 +1,9 @@
 //! Laws about what objects hold, over the machine's definitions.
 
-ghost use Rattle.instances.specs.Laws.{WritesMove, WriteCounts, DisposeMoves, FinaliseMoves, CountsFind, HoldCounts, LetGoCounts, SinkCounts, ForgetCounts, JoinCounts, LeaveCounts, CountedFinds};
+ghost use Rattle.instances.specs.Laws.{WritesMove, DisposeMoves, FinaliseMoves, MarksKnown, MadeHoldsNothing};
+ghost use Rattle.instances.specs.Laws.{CountsFind, CountedFinds, HeldLives, NoneCounts, CreateCounts, FloatCounts, HoldCounts};
+ghost use Rattle.instances.specs.Laws.{LetGoCounts, SinkCounts, ForgetCounts, JoinCounts, LeaveCounts, DisposeCounts};
+ghost use Rattle.instances.specs.Laws.{FinaliseCounts, WriteCounts};
 
 /// A strong property that is written moves one mention.
 pub fn writing_moves()
@@ -17,12 +20,37 @@ pub fn finalising_moves()
     ensures { FinaliseMoves }
 {}
 
+/// Whatever slots are marked weak, they are those of a definition.
+pub fn marks_known()
+    ensures { MarksKnown }
+{}
+
 /// Counts that equal the mentions of what lives find the same object to finalise.
 pub fn counts_find()
     ensures { CountsFind }
 {}
 
-/// Exact counts stay exact where something is held once more.
+/// An object that the machine makes holds nothing.
+pub fn made_holds_nothing()
+    ensures { MadeHoldsNothing }
+{}
+
+/// The counts of no objects are exact.
+pub fn none_counts()
+    ensures { NoneCounts }
+{}
+
+/// Exact counts stay exact where an object is made of what was held.
+pub fn create_counts()
+    ensures { CreateCounts }
+{}
+
+/// They stay exact where an object begins floating.
+pub fn float_counts()
+    ensures { FloatCounts }
+{}
+
+/// They stay exact where something is held once more.
 pub fn hold_counts()
     ensures { HoldCounts }
 {}
@@ -52,6 +80,16 @@ pub fn leave_counts()
     ensures { LeaveCounts }
 {}
 
+/// They stay exact where an object is disposed.
+pub fn dispose_counts()
+    ensures { DisposeCounts }
+{}
+
+/// They stay exact where one is finalised.
+pub fn finalise_counts()
+    ensures { FinaliseCounts }
+{}
+
 /// They stay exact where a property is written.
 pub fn write_counts()
     ensures { WriteCounts }
@@ -60,4 +98,9 @@ pub fn write_counts()
 /// Exact counts find the lowest object that nothing holds.
 pub fn counted_finds()
     ensures { CountedFinds }
+{}
+
+/// Where the counts are exact, what is held lives.
+pub fn held_lives()
+    ensures { HeldLives }
 {}

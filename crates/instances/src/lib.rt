@@ -1,8 +1,9 @@
 //! The objects that live, and how often each is mentioned.
 //!
 //! Each object has an identity, which rises from 1 and is given once. Beside it stands how often something holds it (GObject
-//! manual, `g_object_ref`); what nothing holds any more is to be finalised, the lowest identity first. A contract sees the
-//! machine's objects, a list of counts, and how many objects may live.
+//! manual, `g_object_ref`); what nothing holds any more is to be finalised, the lowest identity first. An object that is disposed
+//! lets go of what it held and lives on; one that is finalised is disposed and taken out. A contract sees the machine's objects, a
+//! list of counts, how many objects may live, and what floats. The laws say that counts which are exact stay so.
 #![tactic(auto)]
 
 mod error;
@@ -19,8 +20,10 @@ mod weak;
 
 pub use error::{AdoptError, CreateError};
 pub use laws::{
-    counted_finds, counts_find, disposing_moves, finalising_moves, forget_counts, hold_counts,
-    join_counts, leave_counts, let_go_counts, sink_counts, write_counts, writing_moves,
+    counted_finds, counts_find, create_counts, dispose_counts, disposing_moves, finalise_counts,
+    finalising_moves, float_counts, forget_counts, held_lives, hold_counts, join_counts,
+    leave_counts, let_go_counts, made_holds_nothing, marks_known, none_counts, sink_counts,
+    write_counts, writing_moves,
 };
 pub use object::Object;
 pub use table::Table;

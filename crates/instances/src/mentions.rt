@@ -1,6 +1,6 @@
 //! Properties that are written, and the mentions that move with them.
 
-ghost use Rattle.std.specs.Prelude.{◌≡◌, ℕ, ◌+◌, ◌-◌, cond, true, Ok, Err};
+ghost use Rattle.std.specs.Prelude.{◌≡◌, ℕ, ◌+◌, ◌-◌, cond, true, false, Ok, Err};
 ghost use Rattle.ui_machine.specs.Definition.Values as values;
 ghost use Rattle.ui_machine.specs.declared.arm.Arm as arms;
 ghost use Rattle.ui_machine.specs.Outcome.{Gives};
@@ -18,7 +18,7 @@ use ui_machine::{Arm, ObjectId};
 
 impl Table {
     /// Writes a property, and answers what it was. Where the property is strong, the old value's object is let go, and the new
-    /// one's is held.
+    /// one's is held, if it lives and may be held once more. An error leaves all as it was.
     pub fn write(
         &mut self,
         weak: &WeakSlots,
@@ -34,6 +34,10 @@ impl Table {
             → let strong = strong_in weak.now slot (living self.old.objects id.0) in
             (o : ℕ) → count_of self.new.counts o
             ≡ count_of self.old.counts o + cond strong (in_value o (value_view value)) 0 - cond strong (in_value o was) 0 }
+        ensures lets_go { (was : values.Value) → asked self.old.objects id.0 (value_at slot) ≡ Ok was
+            → may_hold_any self.old (named_by (value_view value)) ≡ false
+            → let strong = strong_in weak.now slot (living self.old.objects id.0) in
+            (o : ℕ) → count_of self.new.counts o ≡ count_of self.old.counts o - cond strong (in_value o was) 0 }
     {
         let was = named(self.read(id, slot)?);
         let is_strong = self.is_strong(weak, id, slot);
@@ -55,6 +59,8 @@ impl Table {
     fn move_mention(&mut self, counts: bool, from: Option<ObjectId>, to: Option<ObjectId>)
         ensures moves { may_hold_any self.old (id_of to) ≡ true → (o : ℕ) → count_of self.new.counts o
             ≡ count_of self.old.counts o + cond counts (in_option o (id_of to)) 0 - cond counts (in_option o (id_of from)) 0 }
+        ensures lets_go { may_hold_any self.old (id_of to) ≡ false → (o : ℕ) → count_of self.new.counts o
+            ≡ count_of self.old.counts o - cond counts (in_option o (id_of from)) 0 }
         ensures beside { self.new ≡ record self.old { counts = self.new.counts } }
     {
         if !counts {
@@ -68,6 +74,7 @@ impl Table {
     fn hold_any(&mut self, id: Option<ObjectId>)
         ensures counts { may_hold_any self.old (id_of id) ≡ true
             → (o : ℕ) → count_of self.new.counts o ≡ count_of self.old.counts o + in_option o (id_of id) }
+        ensures unheld { may_hold_any self.old (id_of id) ≡ false → self.new ≡ self.old }
         ensures beside { self.new ≡ record self.old { counts = self.new.counts } }
     {
         let Some(id) = id else {

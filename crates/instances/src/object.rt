@@ -1,6 +1,6 @@
 //! One object.
 
-ghost use Rattle.std.specs.Prelude.{◌≡◌, ◌+◌, map, reverse, length, nat_le, false, [], OnOk, OnErr};
+ghost use Rattle.std.specs.Prelude.{◌≡◌, ◌+◌, map, reverse, length, nat_le, false, [], slice_get, OnOk, OnErr};
 ghost use Rattle.std.specs.Option.{option_map};
 ghost use Rattle.ui_machine.specs.State.Objects.{value_at, with_value};
 ghost use Rattle.ui_machine.specs.Rules.NotifyQueue.{raised, frozen_more, frozen_less};
@@ -9,10 +9,12 @@ ghost use Rattle.ui_machine.specs.Outcome.{Gives, Follows};
 ghost use Rattle.ui_machine.specs.declared.ids.ObjectId.{ObjectId};
 ghost use Rattle.g_values.specs.View.{value_view};
 ghost use Rattle.instances.specs.Weak.{forgetting};
-ghost use Rattle.instances.specs.Store.{id_of, made_object, Shows};
+ghost use Rattle.instances.specs.Family.{KeepsKin};
+ghost use Rattle.instances.specs.Release.{emptied, name_in};
+ghost use Rattle.instances.specs.Store.{id_of, ids_of, made_object, Shows};
 
 use crate::ids::remove_id;
-use crate::object_values::forget_values;
+use crate::object_values::{drop_values, forget_values, named};
 use crate::weak::WeakSlots;
 use g_values::Value;
 use notify_queue::NotifyQueue;
@@ -107,6 +109,13 @@ impl Object {
         self.parent
     }
 
+    /// The number of its peer, if it has one.
+    pub fn peer(&self) -> Option<usize>
+        ensures { result ≡ self.now.peer }
+    {
+        self.peer
+    }
+
     /// Whether it was disposed.
     pub fn is_disposed(&self) -> bool
         ensures { result ≡ self.now.disposed }
@@ -153,6 +162,24 @@ impl Object {
         forget_values(&mut self.values, slots, id);
     }
 
+    // The object that the value of a slot names.
+    pub(crate) fn named_at(&self, slot: usize) -> Option<ObjectId>
+        ensures { id_of result ≡ name_in (slice_get self.now.values slot) }
+    {
+        named(self.values.get(slot)?)
+    }
+
+    // Its strong values of an object kind become null, it has no children any more, and it is disposed. It answers what its
+    // children were.
+    pub(crate) fn dispose(&mut self, alloc: Global, weak: &WeakSlots) -> Vec<ObjectId>
+        ensures object { self.new ≡ emptied weak.now self.old }
+        ensures children { ids_of result.items ≡ self.old.children }
+    {
+        drop_values(&mut self.values, weak.of(self.class));
+        self.disposed = true;
+        mem::replace(&mut self.children, Vec::new(alloc))
+    }
+
     /// The value of a property.
     pub fn read(&self, slot: u16) -> Result<&Value, Arm>
         ensures { Shows (λ v. value_view v.now) result (value_at slot self.now) }
@@ -163,7 +190,9 @@ impl Object {
     /// Writes a property, and answers what it was.
     #[tactic(auto, unfolding(ui_machine::specs::State::Objects::with_value))]
     pub fn write(&mut self, slot: u16, value: Value) -> Result<Value, Arm>
-        ensures { Gives value_view result (with_value slot (value_view value) self.old) self.new }
+        ensures changes { Gives value_view result (with_value slot (value_view value) self.old) self.new }
+        ensures kin { KeepsKin self.old self.new }
+        ensures refused { OnErr result (self.new ≡ self.old) }
     {
         let slot = usize::from(slot);
         if slot >= self.values.len() {
@@ -175,7 +204,9 @@ impl Object {
 
     /// Adds one freeze, unless there are as many as may be.
     pub fn freeze(&mut self) -> Result<(), Arm>
-        ensures { Gives (λ _. tt) result (frozen_more self.old) self.new }
+        ensures changes { Gives (λ _. tt) result (frozen_more self.old) self.new }
+        ensures kin { KeepsKin self.old self.new }
+        ensures refused { OnErr result (self.new ≡ self.old) }
     {
         if !self.queue.can_freeze() {
             return Err(Arm::Freeze);
@@ -186,7 +217,9 @@ impl Object {
 
     /// Takes one freeze off, and answers the notifications that are then made, the last first.
     pub fn thaw(&mut self, alloc: Global) -> Result<Vec<u16>, Arm>
-        ensures { Gives (λ slots. reverse slots.items) result (frozen_less self.old) self.new }
+        ensures changes { Gives (λ slots. reverse slots.items) result (frozen_less self.old) self.new }
+        ensures kin { KeepsKin self.old self.new }
+        ensures refused { OnErr result (self.new ≡ self.old) }
     {
         if !self.queue.is_frozen() {
             return Err(Arm::Freeze);
@@ -199,7 +232,9 @@ impl Object {
 
     /// Queues a notification while frozen, and else answers that it is to be made at once.
     pub fn add(&mut self, slot: u16) -> Result<bool, Halt>
-        ensures { Follows (λ now. now) result (raised slot self.old) self.new }
+        ensures changes { Follows (λ now. now) result (raised slot self.old) self.new }
+        ensures kin { KeepsKin self.old self.new }
+        ensures refused { OnErr result (self.new ≡ self.old) }
     {
         if !self.queue.is_frozen() {
             return Ok(true);

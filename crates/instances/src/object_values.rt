@@ -5,7 +5,7 @@ ghost use Rattle.ui_machine.specs.Definition.Values as values;
 ghost use Rattle.ui_machine.specs.Rules.Disposal.{names_object, is_object};
 ghost use Rattle.g_values.specs.View.{value_view};
 ghost use Rattle.instances.specs.Store.{id_of, named_by};
-ghost use Rattle.instances.specs.Weak.{masked, forgotten_value};
+ghost use Rattle.instances.specs.Weak.{masked, forgotten_value, dropped_value};
 
 use g_values::Value;
 use ui_machine::ObjectId;
@@ -58,5 +58,24 @@ pub(crate) fn forget_values(values: &mut [Value], weak: &[bool], id: ObjectId)
     let count = values.len().min(weak.len());
     for slot in 0..count {
         forget_value(&mut values[slot], weak[slot], id);
+    }
+}
+
+// A strong value of an object kind becomes null.
+fn drop_value(value: &mut Value, is_weak: bool)
+    ensures { value_view value.new ≡ dropped_value is_weak (value_view value.old) }
+{
+    if !is_weak {
+        make_null(value);
+    }
+}
+
+/// The strong values of an object kind become null.
+pub(crate) fn drop_values(values: &mut [Value], weak: &[bool])
+    ensures { map value_view values.new ≡ masked dropped_value weak.now (map value_view values.old) }
+{
+    let count = values.len().min(weak.len());
+    for slot in 0..count {
+        drop_value(&mut values[slot], weak[slot]);
     }
 }

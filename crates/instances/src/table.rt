@@ -1,10 +1,12 @@
 //! The objects by their identities.
 
-ghost use Rattle.std.specs.Prelude.{◌≡◌, ℕ, ◌+◌, ◌-◌, ◌<◌, ◌^◌, [], IsSome, is_some, None, Ok, map, reverse, OnOk, OnErr};
+ghost use Rattle.std.specs.Prelude.{◌≡◌, ℕ, ◌+◌, ◌-◌, ◌<◌, ◌^◌, [], IfSome, IsSome, is_some, None, Ok, map, reverse, OnOk, OnErr};
 ghost use Rattle.std.specs.Option.{option_map};
-ghost use Rattle.ui_machine.specs.State.Objects.{asked, changed, living, put, value_at, with_value};
+ghost use Rattle.ui_machine.specs.State.Objects.{asked, changed, living, value_at, with_value};
 ghost use Rattle.ui_machine.specs.State.References.{next_unheld};
 ghost use Rattle.ui_machine.specs.Rules.NotifyQueue.{raised, frozen_more, frozen_less};
+ghost use Rattle.ui_machine.specs.Rules.Sets.{is_disposed};
+ghost use Rattle.ui_machine.specs.Rules.Disposal.{peer_of};
 ghost use Rattle.ui_machine.specs.Outcome.{Gives, Follows};
 ghost use Rattle.g_values.specs.View.{value_view};
 ghost use Rattle.ui_machine.specs.declared.ids.ObjectId.{ObjectId};
@@ -29,7 +31,7 @@ pub struct Table {
     pub(crate) floating: Vec<ObjectId>,
     // Whether it is known that each object is held.
     pub(crate) settled: bool,
-    alloc: Global,
+    pub(crate) alloc: Global,
 }
 
 impl Model for Table {
@@ -39,11 +41,13 @@ impl Model for Table {
 
     ghost use Rattle.std.specs.Ordering.{nat_cmp};
     ghost use Rattle.std.specs.BTreeMap.{get};
-    ghost use Rattle.instances.specs.View.{store_of, InRange, IsSettled};
+    ghost use Rattle.instances.specs.View.{store_of, InRange, IsSettled, KinInRange};
 
     ghost view = { λ t. store_of (get nat_cmp t.instances) t.made t.limit t.floating.items };
 
-    ghost invariant = { λ t. InRange (get nat_cmp t.instances) t.made × IsSettled (get nat_cmp t.instances) t.settled };
+    ghost invariant = { λ t. InRange (get nat_cmp t.instances) t.made
+        × IsSettled (get nat_cmp t.instances) t.settled
+        × KinInRange (get nat_cmp t.instances) t.made };
 }
 
 impl Table {
@@ -74,8 +78,10 @@ impl Table {
         u64::from(to_come) < u64::MAX - self.made
     }
 
-    /// One more object, which nothing holds yet, under the next identity.
+    /// One more object, which nothing holds yet, under the next identity. It has neither children nor a parent.
     pub fn create(&mut self, object: Object) -> Result<ObjectId, CreateError>
+        requires childless { object.children ≡ [] }
+        requires parentless { object.parent ≡ None }
         ensures { Creates result object self.old self.new }
     {
         self.settled = false;
@@ -96,9 +102,10 @@ impl Table {
         Ok(ObjectId(id))
     }
 
-    /// Whether the object lives.
+    /// Whether the object lives. What does not is not held.
     pub fn is_live(&self, id: ObjectId) -> bool
-        ensures { result ≡ is_some (living self.now.objects id.0) }
+        ensures dead { (o : ℕ) → living self.now.objects o ≡ None → count_of self.now.counts o ≡ 0 }
+        ensures live { result ≡ is_some (living self.now.objects id.0) }
     {
         self.instances.contains_key(&id.0)
     }
@@ -123,6 +130,26 @@ impl Table {
         Ok(instance.object.place())
     }
 
+    /// Whether an object lives and was disposed.
+    pub fn is_disposed(&self, id: ObjectId) -> bool
+        ensures { result ≡ is_disposed (living self.now.objects id.0) }
+    {
+        let Some(instance) = self.instances.get(&id.0) else {
+            return false;
+        };
+        instance.object.is_disposed()
+    }
+
+    /// The number of the peer of an object, if it lives and has one.
+    pub fn peer_of(&self, id: ObjectId) -> Option<usize>
+        ensures { result ≡ peer_of (living self.now.objects id.0) }
+    {
+        let Some(instance) = self.instances.get(&id.0) else {
+            return None;
+        };
+        instance.object.peer()
+    }
+
     /// The value of a property.
     pub fn read(&self, id: ObjectId, slot: u16) -> Result<&Value, Arm>
         ensures { Shows (λ v. value_view v.now) result (asked self.now.objects id.0 (value_at slot)) }
@@ -137,6 +164,7 @@ impl Table {
     pub(crate) fn replace(&mut self, id: ObjectId, slot: u16, value: Value) -> Result<Value, Arm>
         ensures changes { Gives value_view result (changed self.old.objects id.0 (with_value slot (value_view value))) self.new.objects }
         ensures beside { self.new ≡ with_objects self.old self.new.objects }
+        ensures refused { OnErr result (self.new ≡ self.old) }
     {
         let Some(instance) = self.instances.get_mut(&id.0) else {
             return Err(Arm::Operand);
@@ -148,6 +176,7 @@ impl Table {
     pub fn freeze(&mut self, id: ObjectId) -> Result<(), Arm>
         ensures changes { Gives (λ _. tt) result (changed self.old.objects id.0 frozen_more) self.new.objects }
         ensures beside { self.new ≡ with_objects self.old self.new.objects }
+        ensures refused { OnErr result (self.new ≡ self.old) }
     {
         let Some(instance) = self.instances.get_mut(&id.0) else {
             return Err(Arm::Operand);
@@ -159,6 +188,7 @@ impl Table {
     pub fn thaw(&mut self, id: ObjectId) -> Result<Vec<u16>, Arm>
         ensures changes { Gives (λ slots. reverse slots.items) result (changed self.old.objects id.0 frozen_less) self.new.objects }
         ensures beside { self.new ≡ with_objects self.old self.new.objects }
+        ensures refused { OnErr result (self.new ≡ self.old) }
     {
         let alloc = self.alloc;
         let Some(instance) = self.instances.get_mut(&id.0) else {
@@ -171,6 +201,7 @@ impl Table {
     pub fn add(&mut self, id: ObjectId, slot: u16) -> Result<bool, Halt>
         ensures changes { Follows (λ now. now) result (changed self.old.objects id.0 (raised slot)) self.new.objects }
         ensures beside { self.new ≡ with_objects self.old self.new.objects }
+        ensures refused { OnErr result (self.new ≡ self.old) }
     {
         let Some(instance) = self.instances.get_mut(&id.0) else {
             return Err(Halt::Stuck(Arm::Operand));
@@ -225,9 +256,12 @@ impl Table {
     }
 
     /// The lowest identity of an object that nothing holds. It looks through the objects only if one was made or let go of since
-    /// it last found each of them held.
+    /// it last found each of them held. What does not live is not held.
     pub fn next_unheld(&mut self) -> Option<ObjectId>
         ensures found { option_map (λ (i : ObjectId). i.0) result ≡ next_unheld (count_of self.old.counts) self.old.objects }
+        ensures dead { (o : ℕ) → living self.old.objects o ≡ None → count_of self.old.counts o ≡ 0 }
+        ensures live { IfSome result (λ id. IsSome (living self.old.objects id.0)) }
+        ensures unheld { IfSome result (λ id. count_of self.old.counts id.0 ≡ 0) }
         ensures same { self.new ≡ self.old }
     {
         if self.settled {
@@ -240,14 +274,5 @@ impl Table {
         }
         self.settled = true;
         None
-    }
-
-    /// Takes an object out that nothing holds. Its identity is not given again.
-    pub fn finalise(&mut self, id: ObjectId)
-        requires live { IsSome (living self.old.objects id.0) }
-        requires unheld { count_of self.old.counts id.0 ≡ 0 }
-        ensures { self.new ≡ with_objects self.old (put self.old.objects id.0 None) }
-    {
-        self.instances.remove(&id.0);
     }
 }

@@ -6,3 +6,4 @@ pub mod StepProofs
 pub mod FrontProofs
 pub mod FrontRuns
 pub mod JoinProofs
+pub mod GoneProofs

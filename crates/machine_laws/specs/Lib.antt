@@ -5,3 +5,4 @@ pub mod PlanLaws
 pub mod StepLaws
 pub mod FrontLaws
 pub mod JoinLaws
+pub mod GoneLaws

@@ -7,6 +7,7 @@ ghost use Rattle.machine_laws.specs.PlanLaws.{HandlersRunOnce, InOrder, StagesIn
 ghost use Rattle.machine_laws.specs.ClampLaws.{ClampsToValid, ClampsOnce};
 ghost use Rattle.machine_laws.specs.FrontLaws.{StepAppends, QuestionStays, StepsAppend, DispatchAppends, HaltAppends, EventAppends, EventsAppend, EventHaltAppends};
 ghost use Rattle.machine_laws.specs.JoinLaws.{BuildIsRun, RunsGoOn};
+ghost use Rattle.machine_laws.specs.GoneLaws.{GivenAreGone, GoneTurnsPass, PrunedAgain, QuestionsDoWithout, StepsDoWithout};
 ghost use Rattle.machine_laws.specs.StepLaws.{HeldAtRest, EndsStay, FittingLives, FinalisedFitsNothing};
 
 /// A queue has each slot once, and a thaw notifies its slots in reverse.
@@ -60,4 +61,13 @@ pub fn types()
 pub fn runs()
     ensures build { BuildIsRun }
     ensures goes_on { RunsGoOn }
+{}
+
+/// The turns of handlers that are gone make no difference: they are passed over, and an emission without them goes on as one with them.
+pub fn gone()
+    ensures passes { GoneTurnsPass }
+    ensures steps { StepsDoWithout }
+    ensures asks { QuestionsDoWithout }
+    ensures given { GivenAreGone }
+    ensures again { PrunedAgain }
 {}

@@ -4,3 +4,9 @@ pub mod Room
 pub mod Steps
 pub mod PlanProofs
 pub mod GoingOn
+pub mod Places
+pub mod Once
+pub mod Walks
+pub mod Lists
+pub mod Naming
+pub mod Inherited

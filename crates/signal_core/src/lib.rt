@@ -1,29 +1,45 @@
-//! The handlers that are connected to signals, in one list and in order of connection, and the emissions that run them.
+//! Signals: which ones types have, which handlers are connected to them, and the emissions that run these.
 //!
-//! A handler runs a program for the emissions of one signal of one object (GObject manual, Signals: `g_signal_connect_data`). While it is
-//! blocked it is passed over. Objects go by identity, signals by their number in the list of the object's class, where 0 is `notify`, and
-//! programs by number. A contract sees the machine's list of handlers, with the number of the last one connected.
+//! A [`SignalTable`] has the signals that were declared for types, and the programs that classes name for them (GObject manual, Signals:
+//! `g_signal_newv`, `g_signal_override_class_handler`). A contract sees the lists of the types' own signals and class handlers.
+//!
+//! A handler runs a program for the emissions of one signal of one object (`g_signal_connect_data`). While it is blocked it is passed over.
+//! [`Handlers`] has them in one list and in order of connection. Objects go by identity, signals by their number in the list of the object's
+//! class, where 0 is `notify`, and programs by number. A contract sees the machine's list of handlers, with the number of the last one
+//! connected.
 //!
 //! An emission is a [`Cursor`]: it goes from turn to turn without a list of them, by the numbers of the handlers. A contract sees it as a
 //! walk, whose turns still to come are taken from the handlers as they stand.
 #![tactic(auto)]
 
+mod beginning;
+mod class_handler;
+mod class_handlers;
 mod connected;
 mod connection;
 mod cursor;
+mod declaring;
 mod emission;
 mod fault;
 mod flags;
+mod growing;
 mod handlers;
+mod laws;
+mod signal;
+mod sources;
 mod stage;
 mod step;
+mod table;
 mod turn;
 mod walking;
 
 pub use connection::Connection;
 pub use cursor::Cursor;
 pub use emission::{Accumulator, Emission};
-pub use fault::ConnectError;
+pub use fault::{ConnectError, SignalError, SignalFault};
 pub use flags::SignalFlags;
 pub use handlers::Handlers;
+pub use laws::{inheritance, turns};
+pub use signal::{DeclaredSignal, Signal};
+pub use table::{MOST_SIGNALS, SignalTable};
 pub use turn::Turn;

@@ -1,5 +1,5 @@
 -- What the step of each task leaves of what holds the objects, of the work and of the count.
-use Rattle.std.proofs.Common.{◌≡◌, ℕ, zero, suc, ◌+◌, ◌*◌, ◌<◌, ◌≤◌, Bool, true, false, nat_lt, List, [], ◌∷◌, ◌++◌, length, map, Option, Some, None, is_some, Ok, Err, slice_get, refl, sym, ap, subst, ◌∙◌, arith}
+use Rattle.std.proofs.Common.{◌≡◌, ℕ, zero, suc, ◌+◌, ◌*◌, ◌<◌, ◌≤◌, Bool, true, false, nat_lt, List, [], ◌∷◌, ◌++◌, length, map, Option, Some, None, Ok, Err, slice_get, refl, sym, ap, subst, arith}
 use Rattle.std.specs.Prelude.{IfOk}
 use Rattle.std.proofs.lemmas.Bool.Decides.{nat_tests}
 use Rattle.ui_machine.specs.Definition.Properties.{is_writable}
@@ -12,10 +12,10 @@ use Rattle.ui_machine.specs.Rules.Ancestry.{is_a}
 use Rattle.ui_machine.specs.Output.Lines as lines
 use Rattle.ui_machine.specs.Definition.Lookups.{type_of, program_at, place_at, specs_of}
 use Rattle.ui_machine.specs.State.Tasks as config
-use Rattle.ui_machine.specs.State.Objects.{Object, Objects, living, changed, object_at}
+use Rattle.ui_machine.specs.State.Objects.{Object, Objects, changed, object_at}
 use Rattle.ui_machine.specs.State.Tasks.{Making, Item, makes, Emission, Task, Setting, Notifying, Beginning, Emitting, Transferring, Unsetting, Thawing, Running, Answering, Calling, Constructing, Building, Carrying, Due}
 use Rattle.ui_machine.specs.State.Config.{World, Config, built, Started, starts, said, held_at, is_unbuilt, with_held, sunk, Left}
-use Rattle.ui_machine.specs.Outcome.{After, Answer, known, only_if}
+use Rattle.ui_machine.specs.Outcome.{Answer, known, only_if}
 use Rattle.ui_machine.specs.Rules.NotifyQueue.{frozen_less, thawing}
 use Rattle.ui_machine.specs.Rules.Programs.{first_frame, all_fit, fits_register, beginning_program, program_before}
 use Rattle.ui_machine.specs.Rules.EmissionPlan.{notifying, notification}
@@ -36,19 +36,17 @@ use Rattle.ui_engine.specs.TaskView.{task_of, name_of, item_of, build_from}
 use Rattle.ui_engine.specs.EngineView.{is_counted}
 use Rattle.ui_machine.specs.Prefix.{IsPrefix}
 use Rattle.ui_machine.proofs.Prefixes.{prefix_same, prefix_one}
-use Rattle.ui_engine.specs.Holding.{making_of, IsHeld}
 use Rattle.ui_engine.specs.Measure.{sets_of_place, weight, waiting_in, waiting}
 use Rattle.ui_engine.specs.MakingView.{making_of_object}
 use Rattle.ui_engine.proofs.Lists.{total-append}
-use Rattle.ui_engine.proofs.Held.{Quietly, keeps_quietly, if_ok_at, bind_ok, changed_lives, made_held, ended_held}
+use Rattle.ui_engine.proofs.Floats.{Quietly, if_ok_at, bind_ok, one_floats, without_less}
 use Rattle.ui_engine.proofs.Quiet.{Calm, notifying_calm, setting_calm, building_forward_calm, carrying_set_calm, carrying_get_calm, thawing_calm}
 use Rattle.ui_engine.proofs.Falls.{Falls, setting_falls, thawing_falls, thawing_made_falls, building_forward_falls, carrying_set_falls, carrying_get_falls}
 use Rattle.ui_engine.proofs.Building.{few_steps, few_early, only_forwards, builds_next, next_made, made_there, abstract_there}
 
 -- what the step of a task leads to
 pub record Passes (d : Definition) (w : World) (t : Task) (rest : List Task) (n : ℕ) (e : Config) : Type 0 where
-  pub held : IsHeld e.world e.agenda
-  pub falls : is_counted t ≡ false → total (weight d) e.agenda + waiting e.world.objects < total (weight d) (t ∷ rest) + waiting w.objects
+  pub falls : is_counted t ≡ false → total (weight d) e.agenda + waiting e.world.objects + length e.world.floating < total (weight d) (t ∷ rest) + waiting w.objects + length w.floating
   pub stays : is_counted t ≡ false → e.counted ≡ n
   pub counts : is_counted t ≡ true → (n < most_steps) × (e.counted ≡ suc n)
   pub grows : IsPrefix w.transcript e.world.transcript
@@ -67,36 +65,34 @@ module _ (d : Definition) (w : World) (rest : List Task) (n : ℕ) where
   uncounted_if t (Ok s) h = h
   uncounted_if t (Err arm) h = tt
 
-  -- a step that starts no construction
-  steady : (t : Task) → IsHeld w (t ∷ rest) → ((o : ℕ) → making_of o t ≡ 0) → is_counted t ≡ false → (s : Started) → Calm w s → Falls d w (weight d t) s → Passes d w t rest n (before rest n s)
-  steady t held none plain s calm falls = record {
-    held = keeps_quietly w t rest s held calm.quiet (λ o. calm.none o ∙ sym (none o));
-    falls = λ _. let l = falls.less in omega (arith, l, total-append (weight d) s.tasks rest);
+  -- a step that is not counted
+  steady : (t : Task) → is_counted t ≡ false → (s : Started) → Calm w s → Falls d w (weight d t) s → Passes d w t rest n (before rest n s)
+  steady t plain s calm falls = record {
+    falls = λ _. let l = falls.less in let f = ap (λ (fl : List ℕ). length fl) calm.floating in omega (arith, l, f, total-append (weight d) s.tasks rest);
     stays = λ _. refl;
     counts = λ yes. cc (yes, plain);
-    grows = calm.quiet.grows;
+    grows = calm.grows;
   }
 
-  steadily : (t : Task) → IsHeld w (t ∷ rest) → ((o : ℕ) → making_of o t ≡ 0) → is_counted t ≡ false → (a : Answer Started) → IfOk a (Calm w) → IfOk a (Falls d w (weight d t)) → IfOk (uncounted rest n a) (Passes d w t rest n)
-  steadily t held none plain a calm falls = uncounted_if t a (both (Calm w) (Falls d w (weight d t)) (λ s. Passes d w t rest n (before rest n s)) a calm falls (steady t held none plain))
+  steadily : (t : Task) → is_counted t ≡ false → (a : Answer Started) → IfOk a (Calm w) → IfOk a (Falls d w (weight d t)) → IfOk (uncounted rest n a) (Passes d w t rest n)
+  steadily t plain a calm falls = uncounted_if t a (both (Calm w) (Falls d w (weight d t)) (λ s. Passes d w t rest n (before rest n s)) a calm falls (steady t plain))
 
   -- ** notifications
 
-  notified : (id slot : ℕ) → IsHeld w (Notifying id slot ∷ rest) → n < most_steps → (a : Answer Started) → IfOk a (Calm w) → IfOk (uncounted rest (suc n) a) (Passes d w (Notifying id slot) rest n)
-  notified id slot held small (Ok s) calm = record {
-    held = keeps_quietly w (Notifying id slot) rest s held calm.quiet (λ o. calm.none o);
+  notified : (id slot : ℕ) → n < most_steps → (a : Answer Started) → IfOk a (Calm w) → IfOk (uncounted rest (suc n) a) (Passes d w (Notifying id slot) rest n)
+  notified id slot small (Ok s) calm = record {
     falls = λ no. cc no;
     stays = λ no. cc no;
     counts = λ _. (small, refl);
-    grows = calm.quiet.grows;
+    grows = calm.grows;
   }
-  notified id slot held small (Err arm) calm = tt
+  notified id slot small (Err arm) calm = tt
 
-  notifying_passes : (id slot : ℕ) → IsHeld w (Notifying id slot ∷ rest) → IfOk (act d w None (Notifying id slot ∷ rest) n) (Passes d w (Notifying id slot) rest n)
-  notifying_passes id slot held = by (nat_lt n most_steps) refl
+  notifying_passes : (id slot : ℕ) → IfOk (act d w None (Notifying id slot ∷ rest) n) (Passes d w (Notifying id slot) rest n)
+  notifying_passes id slot = by (nat_lt n most_steps) refl
     where
       by : (b : Bool) → nat_lt n most_steps ≡ b → IfOk (only_if b arms.Steps (uncounted rest (suc n) (notifying d w id slot))) (Passes d w (Notifying id slot) rest n)
-      by true small = notified id slot held (let few : n < most_steps = grind (arith, nat_tests) in few) (notifying d w id slot) (notifying_calm d w id slot)
+      by true small = notified id slot (let few : n < most_steps = grind (arith, nat_tests) in few) (notifying d w id slot) (notifying_calm d w id slot)
       by false large = tt
 
   -- ** ends of notifications
@@ -112,69 +108,65 @@ module _ (d : Definition) (w : World) (rest : List Task) (n : ℕ) where
   kept_down (tasks.Building place forwards ∷ ts) v = refl
   kept_down (tasks.Carrying event ∷ ts) v = refl
 
-  ending_at : (e : Emission) (turns : List config.PlanEntry) → IsHeld w (Emitting e turns ∷ rest) → (v : World) → v.objects ≡ w.objects → v.builder ≡ w.builder → v.floating ≡ w.floating → IsPrefix w.transcript v.transcript
+  ending_at : (e : Emission) (turns : List config.PlanEntry) → (v : World) → v.objects ≡ w.objects → v.floating ≡ w.floating → IsPrefix w.transcript v.transcript
       → Passes d w (Emitting e turns) rest n (record { world = v; agenda = rest; counted = n })
-  ending_at e turns held v objects builder floating grows = record {
-    held = keeps_quietly w (Emitting e turns) rest (record { world = v; tasks = [] }) held (record { lives = λ q h. subst (λ (os : Objects). is_some (living os q) ≡ true) objects h; builder = builder; floating = floating; grows = grows }) (λ o. refl);
-    falls = λ _. let same = ap waiting objects in omega (arith, same);
+  ending_at e turns v objects floating grows = record {
+    falls = λ _. let same = ap waiting objects in let f = ap (λ (fl : List ℕ). length fl) floating in omega (arith, same, f);
     stays = λ _. refl;
     counts = λ yes. cc yes;
     grows = grows;
   }
 
-  ended : (e : Emission) (turns : List config.PlanEntry) → IsHeld w (Emitting e turns ∷ rest) → (v : Option Value) (b : Bool)
+  ended : (e : Emission) (turns : List config.PlanEntry) → (v : Option Value) (b : Bool)
       → Passes d w (Emitting e turns) rest n (record { world = told d w b v; agenda = rest; counted = n })
-  ended e turns held None b = ending_at e turns held w refl refl refl (prefix_same w.transcript)
-  ended e turns held (Some v) false = ending_at e turns held w refl refl refl (prefix_same w.transcript)
-  ended e turns held (Some v) true = ending_at e turns held (told d w true (Some v)) refl refl refl (prefix_one w.transcript _)
+  ended e turns None b = ending_at e turns w refl refl (prefix_same w.transcript)
+  ended e turns (Some v) false = ending_at e turns w refl refl (prefix_same w.transcript)
+  ended e turns (Some v) true = ending_at e turns (told d w true (Some v)) refl refl (prefix_one w.transcript _)
 
   left_if : (t : Task) (a : Answer Left) → IfOk a (λ l. Passes d w t rest n (record { world = l.world; agenda = l.agenda; counted = n })) → IfOk (left n a) (Passes d w t rest n)
   unfolding left
   left_if t (Ok l) h = h
   left_if t (Err arm) h = tt
 
-  ending_passes : (e : Emission) (ts : List code.Task) → map (task_of d) ts ≡ rest → IsHeld w (Emitting e [] ∷ rest) → IfOk (left n (ending d w e rest)) (Passes d w (Emitting e []) rest n)
+  ending_passes : (e : Emission) (ts : List code.Task) → map (task_of d) ts ≡ rest → IfOk (left n (ending d w e rest)) (Passes d w (Emitting e []) rest n)
   unfolding ending
-  ending_passes e ts same held = left_if (Emitting e []) (ending d w e rest) (bind_ok (resulting d w e) _ Left_passes (λ v _.
+  ending_passes e ts same = left_if (Emitting e []) (ending d w e rest) (bind_ok (resulting d w e) _ Left_passes (λ v _.
       let down : passed_down rest v ≡ Ok rest = subst (λ (r : List Task). passed_down r v ≡ Ok r) same (kept_down ts v) in
-      rw down (ended e [] held v e.by_event)))
+      rw down (ended e [] v e.by_event)))
     where
       Left_passes : Left → Type 0
       Left_passes = λ l. Passes d w (Emitting e []) rest n (record { world = l.world; agenda = l.agenda; counted = n })
 
   -- ** constructions
 
-  constructed_passes : (id : ℕ) → IsHeld w (Constructing id [] true ∷ rest) → IfOk (uncounted rest n (constructed w id true)) (Passes d w (Constructing id [] true) rest n)
+  constructed_passes : (id : ℕ) → IfOk (uncounted rest n (constructed w id true)) (Passes d w (Constructing id [] true) rest n)
   unfolding constructed
-  constructed_passes id held = uncounted_if (Constructing id [] true) (constructed w id true) (bind_ok (object_at w.objects id) _ P (λ o _. by o.place (is_unbuilt (held_at w o.place)) refl))
+  constructed_passes id = uncounted_if (Constructing id [] true) (constructed w id true) (bind_ok (object_at w.objects id) _ P (λ o _. by o.place (is_unbuilt (held_at w o.place)) refl))
     where
       P : Started → Type 0
       P = λ s. Passes d w (Constructing id [] true) rest n (before rest n s)
 
       by : (place : ℕ) (b : Bool) → is_unbuilt (held_at w place) ≡ b → IfOk (only_if b arms.Code (starts (sunk (with_held w place (built id)) id) [])) P
       by place true new = record {
-        held = ended_held w id place rest new held;
-        falls = λ _. omega arith;
+        falls = λ _. omega (arith, without_less id w.floating);
         stays = λ _. refl;
         counts = λ yes. cc yes;
         grows = prefix_same w.transcript;
       }
       by place false old = tt
 
-  -- a step that hands its part of a construction on
-  handing : (t : Task) → IsHeld w (t ∷ rest) → is_counted t ≡ false → (s : Started) → Quietly w s.world → ((o : ℕ) → total (making_of o) s.tasks ≡ making_of o t) → Falls d w (weight d t) s → Passes d w t rest n (before rest n s)
-  handing t held plain s quiet parts falls = record {
-    held = keeps_quietly w t rest s held quiet parts;
-    falls = λ _. let l = falls.less in omega (arith, l, total-append (weight d) s.tasks rest);
+  -- a step of a construction
+  handing : (t : Task) → is_counted t ≡ false → (s : Started) → Quietly w s.world → Falls d w (weight d t) s → Passes d w t rest n (before rest n s)
+  handing t plain s quiet falls = record {
+    falls = λ _. let l = falls.less in let f = ap (λ (fl : List ℕ). length fl) quiet.floating in omega (arith, l, f, total-append (weight d) s.tasks rest);
     stays = λ _. refl;
     counts = λ yes. cc (yes, plain);
     grows = quiet.grows;
   }
 
-  sets_passes : (id slot : ℕ) (v : Value) (steps : List Making) → IsHeld w (Constructing id (config.sets slot v ∷ steps) true ∷ rest)
-      → IfOk (uncounted rest n (making_set d w id slot v (Constructing id steps true ∷ []))) (Passes d w (Constructing id (config.sets slot v ∷ steps) true) rest n)
+  sets_passes : (id slot : ℕ) (v : Value) (steps : List Making) → IfOk (uncounted rest n (making_set d w id slot v (Constructing id steps true ∷ []))) (Passes d w (Constructing id (config.sets slot v ∷ steps) true) rest n)
   unfolding making_set
-  sets_passes id slot v steps held = uncounted_if whole (making_set d w id slot v (Constructing id steps true ∷ [])) (bind_ok (spec_at d w.objects id slot) _ P (λ s _. by (is_writable s)))
+  sets_passes id slot v steps = uncounted_if whole (making_set d w id slot v (Constructing id steps true ∷ [])) (bind_ok (spec_at d w.objects id slot) _ P (λ s _. by (is_writable s)))
     where
       whole : Task
       whole = Constructing id (config.sets slot v ∷ steps) true
@@ -183,21 +175,19 @@ module _ (d : Definition) (w : World) (rest : List Task) (n : ℕ) where
       P = λ s. Passes d w whole rest n (before rest n s)
 
       by : (b : Bool) → IfOk (only_if b arms.Flags (starts w (Setting id slot v ∷ Constructing id steps true ∷ []))) P
-      by true = handing whole held refl (record { world = w; tasks = Setting id slot v ∷ Constructing id steps true ∷ [] })
-          (record { lives = λ q h. h; builder = refl; floating = refl; grows = prefix_same w.transcript })
-          (λ o. omega arith)
+      by true = handing whole refl (record { world = w; tasks = Setting id slot v ∷ Constructing id steps true ∷ [] })
+          (record { floating = refl; grows = prefix_same w.transcript })
           (record { less = omega arith })
       by false = tt
 
-  runs_passes : (id program : ℕ) (steps : List Making) → IsHeld w (Constructing id (config.runs program ∷ steps) true ∷ rest) → (args : List Value)
+  runs_passes : (id program : ℕ) (steps : List Making) → (args : List Value)
       → IfOk (uncounted rest n (program_before d w program args (Constructing id steps true ∷ []))) (Passes d w (Constructing id (config.runs program ∷ steps) true) rest n)
   unfolding program_before beginning_program
-  runs_passes id program steps held args = uncounted_if whole (program_before d w program args (Constructing id steps true ∷ [])) (bind_ok (beginning_program d w program args) _ P (λ s is.
+  runs_passes id program steps args = uncounted_if whole (program_before d w program args (Constructing id steps true ∷ [])) (bind_ok (beginning_program d w program args) _ P (λ s is.
       let b = if_ok_at Begins (beginning_program d w program args) s begins is in
-      handing whole held refl (record { world = s.world; tasks = s.tasks ++ Constructing id steps true ∷ [] })
+      handing whole refl (record { world = s.world; tasks = s.tasks ++ Constructing id steps true ∷ [] })
       b.0
-      (λ o. let z = b.1 o in omega (arith, z, total-append (making_of o) s.tasks (Constructing id steps true ∷ [])))
-      (record { less = let l = b.2 in let k = b.3 in omega (arith, l, k, total-append (weight d) s.tasks (Constructing id steps true ∷ [])) })))
+      (record { less = let l = b.1 in let k = b.2 in omega (arith, l, k, total-append (weight d) s.tasks (Constructing id steps true ∷ [])) })))
     where
       whole : Task
       whole = Constructing id (config.runs program ∷ steps) true
@@ -206,7 +196,7 @@ module _ (d : Definition) (w : World) (rest : List Task) (n : ℕ) where
       P = λ s. Passes d w whole rest n (before rest n s)
 
       Begins : Started → Type 0
-      Begins = λ s. Quietly w s.world × ((o : ℕ) → total (making_of o) s.tasks ≡ 0) × (total (weight d) s.tasks ≤ 1) × (waiting s.world.objects ≡ waiting w.objects)
+      Begins = λ s. Quietly w s.world × (total (weight d) s.tasks ≤ 1) × (waiting s.world.objects ≡ waiting w.objects)
 
       only : (b : Bool) (s : Started) → Begins s → IfOk (only_if b arms.Parameters (Ok s)) Begins
       only true s h = h
@@ -215,43 +205,40 @@ module _ (d : Definition) (w : World) (rest : List Task) (n : ℕ) where
       begins : IfOk (beginning_program d w program args) Begins
       begins = bind_ok (known arms.Code (program_at d program)) _ Begins (λ p _.
           only (all_fit (fits_register d w.objects) args p.params) (record { world = said d w (lines.run p.name); tasks = Running (first_frame program p args) ∷ [] })
-          (record { lives = λ q h. h; builder = refl; floating = refl; grows = prefix_one w.transcript _ }, (λ o. refl), omega arith, refl))
+          (record { floating = refl; grows = prefix_one w.transcript _ }, omega arith, refl))
 
-  thaws_passes : (id : ℕ) (steps : List Making) → IsHeld w (Constructing id (config.thaws ∷ steps) true ∷ rest)
-      → IfOk (uncounted rest n (thawing_made w id steps true)) (Passes d w (Constructing id (config.thaws ∷ steps) true) rest n)
+  thaws_passes : (id : ℕ) (steps : List Making) → IfOk (uncounted rest n (thawing_made w id steps true)) (Passes d w (Constructing id (config.thaws ∷ steps) true) rest n)
   unfolding thawing_made
-  thaws_passes id steps held = uncounted_if whole (thawing_made w id steps true)
-      (both Hands (Falls d w (weight d whole)) (λ s. Passes d w whole rest n (before rest n s)) (thawing_made w id steps true) hands (thawing_made_falls d w id steps true)
-      (λ s h falls. handing whole held refl s h.0 h.1 falls))
+  thaws_passes id steps = uncounted_if whole (thawing_made w id steps true)
+      (both Quiet (Falls d w (weight d whole)) (λ s. Passes d w whole rest n (before rest n s)) (thawing_made w id steps true) quiet (thawing_made_falls d w id steps true)
+      (λ s h falls. handing whole refl s h falls))
     where
       whole : Task
       whole = Constructing id (config.thaws ∷ steps) true
 
-      Hands : Started → Type 0
-      Hands = λ s. Quietly w s.world × ((o : ℕ) → total (making_of o) s.tasks ≡ making_of o whole)
+      Quiet : Started → Type 0
+      Quiet = λ s. Quietly w s.world
 
-      hands : IfOk (thawing_made w id steps true) Hands
-      hands = bind_ok (changed w.objects id frozen_less) _ Hands (λ r e.
-          let h = if_ok_at (λ (r : After Objects (List ℕ)). (q : ℕ) → is_some (living r.state q) ≡ true → is_some (living w.objects q) ≡ true) (changed w.objects id frozen_less) r (changed_lives w.objects id frozen_less) e in
-          (record { lives = h; builder = refl; floating = refl; grows = prefix_same w.transcript }, λ o. omega arith))
+      quiet : IfOk (thawing_made w id steps true) Quiet
+      quiet = bind_ok (changed w.objects id frozen_less) _ Quiet (λ r e. record { floating = refl; grows = prefix_same w.transcript })
 
-  constructing_passes : (id : ℕ) (steps : List Making) → IsHeld w (Constructing id steps true ∷ rest) → IfOk (act d w None (Constructing id steps true ∷ rest) n) (Passes d w (Constructing id steps true) rest n)
-  constructing_passes id [] held = constructed_passes id held
-  constructing_passes id (config.sets slot v ∷ steps) held = sets_passes id slot v steps held
-  constructing_passes id (config.runs program ∷ steps) held = runs_passes id program steps held _
-  constructing_passes id (config.thaws ∷ steps) held = thaws_passes id steps held
+  constructing_passes : (id : ℕ) (steps : List Making) → IfOk (act d w None (Constructing id steps true ∷ rest) n) (Passes d w (Constructing id steps true) rest n)
+  constructing_passes id [] = constructed_passes id
+  constructing_passes id (config.sets slot v ∷ steps) = sets_passes id slot v steps
+  constructing_passes id (config.runs program ∷ steps) = runs_passes id program steps _
+  constructing_passes id (config.thaws ∷ steps) = thaws_passes id steps
 
   -- ** thaws and events
 
-  thawing_passes : (id : ℕ) (slots : List ℕ) → IsHeld w (Thawing id slots ∷ rest) → IfOk (act d w None (Thawing id slots ∷ rest) n) (Passes d w (Thawing id slots) rest n)
-  thawing_passes id slots held = steadily (Thawing id slots) held (λ o. refl) refl (thawing w id slots) (thawing_calm w id slots) (thawing_falls d w id slots)
+  thawing_passes : (id : ℕ) (slots : List ℕ) → IfOk (act d w None (Thawing id slots ∷ rest) n) (Passes d w (Thawing id slots) rest n)
+  thawing_passes id slots = steadily (Thawing id slots) refl (thawing w id slots) (thawing_calm w id slots) (thawing_falls d w id slots)
 
-  setting_passes : (id slot : ℕ) (v : Value) → IsHeld w (Setting id slot v ∷ rest) → IfOk (act d w None (Setting id slot v ∷ rest) n) (Passes d w (Setting id slot v) rest n)
-  setting_passes id slot v held = steadily (Setting id slot v) held (λ o. refl) refl (setting d w id slot v) (setting_calm d w id slot v) (setting_falls d w id slot v)
+  setting_passes : (id slot : ℕ) (v : Value) → IfOk (act d w None (Setting id slot v ∷ rest) n) (Passes d w (Setting id slot v) rest n)
+  setting_passes id slot v = steadily (Setting id slot v) refl (setting d w id slot v) (setting_calm d w id slot v) (setting_falls d w id slot v)
 
-  carrying_passes : (event : Event) → IsHeld w (Carrying (request_of event) ∷ rest) → IfOk (act d w None (Carrying (request_of event) ∷ rest) n) (Passes d w (Carrying (request_of event)) rest n)
-  carrying_passes (events.Set place slot given) held = steadily (Carrying (request_of (events.Set place slot given))) held (λ o. refl) refl (carrying_set d w place.0 slot (given_view given)) (carrying_set_calm d w place.0 slot (given_view given)) (carrying_set_falls d w place.0 slot (given_view given))
-  carrying_passes (events.Get place slot) held = steadily (Carrying (request_of (events.Get place slot))) held (λ o. refl) refl (carrying_get d w place.0 slot) (carrying_get_calm d w place.0 slot) (carrying_get_falls d w place.0 slot)
+  carrying_passes : (event : Event) → IfOk (act d w None (Carrying (request_of event) ∷ rest) n) (Passes d w (Carrying (request_of event)) rest n)
+  carrying_passes (events.Set place slot given) = steadily (Carrying (request_of (events.Set place slot given))) refl (carrying_set d w place.0 slot (given_view given)) (carrying_set_calm d w place.0 slot (given_view given)) (carrying_set_falls d w place.0 slot (given_view given))
+  carrying_passes (events.Get place slot) = steadily (Carrying (request_of (events.Get place slot))) refl (carrying_get d w place.0 slot) (carrying_get_calm d w place.0 slot) (carrying_get_falls d w place.0 slot)
 
   -- ** the build
 
@@ -259,37 +246,34 @@ module _ (d : Definition) (w : World) (rest : List Task) (n : ℕ) where
   waiting_more os o none = let e = ap (λ (q : List ℕ). 2 * length q) none in omega (arith, e, total-append waiting_in os (Some o ∷ []))
 
   -- an object is made, and its construction begins
-  made : (place : ℕ) (p : Place) (items : List Item) → slice_get d.places place ≡ Some p → IsHeld w (Building (makes place ∷ items) ∷ rest)
-      → Passes d w (Building (makes place ∷ items)) rest n (record {
-        world = said d (with_object d w (new_object d place p None)) (lines.construct (suc (length w.objects)) (type_of d p.class).name);
-        agenda = Constructing (suc (length w.objects)) (making_of_object w (specs_of d p.class) (not_forward place p.given)) true ∷ Building items ∷ rest;
-        counted = n;
-      })
-  made place p items at held = record {
-    held = made_held w (said d (with_object d w (new_object d place p None)) (lines.construct (suc (length w.objects)) (type_of d p.class).name)) (Building (makes place ∷ items)) rest
-        (new_object d place p None) (is_a d.types p.class initially_unowned) (making_of_object w (specs_of d p.class) (not_forward place p.given)) (Building items) held (λ q. refl) refl refl refl;
+  made : (place : ℕ) (p : Place) (items : List Item) → slice_get d.places place ≡ Some p → Passes d w (Building (makes place ∷ items)) rest n (record {
+    world = said d (with_object d w (new_object d place p None)) (lines.construct (suc (length w.objects)) (type_of d p.class).name);
+    agenda = Constructing (suc (length w.objects)) (making_of_object w (specs_of d p.class) (not_forward place p.given)) true ∷ Building items ∷ rest;
+    counted = n;
+  })
+  made place p items at = record {
     falls = λ _.
         let few = few_steps w (specs_of d p.class) (not_forward place p.given) in
         let early = few_early place p.given in
         let slots : sets_of_place d (place_at d place) ≡ length (specs_of d p.class) + length p.given = ap (sets_of_place d) at in
-        omega (arith, few, early, slots, waiting_more w.objects (new_object d place p None) refl);
+        let one = one_floats (is_a d.types p.class initially_unowned) (suc (length w.objects)) w.floating in
+        omega (arith, few, early, slots, one, waiting_more w.objects (new_object d place p None) refl);
     stays = λ _. refl;
     counts = λ yes. cc yes;
     grows = (prefix_one w.transcript _);
   }
 
   -- a forward reference is set
-  forward_passes : (fs : List Forward) → IsHeld w (Building (map item_of fs) ∷ rest)
-      → IfOk (uncounted rest n (building d w (map item_of fs))) (Passes d w (Building (map item_of fs)) rest n)
-  forward_passes [] held =
-      steady (Building []) held (λ o. refl) refl (record { world = w; tasks = [] })
-      (record { quiet = record { lives = λ q h. h; builder = refl; floating = refl; grows = prefix_same w.transcript }; none = λ o. refl })
+  forward_passes : (fs : List Forward) → IfOk (uncounted rest n (building d w (map item_of fs))) (Passes d w (Building (map item_of fs)) rest n)
+  forward_passes [] =
+      steady (Building []) refl (record { world = w; tasks = [] })
+      (record { floating = refl; grows = prefix_same w.transcript })
       (record { less = omega arith })
-  forward_passes (f ∷ fs) held =
-      steadily (Building (item_of f ∷ map item_of fs)) held (λ o. refl) refl (building_forward d w f.object f.slot f.to.0 (map item_of fs))
+  forward_passes (f ∷ fs) =
+      steadily (Building (item_of f ∷ map item_of fs)) refl (building_forward d w f.object f.slot f.to.0 (map item_of fs))
       (building_forward_calm d w f.object f.slot f.to.0 (map item_of fs)) (building_forward_falls d w f.object f.slot f.to.0 (map item_of fs))
 
-  module _ (basic : IsBasic d) (place : ℕ) (fs : List Forward) (held : IsHeld w (Building (build_from d place fs) ∷ rest)) where
+  module _ (basic : IsBasic d) (place : ℕ) (fs : List Forward) where
     abbrev P : Config → Type 0
     P = Passes d w (Building (build_from d place fs)) rest n
 
@@ -309,13 +293,13 @@ module _ (d : Definition) (w : World) (rest : List Task) (n : ℕ) where
               world = said d (with_object d w (new_object d place p None)) (lines.construct (suc (length w.objects)) (type_of d p.class).name);
               agenda = Constructing (suc (length w.objects)) (making_of_object w (specs_of d p.class) (not_forward place p.given)) true ∷ Building items ∷ rest;
               counted = n;
-            })) (sym next) (made place p items at (subst (λ (xs : List Item). IsHeld w (Building xs ∷ rest)) next held)))
+            })) (sym next) (made place p items at))
 
     built_past : length d.places ≤ place → IfOk (uncounted rest n (building d w (build_from d place fs))) P
     built_past past =
         let left = only_forwards d place fs past in
         subst (λ (xs : List Item). IfOk (uncounted rest n (building d w xs)) (Passes d w (Building xs) rest n)) (sym left)
-        (forward_passes fs (subst (λ (xs : List Item). IsHeld w (Building xs ∷ rest)) left held))
+        (forward_passes fs)
 
     building_passes : IfOk (act d w None (Building (build_from d place fs) ∷ rest) n) P
     building_passes = by (slice_get d.places place) refl
@@ -325,11 +309,11 @@ module _ (d : Definition) (w : World) (rest : List Task) (n : ℕ) where
         by None at = built_past (within_none d.places place at)
 
   -- what the step of each task of the engine leads to
-  pub acted : IsBasic d → (t : code.Task) (ts : List code.Task) → map (task_of d) ts ≡ rest → IsHeld w (task_of d t ∷ rest) → IfOk (act d w None (task_of d t ∷ rest) n) (Passes d w (task_of d t) rest n)
-  acted basic (tasks.Setting id slot v) ts same held = setting_passes id slot (value_view v) held
-  acted basic (tasks.Notifying id slot) ts same held = notifying_passes id slot held
-  acted basic (tasks.Emitting id class slot) ts same held = ending_passes (notification id (name_of d class slot)) ts same held
-  acted basic (tasks.Thawing id slots) ts same held = thawing_passes id slots held
-  acted basic (tasks.Constructing id steps) ts same held = constructing_passes id steps held
-  acted basic (tasks.Building place forwards) ts same held = building_passes basic place forwards held
-  acted basic (tasks.Carrying event) ts same held = carrying_passes event held
+  pub acted : IsBasic d → (t : code.Task) (ts : List code.Task) → map (task_of d) ts ≡ rest → IfOk (act d w None (task_of d t ∷ rest) n) (Passes d w (task_of d t) rest n)
+  acted basic (tasks.Setting id slot v) ts same = setting_passes id.0 slot (value_view v)
+  acted basic (tasks.Notifying id slot) ts same = notifying_passes id.0 slot
+  acted basic (tasks.Emitting id class slot) ts same = ending_passes (notification id.0 (name_of d class slot)) ts same
+  acted basic (tasks.Thawing id slots) ts same = thawing_passes id.0 slots
+  acted basic (tasks.Constructing id steps) ts same = constructing_passes id.0 steps
+  acted basic (tasks.Building place forwards) ts same = building_passes basic place forwards
+  acted basic (tasks.Carrying event) ts same = carrying_passes event

@@ -1,28 +1,13 @@
 -- How the build begins: nothing lives, and objects are all that there is to make.
-use Rattle.std.proofs.Common.{◌≡◌, ℕ, zero, suc, true, List, [], ◌∷◌, ◌++◌, Some, is_some, slice_get, map, refl, sym, ap, subst, ◌∙◌, arith}
+use Rattle.std.proofs.Common.{◌≡◌, ℕ, suc, List, [], ◌∷◌, ◌++◌, Some, slice_get, map, refl, sym, ap, ◌∙◌}
 use Rattle.std.proofs.lemmas.List.{append-nil}
-use Rattle.ui_machine.specs.Seq.{total}
 use Rattle.ui_machine.specs.Definition.{Definition}
 use Rattle.ui_machine.specs.Definition.Places.{Place, Attached, Bind}
-use Rattle.ui_machine.specs.State.Objects.{Objects, living}
 use Rattle.ui_machine.specs.State.Tasks.{binds, connects}
-use Rattle.ui_machine.specs.State.Config.{World}
-use Rattle.ui_machine.specs.State.References.{same}
 use Rattle.ui_machine.specs.Rules.Build.{made_items, forward_items, numbered, connected_items, build_items}
 use Rattle.builder_defs.specs.Meaning.{IsBasic}
-use Rattle.ui_engine.specs.Holding.{IsHeld}
 use Rattle.ui_engine.specs.declared.task.Forward.{Forward}
 use Rattle.ui_engine.specs.TaskView.{item_of, build_from}
-
-nothing_lives : (os : Objects) (id : ℕ) → os ≡ [] → is_some (living os id) ≡ true → ⊥
-nothing_lives os zero none h = let e : is_some (living [] 0) ≡ true = subst (λ (xs : Objects). is_some (living xs 0) ≡ true) none h in cc e
-nothing_lives os (suc i) none h = let e : is_some (living [] (suc i)) ≡ true = subst (λ (xs : Objects). is_some (living xs (suc i)) ≡ true) none h in cc e
-
-pub none_held : (w : World) → w.objects ≡ [] → w.floating ≡ [] → IsHeld w []
-none_held w objects floating = record {
-  lives = λ id some. absurd (nothing_lives w.objects id objects some);
-  floats = λ id some. absurd (let e : total (same id) w.floating ≡ 0 = ap (total (same id)) floating in omega (arith, e, some));
-}
 
 no_connections : (place : ℕ) (ps : List Place) → ((i : ℕ) (p : Place) → slice_get ps i ≡ Some p → p.signals ≡ []) → connected_items place ps ≡ []
 no_connections place [] signals = refl

@@ -1,6 +1,6 @@
 -- The build of a basic definition: what each step of it starts.
-use Rattle.std.proofs.Common.{◌≡◌, ℕ, zero, suc, ◌+◌, ◌<◌, ◌≤◌, Bool, true, false, cond, not, nat_eq, List, [], ◌∷◌, ◌++◌, length, map, reverse, take, drop, Option, Some, None, is_some, Ok, Err, slice_get, refl, sym, ap, ◌∙◌, arith, length-append}
-use Rattle.std.specs.List.{filter, flat_map, list_all}
+use Rattle.std.proofs.Common.{◌≡◌, ℕ, zero, suc, ◌+◌, ◌<◌, ◌≤◌, Bool, true, false, cond, not, List, [], ◌∷◌, ◌++◌, length, map, reverse, take, drop, Option, Some, None, is_some, Ok, Err, slice_get, refl, sym, ap, ◌∙◌, arith, length-append}
+use Rattle.std.specs.List.{flat_map, list_all}
 use Rattle.std.proofs.lemmas.Option.{slice_get_within, get_or_from_slice_get}
 use Rattle.std.proofs.lemmas.List.{reverse-append}
 use Rattle.std.proofs.Math.Seq.{drop-cons}
@@ -13,7 +13,7 @@ use Rattle.ui_machine.specs.Seq.{read}
 use Rattle.ui_machine.specs.Definition.Lookups.{type_of, class_of, specs_of}
 use Rattle.ui_machine.specs.Output.Lines as lines
 use Rattle.ui_machine.specs.State.Tasks.{Making, sets, thaws, Item, makes, Task, Constructing, Building}
-use Rattle.ui_machine.specs.State.Config.{World, Started, starts, said, without}
+use Rattle.ui_machine.specs.State.Config.{World, Started, starts, said}
 use Rattle.ui_machine.specs.Outcome.{Answer, ◌>>=◌, known, only_if}
 use Rattle.ui_machine.specs.Rules.Construction.{is_forward, not_forward, or_default, given_at, given_value, set_of, no_spec, is_at_construction, construct_sets, constructed_runs, run_of, given_sets, construction, new_object, with_object, making, has_valid_default, has_shape}
 use Rattle.ui_machine.specs.Rules.Build.{made_items, adopts_if, forward_of, forward_items, first_peer, peer_for, building, building_object}
@@ -30,14 +30,6 @@ use Rattle.ui_engine.specs.MakingView.{making_of_code, making_steps, later_steps
 use Rattle.ui_engine.proofs.Notified.{none_given}
 
 -- ** lists
-
-pub kept_without : (id : ℕ) (ids : List ℕ) → filter (λ i. not (nat_eq i id)) ids ≡ without id ids
-kept_without id [] = refl
-kept_without id (i ∷ is) = rw (kept_without id is) (by (nat_eq i id))
-  where
-    by : (b : Bool) → cond (not b) (i ∷ without id is) (without id is) ≡ cond b (without id is) (i ∷ without id is)
-    by true = refl
-    by false = refl
 
 one_more : {A : Type 0} (xs : List A) (x : A) (ys : List A) → xs ++ x ∷ ys ≡ (xs ++ x ∷ []) ++ ys
 one_more [] x ys = refl
@@ -121,7 +113,7 @@ module _ (d : Definition) (basic : IsBasic d) where
         let given = not_forward place p.given in
         ap (λ runs. construct_sets w given 0 specs ++ (runs ++ later_steps w specs given)) (no_runs p.class)
 
-    valid_defaults : list_all (has_valid_default d) (specs_of d p.class) ≡ true
+    pub valid_defaults : list_all (has_valid_default d) (specs_of d p.class) ≡ true
     valid_defaults = each_valid d (specs_of d p.class) (λ i s has. basic.plain p.class i s has)
 
     pub made_there : (type_of d p.class).is_abstract ≡ false
@@ -199,7 +191,7 @@ all_taken [] (suc slot) none = refl
 all_taken (s ∷ specs) zero none = cc
 all_taken (s ∷ specs) (suc slot) none = ap (λ ss. s ∷ ss) (all_taken specs slot none)
 
-one_taken : (specs : List Spec) (slot : ℕ) (s : Spec) → slice_get specs slot ≡ Some s → take (suc slot) specs ≡ take slot specs ++ s ∷ []
+pub one_taken : (specs : List Spec) (slot : ℕ) (s : Spec) → slice_get specs slot ≡ Some s → take (suc slot) specs ≡ take slot specs ++ s ∷ []
 one_taken [] slot s at = cc
 one_taken (t ∷ specs) zero s at = cc
 one_taken (t ∷ specs) (suc slot) s at = ap (λ ss. t ∷ ss) (one_taken specs slot s at)

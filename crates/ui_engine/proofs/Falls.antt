@@ -23,7 +23,7 @@ use Rattle.ui_machine.specs.Rules.Construction.{thawing_made, given_value}
 use Rattle.ui_machine.specs.Rules.Build.{held_object, set_forward, building_forward}
 use Rattle.ui_machine.specs.Rules.Events.{with_result, carrying_set, carrying_get, set_given}
 use Rattle.ui_engine.specs.Measure.{item_weight, weight, waiting_in, waiting}
-use Rattle.ui_engine.proofs.Held.{if_ok_at, bind_ok}
+use Rattle.ui_engine.proofs.Floats.{if_ok_at, bind_ok}
 
 -- ** what waits, after one object changed
 

@@ -1,5 +1,5 @@
 -- A set of a plain property, by what validation says of the value and the property's flags.
-use Rattle.std.proofs.Common.{◌≡◌, ℕ, Bool, true, false, cond, ◌&&◌, ◌||◌, not, List, [], Option, None, Some, Ok, Err, nat_eq, arith, refl, sym, ap, subst, ◌∙◌, ℤ, pos}
+use Rattle.std.proofs.Common.{◌≡◌, ℕ, Bool, true, false, cond, ◌&&◌, ◌||◌, not, List, [], None, Some, Ok, Err, nat_eq, arith, refl, sym, ap, subst, ◌∙◌, ℤ, pos}
 use Rattle.std.proofs.lemmas.Bool.Decides.{nat_tests}
 use Rattle.ui_machine.specs.declared.arm.Arm.{Arm}
 use Rattle.ui_machine.specs.declared.arm.Arm.TheVariants as arms
@@ -15,10 +15,10 @@ use Rattle.ui_machine.specs.Rules.Validation.{clamp}
 use Rattle.ui_machine.specs.Definition.Properties.{Spec, is_lax}
 use Rattle.ui_machine.specs.Definition.{Definition}
 use Rattle.ui_machine.specs.Output.Lines as lines
-use Rattle.ui_machine.specs.State.Objects.{Objects, class_in}
+use Rattle.ui_machine.specs.State.Objects.{class_in}
 use Rattle.ui_machine.specs.State.Config.{World, starts, said}
 use Rattle.ui_machine.specs.Outcome.{Answer, ◌>>=◌, only_if}
-use Rattle.ui_machine.specs.Rules.Sets.{spec_at, has_kind, lives, kept, unless_disposed, written, settled, setting}
+use Rattle.ui_machine.specs.Rules.Sets.{spec_at, has_kind, lives, kept, written, settled, setting}
 use Rattle.g_values.specs.declared.value.Value as coded
 use Rattle.g_values.specs.declared.value.Value.TheVariants as of_value
 use Rattle.g_values.specs.View.{kind_view, value_view, value_kind}
@@ -28,43 +28,6 @@ use Rattle.param_specs.specs.Validation.{IsWithin, Takes}
 use Rattle.builder_defs.specs.Meaning.{IsPlainKind, IsPlain}
 
 -- ** a value of a plain kind
-
--- what is no object stays, and an object that is not disposed
-pub null_stands : (types : List GType) (os : Objects) (v : Value) (k : kinds.Kind) → kind_fits (λ id. None) types v k ≡ true → unless_disposed os v ≡ v
-null_stands types os (values.bool b) k h = refl
-null_stands types os (values.whole w n) k h = refl
-null_stands types os (values.text t) k h = refl
-null_stands types os (values.enum t n) k h = refl
-null_stands types os (values.flags t n) k h = refl
-null_stands types os (values.object None) k h = refl
-null_stands types os (values.object (Some o)) kinds.bool h = cc
-null_stands types os (values.object (Some o)) (kinds.whole w) h = cc
-null_stands types os (values.object (Some o)) kinds.text h = cc
-null_stands types os (values.object (Some o)) (kinds.enum t) h = cc
-null_stands types os (values.object (Some o)) (kinds.flags t) h = cc
-null_stands types os (values.object (Some o)) (kinds.object t) h = cc
-
-one_stands : (os : Objects) (b : Bool) (v w : Value) → unless_disposed os v ≡ v → unless_disposed os w ≡ w → unless_disposed os (cond b v w) ≡ cond b v w
-one_stands os true v w p q = p
-one_stands os false v w p q = q
-
--- so does what validation makes of it
-clamped_stands : (f : ℕ → Option ℕ) (types : List GType) (os : Objects) (s : Spec) (v : Value) → unless_disposed os s.default ≡ s.default
-    → unless_disposed os v ≡ v → unless_disposed os (clamp f types s v) ≡ clamp f types s v
-clamped_stands f types os s (values.bool b) d h = refl
-clamped_stands f types os s (values.whole w n) d h = refl
-clamped_stands f types os s (values.text t) d h = refl
-clamped_stands f types os s (values.enum t n) d h = one_stands os (has_number (members_of types t) n) (values.enum t n) s.default refl d
-clamped_stands f types os s (values.flags t bits) d h = refl
-clamped_stands f types os s (values.object o) d h =
-    one_stands os (kind_fits f types (values.object o) s.kind) (values.object o) (values.object None) h refl
-
-kept_stands : (os : Objects) (s : Spec) (v : Value) → unless_disposed os v ≡ v → kept os s v ≡ v
-kept_stands os s v h = by s.weak
-  where
-    by : (weak : Bool) → cond weak (unless_disposed os v) v ≡ v
-    by true = h
-    by false = refl
 
 whole_same : (w k : kinds.Whole) → same_whole w k ≡ true → w ≡ k
 whole_same kinds.int kinds.int h = refl
@@ -188,7 +151,7 @@ module _ (d : Definition) (w : World) (id slot : ℕ) (v : Value) where
         by_spec ∙ ap (λ b. only_if (b && lives w.objects v) arms.Value (settled d w id slot s v (clamp (class_in w.objects) d.types s v))) kind
         ∙ ap (λ b. only_if b arms.Value (settled d w id slot s v (clamp (class_in w.objects) d.types s v))) dead
 
-    module _ (plain : IsPlain d.types s) (kind : has_kind v s.kind ≡ true) (alive : lives w.objects v ≡ true) (stands : unless_disposed w.objects v ≡ v) where
+    module _ (plain : IsPlain d.types s) (kind : has_kind v s.kind ≡ true) (alive : lives w.objects v ≡ true) where
       by_value : setting d w id slot v ≡ settled d w id slot s v (clamp (class_in w.objects) d.types s v)
       by_value =
           by_spec ∙ ap (λ b. only_if (b && lives w.objects v) arms.Value (settled d w id slot s v (clamp (class_in w.objects) d.types s v))) kind
@@ -198,14 +161,10 @@ module _ (d : Definition) (w : World) (id slot : ℕ) (v : Value) where
       refused_set bad =
           by_value ∙ ap (λ b. cond b (written d w id slot s (kept w.objects s (clamp (class_in w.objects) d.types s v))) (starts (said d w (lines.refused id s.name v)) [])) bad
 
-      written_set : (x : Value) → x ≡ clamp (class_in w.objects) d.types s v → (same_value (clamp (class_in w.objects) d.types s v) v || is_lax s) ≡ true
+      written_set : (x : Value) → x ≡ kept w.objects s (clamp (class_in w.objects) d.types s v) → (same_value (clamp (class_in w.objects) d.types s v) v || is_lax s) ≡ true
           → setting d w id slot v ≡ written d w id slot s x
       written_set x valid good =
           by_value ∙ ap (λ b. cond b (written d w id slot s (kept w.objects s (clamp (class_in w.objects) d.types s v))) (starts (said d w (lines.refused id s.name v)) [])) good
-          ∙ ap (written d w id slot s) (kept_stands w.objects s (clamp (class_in w.objects) d.types s v)
-          (clamped_stands (class_in w.objects) d.types w.objects s v
-          (null_stands d.types w.objects s.default s.kind
-          (fits_first (kind_fits (λ id. None) d.types s.default s.kind) (same_value (clamp (λ id. None) d.types s s.default) s.default) plain.default)) stands))
           ∙ ap (written d w id slot s) (sym valid)
 
       -- as code finds it, with a flag for what was changed
@@ -218,7 +177,7 @@ module _ (d : Definition) (w : World) (id slot : ℕ) (v : Value) where
 
       pub written_by_flag : (refuses is_changed : Bool) (x : Value) → refuses ≡ false → refuses ≡ (is_changed && not (is_lax s))
           → is_changed ≡ not (same_value (clamp (class_in w.objects) d.types s v) v)
-          → x ≡ clamp (class_in w.objects) d.types s v → setting d w id slot v ≡ written d w id slot s x
+          → x ≡ kept w.objects s (clamp (class_in w.objects) d.types s v) → setting d w id slot v ≡ written d w id slot s x
       written_by_flag refuses is_changed x is e f valid =
           written_set x valid (flag_on (same_value (clamp (class_in w.objects) d.types s v) v || is_lax s) (sym (refuses_is refuses is_changed (same_value (clamp (class_in w.objects) d.types s v) v) (is_lax s) e f) ∙ is))
 

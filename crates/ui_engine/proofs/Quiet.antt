@@ -1,9 +1,8 @@
--- What sets, notifications and gets leave of what holds the objects.
-use Rattle.std.proofs.Common.{not, ◌≡◌, ℕ, Bool, true, false, cond, ◌&&◌, ◌||◌, List, [], ◌∷◌, is_some, Ok, Err, refl, subst}
+-- What sets, notifications and gets leave of what floats, and of the lines.
+use Rattle.std.proofs.Common.{not, ℕ, Bool, true, false, cond, ◌&&◌, ◌||◌, List, [], ◌∷◌, Ok, Err, refl}
 use Rattle.std.specs.Prelude.{IfOk}
 use Rattle.ui_machine.specs.declared.arm.Arm.{Arm}
 use Rattle.ui_machine.specs.declared.arm.Arm.TheVariants as arms
-use Rattle.ui_machine.specs.Seq.{total}
 use Rattle.ui_machine.specs.Definition.Values.{Value}
 use Rattle.ui_machine.specs.Output.Lines as lines
 use Rattle.ui_machine.specs.Rules.Transform.{same_value}
@@ -12,73 +11,54 @@ use Rattle.ui_machine.specs.Definition.Properties.{Spec, is_lax, is_readable, is
 use Rattle.ui_machine.specs.Definition.Lookups.{spec_of}
 use Rattle.ui_machine.specs.Definition.{Definition}
 use Rattle.ui_machine.specs.Definition.Places.{Given}
-use Rattle.ui_machine.specs.State.Objects.{Object, Objects, living, class_in, object_at, asked, value_at, changed, with_value}
-use Rattle.ui_machine.specs.State.Tasks.{Item, Notifying}
+use Rattle.ui_machine.specs.State.Objects.{class_in, object_at, asked, value_at, changed, with_value}
+use Rattle.ui_machine.specs.State.Tasks.{Item}
 use Rattle.ui_machine.specs.State.Config.{World, Started, starts, said}
-use Rattle.ui_machine.specs.Outcome.{After, Answer, known, only_if}
+use Rattle.ui_machine.specs.Outcome.{Answer, known, only_if}
 use Rattle.ui_machine.specs.Rules.NotifyQueue.{raised, thawing}
 use Rattle.ui_machine.specs.Rules.Sets.{spec_at, raising, raising_if, notifies, kept, written, settled, setting, lives, has_kind}
 use Rattle.ui_machine.specs.Rules.EmissionPlan.{notifying, signal_at}
 use Rattle.ui_machine.specs.Rules.Construction.{given_value}
 use Rattle.ui_machine.specs.Rules.Events.{with_result, carrying_set, carrying_get, set_given}
 use Rattle.ui_machine.specs.Rules.Build.{held_object, set_forward, building_forward}
-use Rattle.ui_machine.specs.Prefix.{IsPrefix}
 use Rattle.ui_machine.proofs.Prefixes.{prefix_same, prefix_one}
-use Rattle.ui_engine.specs.Holding.{making_of}
-use Rattle.ui_engine.proofs.Held.{Quietly, quietly_on, if_ok_at, bind_ok, changed_lives}
+use Rattle.ui_engine.proofs.Floats.{Quietly, quietly_on, bind_ok}
 
--- a step that keeps what holds the objects, and starts no construction
-pub record Calm (w : World) (s : Started) : Type 0 where
-  pub quiet : Quietly w s.world
-  pub none : (o : ℕ) → total (making_of o) s.tasks ≡ 0
-
--- a world with other objects, as a change of one left them
-same_lives : {X : Type 0} (w new : World) (id : ℕ) (change : Object → Answer (After Object X)) (os : After Objects X) → changed w.objects id change ≡ Ok os → new.objects ≡ os.state → new.builder ≡ w.builder → new.floating ≡ w.floating → IsPrefix w.transcript new.transcript → Quietly w new
-same_lives {X} w new id change os e objects builder floating grows =
-    let h = if_ok_at (λ (r : After Objects X). (q : ℕ) → is_some (living r.state q) ≡ true → is_some (living w.objects q) ≡ true) (changed w.objects id change) os (changed_lives w.objects id change) e in
-    record { lives = λ q s. h q (subst (λ (xs : Objects). is_some (living xs q) ≡ true) objects s); builder = builder; floating = floating; grows = grows }
+-- a part of a step that keeps what floats
+abbrev pub Calm : World → Started → Type 0
+Calm w s = Quietly w s.world
 
 -- ** notifications
 
-none_made : (b : Bool) (id slot : ℕ) → (o : ℕ) → total (making_of o) (cond b (Notifying id slot ∷ []) []) ≡ 0
-none_made true id slot o = refl
-none_made false id slot o = refl
-
 pub raising_calm : (w : World) (id slot : ℕ) → IfOk (raising w id slot) (Calm w)
 unfolding raising
-raising_calm w id slot = bind_ok (changed w.objects id (raised slot)) _ (Calm w) (λ r e. record {
-  quiet = same_lives w (record w { objects = r.state }) id (raised slot) r e refl refl refl (prefix_same w.transcript);
-  none = none_made r.answer id slot;
-})
+raising_calm w id slot = bind_ok (changed w.objects id (raised slot)) _ (Calm w) (λ r e. record { floating = refl; grows = prefix_same w.transcript })
 
 calm_on : (w v : World) (a : Answer Started) → Quietly w v → IfOk a (Calm v) → IfOk a (Calm w)
-calm_on w v (Ok s) q h = record { quiet = quietly_on q h.quiet; none = h.none }
+calm_on w v (Ok s) q h = quietly_on q h
 calm_on w v (Err arm) q h = tt
 
 pub notifying_calm : (d : Definition) (w : World) (id slot : ℕ) → IfOk (notifying d w id slot) (Calm w)
 unfolding notifying
-notifying_calm d w id slot = bind_ok (object_at w.objects id) _ (Calm w) (λ o _. bind_ok (known arms.Code (spec_of d o.class slot)) _ (Calm w) (λ p _. bind_ok (signal_at d o.class 0) _ (Calm w) (λ s _. record {
-  quiet = record { lives = λ q h. h; builder = refl; floating = refl; grows = (prefix_one w.transcript _) };
-  none = λ o. refl;
-})))
+notifying_calm d w id slot = bind_ok (object_at w.objects id) _ (Calm w) (λ o _. bind_ok (known arms.Code (spec_of d o.class slot)) _ (Calm w) (λ p _. bind_ok (signal_at d o.class 0) _ (Calm w) (λ s _. record { floating = refl; grows = prefix_one w.transcript _ })))
 
 -- ** sets
 
 told_calm : (b : Bool) (w v : World) (id slot : ℕ) → Quietly w v → IfOk (raising_if b v id slot) (Calm w)
 told_calm true w v id slot q = calm_on w v (raising v id slot) q (raising_calm v id slot)
-told_calm false w v id slot q = record { quiet = q; none = λ o. refl }
+told_calm false w v id slot q = q
 
 pub written_calm : (d : Definition) (w : World) (id slot : ℕ) (s : Spec) (v : Value) → IfOk (written d w id slot s v) (Calm w)
 unfolding written
 written_calm d w id slot s v = bind_ok (changed w.objects id (with_value slot v)) _ (Calm w) (λ r e.
-    told_calm (notifies s r.answer v) w _ id slot (same_lives w _ id (with_value slot v) r e refl refl refl (prefix_one w.transcript _)))
+    told_calm (notifies s r.answer v) w _ id slot (record { floating = refl; grows = prefix_one w.transcript _ }))
 
 settled_calm : (d : Definition) (w : World) (id slot : ℕ) (s : Spec) (v valid : Value) → IfOk (settled d w id slot s v valid) (Calm w)
 settled_calm d w id slot s v valid = by (same_value valid v || is_lax s)
   where
     by : (b : Bool) → IfOk (cond b (written d w id slot s (kept w.objects s valid)) (starts (said d w (lines.refused id s.name v)) [])) (Calm w)
     by true = written_calm d w id slot s (kept w.objects s valid)
-    by false = record { quiet = record { lives = λ q h. h; builder = refl; floating = refl; grows = (prefix_one w.transcript _) }; none = λ o. refl }
+    by false = record { floating = refl; grows = (prefix_one w.transcript _) }
 
 only_calm : (w : World) (b : Bool) (arm : Arm) (a : Answer Started) → IfOk a (Calm w) → IfOk (only_if b arm a) (Calm w)
 only_calm w true arm a h = h
@@ -90,15 +70,9 @@ setting_calm d w id slot v = bind_ok (spec_at d w.objects id slot) _ (Calm w) (�
 
 -- ** events
 
-still : (w new : World) → new.objects ≡ w.objects → new.builder ≡ w.builder → new.floating ≡ w.floating → IsPrefix w.transcript new.transcript → Quietly w new
-still w new objects builder floating grows = record { lives = λ q h. subst (λ (xs : Objects). is_some (living xs q) ≡ true) objects h; builder = builder; floating = floating; grows = grows }
-
 set_given_calm : (w : World) (id slot : ℕ) (given : Given) → IfOk (set_given w id slot given) (Calm w)
 unfolding set_given
-set_given_calm w id slot given = bind_ok (known arms.Operand (given_value w given)) _ (Calm w) (λ v _. record {
-  quiet = still w w refl refl refl (prefix_same w.transcript);
-  none = λ o. refl;
-})
+set_given_calm w id slot given = bind_ok (known arms.Operand (given_value w given)) _ (Calm w) (λ v _. record { floating = refl; grows = prefix_same w.transcript })
 
 pub carrying_set_calm : (d : Definition) (w : World) (place slot : ℕ) (given : Given) → IfOk (carrying_set d w place slot given) (Calm w)
 unfolding carrying_set
@@ -109,16 +83,13 @@ carrying_set_calm d w place slot given = bind_ok (held_object w place) _ (Calm w
 pub carrying_get_calm : (d : Definition) (w : World) (place slot : ℕ) → IfOk (carrying_get d w place slot) (Calm w)
 unfolding carrying_get
 carrying_get_calm d w place slot = bind_ok (held_object w place) _ (Calm w) (λ id _. bind_ok (spec_at d w.objects id slot) _ (Calm w) (λ s _. bind_ok (asked w.objects id (value_at slot)) _ (Calm w) (λ v _.
-    only_calm w (is_readable s) arms.Flags (starts (with_result (said d w (lines.get id s.name v)) v) []) (record { quiet = still w _ refl refl refl (prefix_one w.transcript _); none = λ o. refl }))))
+    only_calm w (is_readable s) arms.Flags (starts (with_result (said d w (lines.get id s.name v)) v) []) (record { floating = refl; grows = prefix_one w.transcript _ }))))
 
 -- ** forward references
 
 set_forward_calm : (w : World) (id slot to : ℕ) (items : List Item) → IfOk (set_forward w id slot to items) (Calm w)
 unfolding set_forward
-set_forward_calm w id slot to items = bind_ok (held_object w to) _ (Calm w) (λ target _. record {
-  quiet = still w w refl refl refl (prefix_same w.transcript);
-  none = λ o. refl;
-})
+set_forward_calm w id slot to items = bind_ok (held_object w to) _ (Calm w) (λ target _. record { floating = refl; grows = prefix_same w.transcript })
 
 pub building_forward_calm : (d : Definition) (w : World) (place slot to : ℕ) (items : List Item) → IfOk (building_forward d w place slot to items) (Calm w)
 unfolding building_forward
@@ -129,5 +100,5 @@ building_forward_calm d w place slot to items = bind_ok (held_object w place) _ 
 -- ** thaws
 
 pub thawing_calm : (w : World) (id : ℕ) (slots : List ℕ) → IfOk (thawing w id slots) (Calm w)
-thawing_calm w id [] = record { quiet = still w w refl refl refl (prefix_same w.transcript); none = λ o. refl }
-thawing_calm w id (slot ∷ slots) = record { quiet = still w w refl refl refl (prefix_same w.transcript); none = λ o. refl }
+thawing_calm w id [] = record { floating = refl; grows = prefix_same w.transcript }
+thawing_calm w id (slot ∷ slots) = record { floating = refl; grows = prefix_same w.transcript }

@@ -1,6 +1,7 @@
 -- An event that names no released object is served by one dispatch.
 use Rattle.std.proofs.Common.{◌≡◌, ℕ, zero, suc, Bool, true, false, List, [], ◌∷◌, map, Option, Some, None, Result, Ok, Err, refl, sym, ap, subst, ◌∙◌}
 use Rattle.ui_machine.specs.Seq.{read}
+use Rattle.ui_machine.specs.declared.ids.ObjectId.{ObjectId}
 use Rattle.ui_machine.specs.Definition.{Definition}
 use Rattle.ui_machine.specs.State.Tasks as config
 use Rattle.ui_machine.specs.State.Config.{Held, unbuilt, World, held_at}
@@ -20,20 +21,20 @@ use Rattle.ui_engine.specs.View.{held_of}
 use Rattle.ui_engine.specs.SessionView.{SessionState, tally_of, serving, carrying_out, Comes, AnswersEvent}
 
 -- what was only built is not released
-built_stays : (ids : List (Option ℕ)) (place : ℕ) → is_released (read unbuilt (map held_of ids) place) ≡ false
+built_stays : (ids : List (Option ObjectId)) (place : ℕ) → is_released (read unbuilt (map held_of ids) place) ≡ false
 built_stays [] place = refl
 built_stays (None ∷ ids) zero = refl
 built_stays (Some id ∷ ids) zero = refl
 built_stays (id ∷ ids) (suc place) = built_stays ids place
 
-stays : (w : World) (ids : List (Option ℕ)) (place : ℕ) → w.builder ≡ map held_of ids → is_released (held_at w place) ≡ false
+stays : (w : World) (ids : List (Option ObjectId)) (place : ℕ) → w.builder ≡ map held_of ids → is_released (held_at w place) ≡ false
 stays w ids place same = ap (λ (held : List Held). is_released (read unbuilt held place)) same ∙ built_stays ids place
 
-gives_none : (w : World) (ids : List (Option ℕ)) (given : Given) → w.builder ≡ map held_of ids → gives_released w (given_view given) ≡ false
+gives_none : (w : World) (ids : List (Option ObjectId)) (given : Given) → w.builder ≡ map held_of ids → gives_released w (given_view given) ≡ false
 gives_none w ids (givens.Value v) same = refl
 gives_none w ids (givens.Object place) same = stays w ids place.0 same
 
-names_none : (w : World) (ids : List (Option ℕ)) (event : code.Event) → w.builder ≡ map held_of ids → names_released w (request_of event) ≡ false
+names_none : (w : World) (ids : List (Option ObjectId)) (event : code.Event) → w.builder ≡ map held_of ids → names_released w (request_of event) ≡ false
 names_none w ids (events.Set place slot given) same = rw (stays w ids place.0 same) (gives_none w ids given same)
 names_none w ids (events.Get place slot) same = stays w ids place.0 same
 
@@ -53,7 +54,7 @@ module _ (d : Definition) (w : World) (r : Request) (none : names_released w r �
   serves (Err faults.Stopped) new never = absurd never
 
 -- a session that has not stopped answers so
-pub answers : (old : SessionState) (ids : List (Option ℕ)) (event : code.Event) (result : Result Reply SessionFault) (new : SessionState)
+pub answers : (old : SessionState) (ids : List (Option ObjectId)) (event : code.Event) (result : Result Reply SessionFault) (new : SessionState)
     → old.world.builder ≡ map held_of ids → old.stopped ≡ false
     → Comes result (carrying_out old.definition (beginning old.world (Carrying (request_of event)))) old.definition new
     → AnswersEvent old.stopped result old (config.request (request_of event)) new

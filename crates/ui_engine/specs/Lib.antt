@@ -1,12 +1,11 @@
 pub mod GivenView
-pub mod ObjectView
-pub mod HeapView
-pub mod Holding
+pub mod WeakView
 pub mod View
 pub mod MakingView
 pub mod LineView
 pub mod TaskView
 pub mod Measure
 pub mod EngineView
+pub mod Counting
 pub mod Stepping
 pub mod SessionView

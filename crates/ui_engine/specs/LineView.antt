@@ -6,9 +6,11 @@ use Rattle.ui_engine.specs.declared.lines.Line.TheVariants as code
 
 abbrev pub line_view : Line → lines.Line
 line_view code.Build = lines.build
-line_view (code.Construct object class) = lines.construct object class.now
-line_view (code.Set object property value) = lines.set object property.now (value_view value.now)
-line_view (code.Refused object property value) = lines.refused object property.now (value_view value.now)
-line_view (code.Notify object property) = lines.notify object property.now
-line_view (code.Get object property value) = lines.get object property.now (value_view value.now)
+line_view (code.Construct object class) = lines.construct object.0 class.now
+line_view (code.Set object property value) = lines.set object.0 property.now (value_view value.now)
+line_view (code.Refused object property value) = lines.refused object.0 property.now (value_view value.now)
+line_view (code.Notify object property) = lines.notify object.0 property.now
+line_view (code.Get object property value) = lines.get object.0 property.now (value_view value.now)
+line_view (code.Dispose object) = lines.dispose object.0
+line_view (code.Final object) = lines.final object.0
 line_view (code.End steps) = lines.end steps

@@ -45,4 +45,4 @@ abbrev pub waiting : Objects → ℕ
 waiting os = total waiting_in os
 
 abbrev pub work : Definition → Config → ℕ
-work d c = total (weight d) c.agenda + waiting c.world.objects
+work d c = total (weight d) c.agenda + waiting c.world.objects + length c.world.floating

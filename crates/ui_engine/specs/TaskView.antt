@@ -45,11 +45,11 @@ abbrev pub build_from : machine.Definition → ℕ → List Forward → List con
 build_from d place forwards = made_items place (drop place d.places) ++ map item_of forwards
 
 abbrev pub task_of : machine.Definition → Task → config.Task
-task_of d (tasks.Setting id slot v) = config.Setting id slot (value_view v)
-task_of d (tasks.Notifying id slot) = config.Notifying id slot
-task_of d (tasks.Emitting id class slot) = config.Emitting (notification id (name_of d class slot)) []
-task_of d (tasks.Thawing id slots) = config.Thawing id slots
-task_of d (tasks.Constructing id steps) = config.Constructing id steps true
+task_of d (tasks.Setting id slot v) = config.Setting id.0 slot (value_view v)
+task_of d (tasks.Notifying id slot) = config.Notifying id.0 slot
+task_of d (tasks.Emitting id class slot) = config.Emitting (notification id.0 (name_of d class slot)) []
+task_of d (tasks.Thawing id slots) = config.Thawing id.0 slots
+task_of d (tasks.Constructing id steps) = config.Constructing id.0 steps true
 task_of d (tasks.Building place forwards) = config.Building (build_from d place forwards)
 task_of d (tasks.Carrying event) = config.Carrying (request_of event)
 

@@ -1,23 +1,24 @@
 -- What the engine's types stand for in the machine.
 use Rattle.std.specs.Prelude.{ℕ, List, [], ◌∷◌, ◌++◌, map, Option, Some, None, option_map, string_bytes}
+use Rattle.ui_machine.specs.declared.ids.ObjectId.{ObjectId}
 use Rattle.ui_machine.specs.State.Config as config
 use Rattle.g_values.specs.View.{value_view}
 use Rattle.ui_engine.specs.declared.world.World.{World}
 
 -- what the builder has of a place, as the machine says it
-abbrev pub held_of : Option ℕ → config.Held
+abbrev pub held_of : Option ObjectId → config.Held
 held_of None = config.unbuilt
-held_of (Some id) = config.built id
+held_of (Some id) = config.built id.0
 
 abbrev pub world_of : World → config.World
 world_of w = record {
-  objects = w.heap;
+  objects = w.table.objects;
   handlers = [];
   last_handler = 0;
   bindings = [];
   sources = [];
   last_source = 0;
-  floating = w.floating.items;
+  floating = w.table.floating;
   builder = map held_of w.builder.items;
   peers = [];
   moment = 0;

@@ -1,11 +1,14 @@
 //! The build: how objects are made, and how their construction goes on and ends.
 
-ghost use Rattle.std.specs.Prelude.{◌≡◌, true, suc, length, nat_eq, not, ◌&&◌, None, Some, option_copied, option_map, cond, [], ◌∷◌, ◌++◌, map, OnOk, OnErr, IfOk};
+ghost use Rattle.std.specs.Prelude.{◌≡◌, true, suc, length, nat_eq, ℕ, not, ◌&&◌, None, Some, option_copied, option_map, cond, [], ◌∷◌, ◌++◌, map, OnOk, OnErr, IfOk};
 ghost use Rattle.std.specs.List.{find};
 ghost use Rattle.ui_machine.specs.Outcome.{Goes};
 ghost use Rattle.ui_machine.specs.Definition.Properties as machine;
 ghost use Rattle.ui_machine.specs.Definition.Lookups.{specs_of, spec_of};
-ghost use Rattle.ui_engine.specs.ObjectView.{made_object};
+ghost use Rattle.instances.specs.Store.{made_object};
+ghost use Rattle.instances.specs.Laws.{Counted};
+ghost use Rattle.ui_machine.specs.State.References.{in_values};
+ghost use Rattle.ui_machine.specs.Definition as definition;
 ghost use Rattle.ui_machine.specs.Seq.{read};
 ghost use Rattle.ui_engine.specs.MakingView.{making_steps, early, construct_set, later_set, early_set, making_of_object};
 ghost use Rattle.ui_machine.specs.Rules.Construction.{with_object, constructed, thawing_made, making, making_set, constructing, is_at_construction, is_forward, no_spec, given_at, set_of, or_default, construct_sets, given_sets};
@@ -17,19 +20,21 @@ ghost use Rattle.param_specs.specs.View.{spec_view};
 ghost use Rattle.builder_defs.specs.Meaning.{given_view, given_property};
 ghost use Rattle.ui_engine.specs.View.{world_of};
 ghost use Rattle.ui_engine.specs.TaskView.{agenda_of, build_from};
+ghost use Rattle.ui_engine.specs.Counting.{KeepsCounts};
 ghost use Rattle.ui_engine.specs.EngineView.{config_of};
 
 use crate::engine::Engine;
+use crate::holding::hold_any;
 use crate::lines::Line;
-use crate::object::Object;
 use crate::task::{Forwards, Making, Makings, Slots, Task};
 use crate::world::{World, hold};
 use builder_defs::{Definition, Given, GivenValue};
 use g_values::Value;
+use instances::{Object, Table};
 use param_specs::Spec;
 use std::alloc::{AllocError, Global};
 use type_tree::TypeId;
-use ui_machine::{Arm, Halt};
+use ui_machine::{Arm, Halt, ObjectId};
 
 // The type under which objects begin floating.
 const INITIALLY_UNOWNED: u16 = 1;
@@ -37,19 +42,21 @@ const INITIALLY_UNOWNED: u16 = 1;
 impl Engine {
     // A construction ends: the builder holds the object, which no longer floats.
     #[tactic(auto, unfolding(ui_machine::specs::Rules::Construction::constructed))]
-    fn constructed(&mut self, definition: &Definition, object: u64) -> Result<(), Halt>
+    fn constructed(&mut self, definition: &Definition, object: ObjectId) -> Result<(), Halt>
         ensures step { Goes result
-            (uncounted (agenda_of definition.now self.old.stack) self.old.counted (constructed (world_of self.old.world) object true))
+            (uncounted (agenda_of definition.now self.old.stack) self.old.counted (constructed (world_of self.old.world) object.0 true))
             (config_of definition.now self.new) }
         ensures quiet { OnErr result ((world_of self.new.world).transcript ≡ (world_of self.old.world).transcript) }
+        ensures counted { OnOk result (KeepsCounts definition.now self.old self.new) }
     {
         let _ = definition;
-        let place = self.world.heap.place_of(object)?;
+        let place = self.world.table.place_of(object)?;
         if self.world.built(place).is_some() {
             return Err(Halt::Stuck(Arm::Code));
         }
         hold(&mut self.world.builder, place, object)?;
-        self.world.floating.retain(|id| *id != object);
+        hold_any(&mut self.world.table, Some(object))?;
+        self.world.table.sink(object);
         Ok(())
     }
 
@@ -58,18 +65,19 @@ impl Engine {
     fn thawing_made(
         &mut self,
         definition: &Definition,
-        object: u64,
+        object: ObjectId,
         steps: Makings,
     ) -> Result<(), Halt>
         ensures step { Goes result
-            (uncounted (agenda_of definition.now self.old.stack) self.old.counted (thawing_made (world_of self.old.world) object steps true))
+            (uncounted (agenda_of definition.now self.old.stack) self.old.counted (thawing_made (world_of self.old.world) object.0 steps true))
             (config_of definition.now self.new) }
         ensures quiet { OnErr result ((world_of self.new.world).transcript ≡ (world_of self.old.world).transcript) }
+        ensures counted { OnOk result (KeepsCounts definition.now self.old self.new) }
     {
         let _ = definition;
-        let slots = self.world.heap.thaw(object)?;
-        self.stack.push(Task::Constructing { object, steps })?;
-        self.stack.push(Task::Thawing {
+        let slots = self.world.table.thaw(object)?;
+        self.push(Task::Constructing { object, steps })?;
+        self.push(Task::Thawing {
             object,
             slots: Slots::new(slots),
         })?;
@@ -81,22 +89,23 @@ impl Engine {
     fn making_set(
         &mut self,
         definition: &Definition,
-        object: u64,
+        object: ObjectId,
         slot: u16,
         value: Value,
         steps: Makings,
     ) -> Result<(), Halt>
         ensures step { Goes result
-            (uncounted (agenda_of definition.now self.old.stack) self.old.counted (making_set definition.now (world_of self.old.world) object slot (value_view value) (Constructing object steps true ∷ [])))
+            (uncounted (agenda_of definition.now self.old.stack) self.old.counted (making_set definition.now (world_of self.old.world) object.0 slot (value_view value) (Constructing object.0 steps true ∷ [])))
             (config_of definition.now self.new) }
         ensures quiet { OnErr result ((world_of self.new.world).transcript ≡ (world_of self.old.world).transcript) }
+        ensures counted { OnOk result (KeepsCounts definition.now self.old self.new) }
     {
         let spec = self.spec_of(definition, object, slot)?;
         if !spec.is_writable() {
             return Err(Halt::Stuck(Arm::Flags));
         }
-        self.stack.push(Task::Constructing { object, steps })?;
-        self.stack.push(Task::Setting {
+        self.push(Task::Constructing { object, steps })?;
+        self.push(Task::Setting {
             object,
             slot,
             value,
@@ -108,13 +117,14 @@ impl Engine {
     pub(crate) fn constructing(
         &mut self,
         definition: &Definition,
-        object: u64,
+        object: ObjectId,
         mut steps: Makings,
     ) -> Result<(), Halt>
         ensures step { Goes result
-            (uncounted (agenda_of definition.now self.old.stack) self.old.counted (constructing definition.now (world_of self.old.world) object steps true))
+            (uncounted (agenda_of definition.now self.old.stack) self.old.counted (constructing definition.now (world_of self.old.world) object.0 steps true))
             (config_of definition.now self.new) }
         ensures quiet { OnErr result ((world_of self.new.world).transcript ≡ (world_of self.old.world).transcript) }
+        ensures counted { OnOk result (KeepsCounts definition.now self.old self.new) }
     {
         let Some(step) = steps.take() else {
             return self.constructed(definition, object);
@@ -138,18 +148,22 @@ impl Engine {
         class: TypeId,
         place: usize,
         values: Vec<Value>,
-    ) -> Result<u64, AllocError>
-        ensures world { OnOk result (world_of self.new.world ≡ with_object definition.now (world_of self.old.world) (made_object class place (map value_view values.items))) }
-        ensures identity { IfOk result (λ id. id ≡ suc (length (world_of self.old.world).objects)) }
+    ) -> Result<ObjectId, AllocError>
+        ensures world { OnOk result (world_of self.new.world ≡ with_object definition.now (world_of self.old.world) (made_object class place (map value_view values.items) None)) }
+        ensures identity { IfOk result (λ id. id.0 ≡ suc (length (world_of self.old.world).objects)) }
         ensures quiet { (world_of self.new.world).transcript ≡ (world_of self.old.world).transcript }
+        ensures counted { ((o : ℕ) → in_values o (specs_of definition.now class) (map value_view values.items) ≡ 0) → OnOk result (KeepsCounts definition.now self.old self.new) }
         ensures same { (self.new.stack ≡ self.old.stack) × (self.new.counted ≡ self.old.counted) }
     {
         let floats = definition
             .types()
             .is_a(class, TypeId::new(INITIALLY_UNOWNED));
-        let object = Object::new(self.alloc, class, place, values);
-        let id = self.world.heap.create(object)?;
-        float(&mut self.world.floating, id, floats)?;
+        let object = Object::new(self.alloc, class, place, values, None);
+        // No definition has more objects than may live, so that what is wanting is memory.
+        let Ok(id) = self.world.table.create(object) else {
+            return Err(AllocError);
+        };
+        float(&mut self.world.table, id, floats)?;
         Ok(id)
     }
 
@@ -160,6 +174,7 @@ impl Engine {
             (uncounted (agenda_of definition.now self.old.stack) self.old.counted (making definition.now (world_of self.old.world) place None true))
             (config_of definition.now self.new) }
         ensures quiet { OnErr result ((world_of self.new.world).transcript ≡ (world_of self.old.world).transcript) }
+        ensures counted { OnOk result (KeepsCounts definition.now self.old self.new) }
     {
         let types = definition.types();
         let Some(entry) = definition.object(place) else {
@@ -182,7 +197,7 @@ impl Engine {
             class: definition.class_name(class),
         };
         let line = told.text(self.alloc, types)?;
-        self.stack.push(Task::Constructing { object, steps })?;
+        self.push(Task::Constructing { object, steps })?;
         self.world.say(line)?;
         Ok(())
     }
@@ -199,12 +214,13 @@ impl Engine {
             (uncounted (agenda_of definition.now self.old.stack) self.old.counted (building definition.now (world_of self.old.world) (build_from definition.now place forwards)))
             (config_of definition.now self.new) }
         ensures quiet { OnErr result ((world_of self.new.world).transcript ≡ (world_of self.old.world).transcript) }
+        ensures counted { OnOk result (KeepsCounts definition.now self.old self.new) }
     {
         let _types = definition.types();
         if place >= definition.object_count() {
             return self.forwarding(definition, place, forwards);
         }
-        self.stack.push(Task::Building {
+        self.push(Task::Building {
             place: place + 1,
             forwards,
         })?;
@@ -213,12 +229,18 @@ impl Engine {
 }
 
 // A new object floats or not.
-fn float(floating: &mut Vec<u64>, id: u64, floats: bool) -> Result<(), AllocError>
-    ensures { OnOk result (floating.new.items ≡ cond floats (floating.old.items ++ id ∷ []) floating.old.items) }
+fn float(table: &mut Table, id: ObjectId, floats: bool) -> Result<(), AllocError>
+    ensures counted { OnOk result ((d : definition.Definition) (beside : ℕ → ℕ) → Counted d beside table.old → Counted d beside table.new) }
+    ensures objects { OnOk result (table.new.objects ≡ table.old.objects) }
+    ensures floating { OnOk result (table.new.floating ≡ cond floats (table.old.floating ++ id.0 ∷ []) table.old.floating) }
 {
-    if floats {
-        floating.push(id)?;
+    if !floats {
+        return Ok(());
     }
+    if !table.can_hold(id) {
+        return Err(AllocError);
+    }
+    table.float(id)?;
     Ok(())
 }
 

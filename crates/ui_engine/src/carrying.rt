@@ -1,12 +1,13 @@
 //! What events do.
 
-ghost use Rattle.std.specs.Prelude.{◌≡◌, OnErr};
+ghost use Rattle.std.specs.Prelude.{◌≡◌, OnOk, OnErr};
 ghost use Rattle.ui_machine.specs.Outcome.{Goes};
 ghost use Rattle.ui_machine.specs.Steps.{uncounted};
 ghost use Rattle.ui_machine.specs.Rules.Events.{carrying, carrying_set, carrying_get};
 ghost use Rattle.builder_defs.specs.Meaning.{given_view, request_of};
 ghost use Rattle.ui_engine.specs.View.{world_of};
 ghost use Rattle.ui_engine.specs.TaskView.{agenda_of};
+ghost use Rattle.ui_engine.specs.Counting.{KeepsCounts};
 ghost use Rattle.ui_engine.specs.EngineView.{config_of};
 
 use crate::engine::Engine;
@@ -29,10 +30,11 @@ impl Engine {
             (uncounted (agenda_of definition.now self.old.stack) self.old.counted (carrying_set definition.now (world_of self.old.world) place.0 slot (given_view given)))
             (config_of definition.now self.new) }
         ensures quiet { OnErr result ((world_of self.new.world).transcript ≡ (world_of self.old.world).transcript) }
+        ensures counted { OnOk result (KeepsCounts definition.now self.old self.new) }
     {
         let object = self.settable(definition, usize::from(place.0), slot)?;
         let value = self.operand(given)?;
-        self.stack.push(Task::Setting {
+        self.push(Task::Setting {
             object,
             slot,
             value,
@@ -47,10 +49,11 @@ impl Engine {
             (uncounted (agenda_of definition.now self.old.stack) self.old.counted (carrying_get definition.now (world_of self.old.world) place.0 slot))
             (config_of definition.now self.new) }
         ensures quiet { OnErr result ((world_of self.new.world).transcript ≡ (world_of self.old.world).transcript) }
+        ensures counted { OnOk result (KeepsCounts definition.now self.old self.new) }
     {
         let object = self.held(usize::from(place.0))?;
         let spec = self.spec_of(definition, object, slot)?;
-        let value = self.world.heap.value(object, slot)?;
+        let value = self.world.table.read(object, slot)?;
         if !spec.is_readable() {
             return Err(Halt::Stuck(Arm::Flags));
         }
@@ -72,6 +75,7 @@ impl Engine {
             (uncounted (agenda_of definition.now self.old.stack) self.old.counted (carrying definition.now (world_of self.old.world) (request_of event)))
             (config_of definition.now self.new) }
         ensures quiet { OnErr result ((world_of self.new.world).transcript ≡ (world_of self.old.world).transcript) }
+        ensures counted { OnOk result (KeepsCounts definition.now self.old self.new) }
     {
         match event {
             Event::Set { place, slot, given } => self.carrying_set(definition, place, slot, given),

@@ -5,19 +5,19 @@ ghost use Rattle.g_values.specs.View.{value_view};
 ghost use Rattle.ui_machine.specs.Definition as machine;
 ghost use Rattle.ui_machine.specs.Runs.{beginning, first_world};
 ghost use Rattle.ui_engine.specs.View.{world_of};
-ghost use Rattle.ui_engine.specs.TaskView.{task_of};
+ghost use Rattle.ui_engine.specs.TaskView.{task_of, agenda_of};
 ghost use Rattle.ui_engine.specs.EngineView.{config_of};
 ghost use Rattle.ui_machine.specs.Prefix.{IsPrefix};
-ghost use Rattle.ui_engine.specs.Holding.{IsHeld};
-ghost use Rattle.ui_engine.specs.Stepping.{Carried};
+ghost use Rattle.ui_engine.specs.Counting.{KeepsCounts};
+ghost use Rattle.ui_engine.specs.Stepping.{Carried, IsAtRest};
 
 use crate::engine::Engine;
-use crate::heap::Heap;
 use crate::lines::Line;
 use crate::task::{Stack, Task};
 use crate::world::World;
 use builder_defs::Definition;
 use g_values::Value;
+use instances::{Table, WeakSlots};
 use std::alloc::{AllocError, Global};
 use ui_machine::Halt;
 
@@ -34,14 +34,17 @@ pub struct Reply {
 
 impl Engine {
     /// Nothing is built yet, and there is nothing to do.
-    pub fn new(alloc: Global) -> Self
-        ensures { (d : machine.Definition) → world_of result.world ≡ first_world d [] }
+    pub fn new(alloc: Global, weak: WeakSlots, limit: u32) -> Self
+        ensures world { (d : machine.Definition) → world_of result.world ≡ first_world d [] }
+        ensures counts { result.world.table.counts ≡ [] }
+        ensures marks { result.world.weak ≡ weak }
+        ensures idle { (d : machine.Definition) → agenda_of d result.stack ≡ [] }
     {
         Engine {
             world: World {
-                heap: Heap::new(alloc),
+                table: Table::new(alloc, limit),
+                weak,
                 builder: Vec::new(alloc),
-                floating: Vec::new(alloc),
                 transcript: Vec::new(alloc),
                 result: None,
             },
@@ -53,6 +56,8 @@ impl Engine {
 
     // The task is all there is to do, and nothing of its dispatch is counted yet.
     fn begin(&mut self, definition: &Definition, task: Task) -> Result<(), AllocError>
+        requires idle { agenda_of definition.now self.now.stack ≡ [] }
+        ensures counted { OnOk result (KeepsCounts definition.now self.old self.new) }
         ensures ok { OnOk result (config_of definition.now self.new ≡ beginning (world_of self.old.world) (task_of definition.now task)) }
         ensures err { OnErr result ((world_of self.new.world).transcript ≡ (world_of self.old.world).transcript) }
     {
@@ -60,13 +65,14 @@ impl Engine {
         self.world.result = None;
         self.counted = 0;
         self.stack.clear();
-        self.stack.push(task)?;
+        self.push(task)?;
         Ok(())
     }
 
     /// The line with which the build begins.
     pub fn announce(&mut self) -> Result<(), AllocError>
-        ensures { OnOk result (world_of self.new.world ≡ record (world_of self.old.world) { transcript = (world_of self.old.world).transcript ++ codes "build" ∷ [] }) }
+        ensures line { OnOk result (world_of self.new.world ≡ record (world_of self.old.world) { transcript = (world_of self.old.world).transcript ++ codes "build" ∷ [] }) }
+        ensures beside { self.new ≡ record self.old { world = record self.old.world { transcript = self.new.world.transcript } } }
     {
         let line = String::from_str(self.alloc, "build")?;
         self.world.say(line)
@@ -74,7 +80,8 @@ impl Engine {
 
     /// Carries out a task with all that it leads to, and tells of its end.
     pub(crate) fn dispatch(&mut self, definition: &Definition, task: Task) -> Result<Reply, Halt>
-        requires held { IsHeld (world_of self.now.world) [] }
+        requires rests { IsAtRest definition.now self.now }
+        ensures rests { OnOk result (IsAtRest definition.now self.new) }
         ensures carried { Carried result definition.now (beginning (world_of self.old.world) (task_of definition.now task)) (world_of self.new.world) }
         ensures grows { IsPrefix (world_of self.old.world).transcript (world_of self.new.world).transcript }
     {

@@ -8,6 +8,7 @@ ghost use Rattle.ui_machine.specs.Steps.{uncounted};
 ghost use Rattle.builder_defs.specs.Meaning.{given_property};
 ghost use Rattle.ui_engine.specs.View.{world_of};
 ghost use Rattle.ui_engine.specs.TaskView.{agenda_of, item_of, items_of, forwards_at, build_from};
+ghost use Rattle.ui_engine.specs.Counting.{KeepsCounts};
 ghost use Rattle.ui_engine.specs.EngineView.{config_of};
 
 use crate::engine::Engine;
@@ -96,14 +97,15 @@ impl Engine {
             (uncounted (agenda_of definition.now self.old.stack) self.old.counted (building definition.now (world_of self.old.world) (map item_of forwards)))
             (config_of definition.now self.new) }
         ensures quiet { OnErr result ((world_of self.new.world).transcript ≡ (world_of self.old.world).transcript) }
+        ensures counted { OnOk result (KeepsCounts definition.now self.old self.new) }
     {
         let Some(forward) = forwards.take() else {
             return Ok(());
         };
         let object = self.settable(definition, forward.object, forward.slot)?;
         let value = self.held_value(usize::from(forward.to.0))?;
-        self.stack.push(Task::Building { place, forwards })?;
-        self.stack.push(Task::Setting {
+        self.push(Task::Building { place, forwards })?;
+        self.push(Task::Setting {
             object,
             slot: forward.slot,
             value,

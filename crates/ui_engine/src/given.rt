@@ -8,7 +8,8 @@ ghost use Rattle.ui_machine.specs.Rules.Build.{held_object};
 ghost use Rattle.ui_machine.specs.Rules.Construction.{given_value};
 ghost use Rattle.g_values.specs.View.{value_view};
 ghost use Rattle.builder_defs.specs.Meaning.{given_view};
-ghost use Rattle.ui_engine.specs.ObjectView.{Shows};
+ghost use Rattle.instances.specs.Store.{Shows};
+ghost use Rattle.ui_machine.specs.declared.ids.ObjectId.{ObjectId};
 ghost use Rattle.ui_engine.specs.GivenView.{held_value, settable_at};
 ghost use Rattle.ui_engine.specs.View.{world_of};
 
@@ -24,10 +25,10 @@ use ui_machine::{Arm, ObjectId};
 const G_OBJECT: u16 = 0;
 
 // An object as a value.
-fn object_value(object: u64) -> Value
-    ensures { value_view result ≡ values.object (Some object) }
+fn object_value(object: ObjectId) -> Value
+    ensures { value_view result ≡ values.object (Some object.0) }
 {
-    Value::Object(TypeId::new(G_OBJECT), Some(ObjectId(object)))
+    Value::Object(TypeId::new(G_OBJECT), Some(object))
 }
 
 impl World {
@@ -44,8 +45,8 @@ impl World {
 
 impl Engine {
     // The object that the builder has of a place.
-    pub(crate) fn held(&self, place: usize) -> Result<u64, Arm>
-        ensures { Shows (λ id. id) result (held_object (world_of self.now.world) place) }
+    pub(crate) fn held(&self, place: usize) -> Result<ObjectId, Arm>
+        ensures { Shows (λ (id : ObjectId). id.0) result (held_object (world_of self.now.world) place) }
     {
         self.world.built(place).ok_or(Arm::Operand)
     }
@@ -74,8 +75,8 @@ impl Engine {
         definition: &Definition,
         place: usize,
         slot: u16,
-    ) -> Result<u64, Arm>
-        ensures { Shows (λ id. id) result (settable_at definition.now (world_of self.now.world) place slot) }
+    ) -> Result<ObjectId, Arm>
+        ensures { Shows (λ (id : ObjectId). id.0) result (settable_at definition.now (world_of self.now.world) place slot) }
     {
         let object = self.held(place)?;
         let spec = self.spec_of(definition, object, slot)?;

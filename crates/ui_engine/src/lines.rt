@@ -20,31 +20,39 @@ pub enum Line<'a> {
     Build,
     /// An object is made.
     Construct {
-        object: u64,
+        object: ObjectId,
         class: &'a str,
     },
     /// A property is written.
     Set {
-        object: u64,
+        object: ObjectId,
         property: &'a str,
         value: &'a Value,
     },
     /// A value is not taken by its property.
     Refused {
-        object: u64,
+        object: ObjectId,
         property: &'a str,
         value: &'a Value,
     },
     /// A notification begins.
     Notify {
-        object: u64,
+        object: ObjectId,
         property: &'a str,
     },
     /// A property is read.
     Get {
-        object: u64,
+        object: ObjectId,
         property: &'a str,
         value: &'a Value,
+    },
+    /// An object is disposed, for the first time.
+    Dispose {
+        object: ObjectId,
+    },
+    /// An object is taken out.
+    Final {
+        object: ObjectId,
     },
     /// A dispatch ends, after so many counted steps.
     End {
@@ -64,23 +72,25 @@ impl Line<'_> {
     {
         match self {
             Line::Build => String::from_str(alloc, "build"),
-            Line::Construct { object, class } => construct_line(alloc, object, class),
+            Line::Construct { object, class } => construct_line(alloc, object.0, class),
             Line::Set {
                 object,
                 property,
                 value,
-            } => value_line(alloc, types, "set #", object, property, value),
+            } => value_line(alloc, types, "set #", object.0, property, value),
             Line::Refused {
                 object,
                 property,
                 value,
-            } => value_line(alloc, types, "refused #", object, property, value),
-            Line::Notify { object, property } => notify_line(alloc, object, property),
+            } => value_line(alloc, types, "refused #", object.0, property, value),
+            Line::Notify { object, property } => notify_line(alloc, object.0, property),
             Line::Get {
                 object,
                 property,
                 value,
-            } => value_line(alloc, types, "get #", object, property, value),
+            } => value_line(alloc, types, "get #", object.0, property, value),
+            Line::Dispose { object } => object_line(alloc, "dispose #", object.0),
+            Line::Final { object } => object_line(alloc, "final #", object.0),
             Line::End { steps } => end_line(alloc, steps),
         }
     }
@@ -101,6 +111,15 @@ fn notify_line(alloc: Global, object: u64, property: &str) -> Result<String, All
 {
     let mut line = String::with_capacity(alloc, room(property))?;
     write!(line, "notify #{object}.{property}")?;
+    Ok(line)
+}
+
+// `dispose #1`, or with another word in front
+fn object_line(alloc: Global, word: &str, object: u64) -> Result<String, AllocError>
+    ensures { IfOk result (λ line. string_bytes line ≡ word.now ++ decimal object) }
+{
+    let mut line = String::with_capacity(alloc, room(word))?;
+    write!(line, "{word}{object}")?;
     Ok(line)
 }
 

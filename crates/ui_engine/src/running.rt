@@ -1,10 +1,11 @@
 //! What each task does, as the machine's.
 
-ghost use Rattle.std.specs.Prelude.{◌≡◌, ◌∷◌, OnErr, IfOk};
+ghost use Rattle.std.specs.Prelude.{◌≡◌, ◌∷◌, OnOk, OnErr, IfOk};
 ghost use Rattle.ui_machine.specs.Outcome.{Goes};
 ghost use Rattle.ui_machine.specs.Steps.{act};
 ghost use Rattle.ui_engine.specs.View.{world_of};
 ghost use Rattle.ui_engine.specs.TaskView.{task_of, agenda_of};
+ghost use Rattle.ui_engine.specs.Counting.{KeepsCounts};
 ghost use Rattle.ui_engine.specs.EngineView.{config_of, IsMade};
 
 use crate::engine::{Engine, Made};
@@ -19,6 +20,7 @@ impl Engine {
             (act definition.now (world_of self.old.world) None (task_of definition.now task ∷ agenda_of definition.now self.old.stack) self.old.counted)
             (config_of definition.now self.new) }
         ensures quiet { OnErr result ((world_of self.new.world).transcript ≡ (world_of self.old.world).transcript) }
+        ensures counted { OnOk result (KeepsCounts definition.now self.old self.new) }
         ensures made { IfOk result (λ made. IsMade made definition.now task) }
     {
         match task {

@@ -11,6 +11,7 @@ use crate::dispatches::Reply;
 use crate::engine::Engine;
 use crate::forwards::forwards;
 use crate::task::Task;
+use crate::weak_slots::weak_slots;
 use builder_defs::{Definition, Event};
 use std::alloc::Global;
 use std::marker::Model;
@@ -54,13 +55,13 @@ impl Model for Session {
     ghost use Rattle.ui_engine.specs.TaskView.{task_of};
     ghost use Rattle.ui_engine.specs.SessionView.{SessionState};
     ghost use Rattle.ui_engine.specs.View.{world_of};
-    ghost use Rattle.ui_engine.specs.Holding.{IsHeld};
+    ghost use Rattle.ui_engine.specs.Stepping.{IsAtRest};
 
     ghost Value = { SessionState };
 
     ghost view = { λ s. record { definition = s.definition; world = world_of s.engine.world; stopped = s.stopped } };
 
-    ghost invariant = { λ s. s.stopped ≡ false → IsHeld (world_of s.engine.world) [] };
+    ghost invariant = { λ s. s.stopped ≡ false → IsAtRest s.definition s.engine };
 }
 
 /// A session whose definition was built, or whose build stopped it.
@@ -97,7 +98,13 @@ impl Session {
         ensures refused { IfErr result (λ refused. refused.definition ≡ definition) }
     {
         let _types = definition.types();
-        let mut engine = Engine::new(alloc);
+        let Ok(weak) = weak_slots(alloc, &definition) else {
+            return Err(Refused {
+                fault: StartFault::OutOfMemory,
+                definition,
+            });
+        };
+        let mut engine = Engine::new(alloc, weak, definition.limits().objects);
         let Ok(()) = engine.announce() else {
             return Err(Refused {
                 fault: StartFault::OutOfMemory,

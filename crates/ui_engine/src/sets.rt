@@ -1,31 +1,34 @@
 //! Sets of properties, and the notifications that they raise.
 
 ghost use Rattle.std.specs.Prelude.{◌≡◌, ◌&&◌, not, string_bytes, OnOk, OnErr, IfOk};
-ghost use Rattle.ui_machine.specs.Outcome.{Goes, only_if};
-ghost use Rattle.ui_machine.specs.Rules.Sets.{setting, written, raising_if, notifies, spec_at, has_kind, lives, unless_disposed};
-ghost use Rattle.ui_machine.specs.State.Objects.{class_in};
+ghost use Rattle.ui_machine.specs.Outcome.{Goes, Follows, only_if};
+ghost use Rattle.ui_machine.specs.Rules.Sets.{setting, kept, written, raising_if, notifies, spec_at, has_kind, lives, unless_disposed};
+ghost use Rattle.ui_machine.specs.State.Objects.{class_in, changed, with_value};
 ghost use Rattle.ui_machine.specs.declared.arm.Arm.TheVariants as arms;
 ghost use Rattle.param_specs.specs.Validation.{KnowsClass};
 ghost use Rattle.ui_machine.specs.Definition.Properties.{is_lax};
-ghost use Rattle.ui_machine.specs.State.Config.{said};
+ghost use Rattle.ui_machine.specs.State.Config.{said, with_objects};
 ghost use Rattle.ui_machine.specs.Output.Lines as lines;
 ghost use Rattle.ui_machine.specs.Steps.{uncounted};
 ghost use Rattle.g_values.specs.View.{kind_view, value_view};
 ghost use Rattle.param_specs.specs.View.{spec_view};
 ghost use Rattle.builder_defs.specs.Meaning.{IsPlain};
 ghost use Rattle.ui_engine.specs.View.{world_of, with_line};
-ghost use Rattle.ui_engine.specs.ObjectView.{Shows, named_in};
+ghost use Rattle.instances.specs.Store.{Shows, id_of, named_by};
 ghost use Rattle.ui_engine.specs.TaskView.{agenda_of};
+ghost use Rattle.ui_engine.specs.Counting.{KeepsCounts};
 ghost use Rattle.ui_engine.specs.EngineView.{config_of};
 
 use crate::engine::Engine;
-use crate::heap::Heap;
+use crate::holding::can_hold_named;
 use crate::lines::Line;
 use crate::task::Task;
 use builder_defs::Definition;
 use g_values::{Kind, Value, is_same};
+use instances::Table;
 use param_specs::{Spec, validate};
 use std::alloc::AllocError;
+use type_tree::TypeId;
 use ui_machine::{Arm, Halt, ObjectId};
 
 // Whether a value is one of the kind, its members, range and class left aside.
@@ -61,28 +64,61 @@ fn refuses(spec: &Spec, is_changed: bool) -> bool
 }
 
 // The object that a value names, if it names one.
-fn named(value: &Value) -> Option<u64>
-    ensures { result ≡ named_in (value_view value.now) }
+fn named(value: &Value) -> Option<ObjectId>
+    ensures { id_of result ≡ named_by (value_view value.now) }
 {
     match value {
-        Value::Object(_, Some(id)) => Some(id.0),
+        Value::Object(_, id) => *id,
         _ => None,
     }
 }
 
+// The class of an object, if it lives.
+fn living_class(table: &Table, id: ObjectId) -> Option<TypeId>
+    ensures { result ≡ class_in table.now.objects id.0 }
+{
+    match table.class_of(id) {
+        Ok(class) => Some(class),
+        Err(_) => None,
+    }
+}
+
 // A value by the class of the object that it names, which must live.
-fn classed(heap: &Heap, value: Value) -> Result<Value, Arm>
-    ensures value { Shows value_view result (only_if (lives heap.now (value_view value)) arms.Value (Ok (value_view value))) }
-    ensures class { IfOk result (λ v. KnowsClass (class_in heap.now) v) }
-    ensures stands { IfOk result (λ v. unless_disposed heap.now (value_view v) ≡ value_view v) }
+fn classed(table: &Table, value: Value) -> Result<Value, Arm>
+    ensures value { Shows value_view result (only_if (lives table.now.objects (value_view value)) arms.Value (Ok (value_view value))) }
+    ensures class { IfOk result (λ v. KnowsClass (class_in table.now.objects) v) }
 {
     let Some(id) = named(&value) else {
         return Ok(value);
     };
-    let Some(class) = heap.living_class(id) else {
+    let Some(class) = living_class(table, id) else {
         return Err(Arm::Value);
     };
-    Ok(Value::Object(class, Some(ObjectId(id))))
+    Ok(Value::Object(class, Some(id)))
+}
+
+// Null in place of a disposed object.
+fn unless_disposed(table: &Table, value: Value) -> Value
+    ensures { value_view result ≡ unless_disposed table.now.objects (value_view value) }
+{
+    let Value::Object(class, Some(id)) = &value else {
+        return value;
+    };
+    let (class, id) = (*class, *id);
+    if table.is_disposed(id) {
+        return Value::Object(class, None);
+    }
+    value
+}
+
+// The value that is written: a weak property takes no disposed object.
+fn kept(table: &Table, spec: &Spec, value: Value) -> Value
+    ensures { value_view result ≡ kept table.now.objects (spec_view spec.now) (value_view value) }
+{
+    if !spec.weak {
+        return value;
+    }
+    unless_disposed(table, value)
 }
 
 impl Engine {
@@ -91,14 +127,14 @@ impl Engine {
     pub(crate) fn spec_of<'a>(
         &self,
         definition: &'a Definition,
-        object: u64,
+        object: ObjectId,
         slot: u16,
     ) -> Result<&'a Spec, Arm>
-        ensures spec { Shows (λ s. spec_view s.now) result (spec_at definition.now (world_of self.now.world).objects object slot) }
+        ensures spec { Shows (λ s. spec_view s.now) result (spec_at definition.now (world_of self.now.world).objects object.0 slot) }
         ensures plain { IfOk result (λ s. IsPlain definition.now.types (spec_view s.now)) }
     {
         let _types = definition.types();
-        let class = self.world.heap.class_of(object)?;
+        let class = self.world.table.class_of(object)?;
         let Some(spec) = definition.spec(class, slot) else {
             return Err(Arm::Code);
         };
@@ -110,23 +146,24 @@ impl Engine {
     fn say_and_raise(
         &mut self,
         definition: &Definition,
-        object: u64,
+        object: ObjectId,
         slot: u16,
         line: String,
         is_told: bool,
     ) -> Result<(), Halt>
         ensures step { Goes result
-            (uncounted (agenda_of definition.now self.old.stack) self.old.counted (raising_if is_told (with_line (string_bytes line) (world_of self.old.world)) object slot))
+            (uncounted (agenda_of definition.now self.old.stack) self.old.counted (raising_if is_told (with_line (string_bytes line) (world_of self.old.world)) object.0 slot))
             (config_of definition.now self.new) }
         ensures quiet { OnErr result ((world_of self.new.world).transcript ≡ (world_of self.old.world).transcript) }
+        ensures counted { OnOk result (KeepsCounts definition.now self.old self.new) }
     {
         let _ = definition;
         if !is_told {
             self.world.say(line)?;
             return Ok(());
         }
-        if self.world.heap.raise(object, slot)? {
-            self.stack.push(Task::Notifying { object, slot })?;
+        if self.world.table.add(object, slot)? {
+            self.push(Task::Notifying { object, slot })?;
             self.world.say(line)?;
             return Ok(());
         }
@@ -134,20 +171,45 @@ impl Engine {
         Ok(())
     }
 
+    // Writes a property, and answers what it was.
+    fn write(
+        &mut self,
+        definition: &Definition,
+        object: ObjectId,
+        slot: u16,
+        value: Value,
+    ) -> Result<Value, Halt>
+        ensures changes { Follows value_view result (changed (world_of self.old.world).objects object.0 (with_value slot (value_view value))) (world_of self.new.world).objects }
+        ensures world { world_of self.new.world ≡ with_objects (world_of self.old.world) (world_of self.new.world).objects }
+        ensures same { (self.new.stack ≡ self.old.stack) × (self.new.counted ≡ self.old.counted) }
+        ensures counted { OnOk result (KeepsCounts definition.now self.old self.new) }
+    {
+        let _ = definition;
+        if !can_hold_named(&self.world.table, &value) {
+            return Err(Halt::OutOfMemory);
+        }
+        let old = self
+            .world
+            .table
+            .write(&self.world.weak, object, slot, value)?;
+        Ok(old)
+    }
+
     // Writes a value and tells of it, and raises the notification.
     #[tactic(auto, unfolding(ui_machine::specs::Rules::Sets::written))]
     fn put(
         &mut self,
         definition: &Definition,
-        object: u64,
+        object: ObjectId,
         slot: u16,
         spec: &Spec,
         value: Value,
     ) -> Result<(), Halt>
         ensures step { Goes result
-            (uncounted (agenda_of definition.now self.old.stack) self.old.counted (written definition.now (world_of self.old.world) object slot (spec_view spec.now) (value_view value)))
+            (uncounted (agenda_of definition.now self.old.stack) self.old.counted (written definition.now (world_of self.old.world) object.0 slot (spec_view spec.now) (value_view value)))
             (config_of definition.now self.new) }
         ensures quiet { OnErr result ((world_of self.new.world).transcript ≡ (world_of self.old.world).transcript) }
+        ensures counted { OnOk result (KeepsCounts definition.now self.old self.new) }
     {
         let told = Line::Set {
             object,
@@ -155,7 +217,7 @@ impl Engine {
             value: &value,
         };
         let line = told.text(self.alloc, definition.types())?;
-        let old = self.world.heap.write(object, slot, value.copied()?)?;
+        let old = self.write(definition, object, slot, value.copied()?)?;
         let is_told = notifies(spec, &old, &value);
         self.say_and_raise(definition, object, slot, line, is_told)
     }
@@ -164,12 +226,13 @@ impl Engine {
     pub(crate) fn refuse(
         &mut self,
         definition: &Definition,
-        object: u64,
+        object: ObjectId,
         name: &str,
         value: &Value,
     ) -> Result<(), AllocError>
-        ensures ok { OnOk result (world_of self.new.world ≡ said definition.now (world_of self.old.world) (lines.refused object name.now (value_view value.now))) }
+        ensures ok { OnOk result (world_of self.new.world ≡ said definition.now (world_of self.old.world) (lines.refused object.0 name.now (value_view value.now))) }
         ensures err { OnErr result (world_of self.new.world ≡ world_of self.old.world) }
+        ensures counted { OnOk result (KeepsCounts definition.now self.old self.new) }
         ensures same { (self.new.stack ≡ self.old.stack) × (self.new.counted ≡ self.old.counted) }
     {
         let told = Line::Refused {
@@ -186,27 +249,29 @@ impl Engine {
     pub(crate) fn setting(
         &mut self,
         definition: &Definition,
-        object: u64,
+        object: ObjectId,
         slot: u16,
         value: Value,
     ) -> Result<(), Halt>
         ensures step { Goes result
-            (uncounted (agenda_of definition.now self.old.stack) self.old.counted (setting definition.now (world_of self.old.world) object slot (value_view value)))
+            (uncounted (agenda_of definition.now self.old.stack) self.old.counted (setting definition.now (world_of self.old.world) object.0 slot (value_view value)))
             (config_of definition.now self.new) }
         ensures quiet { OnErr result ((world_of self.new.world).transcript ≡ (world_of self.old.world).transcript) }
+        ensures counted { OnOk result (KeepsCounts definition.now self.old self.new) }
     {
         let spec = self.spec_of(definition, object, slot)?;
         if !has_kind(&value, spec.kind) {
             return Err(Halt::Stuck(Arm::Value));
         }
-        let known = classed(&self.world.heap, value)?;
+        let known = classed(&self.world.table, value)?;
         let original = known.copied()?;
         let (valid, is_changed) = validate(definition.types(), spec, known);
         if refuses(spec, is_changed) {
             self.refuse(definition, object, spec.name.as_str(), &original)?;
             return Ok(());
         }
-        self.put(definition, object, slot, spec, valid)?;
+        let kept = kept(&self.world.table, spec, valid);
+        self.put(definition, object, slot, spec, kept)?;
         Ok(())
     }
 }

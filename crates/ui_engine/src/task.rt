@@ -10,7 +10,7 @@ use g_values::Value;
 use std::alloc::{AllocError, Global};
 use std::marker::Model;
 use type_tree::TypeId;
-use ui_machine::Place;
+use ui_machine::{ObjectId, Place};
 
 /// The notifications that are left of a thaw. They are kept the other way round: the last is made first.
 #[derive(Drop)]
@@ -126,29 +126,29 @@ impl Forwards {
 pub enum Task {
     /// A set is due.
     Setting {
-        object: u64,
+        object: ObjectId,
         slot: u16,
         value: Value,
     },
     /// A notification is to begin.
     Notifying {
-        object: u64,
+        object: ObjectId,
         slot: u16,
     },
     /// The rest of a notification, to which nobody listens.
     Emitting {
-        object: u64,
+        object: ObjectId,
         class: TypeId,
         slot: u16,
     },
     /// The notifications that are left of a thaw.
     Thawing {
-        object: u64,
+        object: ObjectId,
         slots: Slots,
     },
     /// The rest of a construction, whose object the builder will hold.
     Constructing {
-        object: u64,
+        object: ObjectId,
         steps: Makings,
     },
     /// The rest of the build: the objects from a place on, and then the forward references.

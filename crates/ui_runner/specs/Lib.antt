@@ -10,3 +10,4 @@ pub mod Opening
 pub mod OpeningView
 pub mod Files
 pub mod Endings
+pub mod CommandLine

@@ -23,11 +23,12 @@ mod run;
 mod tests;
 mod writing;
 
-use command_line::{Request, WordsFault, given_words, read_words};
+use command_line::{Request, WordsFault, read_words};
 use definition_file::{FileFault, definition_bytes};
 use devices::Counted;
 use ending::Ending;
 use run::run;
+use std::env;
 use std::fs::File;
 use std::process::ExitCode;
 use ui_machine::Device;
@@ -48,6 +49,12 @@ fn device<T: Drop>(inner: T) -> Counted<Device<T>>
     ensures uncalled { result.calls ≡ 0 }
 {
     Counted::new(Device::new(inner))
+}
+
+// The words that the program was started with. std says nothing of them, so that there is no clause.
+fn given_words(rt: &HostRuntime) -> Result<Vec<String>, WordsFault> {
+    let words = env::args(rt)?.collect::<Vec<String>>(rt.alloc())?;
+    Ok(words)
 }
 
 // Reads the words and does what they ask for.

@@ -1,4 +1,7 @@
-//! Objects by identity: how many may live, which one nothing holds, and what a frozen one keeps back.
+//! Objects by identity: how many may live, which one nothing holds, what a frozen one keeps back, and what one lets go of as it is
+//! disposed and finalised.
+
+ghost use Rattle.std.specs.Prelude.{◌≡◌, [], IfOk, None};
 
 use g_values::Value;
 use instances::{AdoptError, CreateError, Object, Table, WeakSlots};
@@ -7,7 +10,10 @@ use std::test::Fail;
 use type_tree::TypeId;
 use ui_machine::{Arm, Halt, ObjectId};
 
-fn object(alloc: Global) -> Object {
+fn object(alloc: Global) -> Object
+    ensures childless { result.children ≡ [] }
+    ensures parentless { result.parent ≡ None }
+{
     Object::new(alloc, TypeId::new(0), 3, Vec::new(alloc), None)
 }
 
@@ -58,7 +64,7 @@ fn takes_out_what_nothing_holds(rt: HostRuntime) -> Result<(), Fail> {
     assert_eq!(rt; table.next_unheld(), None);
     table.let_go(id);
     assert_eq!(rt; table.next_unheld(), Some(id));
-    table.finalise(id);
+    table.finalise(&WeakSlots::new(rt.alloc()), id);
     assert!(rt; !table.is_live(id));
     assert_eq!(rt; table.create(object(rt.alloc())), Ok(ObjectId(2)));
     Ok(())
@@ -71,7 +77,10 @@ fn one_weak_slot(alloc: Global) -> Result<WeakSlots, AllocError> {
     Ok(weak)
 }
 
-fn object_with_two_properties(alloc: Global) -> Result<Object, AllocError> {
+fn object_with_two_properties(alloc: Global) -> Result<Object, AllocError>
+    ensures childless { IfOk result (λ o. o.children ≡ []) }
+    ensures parentless { IfOk result (λ o. o.parent ≡ None) }
+{
     let mut values = Vec::new(alloc);
     values.push(Value::Object(TypeId::new(0), None))?;
     values.push(Value::Object(TypeId::new(0), None))?;
@@ -96,19 +105,21 @@ fn parents_hold_their_children(rt: HostRuntime) -> Result<(), Fail> {
     let mut table = Table::new(rt.alloc(), 3);
     let parent = table.create(object(rt.alloc()))?;
     let child = table.create(object(rt.alloc()))?;
-    table.hold(parent);
-    table.float(child)?;
-    assert!(rt; table.is_floating(child));
-    assert_eq!(rt; table.adopt(parent, child), Ok(()));
-    assert!(rt; !table.is_floating(child));
-    assert_eq!(rt; table.parent_of(child), Some(parent));
-    assert_eq!(rt; table.next_unheld(), None);
-    assert_eq!(rt; table.adopt(parent, child), Err(AdoptError::HasParent));
-    assert_eq!(rt; table.adopt(parent, parent), Err(AdoptError::HasParent));
     assert_eq!(rt;
         table.adopt(parent, ObjectId(3)),
         Err(AdoptError::NotLiving)
     );
+    table.hold(parent);
+    table.float(child)?;
+    assert!(rt; table.is_floating(child));
+    assert_eq!(rt; table.first_floating(), Some(child));
+    assert_eq!(rt; table.adopt(parent, child), Ok(()));
+    assert!(rt; !table.is_floating(child));
+    assert_eq!(rt; table.first_floating(), None);
+    assert_eq!(rt; table.parent_of(child), Some(parent));
+    assert_eq!(rt; table.next_unheld(), None);
+    assert_eq!(rt; table.adopt(parent, child), Err(AdoptError::HasParent));
+    assert_eq!(rt; table.adopt(parent, parent), Err(AdoptError::HasParent));
     assert!(rt; table.orphan(child));
     assert!(rt; !table.orphan(child));
     assert_eq!(rt; table.next_unheld(), Some(child));
@@ -122,9 +133,11 @@ fn has_so_many_children(rt: HostRuntime) -> Result<(), Fail> {
     let parent = table.create(object(rt.alloc()))?;
     for _ in 0..1024 {
         let child = table.create(object(rt.alloc()))?;
+        assert!(rt; table.can_hold(child));
         assert_eq!(rt; table.adopt(parent, child), Ok(()));
     }
     let last = table.create(object(rt.alloc()))?;
+    assert!(rt; table.can_hold(last));
     assert_eq!(rt; table.adopt(parent, last), Err(AdoptError::ChildLimit));
     Ok(())
 }
@@ -151,5 +164,53 @@ fn strong_properties_hold_and_weak_ones_forget(rt: HostRuntime) -> Result<(), Fa
     assert!(rt; table.write(&weak, owner, 0, naming(owner)).is_ok());
     assert_eq!(rt; table.next_unheld(), Some(other));
     assert!(rt; table.write(&weak, owner, 2, naming(owner)).is_err());
+    Ok(())
+}
+
+/// What is disposed lives on and holds nothing: its strong property is null, its child is an orphan, and it is forgotten.
+#[test]
+fn a_disposed_object_lets_go(rt: HostRuntime) -> Result<(), Fail> {
+    let weak = one_weak_slot(rt.alloc())?;
+    let mut table = Table::new(rt.alloc(), 3);
+    let owner = table.create(object_with_two_properties(rt.alloc())?)?;
+    let other = table.create(object_with_two_properties(rt.alloc())?)?;
+    let child = table.create(object(rt.alloc()))?;
+    table.hold(owner);
+    assert_eq!(rt; table.adopt(owner, child), Ok(()));
+    assert!(rt; table.write(&weak, owner, 0, naming(other)).is_ok());
+    assert!(rt; table.write(&weak, other, 1, naming(owner)).is_ok());
+    assert_eq!(rt; table.next_unheld(), None);
+    assert!(rt; table.is_live(owner) && !table.is_disposed(owner));
+    table.dispose(&weak, owner);
+    assert!(rt; table.is_live(owner) && table.is_disposed(owner));
+    assert!(rt; names(table.read(owner, 0), None));
+    assert!(rt; names(table.read(other, 1), None));
+    assert_eq!(rt; table.parent_of(child), None);
+    assert_eq!(rt; table.next_unheld(), Some(other));
+    Ok(())
+}
+
+/// Of a chain each link dies once the one before it did: two that hold the next by a property, and one whose child is the last.
+#[test]
+fn a_chain_dies_link_by_link(rt: HostRuntime) -> Result<(), Fail> {
+    let weak = one_weak_slot(rt.alloc())?;
+    let mut table = Table::new(rt.alloc(), 4);
+    for _ in 0..4 {
+        let _id = table.create(object_with_two_properties(rt.alloc())?)?;
+    }
+    assert!(rt; table.can_hold(ObjectId(4)));
+    assert_eq!(rt; table.adopt(ObjectId(3), ObjectId(4)), Ok(()));
+    for link in [1, 2] {
+        let next = naming(ObjectId(link + 1));
+        assert!(rt; table.write(&weak, ObjectId(link), 0, next).is_ok());
+    }
+    for link in [1, 2, 3, 4] {
+        let Some(id) = table.next_unheld() else {
+            return Err(Fail::from("nothing is to be finalised"));
+        };
+        assert_eq!(rt; id, ObjectId(link));
+        table.finalise(&weak, id);
+    }
+    assert_eq!(rt; table.next_unheld(), None);
     Ok(())
 }

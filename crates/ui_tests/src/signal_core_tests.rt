@@ -1,10 +1,14 @@
-//! Handlers: how many may be connected, which ones a call means, and whose turn it is in an emission.
+//! Signals: which may be declared, how many handlers may be connected, which ones a call means, and whose turn it is in an emission.
 
-use g_values::Value;
+use crate::fixtures::added;
+use g_values::{Kind, Value};
 use signal_core::{
-    Accumulator, ConnectError, Connection, Cursor, Emission, Handlers, SignalFlags, Turn,
+    Accumulator, ConnectError, Connection, Cursor, Emission, Handlers, Signal, SignalError,
+    SignalFault, SignalFlags, SignalTable, Turn,
 };
+use std::alloc::Global;
 use std::test::Fail;
+use type_tree::{TypeFlags, TypeTree};
 use ui_machine::ObjectId;
 
 const CLICKED: u16 = 1;
@@ -140,6 +144,37 @@ fn passes_over_what_is_blocked_or_gone(rt: HostRuntime) -> Result<(), Fail> {
     Ok(())
 }
 
+// The programs of an emission of `notify` with a detail, one digit each.
+fn turns_of_detail(alloc: Global, handlers: &Handlers, detail: Option<&str>) -> Result<u64, Fail> {
+    let mut to = emission(16, None);
+    to.signal = 0;
+    to.detail = match detail {
+        Some(detail) => Some(String::from_str(alloc, detail)?),
+        None => None,
+    };
+    let mut cursor = handlers.begin_emission(to);
+    Ok(turns(handlers, &mut cursor, 9))
+}
+
+/// A handler with a detail runs for that detail alone, one without runs for all, and the transfers come before the handlers.
+#[test]
+fn runs_for_details(rt: HostRuntime) -> Result<(), Fail> {
+    let mut handlers = Handlers::new(rt.alloc(), 0, 3);
+    for (program, detail) in [(1, "x"), (2, ""), (3, "y")] {
+        let mut to = connection(1, program, None, false);
+        to.signal = 0;
+        if !detail.is_empty() {
+            to.detail = Some(String::from_str(rt.alloc(), detail)?);
+        }
+        let _ = handlers.connect(to)?;
+    }
+    for (detail, want) in [(Some("x"), 12), (Some("y"), 23), (Some("z"), 2), (None, 2)] {
+        let got = turns_of_detail(rt.alloc(), &handlers, detail)?;
+        assert_eq!(rt; got, want, "{detail:?}");
+    }
+    Ok(())
+}
+
 // What an emission of one handler and of a class handler in the cleanup accumulates of these values, one for each of their turns.
 fn accumulated(
     handlers: &Handlers,
@@ -173,5 +208,209 @@ fn accumulates_before_the_cleanup(rt: HostRuntime) -> Result<(), Fail> {
         let got = accumulated(&handlers, accumulator, values);
         assert_eq!(rt; got, Some(want));
     }
+    Ok(())
+}
+
+// The class `Base`, the interfaces `One` and `Two`, and the class `Leaf` under it, which names `One` twice and then `Two`; `Tip` under that
+// names `One` again.
+fn tree_of_signals(alloc: Global) -> Result<TypeTree, Fail> {
+    let mut tree = TypeTree::new(alloc)?;
+    let _ = added(tree.add_class("Base", "GObject", TypeFlags::NONE, &[]))?;
+    let _ = added(tree.add_interface("One", &[]))?;
+    let _ = added(tree.add_interface("Two", &[]))?;
+    let _ = added(tree.add_class("Leaf", "Base", TypeFlags::NONE, &["One", "One", "Two"]))?;
+    let _ = added(tree.add_class("Tip", "Leaf", TypeFlags::NONE, &["One"]))?;
+    Ok(tree)
+}
+
+fn signal(
+    alloc: Global,
+    name: &str,
+    kind: Option<Kind>,
+    accumulator: Option<Accumulator>,
+) -> Result<Signal, Fail> {
+    Ok(Signal {
+        name: String::from_str(alloc, name)?,
+        params: Vec::new(alloc),
+        result: kind,
+        flags: SignalFlags(2),
+        accumulator,
+    })
+}
+
+// Declares a signal for the type of a name; for none, as without memory.
+fn declare(
+    table: &mut SignalTable,
+    tree: &TypeTree,
+    type_name: &str,
+    signal: Signal,
+) -> Result<(), SignalError> {
+    match tree.find(type_name) {
+        Some(t) => table.declare(tree, t, signal),
+        None => Err(SignalError::OutOfMemory),
+    }
+}
+
+// A table in which each type of the tree has a signal or two of its own.
+fn declared_table(alloc: Global, tree: &TypeTree) -> Result<SignalTable, Fail> {
+    let mut table = SignalTable::new(alloc);
+    for (type_name, name) in [
+        ("Tip", "tip"),
+        ("Two", "two"),
+        ("One", "one"),
+        ("Leaf", "leaf"),
+        ("Leaf", "last_leaf"),
+        ("Base", "base"),
+    ] {
+        let to = signal(alloc, name, None, None)?;
+        declare(&mut table, tree, type_name, to).map_err(|_| Fail::from("declare"))?;
+    }
+    Ok(table)
+}
+
+/// The first test that fails is the answer, in either spelling, and an interface's signals are its classes' too.
+#[test]
+fn declares_signals(rt: HostRuntime) -> Result<(), Fail> {
+    let alloc = rt.alloc();
+    let tree = tree_of_signals(alloc)?;
+    let mut table = declared_table(alloc, &tree)?;
+    let handled = Some(Accumulator::TrueHandled);
+    let wins = Some(Accumulator::FirstWins);
+    for (type_name, name, kind, accumulator, want) in [
+        ("Base", "a--b", None, handled, Err(SignalFault::BadName)),
+        ("Base", "notify", None, wins, Err(SignalFault::Duplicate)),
+        ("One", "notify", None, None, Err(SignalFault::Duplicate)),
+        ("Tip", "last-leaf", None, None, Err(SignalFault::Duplicate)),
+        ("Tip", "two", None, None, Err(SignalFault::Duplicate)),
+        ("Base", "go", None, wins, Err(SignalFault::AccumulatorKind)),
+        (
+            "Base",
+            "go",
+            Some(Kind::Int),
+            handled,
+            Err(SignalFault::AccumulatorKind),
+        ),
+        ("Base", "go", Some(Kind::Int), wins, Ok(())),
+        ("One", "go", Some(Kind::Bool), handled, Ok(())),
+        ("Base", "go", None, None, Err(SignalFault::Duplicate)),
+    ] {
+        let to = signal(alloc, name, kind, accumulator)?;
+        let got = declare(&mut table, &tree, type_name, to);
+        assert_eq!(rt;
+            got,
+            want.map_err(SignalError::Refused),
+            "{type_name} {name}"
+        );
+    }
+    Ok(())
+}
+
+/// The 65th signal of a class and its ancestors is refused, whatever its interfaces have.
+#[test]
+fn declares_up_to_the_most(rt: HostRuntime) -> Result<(), Fail> {
+    let alloc = rt.alloc();
+    let tree = tree_of_signals(alloc)?;
+    let mut table = declared_table(alloc, &tree)?;
+    for count in 0..64u8 {
+        let name = format!(in alloc; "s{count}")?;
+        let to = signal(alloc, name.as_str(), None, None)?;
+        let got = declare(&mut table, &tree, "Tip", to);
+        let want = if count < 60 {
+            Ok(())
+        } else {
+            Err(SignalError::Refused(SignalFault::Limit))
+        };
+        assert_eq!(rt; got, want, "{count}");
+    }
+    Ok(())
+}
+
+/// `notify` comes first, then from the root down each class's own and those of its interfaces, each interface once.
+#[test]
+fn numbers_signals(rt: HostRuntime) -> Result<(), Fail> {
+    let alloc = rt.alloc();
+    let tree = tree_of_signals(alloc)?;
+    let table = declared_table(alloc, &tree)?;
+    for (type_name, name, want) in [
+        ("Tip", "notify", Some(0)),
+        ("Tip", "base", Some(1)),
+        ("Tip", "leaf", Some(2)),
+        ("Tip", "last-leaf", Some(3)),
+        ("Tip", "last_leaf", Some(3)),
+        ("Tip", "one", Some(4)),
+        ("Tip", "two", Some(5)),
+        ("Tip", "tip", Some(6)),
+        ("Tip", "go", None),
+        ("Base", "base", Some(1)),
+        ("Base", "leaf", None),
+        ("Two", "two", Some(1)),
+        ("One", "two", None),
+    ] {
+        let t = tree.find(type_name).ok_or("no type")?;
+        let number = table.find(&tree, t, name);
+        assert_eq!(rt; number, want, "{type_name} {name}");
+        if let Some(number) = number {
+            let signal = table.signal(&tree, t, number).ok_or("no signal")?;
+            assert_eq!(rt; signal.name == name, name != "last_leaf", "{name}");
+        }
+    }
+    Ok(())
+}
+
+/// The class handler is the one of the nearest class, and a class has one for each signal.
+#[test]
+fn finds_class_handlers(rt: HostRuntime) -> Result<(), Fail> {
+    let alloc = rt.alloc();
+    let tree = tree_of_signals(alloc)?;
+    let mut table = declared_table(alloc, &tree)?;
+    for (type_name, name, program) in [
+        ("Base", "base", 7),
+        ("Leaf", "base", 8),
+        ("Leaf", "notify", 5),
+        ("Leaf", "base", 9),
+    ] {
+        let t = tree.find(type_name).ok_or("no type")?;
+        if let Some(number) = table.find(&tree, t, name) {
+            table.set_class_handler(&tree, t, number, program)?;
+        }
+    }
+    for (type_name, number, want) in [
+        ("Base", 1, Some(7)),
+        ("Base", 0, None),
+        ("Leaf", 1, Some(9)),
+        ("Tip", 1, Some(9)),
+        ("Tip", 0, Some(5)),
+        ("Tip", 2, None),
+        ("Tip", 7, None),
+    ] {
+        let t = tree.find(type_name).ok_or("no type")?;
+        assert_eq!(rt;
+            table.class_handler(&tree, t, number),
+            want,
+            "{type_name} {number}"
+        );
+    }
+    Ok(())
+}
+
+/// An emission takes flags, accumulator and class handler from the table.
+#[test]
+fn emits_what_was_declared(rt: HostRuntime) -> Result<(), Fail> {
+    let alloc = rt.alloc();
+    let tree = tree_of_signals(alloc)?;
+    let mut table = declared_table(alloc, &tree)?;
+    let t = tree.find("Tip").ok_or("no type")?;
+    if let Some(number) = table.find(&tree, t, "one") {
+        table.set_class_handler(&tree, t, number, CLASS)?;
+        let to = table.emission(&tree, t, ObjectId(1), number, None);
+        let mut handlers = Handlers::new(alloc, 0, 1);
+        let mut after = connection(1, 3, None, false);
+        after.signal = number;
+        after.after = true;
+        let _ = handlers.connect(after)?;
+        let mut cursor = handlers.begin_emission(to.ok_or("no emission")?);
+        assert_eq!(rt; turns(&handlers, &mut cursor, 0), 93);
+    }
+    assert!(rt; table.emission(&tree, t, ObjectId(1), 7, None).is_none());
     Ok(())
 }

@@ -1,4 +1,4 @@
-use Rattle.std.proofs.Common.{◌≡◌, ℕ, ap, ◌∙◌, arith, not, nat_eq, length}
+use Rattle.std.proofs.Common.{ap, ◌∙◌, arith, not, nat_eq}
 use Rattle.std.proofs.lemmas.Fn.{filter_same}
 use Rattle.std.proofs.lemmas.Grind.{common_steps}
 use Rattle.ui_machine.specs.declared.ids.ObjectId.{ObjectId}

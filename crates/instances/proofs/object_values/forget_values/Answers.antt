@@ -1,4 +1,4 @@
-use Rattle.std.proofs.Common.{◌≡◌, arith, ◌∙◌, refl, false}
+use Rattle.std.proofs.Common.{arith, ◌∙◌, false}
 use Rattle.g_values.specs.View.{value_view}
 use Rattle.instances.specs.Weak.{forgotten_value}
 use Rattle.instances.proofs.Marks.{masked_next, masked_all}

@@ -11,9 +11,9 @@ growing-preserved c =
     let items = c.growing.builder.items in
     let same : length (map held_of items) ≡ length items = rw length-map refl in
     let past : length (map held_of items) ≤ c.args.place = omega (arith, same, c.growing-test.true, c.len.ensures, c.growing.builder.ok.0) in
-    ap (λ ids. write unbuilt (map held_of ids) c.args.place (built c.args.object)) c.in_ok-push.ensures.items
-    ∙ ap (λ held. write unbuilt held c.args.place (built c.args.object)) (held_more items None)
-    ∙ filled (map held_of items) c.args.place (built c.args.object) past
+    ap (λ ids. write unbuilt (map held_of ids) c.args.place (built c.args.object.0)) c.in_ok-push.ensures.items
+    ∙ ap (λ held. write unbuilt held c.args.place (built c.args.object.0)) (held_more items None)
+    ∙ filled (map held_of items) c.args.place (built c.args.object.0) past
     ∙ c.growing.invariant
 
 pub returns : goal.returns

@@ -5,7 +5,7 @@ use Rattle.ui_engine.specs.View.{held_of}
 use Rattle.ui_engine.proofs.world.hold.Given as goal
 
 abbrev pub invariant-growing : goal.invariant-growing
-invariant-growing l = write unbuilt (map held_of l.builder.items) l.place (built l.object) ≡ write unbuilt (map held_of l.initial.builder.items) l.place (built l.object)
+invariant-growing l = write unbuilt (map held_of l.builder.items) l.place (built l.object.0) ≡ write unbuilt (map held_of l.initial.builder.items) l.place (built l.object.0)
 
 abbrev pub decreases-growing : goal.decreases-growing
 decreases-growing l = suc l.place - vec_len l.builder

@@ -4,8 +4,8 @@ use Rattle.g_values.specs.View.{value_view}
 use Rattle.instances.proofs.Values.{write_over}
 use Rattle.instances.proofs.object.Object.write.Goals as goal
 
-pub returns : goal.returns
-returns c =
+pub returns-clause-changes : goal.returns-clause-changes
+returns-clause-changes c =
     let items = c.self.inside.values.items in
     let slot : c.from-slot.result ≡ c.args.slot = c.from-slot.ensures in
     let after = c.replace-old.ensures.after in

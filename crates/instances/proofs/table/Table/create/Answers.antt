@@ -1,6 +1,8 @@
-use Rattle.std.proofs.Common.{refl, arith}
+use Rattle.std.proofs.Common.{ℕ, List, refl, ap, ◌∙◌, arith}
 use Rattle.instances.specs.declared.instance.Instance.{Instance}
-use Rattle.instances.proofs.Maps.{full, at_last, stored}
+use Rattle.instances.specs.View.{store_of}
+use Rattle.instances.proofs.Scan.{look}
+use Rattle.instances.proofs.Maps.{at_last, full, next_fits, stored}
 use Rattle.instances.proofs.table.Table.create.Goals as goal
 
 pub returns-then-len-self : goal.returns-then-len-self
@@ -15,6 +17,16 @@ returns-in_default c = (
   at_last c.self.inside.instances c.self.inside.made c.self.inside.limit c.self.inside.floating.items _ c.self.invariant.0 c.self.view_is c.len.ensures.ordered 0
       (omega (arith, c.in_default.ensures)),
   c.self.view_is,
+)
+
+pub returns-in_default-insert : goal.returns-in_default-insert
+returns-in_default-insert c = (
+  next_fits c.self.inside.instances c.self.inside.made c.self.inside.limit c.self.inside.floating.items _ c.self.invariant.0 c.self.view_is
+      c.len.ensures.ordered c.in-Some.id c.in-Some.ensures.1 (omega (arith, c.in-Some.ensures))
+      (omega (arith, c.len.ensures.len, c.if-len-self.false)),
+  ap (λ (es : List (ℕ × Instance)). store_of (look es) c.self.inside.made c.self.inside.limit c.self.inside.floating.items)
+      c.in_default-insert.ensures.err
+      ∙ c.self.view_is,
 )
 
 pub returns : goal.returns

@@ -1,4 +1,4 @@
-use Rattle.std.proofs.Common.{◌≡◌, ℕ, Option, [], map, refl, ap, rules, sym, ◌∙◌}
+use Rattle.std.proofs.Common.{◌≡◌, ℕ, refl, ap, rules, ◌∙◌}
 use Rattle.std.specs.Option.{option_map}
 use Rattle.std.specs.Ordering.{nat_cmp}
 use Rattle.std.specs.BTreeMap.{get, is_at}
@@ -29,4 +29,4 @@ invariant_of-self c =
     let at : (q : ℕ) → get nat_cmp c.retain.new.self q ≡ option_map g (get nat_cmp c.self.inside.instances q) =
     λ q. rw e (lookup-map_values g (is_at (nat_cmp q)) c.self.inside.instances.entries) in
     still_known (get nat_cmp c.self.inside.instances) (get nat_cmp c.retain.new.self) c.self.inside.made c.self.inside.settled g
-    (λ x. refl) at c.self.invariant.0 c.self.invariant.1
+    (λ x. refl) (λ x. record { children = refl; parent = refl }) at c.self.invariant

@@ -1,4 +1,4 @@
-use Rattle.std.proofs.Common.{◌≡◌, ℕ, Option, ◌+◌, refl, sym, ap, ◌∙◌}
+use Rattle.std.proofs.Common.{ℕ, Option, ◌+◌, refl, sym, ap, ◌∙◌}
 use Rattle.ui_machine.specs.State.References.{in_option}
 use Rattle.ui_machine.specs.declared.ids.ObjectId.{ObjectId}
 use Rattle.instances.specs.Store.{Store, id_of, count_of}

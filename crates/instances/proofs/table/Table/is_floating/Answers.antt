@@ -1,4 +1,4 @@
-use Rattle.std.proofs.Common.{ℕ, List, nat_eq, ap, sym, ◌∙◌}
+use Rattle.std.proofs.Common.{List, nat_eq, ap, ◌∙◌}
 use Rattle.std.specs.List.{list_any}
 use Rattle.ui_machine.specs.declared.ids.ObjectId.{ObjectId}
 use Rattle.instances.specs.Store.{Store}

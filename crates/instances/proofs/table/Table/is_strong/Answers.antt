@@ -1,6 +1,5 @@
-use Rattle.std.proofs.Common.{◌≡◌, sym, ap, ◌∙◌}
+use Rattle.std.proofs.Common.{sym, ap, ◌∙◌}
 use Rattle.std.specs.Option.{option_copied}
-use Rattle.ui_machine.specs.State.Objects.{Object}
 use Rattle.instances.specs.View.{object_in}
 use Rattle.instances.specs.Weak.{is_strong}
 use Rattle.instances.proofs.Shown.{found_in}

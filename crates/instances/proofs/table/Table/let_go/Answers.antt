@@ -3,6 +3,7 @@ use Rattle.std.specs.Option.{option_copied_mut}
 use Rattle.instances.specs.declared.instance.Instance.{Instance}
 use Rattle.instances.proofs.Shown.{not_held, count_is}
 use Rattle.instances.proofs.Maps.{written_recounted}
+use Rattle.instances.proofs.Kin.{unsettled_well}
 use Rattle.instances.proofs.table.Table.let_go.Goals as goal
 
 pub returns-in_default : goal.returns-in_default
@@ -23,3 +24,9 @@ returns c =
     let y : Instance = record { object = c.in-Some.instance.now.object; mentions = c.in-Some.instance.now.mentions - 1 } in
     written_recounted c.self.inside.instances (c.get_mut.follows.lender y) _ c.self.inside.limit c.self.inside.floating.items _ c.self.invariant.0 c.self.view_is _ _ y
     here (c.get_mut.follows.holds y) _ refl (ap (λ (k : ℕ). k - 1) (sym same))
+
+pub invariant_of-self-2 : goal.invariant_of-self-2
+invariant_of-self-2 c =
+    let here = sym c.get_mut.ensures.value ∙ ap option_copied_mut c.in-Some.is in
+    let y : Instance = record { object = c.in-Some.instance.now.object; mentions = c.in-Some.instance.now.mentions - 1 } in
+    unsettled_well c.self.inside.instances (c.get_mut.follows.lender y) _ _ _ _ y here (c.get_mut.follows.holds y) c.self.invariant refl

@@ -1,7 +1,6 @@
-use Rattle.std.proofs.Common.{◌≡◌, ℕ, Some, None, is_some, nat_eq, true, false, Option, sym, ap, ◌∙◌, arith}
+use Rattle.std.proofs.Common.{◌≡◌, nat_eq, true, false, sym, ap, ◌∙◌, arith}
 use Rattle.std.proofs.lemmas.Bool.Decides.{nat_tests}
 use Rattle.std.specs.Option.{option_copied}
-use Rattle.instances.specs.Store.{id_of}
 use Rattle.instances.specs.View.{object_in}
 use Rattle.instances.proofs.Shown.{found_in}
 use Rattle.instances.proofs.Families.{no_parent_object, no_child_object, both, same_parent, has_parent, is_itself, is_full, may_join}

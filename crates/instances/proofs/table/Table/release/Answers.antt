@@ -1,13 +1,14 @@
-use Rattle.std.proofs.Common.{◌≡◌, ℕ, ◌-◌, List, is_some, refl, sym, ap, ◌∙◌, arith}
+use Rattle.std.proofs.Common.{◌≡◌, ℕ, ◌-◌, List, is_some, refl, sym, ap, ◌∙◌}
 use Rattle.std.specs.Ordering.{nat_cmp}
 use Rattle.std.specs.BTreeMap.{BTreeMap, get}
 use Rattle.std.specs.Option.{option_copied_mut}
-use Rattle.instances.specs.Store.{Store, count_of, with_count}
+use Rattle.instances.specs.Store.{Store, count_of}
 use Rattle.instances.specs.View.{count_in, counts_of}
 use Rattle.instances.specs.declared.instance.Instance.{Instance}
 use Rattle.instances.proofs.Shown.{counted_in, count_is}
 use Rattle.instances.proofs.Moves.{less_at, none_less}
 use Rattle.instances.proofs.Maps.{written_recounted}
+use Rattle.instances.proofs.Kin.{unsettled_well}
 use Rattle.instances.proofs.table.Table.release.Goals as goal
 
 pub returns-in_default-clause-counts : goal.returns-in_default-clause-counts
@@ -36,3 +37,9 @@ returns-clause-beside c =
     let counted = written_recounted c.self.inside.instances (c.get_mut.follows.lender y) _ c.self.inside.limit c.self.inside.floating.items _ c.self.invariant.0 c.self.view_is _ _ y
     here (c.get_mut.follows.holds y) y.mentions refl refl in
     counted ∙ ap (λ (cs : List ℕ). record c.args.self.now { counts = cs }) (sym (ap (λ (s : Store). s.counts) counted))
+
+pub invariant_of-self-2 : goal.invariant_of-self-2
+invariant_of-self-2 c =
+    let here = sym c.get_mut.ensures.value ∙ ap option_copied_mut c.in-Some.is in
+    let y : Instance = record { object = c.in-Some.instance.now.object; mentions = c.saturating_sub-instance.result } in
+    unsettled_well c.self.inside.instances (c.get_mut.follows.lender y) _ _ _ _ y here (c.get_mut.follows.holds y) c.self.invariant refl

@@ -1,4 +1,4 @@
-use Rattle.std.proofs.Common.{◌≡◌, ℕ, ◌+◌, length, List, ap, sym, ◌∙◌, arith}
+use Rattle.std.proofs.Common.{ℕ, length, List, ap, arith}
 use Rattle.ui_machine.specs.Seq.{total}
 use Rattle.ui_machine.specs.State.References.{same}
 use Rattle.instances.specs.Store.{Store, ids_of}

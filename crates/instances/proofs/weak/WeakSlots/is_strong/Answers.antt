@@ -1,4 +1,4 @@
-use Rattle.std.proofs.Common.{◌≡◌, ℕ, List, [], Bool, true, false, not, sym, ap, ◌∙◌, arith}
+use Rattle.std.proofs.Common.{List, [], Bool, true, false, not, sym, ap, ◌∙◌}
 use Rattle.ui_machine.specs.Seq.{read}
 use Rattle.instances.proofs.Written.{marked, unmarked}
 use Rattle.instances.proofs.weak.WeakSlots.is_strong.Goals as goal

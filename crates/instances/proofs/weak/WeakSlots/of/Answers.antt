@@ -1,4 +1,4 @@
-use Rattle.std.proofs.Common.{◌≡◌, List, [], Bool, sym, ap, ◌∙◌, arith}
+use Rattle.std.proofs.Common.{List, [], Bool, sym, ap, ◌∙◌, arith}
 use Rattle.ui_machine.specs.Seq.{read}
 use Rattle.instances.proofs.Marks.{read_mapped, read_past}
 use Rattle.instances.proofs.weak.WeakSlots.of.Goals as goal

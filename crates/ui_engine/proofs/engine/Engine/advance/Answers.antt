@@ -12,11 +12,11 @@ pub loop-preserved : goal.loop-preserved
 loop-preserved c =
     let d = c.args.definition.now in
     let s = subst (λ (made : Made). Stepped (Ok made) d (config_of d c.loop.self) (config_of d c.step.new.self)) c.in-Uncounted.is c.in_ok-step.ensures.stepped in
-    record { reached = reaches_more d c.loop.invariant.reached s.0; held = s.1; grows = prefix_on c.loop.invariant.grows c.in_ok-step.ensures.grows; counted = s.3 ∙ c.loop.invariant.counted }
+    record { reached = reaches_more d c.loop.invariant.reached s.0; counts = c.in_ok-step.ensures.counted; grows = prefix_on c.loop.invariant.grows c.in_ok-step.ensures.grows; counted = s.2 ∙ c.loop.invariant.counted }
 
 pub returns-in-Counted-clause-advanced : goal.returns-in-Counted-clause-advanced
 returns-in-Counted-clause-advanced c =
     let d = c.args.definition.now in
     let s = subst (λ (made : Made). Stepped (Ok made) d (config_of d c.loop.self) (config_of d c.step.new.self)) c.in-Counted.is c.in_ok-step.ensures.stepped in
-    let few : c.args.self.now.counted < most_steps = rw (sym c.loop.invariant.counted) s.2 in
-    (reaches_more d c.loop.invariant.reached s.0, s.1, few, s.3 ∙ rw c.loop.invariant.counted refl)
+    let few : c.args.self.now.counted < most_steps = rw (sym c.loop.invariant.counted) s.1 in
+    (reaches_more d c.loop.invariant.reached s.0, few, s.2 ∙ rw c.loop.invariant.counted refl)

@@ -1,11 +1,21 @@
-use Rattle.std.proofs.Common.{List, ◌∷◌, None, ap, ◌∙◌}
+use Rattle.std.proofs.Common.{List, ◌∷◌, refl, sym, subst, ap, ◌∙◌}
 use Rattle.ui_machine.specs.State.Tasks.{Task}
-use Rattle.ui_engine.specs.View.{world_of}
 use Rattle.ui_engine.specs.TaskView.{task_of}
+use Rattle.std.proofs.Common.{map}
+use Rattle.ui_engine.specs.View.{held_of}
+use Rattle.ui_engine.proofs.Counts.{Exact, keeps_on, keeps_by}
 use Rattle.ui_engine.proofs.engine.Engine.begin.Goals as goal
 
 pub returns-clause-ok : goal.returns-clause-ok
 returns-clause-ok c =
     let d = c.args.definition.now in
-    let first = c.in_ok-push.ensures d ∙ ap (λ (ts : List Task). task_of d c.args.task ∷ ts) (c.clear.ensures d) in
-    ap (λ (ts : List Task). record { world = record (world_of c.args.self.now.world) { result = None }; agenda = ts; counted = 0 }) first
+    let first = c.in_ok-push.ensures.agenda d ∙ ap (λ (ts : List Task). task_of d c.args.task ∷ ts) (c.clear.ensures d) in
+    rw (c.push.ensures.world, c.push.ensures.same, first) refl
+
+pub returns-clause-counted : goal.returns-clause-counted
+returns-clause-counted c =
+    let d = c.args.definition.now in
+    let e = c.args.self.now in
+    let idle = c.requires.idle ∙ sym (c.clear.ensures d) in
+    keeps_on d _ _ _ (keeps_by d e _ refl (λ taken _ h. subst (λ (ts : List Task). Exact d taken e.world.table (map held_of e.world.builder.items) ts) idle h))
+    (c.in_ok-push.ensures.counted d)

@@ -1,6 +1,9 @@
 use Rattle.std.proofs.Common.{◌≡◌, suc, true, None, ◌+◌, List, ◌∷◌, sym, ap, subst, ◌∙◌, arith}
+use Rattle.std.specs.Prelude.{OnOk, Result, Ok, Err}
+use Rattle.ui_machine.specs.declared.arm.Halt.{Halt}
+use Rattle.ui_engine.specs.Counting.{KeepsCounts}
 use Rattle.ui_machine.specs.State.Tasks.{Task, Item, Building}
-use Rattle.ui_machine.specs.State.Config.{Config}
+use Rattle.ui_machine.specs.State.Config.{World, Config}
 use Rattle.ui_machine.specs.Outcome.{Answer, Goes}
 use Rattle.ui_machine.specs.Rules.Construction.{making}
 use Rattle.ui_machine.specs.Rules.Build.{building}
@@ -9,6 +12,7 @@ use Rattle.ui_engine.specs.View.{world_of}
 use Rattle.ui_engine.specs.TaskView.{agenda_of, build_from}
 use Rattle.ui_engine.specs.EngineView.{config_of}
 use Rattle.ui_engine.proofs.Building.{place_within, builds_next, only_forwards}
+use Rattle.ui_engine.proofs.Counts.{keeps_on}
 use Rattle.ui_engine.proofs.engine.Engine.building.Goals as goal
 
 pub returns-clause-step : goal.returns-clause-step
@@ -21,8 +25,13 @@ returns-clause-step c =
     let there = place_within d.places c.args.place (omega (arith, c.object_count.ensures.count, c.if-place-object_count.false)) in
     let next = builds_next d c.types-types.ensures.basic w c.args.place there.0 there.1 fs rest n in
     let one : c.args.place + 1 ≡ suc c.args.place = omega arith in
-    let pushed = c.in_ok-push.ensures d ∙ ap (λ place. Building (build_from d place fs) ∷ rest) one in
-    let made = subst (λ (a : List Task). Goes c.making.result (uncounted a n (making d w c.args.place None true)) (config_of d c.making.new.self)) pushed c.making.ensures.step in
+    let pushed = c.in_ok-push.ensures.agenda d ∙ ap (λ place. Building (build_from d place fs) ∷ rest) one in
+    let world : world_of c.push.new.self.world ≡ w = c.push.ensures.world in
+    let same : c.push.new.self.counted ≡ n = c.push.ensures.same in
+    let made =
+    subst (λ (a : List Task). Goes c.making.result (uncounted a n (making d w c.args.place None true)) (config_of d c.making.new.self)) pushed
+    (subst (λ (v : World). Goes c.making.result (uncounted (agenda_of d c.push.new.self.stack) n (making d v c.args.place None true)) (config_of d c.making.new.self)) world
+    (subst (λ k. Goes c.making.result (uncounted (agenda_of d c.push.new.self.stack) k (making d (world_of c.push.new.self.world) c.args.place None true)) (config_of d c.making.new.self)) same c.making.ensures.step)) in
     subst (λ (a : Answer Config). Goes c.making.result a (config_of d c.making.new.self)) (sym next) made
 
 pub returns-then-place-object_count-clause-step : goal.returns-then-place-object_count-clause-step
@@ -33,3 +42,11 @@ returns-then-place-object_count-clause-step c =
     let n = c.args.self.now.counted in
     let left = only_forwards d c.args.place c.args.forwards (omega (arith, c.object_count.ensures.count, c.if-place-object_count.true)) in
     subst (λ (items : List Item). Goes c.forwarding.result (uncounted rest n (building d w items)) (config_of d c.forwarding.new.self)) (sym left) c.forwarding.ensures.step
+
+pub returns-clause-counted : goal.returns-clause-counted
+returns-clause-counted c = on c.making.result c.making.ensures.counted
+  where
+    on : (result : Result (Unit {0}) Halt) → OnOk result (KeepsCounts c.args.definition.now c.push.new.self c.making.new.self)
+        → OnOk result (KeepsCounts c.args.definition.now c.args.self.now c.making.new.self)
+    on (Ok x) k = keeps_on c.args.definition.now _ _ _ (c.in_ok-push.ensures.counted c.args.definition.now) k
+    on (Err halt) k = tt

@@ -1,4 +1,4 @@
-use Rattle.std.proofs.Common.{ℕ, [], ◌∷◌, sym, ap, refl, ◌∙◌}
+use Rattle.std.proofs.Common.{ℕ, [], ◌∷◌, sym, ap, ◌∙◌}
 use Rattle.ui_machine.specs.Definition.Values.{Value}
 use Rattle.ui_machine.specs.State.Tasks.{Setting}
 use Rattle.ui_machine.specs.State.Config.{starts}
@@ -26,6 +26,6 @@ returns-clause-step c =
     let object = ap (λ (p : ℕ). settable_at d w p a.slot) (sym c.from.ensures) ∙ c.in_ok-object.ensures in
     let is = settable_then (held_object w a.place.0) (λ (id : ℕ). spec_at d w.objects id a.slot) set
     ∙ ap (λ (r : Answer ℕ). r >>= set) object
-    ∙ ap (λ (r : Answer Value). r >>= λ v. starts w (Setting c.in_ok-object.object a.slot v ∷ [])) c.in_ok-value.ensures in
-    left_with d w c.push.new.self a.self.now.counted a.self.now.counted (agenda_of d a.self.now.stack) _ w
-    (Setting c.in_ok-object.object a.slot (value_view c.in_ok-value.value)) is refl (c.in_ok-push.ensures d) refl
+    ∙ ap (λ (r : Answer Value). r >>= λ v. starts w (Setting c.in_ok-object.object.0 a.slot v ∷ [])) c.in_ok-value.ensures in
+    left_with d (world_of c.push.new.self.world) c.push.new.self.stack a.self.now.counted c.push.new.self.counted (agenda_of d a.self.now.stack) _ w
+    (Setting c.in_ok-object.object.0 a.slot (value_view c.in_ok-value.value)) is c.push.ensures.world (c.in_ok-push.ensures.agenda d) c.push.ensures.same

@@ -1,37 +1,61 @@
-use Rattle.std.proofs.Common.{◌≡◌, true, false, refl, sym, ap, ◌∙◌, arith, not, is_some, nat_eq}
-use Rattle.std.proofs.lemmas.Fn.{filter_same}
-use Rattle.std.proofs.lemmas.Grind.{common_steps}
+use Rattle.std.proofs.Common.{◌≡◌, true, false, refl, sym, ap, ◌∙◌, not, is_some}
 use Rattle.std.proofs.lemmas.Result.{err_from_is_err_and}
-use Rattle.ui_machine.specs.State.Config.{held_at, is_unbuilt, without}
+use Rattle.ui_machine.specs.State.Config.{held_at, is_unbuilt}
 use Rattle.ui_machine.specs.Steps.{uncounted}
 use Rattle.ui_engine.specs.View.{world_of}
 use Rattle.ui_engine.specs.TaskView.{agenda_of}
-use Rattle.ui_engine.proofs.Built.{fresh, no_object, held_before, held_now}
-use Rattle.ui_engine.proofs.Building.{kept_without}
+use Rattle.ui_engine.proofs.Built.{fresh, some_id, no_object, held_before, held_now}
+use Rattle.instances.specs.Store.{Store}
+use Rattle.std.proofs.Common.{ℕ, ◌+◌, map, List, arith}
+use Rattle.ui_machine.specs.Seq.{total}
+use Rattle.ui_machine.specs.State.Config.{Held, unbuilt, built}
+use Rattle.ui_machine.specs.State.References.{same, in_held}
+use Rattle.ui_engine.specs.View.{held_of}
+use Rattle.ui_engine.proofs.Lists.{total-written}
+use Rattle.ui_engine.proofs.Floats.{holds_nothing}
+use Rattle.ui_engine.proofs.Counts.{keeps_by, holder_more, sunk_exact}
 use Rattle.ui_engine.proofs.engine.Engine.constructed.Goals as goal
 
 pub returns-in_err-place-clause-step : goal.returns-in_err-place-clause-step
 returns-in_err-place-clause-step c =
     let p = err_from_is_err_and c.from_residual.result c.from_residual.ensures.1 in
     let rest = agenda_of c.args.definition.now c.args.self.now.stack in
-    rw (p.1, p.2) (ap (uncounted rest c.args.self.now.counted) (no_object (world_of c.args.self.now.world) c.args.object _ c.in_err-place.ensures))
+    rw (p.1, p.2) (ap (uncounted rest c.args.self.now.counted) (no_object (world_of c.args.self.now.world) c.args.object.0 _ c.in_err-place.ensures))
 
 pub returns-then-is_some-clause-step : goal.returns-then-is_some-clause-step
 returns-then-is_some-clause-step c =
     let w = world_of c.args.self.now.world in
     let rest = agenda_of c.args.definition.now c.args.self.now.stack in
     let there : is_unbuilt (held_at w c.in_ok-place.place) ≡ false =
-    fresh c.args.self.now.world.builder.items c.in_ok-place.place ∙ ap (λ found. not (is_some found)) (sym c.built.ensures) ∙ ap not (sym c.is_some.ensures ∙ c.if-is_some.true) in
-    ap (uncounted rest c.args.self.now.counted) (held_before w c.args.object c.in_ok-place.place c.in_ok-place.ensures there)
+    fresh c.args.self.now.world.builder.items c.in_ok-place.place ∙ ap (λ found. not (is_some found)) (sym c.built.ensures) ∙ ap not (some_id c.built.result ∙ sym c.is_some.ensures ∙ c.if-is_some.true) in
+    ap (uncounted rest c.args.self.now.counted) (held_before w c.args.object.0 c.in_ok-place.place c.in_ok-place.ensures there)
 
 pub returns-clause-step : goal.returns-clause-step
 returns-clause-step c =
     let w = world_of c.args.self.now.world in
     let rest = agenda_of c.args.definition.now c.args.self.now.stack in
     let there : is_unbuilt (held_at w c.in_ok-place.place) ≡ true =
-    fresh c.args.self.now.world.builder.items c.in_ok-place.place ∙ ap (λ found. not (is_some found)) (sym c.built.ensures) ∙ ap not (sym c.is_some.ensures ∙ c.if-is_some.false) in
-    let sunk : c.retain.new.self.items ≡ without c.args.object c.args.self.now.world.floating.items =
-    filter_same _ (λ i. not (nat_eq i c.args.object)) _ (λ x b f' k. grind (arith, common_steps)) _ _ c.retain.ensures.filtered
-    ∙ kept_without c.args.object c.args.self.now.world.floating.items in
-    ap (uncounted rest c.args.self.now.counted) (held_now w c.args.object c.in_ok-place.place c.in_ok-place.ensures there)
-    ∙ rw (sunk, c.in_ok-hold.ensures) refl
+    fresh c.args.self.now.world.builder.items c.in_ok-place.place ∙ ap (λ found. not (is_some found)) (sym c.built.ensures) ∙ ap not (some_id c.built.result ∙ sym c.is_some.ensures ∙ c.if-is_some.false) in
+    let floats = ap (λ (s : Store). s.floating) c.sink.ensures.beside in
+    let objects = ap (λ (s : Store). s.objects) c.sink.ensures.beside in
+    ap (uncounted rest c.args.self.now.counted) (held_now w c.args.object.0 c.in_ok-place.place c.in_ok-place.ensures there)
+    ∙ rw (floats, objects, c.hold_any.ensures.only.floating, c.hold_any.ensures.only.objects, c.in_ok-hold.ensures) refl
+
+pub returns-clause-counted : goal.returns-clause-counted
+returns-clause-counted c =
+    let d = c.args.definition.now in
+    let e = c.args.self.now in
+    let w = world_of e.world in
+    let id = c.args.object.0 in
+    let place = c.in_ok-place.place in
+    let b = map held_of e.world.builder.items in
+    let n = map held_of c.hold.new.builder.items in
+    let a = agenda_of d e.stack in
+    let there : is_unbuilt (held_at w place) ≡ true =
+    fresh e.world.builder.items place ∙ ap (λ found. not (is_some found)) (sym c.built.ensures) ∙ ap not (some_id c.built.result ∙ sym c.is_some.ensures ∙ c.if-is_some.false) in
+    let more : (o : ℕ) → total (in_held o) n ≡ total (in_held o) b + same o id =
+    λ o. ap (λ (hs : List Held). total (in_held o) hs) c.in_ok-hold.ensures ∙ total-written (in_held o) unbuilt b place (built id) refl (holds_nothing o (held_at w place) there) in
+    keeps_by d e _ refl (λ taken _ h.
+    sunk_exact d taken c.hold_any.new.table c.sink.new.self n a id c.sink.ensures
+    (holder_more d taken e.world.table c.hold_any.new.table b n a a (λ o. same o id) c.hold_any.ensures.only c.in_ok-hold_any.ensures.counts
+    (λ o. omega (arith, more o)) h))

@@ -1,12 +1,12 @@
-use Rattle.std.proofs.Common.{List, [], ◌∷◌, ◌++◌, refl, sym, ap, subst, ◌∙◌}
+use Rattle.std.proofs.Common.{[], ◌∷◌, ◌++◌, refl, sym, ap, subst, ◌∙◌}
 use Rattle.std.proofs.lemmas.Result.{err_from_is_err_and}
-use Rattle.ui_machine.specs.State.Tasks.{Task}
 use Rattle.ui_machine.specs.State.Config.{World, Config}
 use Rattle.ui_machine.specs.Runs.{Reaches, beginning}
 use Rattle.ui_engine.specs.View.{world_of}
 use Rattle.ui_engine.specs.TaskView.{task_of}
 use Rattle.ui_engine.specs.EngineView.{config_of}
-use Rattle.ui_engine.specs.Holding.{IsHeld}
+use Rattle.ui_engine.specs.Counting.{nothing}
+use Rattle.ui_engine.proofs.Counts.{keeps_said}
 use Rattle.ui_machine.proofs.Prefixes.{prefix_by, prefix_on}
 use Rattle.ui_engine.proofs.Reaching.{reaches_here}
 use Rattle.ui_engine.proofs.engine.Engine.dispatch.Goals as goal
@@ -24,13 +24,23 @@ returns-clause-carried c =
     let e = config_of d c.run.new.self in
     let ran = c.in_ok-run.ensures.ran in
     let reached = subst (λ (from : Config). Reaches d [] from e) c.in_ok-begin.ensures.ok ran.0 in
-    let said = c.in_ok-say.ensures.ok ∙ ap (λ line. record (world_of c.run.new.self.world) { transcript = (world_of c.run.new.self.world).transcript ++ line ∷ [] }) c.in_ok-line.ensures in
-    let held = subst (λ (ts : List Task). IsHeld (world_of c.run.new.self.world) ts) ran.1.agenda ran.2 in (
+    let said = c.in_ok-say.ensures.ok ∙ ap (λ line. record (world_of c.run.new.self.world) { transcript = (world_of c.run.new.self.world).transcript ++ line ∷ [] }) c.in_ok-line.ensures in (
       record { at = e; reached = reached; ended = ran.1; counts = refl; leaves = sym said },
       c.in_ok-result.ensures ∙ ap (λ (w : World). w.result) (sym said),
       refl,
-      subst (λ (w : World). IsHeld w []) (sym said) (record { lives = held.lives; floats = held.floats }),
     )
+
+pub run-requires : goal.run-requires
+run-requires c = record { counted = c.in_ok-begin.ensures.counted.at nothing c.requires.rests.counts }
+
+pub returns-clause-rests : goal.returns-clause-rests
+returns-clause-rests c =
+    let d = c.args.definition.now in
+    let ran = c.in_ok-run.ensures.ran in
+    record {
+      counts = (keeps_said d c.run.new.self c.say.new.self c.say.ensures.beside).at nothing c.in_ok-run.ensures.counted;
+      idle = ran.1.agenda;
+    }
 
 pub returns-clause-grows : goal.returns-clause-grows
 returns-clause-grows c =

@@ -1,4 +1,4 @@
-use Rattle.std.proofs.Common.{◌≡◌, ℕ, List, [], ◌∷◌, map, Ok, sym, ap, ◌∙◌}
+use Rattle.std.proofs.Common.{◌≡◌, ℕ, List, [], ◌∷◌, map, refl, sym, ap, ◌∙◌}
 use Rattle.ui_machine.specs.Definition.Values.{Value}
 use Rattle.ui_machine.specs.State.Tasks.{Task, Setting, Building}
 use Rattle.ui_machine.specs.State.Config.{starts}
@@ -13,6 +13,7 @@ use Rattle.ui_engine.specs.GivenView.{held_value}
 use Rattle.ui_engine.specs.TaskView.{item_of, agenda_of}
 use Rattle.ui_engine.proofs.Building.{only_forwards}
 use Rattle.ui_engine.proofs.Forwarded.{settable_then, held_then}
+use Rattle.ui_engine.proofs.Counts.{keeps_on}
 use Rattle.ui_engine.proofs.engine.Engine.forwarding.Goals as goal
 
 pub returns-clause-step : goal.returns-clause-step
@@ -25,7 +26,7 @@ returns-clause-step c =
     let n = a.self.now.counted in
     let f = c.in-Some.forward in
     let items = map item_of c.take.new.self in
-    let object = c.in_ok-object.object in
+    let object = c.in_ok-object.object.0 in
     let v = value_view c.in_ok-value.value in
     let set = λ (id : ℕ). set_forward w id f.slot f.to.0 items in
     let to = ap (λ (p : ℕ). held_value w p) (sym c.from.ensures) ∙ c.in_ok-value.ensures in
@@ -34,7 +35,13 @@ returns-clause-step c =
     ∙ settable_then (held_object w f.object) (λ (id : ℕ). spec_at d w.objects id f.slot) set
     ∙ ap (λ (r : Answer ℕ). r >>= set) c.in_ok-object.ensures
     ∙ held_then (held_object w f.to.0) (λ (x : Value). starts w (Setting object f.slot x ∷ Building items ∷ [])) v to in
-    let left = c.in_ok-push-2.ensures d
-    ∙ ap (λ (rest : List Task). Setting object f.slot v ∷ rest) (c.in_ok-push.ensures d
+    let left = c.in_ok-push-2.ensures.agenda d
+    ∙ ap (λ (rest : List Task). Setting object f.slot v ∷ rest) (c.in_ok-push.ensures.agenda d
     ∙ ap (λ its. Building its ∷ agenda) (only_forwards d a.place c.take.new.self c.requires.past)) in
-    ap (uncounted agenda n) is ∙ ap (λ (rest : List Task). Ok (record { world = w; agenda = rest; counted = n })) (sym left)
+    ap (uncounted agenda n) is
+    ∙ rw (c.push-2.ensures.world, c.push.ensures.world, c.push-2.ensures.same, c.push.ensures.same, left) refl
+
+pub returns-clause-counted : goal.returns-clause-counted
+returns-clause-counted c =
+    let d = c.args.definition.now in
+    keeps_on d _ _ _ (c.in_ok-push.ensures.counted d) (c.in_ok-push-2.ensures.counted d)

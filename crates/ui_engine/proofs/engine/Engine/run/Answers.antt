@@ -1,13 +1,9 @@
-use Rattle.std.proofs.Common.{Bool, List, Ok, subst}
+use Rattle.std.proofs.Common.{Bool, Ok, subst}
 use Rattle.std.proofs.lemmas.Result.{err_from_is_err_and}
-use Rattle.ui_machine.specs.State.Tasks.{Task}
-use Rattle.ui_engine.specs.View.{world_of}
 use Rattle.ui_engine.specs.EngineView.{config_of}
-use Rattle.ui_engine.specs.Holding.{IsHeld}
 use Rattle.ui_engine.specs.Stepping.{Advanced}
 use Rattle.ui_machine.proofs.Prefixes.{prefix_on}
 use Rattle.ui_engine.proofs.Reaching.{reaches_on, halts_on}
-use Rattle.ui_engine.proofs.Held.{none_unmentioned, none_floats}
 use Rattle.ui_engine.proofs.engine.Engine.run.Goals as goal
 
 pub returns-in_err-advance-clause-ran : goal.returns-in_err-advance-clause-ran
@@ -20,11 +16,10 @@ returns-then-not-branch-clause-ran c =
     let d = c.args.definition.now in
     let e = config_of d c.advance.new.self in
     let a = subst (λ (more : Bool). Advanced (Ok more) d (config_of d c.loop.self) e) c.if-not-branch.true c.in_ok-advance.ensures.advanced in
-    let none = none_floats (world_of c.advance.new.self.world) (subst (λ (ts : List Task). IsHeld (world_of c.advance.new.self.world) ts) a.2 a.1) in
-    (reaches_on d c.loop.invariant.reached a.0, record { agenda = a.2; floating = none; held = none_unmentioned d e a.1 }, a.1)
+    (reaches_on d c.loop.invariant.reached a.0, a.1)
 
 pub loop-preserved : goal.loop-preserved
 loop-preserved c =
     let d = c.args.definition.now in
     let a = subst (λ (more : Bool). Advanced (Ok more) d (config_of d c.loop.self) (config_of d c.advance.new.self)) c.if-not-branch.false c.in_ok-advance.ensures.advanced in
-    record { reached = reaches_on d c.loop.invariant.reached a.0; held = a.1; grows = prefix_on c.loop.invariant.grows c.in_ok-advance.ensures.grows }
+    record { reached = reaches_on d c.loop.invariant.reached a.0; counts = c.in_ok-advance.ensures.counted; grows = prefix_on c.loop.invariant.grows c.in_ok-advance.ensures.grows }

@@ -1,26 +1,54 @@
-use Rattle.std.proofs.Common.{◌≡◌, [], ap, ◌∙◌, sym}
-use Rattle.ui_engine.specs.TaskView.{agenda_of}
-use Rattle.ui_engine.specs.View.{world_of}
+use Rattle.std.proofs.Common.{◌≡◌, Some, None, Ok, ap, sym, subst, ◌∙◌}
+use Rattle.std.proofs.lemmas.Result.{err_from_is_err_and}
+use Rattle.ui_machine.specs.State.References.{mentions, next_unheld}
+use Rattle.instances.specs.Store.{Store, id_of, count_of}
+use Rattle.ui_engine.specs.declared.engine.Made.TheVariants as mades
 use Rattle.ui_engine.specs.EngineView.{config_of}
-use Rattle.ui_engine.proofs.Stepping.{first_stepped, first_grows}
+use Rattle.ui_engine.specs.Counting.{Counts, nothing}
+use Rattle.ui_machine.specs.Runs.{HaltsAt}
+use Rattle.ui_engine.specs.Stepping.{NoneUnheld, Stepped}
+use Rattle.ui_engine.proofs.Counts.{finds_mentioned, with_table}
+use Rattle.ui_engine.proofs.Stepping.{finalise_stepped, finalise_halts}
 use Rattle.ui_engine.proofs.engine.Engine.step.Goals as goal
 
-pub returns-in_default-clause-stepped : goal.returns-in_default-clause-stepped
-returns-in_default-clause-stepped c =
+pub first_task-requires-clause-none : goal.first_task-requires-clause-none
+first_task-requires-clause-none c =
     let d = c.args.definition.now in
-    let none = c.in_default.ensures d in
-    let before : agenda_of d c.args.self.now.stack ≡ [] = none.0 in
-    let after : agenda_of d c.pop.new.self ≡ [] = none.1 in
-    (before, ap (λ agenda. record { world = world_of c.args.self.now.world; agenda = agenda; counted = c.args.self.now.counted }) (after ∙ sym before))
+    let e = c.args.self.now in
+    let none : next_unheld (count_of e.world.table.counts) e.world.table.objects ≡ None = sym c.next_unheld.ensures.found ∙ ap id_of c.in_default.is in
+    subst (λ (t : Store). NoneUnheld d (config_of d (with_table e t))) (sym c.next_unheld.ensures.same) (sym (finds_mentioned d e c.requires.counted) ∙ none)
+
+pub returns-clause-counted : goal.returns-clause-counted
+returns-clause-counted c =
+    let d = c.args.definition.now in
+    let e = c.args.self.now in
+    c.in_ok-finalise.ensures.counted.at nothing (subst (λ (t : Store). Counts d nothing (with_table e t)) (sym c.next_unheld.ensures.same) c.requires.counted)
 
 pub returns-clause-stepped : goal.returns-clause-stepped
 returns-clause-stepped c =
     let d = c.args.definition.now in
-    first_stepped d c.types-types.ensures.basic (config_of d c.args.self.now) (config_of d c.act.new.self) c.requires.held c.in-Some.task c.pop.new.self (c.in-Some.ensures d)
-    c.act.result c.act.ensures.step c.act.ensures.made c.act.ensures.quiet
+    let e = c.args.self.now in
+    let new = c.finalise.new.self in
+    let t = c.next_unheld.new.self in
+    let id = c.in-Some.object.0 in
+    let same = c.next_unheld.ensures.same in
+    let one : next_unheld (count_of e.world.table.counts) e.world.table.objects ≡ Some id = sym c.next_unheld.ensures.found ∙ ap id_of c.in-Some.is in
+    let unheld = subst (λ (s : Store). next_unheld (mentions d (config_of d (with_table e s))) s.objects ≡ Some id) (sym same) (sym (finds_mentioned d e c.requires.counted) ∙ one) in
+    subst (λ (s : Store). Stepped (Ok mades.Counted) d (config_of d (with_table e s)) (config_of d new)) same
+    (finalise_stepped d (config_of d (with_table e t)) (config_of d new) id unheld c.in_ok-finalise.ensures.step c.in_ok-finalise.ensures.counts)
 
-pub returns-clause-grows : goal.returns-clause-grows
-returns-clause-grows c =
+pub returns-in_err-finalise-clause-stepped : goal.returns-in_err-finalise-clause-stepped
+returns-in_err-finalise-clause-stepped c =
+    let p = err_from_is_err_and c.from_residual.result c.from_residual.ensures.1 in
     let d = c.args.definition.now in
-    first_grows d c.types-types.ensures.basic (config_of d c.args.self.now) (config_of d c.act.new.self) c.requires.held c.in-Some.task c.pop.new.self (c.in-Some.ensures d)
-    c.act.result c.act.ensures.step c.act.ensures.quiet
+    let e = c.args.self.now in
+    let t = c.next_unheld.new.self in
+    let id = c.in-Some.object.0 in
+    let same = c.next_unheld.ensures.same in
+    let one : next_unheld (count_of e.world.table.counts) e.world.table.objects ≡ Some id = sym c.next_unheld.ensures.found ∙ ap id_of c.in-Some.is in
+    let unheld = subst (λ (s : Store). next_unheld (mentions d (config_of d (with_table e s))) s.objects ≡ Some id) (sym same) (sym (finds_mentioned d e c.requires.counted) ∙ one) in
+    rw (p.1, p.2) (
+      subst (λ (s : Store). HaltsAt d (config_of d (with_table e s)) c.in_err-finalise.field-0.0) same
+          (finalise_halts d (config_of d (with_table e t)) (config_of d e) id unheld c.in_err-finalise.field-0.0 c.in_err-finalise.ensures.step),
+      c.in_err-finalise.ensures.quiet,
+    )

@@ -1,8 +1,14 @@
 use Rattle.std.proofs.Common.{rules}
+use Rattle.ui_engine.proofs.Counts.{keeps_on}
 use Rattle.ui_engine.proofs.engine.Engine.thawing.Goals as goal
 
 pub returns-clause-step : goal.returns-clause-step
 returns-clause-step c =
-    let first = c.in_ok-push.ensures c.args.definition.now in
-    let second = c.in_ok-push-2.ensures c.args.definition.now in
-    rw (second, first) (search rules)
+    let first = c.in_ok-push.ensures.agenda c.args.definition.now in
+    let second = c.in_ok-push-2.ensures.agenda c.args.definition.now in
+    rw (c.in_ok-push-2.ensures.world, c.in_ok-push.ensures.world, c.in_ok-push-2.ensures.same, c.in_ok-push.ensures.same, second, first) (search rules)
+
+pub returns-clause-counted : goal.returns-clause-counted
+returns-clause-counted c =
+    let d = c.args.definition.now in
+    keeps_on d _ _ _ (c.in_ok-push.ensures.counted d) (c.in_ok-push-2.ensures.counted d)

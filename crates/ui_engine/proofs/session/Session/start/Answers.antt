@@ -1,25 +1,35 @@
 use Rattle.std.proofs.Common.{[], ap, subst, sym, ◌∙◌}
-use Rattle.ui_machine.specs.State.Config.{World, Config, said}
+use Rattle.ui_machine.specs.State.Config.{Config, said}
 use Rattle.ui_machine.specs.State.Tasks.{Building}
 use Rattle.ui_machine.specs.Output.Lines as lines
 use Rattle.ui_machine.specs.Runs.{beginning, first_world}
-use Rattle.ui_engine.specs.View.{world_of}
+use Rattle.ui_engine.specs.declared.engine.Engine.{Engine}
+use Rattle.ui_engine.specs.TaskView.{agenda_of}
+use Rattle.ui_engine.proofs.Counts.{none_counted}
 use Rattle.ui_engine.specs.TaskView.{build_from}
 use Rattle.ui_engine.specs.SessionView.{Comes, carrying_out}
-use Rattle.ui_engine.proofs.Beginning.{none_held, only_objects}
+use Rattle.ui_engine.proofs.Beginning.{only_objects}
 use Rattle.ui_engine.proofs.session.Session.start.Goals as goal
 
 pub invariant_of-session : goal.invariant_of-session
 invariant_of-session c _ =
     let d = c.args.definition in
-    let first = c.new-engine.ensures d in
-    let said = c.in-Ok.ensures in
-    none_held (world_of c.announce.new.self.world) (ap (λ (w : World). w.objects) said ∙ ap (λ (w : World). w.objects) first) (ap (λ (w : World). w.floating) said ∙ ap (λ (w : World). w.floating) first)
+    let first = c.new-engine.ensures.world d in
+    let told = c.in-Ok-announce.ensures.line in
+    let beside = c.announce.ensures.beside in
+    let world = told ∙ ap (λ w. said d w lines.build) first in
+    let idle = ap (λ (e : Engine). agenda_of d e.stack) beside ∙ c.new-engine.ensures.idle d in
+    let marks = ap (λ (e : Engine). e.world.weak) beside ∙ c.new-engine.ensures.marks in
+    let counts = ap (λ (e : Engine). e.world.table.counts) beside ∙ c.new-engine.ensures.counts in
+    record {
+      counts = none_counted d c.announce.new.self c.in-Ok.weak c.in-Ok.ensures marks counts world idle;
+      idle = idle;
+    }
 
 pub returns-clause-built : goal.returns-clause-built
 returns-clause-built c =
     let d = c.args.definition in
-    let announced = c.in-Ok.ensures ∙ ap (λ w. said d w lines.build) (c.new-engine.ensures d) in
+    let announced = c.in-Ok-announce.ensures.line ∙ ap (λ w. said d w lines.build) (c.new-engine.ensures.world d) in
     let fs = c.in-Ok-forwards.forwards in
     let items = only_objects d c.types-types.ensures.basic fs c.in-Ok-forwards.ensures in
     let start = ap (λ w. beginning w (Building (build_from d 0 fs))) announced ∙ ap (λ items. beginning (said d (first_world d []) lines.build) (Building items)) (sym items) in

@@ -1,0 +1,70 @@
+-- The turns of handlers that are gone are passed over, so an emission may as well not have them.
+use Rattle.std.specs.List.{filter, list_all}
+use Rattle.std.specs.Prelude.{Bool, List, None, Ok, Option, false, is_some, map, nat_le, not, true, ℕ, ◌&&◌, ◌≡◌, ◌∷◌}
+use Rattle.ui_machine.specs.Definition.{Definition}
+use Rattle.ui_machine.specs.State.Config.{Config, World}
+use Rattle.ui_machine.specs.State.Handlers.{Handler, handler_of}
+use Rattle.ui_machine.specs.State.Peers.{Reply}
+use Rattle.ui_machine.specs.State.References.{mentions, next_unheld}
+use Rattle.ui_machine.specs.State.Tasks.{Emitting, PlanEntry, Task, class_handler, handler}
+use Rattle.ui_machine.specs.State.Tasks as tasks
+use Rattle.ui_machine.specs.Steps.{question, step}
+use Rattle.machine_laws.specs.FrontLaws.{mapped}
+
+-- whether an entry's handler is not among those that are gone, by their numbers
+abbrev pub stays : (ℕ → Bool) → PlanEntry → Bool
+stays gone (class_handler program cleanup) = true
+stays gone (handler number) = not (gone number)
+stays gone (tasks.transfer number back) = true
+
+-- a task without the turns of these
+abbrev pub pruned : (ℕ → Bool) → Task → Task
+pruned gone (Emitting e entries) = Emitting e (filter (stays gone) entries)
+pruned gone task = task
+
+-- a configuration without them
+abbrev pub pruned_at : (ℕ → Bool) → Config → Config
+pruned_at gone c = record c { agenda = map (pruned gone) c.agenda }
+
+-- no handler that stands has one of the numbers
+abbrev pub AreGone : (ℕ → Bool) → World → Type 0
+AreGone gone w = list_all (λ (h : Handler). not (gone h.number)) w.handlers ≡ true
+
+-- the numbers that were given to handlers of which none stands
+abbrev pub gone_in : World → ℕ → Bool
+gone_in w number = nat_le number w.last_handler && not (is_some (handler_of number w.handlers))
+
+-- whether the next turn is one of them
+abbrev pub is_next : (ℕ → Bool) → List Task → Bool
+is_next gone (Emitting e (handler number ∷ entries) ∷ rest) = gone number
+is_next gone _ = false
+
+-- where nothing is to be finalised and the next turn is gone, a step only takes it
+abbrev pub GoneTurnsPass : Type 0
+GoneTurnsPass =
+    (gone : ℕ → Bool) (d : Definition) (reply : Option Reply) (c : Config) → AreGone gone c.world →
+    next_unheld (mentions d c) c.world.objects ≡ None → is_next gone c.agenda ≡ true →
+    (e : Config) × (step d reply c ≡ Ok e) × (pruned_at gone e ≡ pruned_at gone c)
+
+-- each other step leads to the same without them: no line, count or result is another one, and it is stuck by the same arm
+abbrev pub StepsDoWithout : Type 0
+StepsDoWithout =
+    (gone : ℕ → Bool) (d : Definition) (reply : Option Reply) (c : Config) → AreGone gone c.world →
+    (next_unheld (mentions d c) c.world.objects ≡ None → is_next gone c.agenda ≡ false) →
+    step d reply (pruned_at gone c) ≡ mapped (pruned_at gone) (step d reply c)
+
+-- and it asks the same of peers
+abbrev pub QuestionsDoWithout : Type 0
+QuestionsDoWithout = (gone : ℕ → Bool) (d : Definition) (c : Config) → question d (pruned_at gone c) ≡ question d c
+
+-- ** which are gone
+
+-- those that were given and of which none stands
+abbrev pub GivenAreGone : Type 0
+GivenAreGone = (w : World) → AreGone (gone_in w) w
+
+-- and where more are gone later, what was left out before is left out then
+abbrev pub PrunedAgain : Type 0
+PrunedAgain =
+    (before later : ℕ → Bool) → ((number : ℕ) → before number ≡ true → later number ≡ true) → (c : Config) →
+    pruned_at later (pruned_at before c) ≡ pruned_at later c

@@ -1,0 +1,42 @@
+//! What an emission of a type's signal begins with.
+
+ghost use Rattle.std.specs.Prelude.{◌≡◌, ℕ, option_map, slice_get, string_bytes};
+ghost use Rattle.signal_core.specs.Emission.{begun};
+ghost use Rattle.signal_core.specs.Laws.{walk_for};
+ghost use Rattle.signal_core.specs.Sources.{signals_of};
+ghost use Rattle.signal_core.specs.Table.{planned_for};
+
+use crate::emission::Emission;
+use crate::table::SignalTable;
+use type_tree::{TypeId, TypeTree};
+use ui_machine::ObjectId;
+
+impl SignalTable {
+    /// What an emission by an object begins with: of the signal of a number, with a detail. The type is the object's own class. `None` where it
+    /// has no signal of the number.
+    pub fn emission(
+        &self,
+        tree: &TypeTree,
+        t: TypeId,
+        object: ObjectId,
+        number: u16,
+        detail: Option<String>,
+    ) -> Option<Emission>
+        ensures { (greatest : ℕ) → option_map (λ e. begun e greatest) result
+            ≡ option_map (λ s. walk_for greatest s.accumulator
+            (planned_for tree.now self.now.handlers t object.0 number (option_map (λ d. string_bytes d) detail) s))
+            (slice_get (signals_of tree.now self.now.signals t) number) }
+    {
+        match self.signal(tree, t, number) {
+            Some(signal) => Some(Emission {
+                object,
+                signal: number,
+                detail,
+                flags: signal.flags,
+                accumulator: signal.accumulator,
+                class_program: self.handler_named(tree, t, signal.name),
+            }),
+            None => None,
+        }
+    }
+}

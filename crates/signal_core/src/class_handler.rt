@@ -1,0 +1,49 @@
+//! The program that a class names for a signal.
+
+ghost use Rattle.std.specs.Prelude.{◌≡◌, string_bytes};
+ghost use Rattle.ui_machine.specs.Definition.Names.{same_name};
+
+use std::marker::Model;
+
+/// The program that a class names for a signal, by the signal's canonical name.
+#[derive(Drop)]
+pub(crate) struct ClassHandler {
+    signal: String,
+    program: u16,
+}
+
+impl Model for ClassHandler {
+    ghost use Rattle.std.specs.Prelude.{string_bytes};
+    ghost use Rattle.ui_machine.specs.Definition.Signals as machine;
+
+    ghost Value = { machine.ClassHandler };
+
+    ghost view = { λ h. record { signal = string_bytes h.signal; program = h.program } };
+}
+
+impl ClassHandler {
+    pub(crate) fn new(signal: String, program: u16) -> Self
+        ensures { result ≡ record { signal = string_bytes signal; program = program } }
+    {
+        ClassHandler { signal, program }
+    }
+
+    /// Whether it is for the signal of a name in canonical spelling.
+    pub(crate) fn is_for(&self, name: &str) -> bool
+        ensures { result ≡ same_name self.now.signal name.now }
+    {
+        self.signal.as_str() == name
+    }
+
+    pub(crate) fn program(&self) -> u16
+        ensures { result ≡ self.now.program }
+    {
+        self.program
+    }
+
+    pub(crate) fn set_program(&mut self, program: u16)
+        ensures { self.new ≡ record self.old { program = program } }
+    {
+        self.program = program;
+    }
+}

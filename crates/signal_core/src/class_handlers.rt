@@ -1,0 +1,82 @@
+//! The programs that classes run for signals.
+
+ghost use Rattle.std.specs.Prelude.{◌≡◌, ◌<◌, OnErr, OnOk, length, option_and_then, option_map, slice_get};
+ghost use Rattle.std.specs.List.{find};
+ghost use Rattle.ui_machine.specs.Definition.Names.{same_name};
+ghost use Rattle.ui_machine.specs.Rules.EmissionPlan.{handler_in};
+ghost use Rattle.ui_machine.specs.Seq.{read};
+ghost use Rattle.ui_machine.specs.Words.{notify};
+ghost use Rattle.signal_core.specs.Sources.{signals_of};
+ghost use Rattle.signal_core.specs.Table.{Names, SameHandlers, class_handler_named, named_of};
+
+use crate::class_handler::ClassHandler;
+use crate::table::SignalTable;
+use std::alloc::AllocError;
+use type_tree::{TypeId, TypeTree};
+
+impl SignalTable {
+    /// Names the program that a class runs for a signal of a number, in place of the one that it named before (GObject manual, Signals:
+    /// `g_signal_override_class_handler`). An error changes nothing.
+    pub fn set_class_handler(
+        &mut self,
+        tree: &TypeTree,
+        t: TypeId,
+        number: u16,
+        program: u16,
+    ) -> Result<(), AllocError>
+        requires { number < length (signals_of tree.now self.old.signals t) }
+        ensures ok { let signal = read notify (signals_of tree.now self.old.signals t) number in
+            OnOk result (Names self.old.handlers self.new.handlers t signal.name program) }
+        ensures err { OnErr result (SameHandlers self.old.handlers self.new.handlers) }
+        ensures signals { self.new.signals ≡ self.old.signals }
+    {
+        let Some(signal) = self.signal(tree, t, number) else {
+            unreachable!()
+        };
+        let name = String::from_str(self.allocator(), signal.name)?;
+        if self.own_handler(t, name.as_str()).is_some() {
+            self.replace_program(t, name.as_str(), program);
+            return Ok(());
+        }
+        self.add_handler(t, ClassHandler::new(name, program))
+    }
+
+    /// The program that a class runs for the signal of a number: its own, or that of its nearest ancestor that names one.
+    pub fn class_handler(&self, tree: &TypeTree, t: TypeId, number: u16) -> Option<u16>
+        ensures { result ≡ option_and_then (λ s. class_handler_named tree.now self.now.handlers t s.name)
+            (slice_get (signals_of tree.now self.now.signals t) number) }
+    {
+        match self.signal(tree, t, number) {
+            Some(signal) => self.handler_named(tree, t, signal.name),
+            None => None,
+        }
+    }
+
+    /// The same, by the signal's canonical name.
+    pub(crate) fn handler_named(&self, tree: &TypeTree, t: TypeId, name: &str) -> Option<u16>
+        ensures { result ≡ class_handler_named tree.now self.now.handlers t name.now }
+    {
+        if let Some(program) = self.own_handler(t, name) {
+            return Some(program);
+        }
+        match tree.parent(t) {
+            Some(parent) => self.handler_named(tree, parent, name),
+            None => None,
+        }
+    }
+
+    // The program that a class itself names.
+    fn own_handler(&self, t: TypeId, name: &str) -> Option<u16>
+        ensures { result ≡ handler_in (named_of self.now.handlers t) name.now }
+    {
+        let handler = first_for(self.own_handlers(t), name)?;
+        Some(handler.program())
+    }
+}
+
+// The first class handler of a name.
+fn first_for<'a>(handlers: &'a [ClassHandler], name: &str) -> Option<&'a ClassHandler>
+    ensures { option_map (λ h. h.now) result ≡ find (λ h. same_name h.signal name.now) handlers.now }
+{
+    handlers.iter().find(|handler| handler.is_for(name))
+}

@@ -1,0 +1,78 @@
+//! Which signals may be declared.
+
+ghost use Rattle.std.specs.Prelude.{◌≡◌, ◌<◌, ◌≤◌, IfNone, length, option_map, string_bytes, true};
+ghost use Rattle.g_values.specs.View.{kind_view};
+ghost use Rattle.type_tree.specs.PropertyName.{is_property_name};
+ghost use Rattle.signal_core.specs.Emission.{accumulator_of};
+ghost use Rattle.signal_core.specs.SignalView.{signal_view};
+ghost use Rattle.signal_core.specs.Sources.{own_of};
+ghost use Rattle.signal_core.specs.Table.{Declares, declare_fault, takes_result};
+
+use crate::emission::Accumulator;
+use crate::fault::{SignalError, SignalFault};
+use crate::signal::Signal;
+use crate::table::{MOST_SIGNALS, SignalTable};
+use g_values::Kind;
+use type_tree::{TypeId, TypeTree, canonical_name, is_property_name};
+
+impl SignalTable {
+    /// Declares a signal for a type of the tree, under its canonical name. It stands last among the type's own.
+    ///
+    /// The name is tested first, then whether the type has it already, the accumulator, and room. The first that fails is told. Then
+    /// `OutOfMemory`. An error changes nothing.
+    pub fn declare(&mut self, tree: &TypeTree, t: TypeId, signal: Signal) -> Result<(), SignalError>
+        requires { t < length tree.now }
+        ensures { let s = signal_view signal in
+            Declares result (declare_fault tree.now self.old.signals t s) t s self.old self.new }
+    {
+        if let Some(fault) = self.declare_fault(tree, t, &signal) {
+            return Err(SignalError::Refused(fault));
+        }
+        let name = canonical_name(self.allocator(), signal.name.as_str())?;
+        let signal = renamed(signal, name);
+        self.add_own(t, signal)?;
+        Ok(())
+    }
+
+    // Why a signal is not declared.
+    fn declare_fault(&self, tree: &TypeTree, t: TypeId, signal: &Signal) -> Option<SignalFault>
+        ensures fault { result ≡ declare_fault tree.now self.now.signals t (signal_view signal.now) }
+        ensures named { IfNone result (is_property_name (string_bytes signal.now.name) ≡ true) }
+        ensures room { IfNone result (length (own_of self.now.signals t) < 64) }
+        ensures few { IfNone result (length tree.now ≤ 256) }
+    {
+        if !is_property_name(signal.name.as_str()) {
+            return Some(SignalFault::BadName);
+        }
+        if self.find(tree, t, signal.name.as_str()).is_some() {
+            return Some(SignalFault::Duplicate);
+        }
+        if !takes_result(signal.accumulator, signal.result) {
+            return Some(SignalFault::AccumulatorKind);
+        }
+        if self.line_count(tree, t) >= MOST_SIGNALS {
+            return Some(SignalFault::Limit);
+        }
+        None
+    }
+}
+
+// Whether results of a kind can be put together so.
+fn takes_result(accumulator: Option<Accumulator>, kind: Option<Kind>) -> bool
+    ensures { result ≡ takes_result (option_map accumulator_of accumulator) (option_map kind_view kind) }
+{
+    match accumulator {
+        None => true,
+        Some(Accumulator::TrueHandled) => matches!(kind, Some(Kind::Bool)),
+        Some(Accumulator::FirstWins) => kind.is_some(),
+    }
+}
+
+// The same signal under another name.
+fn renamed(signal: Signal, name: String) -> Signal
+    ensures { signal_view result ≡ record (signal_view signal) { name = string_bytes name } }
+{
+    let mut signal = signal;
+    signal.name = name;
+    signal
+}

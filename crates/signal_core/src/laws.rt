@@ -1,0 +1,16 @@
+//! What holds of every emission, and of the signals of every type.
+
+ghost use Rattle.signal_core.specs.Laws.{PlanIsWalked, TurnsGoOn};
+ghost use Rattle.signal_core.specs.TableLaws.{AncestorsComeFirst, SignalsAreInherited};
+
+/// The turns of an emission are the entries of the machine's plan as it begins, and what stood behind a turn is to come once it is taken.
+pub fn turns()
+    ensures planned { PlanIsWalked }
+    ensures goes_on { TurnsGoOn }
+{}
+
+/// A type has the signals of its parent first, under the same numbers, and those of each type that it is.
+pub fn inheritance()
+    ensures first { AncestorsComeFirst }
+    ensures all { SignalsAreInherited }
+{}

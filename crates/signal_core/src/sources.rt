@@ -1,0 +1,75 @@
+//! Whose signals a type has, in the order in which they come.
+//!
+//! A type brings itself and, as a class, the interfaces that it names. What its ancestors bring comes before that.
+
+ghost use Rattle.std.specs.Prelude.{◌≡◌, ◌<◌, length, nat_eq, take};
+ghost use Rattle.std.specs.List.{list_any};
+ghost use Rattle.ui_machine.specs.Rules.Ancestry.{implemented_by};
+ghost use Rattle.signal_core.specs.Sources.{brought_above, brought_at, brought_by, came_before};
+
+use type_tree::{TypeId, TypeSort, TypeTree};
+
+/// How many types a type brings.
+pub(crate) fn source_count(tree: &TypeTree, t: TypeId) -> usize
+    ensures { result ≡ length (brought_by tree.now t) }
+{
+    implemented(tree, t).len() + 1
+}
+
+/// What a type brings at a place.
+pub(crate) fn source_at(tree: &TypeTree, t: TypeId, place: usize) -> TypeId
+    requires { place < length (brought_by tree.now t) }
+    ensures { result ≡ brought_at tree.now t place }
+{
+    if place == 0 {
+        t
+    } else {
+        implemented(tree, t)[place - 1]
+    }
+}
+
+/// Whether what a type brings at a place was brought before.
+pub(crate) fn came_before(tree: &TypeTree, t: TypeId, place: usize) -> bool
+    requires { place < length (brought_by tree.now t) }
+    ensures { result ≡ came_before tree.now t place }
+{
+    let source = source_at(tree, t, place);
+    stands_above(tree, t, source) || stands_among(tree, t, place, source)
+}
+
+// Whether an ancestor of a type brings another type.
+fn stands_above(tree: &TypeTree, t: TypeId, source: TypeId) -> bool
+    ensures { result ≡ list_any (nat_eq source) (brought_above tree.now t) }
+{
+    match tree.parent(t) {
+        Some(parent) => tree.is_a(parent, source),
+        None => false,
+    }
+}
+
+// Whether another type is among the first that a type brings.
+fn stands_among(tree: &TypeTree, t: TypeId, count: usize, source: TypeId) -> bool
+    requires { count < length (brought_by tree.now t) }
+    ensures { result ≡ list_any (nat_eq source) (take count (brought_by tree.now t)) }
+{
+    count > 0 && (source == t || contains(&implemented(tree, t)[..count - 1], source))
+}
+
+fn contains(types: &[TypeId], source: TypeId) -> bool
+    ensures { result ≡ list_any (nat_eq source) types.now }
+{
+    types.iter().any(|t| source == *t)
+}
+
+// The interfaces that a type names as a class.
+fn implemented(tree: &TypeTree, t: TypeId) -> &[TypeId]
+    ensures { result.now ≡ implemented_by tree.now t }
+{
+    if t.index() >= tree.len() {
+        return &[];
+    }
+    match tree.sort(t) {
+        TypeSort::Class => tree.interfaces(t),
+        TypeSort::Interface | TypeSort::Enum | TypeSort::Flags => &[],
+    }
+}
