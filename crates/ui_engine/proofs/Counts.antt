@@ -194,9 +194,6 @@ keeps_same d e new table weak builder stack = keeps_by d e new weak (λ taken _ 
     (subst (λ (s : Stack). Exact d taken e.world.table (map held_of new.world.builder.items) (agenda_of d s)) (sym stack)
     (subst (λ bs. Exact d taken e.world.table (map held_of bs.items) (agenda_of d e.stack)) (sym builder) h)))
 
-pub keeps_itself : (d : Definition) (e : Engine) → KeepsCounts d e e
-keeps_itself d e = record { at = λ taken h. h }
-
 -- a line that was said
 pub keeps_said : (d : Definition) (e : Engine) (w : World) → w ≡ record e.world { transcript = w.transcript } → KeepsCounts d e (record e { world = w })
 keeps_said d e w is =

@@ -27,7 +27,7 @@ use crate::engine::Engine;
 use crate::holding::hold_any;
 use crate::lines::Line;
 use crate::task::{Forwards, Making, Makings, Slots, Task};
-use crate::world::{World, hold};
+use crate::world::{World, put_built};
 use builder_defs::{Definition, Given, GivenValue};
 use g_values::Value;
 use instances::{Object, Table};
@@ -49,12 +49,13 @@ impl Engine {
         ensures quiet { OnErr result ((world_of self.new.world).transcript ≡ (world_of self.old.world).transcript) }
         ensures counted { OnOk result (KeepsCounts definition.now self.old self.new) }
     {
+        // For the proof: the clauses speak of the definition.
         let _ = definition;
         let place = self.world.table.place_of(object)?;
         if self.world.built(place).is_some() {
             return Err(Halt::Stuck(Arm::Code));
         }
-        hold(&mut self.world.builder, place, object)?;
+        put_built(&mut self.world.builder, place, object)?;
         hold_any(&mut self.world.table, Some(object))?;
         self.world.table.sink(object);
         Ok(())
@@ -74,6 +75,7 @@ impl Engine {
         ensures quiet { OnErr result ((world_of self.new.world).transcript ≡ (world_of self.old.world).transcript) }
         ensures counted { OnOk result (KeepsCounts definition.now self.old self.new) }
     {
+        // For the proof: the clauses speak of the definition.
         let _ = definition;
         let slots = self.world.table.thaw(object)?;
         self.push(Task::Constructing { object, steps })?;
@@ -159,7 +161,7 @@ impl Engine {
             .types()
             .is_a(class, TypeId::new(INITIALLY_UNOWNED));
         let object = Object::new(self.alloc, class, place, values, None);
-        // No definition has more objects than may live, so that what is wanting is memory.
+        // A definition has no more objects than may live, so that what wants is memory.
         let Ok(id) = self.world.table.create(object) else {
             return Err(AllocError);
         };
@@ -216,6 +218,7 @@ impl Engine {
         ensures quiet { OnErr result ((world_of self.new.world).transcript ≡ (world_of self.old.world).transcript) }
         ensures counted { OnOk result (KeepsCounts definition.now self.old self.new) }
     {
+        // For the proof: what is known of a definition's types.
         let _types = definition.types();
         if place >= definition.object_count() {
             return self.forwarding(definition, place, forwards);
@@ -249,6 +252,7 @@ fn defaults(alloc: Global, definition: &Definition, class: TypeId) -> Result<Vec
     ensures { IfOk result (λ values. map value_view values.items ≡ map (λ (s : machine.Spec). s.default) (specs_of definition.now class)) }
 {
     let mut values = Vec::new(alloc);
+    // For the proof: how many properties a class has at most.
     let _slots = definition.slots(class);
     let mut slot: u16 = 0;
     loop {

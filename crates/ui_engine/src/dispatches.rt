@@ -61,6 +61,7 @@ impl Engine {
         ensures ok { OnOk result (config_of definition.now self.new ≡ beginning (world_of self.old.world) (task_of definition.now task)) }
         ensures err { OnErr result ((world_of self.new.world).transcript ≡ (world_of self.old.world).transcript) }
     {
+        // For the proof: the clauses speak of the definition.
         let _ = definition;
         self.world.result = None;
         self.counted = 0;

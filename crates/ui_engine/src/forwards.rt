@@ -73,6 +73,7 @@ fn add_forwards_of(
 pub(crate) fn forwards(alloc: Global, definition: &Definition) -> Result<Forwards, AllocError>
     ensures { IfOk result (λ forwards. map item_of forwards ≡ forward_items 0 definition.now.places) }
 {
+    // For the proof: what is known of a definition's types.
     let _types = definition.types();
     let mut forwards = Vec::new(alloc);
     let mut place = definition.object_count();

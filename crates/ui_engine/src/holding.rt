@@ -1,4 +1,7 @@
-//! What holds an object: the builder, and each task from when it comes before the others until it is done.
+//! What holds an object.
+//!
+//! The table counts how often each object is held. A property and a parent hold by the table itself; the builder holds what it has
+//! built, and a task holds its object from when it comes before the others until it is done.
 
 ghost use Rattle.std.specs.Prelude.{◌≡◌, ℕ, ◌+◌, ◌≤◌, ◌∷◌, OnOk};
 ghost use Rattle.ui_machine.specs.Definition as machine;

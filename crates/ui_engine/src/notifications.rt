@@ -94,6 +94,7 @@ impl Engine {
         ensures quiet { OnErr result ((world_of self.new.world).transcript ≡ (world_of self.old.world).transcript) }
         ensures counted { OnOk result (KeepsCounts definition.now self.old self.new) }
     {
+        // For the proof: the clauses speak of the definition.
         let _ = definition;
         let Some(slot) = slots.take() else {
             return Ok(());

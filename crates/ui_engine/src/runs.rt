@@ -23,6 +23,7 @@ impl Engine {
         ensures stepped { Stepped (Ok result) definition.now (config_of definition.now self.old) (config_of definition.now self.new) }
         ensures same { (world_of self.new.world).transcript ≡ (world_of self.old.world).transcript }
     {
+        // For the proof: the clauses speak of the definition.
         let _ = definition;
         let Some(object) = self.world.table.first_floating() else {
             return Made::Nothing;
@@ -39,6 +40,7 @@ impl Engine {
         ensures stepped { Stepped result definition.now (config_of definition.now self.old) (config_of definition.now self.new) }
         ensures grows { IsPrefix (world_of self.old.world).transcript (world_of self.new.world).transcript }
     {
+        // For the proof: what is known of a definition's types.
         let _types = definition.types();
         let Some(task) = self.stack.pop() else {
             return Ok(self.settle(definition));

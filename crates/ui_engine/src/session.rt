@@ -42,7 +42,7 @@ impl From<Halt> for SessionFault {
     }
 }
 
-/// What runs a definition. Where it has not stopped, each object that lives is held, and nothing is left to do.
+/// What runs a definition. Where it has not stopped, each object is counted as often as it is mentioned, and nothing is left to do.
 #[derive(Drop)]
 pub struct Session {
     definition: Definition,
@@ -97,6 +97,7 @@ impl Session {
         ensures built { IfOk result (λ started. Comes started.build (building definition) definition started.session) }
         ensures refused { IfErr result (λ refused. refused.definition ≡ definition) }
     {
+        // For the proof: what is known of a definition's types.
         let _types = definition.types();
         let Ok(weak) = weak_slots(alloc, &definition) else {
             return Err(Refused {

@@ -133,6 +133,7 @@ impl Engine {
         ensures spec { Shows (λ s. spec_view s.now) result (spec_at definition.now (world_of self.now.world).objects object.0 slot) }
         ensures plain { IfOk result (λ s. IsPlain definition.now.types (spec_view s.now)) }
     {
+        // For the proof: what is known of a definition's types.
         let _types = definition.types();
         let class = self.world.table.class_of(object)?;
         let Some(spec) = definition.spec(class, slot) else {
@@ -157,6 +158,7 @@ impl Engine {
         ensures quiet { OnErr result ((world_of self.new.world).transcript ≡ (world_of self.old.world).transcript) }
         ensures counted { OnOk result (KeepsCounts definition.now self.old self.new) }
     {
+        // For the proof: the clauses speak of the definition.
         let _ = definition;
         if !is_told {
             self.world.say(line)?;
@@ -184,6 +186,7 @@ impl Engine {
         ensures same { (self.new.stack ≡ self.old.stack) × (self.new.counted ≡ self.old.counted) }
         ensures counted { OnOk result (KeepsCounts definition.now self.old self.new) }
     {
+        // For the proof: the clauses speak of the definition.
         let _ = definition;
         if !can_hold_named(&self.world.table, &value) {
             return Err(Halt::OutOfMemory);

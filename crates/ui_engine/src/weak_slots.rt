@@ -16,6 +16,7 @@ fn weak_of(alloc: Global, definition: &Definition, class: TypeId) -> Result<Vec<
     ensures { IfOk result (λ marks. marks.items ≡ weak_of (specs_of definition.now class)) }
 {
     let mut marks = Vec::new(alloc);
+    // For the proof: how many properties a class has at most.
     let _slots = definition.slots(class);
     let mut slot: u16 = 0;
     loop {

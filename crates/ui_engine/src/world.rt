@@ -77,8 +77,8 @@ impl World {
     }
 }
 
-/// What was built at a place is held from now on. A place that the builder has not come to yet has nothing.
-pub fn hold(
+/// The builder has this object of a place from now on. A place that it has not come to yet has nothing.
+pub fn put_built(
     builder: &mut Vec<Option<ObjectId>>,
     place: usize,
     object: ObjectId,

@@ -39,7 +39,7 @@ returns-clause-step c =
     let floats = ap (λ (s : Store). s.floating) c.sink.ensures.beside in
     let objects = ap (λ (s : Store). s.objects) c.sink.ensures.beside in
     ap (uncounted rest c.args.self.now.counted) (held_now w c.args.object.0 c.in_ok-place.place c.in_ok-place.ensures there)
-    ∙ rw (floats, objects, c.hold_any.ensures.only.floating, c.hold_any.ensures.only.objects, c.in_ok-hold.ensures) refl
+    ∙ rw (floats, objects, c.hold_any.ensures.only.floating, c.hold_any.ensures.only.objects, c.in_ok-put_built.ensures) refl
 
 pub returns-clause-counted : goal.returns-clause-counted
 returns-clause-counted c =
@@ -49,12 +49,12 @@ returns-clause-counted c =
     let id = c.args.object.0 in
     let place = c.in_ok-place.place in
     let b = map held_of e.world.builder.items in
-    let n = map held_of c.hold.new.builder.items in
+    let n = map held_of c.put_built.new.builder.items in
     let a = agenda_of d e.stack in
     let there : is_unbuilt (held_at w place) ≡ true =
     fresh e.world.builder.items place ∙ ap (λ found. not (is_some found)) (sym c.built.ensures) ∙ ap not (some_id c.built.result ∙ sym c.is_some.ensures ∙ c.if-is_some.false) in
     let more : (o : ℕ) → total (in_held o) n ≡ total (in_held o) b + same o id =
-    λ o. ap (λ (hs : List Held). total (in_held o) hs) c.in_ok-hold.ensures ∙ total-written (in_held o) unbuilt b place (built id) refl (holds_nothing o (held_at w place) there) in
+    λ o. ap (λ (hs : List Held). total (in_held o) hs) c.in_ok-put_built.ensures ∙ total-written (in_held o) unbuilt b place (built id) refl (holds_nothing o (held_at w place) there) in
     keeps_by d e _ refl (λ taken _ h.
     sunk_exact d taken c.hold_any.new.table c.sink.new.self n a id c.sink.ensures
     (holder_more d taken e.world.table c.hold_any.new.table b n a a (λ o. same o id) c.hold_any.ensures.only c.in_ok-hold_any.ensures.counts

@@ -4,7 +4,7 @@ use Rattle.ui_machine.specs.Seq.{write}
 use Rattle.ui_machine.specs.State.Config.{built, unbuilt}
 use Rattle.ui_engine.specs.View.{held_of}
 use Rattle.ui_engine.proofs.Built.{filled, held_more, held_set}
-use Rattle.ui_engine.proofs.world.hold.Goals as goal
+use Rattle.ui_engine.proofs.world.put_built.Goals as goal
 
 pub growing-preserved : goal.growing-preserved
 growing-preserved c =
