@@ -62,10 +62,10 @@ module _ (d : Definition) where
     says = says.shows;
     definition = says.definition ∙ is;
   }
-  replied old mid n line (refused r) is event (inl no, same) =
+  replied old mid n line (refused r) is event (inl denied, same) =
       let none : event_served d n line (refused r) ≡ [] =
       ap (λ f. event_of_line f (event_denoted d line)) event
-      ∙ ap (event_of_line file_run.event) (subst (λ (e : Definition). event_denoted e line ≡ Err no.0.refusal) is no.0.denotes) in
+      ∙ ap (event_of_line file_run.event) (subst (λ (e : Definition). event_denoted e line ≡ Err denied.0.refusal) is denied.0.denotes) in
       untouched old mid n line (refused r) is none refl same
   replied old mid n line (refused r) is event (inr named, same) = record {
     came = one_event named.0.event no_dispatch
