@@ -1,4 +1,6 @@
 pub mod Numbered
+pub mod InOrder
+pub mod Nested
 pub mod Tables
 pub mod Whole
 pub mod LaterTypes

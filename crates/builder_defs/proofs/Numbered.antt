@@ -1,28 +1,42 @@
 -- Entries by what they are called: their numbers, one by one and all together.
-use Rattle.std.proofs.Common.{◌≡◌, ◌<◌, ◌≤◌, ℕ, zero, suc, ◌+◌, nat_lt, arith, Bool, true, false, if◌then◌else◌, List, [], ◌∷◌, length, drop, get_or, slice_get, Option, None, Some, option_map, option_and_then, refl, sym, ap, ◌∙◌}
+use Rattle.std.proofs.Common.{◌≡◌, ◌<◌, ◌≤◌, ℕ, zero, suc, ◌+◌, nat_lt, arith, Bool, true, false, if◌then◌else◌, List, [], ◌∷◌, length, map, Bor, drop, get_or, slice_get, Option, None, Some, option_map, option_and_then, refl, sym, ap, ◌∙◌}
 use Rattle.std.proofs.lemmas.Bool.Decides.{nat_tests}
 use Rattle.std.specs.Option.{option_or}
 use Rattle.std.proofs.lemmas.Option.{slice_get_within, get_or_from_slice_get}
 use Rattle.std.proofs.Math.Seq.{drop-cons}
+use Rattle.serde_json.specs.Data.{Data}
 use Rattle.serde_json.specs.declared.value.Value.{Value}
 use Rattle.serde_json.specs.View.{view, items_view}
 use Rattle.ui_machine.specs.Seq.{read}
+use Rattle.builder_defs.specs.EntryViews.{views}
 use Rattle.builder_defs.specs.Denoted.Entries.{is_called, name_under, names_under, number_from, at_most, TypeNames, later_type}
 
 pub count_is : (key : List ℕ) (vs : List Value) → length (names_under key (items_view vs)) ≡ length vs
 count_is key [] = refl
 count_is key (v ∷ vs) = ap suc (count_is key vs)
 
--- the name of an entry
-name_there : (key : List ℕ) (vs : List Value) (i : ℕ)
-    → read None (names_under key (items_view vs)) i ≡ option_and_then (λ v. name_under key (view v)) (slice_get vs i)
-name_there key [] i = refl
-name_there key (v ∷ vs) zero = refl
-name_there key (v ∷ vs) (suc i) = name_there key vs i
+-- what the entries of a list are called, one after the other
+pub names_are : (key : List ℕ) (vs : List Value) → names_under key (items_view vs) ≡ map (name_under key) (map view vs)
+names_are key [] = refl
+names_are key (v ∷ vs) = ap (λ names. name_under key (view v) ∷ names) (names_are key vs)
 
-pub name_there_is : (key : List ℕ) (vs : List Value) (i : ℕ) (found : Option Value) → slice_get vs i ≡ found
-    → read None (names_under key (items_view vs)) i ≡ option_and_then (λ v. name_under key (view v)) found
-name_there_is key vs i found is = name_there key vs i ∙ ap (option_and_then (λ v. name_under key (view v))) is
+-- the values of references to the values of a list
+pub views_are : (refs : List (Bor Value)) (vs : List Value) → map (λ (r : Bor Value). r.now) refs ≡ vs → views refs ≡ map view vs
+views_are refs vs e = each refs ∙ ap (map view) e
+  where
+    each : (rs : List (Bor Value)) → views rs ≡ map view (map (λ (r : Bor Value). r.now) rs)
+    each [] = refl
+    each (r ∷ rs) = ap (λ ds. view r.now ∷ ds) (each rs)
+
+-- what the entry of a number is called
+name_there : (key : List ℕ) (ds : List Data) (i : ℕ) → read None (map (name_under key) ds) i ≡ option_and_then (name_under key) (slice_get ds i)
+name_there key [] i = refl
+name_there key (d ∷ ds) zero = refl
+name_there key (d ∷ ds) (suc i) = name_there key ds i
+
+pub name_there_is : (key : List ℕ) (ds : List Data) (i : ℕ) (found : Option Data) → slice_get ds i ≡ found
+    → read None (map (name_under key) ds) i ≡ option_and_then (name_under key) found
+name_there_is key ds i found is = name_there key ds i ∙ ap (option_and_then (name_under key)) is
 
 drop_at : {A : Type 0} (xs : List A) (i : ℕ) (x : A) → slice_get xs i ≡ Some x → drop i xs ≡ x ∷ drop (suc i) xs
 drop_at xs i x at = drop-cons xs i x (slice_get_within xs i x at) ∙ ap (λ y. y ∷ drop (suc i) xs) (get_or_from_slice_get xs i x x at)
@@ -33,10 +47,9 @@ slice_got (y ∷ xs) zero x small is = ap Some (sym is)
 slice_got (y ∷ xs) (suc i) x small is = slice_got xs i x (omega arith) is
 
 -- the numbers from an entry on
-pub number_before : (key : List ℕ) (vs : List Value) (i : ℕ) (v : Value) (name : List ℕ) → slice_get vs i ≡ Some v
-    → number_from i (names_under key (items_view (drop i vs))) name
-    ≡ (if is_called (name_under key (view v)) name then Some i else number_from (suc i) (names_under key (items_view (drop (suc i) vs))) name)
-number_before key vs i v name at = ap (λ (ws : List Value). number_from i (names_under key (items_view ws)) name) (drop_at vs i v at)
+pub number_before : (names : List (Option (List ℕ))) (i : ℕ) (own : Option (List ℕ)) (name : List ℕ) → slice_get names i ≡ Some own
+    → number_from i (drop i names) name ≡ (if is_called own name then Some i else number_from (suc i) (drop (suc i) names) name)
+number_before names i own name at = ap (λ (left : List (Option (List ℕ))). number_from i left name) (drop_at names i own at)
 
 -- numbers that begin later are greater
 number_past : (i n : ℕ) (names : List (Option (List ℕ))) (name : List ℕ)

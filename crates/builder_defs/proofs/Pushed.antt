@@ -1,5 +1,5 @@
 -- An object more.
-use Rattle.std.proofs.Common.{◌≡◌, ℕ, List, [], ◌∷◌, ◌++◌, map, Result, Ok, sym, ap, ◌∙◌}
+use Rattle.std.proofs.Common.{◌≡◌, ℕ, List, [], ◌∷◌, ◌++◌, map, Result, Ok, sym, ap, ◌∙◌, Option}
 use Rattle.std.proofs.lemmas.List.{map_push}
 use Rattle.serde_json.specs.Data.{Data}
 use Rattle.ui_machine.specs.Definition.Types.{GType}
@@ -9,21 +9,20 @@ use Rattle.builder_defs.specs.declared.fault.ReadError.{ReadError}
 use Rattle.builder_defs.specs.Meaning.{Entry, plain_object}
 use Rattle.ui_machine.specs.Outcome.{◌>>=◌}
 use Rattle.builder_defs.specs.Refusals.{Refusal, Fails}
-use Rattle.builder_defs.specs.Denoted.Entries.{ObjectNames}
-use Rattle.builder_defs.specs.Denoted.Objects.{place_at, object_at}
+use Rattle.builder_defs.specs.Denoted.Objects.{Scope, place_at, added_at}
 use Rattle.builder_defs.proofs.Chains.{fails_first}
 
-module _ (path : List ℕ) (types : List GType) (specs : ℕ → List Spec) (most : ℕ) (names : ObjectNames) (os : List Entry) (d : Data) where
+module _ (path : List ℕ) (scope : Scope) (parent : Option ℕ) (os : List Entry) (d : Data) where
   added : Place → Result (List Place) Refusal
   added place = Ok (map plain_object os ++ place ∷ [])
 
-  pub object_fails : (e : ReadError)
-      → Fails e (place_at path types specs most names (map plain_object os) d) → Fails e (object_at path types specs most names (map plain_object os) d)
-  unfolding object_at added
-  object_fails e h = fails_first e (place_at path types specs most names (map plain_object os) d) added h
+  pub added_fails : (e : ReadError)
+      → Fails e (place_at path scope parent (map plain_object os) d) → Fails e (added_at path scope parent (map plain_object os) d)
+  unfolding added_at added
+  added_fails e h = fails_first e (place_at path scope parent (map plain_object os) d) added h
 
-  pub object_pushed : (o : Entry)
-      → place_at path types specs most names (map plain_object os) d ≡ Ok (plain_object o)
-      → object_at path types specs most names (map plain_object os) d ≡ Ok (map plain_object (os ++ o ∷ []))
-  unfolding object_at added
-  object_pushed o h = ap (λ (r : Result Place Refusal). r >>= added) h ∙ ap (λ (l : List Place). Ok l) (sym (map_push plain_object os o))
+  pub added_pushed : (o : Entry)
+      → place_at path scope parent (map plain_object os) d ≡ Ok (plain_object o)
+      → added_at path scope parent (map plain_object os) d ≡ Ok (map plain_object (os ++ o ∷ []))
+  unfolding added_at added
+  added_pushed o h = ap (λ (r : Result Place Refusal). r >>= added) h ∙ ap (λ (l : List Place). Ok l) (sym (map_push plain_object os o))

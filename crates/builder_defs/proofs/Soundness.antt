@@ -31,7 +31,7 @@ use Rattle.builder_defs.specs.Refusals.{Refusal, shape, unknown, not_installed, 
 use Rattle.builder_defs.specs.declared.fault.DefinitionLimit.TheVariants.{Places, Objects}
 use Rattle.ui_machine.specs.Outcome.{◌>>=◌}
 use Rattle.builder_defs.specs.Document.{each, at_entry, under, nth, members_at, text_at, truth_at, entries_at, listed_ahead, absent_at, nothing_at, only_at}
-use Rattle.builder_defs.specs.Denoted.Entries.{TypeNames, type_names, ObjectNames, object_names}
+use Rattle.builder_defs.specs.Denoted.Entries.{TypeNames, type_names, most_levels}
 use Rattle.builder_defs.specs.Denoted.Kinds.{is_enum, is_flags, enum_named, flags_named, parted, object_type, kind_by, kind_at, lowest, highest}
 use Rattle.builder_defs.specs.Denoted.PropertyFlags.{flags_at}
 use Rattle.builder_defs.specs.Denoted.Ranges.{Range, whole_range, end_given, end_or, check_filled, range_at}
@@ -43,9 +43,9 @@ use Rattle.builder_defs.specs.Denoted.Implements.{implements_at}
 use Rattle.builder_defs.specs.Denoted.Interfaces.{requires_at, interface_type_at, keys_of_interface, interface_at}
 use Rattle.builder_defs.specs.Denoted.Classes.{parent_at, parent_ahead, check_depth, keys_of_class, declared_at, answering_at, class_at}
 use Rattle.builder_defs.specs.Denoted.Classes as classes
-use Rattle.builder_defs.specs.Denoted.Objects.{room_for_object, new_id, class_at_key, keys_of_object, place_at, object_at}
+use Rattle.builder_defs.specs.Denoted.Objects.{Scope, room_for_object, new_id, class_at_key, keys_of_object, place_at, added_at, object_at}
 use Rattle.builder_defs.specs.Denoted.Given.{givens_at}
-use Rattle.builder_defs.specs.Denoted.{unset_before_classes, unset_before_objects, enums_in, flags_in, interfaces_in, classes_in, draft_in, objects_in}
+use Rattle.builder_defs.specs.Denoted.{unset_before_classes, unset_before_objects, enums_in, flags_in, interfaces_in, classes_in, draft_in, scope_with, objects_in}
 use Rattle.builder_defs.proofs.Installing.{specs_of-is}
 use Rattle.builder_defs.proofs.LaterTypes.{plain_later}
 
@@ -396,38 +396,51 @@ room_below most places = by (nat_le 512 (length places)) (nat_le most (length pl
     by false true e f = tt
     by false false e f = record { place = grind (arith, nat_tests); life = grind (arith, nat_tests) }
 
-module _ (types : List GType) (specs : ℕ → List Spec) (most : ℕ) where
-  place_few : (names : ObjectNames) (path : List ℕ) (places : List Place) (d : Data) → OnRead (λ place. HasRoom most places) (place_at path types specs most names places d)
-  unfolding place_at
-  place_few names path places d =
-      on_bind (λ x. Unit {0}) (λ place. HasRoom most places) (members_at path d) _ (on_all _) λ ms u.
-      on_bind (λ x. HasRoom most places) (λ place. HasRoom most places) (room_for_object most places) _ (room_below most places) λ u room.
-      on_bind (λ x. Unit {0}) (λ place. HasRoom most places) (text_at path d (codes "id")) _ (on_all _) λ id u.
-      on_bind (λ x. Unit {0}) (λ place. HasRoom most places) (new_id (under path (codes "id")) places id) _ (on_all _) λ new u.
-      on_bind (λ x. Unit {0}) (λ place. HasRoom most places) (class_at_key path types d) _ (on_all _) λ class u.
-      on_bind (λ x. Unit {0}) (λ place. HasRoom most places) (absent_at path d (codes "peer" ∷ [])) _ (on_all _) λ peer u.
-      on_bind (λ x. Unit {0}) (λ place. HasRoom most places) (givens_at path types names (length places) (specs class) d) _ (on_all _) λ given u.
-      on_bind (λ x. Unit {0}) (λ place. HasRoom most places) (nothing_at path d (codes "signals" ∷ codes "children" ∷ [])) _ (on_all _) λ bare u.
-      on_bind (λ x. Unit {0}) (λ place. HasRoom most places) (only_at path ms keys_of_object) _ (on_all _) λ only u. room
+place_few : (scope : Scope) (parent : Option ℕ) (path : List ℕ) (places : List Place) (d : Data)
+    → OnRead (λ place. HasRoom scope.most places) (place_at path scope parent places d)
+unfolding place_at
+place_few scope parent path places d =
+    on_bind (λ x. HasRoom scope.most places) (λ place. HasRoom scope.most places) (room_for_object scope.most places) _ (room_below scope.most places) λ u room.
+    on_bind (λ x. Unit {0}) (λ place. HasRoom scope.most places) (text_at path d (codes "id")) _ (on_all _) λ id u.
+    on_bind (λ x. Unit {0}) (λ place. HasRoom scope.most places) (new_id (under path (codes "id")) places id) _ (on_all _) λ new u.
+    on_bind (λ x. Unit {0}) (λ place. HasRoom scope.most places) (class_at_key path scope.types d) _ (on_all _) λ class u.
+    on_bind (λ x. Unit {0}) (λ place. HasRoom scope.most places) (absent_at path d (codes "peer" ∷ [])) _ (on_all _) λ peer u.
+    on_bind (λ x. Unit {0}) (λ place. HasRoom scope.most places) (givens_at path scope.types scope.names (length places) (scope.specs class) d) _ (on_all _) λ given u.
+    on_bind (λ x. Unit {0}) (λ place. HasRoom scope.most places) (nothing_at path d (codes "signals" ∷ [])) _ (on_all _) λ bare u. room
 
-  one_place_more : (places : List Place) (place : Place) → HasRoom most places → AreFew most (places ++ place ∷ [])
-  one_place_more places place room =
-      let one = length_push places place in
-      record { placed = omega (arith, one, room.place); live = omega (arith, one, room.life) }
+one_place_more : (most : ℕ) (places : List Place) (place : Place) → HasRoom most places → AreFew most (places ++ place ∷ [])
+one_place_more most places place room =
+    let one = length_push places place in
+    record { placed = omega (arith, one, room.place); live = omega (arith, one, room.life) }
 
-  object_few : (names : ObjectNames) (path : List ℕ) (places : List Place) (d : Data) → AreFew most places → OnRead (AreFew most) (object_at path types specs most names places d)
-  unfolding object_at
-  object_few names path places d few =
-      on_bind (λ place. HasRoom most places) (AreFew most) (place_at path types specs most names places d) (λ place. Ok (places ++ place ∷ [])) (place_few names path places d)
-      λ place room. one_place_more places place room
+added_few : (scope : Scope) (parent : Option ℕ) (path : List ℕ) (places : List Place) (d : Data)
+    → OnRead (AreFew scope.most) (added_at path scope parent places d)
+unfolding added_at
+added_few scope parent path places d =
+    on_bind (λ place. HasRoom scope.most places) (AreFew scope.most) (place_at path scope parent places d) (λ place. Ok (places ++ place ∷ []))
+    (place_few scope parent path places d) λ place room. one_place_more scope.most places place room
 
-  pub objects_few : (d : Data) → OnRead (AreFew most) (objects_in types specs most d)
-  unfolding objects_in
-  objects_few d =
-      on_bind (λ x. Unit {0}) (AreFew most) (nothing_at [] d unset_before_objects) _ (on_all _) λ unset u.
-      on_bind (λ x. Unit {0}) (AreFew most) (entries_at [] d (codes "objects")) _ (on_all _) λ list u.
-      on_each (AreFew most) (at_entry (λ entry. object_at entry types specs most (object_names list)) (under [] (codes "objects")))
-      (λ i places d few. object_few (object_names list) (nth (under [] (codes "objects")) i) places d few) 0 [] list (record { placed = omega arith; live = omega arith })
+object_few : (levels : ℕ) (scope : Scope) (parent : Option ℕ) (path : List ℕ) (places : List Place) (d : Data)
+    → OnRead (AreFew scope.most) (object_at levels scope parent path places d)
+unfolding object_at
+object_few zero scope parent path places d = tt
+object_few (suc levels) scope parent path places d =
+    on_bind (λ x. Unit {0}) (AreFew scope.most) (members_at path d) _ (on_all _) λ ms u.
+    on_bind (AreFew scope.most) (AreFew scope.most) (added_at path scope parent places d) _ (added_few scope parent path places d) λ more few.
+    on_bind (λ x. Unit {0}) (AreFew scope.most) (entries_at path d (codes "children")) _ (on_all _) λ list u.
+    on_bind (AreFew scope.most) (AreFew scope.most) (each (at_entry (object_at levels scope (Some (length places))) (under path (codes "children"))) 0 more list) _
+    (on_each (AreFew scope.most) (at_entry (object_at levels scope (Some (length places))) (under path (codes "children")))
+    (λ i others entry fewer. object_few levels scope (Some (length places)) (nth (under path (codes "children")) i) others entry) 0 more list few) λ all fewer.
+    on_bind (λ x. Unit {0}) (AreFew scope.most) (only_at path ms keys_of_object) _ (on_all _) λ only u. fewer
+
+pub objects_few : (types : List GType) (specs : ℕ → List Spec) (most : ℕ) (d : Data) → OnRead (AreFew most) (objects_in types specs most d)
+unfolding objects_in
+objects_few types specs most d =
+    on_bind (λ x. Unit {0}) (AreFew most) (nothing_at [] d unset_before_objects) _ (on_all _) λ unset u.
+    on_bind (λ x. Unit {0}) (AreFew most) (entries_at [] d (codes "objects")) _ (on_all _) λ list u.
+    on_each (AreFew most) (at_entry (object_at most_levels (scope_with types specs most list) None) (under [] (codes "objects")))
+    (λ i others entry fewer. object_few most_levels (scope_with types specs most list) None (nth (under [] (codes "objects")) i) others entry) 0 [] list
+    (record { placed = omega arith; live = omega arith })
 
 -- the properties of types that were read are plain
 pub plain_read : (types : List GType) (table : List (List Spec)) (d : Data) → draft_in d ≡ Ok (draft_of types table) → ArePlain types table

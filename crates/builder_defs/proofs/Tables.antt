@@ -61,7 +61,6 @@ basic types specs objects limits plain = record {
   constructed = λ t. each_class (λ (c : Class). c.constructed ≡ None) lookups.no_class (λ t. class_with (specs_of types specs t)) (length types) t refl (λ t. refl);
   shapes = λ t. each_class (λ (c : Class). c.shape ≡ None) lookups.no_class (λ t. class_with (specs_of types specs t)) (length types) t refl (λ t. refl);
   plain = plain_spec types specs objects limits plain;
-  parents = each_object (λ (p : Place). p.parent ≡ None) (λ o. refl) objects;
   prototypes = each_object (λ (p : Place). p.is_prototype ≡ false) (λ o. refl) objects;
   peers = each_object (λ (p : Place). p.peers ≡ []) (λ o. refl) objects;
   signals = each_object (λ (p : Place). p.signals ≡ []) (λ o. refl) objects;

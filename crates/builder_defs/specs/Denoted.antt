@@ -17,7 +17,7 @@ pub mod Classes
 pub mod Given
 pub mod Objects
 use Rattle.std.specs.Prelude.{ℕ, List, [], ◌∷◌, length, codes, ◌==◌, if◌then◌else◌, Option, None, Some, option_and_then, Result, Ok, Err}
-use Rattle.serde_json.specs.Data.{Data}
+use Rattle.serde_json.specs.Data.{Data, Items}
 use Rattle.serde_json.specs.Find.{get, as_number, as_u64}
 use Rattle.ui_machine.specs.Outcome.{◌>>=◌}
 use Rattle.ui_machine.specs.Seq.{listed}
@@ -29,14 +29,14 @@ use Rattle.ui_machine.specs.declared.limits.Limits.{Limits}
 use Rattle.builder_defs.specs.Meaning.{class_with}
 use Rattle.builder_defs.specs.Refusals.{Refusal, shape}
 use Rattle.builder_defs.specs.Document.{under, members_at, entries_at, listed_ahead, nothing_at, only_at, each, at_entry, document}
-use Rattle.builder_defs.specs.Denoted.Entries.{TypeNames, type_names, object_names}
+use Rattle.builder_defs.specs.Denoted.Entries.{TypeNames, type_names, most_levels, object_names}
 use Rattle.builder_defs.specs.Denoted.Properties.{specs_by}
 use Rattle.builder_defs.specs.Denoted.SessionLimits.{limits_in}
 use Rattle.builder_defs.specs.Denoted.Enums.{enum_at, flags_at}
 use Rattle.builder_defs.specs.Denoted.Drafts.{Draft, bare_draft}
 use Rattle.builder_defs.specs.Denoted.Interfaces.{interface_at}
 use Rattle.builder_defs.specs.Denoted.Classes.{class_at}
-use Rattle.builder_defs.specs.Denoted.Objects.{object_at}
+use Rattle.builder_defs.specs.Denoted.Objects.{Scope, object_at}
 
 -- the member `format`, which is 1
 abbrev pub format_of : Option ℕ → Result (Unit {0}) Refusal
@@ -98,12 +98,16 @@ draft_in d = do
   interfaces ← interfaces_in (type_names types d) types d
   classes_in (type_names types d) interfaces d
 
+-- what is known where the objects of a list are read
+abbrev pub scope_with : List GType → (ℕ → List Spec) → ℕ → Items → Scope
+scope_with types specs most list = record { types = types; specs = specs; most = most; names = object_names list }
+
 -- the objects of these types with their properties, where so many may live
 unfoldable pub objects_in : List GType → (ℕ → List Spec) → ℕ → Data → Result (List machine.Place) Refusal
 objects_in types specs most d = do
   unset ← nothing_at [] d unset_before_objects
   list ← entries_at [] d (codes "objects")
-  each (at_entry (λ entry. object_at entry types specs most (object_names list)) (under [] (codes "objects"))) 0 [] list
+  each (at_entry (object_at most_levels (scope_with types specs most list) None) (under [] (codes "objects"))) 0 [] list
 
 unfoldable pub definition_in : Data → Result definition.Definition Refusal
 definition_in d = do

@@ -187,15 +187,27 @@ get_event d words = do
   may ← readable found.spec
   Ok (config.request (config.get found.place found.slot))
 
--- the event that the member `set` asks for, and where there is none the one that `get` asks for
-abbrev pub event_by : machine.Definition → Option Data → Option Data → Result config.Event EventRefusal
-event_by d None None = Err shape
-event_by d None (Some words) = get_event d words
-event_by d (Some words) other = set_event d words
+unfoldable pub release_event : machine.Definition → Data → Result config.Event EventRefusal
+release_event d word = do
+  id ← or_refused shape (as_str word)
+  place ← or_refused (unknown id) (place_of d id)
+  Ok (config.request (config.release place))
+
+-- what the member `release` asks for
+abbrev pub release_by : machine.Definition → Option Data → Result config.Event EventRefusal
+release_by d None = Err shape
+release_by d (Some word) = release_event d word
+
+-- the event that the member `set` asks for, and where there is none the one that `get` asks for, or `release`
+abbrev pub event_by : machine.Definition → Option Data → Option Data → Option Data → Result config.Event EventRefusal
+event_by d None None release = release_by d release
+event_by d None (Some words) release = get_event d words
+event_by d (Some words) get release = set_event d words
 
 -- the event that a value asks for
 unfoldable pub event_meant : machine.Definition → Data → Result config.Event EventRefusal
-event_meant d value = if has_one_member value then event_by d (get (codes "set") value) (get (codes "get") value) else Err shape
+event_meant d value =
+    if has_one_member value then event_by d (get (codes "set") value) (get (codes "get") value) (get (codes "release") value) else Err shape
 
 -- the event that a line denotes
 unfoldable pub event_denoted : machine.Definition → List ℕ → Result config.Event EventRefusal

@@ -6,3 +6,5 @@ pub mod Document
 pub mod EventMeaning
 pub mod Denoted
 pub mod OverrideView
+pub mod ScopeView
+pub mod EntryViews

@@ -1,7 +1,8 @@
 -- Which definition and event of the machine the code's stand for.
-use Rattle.std.specs.Prelude.{◌≡◌, ℕ, ◌<◌, ◌≤◌, ◌≤ℤ◌, true, false, List, [], ◌∷◌, map, length, Option, None, Some, String, string_bytes, codes, slice_get}
+use Rattle.std.specs.Prelude.{◌≡◌, ℕ, ◌<◌, ◌≤◌, ◌≤ℤ◌, true, false, List, [], ◌∷◌, map, length, Option, None, Some, option_map, String, string_bytes, codes, slice_get}
 use Rattle.std.specs.Global.{Global}
 use Rattle.ui_machine.specs.Seq.{listed}
+use Rattle.ui_machine.specs.declared.ids.Place.{Place}
 use Rattle.ui_machine.specs.declared.limits.Limits.{Limits}
 use Rattle.ui_machine.specs.Definition.Kinds as kinds
 use Rattle.ui_machine.specs.Definition.Types.{GType}
@@ -41,9 +42,13 @@ given_view (givens.Object place) = machine.named place.0
 abbrev pub given_property : GivenValue → machine.GivenProperty
 given_property g = record { slot = g.slot; given = given_view g.given }
 
--- an object without parent, peer and signals
-abbrev pub plain_place : List ℕ → ℕ → List machine.GivenProperty → machine.Place
-plain_place id class given = record { id = id; class = class; is_prototype = false; parent = None; given = given; peers = []; signals = [] }
+-- an object without peer and signals, the child of the object at a place, if it is a child
+abbrev pub plain_place : List ℕ → ℕ → Option ℕ → List machine.GivenProperty → machine.Place
+plain_place id class parent given = record { id = id; class = class; is_prototype = false; parent = parent; given = given; peers = []; signals = [] }
+
+-- the number of a place, if there is one
+abbrev pub place_number : Option Place → Option ℕ
+place_number place = option_map (λ (p : Place). p.0) place
 
 -- the id of an object, and what it has under it
 abbrev pub Entry : Type 0
@@ -51,7 +56,7 @@ Entry = String Global × ObjectBody
 
 -- the object of an entry
 abbrev pub plain_object : Entry → machine.Place
-plain_object entry = plain_place (string_bytes entry.0) entry.1.class (map given_property entry.1.given.items)
+plain_object entry = plain_place (string_bytes entry.0) entry.1.class (place_number entry.1.parent) (map given_property entry.1.given.items)
 
 -- what a definition has that sets no limits: 64 objects live at a time, and programs connect no handlers
 abbrev pub default_limits : Limits
@@ -116,7 +121,6 @@ pub record IsBasic (d : definition.Definition) : Type 0 where
   pub constructed : (t : ℕ) → (lookups.class_of d t).constructed ≡ None
   pub shapes : (t : ℕ) → (lookups.class_of d t).shape ≡ None
   pub plain : (t slot : ℕ) (s : Spec) → lookups.spec_of d t slot ≡ Some s → IsPlain d.types s
-  pub parents : (p : ℕ) (place : machine.Place) → slice_get d.places p ≡ Some place → place.parent ≡ None
   pub prototypes : (p : ℕ) (place : machine.Place) → slice_get d.places p ≡ Some place → place.is_prototype ≡ false
   pub peers : (p : ℕ) (place : machine.Place) → slice_get d.places p ≡ Some place → place.peers ≡ []
   pub signals : (p : ℕ) (place : machine.Place) → slice_get d.places p ≡ Some place → place.signals ≡ []
@@ -128,6 +132,7 @@ pub record IsBasic (d : definition.Definition) : Type 0 where
 abbrev pub request_of : Event → config.Request
 request_of (events.Set place slot given) = config.set place.0 slot (given_view given)
 request_of (events.Get place slot) = config.get place.0 slot
+request_of (events.Release place) = config.release place.0
 
 -- the same as an event
 abbrev pub event_of : Event → config.Event

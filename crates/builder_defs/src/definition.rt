@@ -4,7 +4,7 @@ ghost use Rattle.std.specs.Prelude.{◌≡◌, ◌<◌, ◌≤◌, length, optio
 ghost use Rattle.ui_machine.specs.Definition.Names.{place_named};
 ghost use Rattle.ui_machine.specs.Definition.Lookups.{place_of, spec_of, specs_of, slot_of, type_of};
 ghost use Rattle.param_specs.specs.View.{spec_view};
-ghost use Rattle.builder_defs.specs.Meaning.{AreLimits, IsBasic, plain_place, class_at, plain_object, given_property};
+ghost use Rattle.builder_defs.specs.Meaning.{AreLimits, IsBasic, plain_place, place_number, class_at, plain_object, given_property};
 
 use crate::object_entry::{ObjectBody, ObjectEntry};
 use crate::types::type_name;
@@ -66,12 +66,13 @@ impl Definition {
 
     /// The object at a place, if there is one.
     pub fn object(&self, place: usize) -> Option<ObjectEntry<'_>>
-        ensures { option_map (λ o. plain_place o.id.now o.class (map given_property o.given.now)) result ≡ slice_get self.now.places place }
+        ensures { option_map (λ o. plain_place o.id.now o.class (place_number o.parent) (map given_property o.given.now)) result ≡ slice_get self.now.places place }
     {
         let (id, body) = self.objects.get_index(place)?;
         Some(ObjectEntry {
             id: id.as_str(),
             class: body.class,
+            parent: body.parent,
             given: body.given.as_slice(),
         })
     }

@@ -1,12 +1,14 @@
 //! Entries of the document's lists, by what they are called. Those that come later are known too.
 
-ghost use Rattle.std.specs.Prelude.{◌≡◌, ◌+◌, List, ℕ, None, Some, codes, length, option_copied, option_map, slice_get, if◌then◌else◌, IfOk, OnOk};
+ghost use Rattle.std.specs.Prelude.{◌≡◌, ◌+◌, ◌++◌, List, ℕ, None, Some, codes, length, map, option_map, slice_get, if◌then◌else◌, IfOk, OnOk};
 ghost use Rattle.std.specs.BTreeMap.{get_by_text};
 ghost use Rattle.serde_json.specs.View.{view, items_view};
 ghost use Rattle.ui_machine.specs.Seq.{read};
 ghost use Rattle.ui_machine.specs.Definition.Types.{GType};
-ghost use Rattle.builder_defs.specs.Denoted.Entries.{is_called, name_under, names_under, number_from, section, at_most, type_names, later_type, object_names};
+ghost use Rattle.builder_defs.specs.Denoted.Entries.{is_called, name_under, names_under, number_from, section, at_most, type_names, later_type, in_order, object_names};
+ghost use Rattle.builder_defs.specs.EntryViews.{views};
 
+use crate::objects::MOST_LEVELS;
 use serde_json::Value;
 use std::alloc::{AllocError, Global};
 use std::collections::BTreeMap;
@@ -20,10 +22,10 @@ pub(crate) fn name_under<'a>(entry: &'a Value, key: &str) -> Option<&'a str>
 }
 
 // The entry of a number.
-fn entry(entries: &[Value], number: usize) -> Option<&Value>
-    ensures { option_copied result ≡ slice_get entries.now number }
+fn entry<'a>(entries: &[&'a Value], number: usize) -> Option<&'a Value>
+    ensures { option_map (λ v. view v.now) result ≡ slice_get (views entries.now) number }
 {
-    entries.get(number)
+    entries.get(number).copied()
 }
 
 // The entries of a list that a member is; none, where it is no list.
@@ -56,18 +58,55 @@ fn add_number(
 // The number of the first entry of each name.
 fn numbers_of(
     alloc: Global,
+    entries: &[&Value],
+    key: &str,
+) -> Result<BTreeMap<String, usize>, AllocError>
+    ensures { (name : List ℕ) → IfOk result (λ numbers. get_by_text numbers name ≡ number_from 0 (map (name_under key.now) (views entries.now)) name) }
+{
+    let mut numbers = BTreeMap::new(alloc);
+    let mut left = entries.len();
+    'entries: while left > 0 {
+        left -= 1;
+        add_number(&mut numbers, alloc, entries[left], key, left)?;
+    }
+    Ok(numbers)
+}
+
+// References to the entries of a list.
+fn each_of<'a>(alloc: Global, items: &'a [Value]) -> Result<Vec<&'a Value>, AllocError>
+    ensures { IfOk result (λ refs. map (λ r. r.now) refs.items ≡ items.now) }
+{
+    items.iter().collect(alloc)
+}
+
+// The same of a list.
+fn numbers_in(
+    alloc: Global,
     items: &[Value],
     key: &str,
 ) -> Result<BTreeMap<String, usize>, AllocError>
     ensures { (name : List ℕ) → IfOk result (λ numbers. get_by_text numbers name ≡ number_from 0 (names_under key.now (items_view items.now)) name) }
 {
-    let mut numbers = BTreeMap::new(alloc);
-    let mut left = items.len();
-    'entries: while left > 0 {
-        left -= 1;
-        add_number(&mut numbers, alloc, &items[left], key, left)?;
+    let entries = each_of(alloc, items)?;
+    numbers_of(alloc, entries.as_slice(), key)
+}
+
+// Adds the objects of a list in document order: behind each its children. Lists nest so many levels deep.
+fn add_objects<'a>(
+    items: &'a [Value],
+    levels: usize,
+    objects: &mut Vec<&'a Value>,
+) -> Result<(), AllocError>
+    ensures { OnOk result (views objects.new.items ≡ views objects.old.items ++ in_order levels (items_view items.now)) }
+{
+    if levels == 0 {
+        return Ok(());
     }
-    Ok(numbers)
+    'items: for value in items {
+        objects.push(value)?;
+        add_objects(section(value, "children"), levels - 1, objects)?;
+    }
+    Ok(())
 }
 
 // A number, or the one behind the last.
@@ -123,9 +162,9 @@ impl<'a> TypeNames<'a> {
         Ok(TypeNames {
             first,
             interfaces,
-            interface_numbers: numbers_of(alloc, interfaces, "name")?,
+            interface_numbers: numbers_in(alloc, interfaces, "name")?,
             classes,
-            class_numbers: numbers_of(alloc, classes, "name")?,
+            class_numbers: numbers_in(alloc, classes, "name")?,
         })
     }
 
@@ -142,35 +181,35 @@ impl<'a> TypeNames<'a> {
     }
 }
 
-// The objects of a document, by their ids.
+// The objects of a document in document order, by their ids.
 #[derive(Drop)]
 pub(crate) struct ObjectNames<'a> {
-    entries: &'a [Value],
+    entries: Vec<&'a Value>,
     places: BTreeMap<String, usize>,
 }
 
 impl<'a> Model for ObjectNames<'a> {
-    ghost use Rattle.std.specs.Prelude.{codes};
+    ghost use Rattle.std.specs.Prelude.{codes, map};
     ghost use Rattle.std.specs.BTreeMap.{get_by_text};
-    ghost use Rattle.serde_json.specs.View.{items_view};
     ghost use Rattle.builder_defs.specs.Denoted.Entries as denoted;
+    ghost use Rattle.builder_defs.specs.EntryViews.{views};
 
     ghost Value = { denoted.ObjectNames };
 
-    ghost view = { λ n. denoted.object_names (items_view n.entries.now) };
+    ghost view = { λ n. denoted.names_of (views n.entries.items) };
 
-    ghost invariant = { λ n. denoted.AreNumbered (get_by_text n.places) (denoted.names_under (codes "id") (items_view n.entries.now)) };
+    ghost invariant = { λ n. denoted.AreNumbered (get_by_text n.places) (map (denoted.name_under (codes "id")) (views n.entries.items)) };
 }
 
 impl<'a> ObjectNames<'a> {
-    // The names of these entries.
-    pub(crate) fn new(alloc: Global, entries: &'a [Value]) -> Result<Self, AllocError>
-        ensures { IfOk result (λ names. names ≡ object_names (items_view entries.now)) }
+    // The names of these objects and of their children.
+    pub(crate) fn new(alloc: Global, items: &'a [Value]) -> Result<Self, AllocError>
+        ensures { IfOk result (λ names. names ≡ object_names (items_view items.now)) }
     {
-        Ok(ObjectNames {
-            entries,
-            places: numbers_of(alloc, entries, "id")?,
-        })
+        let mut entries = Vec::new(alloc);
+        add_objects(items, MOST_LEVELS, &mut entries)?;
+        let places = numbers_of(alloc, entries.as_slice(), "id")?;
+        Ok(ObjectNames { entries, places })
     }
 
     // The place of the object of an id, of which there may be an entry.
@@ -184,7 +223,7 @@ impl<'a> ObjectNames<'a> {
     pub(crate) fn class(&self, place: usize) -> Option<&str>
         ensures { option_map (λ s. s.now) result ≡ read None self.now.classes place }
     {
-        match entry(self.entries, place) {
+        match entry(self.entries.as_slice(), place) {
             Some(entry) => name_under(entry, "class"),
             None => None,
         }

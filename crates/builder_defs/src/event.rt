@@ -17,4 +17,8 @@ pub enum Event {
         place: Place,
         slot: u16,
     },
+    /// The builder lets go of an object.
+    Release {
+        place: Place,
+    },
 }

@@ -12,7 +12,8 @@ pub enum EventFault {
     TooLong,
     /// The line is not UTF-8, or not JSON.
     NotJson,
-    /// The value is no object of one member, `set` with an id, a name and a value, or `get` with an id and a name.
+    /// The value is no object of one member, `set` with an id, a name and a value, `get` with an id and a name, or
+    /// `release` with an id.
     Shape,
     /// No object has this id, the object has no property of this name, or no object has the id that the value names: the first from the left.
     Unknown(String),

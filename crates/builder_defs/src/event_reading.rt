@@ -9,7 +9,7 @@ ghost use Rattle.ui_machine.specs.Definition.Lookups.{spec_of};
 ghost use Rattle.builder_defs.specs.Meaning.{event_of, given_view, class_at};
 ghost use Rattle.builder_defs.specs.Denoted.Given.{reference};
 ghost use Rattle.param_specs.specs.View.{spec_view};
-ghost use Rattle.builder_defs.specs.EventMeaning.{Gives, event_denoted, event_meant, line_value, has_one_member, words_of_set, words_of_get, set_event, get_event, target, object_of, object_named, is_of_kind, object_given, given_by, readable, writable, or_value_fault};
+ghost use Rattle.builder_defs.specs.EventMeaning.{Gives, event_denoted, event_meant, line_value, has_one_member, words_of_set, words_of_get, set_event, get_event, release_event, target, object_of, object_named, is_of_kind, object_given, given_by, readable, writable, or_value_fault};
 
 use crate::definition::Definition;
 use crate::event::Event;
@@ -78,10 +78,14 @@ fn event_in(alloc: Global, definition: &Definition, value: &Value) -> Result<Eve
         let event = set_in(alloc, definition, words)?;
         return Ok(event);
     }
-    let Some(words) = value.get("get") else {
+    if let Some(words) = value.get("get") {
+        let event = get_in(alloc, definition, words)?;
+        return Ok(event);
+    }
+    let Some(word) = value.get("release") else {
         return Err(EventError::Refused(EventFault::Shape));
     };
-    let event = get_in(alloc, definition, words)?;
+    let event = release_in(alloc, definition, word)?;
     Ok(event)
 }
 
@@ -151,6 +155,20 @@ fn get_in(alloc: Global, definition: &Definition, words: &Value) -> Result<Event
         place: target.place,
         slot: target.slot,
     })
+}
+
+// The release that a word asks for.
+#[tactic(auto, unfolding(crate::specs::EventMeaning::release_event))]
+fn release_in(alloc: Global, definition: &Definition, word: &Value) -> Result<Event, EventError>
+    ensures { Gives event_of result (release_event definition.now (view word.now)) }
+{
+    let Some(id) = word.as_str() else {
+        return Err(EventError::Refused(EventFault::Shape));
+    };
+    match definition.place(id) {
+        Some(place) => Ok(Event::Release { place }),
+        None => Err(EventError::Refused(EventFault::Unknown(String::from_str(alloc, id)?))),
+    }
 }
 
 // A property of an object.

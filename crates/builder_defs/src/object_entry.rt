@@ -20,17 +20,20 @@ pub struct GivenValue {
     pub given: Given,
 }
 
-// What an object has under its id: its class, and the given values in the given order.
+// What an object has under its id: its class, its parent, if it is a child, and the given values in the given order.
 #[derive(Drop)]
 pub(crate) struct ObjectBody {
     pub(crate) class: TypeId,
+    pub(crate) parent: Option<Place>,
     pub(crate) given: Vec<GivenValue>,
 }
 
-/// An object of a definition: its id, its class, and the given values in the given order.
+/// An object of a definition: its id, its class, its parent, if it is a child, and the given values in the given order.
 #[derive(Clone, Copy)]
 pub struct ObjectEntry<'a> {
     pub id: &'a str,
     pub class: TypeId,
+    /// The place of the object whose child it is.
+    pub parent: Option<Place>,
     pub given: &'a [GivenValue],
 }

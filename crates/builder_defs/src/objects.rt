@@ -3,25 +3,30 @@
 ghost use Rattle.std.specs.Prelude.{◌≡◌, ◌<◌, ◌≤◌, [], codes, map, length, is_some, string_bytes, None, IfOk};
 ghost use Rattle.serde_json.specs.View.{view, items_view};
 ghost use Rattle.ui_machine.specs.Definition.Names.{place_named};
-ghost use Rattle.builder_defs.specs.Meaning.{ArePlain, plain_place, plain_object, given_property};
+ghost use Rattle.builder_defs.specs.Meaning.{ArePlain, plain_object, place_number};
 ghost use Rattle.param_specs.specs.Table.{own_of};
-ghost use Rattle.builder_defs.specs.Refusals.{Gives};
+ghost use Rattle.builder_defs.specs.Refusals.{Gives, Leads};
 ghost use Rattle.builder_defs.specs.Document.{under, path_of, each, at_entry};
-ghost use Rattle.builder_defs.specs.Denoted.Objects.{room_for_object, new_id, unless_abstract, class_at_key, place_at, object_at};
-ghost use Rattle.builder_defs.specs.Denoted.Entries.{object_names};
+ghost use Rattle.builder_defs.specs.Denoted.Objects.{room_for_object, new_id, unless_abstract, class_at_key, place_at, added_at, object_at};
+ghost use Rattle.builder_defs.specs.Denoted.{scope_with};
+ghost use Rattle.builder_defs.specs.ScopeView.{scope_of};
+ghost use Rattle.builder_defs.specs.Denoted.Entries.{most_levels, object_names};
 ghost use Rattle.builder_defs.specs.Denoted.Properties.{specs_by};
 
 use crate::definition::{MOST_PLACES, position_of};
-use crate::document::{Entries, Part, bad_shape, path_under, unknown_name};
+use crate::document::{Entries, Part, Path, bad_shape, path_text, path_under, unknown_name};
 use crate::entries::ObjectNames;
 use crate::fault::{DefinitionFault, DefinitionLimit, ReadError, TypeCause};
 use crate::given::read_givens;
 use crate::names::is_name;
 use crate::object_entry::ObjectBody;
-use crate::reads::{Reads, read_each};
 use indexmap::IndexMap;
 use param_specs::SpecTable;
 use type_tree::{TypeId, TypeTree};
+use ui_machine::Place;
+
+// How deep lists of objects nest. JSON is read 127 levels deep, and the children of an object are two levels below it.
+pub(crate) const MOST_LEVELS: usize = 64;
 
 const MEMBERS: [&str; 6] = ["id", "class", "peer", "properties", "signals", "children"];
 
@@ -97,88 +102,173 @@ struct NewObject {
     body: ObjectBody,
 }
 
-// The object of an entry.
-#[tactic(auto, unfolding(crate::specs::Denoted::Objects::place_at))]
-fn read_object(
-    part: Part<'_>,
-    types: &TypeTree,
-    specs: &SpecTable,
-    most: usize,
-    names: &ObjectNames<'_>,
-    objects: &IndexMap<String, ObjectBody>,
-) -> Result<NewObject, ReadError>
-    requires { ArePlain types.now specs.now }
-    ensures object { Gives (λ o. plain_place (string_bytes o.id) o.body.class (map given_property o.body.given.items)) result (place_at (path_of part.entry.path) types.now (specs_by types.now (own_of specs.now)) most names.now (map plain_object objects.now.entries) (view part.entry.value.now)) }
-    ensures new { IfOk result (λ o. place_named (λ p. p.id) (map plain_object objects.now.entries) (string_bytes o.id) ≡ None) }
-{
-    let members = part.members()?;
-    check_room(objects, most)?;
-    let id = part.text("id")?;
-    check_id(part, objects, id)?;
-    let class = class_of(part, types)?;
-    part.check_absent(&["peer"])?;
-    let given = read_givens(part, types, names, objects.len(), specs, class)?;
-    part.check_nothing(&["signals", "children"])?;
-    part.check_only(members, &MEMBERS)?;
-    let id = String::from_str(part.alloc, id)?;
-    let body = ObjectBody { class, given };
-    Ok(NewObject { id, body })
-}
-
-// How the entries of the objects are read, among these types with their properties, where so many may live, and their ids are known.
+// What is known where objects are read: the types with their properties, how many objects may live, and the names of all objects.
 #[derive(Clone, Copy)]
-struct ObjectEntries<'a> {
+struct Scope<'a, 'b> {
     types: &'a TypeTree,
     specs: &'a SpecTable,
     most: usize,
-    names: &'a ObjectNames<'a>,
+    names: &'b ObjectNames<'a>,
 }
 
-impl<'a> Reads<IndexMap<String, ObjectBody>> for ObjectEntries<'a> {
-    ghost use Rattle.std.specs.Prelude.{List, map};
-    ghost use Rattle.ui_machine.specs.Definition.Places as machine;
-    ghost use Rattle.param_specs.specs.Table.{own_of};
-    ghost use Rattle.builder_defs.specs.Meaning.{ArePlain, plain_object};
-    ghost use Rattle.builder_defs.specs.Denoted.Properties.{specs_by};
-    ghost use Rattle.builder_defs.specs.Denoted.Objects.{object_at};
-
-    ghost State = { List machine.Place };
-
-    ghost seen = { λ objects. map plain_object objects.entries };
-
-    ghost known = { λ r. ArePlain r.types.now r.specs.now };
-
-    ghost step = { λ r path places d. object_at path r.types.now (specs_by r.types.now (own_of r.specs.now)) r.most r.names.now places d };
-
-    fn read(
+impl<'a, 'b> Scope<'a, 'b> {
+    // The object of an entry, the child of the object at a place, if it is a child.
+    #[tactic(auto, unfolding(crate::specs::Denoted::Objects::place_at))]
+    fn read_object(
         &self,
         part: Part<'_>,
+        parent: Option<Place>,
+        objects: &IndexMap<String, ObjectBody>,
+    ) -> Result<NewObject, ReadError>
+        requires { ArePlain self.now.types.now self.now.specs.now }
+        ensures object { Gives (λ o. plain_object (o.id, o.body)) result (place_at (path_of part.entry.path) (scope_of self.now) (place_number parent) (map plain_object objects.now.entries) (view part.entry.value.now)) }
+        ensures new { IfOk result (λ o. place_named (λ p. p.id) (map plain_object objects.now.entries) (string_bytes o.id) ≡ None) }
+        ensures room { IfOk result (λ o. length objects.now.entries < 512) }
+    {
+        check_room(objects, self.most)?;
+        let id = part.text("id")?;
+        check_id(part, objects, id)?;
+        let class = class_of(part, self.types)?;
+        part.check_absent(&["peer"])?;
+        let given = read_givens(
+            part,
+            self.types,
+            self.names,
+            objects.len(),
+            self.specs,
+            class,
+        )?;
+        part.check_nothing(&["signals"])?;
+        let id = String::from_str(part.alloc, id)?;
+        let body = ObjectBody {
+            class,
+            parent,
+            given,
+        };
+        Ok(NewObject { id, body })
+    }
+
+    // Adds the object of an entry to those before, and answers its place.
+    fn add_object(
+        &self,
+        part: Part<'_>,
+        parent: Option<Place>,
         objects: &mut IndexMap<String, ObjectBody>,
-    ) -> Result<(), ReadError> {
-        let object = read_object(part, self.types, self.specs, self.most, self.names, objects)?;
+    ) -> Result<Place, ReadError>
+        requires { ArePlain self.now.types.now self.now.specs.now }
+        ensures objects { Leads result (added_at (path_of part.entry.path) (scope_of self.now) (place_number parent) (map plain_object objects.old.entries) (view part.entry.value.now)) (map plain_object objects.new.entries) }
+        ensures place { IfOk result (λ place. place.0 ≡ length (map plain_object objects.old.entries)) }
+    {
+        let object = self.read_object(part, parent, objects)?;
+        let place = Place(objects.len() as u16);
         objects.insert(object.id, object.body)?;
+        Ok(place)
+    }
+
+    // Adds the object of an entry to those before, and behind it its children. Lists nest so many levels deep.
+    #[cycle(objects)]
+    #[tactic(auto, unfolding(crate::specs::Denoted::Objects::object_at))]
+    fn read_entry(
+        &self,
+        part: Part<'_>,
+        levels: usize,
+        parent: Option<Place>,
+        objects: &mut IndexMap<String, ObjectBody>,
+    ) -> Result<(), ReadError>
+        requires { ArePlain self.now.types.now self.now.specs.now }
+        ensures { Leads result (object_at levels (scope_of self.now) (place_number parent) (path_of part.entry.path) (map plain_object objects.old.entries) (view part.entry.value.now)) (map plain_object objects.new.entries) }
+    {
+        if levels == 0 {
+            return Err(ReadError::Refused(DefinitionFault::Shape(path_text(
+                part.alloc, part.path,
+            )?)));
+        }
+        let members = part.members()?;
+        let place = self.add_object(part, parent, objects)?;
+        let items = part.entries("children")?;
+        let path = path_under(part.alloc, part.path, "children")?;
+        let list = Entries {
+            alloc: part.alloc,
+            path: path.as_str(),
+            items,
+        };
+        self.read_list(list, levels - 1, Some(place), objects)?;
+        part.check_only(members, &MEMBERS)?;
+        Ok(())
+    }
+
+    // Adds the objects of a list to those before, each with its children behind it.
+    #[cycle(objects)]
+    fn read_list(
+        &self,
+        list: Entries<'_>,
+        levels: usize,
+        parent: Option<Place>,
+        objects: &mut IndexMap<String, ObjectBody>,
+    ) -> Result<(), ReadError>
+        requires { ArePlain self.now.types.now self.now.specs.now }
+        ensures { Leads result (each (at_entry (object_at levels (scope_of self.now) (place_number parent)) list.entry.path.now) 0 (map plain_object objects.old.entries) (items_view list.entry.items.now)) (map plain_object objects.new.entries) }
+    {
+        'items: for (index, value) in list.items.iter().enumerate() {
+            let path = Path {
+                base: list.path,
+                index: Some(index),
+            };
+            let part = Part {
+                alloc: list.alloc,
+                path,
+                value,
+            };
+            self.read_entry(part, levels, parent, objects)?;
+        }
         Ok(())
     }
 }
 
-// The objects of a list, where so many may live.
-pub(crate) fn read_objects(
+// The objects of a list in a scope.
+fn read_within(
     list: Entries<'_>,
-    types: &TypeTree,
-    specs: &SpecTable,
-    most: usize,
+    scope: &Scope<'_, '_>,
 ) -> Result<IndexMap<String, ObjectBody>, ReadError>
-    requires { ArePlain types.now specs.now }
-    ensures { Gives (λ v. map plain_object v.entries) result (each (at_entry (λ path. object_at path types.now (specs_by types.now (own_of specs.now)) most (object_names (items_view list.entry.items.now))) list.entry.path.now) 0 [] (items_view list.entry.items.now)) }
+    requires { ArePlain scope.now.types.now scope.now.specs.now }
+    ensures { Gives (λ v. map plain_object v.entries) result (each (at_entry (object_at most_levels (scope_of scope.now) None) list.entry.path.now) 0 [] (items_view list.entry.items.now)) }
 {
     let mut objects = IndexMap::new(list.alloc);
-    let names = ObjectNames::new(list.alloc, list.items)?;
-    let reader = ObjectEntries {
+    scope.read_list(list, MOST_LEVELS, None, &mut objects)?;
+    Ok(objects)
+}
+
+// The same, where so many may live and the names of all objects are known.
+fn read_named<'a, 'b>(
+    list: Entries<'_>,
+    types: &'a TypeTree,
+    specs: &'a SpecTable,
+    most: usize,
+    names: &'b ObjectNames<'a>,
+) -> Result<IndexMap<String, ObjectBody>, ReadError>
+    requires plain { ArePlain types.now specs.now }
+    requires names { names.now ≡ object_names (items_view list.items.now) }
+    ensures { Gives (λ v. map plain_object v.entries) result (each (at_entry (object_at most_levels (scope_with types.now (specs_by types.now (own_of specs.now)) most (items_view list.entry.items.now)) None) list.entry.path.now) 0 [] (items_view list.entry.items.now)) }
+{
+    let scope = Scope {
         types,
         specs,
         most,
-        names: &names,
+        names,
     };
-    read_each(&reader, list, &mut objects)?;
-    Ok(objects)
+    read_within(list, &scope)
+}
+
+// The objects of a list, where so many may live.
+pub(crate) fn read_objects<'a>(
+    list: Entries<'a>,
+    types: &'a TypeTree,
+    specs: &'a SpecTable,
+    most: usize,
+) -> Result<IndexMap<String, ObjectBody>, ReadError>
+    requires { ArePlain types.now specs.now }
+    ensures { Gives (λ v. map plain_object v.entries) result (each (at_entry (object_at most_levels (scope_with types.now (specs_by types.now (own_of specs.now)) most (items_view list.entry.items.now)) None) list.entry.path.now) 0 [] (items_view list.entry.items.now)) }
+{
+    let names = ObjectNames::new(list.alloc, list.items)?;
+    read_named(list, types, specs, most, &names)
 }

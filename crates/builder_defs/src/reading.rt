@@ -149,10 +149,10 @@ fn read_draft(part: Part<'_>) -> Result<Draft, ReadError>
 
 // The objects of a definition, where so many may live.
 #[tactic(auto, unfolding(crate::specs::Denoted::objects_in))]
-fn objects_of(
-    part: Part<'_>,
-    types: &TypeTree,
-    specs: &SpecTable,
+fn objects_of<'a>(
+    part: Part<'a>,
+    types: &'a TypeTree,
+    specs: &'a SpecTable,
     most: usize,
 ) -> Result<IndexMap<String, ObjectBody>, ReadError>
     requires root { path_of part.path ≡ [] }

@@ -1,5 +1,5 @@
 -- A class's own properties, read ahead, are those that it has.
-use Rattle.std.proofs.Common.{◌≡◌, ◌<◌, ◌≤◌, ℕ, suc, ◌+◌, Bool, true, false, cond, nat_eq, List, [], ◌∷◌, ◌++◌, length, Option, None, Some, option_and_then, Result, Ok, Err, codes, slice_get, refl, sym, ap, subst, ◌∙◌, arith, length-append}
+use Rattle.std.proofs.Common.{◌≡◌, ◌<◌, ◌≤◌, ℕ, suc, ◌+◌, Bool, true, false, cond, List, [], ◌∷◌, ◌++◌, length, Option, None, Some, option_and_then, Result, Ok, Err, codes, slice_get, refl, sym, ap, subst, ◌∙◌, arith, length-append}
 use Rattle.std.specs.List.{list_any}
 use Rattle.serde_json.specs.Data.{Data, Items, no_items, item}
 use Rattle.serde_json.specs.Find.{get, as_str, as_array}
@@ -13,8 +13,8 @@ use Rattle.type_tree.specs.Tree.{IsTree}
 use Rattle.type_tree.proofs.Entries.{read-last}
 use Rattle.param_specs.specs.declared.error.SpecFault.{SpecFault}
 use Rattle.param_specs.specs.Table.{install_fault, canonical_spec}
-use Rattle.builder_defs.specs.Refusals.{Refusal, shape, or_refused}
-use Rattle.builder_defs.specs.Document.{each, at_entry, under, nth, entries, entries_at, items_or_none, listed_ahead}
+use Rattle.builder_defs.specs.Refusals.{Refusal, shape}
+use Rattle.builder_defs.specs.Document.{each, at_entry, under, nth, entries, entries_at, items_or_none}
 use Rattle.builder_defs.specs.Denoted.Entries.{TypeNames}
 use Rattle.builder_defs.specs.Denoted.Drafts.{properties_at}
 use Rattle.builder_defs.specs.Denoted.Overrides.{Own, is_own, own_name, own_with, if_read, own_at, own_ahead}
@@ -25,7 +25,7 @@ use Rattle.law_reading.proofs.Ancestors.{Implements, itself, child_specs}
 use Rattle.law_reading.proofs.ListProofs.{each_more, get_front}
 use Rattle.law_reading.proofs.Parts.{taken}
 use Rattle.law_reading.proofs.PropertyProofs.{OnlyAt}
-use Rattle.law_reading.proofs.ProvidedProofs.{Has, kept_specs}
+use Rattle.law_reading.proofs.ProvidedProofs.{kept_specs}
 use Rattle.law_reading.proofs.OverrideProofs.{Found}
 
 -- what follows comes of what was read first

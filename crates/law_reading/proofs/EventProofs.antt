@@ -18,7 +18,7 @@ use Rattle.ui_machine.specs.Rules.Ancestry.{is_a}
 use Rattle.ui_machine.specs.Rules.Transform.{kind_fits}
 use Rattle.builder_defs.specs.Meaning.{class_at}
 use Rattle.builder_defs.specs.Denoted.Given.{reference}
-use Rattle.builder_defs.specs.EventMeaning.{EventRefusal, unknown, shape, not_readable, construct_only, not_writable, value_fault, or_refused, line_value, has_one_member, words_of_set, words_of_get, Target, target, object_of, object_named, is_of_kind, itself, object_given, given_by, or_value_fault, writable, readable, set_event, get_event, event_by, event_meant, event_denoted}
+use Rattle.builder_defs.specs.EventMeaning.{EventRefusal, unknown, shape, not_readable, construct_only, not_writable, value_fault, or_refused, line_value, has_one_member, words_of_set, words_of_get, Target, target, object_of, object_named, is_of_kind, itself, given_by, or_value_fault, writable, readable, set_event, get_event, release_event, release_by, event_by, event_meant, event_denoted}
 use Rattle.law_typing.specs.Graph.Channels.{spec_at}
 use Rattle.law_typing.specs.Laws.WellRead.{no_class_of, GivenFits, IsObject}
 use Rattle.law_sessions.specs.Sessions.{EventRead}
@@ -144,17 +144,30 @@ module _ (d : Definition) (few : (t : ℕ) → HaveFewBits (members_of d.types t
       after_such (readable t.spec) _ (λ u. is_readable t.spec ≡ true) (EventRead d) (may_be_read t.spec) λ u may.
       (is.object, t.spec, is.spec, may)
 
-  by_member : (set get : Option Data) → IfOk (event_by d set get) (EventRead d)
-  by_member None None = tt
-  by_member None (Some words) = get_read words
-  by_member (Some words) other = set_read words
+  release_read : (word : Data) → IfOk (release_event d word) (EventRead d)
+  unfolding release_event
+  release_read word =
+      after_each (or_refused shape (as_str word)) _ (EventRead d) λ id.
+      after_read (or_refused (unknown id) (place_of d id)) _ (EventRead d) λ place found.
+      let p = named_entry (λ (x : Place). x.id) d.places id place (taken (unknown id) (place_of d id) place found) in
+      (p.0, p.1, objects place p.0 p.1)
+
+  by_release : (release : Option Data) → IfOk (release_by d release) (EventRead d)
+  by_release None = tt
+  by_release (Some word) = release_read word
+
+  by_member : (set get release : Option Data) → IfOk (event_by d set get release) (EventRead d)
+  by_member None None release = by_release release
+  by_member None (Some words) release = get_read words
+  by_member (Some words) get release = set_read words
 
   meant_read : (value : Data) → IfOk (event_meant d value) (EventRead d)
   unfolding event_meant
   meant_read value = by (has_one_member value)
     where
-      by : (b : Bool) → IfOk (if b then event_by d (get (codes "set") value) (get (codes "get") value) else Err shape) (EventRead d)
-      by true = by_member (get (codes "set") value) (get (codes "get") value)
+      by : (b : Bool)
+          → IfOk (if b then event_by d (get (codes "set") value) (get (codes "get") value) (get (codes "release") value) else Err shape) (EventRead d)
+      by true = by_member (get (codes "set") value) (get (codes "get") value) (get (codes "release") value)
       by false = tt
 
   pub event_read : (line : List ℕ) → IfOk (event_denoted d line) (EventRead d)

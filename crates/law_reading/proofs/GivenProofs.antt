@@ -1,5 +1,5 @@
 -- What the objects of a definition that was read are given: values of their properties, which are writable, and to no property twice.
-use Rattle.std.proofs.Common.{◌≡◌, ℕ, suc, ◌+◌, ◌<◌, ◌≤◌, Bool, true, false, not, ◌&&◌, nat_eq, nat_le, nat_lt, List, [], ◌∷◌, ◌++◌, length, map, slice_get, Option, None, Some, option_and_then, Result, Ok, Err, refl, sym, ap, subst, ◌∙◌, arith}
+use Rattle.std.proofs.Common.{◌≡◌, ℕ, suc, ◌+◌, ◌<◌, Bool, true, false, not, ◌&&◌, nat_eq, nat_le, nat_lt, List, [], ◌∷◌, ◌++◌, length, map, slice_get, Option, None, Some, option_and_then, Result, Ok, Err, refl, sym, ap, subst, ◌∙◌, arith}
 use Rattle.std.proofs.lemmas.Bool.Decides.{nat_tests}
 use Rattle.std.specs.Prelude.{codes, if◌then◌else◌, IfOk}
 use Rattle.serde_json.specs.Data.{Data}
@@ -22,7 +22,7 @@ use Rattle.builder_defs.specs.Refusals.{Refusal, shape, unknown, duplicate, bad_
 use Rattle.builder_defs.specs.Document.{at_entry, under, nth, members_at, text_at, entries_at, absent_at, only_at}
 use Rattle.builder_defs.specs.Denoted.Entries.{ObjectNames, name_under, number_from, at_most, is_called}
 use Rattle.builder_defs.specs.Denoted.Names.{is_name}
-use Rattle.builder_defs.specs.Denoted.Given.{property_named, is_given, named_once, takes_value, reference, class_ahead, may_be, place_called, of_type, referred, itself, given_by, value_or_bind, value_at, spec_ahead, place_ahead, is_from, is_too_late, in_time, keys_of_given, given_at, givens_at}
+use Rattle.builder_defs.specs.Denoted.Given.{property_named, is_given, named_once, takes_value, reference, class_ahead, may_be, place_called, referred, itself, given_by, value_or_bind, value_at, spec_ahead, place_ahead, is_from, is_too_late, in_time, keys_of_given, given_at, givens_at}
 use Rattle.builder_defs.proofs.Soundness.{OnRead, on_bind, on_all, on_each}
 use Rattle.law_typing.specs.Verdict.Accepted.{Each}
 use Rattle.law_typing.specs.Laws.WellRead.{no_two, no_class_of}

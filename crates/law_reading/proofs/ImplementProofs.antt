@@ -1,13 +1,11 @@
 -- A class that was read has the properties of the interfaces that it implements.
-use Rattle.std.proofs.Common.{◌≡◌, ℕ, zero, suc, ◌+◌, ◌<◌, ◌≤◌, true, false, nat_eq, List, [], ◌∷◌, ◌++◌, length, Option, None, Some, Result, Ok, slice_get, refl, sym, ap, subst, ◌∙◌, inl, inr, ◌⊎◌}
+use Rattle.std.proofs.Common.{◌≡◌, ℕ, suc, ◌<◌, true, nat_eq, List, [], ◌∷◌, ◌++◌, length, None, Some, Ok, slice_get, sym, ap, subst, ◌∙◌, inl, inr, ◌⊎◌}
 use Rattle.std.specs.List.{list_any}
 use Rattle.serde_json.specs.Data.{Data}
 use Rattle.ui_machine.specs.Definition.Types.{GType}
-use Rattle.ui_machine.specs.Definition.Types as sorts
-use Rattle.ui_machine.specs.Definition.Names.{canonical}
 use Rattle.ui_machine.specs.Definition.Properties.{Spec}
 use Rattle.ui_machine.specs.Output.Text.{no_type}
-use Rattle.ui_machine.specs.Rules.Ancestry.{implemented, implemented_by}
+use Rattle.ui_machine.specs.Rules.Ancestry.{implemented}
 use Rattle.type_tree.specs.Tree.{IsTree}
 use Rattle.type_tree.proofs.Entries.{read-last}
 use Rattle.builder_defs.specs.Denoted.Entries.{TypeNames}
@@ -15,7 +13,6 @@ use Rattle.builder_defs.specs.Denoted.Drafts.{properties_at}
 use Rattle.builder_defs.specs.Denoted.Overrides.{Own, own_ahead, override_cause}
 use Rattle.builder_defs.specs.Denoted.Properties.{specs_by, inherited_by}
 use Rattle.builder_defs.proofs.Soundness.{OnRead}
-use Rattle.law_typing.specs.Verdict.Accepted.{Each}
 use Rattle.law_reading.proofs.Ancestors.{AreInterfaces, Implements, is_interface}
 use Rattle.law_reading.proofs.ListProofs.{each_get, get_front}
 use Rattle.law_reading.proofs.PropertyProofs.{IsKept, OnlyAt, OwnRead, properties_only}

@@ -17,6 +17,7 @@ pub mod NumberProofs
 pub mod TreeProofs
 pub mod SpecProofs
 pub mod GivenProofs
+pub mod ObjectProofs
 pub mod PlaceProofs
 pub mod EventProofs
 pub mod Whole

@@ -1,5 +1,5 @@
 -- What is so of each entry of a list.
-use Rattle.std.proofs.Common.{◌≡◌, ℕ, zero, suc, ◌+◌, ◌<◌, ◌≤◌, ◌⊎◌, inl, inr, Bool, true, false, cond, List, [], ◌∷◌, ◌++◌, length, Some, slice_get, refl, ap, subst, ◌∙◌, arith}
+use Rattle.std.proofs.Common.{◌≡◌, ℕ, zero, suc, ◌+◌, ◌<◌, ◌≤◌, ◌⊎◌, inl, inr, Bool, true, false, cond, List, [], ◌∷◌, ◌++◌, length, map, Some, slice_get, refl, ap, subst, ◌∙◌, arith}
 use Rattle.std.specs.Prelude.{◌&&◌}
 use Rattle.std.specs.List.{list_all}
 use Rattle.std.proofs.lemmas.Option.{slice_get_within}
@@ -28,6 +28,11 @@ pub read_past : {A : Type 0} (none : A) (f : ℕ → A) (n i : ℕ) → n ≤ i 
 read_past none f zero i h = refl
 read_past none f (suc n) zero h = absurd (omega arith)
 read_past none f (suc n) (suc i) h = read_past none (λ j. f (suc j)) n i (omega arith)
+
+-- what is read behind the first entries is the next entry's
+pub read_behind : {A B : Type 0} (none : B) (f : A → B) (xs : List A) (x : A) (ys : List A) → read none (map f (xs ++ x ∷ ys)) (length xs) ≡ f x
+read_behind none f [] x ys = refl
+read_behind none f (y ∷ xs) x ys = read_behind none f xs x ys
 
 -- an entry of a list is one of each longer list
 pub get_front : {A : Type 0} (xs ys : List A) (i : ℕ) (x : A) → slice_get xs i ≡ Some x → slice_get (xs ++ ys) i ≡ Some x

@@ -1,5 +1,5 @@
 -- The numbers of types that come later: while types are read, the entries that are left give the numbers of the names that no type has yet.
-use Rattle.std.proofs.Common.{◌≡◌, ℕ, suc, ◌+◌, nat_eq, Bool, true, false, cond, if◌then◌else◌, List, [], ◌∷◌, ◌++◌, length, Option, None, Some, Result, Ok, Err, codes, refl, sym, ap, ◌∙◌, arith, length-append}
+use Rattle.std.proofs.Common.{◌≡◌, ℕ, suc, ◌+◌, Bool, true, false, cond, if◌then◌else◌, List, [], ◌∷◌, ◌++◌, length, Option, None, Some, Result, codes, refl, sym, ap, ◌∙◌, arith, length-append}
 use Rattle.std.specs.Option.{option_or}
 use Rattle.std.specs.Str.{bytes_eq}
 use Rattle.std.proofs.lemmas.Bool.{eq-eqb}
@@ -10,7 +10,7 @@ use Rattle.ui_machine.specs.Definition.Types.{GType}
 use Rattle.type_tree.specs.Adding.{find_type}
 use Rattle.builder_defs.specs.Refusals.{Refusal}
 use Rattle.builder_defs.specs.Document.{each}
-use Rattle.builder_defs.specs.Denoted.Entries.{TypeNames, is_called, name_under, names_under, number_from, later_type}
+use Rattle.builder_defs.specs.Denoted.Entries.{TypeNames, name_under, names_under, number_from, later_type}
 use Rattle.builder_defs.proofs.Soundness.{OnRead, on_bind}
 use Rattle.law_reading.proofs.NameProofs.{name_refl}
 use Rattle.law_reading.proofs.OverrideProofs.{bytes_same}

@@ -1,28 +1,22 @@
 -- Where nothing is wrong with a class's overrides, the class has the properties of its interfaces.
-use Rattle.std.proofs.Common.{◌≡◌, ℕ, zero, suc, ◌+◌, Bool, true, false, cond, not, ◌&&◌, nat_eq, arith, List, [], ◌∷◌, ◌++◌, Option, None, Some, option_map, option_and_then, slice_get, refl, sym, ap, subst, ◌∙◌, inl, inr, ◌⊎◌}
+use Rattle.std.proofs.Common.{◌≡◌, ℕ, zero, suc, ◌+◌, Bool, true, false, cond, ◌&&◌, nat_eq, arith, List, [], ◌∷◌, Option, None, Some, option_map, option_and_then, slice_get, refl, sym, ap, subst, ◌∙◌, inl, inr, ◌⊎◌}
 use Rattle.std.specs.List.{find}
 use Rattle.std.specs.Ordering.{int_eq}
-use Rattle.std.specs.Cmp.{signed_Decides}
 use Rattle.std.specs.Str.{bytes_eq}
-use Rattle.std.proofs.lemmas.Bool.{eqb-true}
-use Rattle.std.proofs.lemmas.Bool.Decides.{Decides-int_eq}
 use Rattle.std.proofs.lemmas.Slice.Eq.{bytes_eq-Decides}
 use Rattle.ui_machine.specs.Definition.Names.{same_name, canonical, place_from}
-use Rattle.ui_machine.specs.Definition.Kinds.{Kind}
-use Rattle.ui_machine.specs.Definition.Values.{Value}
 use Rattle.ui_machine.specs.Definition.Properties.{Spec}
 use Rattle.ui_machine.specs.Rules.Transform.{same_kind, same_value, same_bool}
 use Rattle.param_specs.specs.Table.{slot_named, canonical_spec}
 use Rattle.param_specs.specs.Overriding.{same_range, same_rest, same_spec, spec_named}
-use Rattle.builder_defs.specs.Causes.{PropertyCause, override_missing, override_differs}
-use Rattle.builder_defs.specs.Denoted.Overrides.{Own, is_own, own_named, Override, fine, missing, different, compared, override_by, override_of, is_missing, is_different, cause_or, override_cause}
+use Rattle.builder_defs.specs.Causes.{override_missing, override_differs}
+use Rattle.builder_defs.specs.Denoted.Overrides.{Own, is_own, Override, fine, missing, different, compared, override_by, override_of, is_missing, is_different, cause_or, override_cause}
 use Rattle.law_typing.specs.Verdict.Inherits as inherits
 use Rattle.law_typing.specs.Verdict.Accepted.{Each}
 use Rattle.law_typing.proofs.Lists.{both_parts}
 use Rattle.law_static.proofs.Same.{specs_same, names_same}
 use Rattle.law_reading.proofs.NameProofs.{name_refl}
 use Rattle.law_reading.proofs.ProvidedProofs.{Has}
-use Rattle.law_reading.proofs.ValueProofs.{both_true}
 
 -- ** the same properties
 

@@ -1,13 +1,14 @@
 -- The parts of a definition that was read.
 use Rattle.std.proofs.Common.{◌≡◌, ℕ, List, [], Option, None, Some, Result, Ok, Err, codes, option_and_then, refl, ap, subst}
-use Rattle.serde_json.specs.Find.{get, as_number, as_u64}
-use Rattle.serde_json.specs.Data.{Data}
+use Rattle.serde_json.specs.Find.{get, as_array, as_number, as_u64}
+use Rattle.serde_json.specs.Data.{Data, Items}
 use Rattle.ui_machine.specs.Outcome.{◌>>=◌}
 use Rattle.ui_machine.specs.Definition.{Definition}
 use Rattle.ui_machine.specs.Definition.Places.{Place}
 use Rattle.ui_machine.specs.declared.limits.Limits.{Limits}
-use Rattle.builder_defs.specs.Refusals.{Refusal, or_refused}
-use Rattle.builder_defs.specs.Document.{document, members_at, only_at}
+use Rattle.builder_defs.specs.Refusals.{Refusal, shape, or_refused}
+use Rattle.builder_defs.specs.Document.{document, under, members_at, entries, entries_at, only_at}
+use Rattle.builder_defs.specs.Denoted.Entries.{listed, section}
 use Rattle.builder_defs.specs.Denoted.Properties.{specs_by}
 use Rattle.builder_defs.specs.Denoted.Drafts.{Draft}
 use Rattle.builder_defs.specs.Denoted.SessionLimits.{limits_in}
@@ -20,10 +21,23 @@ pub on_read : {A B : Type 0} (P : B → Type 0) (r : Result A Refusal) (f : A �
 on_read P (Ok x) f h = h x refl
 on_read P (Err e) f h = tt
 
+-- what follows from what is so of what was read is so of it too
+pub more_on : {A : Type 0} (P Q : A → Type 0) (r : Result A Refusal) → ((x : A) → P x → Q x) → OnRead P r → OnRead Q r
+more_on P Q (Ok x) more p = more x p
+more_on P Q (Err e) more p = tt
+
 -- what was taken is there
 pub taken : {A : Type 0} (refusal : Refusal) (found : Option A) (x : A) → or_refused refusal found ≡ Ok x → found ≡ Some x
 taken refusal None x e = absurd (cc)
 taken refusal (Some y) x e = let same : y ≡ x = cc in ap Some same
+
+-- the entries of a list that was read are those that are known ahead
+pub section_is : (path key : List ℕ) (d : Data) (list : Items) → entries_at path d key ≡ Ok list → section key d ≡ list
+section_is path key d list = by (get key d)
+  where
+    by : (o : Option Data) → entries (under path key) o ≡ Ok list → listed (option_and_then as_array o) ≡ list
+    by None e = cc
+    by (Some x) e = ap listed (taken (shape (under path key)) (as_array x) list e)
 
 pub record IsRead (d : Definition) : Type 0 where
   pub value : Data

@@ -17,7 +17,7 @@ use Rattle.type_tree.specs.PropertyName.{is_property_name}
 use Rattle.param_specs.specs.declared.error.SpecFault.TheVariants.{BadName, Duplicate, FlagsClash, RangeEmpty, DefaultInvalid, Limit}
 use Rattle.builder_defs.specs.Denoted.Drafts.{properties_at}
 use Rattle.builder_defs.specs.Refusals.{Refusal, shape, or_refused}
-use Rattle.builder_defs.specs.Document.{each, at_entry, under, nth, members_at, text_at, entries_at, absent_at, only_at}
+use Rattle.builder_defs.specs.Document.{each, at_entry, under, nth, members_at, text_at, entries_at, only_at}
 use Rattle.builder_defs.specs.Denoted.Entries.{TypeNames}
 use Rattle.builder_defs.specs.Denoted.Kinds.{kind_at}
 use Rattle.builder_defs.specs.Denoted.PropertyFlags.{flag_if, flag_at, check_flags, listed_flags, flags_or, flags_at}

@@ -1,13 +1,11 @@
 -- A property of a class, read beside the class and its properties, is the same one read ahead, beside its parent alone.
-use Rattle.std.proofs.Common.{◌≡◌, ◌<◌, ◌≤◌, ℕ, suc, ◌+◌, nat_le, nat_lt, Bool, true, false, cond, if◌then◌else◌, List, [], ◌∷◌, ◌++◌, length, Option, None, Some, is_some, option_map, option_and_then, Result, Ok, Err, codes, refl, sym, ap, subst, ◌∙◌, arith, length-append}
+use Rattle.std.proofs.Common.{◌≡◌, ◌<◌, ℕ, suc, ◌+◌, nat_le, nat_lt, Bool, true, false, cond, if◌then◌else◌, List, [], ◌∷◌, ◌++◌, length, Option, None, Some, is_some, option_map, option_and_then, Result, Ok, Err, codes, refl, sym, ap, subst, ◌∙◌, arith, length-append}
 use Rattle.std.specs.Option.{option_or}
-use Rattle.std.specs.Str.{bytes_eq}
 use Rattle.std.proofs.lemmas.Bool.Decides.{nat_tests}
 use Rattle.std.proofs.lemmas.Option.{none-some}
 use Rattle.serde_json.specs.Data.{Data}
 use Rattle.serde_json.specs.Find.{get, as_str}
 use Rattle.ui_machine.specs.Outcome.{◌>>=◌}
-use Rattle.ui_machine.specs.Seq.{read}
 use Rattle.ui_machine.specs.Output.Text.{no_type}
 use Rattle.ui_machine.specs.Definition.Names.{same_name, canonical, place_from}
 use Rattle.ui_machine.specs.Definition.Kinds.{Kind}
@@ -23,16 +21,16 @@ use Rattle.ui_machine.specs.Rules.Validation.{is_valid}
 use Rattle.g_values.specs.Reading.{value_of, whole_number, enum_number, flags_bits, json_value}
 use Rattle.g_values.specs.View.{is_whole_kind}
 use Rattle.type_tree.specs.Tree.{IsTree}
-use Rattle.type_tree.specs.Adding.{find_type, sort_of, of_sort, is_class, class_named}
+use Rattle.type_tree.specs.Adding.{find_type, sort_of, of_sort, is_class}
 use Rattle.type_tree.proofs.Entries.{read-front, read-last}
 use Rattle.param_specs.specs.Table.{slot_named}
 use Rattle.type_tree.specs.PropertyName.{is_property_name}
 use Rattle.param_specs.specs.declared.error.SpecFault.TheVariants.{Duplicate, BadName, DefaultInvalid}
 use Rattle.builder_defs.specs.declared.fault.DefinitionLimit.TheVariants.{Properties}
-use Rattle.builder_defs.specs.Refusals.{Refusal, shape, unknown, duplicate, not_installed, limit, or_refused, or_value_fault}
+use Rattle.builder_defs.specs.Refusals.{Refusal, shape, duplicate, not_installed, limit, or_value_fault}
 use Rattle.builder_defs.specs.Document.{under, members_at, text_at, only_at}
 use Rattle.builder_defs.specs.Denoted.Entries.{TypeNames, later_type, at_most}
-use Rattle.builder_defs.specs.Denoted.Kinds.{is_enum, is_flags, enum_named, flags_named, object_type, parted, kind_by, kind_at}
+use Rattle.builder_defs.specs.Denoted.Kinds.{is_enum, is_flags, object_type, parted, kind_by, kind_at}
 use Rattle.builder_defs.specs.Denoted.PropertyFlags.{flags_at}
 use Rattle.builder_defs.specs.Denoted.Ranges.{whole_range, range_at}
 use Rattle.builder_defs.specs.Denoted.Defaults.{default_or_zero, default_at, check_default, check_unranged}

@@ -1,12 +1,12 @@
 -- The types of a definition that was read are a tree, in which classes implement interfaces.
-use Rattle.std.proofs.Common.{◌≡◌, ℕ, zero, suc, ◌+◌, ◌<◌, ◌≤◌, ◌⊎◌, inl, inr, Bool, true, false, cond, not, ◌||◌, nat_eq, nat_le, slice_get, is_some, option_and_then, List, [], ◌∷◌, ◌++◌, length, Option, None, Some, Result, Ok, Err, refl, sym, ap, subst, ◌∙◌, arith, reverse, length-append}
+use Rattle.std.proofs.Common.{◌≡◌, ℕ, zero, suc, ◌+◌, ◌<◌, ◌≤◌, ◌⊎◌, inl, inr, Bool, true, false, cond, not, ◌||◌, nat_eq, nat_le, is_some, option_and_then, List, [], ◌∷◌, ◌++◌, length, Option, None, Some, Result, Ok, Err, refl, sym, ap, subst, ◌∙◌, arith, reverse, length-append}
 use Rattle.std.specs.Prelude.{codes, if◌then◌else◌}
 use Rattle.std.specs.Option.{ForSome, option_or}
 use Rattle.std.proofs.lemmas.Bool.{cases_lt, eqb-true}
 use Rattle.std.proofs.lemmas.Bool.Decides.{nat_tests}
 use Rattle.std.proofs.lemmas.Option.{none-some}
 use Rattle.serde_json.specs.Data.{Data, Items, no_items, item}
-use Rattle.serde_json.specs.Find.{get, as_str, as_array}
+use Rattle.serde_json.specs.Find.{get, as_str}
 use Rattle.ui_machine.specs.Seq.{read}
 use Rattle.ui_machine.specs.Definition.Types.{GType, Sort, predeclared}
 use Rattle.ui_machine.specs.Definition.Types as sorts
@@ -24,10 +24,10 @@ use Rattle.type_tree.proofs.Entries.{IsTree-append, read-front, read-past, read-
 use Rattle.builder_defs.specs.Causes.{unknown_parent, final_parent, named_cause}
 use Rattle.builder_defs.specs.Refusals.{Refusal, limit, shape, unknown, duplicate, bad_type, bad_spec, or_refused, refused_if}
 use Rattle.builder_defs.specs.declared.fault.DefinitionLimit.TheVariants.{Types}
-use Rattle.builder_defs.specs.Document.{each, entries, at_entry, under, nth, members_at, text_at, entries_at, listed_ahead, nothing_at, only_at}
+use Rattle.builder_defs.specs.Document.{each, at_entry, under, nth, members_at, text_at, entries_at, listed_ahead, nothing_at, only_at}
 use Rattle.builder_defs.specs.Denoted.Types.{is_declared, is_from, room_for_type, new_type_name}
 use Rattle.builder_defs.specs.Denoted.Enums.{enum_at, flags_at, enum_member_at, flags_member_at, members_with, keys_of_members}
-use Rattle.builder_defs.specs.Denoted.Entries.{TypeNames, type_names, name_under, names_under, number_from, listed, section}
+use Rattle.builder_defs.specs.Denoted.Entries.{TypeNames, type_names, name_under, names_under, number_from, section}
 use Rattle.builder_defs.specs.Denoted.Drafts.{Draft, bare_draft, properties_at, type_at}
 use Rattle.builder_defs.specs.Denoted.Overrides.{Own, own_ahead, override_cause}
 use Rattle.builder_defs.specs.Denoted.Properties.{specs_by}
@@ -44,7 +44,7 @@ use Rattle.law_reading.proofs.Ancestors.{AreInterfaces, Implements, specs_before
 use Rattle.law_reading.proofs.ListProofs.{named_within}
 use Rattle.law_reading.proofs.MemberProofs.{AreMembers, HasMembers, has_these, enum_members, flags_members}
 use Rattle.law_reading.proofs.NameProofs.{AreNamed}
-use Rattle.law_reading.proofs.Parts.{on_read, taken}
+use Rattle.law_reading.proofs.Parts.{on_read, more_on, section_is, taken}
 use Rattle.law_reading.proofs.PropertyProofs.{OwnRead, OnlyAt, properties_only, properties_read}
 use Rattle.law_reading.proofs.ProvidedProofs.{Provides, all_provide}
 use Rattle.law_reading.proofs.ImplementProofs.{AreOverridden, class_provides}
@@ -223,11 +223,6 @@ one_overridden heir is i all one j h = by (one_of is i j h)
 nothing_refused : {A : Type 0} (refusal : A → Refusal) (found : Option A) (u : Unit {0}) → refused_if refusal found ≡ Ok u → found ≡ None
 nothing_refused refusal None u e = refl
 nothing_refused refusal (Some x) u e = absurd (cc)
-
--- what is so of all that is read is so of what is read
-more_on : {A : Type 0} (P Q : A → Type 0) (r : Result A Refusal) → ((x : A) → P x → Q x) → OnRead P r → OnRead Q r
-more_on P Q (Ok x) more p = more x p
-more_on P Q (Err e) more p = tt
 
 implemented_are : (types : List GType) (path : List ℕ) (heir : Heir) → heir.types ≡ types → (is : List ℕ) (d : Data) → AreInterfaces types is × IsHeir heir is
     → OnRead (λ is. AreInterfaces types is × IsHeir heir is) (implemented_at path heir is d)
@@ -495,23 +490,15 @@ all_flags_grown types d old =
     on_each Grown (at_entry (λ path. flags_at path (length types)) (under [] (codes "flags")))
     (λ i more d all. flags_grown (nth (under [] (codes "flags")) i) (length types) more d all) 0 types list old
 
--- the entries of a section are those of its list
-section_is : (key : List ℕ) (d : Data) (list : Items) → entries_at [] d key ≡ Ok list → section key d ≡ list
-section_is key d list = by (get key d)
-  where
-    by : (o : Option Data) → entries (under [] key) o ≡ Ok list → listed (option_and_then as_array o) ≡ list
-    by None e = cc
-    by (Some x) e = ap listed (taken (shape (under [] key)) (as_array x) list e)
-
 pub draft_grown : (d : Data) → OnRead GrownDraft (draft_in d)
 unfolding draft_in
 draft_grown d =
     on_bind Grown GrownDraft (enums_in d) _ (enums_grown d) λ enums old.
     on_bind Grown GrownDraft (flags_in enums d) _ (all_flags_grown enums d old) λ types more.
     on_bind (With (λ ts. InterfacesLeft (type_names types d) ts no_items)) GrownDraft (interfaces_in (type_names types d) types d) _
-    (interfaces_grown (type_names types d) types d more (λ list e. begin types list (section_is (codes "interfaces") d list e)))
+    (interfaces_grown (type_names types d) types d more (λ list e. begin types list (section_is [] (codes "interfaces") d list e)))
     λ draft all. classes_grown (type_names types d) draft d all.0 (λ list e. no_interface_left (type_names types d) draft.types list
-    (ap (names_under (codes "name")) (section_is (codes "classes") d list e)) all.1)
+    (ap (names_under (codes "name")) (section_is [] (codes "classes") d list e)) all.1)
   where
     begin : (types : List GType) (list : Items) → section (codes "interfaces") d ≡ list → InterfacesLeft (type_names types d) types list
     begin types list is name none =

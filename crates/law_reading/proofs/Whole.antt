@@ -20,7 +20,8 @@ use Rattle.law_reading.proofs.Parts.{IsRead, parts}
 use Rattle.law_reading.proofs.Ancestors.{transitive}
 use Rattle.law_reading.proofs.LimitProofs.{Small, limits_small, objects_few}
 use Rattle.law_reading.proofs.ListProofs.{all_read}
-use Rattle.law_reading.proofs.PlaceProofs.{AreObjects, all_objects, place_read, place_order, peers_apart}
+use Rattle.law_reading.proofs.ObjectProofs.{AreObjects, all_objects}
+use Rattle.law_reading.proofs.PlaceProofs.{place_read, place_order, peers_apart}
 use Rattle.law_reading.proofs.SignalProofs.{as_many, has_notify, some_signal, found, results_filled, no_shape}
 use Rattle.law_reading.proofs.SpecProofs.{spec_read, names_apart, specs_inherited}
 use Rattle.law_reading.proofs.TreeProofs.{GrownDraft, draft_grown}

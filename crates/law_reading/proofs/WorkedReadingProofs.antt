@@ -1,6 +1,7 @@
 -- The premises of the promise, as it is made of bytes, are met.
-use Rattle.std.proofs.Common.{zero, suc, [], Option, None, Some, refl, subst}
+use Rattle.std.proofs.Common.{◌≡◌, zero, suc, [], Option, None, Some, refl, subst}
 use Rattle.std.specs.Prelude.{⊤}
+use Rattle.std.specs.Fmt.{digits}
 use Rattle.std.specs.Str.{is_utf8, chars}
 use Rattle.serde_json.proofs.OnLiterals.{serde_json_on_literals}
 use Rattle.ui_machine.specs.Definition.Places.{Place}
@@ -10,16 +11,15 @@ use Rattle.builder_defs.specs.Denoted.Classes.{named_parent, flags_at, declared_
 use Rattle.builder_defs.specs.Denoted.Drafts.{properties_at, type_at}
 use Rattle.builder_defs.specs.Denoted.Implements.{implements_at}
 use Rattle.builder_defs.specs.Denoted.Given.{property_named, given_at, givens_at}
-use Rattle.builder_defs.specs.Denoted.Objects.{place_at, object_at}
+use Rattle.builder_defs.specs.Denoted.Objects.{place_at, added_at, object_at}
 use Rattle.builder_defs.specs.Denoted.Properties.{valued_at, spec_at, property_at}
 use Rattle.builder_defs.specs.Denoted.Ranges.{range_at}
-use Rattle.builder_defs.specs.EventMeaning.{line_value, target, object_of, set_event, get_event, event_meant, event_denoted}
-use Rattle.law_typing.specs.Examples.FirstRun as first_run
+use Rattle.builder_defs.specs.EventMeaning.{line_value, target, object_of, set_event, get_event, release_event, event_meant, event_denoted}
 use Rattle.law_typing.specs.Laws.StepsKeepGood.{PeerReady, PoolReady}
+use Rattle.law_typing.specs.Verdict.{verdict, accepted}
 use Rattle.law_typing.specs.Verdict.Accepted.{Each}
 use Rattle.law_typing.proofs.JudgedProofs.{judged_is_accepted}
-use Rattle.law_typing.proofs.JudgedRows.{firstrun_holds}
-use Rattle.law_reading.specs.WorkedReading.{PremisesMet}
+use Rattle.law_reading.specs.WorkedReading.{definition, told, PremisesMet}
 
 -- what the reading of a text unfolds
 unfoldable text_on_literals : ⊤
@@ -35,27 +35,33 @@ unfolding property_at spec_at valued_at range_at
 properties_on_literals = tt
 
 unfoldable objects_on_literals : ⊤
-unfolding objects_in object_at place_at givens_at given_at property_named
+unfolding objects_in object_at added_at place_at givens_at given_at property_named
 objects_on_literals = tt
 
 unfoldable lines_on_literals : ⊤
-unfolding event_denoted event_meant set_event get_event target object_of line_value
+unfolding event_denoted event_meant set_event get_event release_event target object_of line_value
 lines_on_literals = tt
 
 -- the peers of a place, if there is one, are ready
 abbrev AreReady : Option Place → Type 0
 AreReady None = ⊤
-AreReady (Some p) = Each (PeerReady first_run.definition [] p) p.peers
+AreReady (Some p) = Each (PeerReady definition [] p) p.peers
 
-ready : PoolReady first_run.definition []
+ready : PoolReady definition []
 ready zero p e = subst AreReady e tt
-ready (suc n) p e = absurd (cc)
+ready (suc zero) p e = subst AreReady e tt
+ready (suc (suc n)) p e = absurd (cc)
+
+is_judged : verdict definition ≡ accepted told
+unfolding digits
+is_judged = refl
 
 pub premises_met : PremisesMet
 unfolding denoted definition_in text_on_literals types_on_literals properties_on_literals objects_on_literals lines_on_literals
 premises_met = record {
   read = refl;
-  accepted = (judged_is_accepted first_run.definition first_run.lines refl firstrun_holds).0;
+  judged = is_judged;
+  accepted = (judged_is_accepted definition told refl is_judged).0;
   ready = ready;
   events = refl;
 }

@@ -13,9 +13,9 @@ use Rattle.ui_machine.specs.Output.Lines as lines
 use Rattle.ui_machine.specs.Definition.Lookups.{type_of, program_at, place_at, specs_of}
 use Rattle.ui_machine.specs.State.Tasks as config
 use Rattle.ui_machine.specs.State.Objects.{Object, Objects, changed, object_at}
-use Rattle.ui_machine.specs.State.Tasks.{Making, Item, makes, Emission, Task, Setting, Notifying, Beginning, Emitting, Transferring, Unsetting, Thawing, Running, Answering, Calling, Constructing, Building, Carrying, Due}
+use Rattle.ui_machine.specs.State.Tasks.{Making, Item, makes, adopts, Emission, Task, Setting, Notifying, Beginning, Emitting, Transferring, Unsetting, Thawing, Running, Answering, Calling, Constructing, Building, Carrying, Due}
 use Rattle.ui_machine.specs.State.Config.{World, Config, built, Started, starts, said, held_at, is_unbuilt, with_held, sunk, Left}
-use Rattle.ui_machine.specs.Outcome.{Answer, known, only_if}
+use Rattle.ui_machine.specs.Outcome.{After, Answer, known, only_if}
 use Rattle.ui_machine.specs.Rules.NotifyQueue.{frozen_less, thawing}
 use Rattle.ui_machine.specs.Rules.Programs.{first_frame, all_fit, fits_register, beginning_program, program_before}
 use Rattle.ui_machine.specs.Rules.EmissionPlan.{notifying, notification}
@@ -23,8 +23,9 @@ use Rattle.ui_machine.specs.Rules.Accumulation.{resulting, passed_down, told, en
 use Rattle.ui_machine.specs.Rules.Construction.{not_forward, initially_unowned, making, with_object, new_object, thawing_made, constructed, making_set}
 use Rattle.ui_machine.specs.Rules.Sets.{setting, spec_at}
 use Rattle.ui_machine.specs.Steps.{most_steps, before, uncounted, left, act}
-use Rattle.ui_machine.specs.Rules.Build.{building, building_forward}
-use Rattle.ui_machine.specs.Rules.Events.{carrying_set, carrying_get}
+use Rattle.ui_machine.specs.Rules.Build.{building, building_child, building_forward, held_object}
+use Rattle.ui_machine.specs.Rules.Children.{adopted}
+use Rattle.ui_machine.specs.Rules.Events.{carrying_set, carrying_get, carrying_release}
 use Rattle.g_values.specs.View.{value_view}
 use Rattle.builder_defs.specs.declared.event.Event.{Event}
 use Rattle.builder_defs.specs.declared.event.Event.TheVariants as events
@@ -32,7 +33,7 @@ use Rattle.builder_defs.specs.Meaning.{IsBasic, given_view, request_of}
 use Rattle.ui_engine.specs.declared.task.Task.TheVariants as tasks
 use Rattle.ui_engine.specs.declared.task.Task as code
 use Rattle.ui_engine.specs.declared.task.Forward.{Forward}
-use Rattle.ui_engine.specs.TaskView.{task_of, name_of, item_of, build_from}
+use Rattle.ui_engine.specs.TaskView.{task_of, name_of, item_of, build_from, build_behind}
 use Rattle.ui_engine.specs.EngineView.{is_counted}
 use Rattle.ui_machine.specs.Prefix.{IsPrefix}
 use Rattle.ui_machine.proofs.Prefixes.{prefix_same, prefix_one}
@@ -40,8 +41,9 @@ use Rattle.ui_engine.specs.Measure.{sets_of_place, weight, waiting_in, waiting}
 use Rattle.ui_engine.specs.MakingView.{making_of_object}
 use Rattle.ui_engine.proofs.Lists.{total-append}
 use Rattle.ui_engine.proofs.Floats.{Quietly, if_ok_at, bind_ok, one_floats, without_less}
-use Rattle.ui_engine.proofs.Quiet.{Calm, notifying_calm, setting_calm, building_forward_calm, carrying_set_calm, carrying_get_calm, thawing_calm}
-use Rattle.ui_engine.proofs.Falls.{Falls, setting_falls, thawing_falls, thawing_made_falls, building_forward_falls, carrying_set_falls, carrying_get_falls}
+use Rattle.ui_engine.proofs.Quiet.{Calm, notifying_calm, setting_calm, building_forward_calm, carrying_set_calm, carrying_get_calm, carrying_release_calm, thawing_calm}
+use Rattle.ui_engine.proofs.Falls.{Falls, setting_falls, thawing_falls, thawing_made_falls, building_forward_falls, carrying_set_falls, carrying_get_falls, carrying_release_falls}
+use Rattle.ui_engine.proofs.Joining.{Joins, adopted_joins}
 use Rattle.ui_engine.proofs.Building.{few_steps, few_early, only_forwards, builds_next, next_made, made_there, abstract_there}
 
 -- what the step of a task leads to
@@ -106,6 +108,7 @@ module _ (d : Definition) (w : World) (rest : List Task) (n : ℕ) where
   kept_down (tasks.Thawing id slots ∷ ts) v = refl
   kept_down (tasks.Constructing id steps ∷ ts) v = refl
   kept_down (tasks.Building place forwards ∷ ts) v = refl
+  kept_down (tasks.Adopting place forwards ∷ ts) v = refl
   kept_down (tasks.Carrying event ∷ ts) v = refl
 
   ending_at : (e : Emission) (turns : List config.PlanEntry) → (v : World) → v.objects ≡ w.objects → v.floating ≡ w.floating → IsPrefix w.transcript v.transcript
@@ -239,6 +242,7 @@ module _ (d : Definition) (w : World) (rest : List Task) (n : ℕ) where
   carrying_passes : (event : Event) → IfOk (act d w None (Carrying (request_of event) ∷ rest) n) (Passes d w (Carrying (request_of event)) rest n)
   carrying_passes (events.Set place slot given) = steadily (Carrying (request_of (events.Set place slot given))) refl (carrying_set d w place.0 slot (given_view given)) (carrying_set_calm d w place.0 slot (given_view given)) (carrying_set_falls d w place.0 slot (given_view given))
   carrying_passes (events.Get place slot) = steadily (Carrying (request_of (events.Get place slot))) refl (carrying_get d w place.0 slot) (carrying_get_calm d w place.0 slot) (carrying_get_falls d w place.0 slot)
+  carrying_passes (events.Release place) = steadily (Carrying (request_of (events.Release place))) refl (carrying_release d w place.0) (carrying_release_calm d w place.0) (carrying_release_falls d w place.0)
 
   -- ** the build
 
@@ -273,6 +277,28 @@ module _ (d : Definition) (w : World) (rest : List Task) (n : ℕ) where
       steadily (Building (item_of f ∷ map item_of fs)) refl (building_forward d w f.object f.slot f.to.0 (map item_of fs))
       (building_forward_calm d w f.object f.slot f.to.0 (map item_of fs)) (building_forward_falls d w f.object f.slot f.to.0 (map item_of fs))
 
+  -- an object becomes its parent's child, or does not
+  adopting_passes : (place : ℕ) (items : List Item) → IfOk (uncounted rest n (building_child d w place items)) (Passes d w (Building (adopts place ∷ items)) rest n)
+  unfolding building_child
+  adopting_passes place items = uncounted_if whole (building_child d w place items)
+      (bind_ok (known arms.Code (place_at d place)) _ P (λ p _. bind_ok (known arms.Code p.parent) _ P (λ above _. bind_ok (held_object w above) _ P (λ parent _.
+      bind_ok (held_object w place) _ P (λ child _. bind_ok (adopted d w parent child) _ P (λ family is.
+      by family.state (if_ok_at (λ (r : After World Bool). Joins w r.state) (adopted d w parent child) family (adopted_joins d w parent child) is)))))))
+    where
+      whole : Task
+      whole = Building (adopts place ∷ items)
+
+      P : Started → Type 0
+      P = λ s. Passes d w whole rest n (before rest n s)
+
+      by : (v : World) → Joins w v → P (record { world = v; tasks = Building items ∷ [] })
+      by v joins = record {
+        falls = λ _. omega (arith, joins.waits, joins.floats);
+        stays = λ _. refl;
+        counts = λ yes. cc yes;
+        grows = joins.grows;
+      }
+
   module _ (basic : IsBasic d) (place : ℕ) (fs : List Forward) where
     abbrev P : Config → Type 0
     P = Passes d w (Building (build_from d place fs)) rest n
@@ -281,7 +307,7 @@ module _ (d : Definition) (w : World) (rest : List Task) (n : ℕ) where
     built_there p at = subst (λ (a : Answer Config). IfOk a P) (sym (builds_next d basic w place p at fs rest n)) (by (type_of d p.class).is_abstract refl)
       where
         items : List Item
-        items = build_from d (suc place) fs
+        items = build_behind d place fs
 
         next : build_from d place fs ≡ makes place ∷ items
         next = next_made d basic w place p at fs
@@ -316,4 +342,5 @@ module _ (d : Definition) (w : World) (rest : List Task) (n : ℕ) where
   acted basic (tasks.Thawing id slots) ts same = thawing_passes id.0 slots
   acted basic (tasks.Constructing id steps) ts same = constructing_passes id.0 steps
   acted basic (tasks.Building place forwards) ts same = building_passes basic place forwards
+  acted basic (tasks.Adopting place forwards) ts same = adopting_passes place (build_from d (suc place) forwards)
   acted basic (tasks.Carrying event) ts same = carrying_passes event

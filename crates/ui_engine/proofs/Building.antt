@@ -1,5 +1,5 @@
 -- The build of a basic definition: what each step of it starts.
-use Rattle.std.proofs.Common.{◌≡◌, ℕ, zero, suc, ◌+◌, ◌<◌, ◌≤◌, Bool, true, false, cond, not, List, [], ◌∷◌, ◌++◌, length, map, reverse, take, drop, Option, Some, None, is_some, Ok, Err, slice_get, refl, sym, ap, ◌∙◌, arith, length-append}
+use Rattle.std.proofs.Common.{◌≡◌, ℕ, zero, suc, ◌+◌, ◌<◌, ◌≤◌, Bool, true, false, cond, not, List, [], ◌∷◌, ◌++◌, length, map, reverse, take, drop, Option, Some, None, is_some, Ok, Err, slice_get, refl, sym, ap, ◌∙◌, arith, append_assoc, length-append}
 use Rattle.std.specs.List.{flat_map, list_all}
 use Rattle.std.proofs.lemmas.Option.{slice_get_within, get_or_from_slice_get}
 use Rattle.std.proofs.lemmas.List.{reverse-append}
@@ -24,7 +24,7 @@ use Rattle.g_values.specs.declared.value.Value.{Value}
 use Rattle.g_values.specs.View.{value_view}
 use Rattle.builder_defs.specs.Meaning.{IsPlain, IsBasic}
 use Rattle.ui_engine.specs.declared.task.Forward.{Forward}
-use Rattle.ui_engine.specs.TaskView.{item_of, forwards_of_place, forwards_at, build_from}
+use Rattle.ui_engine.specs.TaskView.{item_of, forwards_of_place, forwards_at, adopts_of, build_from, build_behind}
 use Rattle.ui_engine.specs.declared.task.Making as code
 use Rattle.ui_engine.specs.MakingView.{making_of_code, making_steps, later_steps, making_of_object}
 use Rattle.ui_engine.proofs.Notified.{none_given}
@@ -127,12 +127,13 @@ module _ (d : Definition) (basic : IsBasic d) where
     unfolding making
     abstract_there abstract = rw (at, abstract) refl
 
-    pub next_made : (fs : List Forward) → build_from d place fs ≡ makes place ∷ build_from d (suc place) fs
+    pub next_made : (fs : List Forward) → build_from d place fs ≡ makes place ∷ build_behind d place fs
     next_made fs =
         let others = made_items (suc place) (drop (suc place) d.places) in
         ap (λ ps. made_items place ps ++ map item_of fs) (drop_at d.places place p at)
         ∙ ap (λ b. (cond b [] (makes place ∷ adopts_if place p.parent) ++ others) ++ map item_of fs) (basic.prototypes place p at)
-        ∙ ap (λ above. ((makes place ∷ adopts_if place above) ++ others) ++ map item_of fs) (basic.parents place p at)
+        ∙ ap (λ items. makes place ∷ items) (append_assoc (adopts_if place p.parent) others (map item_of fs))
+        ∙ ap (λ found. makes place ∷ adopts_of place found ++ build_from d (suc place) fs) (sym at)
 
     without_peer : peer_for d w p ≡ Ok None
     without_peer =
@@ -146,13 +147,13 @@ module _ (d : Definition) (basic : IsBasic d) where
     below rest n items (Err arm) = refl
 
     pub builds_next : (fs : List Forward) (rest : List Task) (n : ℕ)
-        → uncounted rest n (building d w (build_from d place fs)) ≡ uncounted (Building (build_from d (suc place) fs) ∷ rest) n (making d w place None true)
+        → uncounted rest n (building d w (build_from d place fs)) ≡ uncounted (Building (build_behind d place fs) ∷ rest) n (making d w place None true)
     unfolding building_object
     builds_next fs rest n =
         ap (λ items. uncounted rest n (building d w items)) (next_made fs)
-        ∙ ap (λ (found : Option Place). uncounted rest n (known arms.Code found >>= λ q. peer_for d w q >>= λ peer. making d w place peer true >>= λ m. starts m.world (m.tasks ++ Building (build_from d (suc place) fs) ∷ []))) at
-        ∙ ap (λ (taken : Answer (Option ℕ)). uncounted rest n (taken >>= λ peer. making d w place peer true >>= λ m. starts m.world (m.tasks ++ Building (build_from d (suc place) fs) ∷ []))) without_peer
-        ∙ sym (below rest n (build_from d (suc place) fs) (making d w place None true))
+        ∙ ap (λ (found : Option Place). uncounted rest n (known arms.Code found >>= λ q. peer_for d w q >>= λ peer. making d w place peer true >>= λ m. starts m.world (m.tasks ++ Building (build_behind d place fs) ∷ []))) at
+        ∙ ap (λ (taken : Answer (Option ℕ)). uncounted rest n (taken >>= λ peer. making d w place peer true >>= λ m. starts m.world (m.tasks ++ Building (build_behind d place fs) ∷ []))) without_peer
+        ∙ sym (below rest n (build_behind d place fs) (making d w place None true))
 
 pub no_place : (d : Definition) (w : World) (place : ℕ) → slice_get d.places place ≡ None → making d w place None true ≡ Err arms.Code
 unfolding making

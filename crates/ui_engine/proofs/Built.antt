@@ -1,34 +1,28 @@
 -- What the builder has built, by place.
-use Rattle.std.proofs.Common.{◌≡◌, ℕ, zero, suc, Bool, true, false, not, is_some, Ok, Err, ◌<◌, ◌≤◌, List, [], ◌∷◌, ◌++◌, length, map, Option, Some, None, slice_get, slice_set, refl, ap, ◌∙◌, arith}
+use Rattle.std.proofs.Common.{◌≡◌, ℕ, zero, suc, Bool, true, false, Ok, Err, ◌<◌, ◌≤◌, List, [], ◌∷◌, ◌++◌, length, map, Option, Some, None, slice_get, slice_set, refl, ap, ◌∙◌, arith}
 use Rattle.ui_machine.specs.declared.arm.Arm.{Arm}
-use Rattle.ui_machine.specs.declared.ids.ObjectId.{ObjectId}
-use Rattle.instances.specs.Store.{id_of}
 use Rattle.ui_machine.specs.declared.arm.Arm.TheVariants as arms
 use Rattle.ui_machine.specs.Seq.{read, write}
 use Rattle.ui_machine.specs.State.Objects.{Object, living, asked}
 use Rattle.ui_machine.specs.State.Config.{Held, unbuilt, built, World, Started, starts, held_at, is_unbuilt, with_held, sunk}
 use Rattle.ui_machine.specs.Outcome.{Answer, ◌>>=◌, known, only_if}
-use Rattle.ui_machine.specs.Rules.Build.{identity_held}
 use Rattle.ui_machine.specs.Rules.Construction.{constructed}
+use Rattle.ui_engine.specs.declared.builder.Held as code
 use Rattle.ui_engine.specs.View.{held_of}
 
--- what is found, if it is there and something
-abbrev pub flat : Option (Option ObjectId) → Option ObjectId
-flat None = None
-flat (Some id) = id
+-- what is found, if it is there
+abbrev pub found_held : Option code.Held → Held
+found_held None = unbuilt
+found_held (Some h) = held_of h
 
--- the identity that stands there
-pub held_is : (ids : List (Option ObjectId)) (place : ℕ) (found : Option (Option ObjectId)) → slice_get ids place ≡ found → identity_held (read unbuilt (map held_of ids) place) ≡ id_of (flat found)
-held_is ids place found h = by ids place ∙ ap (λ (f : Option (Option ObjectId)). id_of (flat f)) h
+-- what stands there
+pub held_is : (hs : List code.Held) (place : ℕ) (found : Option code.Held) → slice_get hs place ≡ found → read unbuilt (map held_of hs) place ≡ found_held found
+held_is hs place found is = by hs place ∙ ap found_held is
   where
-    one : (id : Option ObjectId) → identity_held (held_of id) ≡ id_of id
-    one None = refl
-    one (Some id) = refl
-
-    by : (ids : List (Option ObjectId)) (place : ℕ) → identity_held (read unbuilt (map held_of ids) place) ≡ id_of (flat (slice_get ids place))
+    by : (hs : List code.Held) (place : ℕ) → read unbuilt (map held_of hs) place ≡ found_held (slice_get hs place)
     by [] place = refl
-    by (id ∷ ids) zero = one id
-    by (id ∷ ids) (suc place) = by ids place
+    by (h ∷ hs) zero = refl
+    by (h ∷ hs) (suc place) = by hs place
 
 -- one place more changes nothing of a write past the end
 pub filled : (held : List Held) (place : ℕ) (new : Held) → length held ≤ place → write unbuilt (held ++ unbuilt ∷ []) place new ≡ write unbuilt held place new
@@ -37,26 +31,14 @@ filled [] (suc place) new past = refl
 filled (h ∷ held) zero new past = absurd (omega arith)
 filled (h ∷ held) (suc place) new past = ap (λ more. h ∷ more) (filled held place new (omega arith))
 
-pub held_more : (ids : List (Option ObjectId)) (id : Option ObjectId) → map held_of (ids ++ id ∷ []) ≡ map held_of ids ++ held_of id ∷ []
-held_more [] id = refl
-held_more (i ∷ ids) id = ap (λ more. held_of i ∷ more) (held_more ids id)
+pub held_more : (hs : List code.Held) (new : code.Held) → map held_of (hs ++ new ∷ []) ≡ map held_of hs ++ held_of new ∷ []
+held_more [] new = refl
+held_more (h ∷ hs) new = ap (λ more. held_of h ∷ more) (held_more hs new)
 
-pub held_set : (ids : List (Option ObjectId)) (place : ℕ) (id : Option ObjectId) → place < length ids → map held_of (slice_set ids place id) ≡ write unbuilt (map held_of ids) place (held_of id)
-held_set [] place id within = absurd (omega arith)
-held_set (i ∷ ids) zero id within = refl
-held_set (i ∷ ids) (suc place) id within = ap (λ more. held_of i ∷ more) (held_set ids place id (omega arith))
-
--- a place where nothing was built is one that the builder has not come to
-pub fresh : (ids : List (Option ObjectId)) (place : ℕ) → is_unbuilt (read unbuilt (map held_of ids) place) ≡ not (is_some (identity_held (read unbuilt (map held_of ids) place)))
-fresh [] place = refl
-fresh (None ∷ ids) zero = refl
-fresh (Some id ∷ ids) zero = refl
-fresh (id ∷ ids) (suc place) = fresh ids place
-
--- an identity is there as its number is
-pub some_id : (id : Option ObjectId) → is_some (id_of id) ≡ is_some id
-some_id None = refl
-some_id (Some id) = refl
+pub held_set : (hs : List code.Held) (place : ℕ) (new : code.Held) → place < length hs → map held_of (slice_set hs place new) ≡ write unbuilt (map held_of hs) place (held_of new)
+held_set [] place new within = absurd (omega arith)
+held_set (h ∷ hs) zero new within = refl
+held_set (h ∷ hs) (suc place) new within = ap (λ more. held_of h ∷ more) (held_set hs place new (omega arith))
 
 -- ** the end of a construction
 

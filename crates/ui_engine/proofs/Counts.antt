@@ -65,6 +65,16 @@ module _ (d : Definition) (taken : ℕ → ℕ) where
       let floats : total (same o) n.floating ≡ total (same o) t.floating = ap (total (same o)) only.floating in
       omega (arith, objects, floats, counts o, holders o, h o)
 
+  -- one holder less
+  pub holder_less : (t n : Store) (b c : List Held) (a r : List Task) (gone : ℕ → ℕ) → OnlyCounts t n
+      → ((o : ℕ) → count_of n.counts o + gone o ≡ count_of t.counts o)
+      → ((o : ℕ) → total (in_held o) c + total (in_task o) r + gone o ≡ total (in_held o) b + total (in_task o) a)
+      → Exact d taken t b a → Exact d taken n c r
+  holder_less t n b c a r gone only counts holders h o =
+      let objects : total (in_object d o) n.objects ≡ total (in_object d o) t.objects = ap (total (in_object d o)) only.objects in
+      let floats : total (same o) n.floating ≡ total (same o) t.floating = ap (total (same o)) only.floating in
+      omega (arith, objects, floats, counts o, holders o, h o)
+
   -- an object that no longer floats
   pub sunk_exact : (t n : Store) (b : List Held) (a : List Task) (id : ℕ) → Sinks id t n → Exact d taken t b a → Exact d taken n b a
   sunk_exact t n b a id sinks h = from_counted n b a (sink_exact d (beside_of taken b a) t n id sinks (to_counted t b a h))

@@ -12,6 +12,7 @@ use Rattle.ui_machine.specs.Rules.Transform.{same_value}
 use Rattle.ui_machine.specs.Rules.Validation.{clamp}
 use Rattle.ui_machine.specs.Definition.Properties.{Spec, is_lax, is_readable, is_writable, is_construct_only}
 use Rattle.ui_machine.specs.Definition.{Definition}
+use Rattle.ui_machine.specs.Definition.Lookups.{place_at}
 use Rattle.ui_machine.specs.Definition.Places.{Given}
 use Rattle.ui_machine.specs.Rules.NotifyQueue.{queued, thawed, raised, frozen_less, less_frozen, thawing}
 use Rattle.ui_machine.specs.State.Objects.{Object, Objects, living, put, class_in, asked, value_at, changed, with_value}
@@ -21,7 +22,7 @@ use Rattle.ui_machine.specs.Outcome.{After, Answer, ◌>>=◌, known, only_if}
 use Rattle.ui_machine.specs.Rules.Sets.{spec_at, raising, raising_if, notifies, kept, written, settled, setting, lives, has_kind}
 use Rattle.ui_machine.specs.Rules.Construction.{thawing_made, given_value}
 use Rattle.ui_machine.specs.Rules.Build.{held_object, set_forward, building_forward}
-use Rattle.ui_machine.specs.Rules.Events.{with_result, carrying_set, carrying_get, set_given}
+use Rattle.ui_machine.specs.Rules.Events.{with_result, carrying_set, carrying_get, carrying_release, set_given}
 use Rattle.ui_engine.specs.Measure.{item_weight, weight, waiting_in, waiting}
 use Rattle.ui_engine.proofs.Floats.{if_ok_at, bind_ok}
 
@@ -182,3 +183,7 @@ pub carrying_get_falls : (d : Definition) (w : World) (place slot : ℕ) → IfO
 unfolding carrying_get
 carrying_get_falls d w place slot = bind_ok (held_object w place) _ (Falls d w 4) (λ id _. bind_ok (spec_at d w.objects id slot) _ (Falls d w 4) (λ s _. bind_ok (asked w.objects id (value_at slot)) _ (Falls d w 4) (λ v _.
     only_falls d w 4 (is_readable s) arms.Flags (starts (with_result (said d w (lines.get id s.name v)) v) []) (record { less = omega arith }))))
+
+pub carrying_release_falls : (d : Definition) (w : World) (place : ℕ) → IfOk (carrying_release d w place) (Falls d w 4)
+unfolding carrying_release
+carrying_release_falls d w place = bind_ok (known arms.Code (place_at d place)) _ (Falls d w 4) (λ p _. bind_ok (held_object w place) _ (Falls d w 4) (λ id _. record { less = omega arith }))

@@ -4,6 +4,8 @@ pub mod Floats
 pub mod Quiet
 pub mod Strings
 pub mod Falls
+pub mod Joining
+pub mod Kin
 pub mod SpecAt
 pub mod PlainSets
 pub mod Left

@@ -97,6 +97,7 @@ waits_for_none d (tasks.Emitting id class slot ∷ ts) = refl
 waits_for_none d (tasks.Thawing id slots ∷ ts) = refl
 waits_for_none d (tasks.Constructing id steps ∷ ts) = refl
 waits_for_none d (tasks.Building place forwards ∷ ts) = refl
+waits_for_none d (tasks.Adopting place forwards ∷ ts) = refl
 waits_for_none d (tasks.Carrying event ∷ ts) = refl
 
 module _ (d : Definition) (w : World) (id : ℕ) (name : List ℕ) (rest : List Task) where

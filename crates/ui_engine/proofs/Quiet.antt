@@ -8,7 +8,7 @@ use Rattle.ui_machine.specs.Output.Lines as lines
 use Rattle.ui_machine.specs.Rules.Transform.{same_value}
 use Rattle.ui_machine.specs.Rules.Validation.{clamp}
 use Rattle.ui_machine.specs.Definition.Properties.{Spec, is_lax, is_readable, is_writable, is_construct_only}
-use Rattle.ui_machine.specs.Definition.Lookups.{spec_of}
+use Rattle.ui_machine.specs.Definition.Lookups.{place_at, spec_of}
 use Rattle.ui_machine.specs.Definition.{Definition}
 use Rattle.ui_machine.specs.Definition.Places.{Given}
 use Rattle.ui_machine.specs.State.Objects.{class_in, object_at, asked, value_at, changed, with_value}
@@ -19,7 +19,7 @@ use Rattle.ui_machine.specs.Rules.NotifyQueue.{raised, thawing}
 use Rattle.ui_machine.specs.Rules.Sets.{spec_at, raising, raising_if, notifies, kept, written, settled, setting, lives, has_kind}
 use Rattle.ui_machine.specs.Rules.EmissionPlan.{notifying, signal_at}
 use Rattle.ui_machine.specs.Rules.Construction.{given_value}
-use Rattle.ui_machine.specs.Rules.Events.{with_result, carrying_set, carrying_get, set_given}
+use Rattle.ui_machine.specs.Rules.Events.{with_result, carrying_set, carrying_get, carrying_release, set_given}
 use Rattle.ui_machine.specs.Rules.Build.{held_object, set_forward, building_forward}
 use Rattle.ui_machine.proofs.Prefixes.{prefix_same, prefix_one}
 use Rattle.ui_engine.proofs.Floats.{Quietly, quietly_on, bind_ok}
@@ -84,6 +84,10 @@ pub carrying_get_calm : (d : Definition) (w : World) (place slot : ℕ) → IfOk
 unfolding carrying_get
 carrying_get_calm d w place slot = bind_ok (held_object w place) _ (Calm w) (λ id _. bind_ok (spec_at d w.objects id slot) _ (Calm w) (λ s _. bind_ok (asked w.objects id (value_at slot)) _ (Calm w) (λ v _.
     only_calm w (is_readable s) arms.Flags (starts (with_result (said d w (lines.get id s.name v)) v) []) (record { floating = refl; grows = prefix_one w.transcript _ }))))
+
+pub carrying_release_calm : (d : Definition) (w : World) (place : ℕ) → IfOk (carrying_release d w place) (Calm w)
+unfolding carrying_release
+carrying_release_calm d w place = bind_ok (known arms.Code (place_at d place)) _ (Calm w) (λ p _. bind_ok (held_object w place) _ (Calm w) (λ id _. record { floating = refl; grows = prefix_one w.transcript _ }))
 
 -- ** forward references
 

@@ -39,6 +39,7 @@ asks_none d w (tasks.Emitting id class slot) rest = refl
 asks_none d w (tasks.Thawing id slots) rest = refl
 asks_none d w (tasks.Constructing id steps) rest = refl
 asks_none d w (tasks.Building place forwards) rest = refl
+asks_none d w (tasks.Adopting place forwards) rest = refl
 asks_none d w (tasks.Carrying event) rest = refl
 
 -- why the step of a task that asks none goes no further

@@ -1,4 +1,5 @@
 pub mod GivenView
+pub mod KinView
 pub mod WeakView
 pub mod View
 pub mod MakingView

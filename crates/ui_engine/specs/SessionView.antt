@@ -1,10 +1,11 @@
 -- What a session stands at, and what it answers.
-use Rattle.std.specs.Prelude.{◌≡◌, ℕ, Bool, true, false, List, [], option_map, Result, Ok, Err}
+use Rattle.std.specs.Prelude.{◌≡◌, ℕ, Bool, true, false, List, [], Option, Some, None, option_map, Result, Ok, Err}
 use Rattle.ui_machine.specs.declared.arm.Halt.{Halt}
 use Rattle.ui_machine.specs.declared.arm.Halt.TheVariants as halts
 use Rattle.ui_machine.specs.Definition.{Definition}
 use Rattle.ui_machine.specs.State.Tasks.{Event}
 use Rattle.ui_machine.specs.State.Config.{World, Config}
+use Rattle.ui_machine.specs.Rules.Events.{Refusal, gone, clock_back, refusal}
 use Rattle.ui_machine.specs.Runs.{Tally, Carries, Halts, Serves, HaltsIn, of_build}
 use Rattle.g_values.specs.View.{value_view}
 use Rattle.ui_engine.specs.declared.dispatches.Reply.{Reply}
@@ -66,8 +67,16 @@ Comes (Ok reply) ways d new = Ends reply ways d new
 Comes (Err faults.OutOfMemory) ways d new = Breaks halts.OutOfMemory ways d new
 Comes (Err (faults.Stuck arm)) ways d new = Breaks (halts.Stuck arm) ways d new
 Comes (Err faults.Stopped) ways d new = ⊥
+Comes (Err faults.Released) ways d new = ⊥
+
+-- What comes of an event by why it is refused, if it is. One that names what was released is refused and changes nothing. No event of a
+-- session is a turn so far, so that none is refused by its moment.
+abbrev pub AnswersBy : Option Refusal → Result Reply SessionFault → SessionState → Event → SessionState → Type 0
+AnswersBy (Some gone) result old event new = (result ≡ Err faults.Released) × (new ≡ old)
+AnswersBy (Some clock_back) result old event new = ⊥
+AnswersBy None result old event new = Comes result (serving old.definition old.world event) old.definition new
 
 -- an event: a session that has stopped answers that, and changes nothing
 abbrev pub AnswersEvent : Bool → Result Reply SessionFault → SessionState → Event → SessionState → Type 0
 AnswersEvent true result old event new = (result ≡ Err faults.Stopped) × (new ≡ old)
-AnswersEvent false result old event new = Comes result (serving old.definition old.world event) old.definition new
+AnswersEvent false result old event new = AnswersBy (refusal old.world event) result old event new

@@ -1,5 +1,5 @@
 -- What a task of the engine stands for in the machine.
-use Rattle.std.specs.Prelude.{ℕ, true, List, [], ◌++◌, map, reverse, drop, Option, Some, None}
+use Rattle.std.specs.Prelude.{ℕ, suc, true, List, [], ◌∷◌, ◌++◌, map, reverse, drop, Option, Some, None}
 use Rattle.std.specs.List.{flat_map}
 use Rattle.ui_machine.specs.Definition.Properties.{Spec}
 use Rattle.ui_machine.specs.Definition as machine
@@ -7,7 +7,7 @@ use Rattle.ui_machine.specs.Definition.Lookups.{spec_of, place_at}
 use Rattle.ui_machine.specs.Definition.Places.{Place}
 use Rattle.ui_machine.specs.State.Tasks as config
 use Rattle.ui_machine.specs.Rules.EmissionPlan.{notification}
-use Rattle.ui_machine.specs.Rules.Build.{made_items, forward_of}
+use Rattle.ui_machine.specs.Rules.Build.{made_items, adopts_if, forward_of}
 use Rattle.g_values.specs.View.{value_view}
 use Rattle.builder_defs.specs.Meaning.{request_of}
 use Rattle.ui_engine.specs.declared.task.Task.{Task}
@@ -44,6 +44,15 @@ forwards_at d place = forwards_of_place place (place_at d place)
 abbrev pub build_from : machine.Definition → ℕ → List Forward → List config.Item
 build_from d place forwards = made_items place (drop place d.places) ++ map item_of forwards
 
+-- an object that was made becomes its parent's child, if it is one
+abbrev pub adopts_of : ℕ → Option Place → List config.Item
+adopts_of place None = []
+adopts_of place (Some p) = adopts_if place p.parent
+
+-- what the build does behind the making of the object at a place
+abbrev pub build_behind : machine.Definition → ℕ → List Forward → List config.Item
+build_behind d place forwards = adopts_of place (place_at d place) ++ build_from d (suc place) forwards
+
 abbrev pub task_of : machine.Definition → Task → config.Task
 task_of d (tasks.Setting id slot v) = config.Setting id.0 slot (value_view v)
 task_of d (tasks.Notifying id slot) = config.Notifying id.0 slot
@@ -51,6 +60,7 @@ task_of d (tasks.Emitting id class slot) = config.Emitting (notification id.0 (n
 task_of d (tasks.Thawing id slots) = config.Thawing id.0 slots
 task_of d (tasks.Constructing id steps) = config.Constructing id.0 steps true
 task_of d (tasks.Building place forwards) = config.Building (build_from d place forwards)
+task_of d (tasks.Adopting place forwards) = config.Building (config.adopts place ∷ build_from d (suc place) forwards)
 task_of d (tasks.Carrying event) = config.Carrying (request_of event)
 
 -- the machine's agenda, the first task first

@@ -1,14 +1,16 @@
 -- What the engine's types stand for in the machine.
-use Rattle.std.specs.Prelude.{ℕ, List, [], ◌∷◌, ◌++◌, map, Option, Some, None, option_map, string_bytes}
-use Rattle.ui_machine.specs.declared.ids.ObjectId.{ObjectId}
+use Rattle.std.specs.Prelude.{ℕ, List, [], ◌∷◌, ◌++◌, map, option_map, string_bytes}
 use Rattle.ui_machine.specs.State.Config as config
 use Rattle.g_values.specs.View.{value_view}
+use Rattle.ui_engine.specs.declared.builder.Held.{Held}
+use Rattle.ui_engine.specs.declared.builder.Held.TheVariants as held
 use Rattle.ui_engine.specs.declared.world.World.{World}
 
 -- what the builder has of a place, as the machine says it
-abbrev pub held_of : Option ObjectId → config.Held
-held_of None = config.unbuilt
-held_of (Some id) = config.built id.0
+abbrev pub held_of : Held → config.Held
+held_of held.Unbuilt = config.unbuilt
+held_of (held.Built id) = config.built id.0
+held_of held.Released = config.released
 
 abbrev pub world_of : World → config.World
 world_of w = record {

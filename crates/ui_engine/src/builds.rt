@@ -1,6 +1,6 @@
 //! The build: how objects are made, and how their construction goes on and ends.
 
-ghost use Rattle.std.specs.Prelude.{◌≡◌, true, suc, length, nat_eq, ℕ, not, ◌&&◌, None, Some, option_copied, option_map, cond, [], ◌∷◌, ◌++◌, map, OnOk, OnErr, IfOk};
+ghost use Rattle.std.specs.Prelude.{◌≡◌, ◌<◌, true, suc, length, nat_eq, ℕ, not, ◌&&◌, None, Some, option_copied, option_map, cond, [], ◌∷◌, ◌++◌, map, OnOk, OnErr, IfOk};
 ghost use Rattle.std.specs.List.{find};
 ghost use Rattle.ui_machine.specs.Outcome.{Goes};
 ghost use Rattle.ui_machine.specs.Definition.Properties as machine;
@@ -12,22 +12,23 @@ ghost use Rattle.ui_machine.specs.Definition as definition;
 ghost use Rattle.ui_machine.specs.Seq.{read};
 ghost use Rattle.ui_engine.specs.MakingView.{making_steps, early, construct_set, later_set, early_set, making_of_object};
 ghost use Rattle.ui_machine.specs.Rules.Construction.{with_object, constructed, thawing_made, making, making_set, constructing, is_at_construction, is_forward, no_spec, given_at, set_of, or_default, construct_sets, given_sets};
-ghost use Rattle.ui_machine.specs.State.Tasks.{Constructing};
+ghost use Rattle.ui_machine.specs.State.Tasks.{Building, Constructing};
 ghost use Rattle.ui_machine.specs.Steps.{uncounted};
 ghost use Rattle.ui_machine.specs.Rules.Build.{building};
 ghost use Rattle.g_values.specs.View.{value_view};
 ghost use Rattle.param_specs.specs.View.{spec_view};
 ghost use Rattle.builder_defs.specs.Meaning.{given_view, given_property};
 ghost use Rattle.ui_engine.specs.View.{world_of};
-ghost use Rattle.ui_engine.specs.TaskView.{agenda_of, build_from};
+ghost use Rattle.ui_engine.specs.TaskView.{task_of, agenda_of, build_from, build_behind};
 ghost use Rattle.ui_engine.specs.Counting.{KeepsCounts};
 ghost use Rattle.ui_engine.specs.EngineView.{config_of};
 
+use crate::builder::{Held, put_held};
 use crate::engine::Engine;
 use crate::holding::hold_any;
 use crate::lines::Line;
 use crate::task::{Forwards, Making, Makings, Slots, Task};
-use crate::world::{World, put_built};
+use crate::world::World;
 use builder_defs::{Definition, Given, GivenValue};
 use g_values::Value;
 use instances::{Object, Table};
@@ -52,10 +53,10 @@ impl Engine {
         // For the proof: the clauses speak of the definition.
         let _ = definition;
         let place = self.world.table.place_of(object)?;
-        if self.world.built(place).is_some() {
+        if !self.world.held(place).is_unbuilt() {
             return Err(Halt::Stuck(Arm::Code));
         }
-        put_built(&mut self.world.builder, place, object)?;
+        put_held(&mut self.world.builder, place, Held::Built(object))?;
         hold_any(&mut self.world.table, Some(object))?;
         self.world.table.sink(object);
         Ok(())
@@ -223,11 +224,29 @@ impl Engine {
         if place >= definition.object_count() {
             return self.forwarding(definition, place, forwards);
         }
-        self.push(Task::Building {
-            place: place + 1,
-            forwards,
-        })?;
+        self.push(behind(definition, place, forwards))?;
         self.making(definition, place)
+    }
+}
+
+// What the build does behind the making of an object: the object becomes its parent's child, if it is one, and then the next place comes.
+fn behind(definition: &Definition, place: usize, forwards: Forwards) -> Task
+    requires room { place < usize.MAX }
+    ensures { task_of definition.now result ≡ Building (build_behind definition.now place forwards) }
+{
+    let next = place + 1;
+    let Some(entry) = definition.object(place) else {
+        return Task::Building {
+            place: next,
+            forwards,
+        };
+    };
+    if entry.parent.is_some() {
+        return Task::Adopting { place, forwards };
+    }
+    Task::Building {
+        place: next,
+        forwards,
     }
 }
 

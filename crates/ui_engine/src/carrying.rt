@@ -3,14 +3,16 @@
 ghost use Rattle.std.specs.Prelude.{◌≡◌, OnOk, OnErr};
 ghost use Rattle.ui_machine.specs.Outcome.{Goes};
 ghost use Rattle.ui_machine.specs.Steps.{uncounted};
-ghost use Rattle.ui_machine.specs.Rules.Events.{carrying, carrying_set, carrying_get};
+ghost use Rattle.ui_machine.specs.Rules.Events.{carrying, carrying_set, carrying_get, carrying_release};
 ghost use Rattle.builder_defs.specs.Meaning.{given_view, request_of};
 ghost use Rattle.ui_engine.specs.View.{world_of};
 ghost use Rattle.ui_engine.specs.TaskView.{agenda_of};
-ghost use Rattle.ui_engine.specs.Counting.{KeepsCounts};
+ghost use Rattle.ui_engine.specs.Counting.{HoldsBuilt, KeepsCounts};
 ghost use Rattle.ui_engine.specs.EngineView.{config_of};
 
+use crate::builder::{Held, put_held};
 use crate::engine::Engine;
+use crate::holding::let_go_any;
 use crate::lines::Line;
 use crate::task::Task;
 use builder_defs::{Definition, Event, Given};
@@ -69,8 +71,31 @@ impl Engine {
         Ok(())
     }
 
+    // The builder lets an object go.
+    #[tactic(auto, unfolding(ui_machine::specs::Rules::Events::carrying_release))]
+    fn carrying_release(&mut self, definition: &Definition, place: Place) -> Result<(), Halt>
+        requires holds { HoldsBuilt self.now }
+        ensures step { Goes result
+            (uncounted (agenda_of definition.now self.old.stack) self.old.counted (carrying_release definition.now (world_of self.old.world) place.0))
+            (config_of definition.now self.new) }
+        ensures quiet { OnErr result ((world_of self.new.world).transcript ≡ (world_of self.old.world).transcript) }
+        ensures counted { OnOk result (KeepsCounts definition.now self.old self.new) }
+    {
+        let place = usize::from(place.0);
+        let Some(entry) = definition.object(place) else {
+            return Err(Halt::Stuck(Arm::Code));
+        };
+        let object = self.held(place)?;
+        let line = Line::Release { id: entry.id }.text(self.alloc, definition.types())?;
+        put_held(&mut self.world.builder, place, Held::Released)?;
+        let_go_any(&mut self.world.table, Some(object));
+        self.world.say(line)?;
+        Ok(())
+    }
+
     // What an event does.
     pub(crate) fn carrying(&mut self, definition: &Definition, event: Event) -> Result<(), Halt>
+        requires holds { HoldsBuilt self.now }
         ensures step { Goes result
             (uncounted (agenda_of definition.now self.old.stack) self.old.counted (carrying definition.now (world_of self.old.world) (request_of event)))
             (config_of definition.now self.new) }
@@ -80,6 +105,7 @@ impl Engine {
         match event {
             Event::Set { place, slot, given } => self.carrying_set(definition, place, slot, given),
             Event::Get { place, slot } => self.carrying_get(definition, place, slot),
+            Event::Release { place } => self.carrying_release(definition, place),
         }
     }
 }

@@ -68,6 +68,7 @@ impl Task {
             Task::Thawing { object, .. } => Some(*object),
             Task::Constructing { object, .. } => Some(*object),
             Task::Building { .. } => None,
+            Task::Adopting { .. } => None,
             Task::Carrying(_) => None,
         }
     }

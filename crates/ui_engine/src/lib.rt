@@ -4,8 +4,10 @@
 //! run of it.
 #![tactic(auto)]
 
+mod builder;
 mod builds;
 mod carrying;
+mod children;
 mod counting;
 mod dispatches;
 mod engine;
@@ -15,6 +17,7 @@ mod given;
 mod holding;
 mod lines;
 mod notifications;
+mod refusals;
 mod running;
 mod runs;
 mod session;

@@ -46,6 +46,19 @@ pub enum Line<'a> {
         property: &'a str,
         value: &'a Value,
     },
+    /// A limit was reached, of what the word says.
+    Limit {
+        word: &'a str,
+    },
+    /// An object becomes another's child.
+    Adopt {
+        parent: ObjectId,
+        child: ObjectId,
+    },
+    /// The builder lets go of an object, which goes by this id.
+    Release {
+        id: &'a str,
+    },
     /// An object is disposed, for the first time.
     Dispose {
         object: ObjectId,
@@ -89,6 +102,9 @@ impl Line<'_> {
                 property,
                 value,
             } => value_line(alloc, types, "get #", object.0, property, value),
+            Line::Limit { word } => named_line(alloc, "limit ", word),
+            Line::Adopt { parent, child } => adopt_line(alloc, parent.0, child.0),
+            Line::Release { id } => named_line(alloc, "release ", id),
             Line::Dispose { object } => object_line(alloc, "dispose #", object.0),
             Line::Final { object } => object_line(alloc, "final #", object.0),
             Line::End { steps } => end_line(alloc, steps),
@@ -111,6 +127,24 @@ fn notify_line(alloc: Global, object: u64, property: &str) -> Result<String, All
 {
     let mut line = String::with_capacity(alloc, room(property))?;
     write!(line, "notify #{object}.{property}")?;
+    Ok(line)
+}
+
+// `release a`, or with another word in front
+fn named_line(alloc: Global, word: &str, name: &str) -> Result<String, AllocError>
+    ensures { IfOk result (λ line. string_bytes line ≡ word.now ++ name.now) }
+{
+    let mut line = String::with_capacity(alloc, room(name))?;
+    write!(line, "{word}{name}")?;
+    Ok(line)
+}
+
+// `adopt #1 #2`
+fn adopt_line(alloc: Global, parent: u64, child: u64) -> Result<String, AllocError>
+    ensures { IfOk result (λ line. string_bytes line ≡ codes "adopt #" ++ (decimal parent ++ (codes " #" ++ decimal child))) }
+{
+    let mut line = String::with_capacity(alloc, room(""))?;
+    write!(line, "adopt #{parent} #{child}")?;
     Ok(line)
 }
 

@@ -5,7 +5,7 @@ ghost use Rattle.ui_machine.specs.Outcome.{Goes};
 ghost use Rattle.ui_machine.specs.Steps.{act};
 ghost use Rattle.ui_engine.specs.View.{world_of};
 ghost use Rattle.ui_engine.specs.TaskView.{task_of, agenda_of};
-ghost use Rattle.ui_engine.specs.Counting.{KeepsCounts};
+ghost use Rattle.ui_engine.specs.Counting.{HoldsBuilt, KeepsCounts};
 ghost use Rattle.ui_engine.specs.EngineView.{config_of, IsMade};
 
 use crate::engine::{Engine, Made};
@@ -16,6 +16,7 @@ use ui_machine::Halt;
 impl Engine {
     // Does what a task says, and answers whether that was counted.
     pub(crate) fn act(&mut self, definition: &Definition, task: Task) -> Result<Made, Halt>
+        requires holds { HoldsBuilt self.now }
         ensures step { Goes result
             (act definition.now (world_of self.old.world) None (task_of definition.now task ∷ agenda_of definition.now self.old.stack) self.old.counted)
             (config_of definition.now self.new) }
@@ -54,6 +55,10 @@ impl Engine {
             }
             Task::Building { place, forwards } => {
                 self.building(definition, place, forwards)?;
+                return Ok(Made::Uncounted);
+            }
+            Task::Adopting { place, forwards } => {
+                self.adopting(definition, place, forwards)?;
                 return Ok(Made::Uncounted);
             }
             Task::Carrying(event) => {

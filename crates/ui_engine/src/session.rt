@@ -24,6 +24,8 @@ pub enum SessionFault {
     OutOfMemory,
     /// The session stopped before, in its build or in an event.
     Stopped,
+    /// The event names an object that was released. Nothing has changed.
+    Released,
     /// The machine is stuck there. The session has stopped.
     Stuck(Arm),
 }
@@ -127,7 +129,7 @@ impl Session {
         Ok(Started { session, build })
     }
 
-    /// Carries out an event with all that it leads to.
+    /// Carries out an event with all that it leads to. It refuses one that names an object that was released, and stays as it was.
     pub fn dispatch(&mut self, event: Event) -> Result<Reply, SessionFault>
         ensures answers { AnswersEvent self.old.stopped result self.old (event_of event) self.new }
         // It only adds lines.
@@ -135,6 +137,9 @@ impl Session {
     {
         if self.stopped {
             return Err(SessionFault::Stopped);
+        }
+        if self.engine.world.names_released(&event) {
+            return Err(SessionFault::Released);
         }
         self.carry_out(Task::Carrying(event))
     }

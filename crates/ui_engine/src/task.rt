@@ -156,6 +156,12 @@ pub enum Task {
         place: usize,
         forwards: Forwards,
     },
+    /// The object at a place becomes its parent's child, and then comes the rest of the build: the objects behind it, and the forward
+    /// references.
+    Adopting {
+        place: usize,
+        forwards: Forwards,
+    },
     /// An event is to be carried out.
     Carrying(Event),
 }

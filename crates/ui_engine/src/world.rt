@@ -1,12 +1,12 @@
 //! All but the tasks.
 
-ghost use Rattle.std.specs.Prelude.{◌≡◌, ◌∷◌, [], ◌++◌, cond, OnOk, OnErr, map, slice_get, string_bytes};
-ghost use Rattle.ui_machine.specs.Seq.{write};
-ghost use Rattle.ui_machine.specs.State.Config.{built, unbuilt, held_at};
+ghost use Rattle.std.specs.Prelude.{◌≡◌, ◌∷◌, [], ◌++◌, cond, OnOk, OnErr, slice_get, string_bytes};
+ghost use Rattle.ui_machine.specs.State.Config.{held_at};
 ghost use Rattle.ui_machine.specs.Rules.Build.{identity_held};
 ghost use Rattle.instances.specs.Store.{id_of};
 ghost use Rattle.ui_engine.specs.View.{held_of, world_of};
 
+use crate::builder::Held;
 use g_values::Value;
 use instances::{Table, WeakSlots};
 use std::alloc::AllocError;
@@ -17,8 +17,8 @@ use ui_machine::ObjectId;
 pub struct World {
     pub table: Table,
     pub weak: WeakSlots,
-    /// The identity of what was built, by place, if it was.
-    pub builder: Vec<Option<ObjectId>>,
+    /// What the builder has of each place, as far as it has built.
+    pub builder: Vec<Held>,
     pub transcript: Vec<String>,
     pub result: Option<Value>,
 }
@@ -60,34 +60,26 @@ impl World {
     }
 
     // What stands at a place of the builder.
-    fn entry(&self, place: usize) -> Option<Option<ObjectId>>
+    fn entry(&self, place: usize) -> Option<Held>
         ensures { result ≡ slice_get self.now.builder.items place }
     {
         self.builder.get(place).copied()
     }
 
-    /// The identity of what was built at a place.
-    pub fn built(&self, place: usize) -> Option<ObjectId>
-        ensures { id_of result ≡ identity_held (held_at (world_of self.now) place) }
+    /// What the builder has of a place.
+    pub fn held(&self, place: usize) -> Held
+        ensures { held_of result ≡ held_at (world_of self.now) place }
     {
         match self.entry(place) {
             Some(held) => held,
-            None => None,
+            None => Held::Unbuilt,
         }
     }
-}
 
-/// The builder has this object of a place from now on. A place that it has not come to yet has nothing.
-pub fn put_built(
-    builder: &mut Vec<Option<ObjectId>>,
-    place: usize,
-    object: ObjectId,
-) -> Result<(), AllocError>
-    ensures { OnOk result (map held_of builder.new.items ≡ write unbuilt (map held_of builder.old.items) place (built object.0)) }
-{
-    'growing: while builder.len() <= place {
-        builder.push(None)?;
+    /// The identity of what the builder holds of a place.
+    pub fn built(&self, place: usize) -> Option<ObjectId>
+        ensures { id_of result ≡ identity_held (held_at (world_of self.now) place) }
+    {
+        self.held(place).object()
     }
-    builder[place] = Some(object);
-    Ok(())
 }

@@ -1,10 +1,10 @@
 -- What the lines of an event file come to is a run of the machine.
-use Rattle.std.proofs.Common.{◌≡◌, ℕ, ◌+◌, true, List, [], ◌∷◌, ◌++◌, Ok, refl, sym, ap, subst, ◌∙◌, append_assoc, append-nil, inl, inr}
+use Rattle.std.proofs.Common.{◌≡◌, ℕ, ◌+◌, true, List, [], ◌∷◌, ◌++◌, Ok, Err, refl, sym, ap, subst, ◌∙◌, append_assoc, append-nil, inl, inr}
 use Rattle.std.specs.Prelude.{◌⊎◌}
 use Rattle.ui_machine.specs.Definition.{Definition}
 use Rattle.ui_machine.specs.State.Tasks.{Event}
 use Rattle.ui_machine.specs.State.Config.{World}
-use Rattle.ui_machine.specs.Runs.{Tally, no_dispatch, tallied, Serves, ServesAll, HaltsIn}
+use Rattle.ui_machine.specs.Runs.{Tally, no_dispatch, tallied, Comes, Serves, ServesAll, HaltsIn}
 use Rattle.machine_laws.specs.FrontLaws.{fronted}
 use Rattle.machine_laws.proofs.FrontRuns.{event_appends, event_halt_appends}
 use Rattle.builder_defs.specs.EventMeaning.{event_denoted}
@@ -62,7 +62,18 @@ module _ (d : Definition) where
     says = says.shows;
     definition = says.definition ∙ is;
   }
-  replied old mid n line (refused r) is event denied = untouched old mid n line (refused r) is refl refl denied.2
+  replied old mid n line (refused r) is event (inl denied, same) =
+      let none : event_served d n line (refused r) ≡ [] =
+      ap (λ f. event_of_line f (event_denoted d line)) event
+      ∙ ap (event_of_line file_run.event) (subst (λ (e : Definition). event_denoted e line ≡ Err denied.0.refusal) is denied.0.denotes) in
+      untouched old mid n line (refused r) is none refl same
+  replied old mid n line (refused r) is event (inr named, same) = record {
+    came = one_event named.0.event no_dispatch
+        (ap (λ f. event_of_line f (event_denoted d line)) event ∙ ap (event_of_line file_run.event) (subst (λ (e : Definition). event_denoted e line ≡ Ok named.0.event) is named.0.denotes))
+        (subst (λ why. Comes d named.0.event why [] old.world no_dispatch mid.world) (sym named.0.refuses) (record { replied = refl; counts = refl; same = sym (ap (λ (s : SessionState). s.world) same) }));
+    says = ap (λ (s : SessionState). s.world.transcript) same ∙ sym (append-nil old.world.transcript);
+    definition = ap (λ (s : SessionState). s.definition) same ∙ is;
+  }
   replied old mid n line (cut_off r) is event never = absurd never
   replied old mid n line (stopped halt lines) is event (inl h) = record {
     came = halting refl (record { event = h.event; halt = halt; halts = subst (λ (e : Definition). HaltsIn e h.event [] old.world halt mid.world.transcript) is h.halts }) refl;

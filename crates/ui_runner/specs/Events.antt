@@ -1,12 +1,15 @@
 -- What an event line may come to in a session.
-use Rattle.std.specs.Prelude.{◌≡◌, ◌⊎◌, ℕ, true, false, List, [], ◌++◌, Ok, Err}
+use Rattle.std.specs.Prelude.{◌≡◌, ◌⊎◌, ℕ, true, false, List, [], ◌++◌, Some, Ok, Err}
 use Rattle.ui_machine.specs.declared.arm.Halt.{Halt}
 use Rattle.ui_machine.specs.declared.arm.Halt.TheVariants as halts
 use Rattle.ui_machine.specs.State.Tasks.{Event}
+use Rattle.ui_machine.specs.Rules.Events.{gone, refusal}
 use Rattle.ui_machine.specs.Runs.{Tally, Serves, HaltsIn}
 use Rattle.builder_defs.specs.EventMeaning.{EventRefusal, event_denoted}
 use Rattle.ui_engine.specs.SessionView.{SessionState}
 use Rattle.ui_runner.specs.Texts.{line_refusal}
+use Rattle.ui_runner.specs.declared.refusal.LineRefusal.{LineRefusal}
+use Rattle.ui_runner.specs.declared.refusal.LineRefusal.TheVariants.{Released}
 use Rattle.ui_runner.specs.EventFileRun.{Replies, said, refused, cut_off, stopped}
 
 -- the line is an event, which the machine serves, and these lines are said
@@ -28,14 +31,24 @@ pub record Halting (old : SessionState) (line : List ℕ) (halt : Halt) (lines :
   pub definition : new.definition ≡ old.definition
   pub stops : new.stopped ≡ true
 
+-- the line is an event that names an object which was let go
+pub record NamesReleased (old : SessionState) (line : List ℕ) : Type 0 where
+  pub event : Event
+  pub denotes : event_denoted old.definition line ≡ Ok event
+  pub refuses : refusal old.world event ≡ Some gone
+
 -- the line is no event
 pub record Refuses (old : SessionState) (line : List ℕ) : Type 0 where
   pub refusal : EventRefusal
   pub denotes : event_denoted old.definition line ≡ Err refusal
 
+-- a line is refused where it is no event, or where the machine refuses the event
+abbrev pub IsRefused : SessionState → List ℕ → LineRefusal → Type 0
+IsRefused old line r = ((no : Refuses old line) × (r ≡ line_refusal no.refusal)) ⊎ (NamesReleased old line × (r ≡ Released))
+
 -- No memory for the reading of a line is want of memory with nothing said.
 abbrev pub event_replies : Replies SessionState
 event_replies old line (said lines) new = Says old line lines new
-event_replies old line (refused r) new = (no : Refuses old line) × (r ≡ line_refusal no.refusal) × (new ≡ old)
+event_replies old line (refused r) new = IsRefused old line r × (new ≡ old)
 event_replies old line (cut_off r) new = ⊥
 event_replies old line (stopped halt lines) new = Halting old line halt lines new ⊎ ((halt ≡ halts.OutOfMemory) × (lines ≡ []) × (new ≡ old))

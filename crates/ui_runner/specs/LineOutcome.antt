@@ -11,6 +11,7 @@ use Rattle.ui_runner.specs.EventFileRun.{Outcome, said, refused, cut_off, stoppe
 use Rattle.ui_runner.specs.declared.line_handler.LineFault.{LineFault}
 use Rattle.ui_runner.specs.declared.line_handler.LineFault.TheVariants as faults
 use Rattle.ui_runner.specs.declared.line_outcome.LineOutcome.{LineOutcome}
+use Rattle.ui_runner.specs.declared.refusal.LineRefusal.TheVariants as refusals
 use Rattle.ui_runner.specs.declared.line_outcome.LineOutcome.TheVariants as line_outcomes
 
 -- why a line is not carried out that is no event, or for whose reading no memory was found
@@ -23,6 +24,7 @@ abbrev pub dispatch_fault : SessionFault → LineFault
 dispatch_fault ends.OutOfMemory = faults.Stopped halts.OutOfMemory
 dispatch_fault ends.Stopped = faults.Stopped halts.OutOfMemory
 dispatch_fault (ends.Stuck arm) = faults.Stopped (halts.Stuck arm)
+dispatch_fault ends.Released = faults.Refused refusals.Released
 
 -- what a line came to that said these lines
 abbrev pub outcome_of : {T : Type 0} → Result T LineFault → List (List ℕ) → Outcome

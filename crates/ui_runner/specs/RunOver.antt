@@ -19,10 +19,10 @@ event_of_line skipped denoted = []
 event_of_line file_run.event (Ok event) = event ∷ []
 event_of_line file_run.event (Err refusal) = []
 
--- the event that a line came to, where it was served to its end
+-- the event that a line came to, where it was served to its end, or refused by the machine
 abbrev pub event_served : Definition → ℕ → List ℕ → Outcome → List Event
 event_served d n line (said lines) = event_of_line (sort_of_line n line) (event_denoted d line)
-event_served d n line (refused r) = []
+event_served d n line (refused r) = event_of_line (sort_of_line n line) (event_denoted d line)
 event_served d n line (cut_off r) = []
 event_served d n line (stopped halt lines) = []
 

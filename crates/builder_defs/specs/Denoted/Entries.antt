@@ -1,6 +1,6 @@
 -- Entries of the document's lists by what they are called. Each counts by itself, however faulty it is, so that those that come later are
 -- known too.
-use Rattle.std.specs.Prelude.{◌≡◌, ℕ, suc, ◌+◌, List, [], ◌∷◌, length, codes, Bool, false, nat_lt, if◌then◌else◌, Option, None, Some, option_and_then}
+use Rattle.std.specs.Prelude.{◌≡◌, ℕ, zero, suc, ◌+◌, List, [], ◌∷◌, ◌++◌, map, length, codes, Bool, false, nat_lt, if◌then◌else◌, Option, None, Some, option_and_then}
 use Rattle.std.specs.Option.{option_or}
 use Rattle.std.specs.Str.{bytes_eq}
 use Rattle.serde_json.specs.Data.{Data, Items, no_items, item}
@@ -67,10 +67,27 @@ later_type names name =
 
 -- ** objects by id
 
+-- the entries of a list, and behind each what it has
+abbrev pub with_all : (Data → List Data) → Items → List Data
+with_all below no_items = []
+with_all below (item d ds) = d ∷ (below d ++ with_all below ds)
+
+-- The objects of a list in document order: behind each its children. Lists nest so many levels deep.
+abbrev pub in_order : (levels : ℕ) → Items → List Data
+in_order zero list = []
+in_order (suc levels) list = with_all (λ d. in_order levels (section (codes "children") d)) list
+
+-- JSON is read 127 levels deep, and the children of an object are two levels below it
+abbrev pub most_levels : ℕ
+most_levels = 64
+
 -- the ids of the objects of a document, and the names of their classes
 pub record ObjectNames : Type 0 where
   pub ids : List (Option (List ℕ))
   pub classes : List (Option (List ℕ))
 
+abbrev pub names_of : List Data → ObjectNames
+names_of objects = record { ids = map (name_under (codes "id")) objects; classes = map (name_under (codes "class")) objects }
+
 abbrev pub object_names : Items → ObjectNames
-object_names objects = record { ids = names_under (codes "id") objects; classes = names_under (codes "class") objects }
+object_names list = names_of (in_order most_levels list)

@@ -1,5 +1,5 @@
 -- The objects of a definition.
-use Rattle.std.specs.Prelude.{ℕ, List, [], ◌∷◌, ◌++◌, length, codes, nat_le, if◌then◌else◌, is_some, Result, Ok, Err}
+use Rattle.std.specs.Prelude.{ℕ, zero, suc, List, [], ◌∷◌, ◌++◌, length, codes, nat_le, if◌then◌else◌, Option, Some, is_some, Result, Ok, Err}
 use Rattle.serde_json.specs.Data.{Data}
 use Rattle.ui_machine.specs.Outcome.{◌>>=◌}
 use Rattle.ui_machine.specs.Definition.Types.{GType}
@@ -13,7 +13,7 @@ use Rattle.builder_defs.specs.Causes.{abstract_class}
 use Rattle.builder_defs.specs.declared.fault.DefinitionLimit.TheVariants.{Places, Objects}
 use Rattle.builder_defs.specs.Meaning.{plain_place}
 use Rattle.builder_defs.specs.Refusals.{Refusal, shape, unknown, duplicate, bad_type, limit, or_refused}
-use Rattle.builder_defs.specs.Document.{under, members_at, text_at, absent_at, nothing_at, only_at}
+use Rattle.builder_defs.specs.Document.{under, members_at, text_at, entries_at, absent_at, nothing_at, only_at, each, at_entry}
 use Rattle.builder_defs.specs.Denoted.Names.{is_name}
 use Rattle.builder_defs.specs.Denoted.Entries.{ObjectNames}
 use Rattle.builder_defs.specs.Denoted.Given.{givens_at}
@@ -41,23 +41,38 @@ class_at_key path types d = do
 abbrev pub keys_of_object : List (List ℕ)
 keys_of_object = codes "id" ∷ codes "class" ∷ codes "peer" ∷ codes "properties" ∷ codes "signals" ∷ codes "children" ∷ []
 
--- The object that an entry gives beside these, where the classes have these properties, so many objects may live, and all
--- objects have these names. It has no peer, signals and children so far.
-unfoldable pub place_at : List ℕ → List GType → (ℕ → List Spec) → ℕ → ObjectNames → List machine.Place → Data → Result machine.Place Refusal
-place_at path types specs most objects places d = do
-  members ← members_at path d
-  room ← room_for_object most places
+-- what is known where objects are read: the types with their properties, how many objects may live, and the names of all objects
+pub record Scope : Type 0 where
+  pub types : List GType
+  pub specs : ℕ → List Spec
+  pub most : ℕ
+  pub names : ObjectNames
+
+-- The object that an entry gives beside these, the child of the object at a place, if it is a child. It has no peer and no signals so far.
+unfoldable pub place_at : List ℕ → Scope → Option ℕ → List machine.Place → Data → Result machine.Place Refusal
+place_at path scope parent places d = do
+  room ← room_for_object scope.most places
   id ← text_at path d (codes "id")
   new ← new_id (under path (codes "id")) places id
-  class ← class_at_key path types d
+  class ← class_at_key path scope.types d
   peer ← absent_at path d (codes "peer" ∷ [])
-  given ← givens_at path types objects (length places) (specs class) d
-  bare ← nothing_at path d (codes "signals" ∷ codes "children" ∷ [])
-  only ← only_at path members keys_of_object
-  Ok (plain_place id class given)
+  given ← givens_at path scope.types scope.names (length places) (scope.specs class) d
+  bare ← nothing_at path d (codes "signals" ∷ [])
+  Ok (plain_place id class parent given)
 
 -- these objects, with the one that an entry gives
-unfoldable pub object_at : List ℕ → List GType → (ℕ → List Spec) → ℕ → ObjectNames → List machine.Place → Data → Result (List machine.Place) Refusal
-object_at path types specs most objects places d = do
-  place ← place_at path types specs most objects places d
+unfoldable pub added_at : List ℕ → Scope → Option ℕ → List machine.Place → Data → Result (List machine.Place) Refusal
+added_at path scope parent places d = do
+  place ← place_at path scope parent places d
   Ok (places ++ place ∷ [])
+
+-- The same, with its children behind it. Lists nest so many levels deep.
+unfoldable pub object_at : (levels : ℕ) → Scope → Option ℕ → List ℕ → List machine.Place → Data → Result (List machine.Place) Refusal
+object_at zero scope parent path places d = Err (shape path)
+object_at (suc levels) scope parent path places d = do
+  members ← members_at path d
+  more ← added_at path scope parent places d
+  list ← entries_at path d (codes "children")
+  all ← each (at_entry (object_at levels scope (Some (length places))) (under path (codes "children"))) 0 more list
+  only ← only_at path members keys_of_object
+  Ok all

@@ -1,15 +1,15 @@
-use Rattle.std.proofs.Common.{◌≡◌, suc, true, None, ◌+◌, List, ◌∷◌, sym, ap, subst, ◌∙◌, arith}
+use Rattle.std.proofs.Common.{◌≡◌, true, None, List, ◌∷◌, sym, ap, subst, ◌∙◌, arith}
 use Rattle.std.specs.Prelude.{OnOk, Result, Ok, Err}
 use Rattle.ui_machine.specs.declared.arm.Halt.{Halt}
 use Rattle.ui_engine.specs.Counting.{KeepsCounts}
-use Rattle.ui_machine.specs.State.Tasks.{Task, Item, Building}
+use Rattle.ui_machine.specs.State.Tasks.{Task, Item}
 use Rattle.ui_machine.specs.State.Config.{World, Config}
 use Rattle.ui_machine.specs.Outcome.{Answer, Goes}
 use Rattle.ui_machine.specs.Rules.Construction.{making}
 use Rattle.ui_machine.specs.Rules.Build.{building}
 use Rattle.ui_machine.specs.Steps.{uncounted}
 use Rattle.ui_engine.specs.View.{world_of}
-use Rattle.ui_engine.specs.TaskView.{agenda_of, build_from}
+use Rattle.ui_engine.specs.TaskView.{agenda_of}
 use Rattle.ui_engine.specs.EngineView.{config_of}
 use Rattle.ui_engine.proofs.Building.{place_within, builds_next, only_forwards}
 use Rattle.ui_engine.proofs.Counts.{keeps_on}
@@ -24,8 +24,7 @@ returns-clause-step c =
     let fs = c.args.forwards in
     let there = place_within d.places c.args.place (omega (arith, c.object_count.ensures.count, c.if-place-object_count.false)) in
     let next = builds_next d c.types-types.ensures.basic w c.args.place there.0 there.1 fs rest n in
-    let one : c.args.place + 1 ≡ suc c.args.place = omega arith in
-    let pushed = c.in_ok-push.ensures.agenda d ∙ ap (λ place. Building (build_from d place fs) ∷ rest) one in
+    let pushed = c.in_ok-push.ensures.agenda d ∙ ap (λ (t : Task). t ∷ rest) c.behind.ensures in
     let world : world_of c.push.new.self.world ≡ w = c.push.ensures.world in
     let same : c.push.new.self.counted ≡ n = c.push.ensures.same in
     let made =

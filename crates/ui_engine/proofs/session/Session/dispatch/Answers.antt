@@ -1,10 +1,12 @@
 use Rattle.std.proofs.Common.{ap, sym, ◌∙◌}
+use Rattle.ui_machine.specs.Rules.Events.{names_released}
+use Rattle.builder_defs.specs.Meaning.{request_of}
 use Rattle.ui_engine.specs.SessionView.{SessionState}
 use Rattle.ui_engine.proofs.Serving.{answers}
 use Rattle.ui_engine.proofs.session.Session.dispatch.Goals as goal
 
 pub returns-clause-answers : goal.returns-clause-answers
 returns-clause-answers c =
-    let builder = ap (λ (s : SessionState). s.world.builder) (sym c.self.view_is) in
     let goes = ap (λ (s : SessionState). s.stopped) (sym c.self.view_is) ∙ c.if-self.false in
-    answers c.args.self.now c.self.inside.engine.world.builder.items c.args.event c.carry_out.result c.carry_out.new.self builder goes c.carry_out.ensures.comes
+    let none = ap (λ (s : SessionState). names_released s.world (request_of c.args.event)) (sym c.self.view_is) ∙ sym c.if-names_released.ensures in
+    answers c.args.self.now c.args.event goes c.carry_out.result c.carry_out.new.self none c.carry_out.ensures.comes

@@ -1,0 +1,258 @@
+-- The objects of a definition that was read: of concrete classes, each behind its parent, without peers and signals.
+use Rattle.std.proofs.Common.{◌≡◌, ℕ, zero, suc, ◌+◌, ◌<◌, ◌⊎◌, inl, inr, Bool, true, false, nat_le, List, [], ◌∷◌, ◌++◌, length, slice_get, Option, None, Some, option_and_then, Ok, Err, codes, map, refl, sym, ap, subst, ◌∙◌, arith, length-append}
+use Rattle.std.proofs.lemmas.List.{append_assoc, append-nil, length-map}
+use Rattle.std.proofs.lemmas.Bool.Decides.{nat_tests}
+use Rattle.std.specs.Prelude.{if◌then◌else◌}
+use Rattle.serde_json.specs.Data.{Data, Items, no_items, item}
+use Rattle.type_tree.specs.Adding.{find_type, class_named}
+use Rattle.ui_machine.specs.Seq.{read}
+use Rattle.ui_machine.specs.Definition.Places.{Place}
+use Rattle.ui_machine.specs.Definition.Properties.{Spec}
+use Rattle.ui_machine.specs.Definition.Types.{GType}
+use Rattle.ui_machine.specs.Definition.Types as sorts
+use Rattle.ui_machine.specs.Output.Text.{no_type, members_of}
+use Rattle.builder_defs.specs.Causes.{abstract_class}
+use Rattle.builder_defs.specs.declared.fault.DefinitionLimit.TheVariants.{Places, Objects}
+use Rattle.builder_defs.specs.Refusals.{shape, unknown, bad_type, limit, or_refused}
+use Rattle.builder_defs.specs.Document.{each, at_entry, under, nth, members_at, text_at, entries_at, absent_at, nothing_at, only_at}
+use Rattle.builder_defs.specs.Denoted.Objects.{Scope, room_for_object, new_id, unless_abstract, class_at_key, keys_of_object, place_at, added_at, object_at}
+use Rattle.builder_defs.specs.Denoted.Entries.{ObjectNames, names_of, name_under, section, with_all, in_order, most_levels}
+use Rattle.builder_defs.specs.Denoted.Given.{class_ahead, givens_at}
+use Rattle.builder_defs.specs.Denoted.{unset_before_objects, objects_in}
+use Rattle.builder_defs.proofs.Soundness.{OnRead, on_bind, on_all}
+use Rattle.law_reading.proofs.GivenProofs.{AreGiven, all_given}
+use Rattle.law_reading.proofs.ListProofs.{get_push, read_behind}
+use Rattle.law_reading.proofs.Parts.{on_read, more_on, section_is, taken}
+use Rattle.law_reading.proofs.TreeProofs.{IsClass, class_is}
+use Rattle.law_reading.proofs.ValueProofs.{HaveFewBits}
+
+-- ** what is so of an object that was read
+
+-- a class that has objects
+pub record IsConcrete (types : List GType) (class : ℕ) : Type 0 where
+  pub known : class < length types
+  pub sort : (read no_type types class).sort ≡ sorts.class
+  pub concrete : (read no_type types class).is_abstract ≡ false
+
+-- the object of a place, among these types with these properties, where all objects have these names
+pub record IsObjectRead (types : List GType) (specs : ℕ → List Spec) (names : ObjectNames) (place : ℕ) (p : Place) : Type 0 where
+  pub class : IsConcrete types p.class
+  pub given : AreGiven types names place (specs p.class) p.given
+  pub named : class_ahead types names place ≡ Some p.class
+  pub object : p.is_prototype ≡ false
+  pub parent : (above : ℕ) → p.parent ≡ Some above → above < place
+  pub peers : p.peers ≡ []
+  pub signals : p.signals ≡ []
+
+abbrev pub AreRead : List GType → (ℕ → List Spec) → ObjectNames → List Place → Type 0
+AreRead types specs names places = (i : ℕ) (p : Place) → slice_get places i ≡ Some p → IsObjectRead types specs names i p
+
+-- all objects of a document, by names of as many
+pub record AreObjects (types : List GType) (specs : ℕ → List Spec) (places : List Place) : Type 0 where
+  pub names : ObjectNames
+  pub many : length names.ids ≡ length places
+  pub all : AreRead types specs names places
+
+-- the class that an entry names
+record IsClassOf (types : List GType) (d : Data) (class : ℕ) : Type 0 where
+  concrete : IsConcrete types class
+  named : option_and_then (class_named types) (name_under (codes "class") d) ≡ Some class
+
+class_read : (path : List ℕ) (types : List GType) (d : Data) → OnRead (IsClassOf types d) (class_at_key path types d)
+class_read path types d =
+    on_read (IsClassOf types d) (text_at path d (codes "class")) _ λ name said.
+    on_read (IsClassOf types d) (or_refused (unknown (under path (codes "class")) name) (class_named types name)) _
+    λ class e.
+    let found : class_named types name ≡ Some class = taken _ (class_named types name) class e in
+    let called : name_under (codes "class") d ≡ Some name = taken (shape (under path (codes "class"))) (name_under (codes "class") d) name said in
+    of_class class (class_is types name (find_type types name) refl class found) (ap (option_and_then (class_named types)) called ∙ found)
+  where
+    by : (class : ℕ) → IsClass types class → option_and_then (class_named types) (name_under (codes "class") d) ≡ Some class
+        → (b : Bool) → (read no_type types class).is_abstract ≡ b
+        → OnRead (IsClassOf types d) (if b then Err (bad_type (under path (codes "class")) abstract_class) else Ok class)
+    by class is called true e = tt
+    by class is called false e = record { concrete = record { known = is.known; sort = is.sort; concrete = e }; named = called }
+
+    of_class : (class : ℕ) → IsClass types class → option_and_then (class_named types) (name_under (codes "class") d) ≡ Some class
+        → OnRead (IsClassOf types d) (unless_abstract (under path (codes "class")) types class)
+    of_class class is called = by class is called (read no_type types class).is_abstract refl
+
+place_left : (most : ℕ) (places : List Place) → OnRead (λ u. length places < 512) (room_for_object most places)
+place_left most places = by (nat_le 512 (length places)) refl
+  where
+    life : (b : Bool) → length places < 512 → OnRead {A = Unit {0}} (λ u. length places < 512) (if b then Err (limit Objects) else Ok tt)
+    life true h = tt
+    life false h = h
+
+    by : (b : Bool) → nat_le 512 (length places) ≡ b
+        → OnRead {A = Unit {0}} (λ u. length places < 512)
+        (if b then Err (limit Places) else (if nat_le most (length places) then Err (limit Objects) else Ok tt))
+    by true e = tt
+    by false e = life (nat_le most (length places)) (grind (arith, nat_tests))
+
+module _ (types : List GType) (few : (t : ℕ) → HaveFewBits (members_of types t)) (specs : ℕ → List Spec) (most : ℕ) (order : List Data) where
+  abbrev names : ObjectNames
+  names = names_of order
+
+  abbrev scope : Scope
+  scope = record { types = types; specs = specs; most = most; names = names }
+
+  -- the object that another is a child of, if it is one, is one of these
+  abbrev IsAbove : Option ℕ → List Place → Type 0
+  IsAbove parent places = (above : ℕ) → parent ≡ Some above → above < length places
+
+  -- ** one object
+
+  abbrev One : List Place → Place → Type 0
+  One places p = IsObjectRead types specs names (length places) p
+
+  one_object : (path : List ℕ) (parent : Option ℕ) (places : List Place) (d : Data) → IsAbove parent places
+      → option_and_then (class_named types) (name_under (codes "class") d) ≡ class_ahead types names (length places)
+      → OnRead (One places) (place_at path scope parent places d)
+  unfolding place_at
+  one_object path parent places d higher ahead =
+      on_bind (λ x. length places < 512) (One places) (room_for_object most places) _ (place_left most places) λ u room.
+      on_bind (λ x. Unit {0}) (One places) (text_at path d (codes "id")) _ (on_all _) λ id u.
+      on_bind (λ x. Unit {0}) (One places) (new_id (under path (codes "id")) places id) _ (on_all _) λ new u.
+      on_bind (IsClassOf types d) (One places) (class_at_key path types d) _ (class_read path types d) λ class is.
+      on_bind (λ x. Unit {0}) (One places) (absent_at path d (codes "peer" ∷ [])) _ (on_all _) λ peer u.
+      on_bind (AreGiven types names (length places) (specs class)) (One places) (givens_at path types names (length places) (specs class) d) _
+      (all_given types few names (length places) room (specs class) path d) λ given fit.
+      on_bind (λ x. Unit {0}) (One places) (nothing_at path d (codes "signals" ∷ [])) _ (on_all _) λ bare u.
+      record {
+        class = is.concrete;
+        given = fit;
+        named = sym ahead ∙ is.named;
+        object = refl;
+        parent = higher;
+        peers = refl;
+        signals = refl;
+      }
+
+  -- ** all objects, in document order
+
+  -- what is so while these entries are left, of which the next are children of the parent
+  record Reading (parent : Option ℕ) (left : List Data) (places : List Place) : Type 0 where
+    done : List Data
+    is : order ≡ done ++ left
+    count : length done ≡ length places
+    above : IsAbove parent places
+    so : AreRead types specs names places
+
+  next_class : (parent : Option ℕ) (d : Data) (left : List Data) (places : List Place) → Reading parent (d ∷ left) places
+      → option_and_then (class_named types) (name_under (codes "class") d) ≡ class_ahead types names (length places)
+  next_class parent d left places r =
+      ap (option_and_then (class_named types)) (
+      sym (read_behind None (name_under (codes "class")) r.done d left)
+      ∙ ap (λ ds. read None (map (name_under (codes "class")) ds) (length r.done)) (sym r.is)
+      ∙ ap (read None names.classes) r.count)
+
+  -- behind an object its children come
+  grown : (parent : Option ℕ) (d : Data) (left : List Data) (places : List Place) (place : Place) → Reading parent (d ∷ left) places
+      → One places place → Reading (Some (length places)) left (places ++ place ∷ [])
+  grown parent d left places place r one = record {
+    done = r.done ++ d ∷ [];
+    is = r.is ∙ sym (append_assoc r.done (d ∷ []) left);
+    count = let n = r.count in let more = length-append r.done (d ∷ []) in omega (arith, n, more, longer);
+    above = λ above e. let same : length places ≡ above = cc in omega (arith, same, longer);
+    so = λ k p e. by k p (get_push places place k p e);
+  }
+    where
+      longer : length (places ++ place ∷ []) ≡ length places + 1
+      longer = length-append places (place ∷ [])
+
+      by : (k : ℕ) (p : Place) → (slice_get places k ≡ Some p) ⊎ ((k ≡ length places) × (p ≡ place)) → IsObjectRead types specs names k p
+      by k p (inl e) = r.so k p e
+      by k p (inr e) = subst (λ n. IsObjectRead types specs names n p) (sym e.0) (subst (One places) (sym e.1) one)
+
+  -- behind its children its parent's next child comes
+  after_children : (parent : Option ℕ) (before left : List Data) (places all : List Place) → Reading parent before places
+      → Reading (Some (length places)) left all → Reading parent left all
+  after_children parent before left places all r q = record {
+    done = q.done;
+    is = q.is;
+    count = q.count;
+    above = λ above e. let first = r.above above e in let here = q.above (length places) refl in omega (arith, first, here);
+    so = q.so;
+  }
+
+  added_read : (path : List ℕ) (parent : Option ℕ) (places : List Place) (d : Data) (left : List Data) → Reading parent (d ∷ left) places
+      → OnRead (Reading (Some (length places)) left) (added_at path scope parent places d)
+  unfolding added_at
+  added_read path parent places d left r =
+      on_bind (One places) (Reading (Some (length places)) left) (place_at path scope parent places d) (λ place. Ok (places ++ place ∷ []))
+      (one_object path parent places d r.above (next_class parent d left places r)) λ place one. grown parent d left places place r one
+
+  -- what a list gives that nests so many levels deep: its objects are read, and these entries are left
+  abbrev ListRead : ℕ → Type 0
+  ListRead levels =
+      (parent : Option ℕ) (path : List ℕ) (i : ℕ) (list : Items) (places : List Place) (left : List Data)
+      → Reading parent (in_order levels list ++ left) places
+      → OnRead (Reading parent left) (each (at_entry (object_at levels scope parent) path) i places list)
+
+  module _ (levels : ℕ) (children : ListRead levels) where
+    abbrev below : Data → List Data
+    below d = in_order levels (section (codes "children") d)
+
+    object_read : (parent : Option ℕ) (path : List ℕ) (places : List Place) (d : Data) (left : List Data)
+        → Reading parent (d ∷ (below d ++ left)) places → OnRead (Reading parent left) (object_at (suc levels) scope parent path places d)
+    unfolding object_at
+    object_read parent path places d left r =
+        on_bind (λ x. Unit {0}) (Reading parent left) (members_at path d) _ (on_all _) λ ms u.
+        on_bind (Reading (Some (length places)) (below d ++ left)) (Reading parent left) (added_at path scope parent places d) _
+        (added_read path parent places d (below d ++ left) r) λ more q.
+        on_read (Reading parent left) (entries_at path d (codes "children")) _ λ list e.
+        on_bind (Reading (Some (length places)) left) (Reading parent left)
+        (each (at_entry (object_at levels scope (Some (length places))) (under path (codes "children"))) 0 more list) _
+        (children (Some (length places)) (under path (codes "children")) 0 list more left
+        (subst (λ ds. Reading (Some (length places)) (in_order levels ds ++ left) more) (section_is path (codes "children") d list e) q))
+        λ all s.
+        on_bind (λ x. Unit {0}) (Reading parent left) (only_at path ms keys_of_object) _ (on_all _) λ only u.
+        after_children parent (d ∷ (below d ++ left)) left places all r s
+
+    entries_read : (parent : Option ℕ) (path : List ℕ) (i : ℕ) (list : Items) (places : List Place) (left : List Data)
+        → Reading parent (with_all below list ++ left) places
+        → OnRead (Reading parent left) (each (at_entry (object_at (suc levels) scope parent) path) i places list)
+    unfolding each
+    entries_read parent path i no_items places left r = r
+    entries_read parent path i (item d ds) places left r =
+        on_bind (Reading parent (with_all below ds ++ left)) (Reading parent left) (object_at (suc levels) scope parent (nth path i) places d) _
+        (object_read parent (nth path i) places d (with_all below ds ++ left)
+        (subst (λ es. Reading parent (d ∷ es) places) (append_assoc (below d) (with_all below ds) left) r))
+        λ more q. entries_read parent path (i + 1) ds more left q
+
+  list_read : (levels : ℕ) → ListRead levels
+  unfolding each object_at
+  list_read zero parent path i no_items places left r = r
+  list_read zero parent path i (item d ds) places left r = tt
+  list_read (suc levels) parent path i list places left r = entries_read levels (list_read levels) parent path i list places left r
+
+  all_done : (places : List Place) → Reading None [] places → AreObjects types specs places
+  all_done places r = record {
+    names = names;
+    many = length-map order (name_under (codes "id")) ∙ ap length (r.is ∙ append-nil r.done) ∙ r.count;
+    all = r.so;
+  }
+
+  read_all : (levels : ℕ) (list : Items) → in_order levels list ≡ order
+      → OnRead (AreObjects types specs) (each (at_entry (object_at levels scope None) (under [] (codes "objects"))) 0 [] list)
+  read_all levels list e =
+      more_on (Reading None []) (AreObjects types specs) (each (at_entry (object_at levels scope None) (under [] (codes "objects"))) 0 [] list)
+      all_done (list_read levels None (under [] (codes "objects")) 0 list [] [] first)
+    where
+      first : Reading None (in_order levels list ++ []) []
+      first = record {
+        done = [];
+        is = sym (append-nil (in_order levels list) ∙ e);
+        count = refl;
+        above = λ above h. absurd (cc);
+        so = λ i p h. absurd (cc);
+      }
+
+module _ (types : List GType) (few : (t : ℕ) → HaveFewBits (members_of types t)) (specs : ℕ → List Spec) (most : ℕ) where
+  pub all_objects : (d : Data) → OnRead (AreObjects types specs) (objects_in types specs most d)
+  unfolding objects_in
+  all_objects d =
+      on_bind (λ x. Unit {0}) (AreObjects types specs) (nothing_at [] d unset_before_objects) _ (on_all _) λ unset u.
+      on_bind (λ x. Unit {0}) (AreObjects types specs) (entries_at [] d (codes "objects")) _ (on_all _) λ list u.
+      read_all types few specs most (in_order most_levels list) most_levels list refl

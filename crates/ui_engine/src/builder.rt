@@ -1,0 +1,66 @@
+//! What the builder holds of a definition's objects, by place.
+
+ghost use Rattle.std.specs.Prelude.{◌≡◌, OnOk, map};
+ghost use Rattle.ui_machine.specs.Seq.{write};
+ghost use Rattle.ui_machine.specs.State.Config.{unbuilt, is_unbuilt};
+ghost use Rattle.ui_machine.specs.Rules.Build.{identity_held};
+ghost use Rattle.ui_machine.specs.Rules.Events.{is_released};
+ghost use Rattle.instances.specs.Store.{id_of};
+ghost use Rattle.ui_engine.specs.View.{held_of};
+
+use std::alloc::AllocError;
+use ui_machine::ObjectId;
+
+/// What the builder has of a place.
+#[derive(Clone, Copy, Debug, PartialEq, Eq)]
+pub enum Held {
+    /// It has not come to the place yet.
+    Unbuilt,
+    /// It holds the object that it built.
+    Built(ObjectId),
+    /// It has let the object go.
+    Released,
+}
+
+impl Held {
+    /// The object that it holds.
+    pub fn object(self) -> Option<ObjectId>
+        ensures { id_of result ≡ identity_held (held_of self) }
+    {
+        match self {
+            Held::Built(object) => Some(object),
+            Held::Unbuilt | Held::Released => None,
+        }
+    }
+
+    /// Whether it has not come to the place yet.
+    pub fn is_unbuilt(self) -> bool
+        ensures { result ≡ is_unbuilt (held_of self) }
+    {
+        match self {
+            Held::Unbuilt => true,
+            Held::Built(_) | Held::Released => false,
+        }
+    }
+
+    /// Whether it has let the object go.
+    pub fn is_released(self) -> bool
+        ensures { result ≡ is_released (held_of self) }
+    {
+        match self {
+            Held::Released => true,
+            Held::Unbuilt | Held::Built(_) => false,
+        }
+    }
+}
+
+/// The builder has this of a place from now on. A place that it has not come to yet has nothing.
+pub fn put_held(builder: &mut Vec<Held>, place: usize, held: Held) -> Result<(), AllocError>
+    ensures { OnOk result (map held_of builder.new.items ≡ write unbuilt (map held_of builder.old.items) place (held_of held)) }
+{
+    'growing: while builder.len() <= place {
+        builder.push(Held::Unbuilt)?;
+    }
+    builder[place] = held;
+    Ok(())
+}

@@ -1,0 +1,42 @@
+//! Which events are refused: those that name an object that the builder has let go.
+
+ghost use Rattle.std.specs.Prelude.{◌≡◌};
+ghost use Rattle.ui_machine.specs.State.Config.{held_at};
+ghost use Rattle.ui_machine.specs.Rules.Events.{is_released, gives_released, names_released};
+ghost use Rattle.builder_defs.specs.Meaning.{given_view, request_of};
+ghost use Rattle.ui_engine.specs.View.{world_of};
+
+use crate::world::World;
+use builder_defs::{Event, Given};
+use ui_machine::Place;
+
+impl World {
+    // Whether the builder has let the object of a place go.
+    fn is_released(&self, place: Place) -> bool
+        ensures { result ≡ is_released (held_at (world_of self.now) place.0) }
+    {
+        self.held(usize::from(place.0)).is_released()
+    }
+
+    // Whether what is given names such an object.
+    fn gives_released(&self, given: &Given) -> bool
+        ensures { result ≡ gives_released (world_of self.now) (given_view given.now) }
+    {
+        match given {
+            Given::Value(_) => false,
+            Given::Object(place) => self.is_released(*place),
+        }
+    }
+
+    /// Whether an event names an object that the builder has let go, in any position.
+    pub(crate) fn names_released(&self, event: &Event) -> bool
+        ensures { result ≡ names_released (world_of self.now) (request_of event.now) }
+    {
+        match event {
+            Event::Set { place, given, .. } => self.is_released(*place)
+                || self.gives_released(given),
+            Event::Get { place, .. } => self.is_released(*place),
+            Event::Release { place } => self.is_released(*place),
+        }
+    }
+}
