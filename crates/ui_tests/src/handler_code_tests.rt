@@ -2,11 +2,14 @@
 
 use crate::fixtures::{number_of, times, tree_of_members, value_of};
 use g_values::{Kind, Value};
-use handler_code::{Arithmetic, Comparison, Computation, Computed, Register};
+use handler_code::{
+    Arithmetic, Block, BlockNumber, Comparison, Computation, Computed, Instruction,
+    InstructionError, Program, ProgramFault, ProgramLimit, Register, Scope, read_instruction,
+};
 use std::alloc::Global;
 use std::rc::RcStr;
 use std::test::Fail;
-use type_tree::TypeId;
+use type_tree::{TypeId, TypeTree};
 use ui_machine::{Arm, Halt};
 
 const A: Register = Register(0);
@@ -90,6 +93,128 @@ fn joins_texts(rt: HostRuntime) -> Result<(), Fail> {
         let registers = registers(alloc, Value::Text(None), Value::Text(Some(long)))?;
         let got = Computation::Join(A, B).compute(alloc, &tree, registers.as_slice());
         assert_eq!(rt; matches!(got, Ok(Computed::TooLong)), is_too_long);
+    }
+    Ok(())
+}
+
+// Whether a text stands for an instruction of a program with two registers and three blocks.
+fn reads(alloc: Global, types: &TypeTree, text: &str) -> Result<bool, Fail> {
+    let Ok(json) = serde_json::Value::from_str(alloc, text) else {
+        return Err(Fail::from("a text is no JSON"));
+    };
+    let scope = Scope {
+        types,
+        registers: 2,
+        blocks: 3,
+    };
+    match read_instruction(alloc, &scope, &json) {
+        Ok(_) => Ok(true),
+        Err(InstructionError::BadInstruction) => Ok(false),
+        Err(InstructionError::OutOfMemory) => Err(Fail::from("no memory for an instruction")),
+    }
+}
+
+/// An instruction has its word and just its operands. Registers and blocks are there.
+#[test]
+fn reads_instructions(rt: HostRuntime) -> Result<(), Fail> {
+    let alloc = rt.alloc();
+    let tree = tree_of_members(alloc)?;
+    let texts = [
+        ("[\"const\",0,\"int\",-2147483648]", true),
+        ("[\"const\",0,\"int\",2147483648]", false),
+        ("[\"const\",0,\"object:GObject\",null]", true),
+        ("[\"const\",0,\"object:GObject\",\"a\"]", false),
+        ("[\"cmp\",0,\"le\",0,1]", true),
+        ("[\"cmp\",0,\"gt\",0,1]", false),
+        ("[\"move\",0,1]", true),
+        ("[\"move\",0,2]", false),
+        ("[\"move\",0,-0]", false),
+        ("[\"move\",0]", false),
+        ("[\"move\",0,1,1]", false),
+        ("[\"emit\",null,0,\"s\",null,[0,1]]", true),
+        ("[\"emit\",null,0,\"s\",\"a b\",[]]", false),
+        (
+            "[\"connect\",0,1,\"s\",null,\"p\",[\"after\",\"after\"],null]",
+            true,
+        ),
+        (
+            "[\"connect\",0,1,\"s\",null,\"p\",[\"before\"],null]",
+            false,
+        ),
+        ("[\"timeout\",0,\"p\",-1,4294967295,null]", true),
+        ("[\"timeout\",0,\"p\",-1,4294967296,null]", false),
+        ("[\"if\",0,1,2]", true),
+        ("[\"jump\",3]", false),
+        ("[\"stop\"]", true),
+        ("[\"halt\"]", false),
+        ("[]", false),
+        ("\"stop\"", false),
+    ];
+    for (text, is_instruction) in texts {
+        assert_eq!(rt; reads(alloc, &tree, text)?, is_instruction);
+    }
+    Ok(())
+}
+
+// A block with this instruction alone.
+fn block_of(alloc: Global, instruction: Instruction) -> Result<Block, Fail> {
+    let mut code = Vec::new(alloc);
+    code.push(instruction)?;
+    Ok(Block {
+        entry: Vec::new(alloc),
+        passes: 1,
+        code,
+    })
+}
+
+// A program of two blocks, with so many registers.
+fn program_of(
+    alloc: Global,
+    registers: usize,
+    first: Instruction,
+    second: Instruction,
+) -> Result<Program, Fail> {
+    let mut blocks = Vec::new(alloc);
+    blocks.push(block_of(alloc, first)?)?;
+    blocks.push(block_of(alloc, second)?)?;
+    Ok(Program {
+        name: String::from_str(alloc, "p")?,
+        params: Vec::new(alloc),
+        registers,
+        result: None,
+        blocks,
+    })
+}
+
+/// Blocks lead to later ones, each ends, and there are not too many registers. The first of these faults is told.
+#[test]
+fn tests_shapes(rt: HostRuntime) -> Result<(), Fail> {
+    let alloc = rt.alloc();
+    let (second, back) = (BlockNumber(1), BlockNumber(0));
+    let programs = [
+        program_of(
+            alloc,
+            32,
+            Instruction::Jump(second),
+            Instruction::Return(None),
+        )?,
+        program_of(
+            alloc,
+            33,
+            Instruction::Jump(second),
+            Instruction::Return(None),
+        )?,
+        program_of(alloc, 33, Instruction::Stop, Instruction::Return(None))?,
+        program_of(alloc, 33, Instruction::Stop, Instruction::Jump(back))?,
+    ];
+    let want = [
+        None,
+        Some(ProgramFault::Limit(ProgramLimit::Registers)),
+        Some(ProgramFault::NoReturn(back)),
+        Some(ProgramFault::BackwardJump(second)),
+    ];
+    for (program, fault) in programs.iter().zip(want.iter()) {
+        assert_eq!(rt; program.shape_fault(), *fault);
     }
     Ok(())
 }
