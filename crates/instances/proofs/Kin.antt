@@ -1,6 +1,6 @@
 -- What a change of one instance keeps of all: that each was given, that each is held once it is so known, and that children and
 -- parents were given.
-use Rattle.std.proofs.Common.{◌≡◌, ℕ, ◌<◌, ◌≤◌, List, [], ◌∷◌, ◌++◌, length, cond, nat_eq, refl, Bool, true, false, Option, Some, is_some, IsSome, inl, inr, sym, ap, subst, ◌∙◌, arith}
+use Rattle.std.proofs.Common.{◌≡◌, ℕ, ◌<◌, ◌≤◌, List, [], ◌∷◌, ◌++◌, length, cond, nat_eq, refl, Bool, true, false, Option, Some, is_some, IsSome, inl, inr, sym, ap, subst, ◌∙◌, arith, ◌&&◌, nat_lt}
 use Rattle.std.proofs.lemmas.Bool.{cases_eq}
 use Rattle.std.proofs.lemmas.Bool.Decides.{nat_tests}
 use Rattle.std.specs.Ordering.{nat_cmp}
@@ -82,6 +82,14 @@ kin_kept at made id was o kin here keeps = (
 same_kin : (o p : Object) → p ≡ o → KeepsKin o p
 same_kin o p e = record { children = ap (λ (x : Object). x.children) e; parent = ap (λ (x : Object). x.parent) e }
 
+pub first_holds : (a b : Bool) → (a && b) ≡ true → a ≡ true
+first_holds true b e = refl
+first_holds false b e = absurd (cc)
+
+pub is_held : (a : Bool) (k : ℕ) → (a && nat_lt 0 k) ≡ true → 0 < k
+is_held true k e = grind (arith, nat_tests)
+is_held false k e = absurd (cc)
+
 module _ (m n : BTreeMap ℕ Instance) (made : ℕ) (s : Bool) (id : ℕ) (was y : Instance) (here : get nat_cmp m id ≡ Some was)
     (h : WritesThrough nat_cmp (nat_cmp id) m y n) (well : Well (get nat_cmp m) made s) where
   replaced_well : (t : Bool) → KinGiven made (Some y.object) → (t ≡ true → s ≡ true) → (t ≡ true → 0 < y.mentions)
@@ -111,6 +119,11 @@ module _ (m n : BTreeMap ℕ Instance) (made : ℕ) (s : Bool) (id : ℕ) (was y
   pub unsettled_well : y.object ≡ was.object → Well (get nat_cmp n) made false
   unsettled_well same =
       replaced_well false (kin_kept (get nat_cmp m) made id was y.object well.2 here (same_kin was.object y.object same)) (λ e. absurd (cc)) (λ e. absurd (cc))
+
+  -- the same object, which is held wherever it is said that each one is
+  pub still_well : (after : Bool) → y.object ≡ was.object → (after ≡ true → s ≡ true) → (after ≡ true → 0 < y.mentions) → Well (get nat_cmp n) made after
+  still_well after same before held =
+      replaced_well after (kin_kept (get nat_cmp m) made id was y.object well.2 here (same_kin was.object y.object same)) before held
 
 -- ** other kin
 

@@ -224,11 +224,12 @@ impl Table {
         ensures counts { (o : ℕ) → count_of self.new.counts o ≡ count_of self.old.counts o - so_often times id.0 o }
         ensures beside { self.new ≡ record self.old { counts = self.new.counts } }
     {
-        self.settled = false;
         let Some(instance) = self.instances.get_mut(&id.0) else {
             return;
         };
         instance.mentions = instance.mentions.saturating_sub(times);
+        let is_held = instance.mentions > 0;
+        self.settled = self.settled & is_held;
     }
 
     /// Holds an object once more.
@@ -248,14 +249,15 @@ impl Table {
         requires held { 0 < count_of self.old.counts id.0 }
         ensures { self.new ≡ with_count self.old id.0 (count_of self.old.counts id.0 - 1) }
     {
-        self.settled = false;
         let Some(instance) = self.instances.get_mut(&id.0) else {
             return;
         };
         instance.mentions -= 1;
+        let is_held = instance.mentions > 0;
+        self.settled = self.settled & is_held;
     }
 
-    /// The lowest identity of an object that nothing holds. It looks through the objects only if one was made or let go of since
+    /// The lowest identity of an object that nothing holds. It looks through the objects only if one was made, or is held no more, since
     /// it last found each of them held. What does not live is not held.
     pub fn next_unheld(&mut self) -> Option<ObjectId>
         ensures found { option_map (λ (i : ObjectId). i.0) result ≡ next_unheld (count_of self.old.counts) self.old.objects }
