@@ -13,7 +13,7 @@ use Rattle.ui_machine.proofs.Listed.{listed-same}
 use Rattle.ui_machine.specs.declared.ids.ObjectId.{ObjectId}
 use Rattle.instances.specs.Store.{Store, ids_of, with_objects}
 use Rattle.instances.specs.Family.{parent_in, KeepsKin}
-use Rattle.instances.specs.View.{Lookup, object_in, count_in, objects_of, counts_of, store_of, InRange, IsSettled, KinInRange}
+use Rattle.instances.specs.View.{Lookup, object_in, count_in, objects_of, counts_of, store_of, AreHeldBelow, InRange, KinInRange}
 use Rattle.instances.specs.Weak.{Marks, Knows, masked, forgotten_value, forgetting}
 use Rattle.instances.specs.declared.instance.Instance.{Instance}
 
@@ -64,13 +64,13 @@ parent_kept g keeps None = refl
 parent_kept g keeps (Some x) = (keeps x).parent
 
 -- a change of each instance that keeps its count and its kin
-pub still_known : (at new : Lookup) (made : ℕ) (settled : Bool) (g : Instance → Instance)
+pub still_known : (at new : Lookup) (made below : ℕ) (g : Instance → Instance)
     → ((x : Instance) → (g x).mentions ≡ x.mentions) → ((x : Instance) → KeepsKin x.object (g x).object)
-    → ((q : ℕ) → new q ≡ option_map g (at q)) → InRange at made × IsSettled at settled × KinInRange at made
-    → InRange new made × IsSettled new settled × KinInRange new made
-still_known at new made settled g same keeps is well = (
+    → ((q : ℕ) → new q ≡ option_map g (at q)) → InRange at made × AreHeldBelow at below × KinInRange at made
+    → InRange new made × AreHeldBelow new below × KinInRange new made
+still_known at new made below g same keeps is well = (
   λ id some. well.0 id (sym (ap is_some (is id) ∙ was_there g (at id)) ∙ some),
-  λ s id y here. was_more g same (at id) y (well.1 s id) (sym (is id) ∙ here),
+  λ id y here small. was_more g same (at id) y (λ x e. well.1 id x e small) (sym (is id) ∙ here),
   (
     λ id child some.
         well.2.0 id child

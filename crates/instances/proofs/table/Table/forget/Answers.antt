@@ -28,5 +28,5 @@ invariant_of-self c =
     let e = map_same_pairs _ g _ (λ k v b w f' t. search rules) _ _ c.retain.ensures.filtered in
     let at : (q : ℕ) → get nat_cmp c.retain.new.self q ≡ option_map g (get nat_cmp c.self.inside.instances q) =
     λ q. rw e (lookup-map_values g (is_at (nat_cmp q)) c.self.inside.instances.entries) in
-    still_known (get nat_cmp c.self.inside.instances) (get nat_cmp c.retain.new.self) c.self.inside.made c.self.inside.settled g
+    still_known (get nat_cmp c.self.inside.instances) (get nat_cmp c.retain.new.self) c.self.inside.made c.self.inside.held_below g
     (λ x. refl) (λ x. record { children = refl; parent = refl }) at c.self.invariant
