@@ -1,4 +1,4 @@
-use Rattle.std.proofs.Common.{◌≡◌, ℕ, refl, ap, rules, ◌∙◌}
+use Rattle.std.proofs.Common.{◌≡◌, ℕ, refl, sym, ap, rules, ◌∙◌}
 use Rattle.std.specs.Option.{option_map}
 use Rattle.std.specs.Ordering.{nat_cmp}
 use Rattle.std.specs.BTreeMap.{get, is_at}
@@ -7,8 +7,13 @@ use Rattle.instances.specs.Store.{with_objects}
 use Rattle.instances.specs.Weak.{forgetting}
 use Rattle.instances.specs.declared.instance.Instance.{Instance}
 use Rattle.instances.specs.View.{object_in, count_in}
-use Rattle.instances.proofs.Forgotten.{forgotten_in, all_changed, one_object, one_count, still_known, all_forgets}
+use Rattle.instances.proofs.Forgotten.{forgotten_in, all_changed, one_object, one_count, still_known, all_forgets, nothing_forgets}
 use Rattle.instances.proofs.table.Table.forget.Goals as goal
+
+pub returns-then-not-has_weak : goal.returns-then-not-has_weak
+returns-then-not-has_weak c d knows =
+    ap (with_objects c.args.self.now)
+    (nothing_forgets d c.args.weak.now c.args.id.0 knows (sym c.has_weak.ensures ∙ c.if-not-has_weak.true) c.args.self.now.objects)
 
 pub returns : goal.returns
 returns c d knows =

@@ -1,7 +1,6 @@
-use Rattle.std.proofs.Common.{◌≡◌, ℕ, Some, sym, ◌∙◌, rules}
+use Rattle.std.proofs.Common.{rules}
 use Rattle.std.specs.Ordering.{nat_cmp}
 use Rattle.std.specs.BTreeMap.{get}
-use Rattle.ui_machine.specs.State.References.{next_unheld}
 use Rattle.instances.specs.Store.{count_of}
 use Rattle.instances.proofs.Unheld.{held_below, known, next_ready}
 use Rattle.instances.proofs.Shown.{dead_unheld}
