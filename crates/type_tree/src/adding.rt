@@ -406,7 +406,7 @@ impl TypeTree {
             return Err(AllocError);
         };
         let child = ClassEntry {
-            parent: Some(root),
+            parent: None,
             flags: TypeFlags::NONE,
             interfaces: Vec::new(alloc),
         };
