@@ -10,7 +10,6 @@ use Rattle.ui_machine.specs.Definition.Values.{Value}
 use Rattle.ui_machine.specs.Definition.Types.{GType}
 use Rattle.ui_machine.specs.Rules.Transform.{least, greatest, is_between}
 use Rattle.type_tree.specs.TypeName.{is_within}
-use Rattle.g_values.specs.declared.error.JsonFault.{JsonFault}
 use Rattle.g_values.specs.Reading.{whole_number, json_value}
 use Rattle.handler_code.specs.declared.error.InstructionError.{InstructionError}
 use Rattle.handler_code.specs.declared.error.InstructionError.TheVariants as errors
@@ -131,14 +130,14 @@ registers_at bound d n = do
 
 -- ** kinds and values
 
+abbrev pub taken : {A E : Type 0} → Result A E → Result A Refusal
+taken (Ok x) = Ok x
+taken (Err cause) = Err bad_instruction
+
 abbrev pub kind_at : List GType → Data → ℕ → Result Kind Refusal
 kind_at types d n = do
   word ← name_at d n
-  expected (kind_by types word (parted word))
-
-abbrev pub taken : {A : Type 0} → Result A JsonFault → Result A Refusal
-taken (Ok x) = Ok x
-taken (Err cause) = Err bad_instruction
+  taken (kind_by types word (parted word))
 
 abbrev pub value_at : List GType → Kind → Data → ℕ → Result Value Refusal
 value_at types kind d n = do

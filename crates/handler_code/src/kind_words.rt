@@ -1,13 +1,24 @@
 //! Kinds of values, by their words.
 
-ghost use Rattle.std.specs.Prelude.{◌≡◌, List, option_map, IfSome};
+ghost use Rattle.std.specs.Prelude.{◌≡◌, List, option_map, IfOk, IfSome};
 ghost use Rattle.ui_machine.specs.Definition.Types.{GType, enum, flags};
 ghost use Rattle.type_tree.specs.Adding.{sort_of};
 ghost use Rattle.g_values.specs.View.{kind_view, IsKnown};
-ghost use Rattle.handler_code.specs.KindWords.{kind_named, enum_named, flags_named, parted, kind_of_type, kind_by};
+ghost use Rattle.handler_code.specs.KindWords.{kind_named, enum_named, flags_named, parted, or_no_kind, kind_of_type, kind_by};
+ghost use Rattle.handler_code.specs.RegisterKinds.{kind_fault};
+ghost use Rattle.handler_code.specs.Views.{seen};
 
 use g_values::Kind;
 use type_tree::{TypeId, TypeTree};
+
+// Why a word names no kind.
+#[derive(Clone, Copy)]
+pub(crate) enum KindFault<'a> {
+    // It has no form of one.
+    NoKind,
+    // Nothing has this name.
+    Unknown(&'a str),
+}
 
 // The kind of a word that names no type.
 fn kind_named(word: &str) -> Option<Kind>
@@ -58,36 +69,60 @@ fn flags_named(types: &TypeTree, name: &str) -> Option<TypeId>
 }
 
 // What stands before the first colon and what stands behind it, if there is one.
-fn parted(word: &str) -> Option<(&str, &str)>
+pub(crate) fn parted(word: &str) -> Option<(&str, &str)>
     ensures { option_map (λ p. (p.0.now, p.1.now)) result ≡ parted word.now }
 {
     word.split_once(':')
 }
 
+// The kind of a word that names no type, or why it is none.
+pub(crate) fn plain_kind(word: &str) -> Result<Kind, KindFault<'_>>
+    ensures kind { seen kind_view kind_fault result ≡ or_no_kind (kind_named word.now) }
+    ensures known { IfOk result (λ k. (types : List GType) → IsKnown types k) }
+{
+    match kind_named(word) {
+        Some(kind) => Ok(kind),
+        None => Err(KindFault::NoKind),
+    }
+}
+
 // The kind of a sort and of the type that a name names.
-fn kind_of_type(types: &TypeTree, sort: &str, name: &str) -> Option<Kind>
-    ensures kind { option_map kind_view result ≡ kind_of_type types.now sort.now name.now }
-    ensures known { IfSome result (λ k. IsKnown types.now k) }
+pub(crate) fn kind_of_type<'a>(
+    types: &TypeTree,
+    sort: &str,
+    name: &'a str,
+) -> Result<Kind, KindFault<'a>>
+    ensures kind { seen kind_view kind_fault result ≡ kind_of_type types.now sort.now name.now }
+    ensures known { IfOk result (λ k. IsKnown types.now k) }
 {
     if sort == "enum" {
-        return Some(Kind::Enum(enum_named(types, name)?));
+        return match enum_named(types, name) {
+            Some(found) => Ok(Kind::Enum(found)),
+            None => Err(KindFault::Unknown(name)),
+        };
     }
     if sort == "flags" {
-        return Some(Kind::Flags(flags_named(types, name)?));
+        return match flags_named(types, name) {
+            Some(found) => Ok(Kind::Flags(found)),
+            None => Err(KindFault::Unknown(name)),
+        };
     }
     if sort == "object" {
-        return Some(Kind::Object(types.find_required(name)?));
+        return match types.find_required(name) {
+            Some(found) => Ok(Kind::Object(found)),
+            None => Err(KindFault::Unknown(name)),
+        };
     }
-    None
+    Err(KindFault::NoKind)
 }
 
 // The kind of a word.
-pub(crate) fn kind_of_word(types: &TypeTree, word: &str) -> Option<Kind>
-    ensures kind { option_map kind_view result ≡ kind_by types.now word.now (parted word.now) }
-    ensures known { IfSome result (λ k. IsKnown types.now k) }
+pub(crate) fn kind_of_word<'a>(types: &TypeTree, word: &'a str) -> Result<Kind, KindFault<'a>>
+    ensures kind { seen kind_view kind_fault result ≡ kind_by types.now word.now (parted word.now) }
+    ensures known { IfOk result (λ k. IsKnown types.now k) }
 {
     match parted(word) {
         Some((sort, name)) => kind_of_type(types, sort, name),
-        None => kind_named(word),
+        None => plain_kind(word),
     }
 }

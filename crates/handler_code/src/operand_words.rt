@@ -178,15 +178,15 @@ fn is_name_length(bytes: usize) -> bool
     1 <= bytes && bytes <= 64
 }
 
-// Whether a text may be a detail.
-fn is_name(name: &str) -> bool
+// Whether a text may be a detail, an id or the name of a program.
+pub(crate) fn is_name(name: &str) -> bool
     ensures { result ≡ is_name name.now }
 {
     is_name_length(name.len()) && are_name_bytes(name)
 }
 
 // A name, if the value is one.
-fn name_in(value: &Value) -> Option<&str>
+pub(crate) fn name_in(value: &Value) -> Option<&str>
     ensures { option_map (λ s. s.now) result ≡ named (as_str (view value.now)) }
 {
     let name = value.as_str()?;
@@ -225,8 +225,8 @@ pub(crate) fn kind_at(json: &Value, at: usize, types: &TypeTree) -> Result<Kind,
     ensures known { IfOk result (λ k. IsKnown types.now k) }
 {
     match kind_of_word(types, text_at(json, at)?) {
-        Some(kind) => Ok(kind),
-        None => Err(InstructionError::BadInstruction),
+        Ok(kind) => Ok(kind),
+        Err(_) => Err(InstructionError::BadInstruction),
     }
 }
 
