@@ -4,11 +4,11 @@ use Rattle.ui_machine.specs.Outcome.{◌>>=◌}
 use Rattle.handler_code.specs.declared.fault.ProgramFault.{ProgramFault}
 use Rattle.handler_code.specs.declared.error.ProgramError.{ProgramError}
 use Rattle.handler_code.specs.declared.error.ProgramError.TheVariants as program_errors
-use Rattle.handler_code.specs.declared.outline_fault.OutlineError.{OutlineError}
-use Rattle.handler_code.specs.declared.outline_fault.OutlineError.TheVariants as outline_errors
-use Rattle.handler_code.specs.Each.{each}
-use Rattle.handler_code.specs.OutlineFaults as outlines
-use Rattle.handler_code.specs.Reading as programs
+use Rattle.handler_code.specs.declared.reading.outline_fault.OutlineError.{OutlineError}
+use Rattle.handler_code.specs.declared.reading.outline_fault.OutlineError.TheVariants as outline_errors
+use Rattle.handler_code.specs.Reading.Each.{each}
+use Rattle.handler_code.specs.Reading.OutlineFaults as outlines
+use Rattle.handler_code.specs.Reading.Programs as programs
 use Rattle.handler_code.proofs.Each.{stops}
 
 pub stops_outline : {S X V A : Type 0} (step : ℕ → S → X → Result S outlines.OutlineFault) (view : V → X) (vs : List V) (i : ℕ) (s : S) (total : Result S outlines.OutlineFault)

@@ -1,15 +1,5 @@
-pub mod Views
 pub mod Computing
 pub mod View
 pub mod Shape
-pub mod KindWords
-pub mod Operands
-pub mod OptionView
-pub mod Rows
 pub mod Known
-pub mod Each
-pub mod RegisterKinds
-pub mod OutlineFaults
-pub mod Outline
-pub mod OutlineView
 pub mod Reading

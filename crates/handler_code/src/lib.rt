@@ -7,44 +7,24 @@
 //! machine's instruction. Writing a register is left to the caller, who counts what registers hold.
 #![tactic(auto)]
 
-mod code_reading;
 mod computation;
 mod computing;
 mod error;
 mod fault;
 mod instruction;
-mod instruction_reading;
-mod jump_rows;
-mod kind_words;
-mod names;
-mod object_rows;
-mod operand_lists;
-mod operand_shapes;
-mod operand_words;
 mod operands;
-mod outline;
-mod outline_fault;
-mod outline_parts;
-mod outline_reading;
 mod program;
-mod program_reading;
-mod register_kinds;
-mod register_rows;
-mod scope;
+mod reading;
 mod shape;
-mod signal_rows;
-mod source_rows;
 
 pub use computation::{Arithmetic, Comparison, Computation, Computed, Register};
 pub use computing::MOST_TEXT_BYTES;
 pub use error::{InstructionError, ProgramError};
 pub use fault::{ProgramFault, ProgramLimit};
 pub use instruction::{BlockNumber, Connection, Instruction};
-pub use instruction_reading::read_instruction;
-pub use names::Names;
-pub use outline_fault::{OutlineError, OutlineFault, ProgramPart};
-pub use outline_reading::check_outline;
 pub use program::{Block, Program, RegisterKind};
-pub use program_reading::read_program;
-pub use scope::Scope;
+pub use reading::{
+    Names, OutlineError, OutlineFault, ProgramPart, Scope, check_outline, read_instruction,
+    read_program,
+};
 pub use shape::{MOST_BLOCKS, MOST_INSTRUCTIONS, MOST_REGISTERS};
