@@ -6,3 +6,4 @@ pub mod OperandLists
 pub mod Each
 pub mod Members
 pub mod Stopping
+pub mod Positions

@@ -13,6 +13,7 @@ mod error;
 mod fault;
 mod instruction;
 mod operands;
+mod position;
 mod program;
 mod reading;
 mod shape;

@@ -1,6 +1,6 @@
 //! Reading what a program's value says beside its instructions.
 
-ghost use Rattle.std.specs.Prelude.{◌≡◌, [], codes, map, option_and_then, option_map};
+ghost use Rattle.std.specs.Prelude.{◌≡◌, [], IfOk, codes, map, option_and_then, option_map};
 ghost use Rattle.serde_json.specs.View.{view};
 ghost use Rattle.serde_json.specs.Find.{as_array, as_str, get};
 ghost use Rattle.g_values.specs.View.{kind_view};
@@ -10,7 +10,7 @@ ghost use Rattle.handler_code.specs.Reading.Operands.{named};
 ghost use Rattle.handler_code.specs.Reading.RegisterKinds.{kind_fault, names_view};
 ghost use Rattle.handler_code.specs.Reading.Each.{entries_of, each};
 ghost use Rattle.handler_code.specs.Reading.OutlineFaults.{Gives, member_of, shaped};
-ghost use Rattle.handler_code.specs.Reading.Outline.{block_at, block_step, blocks_at, entry_at, first_entry, outline_in, registers_of, result_at, result_of, result_text, result_word, some_entries, some_entries_at, tested};
+ghost use Rattle.handler_code.specs.Reading.Outline.{IsWellFormed, block_at, block_step, blocks_at, entry_at, first_entry, outline_in, registers_of, result_at, result_of, result_text, result_word, some_entries, some_entries_at, tested};
 ghost use Rattle.handler_code.specs.Reading.OutlineView.{block_outline_view, outline_view};
 
 use crate::program::RegisterKind;
@@ -252,6 +252,7 @@ pub(crate) fn read_outline<'a>(
 }
 
 /// Tests what a program's value says beside its instructions: that its parts are those of the format, and that the kinds name what is there.
+/// A value that passes can be given to [`read_program`](crate::read_program), with the same names.
 ///
 /// The members are `name`, `params`, `registers`, `result` and `blocks`, those of a block `in` and `code`. A name is 1 to 64 ASCII letters,
 /// digits, `-` and `_`. There are no more parameters, and no more kinds in `in`, than registers; the first block has no `in`; there is a block
@@ -267,7 +268,8 @@ pub fn check_outline<'a>(
     json: &'a Value,
     names: &Names<'_>,
 ) -> Result<(), OutlineError<'a>>
-    ensures { Gives (λ _. tt) result (tested (names_view names.now) (view json.now)) }
+    ensures tested { Gives (λ _. tt) result (tested (names_view names.now) (view json.now)) }
+    ensures well_formed { IfOk result (λ _. IsWellFormed (names_view names.now) (view json.now)) }
 {
     read_outline(alloc, json, names)?;
     Ok(())
