@@ -103,10 +103,10 @@ fn first_backward(blocks: &[Block]) -> Option<usize>
 }
 
 // Whether the last instruction leads away.
-fn is_ended(block: &Block) -> bool
-    ensures { result ≡ is_ended (map instruction_view block.now.code.items) }
+pub(crate) fn is_ended(code: &[Instruction]) -> bool
+    ensures { result ≡ is_ended (map instruction_view code.now) }
 {
-    match block.code.last() {
+    match code.last() {
         Some(last) => ends_block(last),
         None => false,
     }
@@ -115,7 +115,9 @@ fn is_ended(block: &Block) -> bool
 fn open_in(blocks: &[Block]) -> Option<usize>
     ensures { result ≡ position_from (λ b. not (is_ended (map instruction_view b.code.items))) 0 blocks.now }
 {
-    blocks.iter().position(|block| !is_ended(block))
+    blocks
+        .iter()
+        .position(|block| !is_ended(block.code.as_slice()))
 }
 
 // The first block that leads nowhere.
