@@ -1,5 +1,5 @@
 -- All properties of a definition that was read are plain.
-use Rattle.std.proofs.Common.{◌≡◌, ◌≤◌, ◌<◌, ℕ, codes, zero, suc, ◌+◌, ℤ, ◌≤ℤ◌, int_lt, Bool, true, false, cond, option_map, not, ◌&&◌, nat_eq, nat_le, arith, map, if◌then◌else◌, List, [], ◌∷◌, ◌++◌, length, reverse, slice_get, Option, Some, None, Result, Ok, Err, refl, sym, ◌∙◌, subst}
+use Rattle.std.proofs.Common.{◌≡◌, ◌≤◌, ◌<◌, ℕ, codes, zero, suc, ◌+◌, ℤ, ◌≤ℤ◌, int_lt, Bool, true, false, cond, option_map, not, ◌&&◌, nat_eq, nat_le, arith, map, if◌then◌else◌, List, [], ◌∷◌, ◌++◌, length, reverse, slice_get, Option, Some, None, Result, Ok, Err, refl, sym, ap, ◌∙◌, subst}
 use Rattle.std.specs.List.{flat_map}
 use Rattle.std.proofs.lemmas.List.{length_push, length-map}
 use Rattle.std.proofs.lemmas.Bool.Decides.{nat_tests}
@@ -13,6 +13,10 @@ use Rattle.ui_machine.specs.Definition.Kinds.{Kind}
 use Rattle.ui_machine.specs.Definition.Values.{Value}
 use Rattle.ui_machine.specs.Definition.Values as values
 use Rattle.ui_machine.specs.Definition.Properties.{Spec}
+use Rattle.ui_machine.specs.Definition.Signals.{Signal}
+use Rattle.ui_machine.specs.Words.{notify}
+use Rattle.signal_core.specs.Sources.{declared_of, sources_of}
+use Rattle.signal_core.specs.Sources as tables
 use Rattle.std.specs.Str.{bytes_eq}
 use Rattle.ui_machine.specs.Definition.Kinds as kinds
 use Rattle.ui_machine.specs.Rules.Ancestry.{lineage}
@@ -26,7 +30,7 @@ use Rattle.param_specs.specs.declared.error.SpecFault.{SpecFault}
 use Rattle.param_specs.specs.declared.error.SpecFault.TheVariants.{DefaultInvalid}
 use Rattle.param_specs.specs.Table.{own_of, specs_of, install_fault, canonical_spec}
 use Rattle.ui_machine.specs.declared.limits.Limits.{Limits}
-use Rattle.builder_defs.specs.Meaning.{Entry, plain_object, IsPlain, IsPlainKind, AreLimits, ArePlain, IsSound}
+use Rattle.builder_defs.specs.Meaning.{Entry, plain_object, IsPlain, IsPlainKind, AreLimits, ArePlain, HasKnownKinds, HaveKnownKinds, IsSound}
 use Rattle.builder_defs.specs.Refusals.{Refusal, shape, unknown, not_installed, limit, or_refused, or_value_fault}
 use Rattle.builder_defs.specs.declared.fault.DefinitionLimit.TheVariants.{Places, Objects}
 use Rattle.ui_machine.specs.Outcome.{◌>>=◌}
@@ -452,12 +456,29 @@ plain_read types table d read =
           (subst (AllPlain types) (sym (specs_of-is types table t)) (plain_flat types (own_of table) all (reverse (lineage types t)))) h;
     }
 
+-- ** no type has signals but `notify`
+
+none_of : (ts : List ℕ) → flat_map (tables.own_of []) ts ≡ []
+none_of [] = refl
+none_of (t ∷ ts) = none_of ts
+
+no_signals : (types : List GType) → HaveKnownKinds types []
+unfolding declared_of
+no_signals types = record {
+  at = λ t number s h. of number s (ap (λ (ss : List Signal). slice_get (notify ∷ ss) number) (sym (none_of (sources_of types t))) ∙ h);
+}
+  where
+    of : (number : ℕ) (s : Signal) → slice_get (notify ∷ []) number ≡ Some s → HasKnownKinds types s
+    of zero s h = let e : notify ≡ s = cc in subst (HasKnownKinds types) e (record { params = tt; result = tt })
+    of (suc n) s h = absurd (cc)
+
 pub sound : (types : List GType) (table : List (List Spec)) (os : List Entry) (limits : Limits) (d : Data) → draft_in d ≡ Ok (draft_of types table)
-    → AreLimits limits → objects_in types (specs_by types (own_of table)) limits.objects d ≡ Ok (map plain_object os) → IsSound types table os limits
+    → AreLimits limits → objects_in types (specs_by types (own_of table)) limits.objects d ≡ Ok (map plain_object os) → IsSound types table [] os limits
 sound types table os limits d read within objects =
     let few : AreFew limits.objects (map plain_object os) = subst (OnRead (AreFew limits.objects)) objects (objects_few types (specs_by types (own_of table)) limits.objects d) in
     record {
       plain = plain_read types table d read;
+      kinds = no_signals types;
       declared = within;
       few = omega (arith, few.live, length-map os plain_object);
       places = omega (arith, few.placed, length-map os plain_object);

@@ -8,6 +8,7 @@ use Rattle.ui_machine.specs.Definition.{Definition}
 use Rattle.ui_machine.specs.Definition.Places.{Place}
 use Rattle.ui_machine.specs.declared.limits.Limits.{Limits}
 use Rattle.param_specs.specs.Table.{own_of, specs_of}
+use Rattle.signal_core.specs.Sources.{declared_of}
 use Rattle.builder_defs.specs.Meaning.{Entry, meaning, plain_object}
 use Rattle.ui_machine.specs.Outcome.{◌>>=◌}
 use Rattle.builder_defs.specs.Refusals.{Refusal}
@@ -18,8 +19,8 @@ use Rattle.builder_defs.specs.Denoted.SessionLimits.{limits_in}
 use Rattle.builder_defs.specs.Denoted.{format_of, draft_in, objects_in, definition_in, definition_with, keys_of_definition}
 
 meant : (types : List GType) (table : List (List Spec)) (os : List Entry) (limits : Limits)
-    → definition_with (draft_of types table) (map plain_object os) limits ≡ meaning types table os limits
-unfolding specs_of
+    → definition_with (draft_of types table) (map plain_object os) limits ≡ meaning types table [] os limits
+unfolding specs_of declared_of
 meant types table os limits = refl
 
 module _ (d : Data) where
@@ -39,7 +40,7 @@ module _ (d : Data) where
   pub definition_done : (ms : Members) (format : Option ℕ) (limits : Limits) (types : List GType) (table : List (List Spec)) (os : List Entry)
       → members_at [] d ≡ Ok ms → format ≡ option_and_then as_u64 (option_and_then as_number (get (codes "format") d)) → format_of format ≡ Ok tt
       → limits_in d ≡ Ok limits → draft_in d ≡ Ok (draft_of types table) → objects_in types (specs_by types (own_of table)) limits.objects d ≡ Ok (map plain_object os)
-      → only_at [] ms keys_of_definition ≡ Ok tt → definition_in d ≡ Ok (meaning types table os limits)
+      → only_at [] ms keys_of_definition ≡ Ok tt → definition_in d ≡ Ok (meaning types table [] os limits)
   unfolding definition_in after_places after_draft after_limits after_format
   definition_done ms format limits types table os members is one limited classes objects only =
       ap (λ (r : Result Members Refusal). r >>= λ m. format_of (option_and_then as_u64 (option_and_then as_number (get (codes "format") d))) >>= after_format m) members

@@ -26,6 +26,7 @@ use crate::objects::read_objects;
 use indexmap::IndexMap;
 use param_specs::SpecTable;
 use serde_json::Value;
+use signal_core::SignalTable;
 use std::alloc::Global;
 use type_tree::TypeTree;
 
@@ -193,6 +194,7 @@ fn definition_of(alloc: Global, value: &Value) -> Result<Definition, ReadError>
     Ok(Definition {
         types: draft.types,
         specs: draft.specs,
+        signals: SignalTable::new(alloc),
         objects,
         limits,
     })
