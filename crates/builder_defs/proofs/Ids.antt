@@ -12,6 +12,7 @@ use Rattle.ui_machine.specs.Definition.{Definition}
 use Rattle.ui_machine.specs.Definition.Places.{Place}
 use Rattle.ui_machine.specs.Definition.Types.{GType}
 use Rattle.ui_machine.specs.Definition.Properties.{Spec}
+use Rattle.ui_machine.specs.Definition.Signals.{Signal}
 use Rattle.ui_machine.specs.Definition.Lookups.{place_of}
 use Rattle.ui_machine.specs.declared.limits.Limits.{Limits}
 use Rattle.builder_defs.specs.declared.object_entry.ObjectBody.{ObjectBody}
@@ -45,9 +46,9 @@ place_from-is id i (e ∷ es) =
 pub place_is : (id : List ℕ) (es : List Entry) → place_named (λ (p : Place). p.id) (map plain_object es) id ≡ position (λ k. bytes_eq id (string_bytes k)) (keys_of es)
 place_is id es = place_from-is id 0 es ∙ sym (position_from-zero _ (keys_of es))
 
-pub place_found : (types : List GType) (specs : List (List Spec)) (es : List Entry) (limits : Limits) (d : Definition) → meaning types specs es limits ≡ d → (id : List ℕ) (r : Option ℕ)
+pub place_found : (types : List GType) (specs : List (List Spec)) (signals : List (List Signal)) (es : List Entry) (limits : Limits) (d : Definition) → meaning types specs signals es limits ≡ d → (id : List ℕ) (r : Option ℕ)
     → r ≡ place_named (λ (p : Place). p.id) (map plain_object es) id → r ≡ place_of d id
-place_found types specs es limits d is id r found = found ∙ ap (λ (e : Definition). place_of e id) is
+place_found types specs signals es limits d is id r found = found ∙ ap (λ (e : Definition). place_of e id) is
 
 -- a new id goes last
 fresh_from : (id : String Global) (body : ObjectBody) (i : ℕ) (es : List Entry)

@@ -9,6 +9,7 @@ pub mod Pushed
 pub mod Chains
 pub mod Each
 pub mod Installing
+pub mod Declaring
 pub mod Escapes
 pub mod Words
 pub mod Members
@@ -20,4 +21,5 @@ pub mod PlainKinds
 pub mod Sections
 pub mod Finding
 pub mod OwnAhead
+pub mod NamesAhead
 pub mod Implementing

@@ -9,8 +9,10 @@ pub mod PropertyFlags
 pub mod Ranges
 pub mod Defaults
 pub mod Properties
+pub mod Signals
 pub mod Drafts
 pub mod Overrides
+pub mod Brought
 pub mod Implements
 pub mod Interfaces
 pub mod Classes
@@ -31,6 +33,7 @@ use Rattle.builder_defs.specs.Refusals.{Refusal, shape}
 use Rattle.builder_defs.specs.Document.{under, members_at, entries_at, listed_ahead, nothing_at, only_at, each, at_entry, document}
 use Rattle.builder_defs.specs.Denoted.Entries.{TypeNames, type_names, most_levels, object_names}
 use Rattle.builder_defs.specs.Denoted.Properties.{specs_by}
+use Rattle.builder_defs.specs.Denoted.Signals.{signals_by}
 use Rattle.builder_defs.specs.Denoted.SessionLimits.{limits_in}
 use Rattle.builder_defs.specs.Denoted.Enums.{enum_at, flags_at}
 use Rattle.builder_defs.specs.Denoted.Drafts.{Draft, bare_draft}
@@ -56,7 +59,7 @@ keys_of_definition = codes "format" ∷ codes "limits" ∷ codes "enums" ∷ cod
 abbrev pub definition_with : Draft → List machine.Place → Limits → definition.Definition
 definition_with draft places limits = record {
   types = draft.types;
-  classes = listed (λ t. class_with (specs_by draft.types draft.own t)) (length draft.types);
+  classes = listed (λ t. class_with (specs_by draft.types draft.own t) (signals_by draft.types draft.signals t)) (length draft.types);
   shapes = [];
   programs = [];
   places = places;

@@ -1,6 +1,7 @@
 -- Which definition and event of the machine the code's stand for.
-use Rattle.std.specs.Prelude.{◌≡◌, ℕ, ◌<◌, ◌≤◌, ◌≤ℤ◌, true, false, List, [], ◌∷◌, map, length, Option, None, Some, option_map, String, string_bytes, codes, slice_get}
+use Rattle.std.specs.Prelude.{◌≡◌, ℕ, ◌<◌, ◌≤◌, ◌≤ℤ◌, true, false, List, [], ◌∷◌, map, length, Option, None, Some, option_map, String, string_bytes, codes, slice_get, IfSome}
 use Rattle.std.specs.Global.{Global}
+use Rattle.std.specs.List.{AllByRecursion}
 use Rattle.ui_machine.specs.Seq.{listed}
 use Rattle.ui_machine.specs.declared.ids.Place.{Place}
 use Rattle.ui_machine.specs.declared.limits.Limits.{Limits}
@@ -12,12 +13,15 @@ use Rattle.ui_machine.specs.Definition.Properties.{Spec}
 use Rattle.ui_machine.specs.Rules.Validation.{is_valid}
 use Rattle.ui_machine.specs.Definition.Places as machine
 use Rattle.ui_machine.specs.Definition as definition
-use Rattle.ui_machine.specs.Definition.Signals as machine_signals
+use Rattle.ui_machine.specs.Definition.Signals.{Signal}
 use Rattle.ui_machine.specs.Definition.Lookups as lookups
+use Rattle.ui_machine.specs.Rules.EmissionPlan.{Planned, class_handler_of, signal_of}
 use Rattle.ui_machine.specs.State.Tasks as config
+use Rattle.ui_machine.specs.Words.{notify}
 use Rattle.type_tree.specs.Adding.{sort_of}
 use Rattle.g_values.specs.View.{value_view}
 use Rattle.param_specs.specs.Table.{specs_of}
+use Rattle.signal_core.specs.Sources.{signals_of}
 use Rattle.builder_defs.specs.declared.object_entry.Given.{Given}
 use Rattle.builder_defs.specs.declared.object_entry.Given.TheVariants as givens
 use Rattle.builder_defs.specs.declared.object_entry.GivenValue.{GivenValue}
@@ -25,13 +29,9 @@ use Rattle.builder_defs.specs.declared.object_entry.ObjectBody.{ObjectBody}
 use Rattle.builder_defs.specs.declared.event.Event.{Event}
 use Rattle.builder_defs.specs.declared.event.Event.TheVariants as events
 
--- the signal that every object has
-abbrev pub notify_signal : machine_signals.Signal
-notify_signal = record { name = codes "notify"; params = []; result = None; flags = 17; accumulator = None }
-
--- a type with these properties, and nothing else
-abbrev pub class_with : List Spec → definition.Class
-class_with specs = record { specs = specs; signals = notify_signal ∷ []; handlers = []; constructed = None; shape = None }
+-- a type with these properties and signals, and nothing else
+abbrev pub class_with : List Spec → List Signal → definition.Class
+class_with specs signals = record { specs = specs; signals = signals; handlers = []; constructed = None; shape = None }
 
 -- a value itself, or the object of a place
 abbrev pub given_view : Given → machine.Given
@@ -62,11 +62,11 @@ plain_object entry = plain_place (string_bytes entry.0) entry.1.class (place_num
 abbrev pub default_limits : Limits
 default_limits = record { objects = 64; handlers = 0 }
 
--- the definition of these types, specs and objects, with these limits
-abbrev pub meaning : List GType → List (List Spec) → List Entry → Limits → definition.Definition
-meaning types specs objects limits = record {
+-- the definition of these types, specs, signals and objects, with these limits
+abbrev pub meaning : List GType → List (List Spec) → List (List Signal) → List Entry → Limits → definition.Definition
+meaning types specs signals objects limits = record {
   types = types;
-  classes = listed (λ t. class_with (specs_of types specs t)) (length types);
+  classes = listed (λ t. class_with (specs_of types specs t) (signals_of types signals t)) (length types);
   shapes = [];
   programs = [];
   places = map plain_object objects;
@@ -90,6 +90,24 @@ pub record IsPlain (types : List GType) (s : Spec) : Type 0 where
   pub kind : IsPlainKind types s.kind s
   pub default : is_valid (λ id. None) types s s.default ≡ true
 
+-- an enum's kind names an enum of these types, and a flags kind a flags type
+abbrev pub IsKnownKind : List GType → kinds.Kind → Type 0
+IsKnownKind types kinds.bool = Unit {0}
+IsKnownKind types (kinds.whole k) = Unit {0}
+IsKnownKind types kinds.text = Unit {0}
+IsKnownKind types (kinds.enum t) = sort_of types t ≡ sorts.enum
+IsKnownKind types (kinds.flags t) = sort_of types t ≡ sorts.flags
+IsKnownKind types (kinds.object t) = Unit {0}
+
+-- the kinds of a signal's arguments and of its result are known
+pub record HasKnownKinds (types : List GType) (s : Signal) : Type 0 where
+  pub params : AllByRecursion (IsKnownKind types) s.params
+  pub result : IfSome s.result (IsKnownKind types)
+
+-- and those of all signals of all types
+pub record HaveKnownKinds (types : List GType) (signals : List (List Signal)) : Type 0 where
+  pub at : (t number : ℕ) (s : Signal) → slice_get (signals_of types signals t) number ≡ Some s → HasKnownKinds types s
+
 -- all properties of all types are plain
 pub record ArePlain (types : List GType) (specs : List (List Spec)) : Type 0 where
   pub at : (t slot : ℕ) (s : Spec) → slice_get (specs_of types specs t) slot ≡ Some s → IsPlain types s
@@ -101,8 +119,9 @@ pub record AreLimits (limits : Limits) : Type 0 where
   pub most_handlers : limits.handlers ≤ 16
 
 -- what is so of every definition
-pub record IsSound (types : List GType) (specs : List (List Spec)) (objects : List Entry) (limits : Limits) : Type 0 where
+pub record IsSound (types : List GType) (specs : List (List Spec)) (signals : List (List Signal)) (objects : List Entry) (limits : Limits) : Type 0 where
   pub plain : ArePlain types specs
+  pub kinds : HaveKnownKinds types signals
   pub declared : AreLimits limits
   pub few : length objects ≤ limits.objects
   pub places : length objects ≤ 512
@@ -125,14 +144,28 @@ pub record IsBasic (d : definition.Definition) : Type 0 where
   pub peers : (p : ℕ) (place : machine.Place) → slice_get d.places p ≡ Some place → place.peers ≡ []
   pub signals : (p : ℕ) (place : machine.Place) → slice_get d.places p ≡ Some place → place.signals ≡ []
   pub bindings : d.bindings ≡ []
-  pub known_signals : (t : ℕ) → t < length d.types → (lookups.class_of d t).signals ≡ notify_signal ∷ []
+  pub programs : d.programs ≡ []
+  pub first_signal : (t : ℕ) → t < length d.types → signal_of d t 0 ≡ Some notify
+  pub signal_kinds : (t number : ℕ) (s : Signal) → signal_of d t number ≡ Some s → HasKnownKinds d.types s
   pub unknown_signals : (t : ℕ) → length d.types ≤ t → (lookups.class_of d t).signals ≡ []
   pub unknown_specs : (t : ℕ) → length d.types ≤ t → lookups.specs_of d t ≡ []
+
+-- what an emission of a signal of a class takes its turns from; it makes no transfers
+abbrev pub planned : definition.Definition → (class object number : ℕ) → (detail : Option (List ℕ)) → Signal → Planned
+planned d class object number detail s = record {
+  object = object;
+  signal = number;
+  detail = detail;
+  flags = s.flags;
+  class_program = class_handler_of d class s.name;
+  transfers = [];
+}
 
 abbrev pub request_of : Event → config.Request
 request_of (events.Set place slot given) = config.set place.0 slot (given_view given)
 request_of (events.Get place slot) = config.get place.0 slot
 request_of (events.Release place) = config.release place.0
+request_of (events.Emit place signal args detail) = config.emit place.0 signal (map given_view args.items) (option_map (λ text. string_bytes text) detail)
 
 -- the same as an event
 abbrev pub event_of : Event → config.Event

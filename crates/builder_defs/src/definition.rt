@@ -1,27 +1,33 @@
 //! What a definition says.
 
-ghost use Rattle.std.specs.Prelude.{◌≡◌, ◌<◌, ◌≤◌, length, option_map, slice_get, IfSome, map};
+ghost use Rattle.std.specs.Prelude.{◌≡◌, ◌<◌, ◌≤◌, ℕ, length, option_map, slice_get, string_bytes, IfSome, map};
 ghost use Rattle.ui_machine.specs.Definition.Names.{place_named};
 ghost use Rattle.ui_machine.specs.Definition.Lookups.{place_of, spec_of, specs_of, slot_of, type_of};
+ghost use Rattle.ui_machine.specs.Rules.EmissionPlan.{signal_of};
 ghost use Rattle.param_specs.specs.View.{spec_view};
-ghost use Rattle.builder_defs.specs.Meaning.{AreLimits, IsBasic, plain_place, place_number, class_at, plain_object, given_property};
+ghost use Rattle.signal_core.specs.Emission.{begun};
+ghost use Rattle.signal_core.specs.Laws.{walk_for};
+ghost use Rattle.signal_core.specs.SignalView.{declared_view};
+ghost use Rattle.builder_defs.specs.Meaning.{AreLimits, IsBasic, plain_place, place_number, class_at, plain_object, planned, given_property};
 
 use crate::object_entry::{ObjectBody, ObjectEntry};
 use crate::types::type_name;
 use indexmap::IndexMap;
 use param_specs::{Spec, SpecTable};
+use signal_core::{DeclaredSignal, Emission, SignalTable};
 use std::marker::Model;
 use type_tree::{TypeId, TypeTree};
-use ui_machine::{Limits, Place};
+use ui_machine::{Limits, ObjectId, Place};
 
 /// The most places of a definition.
 pub const MOST_PLACES: usize = 512;
 
-/// A definition: its types with their properties, its objects in document order, and its limits. It is seen as the machine's.
+/// A definition: its types with their properties and signals, its objects in document order, and its limits. It is seen as the machine's.
 #[derive(Drop)]
 pub struct Definition {
     pub(crate) types: TypeTree,
     pub(crate) specs: SpecTable,
+    pub(crate) signals: SignalTable,
     pub(crate) objects: IndexMap<String, ObjectBody>,
     pub(crate) limits: Limits,
 }
@@ -33,9 +39,9 @@ impl Model for Definition {
 
     ghost use Rattle.builder_defs.specs.Meaning.{meaning, IsSound};
 
-    ghost view = { λ d. meaning d.types d.specs d.objects.entries d.limits };
+    ghost view = { λ d. meaning d.types d.specs d.signals.signals d.objects.entries d.limits };
 
-    ghost invariant = { λ d. IsSound d.types d.specs d.objects.entries d.limits };
+    ghost invariant = { λ d. IsSound d.types d.specs d.signals.signals d.objects.entries d.limits };
 }
 
 impl Definition {
@@ -125,6 +131,45 @@ impl Definition {
             return None;
         }
         self.specs.find(&self.types, class, name)
+    }
+
+    /// The signal of a class by its number, if it has so many. Number 0 is `notify`.
+    pub fn signal(&self, class: TypeId, number: u16) -> Option<DeclaredSignal<'_>>
+        ensures { option_map declared_view result ≡ signal_of self.now class number }
+    {
+        if class.index() >= self.types.len() {
+            return None;
+        }
+        self.signals.signal(&self.types, class, number)
+    }
+
+    /// What an emission by an object begins with: of the signal of its class of a number, with a detail. `None` where the class has no signal of
+    /// the number. No class names a program for a signal so far.
+    pub fn emission(
+        &self,
+        class: TypeId,
+        object: ObjectId,
+        number: u16,
+        detail: Option<String>,
+    ) -> Option<Emission>
+        ensures { (greatest : ℕ) → option_map (λ e. begun e greatest) result
+            ≡ option_map (λ s. walk_for greatest s.accumulator
+            (planned self.now class object.0 number (option_map (λ text. string_bytes text) detail) s))
+            (signal_of self.now class number) }
+    {
+        // For the proof: what is known of a definition's classes.
+        let _types = self.types();
+        match self.signal(class, number) {
+            Some(signal) => Some(Emission {
+                object,
+                signal: number,
+                detail,
+                flags: signal.flags,
+                accumulator: signal.accumulator,
+                class_program: None,
+            }),
+            None => None,
+        }
     }
 
     /// The name of a class, and nothing where there is none.

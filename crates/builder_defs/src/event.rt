@@ -21,4 +21,14 @@ pub enum Event {
     Release {
         place: Place,
     },
+    /// A signal of an object is emitted.
+    Emit {
+        place: Place,
+        /// Its number in the list of the object's class, where 0 is `notify`.
+        signal: u16,
+        /// As many as the signal has parameters, in their order.
+        args: Vec<Given>,
+        /// In canonical spelling. Only a signal that takes details has one.
+        detail: Option<String>,
+    },
 }

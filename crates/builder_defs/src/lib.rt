@@ -25,11 +25,14 @@ mod numbers;
 mod object_entry;
 mod objects;
 mod overrides;
+mod own_signals;
 mod properties;
 mod property_flags;
 mod ranges;
 mod reading;
 mod reads;
+mod signal_flags;
+mod signals;
 mod types;
 
 pub use definition::Definition;

@@ -4,4 +4,4 @@ use Rattle.builder_defs.proofs.Tables.{basic}
 use Rattle.builder_defs.proofs.definition.Definition.types.Goals as goal
 
 pub returns-clause-basic : goal.returns-clause-basic
-returns-clause-basic c = subst IsBasic c.self.view_is (basic c.self.inside.types c.self.inside.specs c.self.inside.objects.entries c.self.inside.limits c.self.invariant.plain)
+returns-clause-basic c = subst IsBasic c.self.view_is (basic c.self.inside.types c.self.inside.specs c.self.inside.signals.signals c.self.inside.objects.entries c.self.inside.limits c.self.invariant.plain c.self.invariant.kinds)
