@@ -406,7 +406,7 @@ impl TypeTree {
             return Err(AllocError);
         };
         let child = ClassEntry {
-            parent: None,
+            parent: Some(root),
             flags: TypeFlags::NONE,
             interfaces: Vec::new(alloc),
         };
