@@ -103,8 +103,8 @@ impl SignalTable {
         }
     }
 
-    // The signals of a type's own.
-    fn own(&self, t: TypeId) -> &[Signal]
+    /// The signals of a type's own.
+    pub fn own(&self, t: TypeId) -> &[Signal]
         ensures own { map signal_view result.now ≡ own_of self.now.signals t }
         ensures few { length result.now ≤ 64 }
     {
@@ -116,8 +116,8 @@ impl SignalTable {
         }
     }
 
-    // How many signals a type and its ancestors have of their own.
-    pub(crate) fn line_count(&self, tree: &TypeTree, t: TypeId) -> usize
+    /// How many signals a type and its ancestors have of their own.
+    pub fn line_count(&self, tree: &TypeTree, t: TypeId) -> usize
         ensures count { result ≡ line_count tree.now self.now.signals t }
         ensures bound { result ≤ 64 * (t + 1) }
         ensures own { length (own_of self.now.signals t) ≤ result }
