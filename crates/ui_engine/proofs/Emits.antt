@@ -11,7 +11,7 @@ use Rattle.ui_machine.specs.Rules.Build.{held_object}
 use Rattle.ui_machine.specs.Rules.Connections.{detail_in}
 use Rattle.ui_machine.specs.Rules.EmissionPlan.{new_emission}
 use Rattle.ui_machine.specs.Rules.Events.{carrying_emit, given_values}
-use Rattle.ui_machine.specs.State.Config.{Config, Started, World, starts}
+use Rattle.ui_machine.specs.State.Config.{Started, World, starts}
 use Rattle.ui_machine.specs.State.Tasks.{Beginning, Task}
 use Rattle.ui_machine.specs.Steps.{before, uncounted}
 

@@ -1,9 +1,9 @@
 -- How emissions begin and end, by the class of the object that emits.
-use Rattle.std.proofs.Common.{◌≡◌, ℕ, Bool, true, false, List, [], ◌∷◌, map, Option, Some, None, option_map, is_some, Result, Ok, Err, refl, sym, ap, subst, ◌∙◌}
+use Rattle.std.proofs.Common.{◌≡◌, ℕ, Bool, true, false, List, [], ◌∷◌, Option, Some, None, option_map, is_some, Result, Ok, Err, refl, sym, ap, subst, ◌∙◌}
 use Rattle.ui_machine.specs.declared.arm.Arm.{Arm}
 use Rattle.ui_machine.specs.declared.arm.Arm.TheVariants as arms
 use Rattle.ui_machine.specs.Definition.{Definition}
-use Rattle.ui_machine.specs.Definition.Signals.{Accumulator, Signal}
+use Rattle.ui_machine.specs.Definition.Signals.{Signal}
 use Rattle.ui_machine.specs.Definition.Values.{Value}
 use Rattle.ui_machine.specs.Outcome.{Answer, Goes, known, only_if, ◌>>=◌}
 use Rattle.ui_machine.specs.Output.Lines as lines

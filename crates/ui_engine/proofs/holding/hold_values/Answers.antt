@@ -1,4 +1,4 @@
-use Rattle.std.proofs.Common.{◌≡◌, ℕ, ◌+◌, Option, ap, ◌∙◌, arith}
+use Rattle.std.proofs.Common.{ℕ, Option, ap, ◌∙◌, arith}
 use Rattle.ui_machine.specs.State.References.{in_option, in_value}
 use Rattle.g_values.specs.View.{value_view}
 use Rattle.instances.proofs.Written.{by_name}

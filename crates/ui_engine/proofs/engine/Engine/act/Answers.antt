@@ -1,4 +1,4 @@
-use Rattle.std.proofs.Common.{◌≡◌, ℕ, refl}
+use Rattle.std.proofs.Common.{refl}
 use Rattle.ui_engine.proofs.Counts.{done_plain}
 use Rattle.ui_engine.proofs.engine.Engine.act.Goals as goal
 

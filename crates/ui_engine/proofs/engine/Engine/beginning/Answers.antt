@@ -1,17 +1,14 @@
-use Rattle.std.proofs.Common.{◌≡◌, ℕ, ◌+◌, suc, true, false, List, ◌∷◌, map, Option, Some, option_map, string_bytes, sym, ap, ◌∙◌, arith}
+use Rattle.std.proofs.Common.{ℕ, suc, List, ◌∷◌, option_map, sym, ap, ◌∙◌, arith}
 use Rattle.std.proofs.lemmas.Result.{err_from_is_err_and}
 use Rattle.ui_machine.specs.Definition.Types.{GType}
 use Rattle.ui_machine.specs.Definition.Signals.{Signal}
 use Rattle.ui_machine.specs.Output.Lines as lines
 use Rattle.ui_machine.specs.Output.Text.{text_of_line}
-use Rattle.ui_machine.specs.Rules.EmissionPlan.{beginning_emission, signal_of}
-use Rattle.ui_machine.specs.Rules.Programs.{all_fit}
-use Rattle.ui_machine.specs.Rules.Transform.{kind_fits}
-use Rattle.ui_machine.specs.State.Objects.{class_in}
+use Rattle.ui_machine.specs.Rules.EmissionPlan.{beginning_emission}
 use Rattle.ui_machine.specs.State.References.{same}
 use Rattle.ui_machine.specs.State.Tasks.{Emitting, Task}
 use Rattle.ui_machine.specs.Steps.{counted, uncounted}
-use Rattle.signal_core.specs.Emission.{Walk, begun}
+use Rattle.signal_core.specs.Emission.{begun}
 use Rattle.signal_core.specs.Laws.{walk_for}
 use Rattle.signal_core.specs.SignalView.{declared_view}
 use Rattle.signal_core.specs.declared.emission.Emission.{Emission}

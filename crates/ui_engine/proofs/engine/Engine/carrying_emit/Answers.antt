@@ -1,9 +1,4 @@
-use Rattle.std.proofs.Common.{◌≡◌, ℕ, List, ◌∷◌, [], map, Option, Ok, sym, ap, ◌∙◌}
 use Rattle.std.proofs.lemmas.Result.{err_from_is_err_and}
-use Rattle.ui_machine.specs.Rules.Build.{held_object}
-use Rattle.ui_machine.specs.State.Tasks.{Beginning}
-use Rattle.g_values.specs.View.{value_view}
-use Rattle.builder_defs.specs.Meaning.{given_view}
 use Rattle.ui_engine.specs.View.{world_of}
 use Rattle.ui_engine.specs.TaskView.{agenda_of}
 use Rattle.ui_engine.proofs.Emits.{args_stop, detail_stops, emits, not_held}

@@ -1,9 +1,8 @@
-use Rattle.std.proofs.Common.{◌≡◌, ℕ, true, false, Bor, List, Option, Some, Ok, nat_eq, option_map, string_bytes, arith, sym, ap, subst, ◌∙◌}
+use Rattle.std.proofs.Common.{◌≡◌, ℕ, true, false, List, Some, Ok, nat_eq, arith, sym, ap, ◌∙◌}
 use Rattle.std.proofs.lemmas.Bool.Decides.{nat_tests}
 use Rattle.std.proofs.lemmas.Result.{err_from_is_err_and}
 use Rattle.ui_machine.specs.Definition.Properties.{has_flags}
-use Rattle.ui_machine.specs.Outcome.{Answer, Stops, ◌>>=◌}
-use Rattle.ui_engine.specs.GivenView.{standing}
+use Rattle.ui_machine.specs.Outcome.{Answer, ◌>>=◌}
 use Rattle.ui_engine.proofs.Details.{finds_name, stands_none, stands_notify, stands_other, stands_plain}
 use Rattle.ui_engine.proofs.engine.Engine.detail_at.Goals as goal
 

@@ -1,6 +1,5 @@
-use Rattle.std.proofs.Common.{◌≡◌, Option, option_map, sym, ap, subst, refl, ◌∙◌}
+use Rattle.std.proofs.Common.{option_map, sym, ap, subst, refl, ◌∙◌}
 use Rattle.std.proofs.lemmas.Result.{err_from_is_err_and}
-use Rattle.ui_machine.specs.Outcome.{Answer}
 use Rattle.signal_core.specs.SignalView.{declared_view}
 use Rattle.ui_engine.specs.GivenView.{Finds, detail_of}
 use Rattle.ui_engine.specs.View.{world_of}

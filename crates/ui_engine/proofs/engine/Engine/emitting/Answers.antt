@@ -1,15 +1,8 @@
-use Rattle.std.proofs.Common.{◌≡◌, ℕ, List, [], ◌∷◌, Option, Some, None, is_some, true, false, Ok, Err, sym, ap, subst, ◌∙◌}
-use Rattle.ui_machine.specs.Outcome.{Answer, Goes}
-use Rattle.ui_machine.specs.Rules.Accumulation.{ending}
-use Rattle.ui_machine.specs.State.Config.{Config}
-use Rattle.ui_machine.specs.State.Tasks.{Emission, Emitting, PlanEntry, Task}
-use Rattle.ui_machine.specs.Steps.{act, left}
-use Rattle.signal_core.specs.Emission.{Walk}
-use Rattle.signal_core.specs.declared.turn.Turn.{Turn}
+use Rattle.std.proofs.Common.{sym, ◌∙◌}
 use Rattle.ui_engine.specs.View.{world_of}
-use Rattle.ui_engine.specs.TaskView.{agenda_of, emission_of, entries_to_come}
+use Rattle.ui_engine.specs.TaskView.{agenda_of, emission_of}
 use Rattle.ui_engine.specs.EngineView.{config_of}
-use Rattle.ui_engine.proofs.Emitted.{end_alike, onward}
+use Rattle.ui_engine.proofs.Emitted.{onward}
 use Rattle.ui_engine.proofs.Turns.{stuck_some}
 use Rattle.ui_engine.proofs.engine.Engine.emitting.Goals as goal
 

@@ -1,15 +1,13 @@
-use Rattle.std.proofs.Common.{◌≡◌, ℕ, ◌+◌, ◌≤◌, List, map, Option, option_map, Ok, refl, sym, ap, ◌∙◌, arith}
+use Rattle.std.proofs.Common.{◌≡◌, ℕ, ◌+◌, List, map, Option, option_map, Ok, refl, sym, ap, ◌∙◌, arith}
 use Rattle.std.proofs.lemmas.Result.{err_from_is_err_and}
-use Rattle.ui_machine.specs.Definition.Signals.{Signal}
 use Rattle.ui_machine.specs.Definition.Values as values
-use Rattle.ui_machine.specs.Rules.Accumulation.{ending, result_of}
+use Rattle.ui_machine.specs.Rules.Accumulation.{result_of}
 use Rattle.ui_machine.specs.State.References.{in_register, in_value, same}
 use Rattle.ui_machine.specs.Seq.{total}
 use Rattle.ui_machine.specs.Steps.{left}
 use Rattle.g_values.specs.View.{kind_view, value_view}
 use Rattle.g_values.specs.declared.value.Value.{Value}
 use Rattle.signal_core.specs.SignalView.{declared_view}
-use Rattle.ui_engine.specs.EngineView.{config_of}
 use Rattle.ui_engine.specs.View.{world_of}
 use Rattle.ui_engine.specs.TaskView.{agenda_of, emission_of}
 use Rattle.ui_engine.proofs.Counts.{both_only, config_same, less_held}

@@ -1,4 +1,3 @@
-use Rattle.std.proofs.Common.{[]}
 use Rattle.ui_engine.proofs.engine.Engine.new.Goals as goal
 
 pub returns-clause-idle : goal.returns-clause-idle

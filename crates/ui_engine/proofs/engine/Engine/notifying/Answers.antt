@@ -1,11 +1,10 @@
-use Rattle.std.proofs.Common.{◌≡◌, ℕ, suc, List, [], ◌∷◌, map, false, Option, Some, None, Bor, option_map, string_bytes, refl, sym, ap, ◌∙◌, arith, ◌+◌}
+use Rattle.std.proofs.Common.{ℕ, suc, List, [], ◌∷◌, map, false, Some, Bor, option_map, string_bytes, refl, sym, ap, ◌∙◌, arith}
 use Rattle.std.proofs.lemmas.Result.{err_from_is_err_and}
 use Rattle.ui_machine.specs.Definition.Types.{GType}
 use Rattle.ui_machine.specs.Definition.Signals.{Signal}
 use Rattle.ui_machine.specs.Output.Lines as lines
 use Rattle.ui_machine.specs.Output.Text.{text_of_line}
 use Rattle.ui_machine.specs.Rules.EmissionPlan.{notifying}
-use Rattle.ui_machine.specs.State.Config.{World}
 use Rattle.ui_machine.specs.State.Tasks.{Emitting, Task}
 use Rattle.ui_machine.specs.Steps.{counted, uncounted}
 use Rattle.ui_machine.specs.Seq.{total}
@@ -14,14 +13,14 @@ use Rattle.g_values.specs.View.{value_view}
 use Rattle.g_values.specs.declared.value.Value.{Value}
 use Rattle.param_specs.specs.declared.spec.Spec.{Spec}
 use Rattle.param_specs.specs.View.{spec_view}
-use Rattle.signal_core.specs.Emission.{Walk, begun}
+use Rattle.signal_core.specs.Emission.{begun}
 use Rattle.signal_core.specs.Laws.{walk_for}
 use Rattle.signal_core.specs.declared.emission.Emission.{Emission}
 use Rattle.builder_defs.specs.Meaning.{planned}
 use Rattle.ui_engine.specs.View.{with_line, world_of}
 use Rattle.ui_engine.specs.TaskView.{agenda_of, emission_of, entries_to_come}
 use Rattle.ui_engine.specs.declared.engine.Engine.{Engine}
-use Rattle.ui_engine.proofs.Counts.{keeps_on, keeps_same, taken_alike}
+use Rattle.ui_engine.proofs.Counts.{keeps_same, taken_alike}
 use Rattle.ui_engine.proofs.Emitted.{begun_as, begun_none, begun_some, notifying_starts}
 use Rattle.ui_engine.proofs.Left.{left_with}
 use Rattle.ui_engine.proofs.Notified.{counted_on, unheard, unnamed, unknown}

@@ -1,4 +1,4 @@
-use Rattle.std.proofs.Common.{◌≡◌, List, ◌++◌, ◌∷◌, [], map, option_map, sym, ap, ◌∙◌, subst, ◌+◌}
+use Rattle.std.proofs.Common.{List, ◌∷◌, [], map, option_map, sym, ap, ◌∙◌, subst, ◌+◌}
 use Rattle.std.proofs.lemmas.List.{map-append}
 use Rattle.ui_machine.specs.Rules.Events.{given_values}
 use Rattle.g_values.specs.View.{value_view}

@@ -1,10 +1,10 @@
-use Rattle.std.proofs.Common.{◌≡◌, List, ℕ, Option, Some, None, Ok, Bor, is_some, option_map, string_bytes, sym, ap, ◌∙◌}
+use Rattle.std.proofs.Common.{◌≡◌, List, ℕ, Option, Some, None, Ok, Bor, is_some, option_map, sym, ap, ◌∙◌}
 use Rattle.param_specs.specs.View.{spec_view}
 use Rattle.param_specs.specs.declared.spec.Spec as code
 use Rattle.ui_machine.specs.declared.arm.Arm.TheVariants as arms
 use Rattle.ui_machine.specs.Definition.Names.{canonical}
 use Rattle.ui_machine.specs.Definition.Properties.{Spec}
-use Rattle.ui_machine.specs.Outcome.{Answer, only_if}
+use Rattle.ui_machine.specs.Outcome.{only_if}
 use Rattle.ui_engine.proofs.Details.{slot_named}
 use Rattle.ui_engine.proofs.engine.Engine.property_named.Goals as goal
 

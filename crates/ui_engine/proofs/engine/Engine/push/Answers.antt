@@ -1,8 +1,7 @@
-use Rattle.std.proofs.Common.{◌+◌, List, refl, ap, map, ◌∙◌, arith}
+use Rattle.std.proofs.Common.{List, refl, ap, map, arith}
 use Rattle.ui_machine.specs.Seq.{total}
 use Rattle.ui_machine.specs.State.References.{in_task}
 use Rattle.ui_machine.specs.State.Tasks.{Task}
-use Rattle.instances.specs.Store.{count_of}
 use Rattle.ui_engine.specs.View.{held_of}
 use Rattle.ui_engine.specs.TaskView.{task_in, tasks_of, agenda_of}
 use Rattle.ui_engine.proofs.Counts.{keeps_by, holder_more, both_only}

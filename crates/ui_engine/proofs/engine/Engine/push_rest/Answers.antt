@@ -1,10 +1,6 @@
-use Rattle.std.proofs.Common.{◌≡◌, ℕ, ◌+◌, List, map, refl, ap, arith}
-use Rattle.ui_machine.specs.Seq.{total}
-use Rattle.ui_machine.specs.State.References.{in_task, same}
-use Rattle.ui_machine.specs.State.Tasks.{Task}
-use Rattle.ui_engine.specs.View.{held_of}
-use Rattle.ui_engine.specs.Counting.{Counts}
-use Rattle.ui_engine.specs.TaskView.{agenda_of, emission_of, tasks_of}
+use Rattle.std.proofs.Common.{ap, arith}
+use Rattle.ui_machine.specs.State.References.{same}
+use Rattle.ui_engine.specs.TaskView.{emission_of}
 use Rattle.ui_engine.proofs.Counts.{pushed_rest}
 use Rattle.ui_engine.proofs.engine.Engine.push_rest.Goals as goal
 

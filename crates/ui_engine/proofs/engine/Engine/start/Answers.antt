@@ -1,7 +1,7 @@
-use Rattle.std.proofs.Common.{◌≡◌, ℕ, ◌+◌, List, ◌∷◌, map, string_bytes, ap, ◌∙◌, arith}
+use Rattle.std.proofs.Common.{◌∷◌, string_bytes, ap, ◌∙◌, arith}
 use Rattle.ui_machine.specs.State.Config.{World}
-use Rattle.ui_machine.specs.State.References.{in_register, in_value}
-use Rattle.ui_machine.specs.State.Tasks.{Emitting, Task}
+use Rattle.ui_machine.specs.State.References.{in_register}
+use Rattle.ui_machine.specs.State.Tasks.{Emitting}
 use Rattle.signal_core.specs.Connected.{Connected}
 use Rattle.signal_core.specs.Emission.{Walk}
 use Rattle.ui_engine.specs.View.{with_line}
