@@ -3,6 +3,8 @@ use Rattle.std.proofs.Common.{◌≡◌, ℕ, List, length, Result, Ok, sym, ap,
 use Rattle.serde_json.specs.Data.{Data, Members}
 use Rattle.ui_machine.specs.Definition.Types.{GType}
 use Rattle.ui_machine.specs.Definition.Properties.{Spec}
+use Rattle.ui_machine.specs.Definition.Signals.{Signal}
+use Rattle.signal_core.specs.Sources as tables
 use Rattle.param_specs.specs.Table.{own_of, specs_of}
 use Rattle.builder_defs.specs.declared.fault.ReadError.{ReadError}
 use Rattle.builder_defs.specs.declared.fault.ReadError.TheVariants as errors
@@ -11,7 +13,7 @@ use Rattle.builder_defs.specs.Refusals.{Refusal, Fails}
 use Rattle.builder_defs.specs.Document.{members_at, only_at}
 use Rattle.builder_defs.specs.Denoted.Entries.{TypeNames}
 use Rattle.builder_defs.specs.Denoted.Properties.{spec_at, installed, property_at}
-use Rattle.builder_defs.specs.Denoted.Drafts.{Draft, draft_of, properties_at, type_at}
+use Rattle.builder_defs.specs.Denoted.Drafts.{Draft, draft_of, given_at, type_at}
 use Rattle.builder_defs.proofs.Installing.{inherited_in, property_at_is}
 
 pub fails_first : {A B : Type 0} (e : ReadError) (r : Result A Refusal) (f : A → Result B Refusal) → Fails e r → Fails e (r >>= f)
@@ -34,39 +36,35 @@ module _ (path : List ℕ) (types : List GType) (names : TypeNames) (t : ℕ) (t
   unfolding next
   property_with spec h = property_at_is path types names t table d ∙ ap (λ r. r >>= next) h
 
-module _ (path : List ℕ) (keys : List (List ℕ)) (declare : Result (List GType) Refusal) (behind : Result (Unit {0}) Refusal) (names : TypeNames) (types : List GType) (table : List (List Spec)) (d : Data)
+module _ (path : List ℕ) (keys : List (List ℕ)) (declare : Result (List GType) Refusal) (behind : Result (Unit {0}) Refusal) (names : TypeNames) (types : List GType) (table : List (List Spec)) (declared_table : List (List Signal)) (d : Data)
     (ms : Members) (new : List GType) (t : ℕ) (members : members_at path d ≡ Ok ms) (declared : declare ≡ Ok new) (at_end : t ≡ length types) where
-  draft_with : List GType → (ℕ → List Spec) → Draft
-  draft_with gs own = record { types = gs; own = own }
+  finish : Draft → Result Draft Refusal
+  finish given = behind >>= λ done. only_at path ms keys >>= λ only. Ok given
 
-  finish : (ℕ → List Spec) → Result Draft Refusal
-  finish own = behind >>= λ unset. only_at path ms keys >>= λ only. Ok (draft_with new own)
-
-  type_is : type_at path keys declare behind names (draft_of types table) d ≡ (properties_at path new names t (own_of table) d >>= finish)
-  unfolding type_at finish draft_with
+  type_is : type_at path keys declare behind names (draft_of types table declared_table) d ≡ (given_at path new names t (own_of table) (tables.own_of declared_table) d >>= finish)
+  unfolding type_at finish
   type_is =
-      ap (λ (r : Result Members Refusal). r >>= λ m. declare >>= λ gs. properties_at path gs names (length types) (own_of table) d >>= λ own. behind >>= λ unset. only_at path m keys >>= λ only. Ok (draft_with gs own)) members
-      ∙ ap (λ (r : Result (List GType) Refusal). r >>= λ gs. properties_at path gs names (length types) (own_of table) d >>= λ own. behind >>= λ unset. only_at path ms keys >>= λ only. Ok (draft_with gs own)) declared
-      ∙ ap (λ n. properties_at path new names n (own_of table) d >>= finish) (sym at_end)
+      ap (λ (r : Result Members Refusal). r >>= λ m. declare >>= λ gs. given_at path gs names (length types) (own_of table) (tables.own_of declared_table) d >>= λ given. behind >>= λ done. only_at path m keys >>= λ only. Ok given) members
+      ∙ ap (λ (r : Result (List GType) Refusal). r >>= λ gs. given_at path gs names (length types) (own_of table) (tables.own_of declared_table) d >>= λ given. behind >>= λ done. only_at path ms keys >>= λ only. Ok given) declared
+      ∙ ap (λ n. given_at path new names n (own_of table) (tables.own_of declared_table) d >>= finish) (sym at_end)
 
-  pub properties_fail : (e : ReadError) → Fails e (properties_at path new names t (own_of table) d) → Fails e (type_at path keys declare behind names (draft_of types table) d)
-  properties_fail e h = fails_as e _ _ type_is (fails_first e (properties_at path new names t (own_of table) d) finish h)
+  pub members_fail : (e : ReadError) → Fails e (given_at path new names t (own_of table) (tables.own_of declared_table) d) → Fails e (type_at path keys declare behind names (draft_of types table declared_table) d)
+  members_fail e h = fails_as e _ _ type_is (fails_first e (given_at path new names t (own_of table) (tables.own_of declared_table) d) finish h)
 
-  module _ (own : ℕ → List Spec) (given : properties_at path new names t (own_of table) d ≡ Ok own) where
-    type_given : type_at path keys declare behind names (draft_of types table) d ≡ finish own
-    type_given = type_is ∙ ap (λ r. r >>= finish) given
+  module _ (given : Draft) (are : given_at path new names t (own_of table) (tables.own_of declared_table) d ≡ Ok given) where
+    type_given : type_at path keys declare behind names (draft_of types table declared_table) d ≡ finish given
+    type_given = type_is ∙ ap (λ r. r >>= finish) are
 
-    pub unset_fails : (e : ReadError) → Fails e behind → Fails e (type_at path keys declare behind names (draft_of types table) d)
+    pub unset_fails : (e : ReadError) → Fails e behind → Fails e (type_at path keys declare behind names (draft_of types table declared_table) d)
     unfolding finish
-    unset_fails e h = fails_as e _ _ type_given (fails_first e behind (λ unset. only_at path ms keys >>= λ only. Ok (draft_with new own)) h)
+    unset_fails e h = fails_as e _ _ type_given (fails_first e behind (λ done. only_at path ms keys >>= λ only. Ok given) h)
 
-    type_unset : behind ≡ Ok tt → type_at path keys declare behind names (draft_of types table) d ≡ (only_at path ms keys >>= λ only. Ok (draft_with new own))
+    type_unset : behind ≡ Ok tt → type_at path keys declare behind names (draft_of types table declared_table) d ≡ (only_at path ms keys >>= λ only. Ok given)
     unfolding finish
-    type_unset h = type_given ∙ ap (λ (r : Result (Unit {0}) Refusal). r >>= λ unset. only_at path ms keys >>= λ only. Ok (draft_with new own)) h
+    type_unset h = type_given ∙ ap (λ (r : Result (Unit {0}) Refusal). r >>= λ done. only_at path ms keys >>= λ only. Ok given) h
 
-    pub only_fails : (e : ReadError) → behind ≡ Ok tt → Fails e (only_at path ms keys) → Fails e (type_at path keys declare behind names (draft_of types table) d)
-    only_fails e n h = fails_as e _ _ (type_unset n) (fails_first e (only_at path ms keys) (λ only. Ok (draft_with new own)) h)
+    pub only_fails : (e : ReadError) → behind ≡ Ok tt → Fails e (only_at path ms keys) → Fails e (type_at path keys declare behind names (draft_of types table declared_table) d)
+    only_fails e n h = fails_as e _ _ (type_unset n) (fails_first e (only_at path ms keys) (λ only. Ok given) h)
 
-    pub type_done : behind ≡ Ok tt → only_at path ms keys ≡ Ok tt → type_at path keys declare behind names (draft_of types table) d ≡ Ok (record { types = new; own = own })
-    unfolding draft_with
-    type_done n h = type_unset n ∙ ap (λ (r : Result (Unit {0}) Refusal). r >>= λ only. Ok (draft_with new own)) h
+    pub type_done : behind ≡ Ok tt → only_at path ms keys ≡ Ok tt → type_at path keys declare behind names (draft_of types table declared_table) d ≡ Ok given
+    type_done n h = type_unset n ∙ ap (λ (r : Result (Unit {0}) Refusal). r >>= λ only. Ok given) h

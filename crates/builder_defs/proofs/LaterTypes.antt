@@ -14,7 +14,7 @@ use Rattle.ui_machine.specs.Definition.Properties.{Spec}
 use Rattle.ui_machine.specs.Rules.Transform.{has_number, kind_fits, same_value}
 use Rattle.ui_machine.specs.Rules.Validation.{clamp}
 use Rattle.type_tree.specs.Adding.{sort_of}
-use Rattle.builder_defs.specs.Meaning.{IsPlainKind, IsPlain}
+use Rattle.builder_defs.specs.Meaning.{IsPlainKind, IsPlain, IsKnownKind}
 use Rattle.builder_defs.proofs.Tables.{type_past}
 
 kept : (types : List GType) (g : GType) (t : ℕ) → t < length types → read no_type (types ++ g ∷ []) t ≡ read no_type types t
@@ -38,6 +38,15 @@ IsKept types all kinds.text = Unit {0}
 IsKept types all (kinds.enum t) = read no_type all t ≡ read no_type types t
 IsKept types all (kinds.flags t) = read no_type all t ≡ read no_type types t
 IsKept types all (kinds.object t) = Unit {0}
+
+-- a kind that is known stays known
+pub known_later : (types : List GType) (g : GType) (k : Kind) → IsKnownKind types k → IsKnownKind (types ++ g ∷ []) k
+known_later types g kinds.bool known = tt
+known_later types g (kinds.whole k) known = tt
+known_later types g kinds.text known = tt
+known_later types g (kinds.enum t) known = ap (λ (x : GType). x.sort) (kept_but_class types g t sorts.enum known (λ e. cc)) ∙ known
+known_later types g (kinds.flags t) known = ap (λ (x : GType). x.sort) (kept_but_class types g t sorts.flags known (λ e. cc)) ∙ known
+known_later types g (kinds.object t) known = tt
 
 plain_kept : (types : List GType) (g : GType) (k : Kind) (s : Spec) → IsPlainKind types k s → IsKept types (types ++ g ∷ []) k
 plain_kept types g kinds.bool s p = tt

@@ -8,7 +8,9 @@ pub mod Soundness
 pub mod Pushed
 pub mod Chains
 pub mod Each
+pub mod EachOf
 pub mod Installing
+pub mod Declaring
 pub mod Escapes
 pub mod Words
 pub mod Members
@@ -20,4 +22,5 @@ pub mod PlainKinds
 pub mod Sections
 pub mod Finding
 pub mod OwnAhead
+pub mod NamesAhead
 pub mod Implementing

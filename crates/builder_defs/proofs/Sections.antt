@@ -7,12 +7,14 @@ use Rattle.serde_json.specs.View.{items_view}
 use Rattle.ui_machine.specs.Outcome.{◌>>=◌}
 use Rattle.ui_machine.specs.Definition.Types.{GType, predeclared}
 use Rattle.ui_machine.specs.Definition.Properties.{Spec}
+use Rattle.ui_machine.specs.Definition.Signals.{Signal}
 use Rattle.builder_defs.specs.declared.fault.ReadError.{ReadError}
 use Rattle.builder_defs.specs.Refusals.{Refusal, Fails, shape, or_refused}
 use Rattle.builder_defs.specs.Document.{under, nothing_at, listed_ahead, entries_at, each, at_entry}
 use Rattle.builder_defs.specs.Denoted.Enums.{three_in, some_items, some_entries_at, enum_at, flags_at}
 use Rattle.builder_defs.specs.Denoted.Entries.{TypeNames}
 use Rattle.builder_defs.specs.Denoted.Properties.{property_at}
+use Rattle.builder_defs.specs.Denoted.Signals.{param_at, params_at, signal_at, signals_at}
 use Rattle.builder_defs.specs.Denoted.Drafts.{Draft, bare_draft, properties_at}
 use Rattle.builder_defs.specs.Denoted.Interfaces.{interface_at}
 use Rattle.builder_defs.specs.Denoted.Classes.{class_at}
@@ -66,3 +68,19 @@ pub properties_read_fail : (path : List ℕ) (types : List GType) (names : TypeN
 unfolding properties_at
 properties_read_fail path types names t own d list e read fails =
     fails_as e _ _ (ap (λ (r : Result Items Refusal). r >>= λ list. each (at_entry (λ entry. property_at entry types names t) (under path (codes "properties"))) 0 own list) read) fails
+
+pub signals_read_fail : (path : List ℕ) (types : List GType) (names : TypeNames) (t : ℕ) (own : ℕ → List Signal) (d : Data) (list : Items) (e : ReadError)
+    → entries_at path d (codes "signals") ≡ Ok list
+    → Fails e (each (at_entry (λ entry. signal_at entry types names t) (under path (codes "signals"))) 0 own list)
+    → Fails e (signals_at path types names t own d)
+unfolding signals_at
+signals_read_fail path types names t own d list e read fails =
+    fails_as e _ _ (ap (λ (r : Result Items Refusal). r >>= λ list. each (at_entry (λ entry. signal_at entry types names t) (under path (codes "signals"))) 0 own list) read) fails
+
+pub params_read_fail : (path : List ℕ) (types : List GType) (names : TypeNames) (d : Data) (list : Items) (e : ReadError)
+    → entries_at path d (codes "params") ≡ Ok list
+    → Fails e (each (at_entry (λ entry. param_at entry types names) (under path (codes "params"))) 0 [] list)
+    → Fails e (params_at path types names d)
+unfolding params_at
+params_read_fail path types names d list e read fails =
+    fails_as e _ _ (ap (λ (r : Result Items Refusal). r >>= λ list. each (at_entry (λ entry. param_at entry types names) (under path (codes "params"))) 0 [] list) read) fails

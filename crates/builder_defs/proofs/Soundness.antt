@@ -1,6 +1,6 @@
 -- All properties of a definition that was read are plain.
-use Rattle.std.proofs.Common.{◌≡◌, ◌≤◌, ◌<◌, ℕ, codes, zero, suc, ◌+◌, ℤ, ◌≤ℤ◌, int_lt, Bool, true, false, cond, option_map, not, ◌&&◌, nat_eq, nat_le, arith, map, if◌then◌else◌, List, [], ◌∷◌, ◌++◌, length, reverse, slice_get, Option, Some, None, Result, Ok, Err, refl, sym, ap, ◌∙◌, subst}
-use Rattle.std.specs.List.{flat_map}
+use Rattle.std.proofs.Common.{◌≡◌, ◌≤◌, ◌<◌, ℕ, codes, zero, suc, ◌+◌, ℤ, ◌≤ℤ◌, int_lt, Bool, true, false, cond, option_map, not, ◌&&◌, nat_eq, nat_le, arith, map, if◌then◌else◌, List, [], ◌∷◌, ◌++◌, length, reverse, slice_get, Option, Some, None, IfSome, Result, Ok, Err, refl, sym, ap, ◌∙◌, subst}
+use Rattle.std.specs.List.{flat_map, AllByRecursion}
 use Rattle.std.proofs.lemmas.List.{length_push, length-map}
 use Rattle.std.proofs.lemmas.Bool.Decides.{nat_tests}
 use Rattle.ui_machine.specs.Definition.Places.{Place}
@@ -16,12 +16,13 @@ use Rattle.ui_machine.specs.Definition.Properties.{Spec}
 use Rattle.ui_machine.specs.Definition.Signals.{Signal}
 use Rattle.ui_machine.specs.Words.{notify}
 use Rattle.signal_core.specs.Sources.{declared_of, sources_of}
-use Rattle.signal_core.specs.Sources as tables
+use Rattle.signal_core.specs.Sources as declared
+use Rattle.signal_core.specs.Table.{canonical_signal}
 use Rattle.std.specs.Str.{bytes_eq}
 use Rattle.ui_machine.specs.Definition.Kinds as kinds
 use Rattle.ui_machine.specs.Rules.Ancestry.{lineage}
 use Rattle.ui_machine.specs.Rules.Validation.{is_valid}
-use Rattle.serde_json.specs.Find.{get}
+use Rattle.serde_json.specs.Find.{get, as_str}
 use Rattle.g_values.specs.View.{is_whole_kind}
 use Rattle.g_values.specs.Reading.{whole_number, number_between}
 use Rattle.g_values.specs.declared.error.JsonFault.TheVariants.{OutOfRange}
@@ -30,7 +31,7 @@ use Rattle.param_specs.specs.declared.error.SpecFault.{SpecFault}
 use Rattle.param_specs.specs.declared.error.SpecFault.TheVariants.{DefaultInvalid}
 use Rattle.param_specs.specs.Table.{own_of, specs_of, install_fault, canonical_spec}
 use Rattle.ui_machine.specs.declared.limits.Limits.{Limits}
-use Rattle.builder_defs.specs.Meaning.{Entry, plain_object, IsPlain, IsPlainKind, AreLimits, ArePlain, HasKnownKinds, HaveKnownKinds, IsSound}
+use Rattle.builder_defs.specs.Meaning.{Entry, plain_object, IsPlain, IsPlainKind, AreLimits, ArePlain, IsKnownKind, HasKnownKinds, HaveKnownKinds, IsSound}
 use Rattle.builder_defs.specs.Refusals.{Refusal, shape, unknown, not_installed, limit, or_refused, or_value_fault}
 use Rattle.builder_defs.specs.declared.fault.DefinitionLimit.TheVariants.{Places, Objects}
 use Rattle.ui_machine.specs.Outcome.{◌>>=◌}
@@ -42,7 +43,9 @@ use Rattle.builder_defs.specs.Denoted.Ranges.{Range, whole_range, end_given, end
 use Rattle.builder_defs.specs.Denoted.Defaults.{default_at, check_default, check_unranged}
 use Rattle.builder_defs.specs.Denoted.Properties.{specs_by, inherited_by, property_spec, room_for_property, new_property, weak_at, keys_of_property, valued_at, spec_at, add_own, installed_or, installed, property_at}
 use Rattle.builder_defs.specs.Denoted.Types.{room_for_type, new_type_name}
-use Rattle.builder_defs.specs.Denoted.Drafts.{Draft, draft_of, bare_draft, properties_at, type_at}
+use Rattle.builder_defs.specs.Denoted.Signals.{signals_by, count_by, param_at, params_at, some_kind, result_called, result_or, result_at, accumulator_at, room_for_signal, new_signal, keys_of_signal, signal_of_entry, add_signal, signal_at, signals_at}
+use Rattle.builder_defs.specs.Denoted.Signals as signals
+use Rattle.builder_defs.specs.Denoted.Drafts.{Draft, draft_of, bare_draft, properties_at, given_at, type_at}
 use Rattle.builder_defs.specs.Denoted.Implements.{implements_at}
 use Rattle.builder_defs.specs.Denoted.Interfaces.{requires_at, interface_type_at, keys_of_interface, interface_at}
 use Rattle.builder_defs.specs.Denoted.Classes.{parent_at, parent_ahead, check_depth, keys_of_class, declared_at, answering_at, class_at}
@@ -51,7 +54,7 @@ use Rattle.builder_defs.specs.Denoted.Objects.{Scope, room_for_object, new_id, c
 use Rattle.builder_defs.specs.Denoted.Given.{givens_at}
 use Rattle.builder_defs.specs.Denoted.{unset_before_classes, unset_before_objects, enums_in, flags_in, interfaces_in, classes_in, draft_in, scope_with, objects_in}
 use Rattle.builder_defs.proofs.Installing.{specs_of-is}
-use Rattle.builder_defs.proofs.LaterTypes.{plain_later}
+use Rattle.builder_defs.proofs.LaterTypes.{plain_later, known_later}
 
 -- what is so of what was read, if it was
 abbrev pub OnRead : {A : Type 0} → (A → Type 0) → Result A Refusal → Type 0
@@ -91,17 +94,8 @@ plain_get types (x ∷ ss) (suc i) s p h = plain_get types ss i s p.1 h
 
 -- ** what is read
 
--- a kind that there is so far, among these types
-abbrev pub IsOpen : List GType → Kind → Type 0
-IsOpen types kinds.bool = Unit {0}
-IsOpen types (kinds.whole k) = Unit {0}
-IsOpen types kinds.text = Unit {0}
-IsOpen types (kinds.enum t) = sort_of types t ≡ sorts.enum
-IsOpen types (kinds.flags t) = sort_of types t ≡ sorts.flags
-IsOpen types (kinds.object t) = Unit {0}
-
 named_open : (types : List GType) (r : Refusal) (u v w x y z : Bool)
-    → OnRead (IsOpen types) (or_refused r
+    → OnRead (IsKnownKind types) (or_refused r
     (if u then Some kinds.bool else (if v then Some (kinds.whole kinds.int) else (if w then Some (kinds.whole kinds.uint) else
     (if x then Some (kinds.whole kinds.int64) else (if y then Some (kinds.whole kinds.uint64) else (if z then Some kinds.text else None)))))))
 named_open types r true v w x y z = tt
@@ -112,32 +106,32 @@ named_open types r false false false false true z = tt
 named_open types r false false false false false true = tt
 named_open types r false false false false false false = tt
 
-of_enum : (types : List GType) (r : Refusal) (found : Option ℕ) → OnRead (IsOpen types) (or_refused r (option_map kinds.enum (of_sort is_enum types found)))
+of_enum : (types : List GType) (r : Refusal) (found : Option ℕ) → OnRead (IsKnownKind types) (or_refused r (option_map kinds.enum (of_sort is_enum types found)))
 of_enum types r None = tt
 of_enum types r (Some t) = by (sort_of types t) refl
   where
-    by : (s : sorts.Sort) → sort_of types t ≡ s → OnRead (IsOpen types) (or_refused r (option_map kinds.enum (cond (is_enum s) (Some t) None)))
+    by : (s : sorts.Sort) → sort_of types t ≡ s → OnRead (IsKnownKind types) (or_refused r (option_map kinds.enum (cond (is_enum s) (Some t) None)))
     by sorts.class e = tt
     by sorts.interface e = tt
     by sorts.enum e = e
     by sorts.flags e = tt
 
-of_flags : (types : List GType) (r : Refusal) (found : Option ℕ) → OnRead (IsOpen types) (or_refused r (option_map kinds.flags (of_sort is_flags types found)))
+of_flags : (types : List GType) (r : Refusal) (found : Option ℕ) → OnRead (IsKnownKind types) (or_refused r (option_map kinds.flags (of_sort is_flags types found)))
 of_flags types r None = tt
 of_flags types r (Some t) = by (sort_of types t) refl
   where
-    by : (s : sorts.Sort) → sort_of types t ≡ s → OnRead (IsOpen types) (or_refused r (option_map kinds.flags (cond (is_flags s) (Some t) None)))
+    by : (s : sorts.Sort) → sort_of types t ≡ s → OnRead (IsKnownKind types) (or_refused r (option_map kinds.flags (cond (is_flags s) (Some t) None)))
     by sorts.class e = tt
     by sorts.interface e = tt
     by sorts.enum e = tt
     by sorts.flags e = e
 
-of_object : (types : List GType) (r : Refusal) (found : Option ℕ) → OnRead (IsOpen types) (or_refused r (option_map kinds.object found))
+of_object : (types : List GType) (r : Refusal) (found : Option ℕ) → OnRead (IsKnownKind types) (or_refused r (option_map kinds.object found))
 of_object types r None = tt
 of_object types r (Some t) = tt
 
 typed_open : (path : List ℕ) (types : List GType) (names : TypeNames) (name : List ℕ) (e f o : Bool)
-    → OnRead (IsOpen types) (if e then or_refused (unknown path name) (option_map kinds.enum (enum_named types name)) else
+    → OnRead (IsKnownKind types) (if e then or_refused (unknown path name) (option_map kinds.enum (enum_named types name)) else
     (if f then or_refused (unknown path name) (option_map kinds.flags (flags_named types name)) else
     (if o then or_refused (unknown path name) (option_map kinds.object (object_type types names name)) else Err (shape path))))
 typed_open path types names name true f o = of_enum types (unknown path name) (find_type types name)
@@ -145,16 +139,16 @@ typed_open path types names name false true o = of_flags types (unknown path nam
 typed_open path types names name false false true = of_object types (unknown path name) (object_type types names name)
 typed_open path types names name false false false = tt
 
-word_open : (path : List ℕ) (types : List GType) (names : TypeNames) (word : List ℕ) (parts : Option (List ℕ × List ℕ)) → OnRead (IsOpen types) (kind_by path types names word parts)
+word_open : (path : List ℕ) (types : List GType) (names : TypeNames) (word : List ℕ) (parts : Option (List ℕ × List ℕ)) → OnRead (IsKnownKind types) (kind_by path types names word parts)
 word_open path types names word None =
     named_open types _ (bytes_eq word (codes "bool")) (bytes_eq word (codes "int")) (bytes_eq word (codes "uint"))
     (bytes_eq word (codes "int64")) (bytes_eq word (codes "uint64")) (bytes_eq word (codes "text"))
 word_open path types names word (Some parts) =
     typed_open path types names parts.1 (bytes_eq parts.0 (codes "enum")) (bytes_eq parts.0 (codes "flags")) (bytes_eq parts.0 (codes "object"))
 
-pub kind_open : (path : List ℕ) (types : List GType) (names : TypeNames) (d : Data) → OnRead (IsOpen types) (kind_at path types names d)
+pub kind_open : (path : List ℕ) (types : List GType) (names : TypeNames) (d : Data) → OnRead (IsKnownKind types) (kind_at path types names d)
 kind_open path types names d =
-    on_bind (λ x. Unit {0}) (IsOpen types) (text_at path d (codes "kind")) (λ word. kind_by (under path (codes "kind")) types names word (parted word)) (on_all _)
+    on_bind (λ x. Unit {0}) (IsKnownKind types) (text_at path d (codes "kind")) (λ word. kind_by (under path (codes "kind")) types names word (parted word)) (on_all _)
     λ word u. word_open (under path (codes "kind")) types names word (parted word)
 
 -- ** ranges
@@ -215,7 +209,7 @@ default_plain path types s kind = by (is_valid (λ id. None) types s s.default) 
     by true is = record { kind = kind; default = is }
     by false is = tt
 
-whole_within : (types : List GType) (kind : Kind) (s : Spec) → IsOpen types kind → IsOf kind s.low → IsOf kind s.high → IsPlainKind types kind s
+whole_within : (types : List GType) (kind : Kind) (s : Spec) → IsKnownKind types kind → IsOf kind s.low → IsOf kind s.high → IsPlainKind types kind s
 whole_within types kinds.bool s known low high = tt
 whole_within types (kinds.whole k) s known low high = (low.0, low.1, high.0, high.1)
 whole_within types kinds.text s known low high = tt
@@ -223,7 +217,7 @@ whole_within types (kinds.enum t) s known low high = known
 whole_within types (kinds.flags t) s known low high = known
 whole_within types (kinds.object t) s known low high = tt
 
-valued_plain : (path : List ℕ) (types : List GType) (name : List ℕ) (kind : Kind) (flags : ℕ) (d : Data) → IsOpen types kind → OnRead (IsPlain types) (valued_at path types name kind flags d)
+valued_plain : (path : List ℕ) (types : List GType) (name : List ℕ) (kind : Kind) (flags : ℕ) (d : Data) → IsKnownKind types kind → OnRead (IsPlain types) (valued_at path types name kind flags d)
 unfolding valued_at
 valued_plain path types name kind flags d known =
     on_bind (λ x. Unit {0}) (IsPlain types) (default_at path types kind d) _ (on_all _) λ default u.
@@ -262,7 +256,7 @@ spec_plain path types names inherited specs d =
     on_bind (λ x. Unit {0}) (IsPlain types) (room_for_property specs) _ (on_all _) λ room u.
     on_bind (λ x. Unit {0}) (IsPlain types) (text_at path d (codes "name")) _ (on_all _) λ name u.
     on_bind (λ x. Unit {0}) (IsPlain types) (new_property (under path (codes "name")) inherited specs name) _ (on_all _) λ new u.
-    on_bind (IsOpen types) (IsPlain types) (kind_at path types names d) _ (kind_open path types names d) λ kind known.
+    on_bind (IsKnownKind types) (IsPlain types) (kind_at path types names d) _ (kind_open path types names d) λ kind known.
     on_bind (λ x. Unit {0}) (IsPlain types) (flags_at path d) _ (on_all _) λ flags u.
     on_bind (IsPlain types) (IsPlain types) (valued_at path types name kind flags d) _ (valued_plain path types name kind flags d known) λ spec plain.
     on_bind (λ x. Unit {0}) (IsPlain types) (weak_at path kind d) _ (on_all _) λ weak u.
@@ -294,7 +288,7 @@ one_more_declared path first list names draft d =
     on_bind (λ x. Unit {0}) (IsOneMore draft.types) (new_type_name (under path (codes "name")) first draft.types name) _ (on_all _) λ new u.
     on_bind (λ x. Unit {0}) (IsOneMore draft.types) (parent_at path list draft.types d) _ (on_all _) λ parent u.
     on_bind (λ x. Unit {0}) (IsOneMore draft.types) (classes.flags_at path d) _ (on_all _) λ flags u.
-    on_bind (λ x. Unit {0}) (IsOneMore draft.types) (implements_at path draft.types names draft.own parent d) _ (on_all _) λ interfaces u.
+    on_bind (λ x. Unit {0}) (IsOneMore draft.types) (implements_at path names draft parent d) _ (on_all _) λ interfaces u.
     (class_type name parent flags interfaces, refl)
 
 one_more_interface : (path : List ℕ) (first : ℕ) (interfaces classes : Items) (types : List GType) (d : Data) → OnRead (IsOneMore types) (interface_type_at path first interfaces classes types d)
@@ -305,6 +299,23 @@ one_more_interface path first interfaces classes types d =
     on_bind (λ x. Unit {0}) (IsOneMore types) (new_type_name (under path (codes "name")) first types name) _ (on_all _) λ new u.
     on_bind (λ x. Unit {0}) (IsOneMore types) (requires_at path interfaces classes types d) _ (on_all _) λ required u.
     (interface_type name required, refl)
+
+more_within : (types all : List GType) (t : ℕ) → IsOneMore types all → t ≡ length types → t < length all
+more_within types all t more at =
+    let one = length_push types more.0 in
+    let same = ap length more.1 in
+    omega (arith, at, one, same)
+
+-- the type that an entry declares is there
+pub within_declared : (path : List ℕ) (first : ℕ) (list : Items) (names : TypeNames) (draft : Draft) (d : Data) (all : List GType) (t : ℕ)
+    → declared_at path first list names draft d ≡ Ok all → t ≡ length draft.types → t < length all
+within_declared path first list names draft d all t e at =
+    more_within draft.types all t (subst (OnRead (IsOneMore draft.types)) e (one_more_declared path first list names draft d)) at
+
+pub within_interface : (path : List ℕ) (first : ℕ) (interfaces classes : Items) (types : List GType) (d : Data) (all : List GType) (t : ℕ)
+    → interface_type_at path first interfaces classes types d ≡ Ok all → t ≡ length types → t < length all
+within_interface path first interfaces classes types d all t e at =
+    more_within types all t (subst (OnRead (IsOneMore types)) e (one_more_interface path first interfaces classes types d)) at
 
 plain_longer : (types all : List GType) → IsOneMore types all → (ss : List Spec) → AllPlain types ss → AllPlain all ss
 plain_longer types all more [] p = tt
@@ -334,8 +345,123 @@ properties_plain path types names t own d all =
     on_bind (λ x. Unit {0}) (AllOwn types) (entries_at path d (codes "properties")) _ (on_all _) λ list u.
     on_each (AllOwn types) (at_entry (λ entry. property_at entry types names t) (under path (codes "properties"))) (λ i own d all. property_plain (nth (under path (codes "properties")) i) types names t own d all) 0 own list all
 
-abbrev pub PlainDraft : Draft → Type 0
-PlainDraft draft = AllOwn draft.types draft.own
+-- ** signals
+
+-- all signals of a list have known kinds
+abbrev pub AllKnown : List GType → List Signal → Type 0
+AllKnown types ss = AllByRecursion (HasKnownKinds types) ss
+
+abbrev pub AllSignals : List GType → (ℕ → List Signal) → Type 0
+AllSignals types own = (t : ℕ) → AllKnown types (own t)
+
+-- all that is so of each of two lists is so of both
+both_all : {A : Type 0} (P : A → Type 0) (xs ys : List A) → AllByRecursion P xs → AllByRecursion P ys → AllByRecursion P (xs ++ ys)
+both_all P [] ys p q = q
+both_all P (x ∷ xs) ys p q = (p.0, both_all P xs ys p.1 q)
+
+flat_all : {A : Type 0} (P : A → Type 0) (own : ℕ → List A) → ((t : ℕ) → AllByRecursion P (own t)) → (ts : List ℕ) → AllByRecursion P (flat_map own ts)
+flat_all P own all [] = tt
+flat_all P own all (t ∷ ts) = both_all P (own t) (flat_map own ts) (all t) (flat_all P own all ts)
+
+all_get : {A : Type 0} (P : A → Type 0) (xs : List A) (i : ℕ) (x : A) → AllByRecursion P xs → slice_get xs i ≡ Some x → P x
+all_get P [] i x p h = absurd (cc)
+all_get P (y ∷ ys) zero x p h = let e : y ≡ x = cc in subst P e p.0
+all_get P (y ∷ ys) (suc i) x p h = all_get P ys i x p.1 h
+
+all_map : {A : Type 0} (P Q : A → Type 0) → ((x : A) → P x → Q x) → (xs : List A) → AllByRecursion P xs → AllByRecursion Q xs
+all_map P Q f [] p = tt
+all_map P Q f (x ∷ xs) p = (f x p.0, all_map P Q f xs p.1)
+
+some_map : {A : Type 0} (P Q : A → Type 0) → ((x : A) → P x → Q x) → (o : Option A) → IfSome o P → IfSome o Q
+some_map P Q f None p = tt
+some_map P Q f (Some x) p = f x p
+
+param_known : (path : List ℕ) (types : List GType) (names : TypeNames) (ks : List Kind) (d : Data) → AllByRecursion (IsKnownKind types) ks
+    → OnRead (AllByRecursion (IsKnownKind types)) (param_at path types names ks d)
+unfolding param_at
+param_known path types names ks d all =
+    on_bind (λ x. Unit {0}) (AllByRecursion (IsKnownKind types)) (or_refused (shape path) (as_str d)) _ (on_all _) λ word u.
+    on_bind (IsKnownKind types) (AllByRecursion (IsKnownKind types)) (kind_by path types names word (parted word)) _ (word_open path types names word (parted word)) λ kind known.
+    both_all (IsKnownKind types) ks (kind ∷ []) all (known, tt)
+
+params_known : (path : List ℕ) (types : List GType) (names : TypeNames) (d : Data) → OnRead (AllByRecursion (IsKnownKind types)) (params_at path types names d)
+unfolding params_at
+params_known path types names d =
+    on_bind (λ x. Unit {0}) (AllByRecursion (IsKnownKind types)) (entries_at path d (codes "params")) _ (on_all _) λ list u.
+    on_each (AllByRecursion (IsKnownKind types)) (at_entry (λ entry. param_at entry types names) (under path (codes "params")))
+    (λ i ks e all. param_known (nth (under path (codes "params")) i) types names ks e all) 0 [] list tt
+
+-- the kind of a result, if there is one, is known
+abbrev pub IsKnownResult : List GType → Option Kind → Type 0
+IsKnownResult types result = IfSome result (IsKnownKind types)
+
+result_known : (path : List ℕ) (types : List GType) (names : TypeNames) (d : Option Data) → OnRead (IsKnownResult types) (result_or path types names d)
+unfolding result_called some_kind
+result_known path types names None = tt
+result_known path types names (Some d) =
+    on_bind (λ x. Unit {0}) (IsKnownResult types) (or_refused (shape path) (as_str d)) _ (on_all _) λ word u. by word (bytes_eq word (codes "none"))
+  where
+    by : (word : List ℕ) (b : Bool) → OnRead (IsKnownResult types) (if b then Ok None else some_kind path types names word)
+    by word true = tt
+    by word false =
+        on_bind (IsKnownKind types) (IsKnownResult types) (kind_by path types names word (parted word)) _ (word_open path types names word (parted word)) λ kind known. known
+
+entry_known : (path : List ℕ) (types : List GType) (names : TypeNames) (t count : ℕ) (has : List Signal) (d : Data)
+    → OnRead (HasKnownKinds types) (signal_of_entry path types names t count has d)
+unfolding signal_of_entry
+entry_known path types names t count has d =
+    on_bind (λ x. Unit {0}) (HasKnownKinds types) (members_at path d) _ (on_all _) λ ms u.
+    on_bind (λ x. Unit {0}) (HasKnownKinds types) (room_for_signal count) _ (on_all _) λ room u.
+    on_bind (λ x. Unit {0}) (HasKnownKinds types) (text_at path d (codes "name")) _ (on_all _) λ name u.
+    on_bind (λ x. Unit {0}) (HasKnownKinds types) (new_signal (under path (codes "name")) (sort_of types t) has name) _ (on_all _) λ new u.
+    on_bind (AllByRecursion (IsKnownKind types)) (HasKnownKinds types) (params_at path types names d) _ (params_known path types names d) λ params known.
+    on_bind (IsKnownResult types) (HasKnownKinds types) (result_at path types names d) _ (result_known (under path (codes "result")) types names (get (codes "result") d)) λ result fine.
+    on_bind (λ x. Unit {0}) (HasKnownKinds types) (signals.flags_at path d) _ (on_all _) λ flags u.
+    on_bind (λ x. Unit {0}) (HasKnownKinds types) (accumulator_at path result d) _ (on_all _) λ accumulator u.
+    on_bind (λ x. Unit {0}) (HasKnownKinds types) (only_at path ms keys_of_signal) _ (on_all _) λ only u. record { params = known; result = fine }
+
+added_known : (types : List GType) (own : ℕ → List Signal) (t : ℕ) (s : Signal) → AllSignals types own → HasKnownKinds types s → AllSignals types (add_signal own t s)
+added_known types own t s all known u = by (nat_eq u t)
+  where
+    by : (b : Bool) → AllKnown types (if b then own u ++ s ∷ [] else own u)
+    by true = both_all (HasKnownKinds types) (own u) (s ∷ []) (all u) (known, tt)
+    by false = all u
+
+signal_known : (path : List ℕ) (types : List GType) (names : TypeNames) (t : ℕ) (own : ℕ → List Signal) (d : Data) → AllSignals types own → OnRead (AllSignals types) (signal_at path types names t own d)
+unfolding signal_at
+signal_known path types names t own d all =
+    on_bind (HasKnownKinds types) (AllSignals types) (signal_of_entry path types names t (count_by types own t) (signals_by types own t) d) _
+    (entry_known path types names t (count_by types own t) (signals_by types own t) d)
+    λ s known. added_known types own t (canonical_signal s) all (record { params = known.params; result = known.result })
+
+signals_known : (path : List ℕ) (types : List GType) (names : TypeNames) (t : ℕ) (own : ℕ → List Signal) (d : Data) → AllSignals types own → OnRead (AllSignals types) (signals_at path types names t own d)
+unfolding signals_at
+signals_known path types names t own d all =
+    on_bind (λ x. Unit {0}) (AllSignals types) (entries_at path d (codes "signals")) _ (on_all _) λ list u.
+    on_each (AllSignals types) (at_entry (λ entry. signal_at entry types names t) (under path (codes "signals"))) (λ i own e all. signal_known (nth (under path (codes "signals")) i) types names t own e all) 0 own list all
+
+signal_later : (types all : List GType) → IsOneMore types all → (s : Signal) → HasKnownKinds types s → HasKnownKinds all s
+signal_later types all more s known =
+    let later : (k : Kind) → IsKnownKind types k → IsKnownKind all k = λ k h. subst (λ ts. IsKnownKind ts k) (sym more.1) (known_later types more.0 k h) in
+    record {
+      params = all_map (IsKnownKind types) (IsKnownKind all) later s.params known.params;
+      result = some_map (IsKnownKind types) (IsKnownKind all) later s.result known.result;
+    }
+
+-- ** drafts
+
+-- what is so of a draft: its properties are plain, and its signals have known kinds
+pub record PlainDraft (draft : Draft) : Type 0 where
+  pub plain : AllOwn draft.types draft.own
+  pub known : AllSignals draft.types draft.signals
+
+given_plain : (path : List ℕ) (types : List GType) (names : TypeNames) (t : ℕ) (own : ℕ → List Spec) (signals : ℕ → List Signal) (d : Data)
+    → AllOwn types own → AllSignals types signals → OnRead PlainDraft (given_at path types names t own signals d)
+unfolding given_at
+given_plain path types names t own signals d plain known =
+    on_bind (AllOwn types) PlainDraft (properties_at path types names t own d) _ (properties_plain path types names t own d plain) λ properties p.
+    on_bind (AllSignals types) PlainDraft (signals_at path types names t signals d) _ (signals_known path types names t signals d known) λ all k.
+    record { plain = p; known = k }
 
 type_plain : (path : List ℕ) (keys : List (List ℕ)) (declared : Result (List GType) Refusal) (behind : Result (Unit {0}) Refusal) (names : TypeNames) (draft : Draft) (d : Data)
     → OnRead (IsOneMore draft.types) declared → PlainDraft draft → OnRead PlainDraft (type_at path keys declared behind names draft d)
@@ -343,8 +469,9 @@ unfolding type_at
 type_plain path keys declared behind names draft d one_more all =
     on_bind (λ x. Unit {0}) PlainDraft (members_at path d) _ (on_all _) λ ms u.
     on_bind (IsOneMore draft.types) PlainDraft declared _ one_more λ types more.
-    on_bind (AllOwn types) PlainDraft (properties_at path types names (length draft.types) draft.own d) _
-    (properties_plain path types names (length draft.types) draft.own d (λ t. plain_longer draft.types types more (draft.own t) (all t))) λ own plain.
+    on_bind PlainDraft PlainDraft (given_at path types names (length draft.types) draft.own draft.signals d) _
+    (given_plain path types names (length draft.types) draft.own draft.signals d (λ t. plain_longer draft.types types more (draft.own t) (all.plain t))
+    (λ t. all_map (HasKnownKinds draft.types) (HasKnownKinds types) (signal_later draft.types types more) (draft.signals t) (all.known t))) λ given plain.
     on_bind (λ x. Unit {0}) PlainDraft behind _ (on_all _) λ done u.
     on_bind (λ x. Unit {0}) PlainDraft (only_at path ms keys) _ (on_all _) λ only u. plain
 
@@ -354,7 +481,7 @@ class_plain path first list names draft d all =
 
 interface_plain : (path : List ℕ) (first : ℕ) (interfaces classes : Items) (names : TypeNames) (draft : Draft) (d : Data) → PlainDraft draft → OnRead PlainDraft (interface_at path first interfaces classes names draft d)
 interface_plain path first interfaces classes names draft d all =
-    type_plain path keys_of_interface (interface_type_at path first interfaces classes draft.types d) (nothing_at path d (codes "signals" ∷ [])) names draft d
+    type_plain path keys_of_interface (interface_type_at path first interfaces classes draft.types d) (Ok tt) names draft d
     (one_more_interface path first interfaces classes draft.types d) all
 
 interfaces_plain : (names : TypeNames) (types : List GType) (d : Data) → OnRead PlainDraft (interfaces_in names types d)
@@ -362,7 +489,7 @@ unfolding interfaces_in
 interfaces_plain names types d =
     on_bind (λ x. Unit {0}) PlainDraft (entries_at [] d (codes "interfaces")) _ (on_all _) λ list u.
     on_each PlainDraft (at_entry (λ path. interface_at path (length types) list (listed_ahead (codes "classes") d) names) (under [] (codes "interfaces")))
-    (λ i draft e all. interface_plain (nth (under [] (codes "interfaces")) i) (length types) list (listed_ahead (codes "classes") d) names draft e all) 0 (bare_draft types) list (λ t. tt)
+    (λ i draft e all. interface_plain (nth (under [] (codes "interfaces")) i) (length types) list (listed_ahead (codes "classes") d) names draft e all) 0 (bare_draft types) list (record { plain = λ t. tt; known = λ t. tt })
 
 classes_plain : (names : TypeNames) (draft : Draft) (d : Data) → PlainDraft draft → OnRead PlainDraft (classes_in names draft d)
 unfolding classes_in
@@ -447,38 +574,33 @@ objects_few types specs most d =
     (record { placed = omega arith; live = omega arith })
 
 -- the properties of types that were read are plain
-pub plain_read : (types : List GType) (table : List (List Spec)) (d : Data) → draft_in d ≡ Ok (draft_of types table) → ArePlain types table
-plain_read types table d read =
-    let all : AllOwn types (own_of table) = subst (OnRead PlainDraft) read (draft_plain d) in
+pub plain_read : (types : List GType) (table : List (List Spec)) (signals : List (List Signal)) (d : Data) → draft_in d ≡ Ok (draft_of types table signals) → ArePlain types table
+plain_read types table signals d read =
+    let all : PlainDraft (draft_of types table signals) = subst (OnRead PlainDraft) read (draft_plain d) in
     record {
       at = λ t slot s h.
           plain_get types (specs_of types table t) slot s
-          (subst (AllPlain types) (sym (specs_of-is types table t)) (plain_flat types (own_of table) all (reverse (lineage types t)))) h;
+          (subst (AllPlain types) (sym (specs_of-is types table t)) (plain_flat types (own_of table) all.plain (reverse (lineage types t)))) h;
     }
 
--- ** no type has signals but `notify`
-
-none_of : (ts : List ℕ) → flat_map (tables.own_of []) ts ≡ []
-none_of [] = refl
-none_of (t ∷ ts) = none_of ts
-
-no_signals : (types : List GType) → HaveKnownKinds types []
+-- the signals of types that were read have known kinds
+pub kinds_read : (types : List GType) (table : List (List Spec)) (signals : List (List Signal)) (d : Data) → draft_in d ≡ Ok (draft_of types table signals) → HaveKnownKinds types signals
 unfolding declared_of
-no_signals types = record {
-  at = λ t number s h. of number s (ap (λ (ss : List Signal). slice_get (notify ∷ ss) number) (sym (none_of (sources_of types t))) ∙ h);
-}
-  where
-    of : (number : ℕ) (s : Signal) → slice_get (notify ∷ []) number ≡ Some s → HasKnownKinds types s
-    of zero s h = let e : notify ≡ s = cc in subst (HasKnownKinds types) e (record { params = tt; result = tt })
-    of (suc n) s h = absurd (cc)
+kinds_read types table signals d read =
+    let all : PlainDraft (draft_of types table signals) = subst (OnRead PlainDraft) read (draft_plain d) in
+    record {
+      at = λ t number s h.
+          all_get (HasKnownKinds types) (notify ∷ flat_map (declared.own_of signals) (sources_of types t)) number s
+          (record { params = tt; result = tt }, flat_all (HasKnownKinds types) (declared.own_of signals) all.known (sources_of types t)) h;
+    }
 
-pub sound : (types : List GType) (table : List (List Spec)) (os : List Entry) (limits : Limits) (d : Data) → draft_in d ≡ Ok (draft_of types table)
-    → AreLimits limits → objects_in types (specs_by types (own_of table)) limits.objects d ≡ Ok (map plain_object os) → IsSound types table [] os limits
-sound types table os limits d read within objects =
+pub sound : (types : List GType) (table : List (List Spec)) (signals : List (List Signal)) (os : List Entry) (limits : Limits) (d : Data) → draft_in d ≡ Ok (draft_of types table signals)
+    → AreLimits limits → objects_in types (specs_by types (own_of table)) limits.objects d ≡ Ok (map plain_object os) → IsSound types table signals os limits
+sound types table signals os limits d read within objects =
     let few : AreFew limits.objects (map plain_object os) = subst (OnRead (AreFew limits.objects)) objects (objects_few types (specs_by types (own_of table)) limits.objects d) in
     record {
-      plain = plain_read types table d read;
-      kinds = no_signals types;
+      plain = plain_read types table signals d read;
+      kinds = kinds_read types table signals d read;
       declared = within;
       few = omega (arith, few.live, length-map os plain_object);
       places = omega (arith, few.placed, length-map os plain_object);

@@ -1,4 +1,5 @@
--- Why a type is not added or has no objects, and why a property is not installed, given no value or not overridden, with names.
+-- Why a type is not added or has no objects, why a property is not installed, given no value or not overridden, and why a signal is not
+-- declared, with names.
 use Rattle.std.specs.Prelude.{ℕ, List, string_bytes}
 use Rattle.ui_machine.specs.Seq.{read}
 use Rattle.ui_machine.specs.Definition.Types.{GType}
@@ -7,6 +8,7 @@ use Rattle.type_tree.specs.declared.error.TypeLimit.{TypeLimit}
 use Rattle.type_tree.specs.declared.error.TypeFault.{TypeFault}
 use Rattle.type_tree.specs.declared.error.TypeFault.TheVariants as faults
 use Rattle.param_specs.specs.declared.error.SpecFault.{SpecFault}
+use Rattle.signal_core.specs.declared.fault.SignalFault.{SignalFault}
 use Rattle.builder_defs.specs.declared.fault.SpecCause.{SpecCause}
 use Rattle.builder_defs.specs.declared.fault.SpecCause.TheVariants as of_property
 use Rattle.builder_defs.specs.declared.fault.TypeCause.{TypeCause}
@@ -42,12 +44,14 @@ named_cause types (faults.Limit l) = limit l
 
 pub data PropertyCause : Type 0 where
   install : SpecFault → PropertyCause
+  declare : SignalFault → PropertyCause
   not_writable : PropertyCause
   override_missing : (name : List ℕ) → PropertyCause
   override_differs : (name : List ℕ) → PropertyCause
 
 abbrev pub property_cause : SpecCause → PropertyCause
 property_cause (of_property.Install fault) = install fault
+property_cause (of_property.Declare fault) = declare fault
 property_cause of_property.NotWritable = not_writable
 property_cause (of_property.OverrideMissing name) = override_missing (string_bytes name)
 property_cause (of_property.OverrideDiffers name) = override_differs (string_bytes name)

@@ -12,6 +12,7 @@ pub mod Properties
 pub mod Signals
 pub mod Drafts
 pub mod Overrides
+pub mod Brought
 pub mod Implements
 pub mod Interfaces
 pub mod Classes
@@ -58,7 +59,7 @@ keys_of_definition = codes "format" ∷ codes "limits" ∷ codes "enums" ∷ cod
 abbrev pub definition_with : Draft → List machine.Place → Limits → definition.Definition
 definition_with draft places limits = record {
   types = draft.types;
-  classes = listed (λ t. class_with (specs_by draft.types draft.own t) (signals_by draft.types (λ u. []) t)) (length draft.types);
+  classes = listed (λ t. class_with (specs_by draft.types draft.own t) (signals_by draft.types draft.signals t)) (length draft.types);
   shapes = [];
   programs = [];
   places = places;

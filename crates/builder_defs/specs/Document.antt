@@ -23,6 +23,11 @@ abbrev pub located : List ℕ → Option ℕ → List ℕ
 located base None = base
 located base (Some i) = nth base i
 
+-- the path of a member, or the path itself
+abbrev pub at_key : List ℕ → Option (List ℕ) → List ℕ
+at_key path None = path
+at_key path (Some key) = under path key
+
 abbrev pub path_of : Path → List ℕ
 path_of path = located path.base.now path.index
 

@@ -10,8 +10,10 @@ use Rattle.g_values.specs.declared.error.JsonFault.{JsonFault}
 use Rattle.g_values.specs.declared.error.JsonFault.TheVariants as values
 use Rattle.param_specs.specs.declared.error.SpecFault.{SpecFault}
 use Rattle.param_specs.specs.declared.error.SpecFault.TheVariants as specs
+use Rattle.signal_core.specs.declared.fault.SignalFault.{SignalFault}
+use Rattle.signal_core.specs.declared.fault.SignalFault.TheVariants as signals
 use Rattle.builder_defs.specs.declared.fault.DefinitionLimit.{DefinitionLimit}
-use Rattle.builder_defs.specs.declared.fault.DefinitionLimit.TheVariants.{Types, Depth, Properties, Places, Objects, Handlers}
+use Rattle.builder_defs.specs.declared.fault.DefinitionLimit.TheVariants.{Types, Depth, Properties, Signals, Places, Objects, Handlers}
 use Rattle.builder_defs.specs.Refusals.{Refusal, too_long, not_utf8, not_json, shape, unknown, duplicate, bad_type, bad_spec, value_fault, forward_construct_only, limit}
 
 -- ** paths and names
@@ -52,9 +54,17 @@ spec_fault_text specs.RangeEmpty = codes "RangeEmpty"
 spec_fault_text specs.DefaultInvalid = codes "DefaultInvalid"
 spec_fault_text specs.Limit = codes "Limit"
 
--- why it is not installed, given no value or not overridden: the name of the cause and its own fields
+-- why a signal is not declared
+abbrev pub signal_fault_text : SignalFault → List ℕ
+signal_fault_text signals.BadName = codes "BadName"
+signal_fault_text signals.Duplicate = codes "Duplicate"
+signal_fault_text signals.AccumulatorKind = codes "AccumulatorKind"
+signal_fault_text signals.Limit = codes "Limit"
+
+-- why one of them is not there, or a property is given no value or not overridden: the name of the cause and its own fields
 abbrev pub spec_cause_text : PropertyCause → List ℕ
 spec_cause_text (causes.install fault) = spec_fault_text fault
+spec_cause_text (causes.declare fault) = signal_fault_text fault
 spec_cause_text causes.not_writable = codes "NotWritable"
 spec_cause_text (causes.override_missing name) = codes "OverrideMissing " ++ printed name
 spec_cause_text (causes.override_differs name) = codes "OverrideDiffers " ++ printed name
@@ -72,6 +82,7 @@ abbrev pub limit_name : DefinitionLimit → List ℕ
 limit_name Types = codes "types"
 limit_name Depth = codes "depth"
 limit_name Properties = codes "properties"
+limit_name Signals = codes "signals"
 limit_name Places = codes "places"
 limit_name Objects = codes "objects"
 limit_name Handlers = codes "handlers"

@@ -2,7 +2,8 @@
 use Rattle.std.specs.Prelude.{◌≡◌, ℕ, List, Option, None, Some, Result, Ok, Err, string_bytes}
 use Rattle.g_values.specs.declared.error.JsonFault.{JsonFault}
 use Rattle.param_specs.specs.declared.error.SpecFault.{SpecFault}
-use Rattle.builder_defs.specs.Causes.{Cause, cause_view, PropertyCause, install, property_cause}
+use Rattle.signal_core.specs.declared.fault.SignalFault.{SignalFault}
+use Rattle.builder_defs.specs.Causes.{Cause, cause_view, PropertyCause, install, declare, property_cause}
 use Rattle.builder_defs.specs.declared.fault.DefinitionLimit.{DefinitionLimit}
 use Rattle.builder_defs.specs.declared.fault.DefinitionFault.{DefinitionFault}
 use Rattle.builder_defs.specs.declared.fault.DefinitionFault.TheVariants as faults
@@ -25,6 +26,10 @@ pub data Refusal : Type 0 where
 -- a property that is not installed
 abbrev pub not_installed : List ℕ → SpecFault → Refusal
 not_installed path fault = bad_spec path (install fault)
+
+-- a signal that is not declared
+abbrev pub not_declared : List ℕ → SignalFault → Refusal
+not_declared path fault = bad_spec path (declare fault)
 
 -- a fault without where its text lies in memory
 abbrev pub refusal : DefinitionFault → Refusal

@@ -10,7 +10,7 @@ ghost use Rattle.builder_defs.specs.Denoted.Drafts.{draft_of};
 ghost use Rattle.builder_defs.specs.Denoted.Classes.{parent_called, named_parent, parent_at, parent_ahead, check_depth, flags_at, declared_at, answering_at, class_at};
 
 use crate::document::{Entries, Part, bad_shape, path_under, unknown_name};
-use crate::drafts::{Draft, give_properties};
+use crate::drafts::{Draft, give_members};
 use crate::entries::TypeNames;
 use crate::fault::{DefinitionFault, DefinitionLimit, ReadError, TypeCause};
 use crate::implements::read_implements;
@@ -18,6 +18,7 @@ use crate::reads::{Reads, read_each};
 use crate::types::{check_room, check_type_name, is_declared};
 use param_specs::SpecTable;
 use serde_json::Value;
+use signal_core::SignalTable;
 use type_tree::{MOST_DEPTH, TypeFlags, TypeId, TypeTree};
 
 const MEMBERS: [&str; 10] = [
@@ -140,8 +141,9 @@ fn declare(
     names: &TypeNames<'_>,
     types: &mut TypeTree,
     specs: &SpecTable,
+    signals: &SignalTable,
 ) -> Result<TypeId, ReadError>
-    ensures types { Leads result (declared_at (path_of part.entry.path) first (items_view list.now) names.now (draft_of types.old specs.now) (view part.entry.value.now)) types.new }
+    ensures types { Leads result (declared_at (path_of part.entry.path) first (items_view list.now) names.now (draft_of types.old specs.now signals.now.signals) (view part.entry.value.now)) types.new }
     ensures class { IfOk result (λ t. t ≡ length types.old) }
 {
     check_room(types)?;
@@ -150,7 +152,7 @@ fn declare(
     check_type_name(part, first, types, name)?;
     let parent = parent_of(part, list, types)?;
     let flags = flags_of(part)?;
-    let interfaces = read_implements(part, types, names, specs, parent)?;
+    let interfaces = read_implements(part, types, names, specs, signals, parent)?;
     let class = types.append_class(name, parent, flags, interfaces)?;
     Ok(class)
 }
@@ -160,12 +162,12 @@ fn declare(
 fn check_answering(part: Part<'_>) -> Result<(), ReadError>
     ensures { Gives (λ _. tt) result (answering_at (path_of part.entry.path) (view part.entry.value.now)) }
 {
-    part.check_nothing(&["signals", "class-handlers"])?;
+    part.check_nothing(&["class-handlers"])?;
     part.check_absent(&["constructed", "shape"])?;
     Ok(())
 }
 
-// Adds the class of an entry, with its properties.
+// Adds the class of an entry, with its properties and signals.
 #[tactic(auto, unfolding(crate::specs::Denoted::Drafts::type_at))]
 fn read_class(
     part: Part<'_>,
@@ -174,12 +176,13 @@ fn read_class(
     names: &TypeNames<'_>,
     types: &mut TypeTree,
     specs: &mut SpecTable,
+    signals: &mut SignalTable,
 ) -> Result<(), ReadError>
-    ensures { Leads result (class_at (path_of part.entry.path) first (items_view list.now) names.now (draft_of types.old specs.old) (view part.entry.value.now)) (draft_of types.new specs.new) }
+    ensures { Leads result (class_at (path_of part.entry.path) first (items_view list.now) names.now (draft_of types.old specs.old signals.old.signals) (view part.entry.value.now)) (draft_of types.new specs.new signals.new.signals) }
 {
     let members = part.members()?;
-    let class = declare(part, first, list, names, types, specs)?;
-    give_properties(part, types, names, specs, class)?;
+    let class = declare(part, first, list, names, types, specs, signals)?;
+    give_members(part, types, names, specs, signals, class)?;
     check_answering(part)?;
     part.check_only(members, &MEMBERS)?;
     Ok(())
@@ -200,7 +203,7 @@ impl<'a> Reads<Draft> for ClassEntries<'a> {
 
     ghost State = { drafts.Draft };
 
-    ghost seen = { λ draft. drafts.draft_of draft.types draft.specs };
+    ghost seen = { λ draft. drafts.draft_of draft.types draft.specs draft.signals.signals };
 
     ghost known = { λ r. Unit {0} };
 
@@ -214,6 +217,7 @@ impl<'a> Reads<Draft> for ClassEntries<'a> {
             self.names,
             &mut draft.types,
             &mut draft.specs,
+            &mut draft.signals,
         )
     }
 }
@@ -224,7 +228,7 @@ pub(crate) fn read_classes(
     names: &TypeNames<'_>,
     draft: &mut Draft,
 ) -> Result<(), ReadError>
-    ensures { Leads result (each (at_entry (λ path. class_at path (length draft.old.types) (items_view list.entry.items.now) names.now) list.entry.path.now) 0 (draft_of draft.old.types draft.old.specs) (items_view list.entry.items.now)) (draft_of draft.new.types draft.new.specs) }
+    ensures { Leads result (each (at_entry (λ path. class_at path (length draft.old.types) (items_view list.entry.items.now) names.now) list.entry.path.now) 0 (draft_of draft.old.types draft.old.specs draft.old.signals.signals) (items_view list.entry.items.now)) (draft_of draft.new.types draft.new.specs draft.new.signals.signals) }
 {
     let reader = ClassEntries {
         first: draft.types.len(),

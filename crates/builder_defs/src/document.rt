@@ -8,7 +8,7 @@ ghost use Rattle.std.specs.BTreeMap.{keys};
 ghost use Rattle.serde_json.specs.View.{view, items_view, members_view};
 ghost use Rattle.serde_json.specs.Find.{get};
 ghost use Rattle.builder_defs.specs.Refusals.{Gives, IsRefusal, shape, unknown, value_fault};
-ghost use Rattle.builder_defs.specs.Document.{under, nth, path_of, members_at, text_at, truth_at, entries_at, is_absent_or_empty, listed_ahead, nothing_at, absent_at, escaped, only_at, document};
+ghost use Rattle.builder_defs.specs.Document.{under, nth, path_of, at_key, members_at, text_at, truth_at, entries_at, is_absent_or_empty, listed_ahead, nothing_at, absent_at, escaped, only_at, document};
 
 use crate::fault::{DefinitionFault, ReadError};
 use g_values::JsonFault;
@@ -105,6 +105,36 @@ pub(crate) fn unknown_name(part: Part<'_>, key: &str, name: &str) -> Result<Read
     ensures { IsRefusal (unknown (under (path_of part.entry.path) key.now) name.now) result }
 {
     let path = path_under(part.alloc, part.path, key)?;
+    let name = String::from_str(part.alloc, name)?;
+    Ok(ReadError::Refused(DefinitionFault::Unknown(path, name)))
+}
+
+// The path of a member of the value there, or of the value itself.
+fn path_at(alloc: Global, path: Path<'_>, key: Option<&str>) -> Result<String, AllocError>
+    ensures { IfOk result (λ s. string_bytes s ≡ at_key (path_of path.entry) (option_map (λ k. k.now) key.entry)) }
+{
+    match key {
+        Some(key) => path_under(alloc, path, key),
+        None => path_text(alloc, path),
+    }
+}
+
+// A fault of shape at a member, or at the value itself.
+pub(crate) fn bad_shape_at(part: Part<'_>, key: Option<&str>) -> Result<ReadError, ReadError>
+    ensures { IsRefusal (shape (at_key (path_of part.entry.path) (option_map (λ k. k.now) key.entry))) result }
+{
+    Ok(ReadError::Refused(DefinitionFault::Shape(path_at(part.alloc, part.path, key)?)))
+}
+
+// A fault of a name there, which nothing has.
+pub(crate) fn unknown_at(
+    part: Part<'_>,
+    key: Option<&str>,
+    name: &str,
+) -> Result<ReadError, ReadError>
+    ensures { IsRefusal (unknown (at_key (path_of part.entry.path) (option_map (λ k. k.now) key.entry)) name.now) result }
+{
+    let path = path_at(part.alloc, part.path, key)?;
     let name = String::from_str(part.alloc, name)?;
     Ok(ReadError::Refused(DefinitionFault::Unknown(path, name)))
 }

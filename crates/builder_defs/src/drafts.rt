@@ -1,29 +1,34 @@
-//! Types with their properties, while they are read.
+//! Types with their properties and signals, while they are read.
 
-ghost use Rattle.std.specs.Prelude.{◌≡◌, codes};
+ghost use Rattle.std.specs.Prelude.{◌≡◌, ◌<◌, codes, length};
 ghost use Rattle.serde_json.specs.View.{view};
 ghost use Rattle.param_specs.specs.Table.{own_of};
+ghost use Rattle.signal_core.specs.Sources as declared;
 ghost use Rattle.builder_defs.specs.Refusals.{Leads};
 ghost use Rattle.builder_defs.specs.Document.{path_of};
-ghost use Rattle.builder_defs.specs.Denoted.Drafts.{properties_at};
+ghost use Rattle.builder_defs.specs.Denoted.Drafts.{draft_of, properties_at, given_at};
+ghost use Rattle.builder_defs.specs.Denoted.Signals.{signals_at};
 
 use crate::document::{Entries, Part, path_under};
 use crate::entries::TypeNames;
 use crate::fault::ReadError;
 use crate::properties::read_properties;
+use crate::signals::read_signals;
 use param_specs::SpecTable;
+use signal_core::SignalTable;
 use type_tree::{TypeId, TypeTree};
 
-// Types with their properties, while they are read.
+// Types with their properties and signals, while they are read.
 #[derive(Drop)]
 pub(crate) struct Draft {
     pub(crate) types: TypeTree,
     pub(crate) specs: SpecTable,
+    pub(crate) signals: SignalTable,
 }
 
 // Gives a type the properties of its entry.
 #[tactic(auto, unfolding(crate::specs::Denoted::Drafts::properties_at))]
-pub(crate) fn give_properties(
+fn give_properties(
     part: Part<'_>,
     types: &TypeTree,
     names: &TypeNames<'_>,
@@ -40,5 +45,46 @@ pub(crate) fn give_properties(
         items,
     };
     read_properties(list, types, names, specs, t)?;
+    Ok(())
+}
+
+// Gives a type the signals of its entry.
+#[tactic(auto, unfolding(crate::specs::Denoted::Signals::signals_at))]
+fn give_signals(
+    part: Part<'_>,
+    types: &TypeTree,
+    names: &TypeNames<'_>,
+    signals: &mut SignalTable,
+    t: TypeId,
+) -> Result<(), ReadError>
+    requires { t < length types.now }
+    ensures { Leads result (signals_at (path_of part.entry.path) types.now names.now t (declared.own_of signals.old.signals) (view part.entry.value.now)) (declared.own_of signals.new.signals) }
+{
+    let items = part.entries("signals")?;
+    let path = path_under(part.alloc, part.path, "signals")?;
+    let list = Entries {
+        alloc: part.alloc,
+        path: path.as_str(),
+        items,
+    };
+    read_signals(list, types, names, signals, t)?;
+    Ok(())
+}
+
+// Gives a type the properties and the signals of its entry.
+#[tactic(auto, unfolding(crate::specs::Denoted::Drafts::given_at))]
+pub(crate) fn give_members(
+    part: Part<'_>,
+    types: &TypeTree,
+    names: &TypeNames<'_>,
+    specs: &mut SpecTable,
+    signals: &mut SignalTable,
+    t: TypeId,
+) -> Result<(), ReadError>
+    requires { t < length types.now }
+    ensures { Leads result (given_at (path_of part.entry.path) types.now names.now t (own_of specs.old) (declared.own_of signals.old.signals) (view part.entry.value.now)) (draft_of types.now specs.new signals.new.signals) }
+{
+    give_properties(part, types, names, specs, t)?;
+    give_signals(part, types, names, signals, t)?;
     Ok(())
 }

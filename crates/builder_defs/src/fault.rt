@@ -5,6 +5,7 @@ ghost use Rattle.builder_defs.specs.declared.fault.ReadError.TheVariants.{OutOfM
 
 use g_values::JsonFault;
 use param_specs::SpecFault;
+use signal_core::SignalFault;
 use std::alloc::{AllocError, AllocFailed};
 use type_tree::TypeLimit;
 
@@ -17,6 +18,8 @@ pub enum DefinitionLimit {
     Depth,
     /// More than 64 properties of one class, the inherited ones among them.
     Properties,
+    /// More than 64 signals of one class and its ancestors, `notify` and those of interfaces not counted, or of one interface.
+    Signals,
     /// More than 512 places: objects and prototypes.
     Places,
     /// More objects than the definition allows to live at a time, or a limit of them that is not 1 to 4,096.
@@ -44,11 +47,13 @@ pub enum TypeCause {
     Abstract,
 }
 
-/// Why a property is not installed or given no value, or why a class does not have it as its interface has it.
+/// Why a property is not installed or given no value, why a class does not have it as its interface has it, or why a signal is not declared.
 #[derive(Debug, Drop)]
 pub enum SpecCause {
     /// A test of the installation refuses it.
     Install(SpecFault),
+    /// A test of the declaration refuses a signal.
+    Declare(SignalFault),
     /// A value is given to a property that cannot be written.
     NotWritable,
     /// The class does not have its interface's property of this name.
@@ -71,11 +76,12 @@ pub enum DefinitionFault {
     Shape(String),
     /// At the path stands a name that nothing has.
     Unknown(String, String),
-    /// An earlier entry of the section has the name, an ancestor has the property, or the object's property is named already.
+    /// An earlier entry of the section has the name, an ancestor has the property, the object's property is named already, or a signal's name is
+    /// declared more than once among a class, its ancestors and the interfaces that it is.
     Duplicate(String),
     /// A type is not added, or has no objects.
     BadType(String, TypeCause),
-    /// A property is not installed or given no value, or the class does not have it as its interface has it.
+    /// A property is not installed or given no value, the class does not have it as its interface has it, or a signal is not declared.
     BadSpec(String, SpecCause),
     /// At the path stands no value of the kind.
     ValueFault(String, JsonFault),

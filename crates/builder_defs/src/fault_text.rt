@@ -3,11 +3,12 @@
 ghost use Rattle.std.specs.Prelude.{◌≡◌, ◌<◌, ◌++◌, IfOk, OnOk, string_bytes};
 ghost use Rattle.builder_defs.specs.Causes.{cause_view, property_cause};
 ghost use Rattle.builder_defs.specs.Refusals.{refusal};
-ghost use Rattle.builder_defs.specs.FaultText.{hex_digit, printed_byte, printed, type_limit_name, type_cause_text, spec_fault_text, spec_cause_text, value_cause_text, limit_name, refusal_text};
+ghost use Rattle.builder_defs.specs.FaultText.{hex_digit, printed_byte, printed, type_limit_name, type_cause_text, spec_fault_text, signal_fault_text, spec_cause_text, value_cause_text, limit_name, refusal_text};
 
 use crate::fault::{DefinitionFault, DefinitionLimit, SpecCause, TypeCause};
 use g_values::JsonFault;
 use param_specs::SpecFault;
+use signal_core::SignalFault;
 use std::alloc::{AllocError, Global};
 use type_tree::TypeLimit;
 
@@ -69,6 +70,7 @@ fn limit_name(limit: DefinitionLimit) -> &'static str
         DefinitionLimit::Types => "types",
         DefinitionLimit::Depth => "depth",
         DefinitionLimit::Properties => "properties",
+        DefinitionLimit::Signals => "signals",
         DefinitionLimit::Places => "places",
         DefinitionLimit::Objects => "objects",
         DefinitionLimit::Handlers => "handlers",
@@ -120,12 +122,25 @@ fn spec_fault_text(fault: SpecFault) -> &'static str
     }
 }
 
-// Why a property is not installed, given no value or not overridden: the name of the cause and its own fields.
+// Why a signal is not declared.
+fn signal_fault_text(fault: SignalFault) -> &'static str
+    ensures { result.now ≡ signal_fault_text fault }
+{
+    match fault {
+        SignalFault::BadName => "BadName",
+        SignalFault::Duplicate => "Duplicate",
+        SignalFault::AccumulatorKind => "AccumulatorKind",
+        SignalFault::Limit => "Limit",
+    }
+}
+
+// Why one of them is not there, or a property is given no value or not overridden: the name of the cause and its own fields.
 fn spec_cause_text(alloc: Global, cause: &SpecCause) -> Result<String, AllocError>
     ensures { IfOk result (λ text. string_bytes text ≡ spec_cause_text (property_cause cause.now)) }
 {
     match cause {
         SpecCause::Install(fault) => String::from_str(alloc, spec_fault_text(*fault)),
+        SpecCause::Declare(fault) => String::from_str(alloc, signal_fault_text(*fault)),
         SpecCause::NotWritable => String::from_str(alloc, "NotWritable"),
         SpecCause::OverrideMissing(property) => {
             let name = printed(alloc, property.as_str())?;

@@ -1,24 +1,29 @@
 //! The interfaces that a class implements, and the types that are listed by their names.
 
-ghost use Rattle.std.specs.Prelude.{◌≡◌, [], map, nat_eq, Some, OnOk};
+ghost use Rattle.std.specs.Prelude.{◌≡◌, [], ◌∷◌, nat_eq, Some, OnOk};
 ghost use Rattle.std.specs.List.{list_any};
 ghost use Rattle.serde_json.specs.View.{view, items_view};
 ghost use Rattle.serde_json.specs.Find.{as_str};
 ghost use Rattle.type_tree.specs.Adding.{interface_named};
-ghost use Rattle.param_specs.specs.Table.{own_of};
+ghost use Rattle.signal_core.specs.SignalView.{signal_view};
+ghost use Rattle.signal_core.specs.Sources.{signals_of};
 ghost use Rattle.builder_defs.specs.Refusals.{Gives, Leads, IsRefusal, shape, unknown, or_refused};
 ghost use Rattle.builder_defs.specs.Document.{path_of, each, at_entry};
-ghost use Rattle.builder_defs.specs.OverrideView.{own_view, heir_of};
-ghost use Rattle.builder_defs.specs.Denoted.Implements.{type_with, named_at, check_prerequisites, check_overrides, implemented_once, implemented_at, implements_listed, implements_at, interface_at_entry};
+ghost use Rattle.builder_defs.specs.OverrideView.{heir_of, names_of};
+ghost use Rattle.builder_defs.specs.Denoted.Brought.{is_brought, is_again};
+ghost use Rattle.builder_defs.specs.Denoted.Drafts.{draft_of};
+ghost use Rattle.builder_defs.specs.Denoted.Implements.{type_with, named_at, brings_again, check_brought, check_prerequisites, check_overrides, implemented_once, implemented_at, implements_listed, implements_at, interface_at_entry};
 
 use crate::document::{Entries, Part, path_text, path_under};
 use crate::entries::TypeNames;
 use crate::fault::{DefinitionFault, ReadError, TypeCause};
 use crate::overrides::{Heir, read_own};
+use crate::own_signals::{has_own_signal, read_own_signals};
 use crate::reads::{Reads, read_each};
 use crate::types::type_name;
 use param_specs::SpecTable;
 use serde_json::Value;
+use signal_core::{Signal, SignalTable};
 use std::alloc::AllocError;
 use type_tree::{TypeId, TypeTree};
 
@@ -140,6 +145,58 @@ fn check_overrides(part: Part<'_>, heir: &Heir<'_>, interface: TypeId) -> Result
     }
 }
 
+// Whether one of some types has a signal of a name.
+fn is_brought(types: &TypeTree, signals: &SignalTable, ts: &[TypeId], name: &str) -> bool
+    ensures { result ≡ is_brought (signals_of types.now signals.now.signals) ts.now name.now }
+{
+    ts.iter().any(|t| signals.find(types, *t, name).is_some())
+}
+
+// Whether a signal of an interface has the name of one that the class's parent or one of some interfaces has.
+fn is_again(heir: &Heir<'_>, implemented: &[TypeId], signal: &Signal) -> bool
+    ensures { result ≡ is_again (signals_of heir.now.types.now heir.now.signals.now.signals) (names_of heir.now.own_signals.now.entries) (heir.now.parent ∷ implemented.now) (signal_view signal.now) }
+{
+    let name = signal.name.as_str();
+    !has_own_signal(heir.own_signals, name)
+        && (heir.signals.find(heir.types, heir.parent, name).is_some()
+            || is_brought(heir.types, heir.signals, implemented, name))
+}
+
+// The same of one of some signals.
+fn any_again(heir: &Heir<'_>, implemented: &[TypeId], signals: &[Signal]) -> bool
+    ensures { result ≡ list_any (λ s. is_again (signals_of heir.now.types.now heir.now.signals.now.signals) (names_of heir.now.own_signals.now.entries) (heir.now.parent ∷ implemented.now) (signal_view s)) signals.now }
+{
+    signals
+        .iter()
+        .any(|signal| is_again(heir, implemented, signal))
+}
+
+// Whether an interface brings a signal again.
+fn brings_again(heir: &Heir<'_>, implemented: &[TypeId], interface: TypeId) -> bool
+    ensures { result ≡ brings_again (heir_of heir.now) interface implemented.now }
+{
+    any_again(heir, implemented, heir.signals.own(interface))
+}
+
+// Tests that an interface brings no signal that is there already. One that an ancestor implements brings nothing.
+fn check_brought(
+    part: Part<'_>,
+    heir: &Heir<'_>,
+    interface: TypeId,
+    implemented: &[TypeId],
+) -> Result<(), ReadError>
+    ensures { Gives (λ _. tt) result (check_brought (path_of part.entry.path) (heir_of heir.now) interface implemented.now) }
+{
+    if heir.types.is_a(heir.parent, interface) {
+        return Ok(());
+    }
+    if brings_again(heir, implemented, interface) {
+        let path = path_text(part.alloc, part.path)?;
+        return Err(ReadError::Refused(DefinitionFault::Duplicate(path)));
+    }
+    Ok(())
+}
+
 // Adds an interface to those before, unless it is among them.
 #[tactic(auto, unfolding(crate::specs::Denoted::Implements::newly_implemented))]
 fn implement(
@@ -153,6 +210,7 @@ fn implement(
     if is_listed(implemented.as_slice(), interface) {
         return Ok(());
     }
+    check_brought(part, heir, interface, implemented.as_slice())?;
     check_prerequisites(part, heir, interface)?;
     check_overrides(part, heir, interface)?;
     implemented.push(interface)?;
@@ -190,16 +248,17 @@ fn read_heir(list: Entries<'_>, heir: &Heir<'_>) -> Result<Vec<TypeId>, ReadErro
 }
 
 // The interfaces of these entries, which a class of this parent implements.
-#[tactic(auto, unfolding(crate::specs::Denoted::Implements::implements_listed))]
+#[tactic(auto, unfolding(crate::specs::Denoted::Implements::implements_listed, crate::specs::Denoted::Implements::heir_at))]
 fn read_listed(
     part: Part<'_>,
     types: &TypeTree,
     names: &TypeNames<'_>,
     specs: &SpecTable,
+    signals: &SignalTable,
     parent: TypeId,
     items: &[Value],
 ) -> Result<Vec<TypeId>, ReadError>
-    ensures { Gives (λ v. v.items) result (implements_listed (path_of part.entry.path) types.now names.now (own_of specs.now) parent (view part.entry.value.now) (items_view items.now)) }
+    ensures { Gives (λ v. v.items) result (implements_listed (path_of part.entry.path) names.now (draft_of types.now specs.now signals.now.signals) parent (view part.entry.value.now) (items_view items.now)) }
 {
     let path = path_under(part.alloc, part.path, "implements")?;
     let list = Entries {
@@ -209,12 +268,15 @@ fn read_listed(
     };
     let named = read_named(list, types)?;
     let own = read_own(part, types, names, specs, parent)?;
+    let own_signals = read_own_signals(part)?;
     let heir = Heir {
         types,
         specs,
+        signals,
         parent,
         named: named.as_slice(),
         own: &own,
+        own_signals: &own_signals,
     };
     let implemented = read_heir(list, &heir)?;
     Ok(implemented)
@@ -227,14 +289,15 @@ pub(crate) fn read_implements(
     types: &TypeTree,
     names: &TypeNames<'_>,
     specs: &SpecTable,
+    signals: &SignalTable,
     parent: TypeId,
 ) -> Result<Vec<TypeId>, ReadError>
-    ensures { Gives (λ v. v.items) result (implements_at (path_of part.entry.path) types.now names.now (own_of specs.now) parent (view part.entry.value.now)) }
+    ensures { Gives (λ v. v.items) result (implements_at (path_of part.entry.path) names.now (draft_of types.now specs.now signals.now.signals) parent (view part.entry.value.now)) }
 {
     let items = part.entries("implements")?;
     if items.is_empty() {
         return Ok(Vec::new(part.alloc));
     }
-    let implemented = read_listed(part, types, names, specs, parent, items)?;
+    let implemented = read_listed(part, types, names, specs, signals, parent, items)?;
     Ok(implemented)
 }

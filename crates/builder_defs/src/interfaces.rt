@@ -11,7 +11,7 @@ ghost use Rattle.builder_defs.specs.Denoted.Drafts.{draft_of};
 ghost use Rattle.builder_defs.specs.Denoted.Interfaces.{required_or, required_at, requires_at, interface_type_at, interface_at};
 
 use crate::document::{Entries, Part, path_text, path_under};
-use crate::drafts::{Draft, give_properties};
+use crate::drafts::{Draft, give_members};
 use crate::entries::TypeNames;
 use crate::fault::{DefinitionFault, ReadError, TypeCause};
 use crate::implements::{add_type, entry_name, unknown_entry};
@@ -19,6 +19,7 @@ use crate::reads::{Reads, read_each};
 use crate::types::{check_room, check_type_name, is_declared};
 use param_specs::SpecTable;
 use serde_json::Value;
+use signal_core::SignalTable;
 use type_tree::{TypeId, TypeTree};
 
 const MEMBERS: [&str; 4] = ["name", "requires", "properties", "signals"];
@@ -134,7 +135,7 @@ fn declare(
     Ok(interface)
 }
 
-// Adds the interface of an entry, with its properties.
+// Adds the interface of an entry, with its properties and signals.
 #[tactic(auto, unfolding(crate::specs::Denoted::Drafts::type_at))]
 fn read_interface(
     part: Part<'_>,
@@ -143,13 +144,13 @@ fn read_interface(
     names: &TypeNames<'_>,
     types: &mut TypeTree,
     specs: &mut SpecTable,
+    signals: &mut SignalTable,
 ) -> Result<(), ReadError>
-    ensures { Leads result (interface_at (path_of part.entry.path) first (items_view sections.entry.interfaces.now) (items_view sections.entry.classes.now) names.now (draft_of types.old specs.old) (view part.entry.value.now)) (draft_of types.new specs.new) }
+    ensures { Leads result (interface_at (path_of part.entry.path) first (items_view sections.entry.interfaces.now) (items_view sections.entry.classes.now) names.now (draft_of types.old specs.old signals.old.signals) (view part.entry.value.now)) (draft_of types.new specs.new signals.new.signals) }
 {
     let members = part.members()?;
     let interface = declare(part, first, sections, types)?;
-    give_properties(part, types, names, specs, interface)?;
-    part.check_nothing(&["signals"])?;
+    give_members(part, types, names, specs, signals, interface)?;
     part.check_only(members, &MEMBERS)?;
     Ok(())
 }
@@ -169,7 +170,7 @@ impl<'a> Reads<Draft> for InterfaceEntries<'a> {
 
     ghost State = { drafts.Draft };
 
-    ghost seen = { λ draft. drafts.draft_of draft.types draft.specs };
+    ghost seen = { λ draft. drafts.draft_of draft.types draft.specs draft.signals.signals };
 
     ghost known = { λ r. Unit {0} };
 
@@ -183,6 +184,7 @@ impl<'a> Reads<Draft> for InterfaceEntries<'a> {
             self.names,
             &mut draft.types,
             &mut draft.specs,
+            &mut draft.signals,
         )
     }
 }
@@ -194,7 +196,7 @@ pub(crate) fn read_interfaces(
     names: &TypeNames<'_>,
     draft: &mut Draft,
 ) -> Result<(), ReadError>
-    ensures { Leads result (each (at_entry (λ path. interface_at path (length draft.old.types) (items_view list.entry.items.now) (items_view classes.now) names.now) list.entry.path.now) 0 (draft_of draft.old.types draft.old.specs) (items_view list.entry.items.now)) (draft_of draft.new.types draft.new.specs) }
+    ensures { Leads result (each (at_entry (λ path. interface_at path (length draft.old.types) (items_view list.entry.items.now) (items_view classes.now) names.now) list.entry.path.now) 0 (draft_of draft.old.types draft.old.specs draft.old.signals.signals) (items_view list.entry.items.now)) (draft_of draft.new.types draft.new.specs draft.new.signals.signals) }
 {
     let sections = Sections {
         interfaces: list.items,

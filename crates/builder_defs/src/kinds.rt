@@ -1,15 +1,15 @@
-//! Kinds of properties, by their words.
+//! Kinds of properties, arguments and results, by their words.
 
-ghost use Rattle.std.specs.Prelude.{◌≡◌, List, codes, option_map, IfOk, IfSome};
+ghost use Rattle.std.specs.Prelude.{◌≡◌, List, option_map, IfOk, IfSome};
 ghost use Rattle.serde_json.specs.View.{view};
 ghost use Rattle.ui_machine.specs.Definition.Types.{GType, enum, flags};
 ghost use Rattle.type_tree.specs.Adding.{sort_of};
 ghost use Rattle.g_values.specs.View.{kind_view, is_whole_kind, IsKnown};
 ghost use Rattle.builder_defs.specs.Refusals.{Gives};
-ghost use Rattle.builder_defs.specs.Document.{under, path_of};
+ghost use Rattle.builder_defs.specs.Document.{at_key, path_of};
 ghost use Rattle.builder_defs.specs.Denoted.Kinds.{kind_named, enum_named, flags_named, object_type, is_object_kind, parted, kind_of_type, kind_by, kind_at, lowest, highest};
 
-use crate::document::{Part, bad_shape, unknown_name};
+use crate::document::{Part, bad_shape_at, unknown_at};
 use crate::entries::TypeNames;
 use crate::fault::ReadError;
 use g_values::Kind;
@@ -81,58 +81,61 @@ fn object_type(types: &TypeTree, names: &TypeNames<'_>, name: &str) -> Option<Ty
     Some(TypeId::new(number))
 }
 
-// The kind of a sort and of the type that a name names.
+// The kind of a sort and of the type that a name names. The word is a member, or the value itself.
 fn kind_of_type(
     part: Part<'_>,
+    key: Option<&str>,
     types: &TypeTree,
     names: &TypeNames<'_>,
     sort: &str,
     name: &str,
 ) -> Result<Kind, ReadError>
-    ensures kind { Gives kind_view result (kind_of_type (under (path_of part.entry.path) (codes "kind")) types.now names.now sort.now name.now) }
+    ensures kind { Gives kind_view result (kind_of_type (at_key (path_of part.entry.path) (option_map (λ k. k.now) key.entry)) types.now names.now sort.now name.now) }
     ensures known { IfOk result (λ k. IsKnown types.now k) }
 {
     if sort == "enum" {
         return match enum_named(types, name) {
             Some(found) => Ok(Kind::Enum(found)),
-            None => Err(unknown_name(part, "kind", name)?),
+            None => Err(unknown_at(part, key, name)?),
         };
     }
     if sort == "flags" {
         return match flags_named(types, name) {
             Some(found) => Ok(Kind::Flags(found)),
-            None => Err(unknown_name(part, "kind", name)?),
+            None => Err(unknown_at(part, key, name)?),
         };
     }
     if sort == "object" {
         return match object_type(types, names, name) {
             Some(found) => Ok(Kind::Object(found)),
-            None => Err(unknown_name(part, "kind", name)?),
+            None => Err(unknown_at(part, key, name)?),
         };
     }
-    Err(bad_shape(part.alloc, part.path, "kind")?)
+    Err(bad_shape_at(part, key)?)
 }
 
-// The kind of a word.
-fn kind_of_word(
+// The kind of a word, which is a member or the value itself. It may name an enum or a flags type of these, and a class or interface of the
+// document.
+pub(crate) fn kind_of_word(
     part: Part<'_>,
+    key: Option<&str>,
     types: &TypeTree,
     names: &TypeNames<'_>,
     word: &str,
 ) -> Result<Kind, ReadError>
-    ensures kind { Gives kind_view result (kind_by (under (path_of part.entry.path) (codes "kind")) types.now names.now word.now (parted word.now)) }
+    ensures kind { Gives kind_view result (kind_by (at_key (path_of part.entry.path) (option_map (λ k. k.now) key.entry)) types.now names.now word.now (parted word.now)) }
     ensures known { IfOk result (λ k. IsKnown types.now k) }
 {
     if let Some((sort, name)) = parted(word) {
-        return kind_of_type(part, types, names, sort, name);
+        return kind_of_type(part, key, types, names, sort, name);
     }
     match kind_named(word) {
         Some(kind) => Ok(kind),
-        None => Err(bad_shape(part.alloc, part.path, "kind")?),
+        None => Err(bad_shape_at(part, key)?),
     }
 }
 
-// The kind of a property, which may name an enum or a flags type of these, and a class or interface of the document.
+// The kind of a property.
 pub(crate) fn kind_of(
     part: Part<'_>,
     types: &TypeTree,
@@ -142,7 +145,7 @@ pub(crate) fn kind_of(
     ensures known { IfOk result (λ k. IsKnown types.now k) }
 {
     let word = part.text("kind")?;
-    let kind = kind_of_word(part, types, names, word)?;
+    let kind = kind_of_word(part, Some("kind"), types, names, word)?;
     Ok(kind)
 }
 

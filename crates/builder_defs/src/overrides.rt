@@ -17,11 +17,13 @@ ghost use Rattle.builder_defs.specs.OverrideView.{own_view, override_view};
 use crate::document::{Entries, Part, listed_ahead, path_under};
 use crate::entries::TypeNames;
 use crate::fault::{ReadError, SpecCause};
+use crate::own_signals::OwnSignals;
 use crate::properties::spec_in;
 use crate::reads::{Reads, read_each};
 use indexmap::IndexMap;
 use param_specs::{Spec, SpecTable, is_same_spec};
 use serde_json::Value;
+use signal_core::SignalTable;
 use std::alloc::{AllocError, Global};
 use type_tree::{TypeId, TypeTree, canonical_name, is_property_name};
 
@@ -36,8 +38,8 @@ enum Override {
     Different,
 }
 
-// The canonical name of an entry's property, if it has one.
-fn own_name(alloc: Global, entry: &Value) -> Result<Option<String>, AllocError>
+// The canonical name of an entry's property or signal, if it has one.
+pub(crate) fn own_name(alloc: Global, entry: &Value) -> Result<Option<String>, AllocError>
     ensures { IfOk result (λ name. option_map string_bytes name ≡ own_name (option_and_then as_str (get (codes "name") (view entry.now)))) }
 {
     match entry.get("name").and_then(Value::as_str) {
@@ -186,15 +188,17 @@ fn compared(spec: Option<&Spec>, wanted: &Spec) -> Override
     }
 }
 
-// What is known of a class while its interfaces are looked at: the types before it with their properties, its parent, the interfaces that it
-// names, and its own properties.
+// What is known of a class while its interfaces are looked at: the types before it with their properties and signals, its parent, the
+// interfaces that it names, its own properties, and the names of its own signals.
 #[derive(Clone, Copy)]
 pub(crate) struct Heir<'a> {
     pub(crate) types: &'a TypeTree,
     pub(crate) specs: &'a SpecTable,
+    pub(crate) signals: &'a SignalTable,
     pub(crate) parent: TypeId,
     pub(crate) named: &'a [TypeId],
     pub(crate) own: &'a OwnAhead,
+    pub(crate) own_signals: &'a OwnSignals,
 }
 
 // How a class has a property of an interface, where it inherits this one or none of that name.

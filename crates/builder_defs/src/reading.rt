@@ -102,7 +102,8 @@ fn flags_of(part: Part<'_>, types: &mut TypeTree) -> Result<(), ReadError>
 fn interfaces_of(part: Part<'_>, names: &TypeNames<'_>, draft: &mut Draft) -> Result<(), ReadError>
     requires root { path_of part.path ≡ [] }
     requires bare { draft.old.specs ≡ [] }
-    ensures { Leads result (interfaces_in names.now draft.old.types (view part.entry.value.now)) (draft_of draft.new.types draft.new.specs) }
+    requires undeclared { draft.old.signals.signals ≡ [] }
+    ensures { Leads result (interfaces_in names.now draft.old.types (view part.entry.value.now)) (draft_of draft.new.types draft.new.specs draft.new.signals.signals) }
 {
     let items = part.entries("interfaces")?;
     let list = Entries {
@@ -118,7 +119,7 @@ fn interfaces_of(part: Part<'_>, names: &TypeNames<'_>, draft: &mut Draft) -> Re
 #[tactic(auto, unfolding(crate::specs::Denoted::classes_in))]
 fn classes_of(part: Part<'_>, names: &TypeNames<'_>, draft: &mut Draft) -> Result<(), ReadError>
     requires { path_of part.path ≡ [] }
-    ensures { Leads result (classes_in names.now (draft_of draft.old.types draft.old.specs) (view part.entry.value.now)) (draft_of draft.new.types draft.new.specs) }
+    ensures { Leads result (classes_in names.now (draft_of draft.old.types draft.old.specs draft.old.signals.signals) (view part.entry.value.now)) (draft_of draft.new.types draft.new.specs draft.new.signals.signals) }
 {
     part.check_nothing(&UNSET_BEFORE_CLASSES)?;
     let items = part.entries("classes")?;
@@ -131,18 +132,23 @@ fn classes_of(part: Part<'_>, names: &TypeNames<'_>, draft: &mut Draft) -> Resul
     Ok(())
 }
 
-// The types of a definition, with their properties.
+// The types of a definition, with their properties and signals.
 #[tactic(auto, unfolding(crate::specs::Denoted::draft_in))]
 fn read_draft(part: Part<'_>) -> Result<Draft, ReadError>
     requires { path_of part.path ≡ [] }
-    ensures { Gives (λ draft. draft_of draft.types draft.specs) result (draft_in (view part.entry.value.now)) }
+    ensures { Gives (λ draft. draft_of draft.types draft.specs draft.signals.signals) result (draft_in (view part.entry.value.now)) }
 {
     let mut types = TypeTree::new(part.alloc)?;
     enums_of(part, &mut types)?;
     flags_of(part, &mut types)?;
     let names = TypeNames::new(part.alloc, part.value, types.len())?;
     let specs = SpecTable::new(part.alloc);
-    let mut draft = Draft { types, specs };
+    let signals = SignalTable::new(part.alloc);
+    let mut draft = Draft {
+        types,
+        specs,
+        signals,
+    };
     interfaces_of(part, &names, &mut draft)?;
     classes_of(part, &names, &mut draft)?;
     Ok(draft)
@@ -194,7 +200,7 @@ fn definition_of(alloc: Global, value: &Value) -> Result<Definition, ReadError>
     Ok(Definition {
         types: draft.types,
         specs: draft.specs,
-        signals: SignalTable::new(alloc),
+        signals: draft.signals,
         objects,
         limits,
     })

@@ -76,15 +76,15 @@ declared_at path first list names draft d = do
   new ← new_type_name (under path (codes "name")) first draft.types name
   parent ← parent_at path list draft.types d
   flags ← flags_at path d
-  interfaces ← implements_at path draft.types names draft.own parent d
+  interfaces ← implements_at path names draft parent d
   Ok (draft.types ++ class_type name parent flags interfaces ∷ [])
 
--- a class has no signals, handlers, programs and shape
+-- a class has no class handlers, programs and shape
 unfoldable pub answering_at : List ℕ → Data → Result (Unit {0}) Refusal
 answering_at path d = do
-  signals ← nothing_at path d (codes "signals" ∷ codes "class-handlers" ∷ [])
+  handlers ← nothing_at path d (codes "class-handlers" ∷ [])
   absent_at path d (codes "constructed" ∷ codes "shape" ∷ [])
 
--- the types with a class and its properties
+-- the types with a class, its properties and its signals
 abbrev pub class_at : List ℕ → ℕ → Items → TypeNames → Draft → Data → Result Draft Refusal
 class_at path first list names draft d = type_at path keys_of_class (declared_at path first list names draft d) (answering_at path d) names draft d

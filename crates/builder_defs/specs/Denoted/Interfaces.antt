@@ -8,7 +8,7 @@ use Rattle.type_tree.specs.Adding.{required_named}
 use Rattle.type_tree.specs.Entry.{interface_type}
 use Rattle.builder_defs.specs.Causes.{unknown_parent}
 use Rattle.builder_defs.specs.Refusals.{Refusal, shape, unknown, bad_type, or_refused}
-use Rattle.builder_defs.specs.Document.{under, text_at, entries_at, nothing_at, each, at_entry}
+use Rattle.builder_defs.specs.Document.{under, text_at, entries_at, each, at_entry}
 use Rattle.builder_defs.specs.Denoted.Entries.{TypeNames}
 use Rattle.builder_defs.specs.Denoted.Types.{is_declared, room_for_type, new_type_name}
 use Rattle.builder_defs.specs.Denoted.Drafts.{Draft, type_at}
@@ -44,7 +44,7 @@ interface_type_at path first interfaces classes types d = do
 abbrev pub keys_of_interface : List (List ℕ)
 keys_of_interface = codes "name" ∷ codes "requires" ∷ codes "properties" ∷ codes "signals" ∷ []
 
--- the types with an interface and its properties; it has no signals
+-- the types with an interface, its properties and its signals
 abbrev pub interface_at : List ℕ → ℕ → Items → Items → TypeNames → Draft → Data → Result Draft Refusal
 interface_at path first interfaces classes names draft d =
-    type_at path keys_of_interface (interface_type_at path first interfaces classes draft.types d) (nothing_at path d (codes "signals" ∷ [])) names draft d
+    type_at path keys_of_interface (interface_type_at path first interfaces classes draft.types d) (Ok tt) names draft d

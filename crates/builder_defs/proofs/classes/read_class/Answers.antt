@@ -1,42 +1,47 @@
 use Rattle.std.proofs.lemmas.Result.{err_from_is_err_and}
 use Rattle.serde_json.specs.View.{view, items_view, members_view}
-use Rattle.param_specs.specs.Table.{own_of}
 use Rattle.builder_defs.specs.Document.{path_of}
 use Rattle.builder_defs.specs.Denoted.Drafts.{draft_of}
 use Rattle.builder_defs.specs.Denoted.Classes.{keys_of_class, declared_at, answering_at}
-use Rattle.builder_defs.proofs.Chains.{properties_fail, unset_fails, only_fails, type_done}
+use Rattle.builder_defs.proofs.Chains.{members_fail, unset_fails, only_fails, type_done}
+use Rattle.builder_defs.proofs.Soundness.{within_declared}
 use Rattle.builder_defs.proofs.classes.read_class.Goals as goal
 
-pub returns-in_err-give_properties : goal.returns-in_err-give_properties
-returns-in_err-give_properties c =
-    let p = err_from_is_err_and c.from_residual-in_err-give_properties.result c.from_residual-in_err-give_properties.ensures.1 in
-    rw (p.1, p.2) (properties_fail (path_of c.args.part.path) keys_of_class
-    (declared_at (path_of c.args.part.path) c.args.first (items_view c.args.list.now) c.args.names.now (draft_of c.args.types.now c.args.specs.now) (view c.args.part.value.now))
-    (answering_at (path_of c.args.part.path) (view c.args.part.value.now)) c.args.names.now c.args.types.now c.args.specs.now (view c.args.part.value.now)
+pub give_members-requires : goal.give_members-requires
+give_members-requires c =
+    within_declared (path_of c.args.part.path) c.args.first (items_view c.args.list.now) c.args.names.now (draft_of c.args.types.now c.args.specs.now c.args.signals.now.signals) (view c.args.part.value.now)
+    c.declare.new.types c.in_ok-class.class c.in_ok-class.ensures.types c.in_ok-class.ensures.class
+
+pub returns-in_err-give_members : goal.returns-in_err-give_members
+returns-in_err-give_members c =
+    let p = err_from_is_err_and c.from_residual-in_err-give_members.result c.from_residual-in_err-give_members.ensures.1 in
+    rw (p.1, p.2) (members_fail (path_of c.args.part.path) keys_of_class
+    (declared_at (path_of c.args.part.path) c.args.first (items_view c.args.list.now) c.args.names.now (draft_of c.args.types.now c.args.specs.now c.args.signals.now.signals) (view c.args.part.value.now))
+    (answering_at (path_of c.args.part.path) (view c.args.part.value.now)) c.args.names.now c.args.types.now c.args.specs.now c.args.signals.now.signals (view c.args.part.value.now)
     (members_view c.in_ok-members.members.now.entries) c.declare.new.types c.in_ok-class.class c.in_ok-members.ensures c.in_ok-class.ensures.types c.in_ok-class.ensures.class
-    c.in_err-give_properties.field-0.0 c.in_err-give_properties.ensures)
+    c.in_err-give_members.field-0.0 c.in_err-give_members.ensures)
 
 pub returns-in_err-check_answering : goal.returns-in_err-check_answering
 returns-in_err-check_answering c =
     let p = err_from_is_err_and c.from_residual-in_err-check_answering.result c.from_residual-in_err-check_answering.ensures.1 in
     rw (p.1, p.2) (unset_fails (path_of c.args.part.path) keys_of_class
-    (declared_at (path_of c.args.part.path) c.args.first (items_view c.args.list.now) c.args.names.now (draft_of c.args.types.now c.args.specs.now) (view c.args.part.value.now))
-    (answering_at (path_of c.args.part.path) (view c.args.part.value.now)) c.args.names.now c.args.types.now c.args.specs.now (view c.args.part.value.now)
+    (declared_at (path_of c.args.part.path) c.args.first (items_view c.args.list.now) c.args.names.now (draft_of c.args.types.now c.args.specs.now c.args.signals.now.signals) (view c.args.part.value.now))
+    (answering_at (path_of c.args.part.path) (view c.args.part.value.now)) c.args.names.now c.args.types.now c.args.specs.now c.args.signals.now.signals (view c.args.part.value.now)
     (members_view c.in_ok-members.members.now.entries) c.declare.new.types c.in_ok-class.class c.in_ok-members.ensures c.in_ok-class.ensures.types c.in_ok-class.ensures.class
-    (own_of c.give_properties.new.specs) c.in_ok-give_properties.ensures c.in_err-check_answering.field-0.0 c.in_err-check_answering.ensures)
+    (draft_of c.declare.new.types c.give_members.new.specs c.give_members.new.signals.signals) c.in_ok-give_members.ensures c.in_err-check_answering.field-0.0 c.in_err-check_answering.ensures)
 
 pub returns-in_err-check_only : goal.returns-in_err-check_only
 returns-in_err-check_only c =
     let p = err_from_is_err_and c.from_residual-in_err-check_only.result c.from_residual-in_err-check_only.ensures.1 in
     rw (p.1, p.2) (only_fails (path_of c.args.part.path) keys_of_class
-    (declared_at (path_of c.args.part.path) c.args.first (items_view c.args.list.now) c.args.names.now (draft_of c.args.types.now c.args.specs.now) (view c.args.part.value.now))
-    (answering_at (path_of c.args.part.path) (view c.args.part.value.now)) c.args.names.now c.args.types.now c.args.specs.now (view c.args.part.value.now)
+    (declared_at (path_of c.args.part.path) c.args.first (items_view c.args.list.now) c.args.names.now (draft_of c.args.types.now c.args.specs.now c.args.signals.now.signals) (view c.args.part.value.now))
+    (answering_at (path_of c.args.part.path) (view c.args.part.value.now)) c.args.names.now c.args.types.now c.args.specs.now c.args.signals.now.signals (view c.args.part.value.now)
     (members_view c.in_ok-members.members.now.entries) c.declare.new.types c.in_ok-class.class c.in_ok-members.ensures c.in_ok-class.ensures.types c.in_ok-class.ensures.class
-    (own_of c.give_properties.new.specs) c.in_ok-give_properties.ensures c.in_err-check_only.field-0.0 c.in_ok-check_answering.ensures c.in_err-check_only.ensures)
+    (draft_of c.declare.new.types c.give_members.new.specs c.give_members.new.signals.signals) c.in_ok-give_members.ensures c.in_err-check_only.field-0.0 c.in_ok-check_answering.ensures c.in_err-check_only.ensures)
 
 pub returns : goal.returns
 returns c = type_done (path_of c.args.part.path) keys_of_class
-    (declared_at (path_of c.args.part.path) c.args.first (items_view c.args.list.now) c.args.names.now (draft_of c.args.types.now c.args.specs.now) (view c.args.part.value.now))
-    (answering_at (path_of c.args.part.path) (view c.args.part.value.now)) c.args.names.now c.args.types.now c.args.specs.now (view c.args.part.value.now)
+    (declared_at (path_of c.args.part.path) c.args.first (items_view c.args.list.now) c.args.names.now (draft_of c.args.types.now c.args.specs.now c.args.signals.now.signals) (view c.args.part.value.now))
+    (answering_at (path_of c.args.part.path) (view c.args.part.value.now)) c.args.names.now c.args.types.now c.args.specs.now c.args.signals.now.signals (view c.args.part.value.now)
     (members_view c.in_ok-members.members.now.entries) c.declare.new.types c.in_ok-class.class c.in_ok-members.ensures c.in_ok-class.ensures.types c.in_ok-class.ensures.class
-    (own_of c.give_properties.new.specs) c.in_ok-give_properties.ensures c.in_ok-check_answering.ensures c.in_ok-check_only.ensures
+    (draft_of c.declare.new.types c.give_members.new.specs c.give_members.new.signals.signals) c.in_ok-give_members.ensures c.in_ok-check_answering.ensures c.in_ok-check_only.ensures

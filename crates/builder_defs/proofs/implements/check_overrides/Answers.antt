@@ -1,19 +1,18 @@
-use Rattle.std.proofs.Common.{◌≡◌, ◌∙◌, sym, ap, map, None, Some, Err}
+use Rattle.std.proofs.Common.{◌≡◌, ◌∙◌, sym, ap, None, Some, Err}
 use Rattle.serde_json.specs.View.{view}
 use Rattle.builder_defs.specs.Causes.{property_cause}
 use Rattle.builder_defs.specs.Refusals.{bad_spec}
 use Rattle.builder_defs.specs.Document.{path_of}
-use Rattle.builder_defs.specs.OverrideView.{own_view}
 use Rattle.builder_defs.proofs.Implementing.{overrides_are}
 use Rattle.builder_defs.proofs.implements.check_overrides.Goals as goal
 
 pub returns-in-None : goal.returns-in-None
 returns-in-None c =
-    overrides_are (path_of c.args.part.path) c.args.heir.now.types.now c.args.heir.now.specs.now c.args.heir.now.parent c.args.heir.now.named.now (map own_view c.args.heir.now.own.now.entries) c.args.interface
+    overrides_are (path_of c.args.part.path) c.args.heir.now c.args.interface
     c.in_ok-found.found None c.in-None.is c.in_ok-found.ensures
 
 pub returns-in_ok-path-in-Some : goal.returns-in_ok-path-in-Some
 returns-in_ok-path-in-Some c =
-    overrides_are (path_of c.args.part.path) c.args.heir.now.types.now c.args.heir.now.specs.now c.args.heir.now.parent c.args.heir.now.named.now (map own_view c.args.heir.now.own.now.entries) c.args.interface
+    overrides_are (path_of c.args.part.path) c.args.heir.now c.args.interface
     c.in_ok-found.found (Some c.in-Some.cause) c.in-Some.is c.in_ok-found.ensures
     ∙ ap (λ path. Err (bad_spec path (property_cause c.in-Some.cause))) (sym c.in_ok-path-in-Some.ensures)
