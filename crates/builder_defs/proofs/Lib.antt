@@ -8,6 +8,7 @@ pub mod Soundness
 pub mod Pushed
 pub mod Chains
 pub mod Each
+pub mod EachOf
 pub mod Installing
 pub mod Declaring
 pub mod Escapes

@@ -1,5 +1,5 @@
 -- Which event of a definition a line denotes, or why it denotes none: the first fault in the order of the tests.
-use Rattle.std.specs.Prelude.{◌≡◌, ℕ, List, length, codes, Bool, true, false, nat_lt, if◌then◌else◌, Option, None, Some, option_and_then, Result, Ok, Err, string_bytes}
+use Rattle.std.specs.Prelude.{◌≡◌, ℕ, zero, suc, nat_eq, List, [], ◌∷◌, ◌++◌, length, codes, Bool, true, false, nat_lt, if◌then◌else◌, Option, None, Some, option_and_then, Result, Ok, Err, string_bytes}
 use Rattle.std.specs.Str.{is_utf8}
 use Rattle.serde_json.specs.Data.{Data, null, boolean, number, string, array, object, Items, no_items, item, Members, no_members, member}
 use Rattle.serde_json.specs.Find.{get, as_str, as_array}
@@ -8,7 +8,10 @@ use Rattle.ui_machine.specs.Definition.Types.{GType}
 use Rattle.ui_machine.specs.Definition.Kinds as kinds
 use Rattle.ui_machine.specs.Definition.Values.{Value}
 use Rattle.ui_machine.specs.Rules.Ancestry.{is_a}
-use Rattle.ui_machine.specs.Definition.Properties.{Spec, is_readable, is_writable, is_construct_only}
+use Rattle.ui_machine.specs.Definition.Properties.{Spec, has_flags, is_readable, is_writable, is_construct_only}
+use Rattle.ui_machine.specs.Definition.Signals.{Signal}
+use Rattle.ui_machine.specs.Rules.Connections.{signal_number}
+use Rattle.ui_machine.specs.Rules.EmissionPlan.{signal_of}
 use Rattle.ui_machine.specs.Definition as machine
 use Rattle.ui_machine.specs.Definition.Places as places
 use Rattle.ui_machine.specs.Definition.Lookups.{place_of, slot_of, spec_of}
@@ -17,6 +20,7 @@ use Rattle.g_values.specs.Reading.{json_value}
 use Rattle.g_values.specs.declared.error.JsonFault.{JsonFault}
 use Rattle.builder_defs.specs.Meaning.{class_at}
 use Rattle.builder_defs.specs.Denoted.Given.{reference}
+use Rattle.builder_defs.specs.Denoted.Names.{is_name}
 use Rattle.ui_machine.specs.Outcome.{◌>>=◌}
 use Rattle.ui_machine.specs.Limits.{most_line_bytes}
 use Rattle.builder_defs.specs.declared.event_fault.EventFault.{EventFault}
@@ -54,6 +58,11 @@ Fails (errors.Refused fault) meant = meant ≡ Err (event_refusal fault)
 abbrev pub Gives : {X Y : Type 0} → (X → Y) → Result X EventError → Result Y EventRefusal → Type 0
 Gives view (Ok x) meant = meant ≡ Ok (view x)
 Gives view (Err e) meant = Fails e meant
+
+-- the same of a function that changes something in its place
+abbrev pub Leads : {X Y : Type 0} → Result X EventError → Result Y EventRefusal → Y → Type 0
+Leads (Ok x) meant new = meant ≡ Ok new
+Leads (Err e) meant new = Fails e meant
 
 -- what is there, or the refusal
 abbrev pub or_refused : {A : Type 0} → EventRefusal → Option A → Result A EventRefusal
@@ -105,6 +114,34 @@ words_of_get no_items = None
 words_of_get (item id no_items) = None
 words_of_get (item id (item name no_items)) = both_texts (as_str id) (as_str name)
 words_of_get (item id (item name (item more ds))) = None
+
+-- an id, a signal's name, the arguments, and a detail, if there is one
+pub record Emitted : Type 0 where
+  pub id : List ℕ
+  pub name : List ℕ
+  pub args : Items
+  pub detail : Option (List ℕ)
+
+-- a detail that is given is a name of the format
+abbrev pub detail_word : Option (List ℕ) → Option (Option (List ℕ))
+detail_word None = None
+detail_word (Some text) = if is_name text then Some (Some text) else None
+
+abbrev pub emitted : Option (List ℕ) → Option (List ℕ) → Option Items → Option (Option (List ℕ)) → Option Emitted
+emitted None name args detail = None
+emitted (Some id) None args detail = None
+emitted (Some id) (Some name) None detail = None
+emitted (Some id) (Some name) (Some args) None = None
+emitted (Some id) (Some name) (Some args) (Some detail) = Some (record { id = id; name = name; args = args; detail = detail })
+
+-- three words, or four with a detail
+abbrev pub words_of_emit : Items → Option Emitted
+words_of_emit no_items = None
+words_of_emit (item id no_items) = None
+words_of_emit (item id (item name no_items)) = None
+words_of_emit (item id (item name (item args no_items))) = emitted (as_str id) (as_str name) (as_array args) (Some None)
+words_of_emit (item id (item name (item args (item detail no_items)))) = emitted (as_str id) (as_str name) (as_array args) (detail_word (as_str detail))
+words_of_emit (item id (item name (item args (item detail (item more ds))))) = None
 
 -- ** what they name
 
@@ -163,6 +200,63 @@ abbrev pub given_by : machine.Definition → kinds.Kind → Data → Option ℕ 
 given_by d kind v None = itself (or_value_fault (json_value d.types kind v))
 given_by d kind v (Some place) = object_given d kind place
 
+-- ** the signal and the arguments of an emission
+
+-- a signal that an event may emit: all but `notify`, which has number 0
+abbrev pub but_notify : Option ℕ → Option ℕ
+but_notify None = None
+but_notify (Some zero) = None
+but_notify (Some (suc n)) = Some (suc n)
+
+-- a signal of an object
+pub record SignalTarget : Type 0 where
+  pub place : ℕ
+  pub which : ℕ  -- its number
+  pub signal : Signal
+
+-- the signal of an object that an id and a name name, if an event may emit it
+unfoldable pub signal_target : machine.Definition → List ℕ → List ℕ → Result SignalTarget EventRefusal
+signal_target d id name = do
+  place ← or_refused (unknown id) (place_of d id)
+  which ← or_refused (unknown name) (but_notify (signal_number d (class_at d place) name))
+  s ← or_refused (unknown name) (signal_of d (class_at d place) which)
+  Ok (record { place = place; which = which; signal = s })
+
+-- how many values a list has
+abbrev pub count : Items → ℕ
+count no_items = 0
+count (item v vs) = suc (count vs)
+
+-- a signal has as many parameters as there are values
+abbrev pub check_count : Signal → Items → Result (Unit {0}) EventRefusal
+check_count s args = if nat_eq (length s.params) (count args) then Ok tt else Err shape
+
+-- a detail goes with a signal that takes details
+abbrev pub check_detail : Signal → Option (List ℕ) → Result (Unit {0}) EventRefusal
+check_detail s None = Ok tt
+check_detail s (Some detail) = if has_flags 16 s.flags then Ok tt else Err (unknown detail)
+
+-- what comes of a state by values of these kinds, one after the other
+unfoldable pub each_of : {S : Type 0} → (S → kinds.Kind → Data → Result S EventRefusal) → S → List kinds.Kind → Items → Result S EventRefusal
+each_of step s [] vs = Ok s
+each_of step s (k ∷ ks) no_items = Ok s
+each_of step s (k ∷ ks) (item v vs) = do
+  t ← step s k v
+  each_of step t ks vs
+
+-- the object that a value names, if it names one, is known
+unfoldable pub id_known : machine.Definition → Unit {0} → kinds.Kind → Data → Result (Unit {0}) EventRefusal
+id_known d so_far k v = do
+  named ← object_named d (reference k (as_str v))
+  Ok tt
+
+-- the arguments so far, with one more
+unfoldable pub argument : machine.Definition → List places.Given → kinds.Kind → Data → Result (List places.Given) EventRefusal
+argument d so_far k v = do
+  named ← object_named d (reference k (as_str v))
+  given ← given_by d k v named
+  Ok (so_far ++ given ∷ [])
+
 -- ** the event
 
 abbrev pub writable : Spec → Result (Unit {0}) EventRefusal
@@ -193,21 +287,37 @@ release_event d word = do
   place ← or_refused (unknown id) (place_of d id)
   Ok (config.request (config.release place))
 
--- what the member `release` asks for
-abbrev pub release_by : machine.Definition → Option Data → Result config.Event EventRefusal
-release_by d None = Err shape
-release_by d (Some word) = release_event d word
+-- The signal must be there, and the values as many as it has parameters. Then all ids among them are known, and the detail may stand.
+unfoldable pub emit_event : machine.Definition → Data → Result config.Event EventRefusal
+emit_event d words = do
+  said ← or_refused shape (option_and_then words_of_emit (as_array words))
+  found ← signal_target d said.id said.name
+  many ← check_count found.signal said.args
+  ids ← each_of (id_known d) tt found.signal.params said.args
+  may ← check_detail found.signal said.detail
+  given ← each_of (argument d) [] found.signal.params said.args
+  Ok (config.request (config.emit found.place found.which given said.detail))
 
--- the event that the member `set` asks for, and where there is none the one that `get` asks for, or `release`
-abbrev pub event_by : machine.Definition → Option Data → Option Data → Option Data → Result config.Event EventRefusal
-event_by d None None release = release_by d release
-event_by d None (Some words) release = get_event d words
-event_by d (Some words) get release = set_event d words
+-- what the member `emit` asks for
+abbrev pub emit_by : machine.Definition → Option Data → Result config.Event EventRefusal
+emit_by d None = Err shape
+emit_by d (Some words) = emit_event d words
+
+-- what the member `release` asks for, and where there is none what `emit` does
+abbrev pub release_by : machine.Definition → Option Data → Option Data → Result config.Event EventRefusal
+release_by d None emit = emit_by d emit
+release_by d (Some word) emit = release_event d word
+
+-- the event that the member `set` asks for, and where there is none the one that `get` asks for, or `release`, or `emit`
+abbrev pub event_by : machine.Definition → Option Data → Option Data → Option Data → Option Data → Result config.Event EventRefusal
+event_by d None None release emit = release_by d release emit
+event_by d None (Some words) release emit = get_event d words
+event_by d (Some words) get release emit = set_event d words
 
 -- the event that a value asks for
 unfoldable pub event_meant : machine.Definition → Data → Result config.Event EventRefusal
 event_meant d value =
-    if has_one_member value then event_by d (get (codes "set") value) (get (codes "get") value) (get (codes "release") value) else Err shape
+    if has_one_member value then event_by d (get (codes "set") value) (get (codes "get") value) (get (codes "release") value) (get (codes "emit") value) else Err shape
 
 -- the event that a line denotes
 unfoldable pub event_denoted : machine.Definition → List ℕ → Result config.Event EventRefusal

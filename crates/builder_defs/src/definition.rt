@@ -3,6 +3,7 @@
 ghost use Rattle.std.specs.Prelude.{◌≡◌, ◌<◌, ◌≤◌, ℕ, length, option_map, slice_get, string_bytes, IfSome, map};
 ghost use Rattle.ui_machine.specs.Definition.Names.{place_named};
 ghost use Rattle.ui_machine.specs.Definition.Lookups.{place_of, spec_of, specs_of, slot_of, type_of};
+ghost use Rattle.ui_machine.specs.Rules.Connections.{signal_number};
 ghost use Rattle.ui_machine.specs.Rules.EmissionPlan.{signal_of};
 ghost use Rattle.param_specs.specs.View.{spec_view};
 ghost use Rattle.signal_core.specs.Emission.{begun};
@@ -131,6 +132,16 @@ impl Definition {
             return None;
         }
         self.specs.find(&self.types, class, name)
+    }
+
+    /// The number of the signal of a class that a name names, in either spelling.
+    pub fn signal_number(&self, class: TypeId, name: &str) -> Option<u16>
+        ensures { result ≡ signal_number self.now class name.now }
+    {
+        if class.index() >= self.types.len() {
+            return None;
+        }
+        self.signals.find(&self.types, class, name)
     }
 
     /// The signal of a class by its number, if it has so many. Number 0 is `notify`.

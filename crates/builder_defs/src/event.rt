@@ -28,7 +28,7 @@ pub enum Event {
         signal: u16,
         /// As many as the signal has parameters, in their order.
         args: Vec<Given>,
-        /// In canonical spelling. Only a signal that takes details has one.
+        /// As it is written. Only a signal that takes details has one.
         detail: Option<String>,
     },
 }

@@ -12,10 +12,11 @@ pub enum EventFault {
     TooLong,
     /// The line is not UTF-8, or not JSON.
     NotJson,
-    /// The value is no object of one member, `set` with an id, a name and a value, `get` with an id and a name, or
-    /// `release` with an id.
+    /// The value is no object of one member, `set` with an id, a name and a value, `get` with an id and a name, `release` with an id, or `emit`
+    /// with an id, a name, a list of values and perhaps a detail; or the values are not as many as the signal has parameters.
     Shape,
-    /// No object has this id, the object has no property of this name, or no object has the id that the value names: the first from the left.
+    /// No object has this id, the object has no property or signal of this name, no object has the id that a value names, or the signal takes no
+    /// detail: the first from the left. No event emits `notify`.
     Unknown(String),
     /// The property that is asked for cannot be read.
     NotReadable,

@@ -12,6 +12,7 @@ ghost use Rattle.param_specs.specs.View.{spec_view};
 ghost use Rattle.builder_defs.specs.EventMeaning.{Gives, event_denoted, event_meant, line_value, has_one_member, words_of_set, words_of_get, set_event, get_event, release_event, target, object_of, object_named, is_of_kind, object_given, given_by, readable, writable, or_value_fault};
 
 use crate::definition::Definition;
+use crate::emit_reading::emit_in;
 use crate::event::Event;
 use crate::event_fault::{EventError, EventFault};
 use crate::given::reference;
@@ -82,10 +83,14 @@ fn event_in(alloc: Global, definition: &Definition, value: &Value) -> Result<Eve
         let event = get_in(alloc, definition, words)?;
         return Ok(event);
     }
-    let Some(word) = value.get("release") else {
+    if let Some(word) = value.get("release") {
+        let event = release_in(alloc, definition, word)?;
+        return Ok(event);
+    }
+    let Some(words) = value.get("emit") else {
         return Err(EventError::Refused(EventFault::Shape));
     };
-    let event = release_in(alloc, definition, word)?;
+    let event = emit_in(alloc, definition, words)?;
     Ok(event)
 }
 
@@ -228,7 +233,7 @@ fn check_readable(spec: &Spec) -> Result<(), EventError>
 
 // The object that a value refers to, if it refers to one.
 #[tactic(auto, unfolding(crate::specs::EventMeaning::object_of))]
-fn object_named(
+pub(crate) fn object_named(
     alloc: Global,
     definition: &Definition,
     kind: Kind,
@@ -266,7 +271,7 @@ fn object_for(definition: &Definition, kind: Kind, place: Place) -> Result<Given
 }
 
 // A value of a kind, or the object that it refers to.
-fn given_by(
+pub(crate) fn given_by(
     alloc: Global,
     definition: &Definition,
     kind: Kind,

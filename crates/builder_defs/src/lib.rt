@@ -8,6 +8,7 @@ mod defaults;
 mod definition;
 mod document;
 mod drafts;
+mod emit_reading;
 mod entries;
 mod enums;
 mod event;

@@ -159,3 +159,23 @@ with_value v w = cond (is_over w.stage) w (cond (is_last w.accumulator v) (stopp
   where
     taken : Walk
     taken = record w { value = Some v }
+
+-- ** where there are no bindings
+
+-- whether it is the bindings' turn
+abbrev pub is_transfers : Turn → Bool
+is_transfers turns.Transfers = true
+is_transfers _ = false
+
+-- an emission past a step, if that is the bindings'
+abbrev pub past : Walk → Option Step → Walk
+past w None = w
+past w (Some step) = cond (is_transfers step.turn) (record w { stage = step.then_at }) w
+
+-- an emission once the bindings had their turn, where that is the next one
+abbrev pub past_transfers : Walk → List Handler → Walk
+past_transfers w hs = past w (next_step w hs)
+
+-- the turn of a program that is the next one
+abbrev pub program_turn : Walk → List Handler → Option Turn
+program_turn w hs = option_map (λ (step : Step). step.turn) (next_step (past_transfers w hs) hs)

@@ -1,6 +1,6 @@
 -- What the turns of an emission are, from its beginning on.
 use Rattle.std.specs.List.{flat_map}
-use Rattle.std.specs.Prelude.{◌≡◌, List, None, Option, Some, [], cond, false, nat_eq, ℕ, ◌∷◌}
+use Rattle.std.specs.Prelude.{◌≡◌, Bool, List, None, Option, Some, [], cond, false, nat_eq, ℕ, ◌∷◌}
 use Rattle.ui_machine.specs.Definition.Signals.{Accumulator}
 use Rattle.ui_machine.specs.Rules.EmissionPlan.{Planned, plan}
 use Rattle.ui_machine.specs.State.Config.{World}
@@ -62,3 +62,10 @@ after_next (d ∷ dues) = cond d.is_blocked (after_next dues) dues
 abbrev pub TurnsGoOn : Type 0
 TurnsGoOn = (w : Walk) (hs : List Handler) (last : ℕ) → Numbered 0 hs last → (step : Step) → next_step w hs ≡ Some step →
     to_come (record w { stage = step.then_at }) hs ≡ after_next (to_come w hs)
+
+-- ** where no handler is connected
+
+-- the entries by the turn of a program that is the next one: without one there are none, and else the first is the class handler's
+abbrev pub IsToldBy : Option Turn → List PlanEntry → Type 0
+IsToldBy None entries = entries ≡ []
+IsToldBy (Some turn) entries = (program : ℕ) × (cleanup : Bool) × (rest : List PlanEntry) × (entries ≡ class_handler program cleanup ∷ rest)

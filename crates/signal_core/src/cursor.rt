@@ -155,6 +155,27 @@ impl Cursor {
         }
     }
 
+    /// The object that emits.
+    pub fn object(&self) -> ObjectId
+        ensures { result.0 ≡ self.now.object }
+    {
+        self.emission.object
+    }
+
+    /// The signal, by its number in the list of the object's class; 0 is `notify`.
+    pub fn signal(&self) -> u16
+        ensures { result ≡ self.now.signal }
+    {
+        self.emission.signal
+    }
+
+    /// The value that the emission has accumulated so far.
+    pub fn accumulated(&self) -> Option<&Value>
+        ensures { option_map (λ v. value_view v.now) result ≡ self.now.value }
+    {
+        self.value.as_ref()
+    }
+
     /// The value that the emission has accumulated.
     pub fn value(self) -> Option<Value>
         ensures { option_map (λ v. value_view v) result ≡ self.value }

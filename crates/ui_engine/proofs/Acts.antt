@@ -18,14 +18,14 @@ use Rattle.ui_machine.specs.State.Config.{World, Config, built, Started, starts,
 use Rattle.ui_machine.specs.Outcome.{After, Answer, known, only_if}
 use Rattle.ui_machine.specs.Rules.NotifyQueue.{frozen_less, thawing}
 use Rattle.ui_machine.specs.Rules.Programs.{first_frame, all_fit, fits_register, beginning_program, program_before}
-use Rattle.ui_machine.specs.Rules.EmissionPlan.{notifying, notification}
+use Rattle.ui_machine.specs.Rules.EmissionPlan.{notifying, beginning_emission}
 use Rattle.ui_machine.specs.Rules.Accumulation.{resulting, passed_down, told, ending}
 use Rattle.ui_machine.specs.Rules.Construction.{not_forward, initially_unowned, making, with_object, new_object, thawing_made, constructed, making_set}
 use Rattle.ui_machine.specs.Rules.Sets.{setting, spec_at}
 use Rattle.ui_machine.specs.Steps.{most_steps, before, uncounted, left, act}
 use Rattle.ui_machine.specs.Rules.Build.{building, building_child, building_forward, held_object}
 use Rattle.ui_machine.specs.Rules.Children.{adopted}
-use Rattle.ui_machine.specs.Rules.Events.{carrying_set, carrying_get, carrying_release}
+use Rattle.ui_machine.specs.Rules.Events.{carrying_set, carrying_get, carrying_emit, carrying_release}
 use Rattle.g_values.specs.View.{value_view}
 use Rattle.builder_defs.specs.declared.event.Event.{Event}
 use Rattle.builder_defs.specs.declared.event.Event.TheVariants as events
@@ -33,7 +33,12 @@ use Rattle.builder_defs.specs.Meaning.{IsBasic, given_view, request_of}
 use Rattle.ui_engine.specs.declared.task.Task.TheVariants as tasks
 use Rattle.ui_engine.specs.declared.task.Task as code
 use Rattle.ui_engine.specs.declared.task.Forward.{Forward}
-use Rattle.ui_engine.specs.TaskView.{task_of, name_of, item_of, build_from, build_behind}
+use Rattle.ui_engine.specs.GivenView.{detail_of}
+use Rattle.ui_engine.specs.TaskView.{task_of, new_of, emission_of, entries_to_come, item_of, build_from, build_behind}
+use Rattle.ui_engine.proofs.Notified.{down}
+use Rattle.ui_engine.proofs.Turns.{by_turn}
+use Rattle.signal_core.specs.Emission.{Walk}
+use Rattle.ui_machine.specs.State.Handlers.{Handler}
 use Rattle.ui_engine.specs.EngineView.{is_counted}
 use Rattle.ui_machine.specs.Prefix.{IsPrefix}
 use Rattle.ui_machine.proofs.Prefixes.{prefix_same, prefix_one}
@@ -41,8 +46,8 @@ use Rattle.ui_engine.specs.Measure.{sets_of_place, weight, waiting_in, waiting}
 use Rattle.ui_engine.specs.MakingView.{making_of_object}
 use Rattle.ui_engine.proofs.Lists.{total-append}
 use Rattle.ui_engine.proofs.Floats.{Quietly, if_ok_at, bind_ok, one_floats, without_less}
-use Rattle.ui_engine.proofs.Quiet.{Calm, notifying_calm, setting_calm, building_forward_calm, carrying_set_calm, carrying_get_calm, carrying_release_calm, thawing_calm}
-use Rattle.ui_engine.proofs.Falls.{Falls, setting_falls, thawing_falls, thawing_made_falls, building_forward_falls, carrying_set_falls, carrying_get_falls, carrying_release_falls}
+use Rattle.ui_engine.proofs.Quiet.{Calm, notifying_calm, beginning_calm, carrying_emit_calm, setting_calm, building_forward_calm, carrying_set_calm, carrying_get_calm, carrying_release_calm, thawing_calm}
+use Rattle.ui_engine.proofs.Falls.{Falls, setting_falls, thawing_falls, thawing_made_falls, building_forward_falls, carrying_set_falls, carrying_get_falls, carrying_emit_falls, carrying_release_falls}
 use Rattle.ui_engine.proofs.Joining.{Joins, adopted_joins}
 use Rattle.ui_engine.proofs.Building.{few_steps, few_early, only_forwards, builds_next, next_made, made_there, abstract_there}
 
@@ -100,16 +105,8 @@ module _ (d : Definition) (w : World) (rest : List Task) (n : ℕ) where
   -- ** ends of notifications
 
   -- nothing of the engine's waits for a result
-  kept_down : (ts : List code.Task) (v : Option Value) → passed_down (map (task_of d) ts) v ≡ Ok (map (task_of d) ts)
-  kept_down [] v = refl
-  kept_down (tasks.Setting id slot x ∷ ts) v = refl
-  kept_down (tasks.Notifying id slot ∷ ts) v = refl
-  kept_down (tasks.Emitting id class slot ∷ ts) v = refl
-  kept_down (tasks.Thawing id slots ∷ ts) v = refl
-  kept_down (tasks.Constructing id steps ∷ ts) v = refl
-  kept_down (tasks.Building place forwards ∷ ts) v = refl
-  kept_down (tasks.Adopting place forwards ∷ ts) v = refl
-  kept_down (tasks.Carrying event ∷ ts) v = refl
+  kept_down : (hs : List Handler) (ts : List code.Task) (v : Option Value) → passed_down (map (task_of d hs) ts) v ≡ Ok (map (task_of d hs) ts)
+  kept_down hs ts v = down d hs ts v
 
   ending_at : (e : Emission) (turns : List config.PlanEntry) → (v : World) → v.objects ≡ w.objects → v.floating ≡ w.floating → IsPrefix w.transcript v.transcript
       → Passes d w (Emitting e turns) rest n (record { world = v; agenda = rest; counted = n })
@@ -131,14 +128,48 @@ module _ (d : Definition) (w : World) (rest : List Task) (n : ℕ) where
   left_if t (Ok l) h = h
   left_if t (Err arm) h = tt
 
-  ending_passes : (e : Emission) (ts : List code.Task) → map (task_of d) ts ≡ rest → IfOk (left n (ending d w e rest)) (Passes d w (Emitting e []) rest n)
+  ending_passes : (e : Emission) (hs : List Handler) (ts : List code.Task) → map (task_of d hs) ts ≡ rest → IfOk (left n (ending d w e rest)) (Passes d w (Emitting e []) rest n)
   unfolding ending
-  ending_passes e ts same = left_if (Emitting e []) (ending d w e rest) (bind_ok (resulting d w e) _ Left_passes (λ v _.
-      let down : passed_down rest v ≡ Ok rest = subst (λ (r : List Task). passed_down r v ≡ Ok r) same (kept_down ts v) in
+  ending_passes e hs ts same = left_if (Emitting e []) (ending d w e rest) (bind_ok (resulting d w e) _ Left_passes (λ v _.
+      let down : passed_down rest v ≡ Ok rest = subst (λ (r : List Task). passed_down r v ≡ Ok r) same (kept_down hs ts v) in
       rw down (ended e [] v e.by_event)))
     where
       Left_passes : Left → Type 0
       Left_passes = λ l. Passes d w (Emitting e []) rest n (record { world = l.world; agenda = l.agenda; counted = n })
+
+  -- an emission takes its next turn, or ends
+  emitting_passes : IsBasic d → (hs : List Handler) → hs ≡ [] → (ts : List code.Task) → map (task_of d hs) ts ≡ rest → (cursor : Walk) (e : Emission)
+      → IfOk (act d w None (Emitting e (entries_to_come cursor hs) ∷ rest) n) (Passes d w (Emitting e (entries_to_come cursor hs)) rest n)
+  emitting_passes basic hs silent ts same cursor e =
+      by_turn d basic.programs w rest n cursor hs silent e (λ (a : Answer Config). IfOk a (Passes d w (Emitting e (entries_to_come cursor hs)) rest n)) tt
+      (both Ended Ended Onward (left n (ending d w e rest)) (ending_passes e hs ts same) (ending_passes e hs ts same) (λ x p _. on x p))
+    where
+      Ended : Config → Type 0
+      Ended = Passes d w (Emitting e []) rest n
+
+      Onward : Config → Type 0
+      Onward = Passes d w (Emitting e (entries_to_come cursor hs)) rest n
+
+      on : (x : Config) → Ended x → Onward x
+      on x p = record { falls = λ no. p.falls refl; stays = λ no. p.stays refl; counts = λ yes. cc yes; grows = p.grows }
+
+  -- ** other emissions
+
+  begun : (e : Emission) → n < most_steps → (a : Answer Started) → IfOk a (Calm w) → IfOk (uncounted rest (suc n) a) (Passes d w (Beginning e) rest n)
+  begun e small (Ok s) calm = record {
+    falls = λ no. cc no;
+    stays = λ no. cc no;
+    counts = λ _. (small, refl);
+    grows = calm.grows;
+  }
+  begun e small (Err arm) calm = tt
+
+  beginning_passes : (e : Emission) → IfOk (act d w None (Beginning e ∷ rest) n) (Passes d w (Beginning e) rest n)
+  beginning_passes e = by (nat_lt n most_steps) refl
+    where
+      by : (b : Bool) → nat_lt n most_steps ≡ b → IfOk (only_if b arms.Steps (uncounted rest (suc n) (beginning_emission d w e))) (Passes d w (Beginning e) rest n)
+      by true small = begun e (let few : n < most_steps = grind (arith, nat_tests) in few) (beginning_emission d w e) (beginning_calm d w e)
+      by false large = tt
 
   -- ** constructions
 
@@ -242,6 +273,7 @@ module _ (d : Definition) (w : World) (rest : List Task) (n : ℕ) where
   carrying_passes : (event : Event) → IfOk (act d w None (Carrying (request_of event) ∷ rest) n) (Passes d w (Carrying (request_of event)) rest n)
   carrying_passes (events.Set place slot given) = steadily (Carrying (request_of (events.Set place slot given))) refl (carrying_set d w place.0 slot (given_view given)) (carrying_set_calm d w place.0 slot (given_view given)) (carrying_set_falls d w place.0 slot (given_view given))
   carrying_passes (events.Get place slot) = steadily (Carrying (request_of (events.Get place slot))) refl (carrying_get d w place.0 slot) (carrying_get_calm d w place.0 slot) (carrying_get_falls d w place.0 slot)
+  carrying_passes (events.Emit place signal args detail) = steadily (Carrying (request_of (events.Emit place signal args detail))) refl (carrying_emit d w place.0 signal (map given_view args.items) (detail_of detail)) (carrying_emit_calm d w place.0 signal (map given_view args.items) (detail_of detail)) (carrying_emit_falls d w place.0 signal (map given_view args.items) (detail_of detail))
   carrying_passes (events.Release place) = steadily (Carrying (request_of (events.Release place))) refl (carrying_release d w place.0) (carrying_release_calm d w place.0) (carrying_release_falls d w place.0)
 
   -- ** the build
@@ -335,12 +367,14 @@ module _ (d : Definition) (w : World) (rest : List Task) (n : ℕ) where
         by None at = built_past (within_none d.places place at)
 
   -- what the step of each task of the engine leads to
-  pub acted : IsBasic d → (t : code.Task) (ts : List code.Task) → map (task_of d) ts ≡ rest → IfOk (act d w None (task_of d t ∷ rest) n) (Passes d w (task_of d t) rest n)
-  acted basic (tasks.Setting id slot v) ts same = setting_passes id.0 slot (value_view v)
-  acted basic (tasks.Notifying id slot) ts same = notifying_passes id.0 slot
-  acted basic (tasks.Emitting id class slot) ts same = ending_passes (notification id.0 (name_of d class slot)) ts same
-  acted basic (tasks.Thawing id slots) ts same = thawing_passes id.0 slots
-  acted basic (tasks.Constructing id steps) ts same = constructing_passes id.0 steps
-  acted basic (tasks.Building place forwards) ts same = building_passes basic place forwards
-  acted basic (tasks.Adopting place forwards) ts same = adopting_passes place (build_from d (suc place) forwards)
-  acted basic (tasks.Carrying event) ts same = carrying_passes event
+  pub acted : IsBasic d → (hs : List Handler) → hs ≡ [] → (t : code.Task) (ts : List code.Task) → map (task_of d hs) ts ≡ rest
+      → IfOk (act d w None (task_of d hs t ∷ rest) n) (Passes d w (task_of d hs t) rest n)
+  acted basic hs silent (tasks.Setting id slot v) ts same = setting_passes id.0 slot (value_view v)
+  acted basic hs silent (tasks.Notifying id slot) ts same = notifying_passes id.0 slot
+  acted basic hs silent (tasks.Beginning e) ts same = beginning_passes (new_of e)
+  acted basic hs silent (tasks.Emitting cursor args by_event) ts same = emitting_passes basic hs silent ts same cursor (emission_of cursor args.items by_event)
+  acted basic hs silent (tasks.Thawing id slots) ts same = thawing_passes id.0 slots
+  acted basic hs silent (tasks.Constructing id steps) ts same = constructing_passes id.0 steps
+  acted basic hs silent (tasks.Building place forwards) ts same = building_passes basic place forwards
+  acted basic hs silent (tasks.Adopting place forwards) ts same = adopting_passes place (build_from d (suc place) forwards)
+  acted basic hs silent (tasks.Carrying event) ts same = carrying_passes event

@@ -11,7 +11,7 @@ use Rattle.ui_machine.specs.Rules.NotifyQueue.{queued, raised, less_frozen, froz
 use Rattle.ui_machine.specs.State.Config.{Held, said}
 use Rattle.ui_machine.specs.State.Objects.{Object, Objects, living, put, asked, changed, value_at, with_value}
 use Rattle.ui_machine.specs.State.References.{same, in_value, in_object, in_held, in_task, mentions, next_unheld}
-use Rattle.ui_machine.specs.State.Tasks.{Task}
+use Rattle.ui_machine.specs.State.Tasks.{Emission, Emitting, PlanEntry, Task}
 use Rattle.instances.specs.Family.{Sinks}
 use Rattle.instances.specs.Laws.{Counted}
 use Rattle.instances.specs.Store.{Store, count_of, counts_with, so_often, with_objects, with_object}
@@ -32,9 +32,16 @@ use Rattle.ui_machine.specs.Runs.{first_world}
 use Rattle.ui_machine.specs.State.Config as config
 use Rattle.ui_engine.specs.EngineView.{config_of}
 use Rattle.ui_engine.specs.View.{held_of, world_of}
-use Rattle.ui_engine.specs.TaskView.{agenda_of}
-use Rattle.ui_engine.specs.Counting.{OnlyCounts, Counts, KeepsCounts, nothing}
+use Rattle.ui_engine.specs.declared.task.Task as code
+use Rattle.ui_engine.specs.TaskView.{task_in, tasks_of, agenda_of}
+use Rattle.ui_engine.proofs.Left.{same_agenda}
+use Rattle.signal_core.specs.Connected.{Connected}
+use Rattle.ui_engine.specs.Counting.{OnlyCounts, Counts, KeepsCounts, in_emitted, in_subject, nothing}
 use Rattle.ui_engine.proofs.Floats.{if_ok_at, bind_ok}
+
+-- two changes of counts alone
+pub both_only : (t m n : Store) → OnlyCounts t m → OnlyCounts m n → OnlyCounts t n
+both_only t m n p q = record { objects = q.objects ∙ p.objects; floating = q.floating ∙ p.floating }
 
 -- ** counts by what holds
 
@@ -182,13 +189,14 @@ module _ (d : Definition) (m : Marks) (t n : Store) (id slot : ℕ) (v : Value) 
 -- ** the engine
 
 module _ (d : Definition) (e new : Engine) where
-  pub keeps_by : new.world.weak ≡ e.world.weak
-      → ((taken : ℕ → ℕ) → Knows d e.world.weak → Exact d taken e.world.table (map held_of e.world.builder.items) (agenda_of d e.stack)
-      → Exact d taken new.world.table (map held_of new.world.builder.items) (agenda_of d new.stack))
+  pub keeps_by : new.world.weak ≡ e.world.weak → new.world.handlers ≡ e.world.handlers
+      → ((taken : ℕ → ℕ) → Knows d e.world.weak → Exact d taken e.world.table (map held_of e.world.builder.items) (agenda_of d e)
+      → Exact d taken new.world.table (map held_of new.world.builder.items) (agenda_of d new))
       → KeepsCounts d e new
-  keeps_by weak moves = record {
+  keeps_by weak handlers moves = record {
     at = λ taken h. record {
       knows = subst (λ (m : Marks). Knows d m) (sym weak) h.knows;
+      silent = ap (λ (hs : Connected). hs.handlers) handlers ∙ h.silent;
       exact = moves taken h.knows h.exact;
     };
   }
@@ -198,24 +206,24 @@ keeps_on d e f new p q = record { at = λ taken h. q.at taken (p.at taken h) }
 
 -- a line more, another result or another count of steps moves nothing
 pub keeps_same : (d : Definition) (e new : Engine) → new.world.table ≡ e.world.table → new.world.weak ≡ e.world.weak
-    → new.world.builder ≡ e.world.builder → new.stack ≡ e.stack → KeepsCounts d e new
-keeps_same d e new table weak builder stack = keeps_by d e new weak (λ taken _ h.
-    subst (λ (t : Store). Exact d taken t (map held_of new.world.builder.items) (agenda_of d new.stack)) (sym table)
-    (subst (λ (s : Stack). Exact d taken e.world.table (map held_of new.world.builder.items) (agenda_of d s)) (sym stack)
-    (subst (λ bs. Exact d taken e.world.table (map held_of bs.items) (agenda_of d e.stack)) (sym builder) h)))
+    → new.world.builder ≡ e.world.builder → new.stack ≡ e.stack → new.world.handlers ≡ e.world.handlers → KeepsCounts d e new
+keeps_same d e new table weak builder stack handlers = keeps_by d e new weak handlers (λ taken _ h.
+    subst (λ (t : Store). Exact d taken t (map held_of new.world.builder.items) (agenda_of d new)) (sym table)
+    (subst (λ (ts : List Task). Exact d taken e.world.table (map held_of new.world.builder.items) ts) (sym (same_agenda d e new stack handlers))
+    (subst (λ bs. Exact d taken e.world.table (map held_of bs.items) (agenda_of d e)) (sym builder) h)))
 
 -- a line that was said
 pub keeps_said : (d : Definition) (e : Engine) (w : World) → w ≡ record e.world { transcript = w.transcript } → KeepsCounts d e (record e { world = w })
 keeps_said d e w is =
-    keeps_same d e (record e { world = w }) (ap (λ (v : World). v.table) is) (ap (λ (v : World). v.weak) is) (ap (λ (v : World). v.builder) is) refl
+    keeps_same d e (record e { world = w }) (ap (λ (v : World). v.table) is) (ap (λ (v : World). v.weak) is) (ap (λ (v : World). v.builder) is) refl (ap (λ (v : World). v.handlers) is)
 
 -- an object that changed and holds what it held
 pub keeps_changed : (d : Definition) (e : Engine) (t : Store) → t ≡ with_objects e.world.table t.objects
     → ((o : ℕ) → total (in_object d o) t.objects ≡ total (in_object d o) e.world.table.objects)
     → KeepsCounts d e (record e { world = record e.world { table = t } })
 keeps_changed d e t beside alike =
-    keeps_by d e (record e { world = record e.world { table = t } }) refl
-    (λ taken _ h. objects_alike d taken e.world.table t (map held_of e.world.builder.items) (agenda_of d e.stack) beside alike h)
+    keeps_by d e (record e { world = record e.world { table = t } }) refl refl
+    (λ taken _ h. objects_alike d taken e.world.table t (map held_of e.world.builder.items) (agenda_of d e) beside alike h)
 
 -- the same of a change that answers
 pub keeps_change : {X : Type 0} (d : Definition) (e : Engine) (t : Store) (id : ℕ) (change : Object → Answer (After Object X)) (answer : X) → Alike d change
@@ -256,10 +264,11 @@ config_same d e t only =
     ∙ ap (λ floating. record (config_of d e) { world = record (world_of e.world) { floating = floating } }) only.floating
 
 -- a task that was taken off counts on
-pub taken_off : (d : Definition) (e : Engine) (s : Stack) (t : Task) → agenda_of d e.stack ≡ t ∷ agenda_of d s → Counts d nothing e
+pub taken_off : (d : Definition) (e : Engine) (s : Stack) (t : Task) → agenda_of d e ≡ t ∷ tasks_of d e.world.handlers.handlers s → Counts d nothing e
     → Counts d (λ o. in_task o t) (record e { stack = s })
 taken_off d e s t first h = record {
   knows = h.knows;
+  silent = h.silent;
   exact = λ o. omega (arith, h.exact o, ap (λ (ts : List Task). total (in_task o) ts) first);
 }
 
@@ -269,6 +278,7 @@ pub given_back : (d : Definition) (e : Engine) (t : Store) (gone : ℕ → ℕ) 
     → Counts d nothing (record e { world = record e.world { table = t } })
 given_back d e t gone only counts h = record {
   knows = h.knows;
+  silent = h.silent;
   exact = λ o.
       let objects : total (in_object d o) t.objects ≡ total (in_object d o) e.world.table.objects = ap (total (in_object d o)) only.objects in
       let floats : total (same o) t.floating ≡ total (same o) e.world.table.floating = ap (total (same o)) only.floating in
@@ -276,9 +286,10 @@ given_back d e t gone only counts h = record {
 }
 
 -- another stack of the same tasks
-pub same_tasks : (d : Definition) (e : Engine) (s : Stack) → agenda_of d s ≡ agenda_of d e.stack → Counts d nothing e → Counts d nothing (record e { stack = s })
+pub same_tasks : (d : Definition) (e : Engine) (s : Stack) → tasks_of d e.world.handlers.handlers s ≡ agenda_of d e → Counts d nothing e → Counts d nothing (record e { stack = s })
 same_tasks d e s is h = record {
   knows = h.knows;
+  silent = h.silent;
   exact = λ o. omega (arith, h.exact o, ap (λ (ts : List Task). total (in_task o) ts) is);
 }
 
@@ -288,13 +299,14 @@ none_of zero = refl
 none_of (suc o) = refl
 
 pub none_counted : (d : Definition) (e : Engine) (m : Marks) → Knows d m → e.world.weak ≡ m → e.world.table.counts ≡ [] → world_of e.world ≡ said d (first_world d []) lines.build
-    → agenda_of d e.stack ≡ [] → Counts d nothing e
-none_counted d e m knows marks counts world idle = record {
+    → agenda_of d e ≡ [] → e.world.handlers.handlers ≡ [] → Counts d nothing e
+none_counted d e m knows marks counts world idle silent = record {
   knows = subst (λ (w : Marks). Knows d w) (sym marks) knows;
+  silent = silent;
   exact = λ o.
       let none : count_of e.world.table.counts o ≡ 0 = ap (λ cs. count_of cs o) counts ∙ none_of o in
       let same : mentions d (config_of d e) o ≡ 0 =
-      ap (λ (w : config.World). mentions d (record { world = w; agenda = agenda_of d e.stack; counted = e.counted }) o) world
+      ap (λ (w : config.World). mentions d (record { world = w; agenda = agenda_of d e; counted = e.counted }) o) world
       ∙ omega (arith, ap (λ (ts : List Task). total (in_task o) ts) idle) in
       omega (arith, none, same);
 }
@@ -311,12 +323,50 @@ finds_mentioned d e h =
 pub keeps_finalised : (d : Definition) (e : Engine) (t : Store) (w : World) (id n : ℕ) → (Knows d e.world.weak → Finalises d id e.world.table t)
     → w ≡ record (record e.world { table = t }) { transcript = w.transcript } → KeepsCounts d e (record e { world = w; counted = n })
 keeps_finalised d e t w id n finalises is =
-    keeps_by d e (record e { world = w; counted = n }) (ap (λ (v : World). v.weak) is) (λ taken knows h.
+    keeps_by d e (record e { world = w; counted = n }) (ap (λ (v : World). v.weak) is) (ap (λ (v : World). v.handlers) is) (λ taken knows h.
     let b = map held_of e.world.builder.items in
-    let a = agenda_of d e.stack in
+    let a = agenda_of d e in
     let after = from_counted d taken t b a (finalise_exact d (beside_of taken b a) e.world.table t id (finalises knows) (to_counted d taken e.world.table b a h)) in
-    subst (λ (v : World). Exact d taken v.table (map held_of v.builder.items) a) (sym is) after)
+    subst (λ (v : World). Exact d taken v.table (map held_of v.builder.items) (tasks_of d v.handlers.handlers e.stack)) (sym is) after)
 
 -- the engine with another table
 abbrev pub with_table : Engine → Store → Engine
 with_table e t = record e { world = record e.world { table = t } }
+
+-- as much is held beside
+pub taken_alike : (d : Definition) (e : Engine) (more less : ℕ → ℕ) → ((o : ℕ) → more o ≡ less o) → Counts d more e → Counts d less e
+taken_alike d e more less alike h = record { knows = h.knows; silent = h.silent; exact = λ o. omega (arith, h.exact o, alike o) }
+
+-- the rest of an emission goes on with what it was given, and holds its object
+pub pushed_rest : (d : Definition) (e : Engine) (t : Store) (s : Stack) (taken : ℕ → ℕ) (m : Emission) (entries : List PlanEntry) → OnlyCounts e.world.table t
+    → ((o : ℕ) → count_of t.counts o ≡ count_of e.world.table.counts o + same o m.object)
+    → tasks_of d e.world.handlers.handlers s ≡ Emitting m entries ∷ agenda_of d e
+    → Counts d (λ o. taken o + in_emitted o m) e → Counts d taken (record e { world = record e.world { table = t }; stack = s })
+pushed_rest d e t s taken m entries only counts first h = record {
+  knows = h.knows;
+  silent = h.silent;
+  exact = λ o.
+      let objects : total (in_object d o) t.objects ≡ total (in_object d o) e.world.table.objects = ap (total (in_object d o)) only.objects in
+      let floats : total (same o) t.floating ≡ total (same o) e.world.table.floating = ap (total (same o)) only.floating in
+      omega (arith, objects, floats, counts o, ap (λ (ts : List Task). total (in_task o) ts) first, h.exact o);
+}
+
+-- what was held beside is let go
+pub less_held : (d : Definition) (e : Engine) (t : Store) (more left gone : ℕ → ℕ) → OnlyCounts e.world.table t
+    → ((o : ℕ) → count_of t.counts o + gone o ≡ count_of e.world.table.counts o) → ((o : ℕ) → more o ≡ left o + gone o)
+    → Counts d more e → Counts d left (record e { world = record e.world { table = t } })
+less_held d e t more left gone only counts parts h = record {
+  knows = h.knows;
+  silent = h.silent;
+  exact = λ o.
+      let objects : total (in_object d o) t.objects ≡ total (in_object d o) e.world.table.objects = ap (total (in_object d o)) only.objects in
+      let floats : total (same o) t.floating ≡ total (same o) e.world.table.floating = ap (total (same o)) only.floating in
+      omega (arith, objects, floats, counts o, parts o, h.exact o);
+}
+
+-- a task that holds no more than its object is done
+pub done_plain : (d : Definition) (e new : Engine) (t u : code.Task) → t ≡ u → ((o : ℕ) → in_task o (task_in d e u) ≡ in_subject o (task_in d e u)) → KeepsCounts d e new
+    → Counts d (λ o. in_task o (task_in d e t)) e → Counts d (λ o. in_subject o (task_in d e t)) new
+done_plain d e new t u is alike keeps h =
+    taken_alike d new (λ o. in_task o (task_in d e t)) (λ o. in_subject o (task_in d e t))
+    (subst (λ (x : code.Task). (o : ℕ) → in_task o (task_in d e x) ≡ in_subject o (task_in d e x)) (sym is) alike) (keeps.at _ h)

@@ -22,7 +22,8 @@ use Rattle.ui_machine.specs.Outcome.{After, Answer, ◌>>=◌, known, only_if}
 use Rattle.ui_machine.specs.Rules.Sets.{spec_at, raising, raising_if, notifies, kept, written, settled, setting, lives, has_kind}
 use Rattle.ui_machine.specs.Rules.Construction.{thawing_made, given_value}
 use Rattle.ui_machine.specs.Rules.Build.{held_object, set_forward, building_forward}
-use Rattle.ui_machine.specs.Rules.Events.{with_result, carrying_set, carrying_get, carrying_release, set_given}
+use Rattle.ui_machine.specs.Rules.Events.{with_result, carrying_set, carrying_get, carrying_emit, carrying_release, given_values, set_given}
+use Rattle.ui_machine.specs.Rules.Connections.{detail_in}
 use Rattle.ui_engine.specs.Measure.{item_weight, weight, waiting_in, waiting}
 use Rattle.ui_engine.proofs.Floats.{if_ok_at, bind_ok}
 
@@ -183,6 +184,11 @@ pub carrying_get_falls : (d : Definition) (w : World) (place slot : ℕ) → IfO
 unfolding carrying_get
 carrying_get_falls d w place slot = bind_ok (held_object w place) _ (Falls d w 4) (λ id _. bind_ok (spec_at d w.objects id slot) _ (Falls d w 4) (λ s _. bind_ok (asked w.objects id (value_at slot)) _ (Falls d w 4) (λ v _.
     only_falls d w 4 (is_readable s) arms.Flags (starts (with_result (said d w (lines.get id s.name v)) v) []) (record { less = omega arith }))))
+
+pub carrying_emit_falls : (d : Definition) (w : World) (place signal : ℕ) (args : List Given) (detail : Option (List ℕ)) → IfOk (carrying_emit d w place signal args detail) (Falls d w 4)
+unfolding carrying_emit
+carrying_emit_falls d w place signal args detail = bind_ok (held_object w place) _ (Falls d w 4) (λ id _. bind_ok (detail_in d w id signal detail) _ (Falls d w 4) (λ stands _.
+    bind_ok (given_values w args) _ (Falls d w 4) (λ vs _. record { less = omega arith })))
 
 pub carrying_release_falls : (d : Definition) (w : World) (place : ℕ) → IfOk (carrying_release d w place) (Falls d w 4)
 unfolding carrying_release

@@ -5,7 +5,8 @@ use Rattle.ui_machine.specs.Definition.{Definition}
 use Rattle.ui_machine.specs.Output.Lines as lines
 use Rattle.ui_machine.specs.Output.Text.{text_of_line}
 use Rattle.ui_machine.specs.Outcome.{Answer, ◌>>=◌}
-use Rattle.ui_machine.specs.Rules.Disposal.{closing, said_if, is_first, peer_of, without_object, objects_disposed, finalised}
+use Rattle.std.specs.List.{filter}
+use Rattle.ui_machine.specs.Rules.Disposal.{is_of_object, closing, said_if, is_first, peer_of, without_object, objects_disposed, finalised}
 use Rattle.ui_machine.specs.Rules.Sets.{is_disposed}
 use Rattle.ui_machine.specs.State.Config.{World, Started, starts, said, with_objects}
 use Rattle.ui_machine.specs.State.Objects.{Object, Objects, living, put}
@@ -53,20 +54,23 @@ module _ (d : Definition) (v : code.World) (id : ℕ) where
       by true = refl
       by false = refl
 
-  pub finalised_now : peer_of (living (world_of v).objects id) ≡ None → (first : Bool) → is_first (living (world_of v).objects id) ≡ first
+  pub finalised_now : v.handlers.handlers ≡ [] → peer_of (living (world_of v).objects id) ≡ None → (first : Bool) → is_first (living (world_of v).objects id) ≡ first
       → finalising d (world_of v) id ≡ starts (record (world_of v) {
         objects = put (objects_disposed d id v.table.objects) id None;
         transcript = cond first ((world_of v).transcript ++ text_of_line d.types (lines.dispose id) ∷ []) (world_of v).transcript ++ text_of_line d.types (lines.final id) ∷ [];
       }) []
   unfolding closing
-  finalised_now none first is = by_peer None none ∙ ap (λ f. taken_out (gone f)) is ∙ by first
+  finalised_now silent none first is = by_peer None none ∙ ap (λ f. taken_out (gone f)) is ∙ by first
     where
+      forgotten : filter (λ h. not (is_of_object id h)) v.handlers.handlers ≡ v.handlers.handlers
+      forgotten = rw silent refl
+
       by : (f : Bool) → taken_out (gone f) ≡ starts (record (world_of v) {
         objects = put (objects_disposed d id v.table.objects) id None;
         transcript = cond f ((world_of v).transcript ++ text_of_line d.types (lines.dispose id) ∷ []) (world_of v).transcript ++ text_of_line d.types (lines.final id) ∷ [];
       }) []
-      by true = refl
-      by false = refl
+      by true = rw forgotten refl
+      by false = rw forgotten refl
 
 -- what code leaves after it
 pub last_config : (d : Definition) (rest : List Task) (n : ℕ) (w : code.World) (t : Store) (id : ℕ) (first : Bool) (x y : List ℕ) (new : World) (m : ℕ) (tasks : List Task)

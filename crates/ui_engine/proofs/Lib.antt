@@ -13,6 +13,13 @@ pub mod Marks
 pub mod Finalising
 pub mod Counts
 pub mod Notified
+pub mod Parts
+pub mod Turns
+pub mod Details
+pub mod Values
+pub mod Emits
+pub mod Operands
+pub mod Emitted
 pub mod Built
 pub mod Acts
 pub mod Building

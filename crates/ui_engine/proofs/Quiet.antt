@@ -1,25 +1,27 @@
 -- What sets, notifications and gets leave of what floats, and of the lines.
-use Rattle.std.proofs.Common.{not, ℕ, Bool, true, false, cond, ◌&&◌, ◌||◌, List, [], ◌∷◌, Ok, Err, refl}
+use Rattle.std.proofs.Common.{not, ℕ, Bool, true, false, cond, ◌&&◌, ◌||◌, List, [], ◌∷◌, Option, Ok, Err, refl}
 use Rattle.std.specs.Prelude.{IfOk}
 use Rattle.ui_machine.specs.declared.arm.Arm.{Arm}
 use Rattle.ui_machine.specs.declared.arm.Arm.TheVariants as arms
 use Rattle.ui_machine.specs.Definition.Values.{Value}
 use Rattle.ui_machine.specs.Output.Lines as lines
-use Rattle.ui_machine.specs.Rules.Transform.{same_value}
+use Rattle.ui_machine.specs.Rules.Transform.{kind_fits, same_value}
 use Rattle.ui_machine.specs.Rules.Validation.{clamp}
 use Rattle.ui_machine.specs.Definition.Properties.{Spec, is_lax, is_readable, is_writable, is_construct_only}
 use Rattle.ui_machine.specs.Definition.Lookups.{place_at, spec_of}
 use Rattle.ui_machine.specs.Definition.{Definition}
 use Rattle.ui_machine.specs.Definition.Places.{Given}
 use Rattle.ui_machine.specs.State.Objects.{class_in, object_at, asked, value_at, changed, with_value}
-use Rattle.ui_machine.specs.State.Tasks.{Item}
+use Rattle.ui_machine.specs.State.Tasks.{Emission, Item}
 use Rattle.ui_machine.specs.State.Config.{World, Started, starts, said}
 use Rattle.ui_machine.specs.Outcome.{Answer, known, only_if}
 use Rattle.ui_machine.specs.Rules.NotifyQueue.{raised, thawing}
 use Rattle.ui_machine.specs.Rules.Sets.{spec_at, raising, raising_if, notifies, kept, written, settled, setting, lives, has_kind}
-use Rattle.ui_machine.specs.Rules.EmissionPlan.{notifying, signal_at}
+use Rattle.ui_machine.specs.Rules.EmissionPlan.{beginning_emission, notifying, signal_at}
+use Rattle.ui_machine.specs.Rules.Connections.{detail_in}
+use Rattle.ui_machine.specs.Rules.Programs.{all_fit}
 use Rattle.ui_machine.specs.Rules.Construction.{given_value}
-use Rattle.ui_machine.specs.Rules.Events.{with_result, carrying_set, carrying_get, carrying_release, set_given}
+use Rattle.ui_machine.specs.Rules.Events.{with_result, carrying_set, carrying_get, carrying_emit, carrying_release, given_values, set_given}
 use Rattle.ui_machine.specs.Rules.Build.{held_object, set_forward, building_forward}
 use Rattle.ui_machine.proofs.Prefixes.{prefix_same, prefix_one}
 use Rattle.ui_engine.proofs.Floats.{Quietly, quietly_on, bind_ok}
@@ -41,6 +43,17 @@ calm_on w v (Err arm) q h = tt
 pub notifying_calm : (d : Definition) (w : World) (id slot : ℕ) → IfOk (notifying d w id slot) (Calm w)
 unfolding notifying
 notifying_calm d w id slot = bind_ok (object_at w.objects id) _ (Calm w) (λ o _. bind_ok (known arms.Code (spec_of d o.class slot)) _ (Calm w) (λ p _. bind_ok (signal_at d o.class 0) _ (Calm w) (λ s _. record { floating = refl; grows = prefix_one w.transcript _ })))
+
+-- ** emissions
+
+only_begins : (w : World) (b : Bool) (s : Started) → Calm w s → IfOk (only_if b arms.Argument (Ok s)) (Calm w)
+only_begins w true s calm = calm
+only_begins w false s calm = tt
+
+pub beginning_calm : (d : Definition) (w : World) (e : Emission) → IfOk (beginning_emission d w e) (Calm w)
+unfolding beginning_emission
+beginning_calm d w e = bind_ok (object_at w.objects e.object) _ (Calm w) (λ o _. bind_ok (signal_at d o.class e.signal) _ (Calm w) (λ s _.
+    only_begins w (all_fit (kind_fits (class_in w.objects) d.types) e.args s.params) _ (record { floating = refl; grows = prefix_one w.transcript _ })))
 
 -- ** sets
 
@@ -84,6 +97,11 @@ pub carrying_get_calm : (d : Definition) (w : World) (place slot : ℕ) → IfOk
 unfolding carrying_get
 carrying_get_calm d w place slot = bind_ok (held_object w place) _ (Calm w) (λ id _. bind_ok (spec_at d w.objects id slot) _ (Calm w) (λ s _. bind_ok (asked w.objects id (value_at slot)) _ (Calm w) (λ v _.
     only_calm w (is_readable s) arms.Flags (starts (with_result (said d w (lines.get id s.name v)) v) []) (record { floating = refl; grows = prefix_one w.transcript _ }))))
+
+pub carrying_emit_calm : (d : Definition) (w : World) (place signal : ℕ) (args : List Given) (detail : Option (List ℕ)) → IfOk (carrying_emit d w place signal args detail) (Calm w)
+unfolding carrying_emit
+carrying_emit_calm d w place signal args detail = bind_ok (held_object w place) _ (Calm w) (λ id _. bind_ok (detail_in d w id signal detail) _ (Calm w) (λ stands _.
+    bind_ok (given_values w args) _ (Calm w) (λ vs _. record { floating = refl; grows = prefix_same w.transcript })))
 
 pub carrying_release_calm : (d : Definition) (w : World) (place : ℕ) → IfOk (carrying_release d w place) (Calm w)
 unfolding carrying_release

@@ -4,6 +4,7 @@ use Rattle.std.specs.Prelude.{IfOk, OnErr}
 use Rattle.ui_machine.specs.declared.arm.Halt.{Halt}
 use Rattle.ui_machine.specs.declared.arm.Halt.TheVariants as halts
 use Rattle.ui_machine.specs.Definition.{Definition}
+use Rattle.ui_machine.specs.State.Handlers.{Handler}
 use Rattle.ui_machine.specs.State.Tasks.{Task}
 use Rattle.ui_machine.specs.State.Config.{World, Config, sunk}
 use Rattle.ui_machine.specs.Outcome.{Goes, Stops}
@@ -18,7 +19,7 @@ use Rattle.ui_engine.specs.declared.task.Task.TheVariants as tasks
 use Rattle.ui_engine.specs.declared.task.Stack.{Stack}
 use Rattle.ui_engine.specs.declared.engine.Made.{Made}
 use Rattle.ui_engine.specs.declared.engine.Made.TheVariants as mades
-use Rattle.ui_engine.specs.TaskView.{task_of, agenda_of}
+use Rattle.ui_engine.specs.TaskView.{task_of, tasks_of}
 use Rattle.ui_engine.specs.EngineView.{IsMade}
 use Rattle.ui_machine.specs.Prefix.{IsPrefix}
 use Rattle.ui_machine.proofs.Prefixes.{prefix_by}
@@ -32,34 +33,36 @@ pub step_acts : (d : Definition) (c : Config) → NoneUnheld d c → step d None
 step_acts d c none = ap (first_of d None c) none
 
 -- no task of the engine asks a peer
-asks_none : (d : Definition) (w : World) (task : code.Task) (rest : List Task) → asked_first w (task_of d task ∷ rest) ≡ None
-asks_none d w (tasks.Setting id slot v) rest = refl
-asks_none d w (tasks.Notifying id slot) rest = refl
-asks_none d w (tasks.Emitting id class slot) rest = refl
-asks_none d w (tasks.Thawing id slots) rest = refl
-asks_none d w (tasks.Constructing id steps) rest = refl
-asks_none d w (tasks.Building place forwards) rest = refl
-asks_none d w (tasks.Adopting place forwards) rest = refl
-asks_none d w (tasks.Carrying event) rest = refl
+asks_none : (d : Definition) (hs : List Handler) (w : World) (task : code.Task) (rest : List Task) → asked_first w (task_of d hs task ∷ rest) ≡ None
+asks_none d hs w (tasks.Setting id slot v) rest = refl
+asks_none d hs w (tasks.Notifying id slot) rest = refl
+asks_none d hs w (tasks.Beginning emission) rest = refl
+asks_none d hs w (tasks.Emitting cursor args by_event) rest = refl
+asks_none d hs w (tasks.Thawing id slots) rest = refl
+asks_none d hs w (tasks.Constructing id steps) rest = refl
+asks_none d hs w (tasks.Building place forwards) rest = refl
+asks_none d hs w (tasks.Adopting place forwards) rest = refl
+asks_none d hs w (tasks.Carrying event) rest = refl
 
 -- why the step of a task that asks none goes no further
 halts_at : (d : Definition) (c : Config) (halt : Halt) → question d c ≡ None → Stops halt (step d None c) → HaltsAt d c halt
 halts_at d c halts.OutOfMemory none stops = tt
 halts_at d c (halts.Stuck arm) none stops = record { reply = None; asks = none; stuck = stops }
 
-module _ (d : Definition) (basic : IsBasic d) (c e : Config) (none : NoneUnheld d c) (task : code.Task) (s : Stack) (first : c.agenda ≡ task_of d task ∷ agenda_of d s) where
-  acts : step d None c ≡ act d c.world None (task_of d task ∷ agenda_of d s) c.counted
+module _ (d : Definition) (basic : IsBasic d) (hs : List Handler) (silent : hs ≡ []) (c e : Config) (none : NoneUnheld d c) (task : code.Task) (s : Stack)
+    (first : c.agenda ≡ task_of d hs task ∷ tasks_of d hs s) where
+  acts : step d None c ≡ act d c.world None (task_of d hs task ∷ tasks_of d hs s) c.counted
   acts = step_acts d c none ∙ ap (λ (ts : List Task). act d c.world None ts c.counted) first
 
   asks : question d c ≡ None
-  asks = ap (asked_after c) none ∙ ap (λ (ts : List Task). asked_first c.world ts) first ∙ asks_none d c.world task (agenda_of d s)
+  asks = ap (asked_after c) none ∙ ap (λ (ts : List Task). asked_first c.world ts) first ∙ asks_none d hs c.world task (tasks_of d hs s)
 
-  passes : act d c.world None (task_of d task ∷ agenda_of d s) c.counted ≡ Ok e → Passes d c.world (task_of d task) (agenda_of d s) c.counted e
+  passes : act d c.world None (task_of d hs task ∷ tasks_of d hs s) c.counted ≡ Ok e → Passes d c.world (task_of d hs task) (tasks_of d hs s) c.counted e
   passes is =
-      if_ok_at (Passes d c.world (task_of d task) (agenda_of d s) c.counted) (act d c.world None (task_of d task ∷ agenda_of d s) c.counted) e
-      (acted d c.world (agenda_of d s) c.counted basic task (reverse s.tasks.items) (sym (reverse-map (task_of d) s.tasks.items))) is
+      if_ok_at (Passes d c.world (task_of d hs task) (tasks_of d hs s) c.counted) (act d c.world None (task_of d hs task ∷ tasks_of d hs s) c.counted) e
+      (acted d c.world (tasks_of d hs s) c.counted basic hs silent task (reverse s.tasks.items) (sym (reverse-map (task_of d hs) s.tasks.items))) is
 
-  pub first_stepped : (result : Result Made Halt) → Goes result (act d c.world None (task_of d task ∷ agenda_of d s) c.counted) e → IfOk result (λ made. IsMade made d task) → OnErr result (e.world.transcript ≡ c.world.transcript) → Stepped result d c e
+  pub first_stepped : (result : Result Made Halt) → Goes result (act d c.world None (task_of d hs task ∷ tasks_of d hs s) c.counted) e → IfOk result (λ made. IsMade made (task_of d hs task)) → OnErr result (e.world.transcript ≡ c.world.transcript) → Stepped result d c e
   first_stepped (Ok mades.Nothing) goes made quiet = absurd made
   first_stepped (Ok mades.Uncounted) goes made quiet =
       let p = passes goes in
@@ -69,7 +72,7 @@ module _ (d : Definition) (basic : IsBasic d) (c e : Config) (none : NoneUnheld 
       (record { asks = asks; leads = acts ∙ goes }, (p.counts made).0, (p.counts made).1)
   first_stepped (Err halt) goes made quiet = (halts_at d c halt asks (subst (Stops halt) (sym acts) goes), quiet)
 
-  pub first_grows : (result : Result Made Halt) → Goes result (act d c.world None (task_of d task ∷ agenda_of d s) c.counted) e → OnErr result (e.world.transcript ≡ c.world.transcript) → IsPrefix c.world.transcript e.world.transcript
+  pub first_grows : (result : Result Made Halt) → Goes result (act d c.world None (task_of d hs task ∷ tasks_of d hs s) c.counted) e → OnErr result (e.world.transcript ≡ c.world.transcript) → IsPrefix c.world.transcript e.world.transcript
   first_grows (Ok made) goes quiet = (passes goes).grows
   first_grows (Err halt) goes quiet = prefix_by quiet
 

@@ -1,7 +1,8 @@
 -- What the engine counts of each object, beside what the machine mentions of it.
-use Rattle.std.specs.Prelude.{◌≡◌, ℕ, ◌+◌, ◌≤◌}
+use Rattle.std.specs.Prelude.{◌≡◌, ℕ, ◌+◌, ◌≤◌, []}
 use Rattle.ui_machine.specs.Definition.{Definition}
-use Rattle.ui_machine.specs.State.References.{in_held, mentions}
+use Rattle.ui_machine.specs.State.References.{same, in_value, in_register, in_held, in_task, mentions}
+use Rattle.ui_machine.specs.State.Tasks.{Emission, Task, Beginning, Emitting}
 use Rattle.instances.specs.Store.{Store, count_of}
 use Rattle.ui_engine.specs.declared.engine.Engine.{Engine}
 use Rattle.instances.specs.Weak.{Knows}
@@ -15,9 +16,10 @@ pub record OnlyCounts (old new : Store) : Type 0 where
   pub floating : new.floating ≡ old.floating
 
 -- Each object is counted as often as it is mentioned, and so often more as is said: so much holds a task that was taken off and is not done yet.
--- It is known which properties are weak.
+-- It is known which properties are weak, and no handler is connected so far.
 pub record Counts (d : Definition) (taken : ℕ → ℕ) (e : Engine) : Type 0 where
   pub knows : Knows d e.world.weak
+  pub silent : e.world.handlers.handlers ≡ []
   pub exact : (o : ℕ) → count_of e.world.table.counts o ≡ mentions d (config_of d e) o + taken o
 
 -- what the builder holds is counted at least so often
@@ -31,3 +33,20 @@ pub record KeepsCounts (d : Definition) (old new : Engine) : Type 0 where
 -- nothing was taken off
 abbrev pub nothing : ℕ → ℕ
 nothing o = 0
+
+-- ** what is held by a task that is done
+
+-- what an emission holds beside its object: its arguments, and the value that it has accumulated
+abbrev pub in_emitted : ℕ → Emission → ℕ
+in_emitted o e = total (in_value o) e.args + in_register o e.value
+
+abbrev pub in_given : ℕ → Task → ℕ
+in_given o (Beginning emission) = in_emitted o emission
+in_given o (Emitting emission entries) = in_emitted o emission
+in_given o _ = 0
+
+-- the object that a task holds; it is let go once the task is done
+abbrev pub in_subject : ℕ → Task → ℕ
+in_subject o (Beginning emission) = same o emission.object
+in_subject o (Emitting emission entries) = same o emission.object
+in_subject o task = in_task o task

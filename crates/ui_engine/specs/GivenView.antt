@@ -1,10 +1,17 @@
 -- What is given, as an operand of the engine.
-use Rattle.std.specs.Prelude.{ℕ, Some, Ok}
+use Rattle.std.specs.Prelude.{◌≡◌, ℕ, List, Option, Some, option_map, Result, Ok, Err, String, string_bytes, is_some}
+use Rattle.std.specs.Global.{Global}
+use Rattle.ui_machine.specs.declared.arm.Arm.TheVariants as arms
+use Rattle.ui_machine.specs.declared.arm.Halt.{Halt}
+use Rattle.ui_machine.specs.Definition.Lookups.{slot_of}
+use Rattle.ui_machine.specs.Definition.Names.{canonical}
 use Rattle.ui_machine.specs.Definition.{Definition}
 use Rattle.ui_machine.specs.Definition.Values as values
-use Rattle.ui_machine.specs.Outcome.{Answer, ◌>>=◌}
+use Rattle.ui_machine.specs.Outcome.{Answer, Stops, only_if, ◌>>=◌}
 use Rattle.ui_machine.specs.State.Config.{World}
+use Rattle.ui_machine.specs.Definition.Signals.{Signal}
 use Rattle.ui_machine.specs.Rules.Build.{held_object}
+use Rattle.ui_machine.specs.Rules.Connections.{detail_for, may_stand}
 use Rattle.ui_machine.specs.Rules.Sets.{spec_at, if_settable}
 
 -- the object that the builder has of a place, as a value
@@ -14,3 +21,20 @@ held_value w place = held_object w place >>= λ id. Ok (values.object (Some id))
 -- the object that the builder has of a place, whose property may be set
 abbrev pub settable_at : Definition → World → ℕ → ℕ → Answer ℕ
 settable_at d w place slot = held_object w place >>= λ id. spec_at d w.objects id slot >>= λ s. if_settable s (Ok id)
+
+-- what code that asks for memory answers is this, seen by view; or why it stopped
+abbrev pub Finds : {X Y : Type 0} → (X → Y) → Result X Halt → Answer Y → Type 0
+Finds view (Ok x) answer = answer ≡ Ok (view x)
+Finds view (Err halt) answer = Stops halt answer
+
+-- a detail as the machine has it
+abbrev pub detail_of : Option (String Global) → Option (List ℕ)
+detail_of detail = option_map (λ text. string_bytes text) detail
+
+-- a detail as it stands at a signal of a class, if it may
+abbrev pub standing : Definition → (class number : ℕ) → Signal → Option (List ℕ) → Answer (Option (List ℕ))
+standing d class number s detail = only_if (may_stand d class number s detail) arms.Code (Ok (detail_for number detail))
+
+-- the canonical name of the property that a name names
+abbrev pub detail_named : Definition → (class : ℕ) → List ℕ → Answer (List ℕ)
+detail_named d class name = only_if (is_some (slot_of d class name)) arms.Code (Ok (canonical name))

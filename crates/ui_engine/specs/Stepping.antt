@@ -22,7 +22,7 @@ NoneUnheld d c = next_unheld (mentions d c) c.world.objects ≡ None
 -- an engine with nothing left to do, in which each object is counted as often as it is mentioned
 pub record IsAtRest (d : Definition) (e : Engine) : Type 0 where
   pub counts : Counts d nothing e
-  pub idle : agenda_of d e.stack ≡ []
+  pub idle : agenda_of d e ≡ []
 
 -- one step: an uncounted one leaves less work, and a counted one was still to be had
 abbrev pub Stepped : Result Made Halt → Definition → Config → Config → Type 0

@@ -1,28 +1,25 @@
 -- What a task of the engine stands for in the machine.
-use Rattle.std.specs.Prelude.{ℕ, suc, true, List, [], ◌∷◌, ◌++◌, map, reverse, drop, Option, Some, None}
+use Rattle.std.specs.Prelude.{ℕ, suc, Bool, true, List, [], ◌∷◌, ◌++◌, map, reverse, drop, Option, Some, None, option_map, string_bytes}
 use Rattle.std.specs.List.{flat_map}
-use Rattle.ui_machine.specs.Definition.Properties.{Spec}
 use Rattle.ui_machine.specs.Definition as machine
-use Rattle.ui_machine.specs.Definition.Lookups.{spec_of, place_at}
+use Rattle.ui_machine.specs.Definition.Lookups.{place_at}
 use Rattle.ui_machine.specs.Definition.Places.{Place}
 use Rattle.ui_machine.specs.State.Tasks as config
-use Rattle.ui_machine.specs.Rules.EmissionPlan.{notification}
+use Rattle.ui_machine.specs.Rules.EmissionPlan.{new_emission}
+use Rattle.ui_machine.specs.State.Handlers.{Handler}
 use Rattle.ui_machine.specs.Rules.Build.{made_items, adopts_if, forward_of}
 use Rattle.g_values.specs.View.{value_view}
+use Rattle.g_values.specs.declared.value.Value.{Value}
+use Rattle.signal_core.specs.Emission.{Walk, is_over, to_come}
+use Rattle.signal_core.specs.Laws.{entries_of}
 use Rattle.builder_defs.specs.Meaning.{request_of}
 use Rattle.ui_engine.specs.declared.task.Task.{Task}
 use Rattle.ui_engine.specs.declared.task.Task.TheVariants as tasks
 use Rattle.ui_engine.specs.declared.task.Forward.{Forward}
+use Rattle.ui_engine.specs.declared.task.NewEmission.{NewEmission}
+use Rattle.ui_engine.specs.declared.engine.Engine.{Engine}
 use Rattle.ui_engine.specs.declared.task.Stack.{Stack}
 pub use Rattle.ui_engine.specs.MakingView.{making_of_code}
-
--- the name of a property, and nothing where there is none
-abbrev pub name_in : Option Spec → List ℕ
-name_in None = []
-name_in (Some s) = s.name
-
-abbrev pub name_of : machine.Definition → ℕ → ℕ → List ℕ
-name_of d class slot = name_in (spec_of d class slot)
 
 -- the item of the build that sets a forward reference
 abbrev pub item_of : Forward → config.Item
@@ -53,16 +50,50 @@ adopts_of place (Some p) = adopts_if place p.parent
 abbrev pub build_behind : machine.Definition → ℕ → List Forward → List config.Item
 build_behind d place forwards = adopts_of place (place_at d place) ++ build_from d (suc place) forwards
 
-abbrev pub task_of : machine.Definition → Task → config.Task
-task_of d (tasks.Setting id slot v) = config.Setting id.0 slot (value_view v)
-task_of d (tasks.Notifying id slot) = config.Notifying id.0 slot
-task_of d (tasks.Emitting id class slot) = config.Emitting (notification id.0 (name_of d class slot)) []
-task_of d (tasks.Thawing id slots) = config.Thawing id.0 slots
-task_of d (tasks.Constructing id steps) = config.Constructing id.0 steps true
-task_of d (tasks.Building place forwards) = config.Building (build_from d place forwards)
-task_of d (tasks.Adopting place forwards) = config.Building (config.adopts place ∷ build_from d (suc place) forwards)
-task_of d (tasks.Carrying event) = config.Carrying (request_of event)
+-- ** emissions
 
--- the machine's agenda, the first task first
-abbrev pub agenda_of : machine.Definition → Stack → List config.Task
-agenda_of d s = reverse (map (task_of d) s.tasks.items)
+-- an emission before it begins
+abbrev pub new_of : NewEmission → config.Emission
+new_of e = new_emission e.object.0 e.signal (option_map (λ detail. string_bytes detail) e.detail) (map value_view e.args.items) e.by_event
+
+-- one that goes on, by how far it has come and what it was given
+abbrev pub emission_of : Walk → List Value → Bool → config.Emission
+emission_of w args by_event = record {
+  object = w.object;
+  signal = w.signal;
+  detail = w.detail;
+  args = map value_view args;
+  by_event = by_event;
+  value = w.value;
+  cleanup = is_over w.stage;
+}
+
+-- the entries that it has still to come, of the handlers as they stand; there are no bindings, and so no transfers
+abbrev pub entries_to_come : Walk → List Handler → List config.PlanEntry
+entries_to_come w hs = flat_map (entries_of []) (to_come w hs)
+
+-- ** tasks
+
+-- a task, where these handlers are connected
+abbrev pub task_of : machine.Definition → List Handler → Task → config.Task
+task_of d hs (tasks.Setting id slot v) = config.Setting id.0 slot (value_view v)
+task_of d hs (tasks.Notifying id slot) = config.Notifying id.0 slot
+task_of d hs (tasks.Beginning e) = config.Beginning (new_of e)
+task_of d hs (tasks.Emitting cursor args by_event) = config.Emitting (emission_of cursor args.items by_event) (entries_to_come cursor hs)
+task_of d hs (tasks.Thawing id slots) = config.Thawing id.0 slots
+task_of d hs (tasks.Constructing id steps) = config.Constructing id.0 steps true
+task_of d hs (tasks.Building place forwards) = config.Building (build_from d place forwards)
+task_of d hs (tasks.Adopting place forwards) = config.Building (config.adopts place ∷ build_from d (suc place) forwards)
+task_of d hs (tasks.Carrying event) = config.Carrying (request_of event)
+
+-- the tasks of a stack, the first task first
+abbrev pub tasks_of : machine.Definition → List Handler → Stack → List config.Task
+tasks_of d hs s = reverse (map (task_of d hs) s.tasks.items)
+
+-- a task of the engine
+abbrev pub task_in : machine.Definition → Engine → Task → config.Task
+task_in d e task = task_of d e.world.handlers.handlers task
+
+-- the machine's agenda
+abbrev pub agenda_of : machine.Definition → Engine → List config.Task
+agenda_of d e = tasks_of d e.world.handlers.handlers e.stack

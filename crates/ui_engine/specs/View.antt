@@ -15,8 +15,8 @@ held_of held.Released = config.released
 abbrev pub world_of : World → config.World
 world_of w = record {
   objects = w.table.objects;
-  handlers = [];
-  last_handler = 0;
+  handlers = w.handlers.handlers;
+  last_handler = w.handlers.last;
   bindings = [];
   sources = [];
   last_source = 0;

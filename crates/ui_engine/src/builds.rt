@@ -1,6 +1,6 @@
 //! The build: how objects are made, and how their construction goes on and ends.
 
-ghost use Rattle.std.specs.Prelude.{◌≡◌, ◌<◌, true, suc, length, nat_eq, ℕ, not, ◌&&◌, None, Some, option_copied, option_map, cond, [], ◌∷◌, ◌++◌, map, OnOk, OnErr, IfOk};
+ghost use Rattle.std.specs.Prelude.{◌≡◌, ◌<◌, List, true, suc, length, nat_eq, ℕ, not, ◌&&◌, None, Some, option_copied, option_map, cond, [], ◌∷◌, ◌++◌, map, OnOk, OnErr, IfOk};
 ghost use Rattle.std.specs.List.{find};
 ghost use Rattle.ui_machine.specs.Outcome.{Goes};
 ghost use Rattle.ui_machine.specs.Definition.Properties as machine;
@@ -12,6 +12,7 @@ ghost use Rattle.ui_machine.specs.Definition as definition;
 ghost use Rattle.ui_machine.specs.Seq.{read};
 ghost use Rattle.ui_engine.specs.MakingView.{making_steps, early, construct_set, later_set, early_set, making_of_object};
 ghost use Rattle.ui_machine.specs.Rules.Construction.{with_object, constructed, thawing_made, making, making_set, constructing, is_at_construction, is_forward, no_spec, given_at, set_of, or_default, construct_sets, given_sets};
+ghost use Rattle.ui_machine.specs.State.Handlers.{Handler};
 ghost use Rattle.ui_machine.specs.State.Tasks.{Building, Constructing};
 ghost use Rattle.ui_machine.specs.Steps.{uncounted};
 ghost use Rattle.ui_machine.specs.Rules.Build.{building};
@@ -45,7 +46,7 @@ impl Engine {
     #[tactic(auto, unfolding(ui_machine::specs::Rules::Construction::constructed))]
     fn constructed(&mut self, definition: &Definition, object: ObjectId) -> Result<(), Halt>
         ensures step { Goes result
-            (uncounted (agenda_of definition.now self.old.stack) self.old.counted (constructed (world_of self.old.world) object.0 true))
+            (uncounted (agenda_of definition.now self.old) self.old.counted (constructed (world_of self.old.world) object.0 true))
             (config_of definition.now self.new) }
         ensures quiet { OnErr result ((world_of self.new.world).transcript ≡ (world_of self.old.world).transcript) }
         ensures counted { OnOk result (KeepsCounts definition.now self.old self.new) }
@@ -71,7 +72,7 @@ impl Engine {
         steps: Makings,
     ) -> Result<(), Halt>
         ensures step { Goes result
-            (uncounted (agenda_of definition.now self.old.stack) self.old.counted (thawing_made (world_of self.old.world) object.0 steps true))
+            (uncounted (agenda_of definition.now self.old) self.old.counted (thawing_made (world_of self.old.world) object.0 steps true))
             (config_of definition.now self.new) }
         ensures quiet { OnErr result ((world_of self.new.world).transcript ≡ (world_of self.old.world).transcript) }
         ensures counted { OnOk result (KeepsCounts definition.now self.old self.new) }
@@ -98,7 +99,7 @@ impl Engine {
         steps: Makings,
     ) -> Result<(), Halt>
         ensures step { Goes result
-            (uncounted (agenda_of definition.now self.old.stack) self.old.counted (making_set definition.now (world_of self.old.world) object.0 slot (value_view value) (Constructing object.0 steps true ∷ [])))
+            (uncounted (agenda_of definition.now self.old) self.old.counted (making_set definition.now (world_of self.old.world) object.0 slot (value_view value) (Constructing object.0 steps true ∷ [])))
             (config_of definition.now self.new) }
         ensures quiet { OnErr result ((world_of self.new.world).transcript ≡ (world_of self.old.world).transcript) }
         ensures counted { OnOk result (KeepsCounts definition.now self.old self.new) }
@@ -124,7 +125,7 @@ impl Engine {
         mut steps: Makings,
     ) -> Result<(), Halt>
         ensures step { Goes result
-            (uncounted (agenda_of definition.now self.old.stack) self.old.counted (constructing definition.now (world_of self.old.world) object.0 steps true))
+            (uncounted (agenda_of definition.now self.old) self.old.counted (constructing definition.now (world_of self.old.world) object.0 steps true))
             (config_of definition.now self.new) }
         ensures quiet { OnErr result ((world_of self.new.world).transcript ≡ (world_of self.old.world).transcript) }
         ensures counted { OnOk result (KeepsCounts definition.now self.old self.new) }
@@ -157,6 +158,7 @@ impl Engine {
         ensures quiet { (world_of self.new.world).transcript ≡ (world_of self.old.world).transcript }
         ensures counted { ((o : ℕ) → in_values o (specs_of definition.now class) (map value_view values.items) ≡ 0) → OnOk result (KeepsCounts definition.now self.old self.new) }
         ensures same { (self.new.stack ≡ self.old.stack) × (self.new.counted ≡ self.old.counted) }
+        ensures handlers { self.new.world.handlers ≡ self.old.world.handlers }
     {
         let floats = definition
             .types()
@@ -174,7 +176,7 @@ impl Engine {
     #[tactic(auto, unfolding(ui_machine::specs::Rules::Construction::making))]
     fn making(&mut self, definition: &Definition, place: usize) -> Result<(), Halt>
         ensures step { Goes result
-            (uncounted (agenda_of definition.now self.old.stack) self.old.counted (making definition.now (world_of self.old.world) place None true))
+            (uncounted (agenda_of definition.now self.old) self.old.counted (making definition.now (world_of self.old.world) place None true))
             (config_of definition.now self.new) }
         ensures quiet { OnErr result ((world_of self.new.world).transcript ≡ (world_of self.old.world).transcript) }
         ensures counted { OnOk result (KeepsCounts definition.now self.old self.new) }
@@ -214,7 +216,7 @@ impl Engine {
         forwards: Forwards,
     ) -> Result<(), Halt>
         ensures step { Goes result
-            (uncounted (agenda_of definition.now self.old.stack) self.old.counted (building definition.now (world_of self.old.world) (build_from definition.now place forwards)))
+            (uncounted (agenda_of definition.now self.old) self.old.counted (building definition.now (world_of self.old.world) (build_from definition.now place forwards)))
             (config_of definition.now self.new) }
         ensures quiet { OnErr result ((world_of self.new.world).transcript ≡ (world_of self.old.world).transcript) }
         ensures counted { OnOk result (KeepsCounts definition.now self.old self.new) }
@@ -232,7 +234,7 @@ impl Engine {
 // What the build does behind the making of an object: the object becomes its parent's child, if it is one, and then the next place comes.
 fn behind(definition: &Definition, place: usize, forwards: Forwards) -> Task
     requires room { place < usize.MAX }
-    ensures { task_of definition.now result ≡ Building (build_behind definition.now place forwards) }
+    ensures { (hs : List Handler) → task_of definition.now hs result ≡ Building (build_behind definition.now place forwards) }
 {
     let next = place + 1;
     let Some(entry) = definition.object(place) else {

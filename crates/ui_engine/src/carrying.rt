@@ -1,9 +1,9 @@
 //! What events do.
 
-ghost use Rattle.std.specs.Prelude.{◌≡◌, OnOk, OnErr};
+ghost use Rattle.std.specs.Prelude.{◌≡◌, map, option_map, OnOk, OnErr};
 ghost use Rattle.ui_machine.specs.Outcome.{Goes};
 ghost use Rattle.ui_machine.specs.Steps.{uncounted};
-ghost use Rattle.ui_machine.specs.Rules.Events.{carrying, carrying_set, carrying_get, carrying_release};
+ghost use Rattle.ui_machine.specs.Rules.Events.{carrying, carrying_set, carrying_get, carrying_emit, carrying_release};
 ghost use Rattle.builder_defs.specs.Meaning.{given_view, request_of};
 ghost use Rattle.ui_engine.specs.View.{world_of};
 ghost use Rattle.ui_engine.specs.TaskView.{agenda_of};
@@ -11,10 +11,11 @@ ghost use Rattle.ui_engine.specs.Counting.{HoldsBuilt, KeepsCounts};
 ghost use Rattle.ui_engine.specs.EngineView.{config_of};
 
 use crate::builder::{Held, put_held};
+use crate::emission::text_of;
 use crate::engine::Engine;
 use crate::holding::let_go_any;
 use crate::lines::Line;
-use crate::task::Task;
+use crate::task::{NewEmission, Task};
 use builder_defs::{Definition, Event, Given};
 use ui_machine::{Arm, Halt, Place};
 
@@ -29,7 +30,7 @@ impl Engine {
         given: Given,
     ) -> Result<(), Halt>
         ensures step { Goes result
-            (uncounted (agenda_of definition.now self.old.stack) self.old.counted (carrying_set definition.now (world_of self.old.world) place.0 slot (given_view given)))
+            (uncounted (agenda_of definition.now self.old) self.old.counted (carrying_set definition.now (world_of self.old.world) place.0 slot (given_view given)))
             (config_of definition.now self.new) }
         ensures quiet { OnErr result ((world_of self.new.world).transcript ≡ (world_of self.old.world).transcript) }
         ensures counted { OnOk result (KeepsCounts definition.now self.old self.new) }
@@ -48,7 +49,7 @@ impl Engine {
     #[tactic(auto, unfolding(ui_machine::specs::Rules::Events::carrying_get))]
     fn carrying_get(&mut self, definition: &Definition, place: Place, slot: u16) -> Result<(), Halt>
         ensures step { Goes result
-            (uncounted (agenda_of definition.now self.old.stack) self.old.counted (carrying_get definition.now (world_of self.old.world) place.0 slot))
+            (uncounted (agenda_of definition.now self.old) self.old.counted (carrying_get definition.now (world_of self.old.world) place.0 slot))
             (config_of definition.now self.new) }
         ensures quiet { OnErr result ((world_of self.new.world).transcript ≡ (world_of self.old.world).transcript) }
         ensures counted { OnOk result (KeepsCounts definition.now self.old self.new) }
@@ -71,12 +72,41 @@ impl Engine {
         Ok(())
     }
 
+    // An emission by an event.
+    #[tactic(auto, unfolding(ui_machine::specs::Rules::Events::carrying_emit))]
+    fn carrying_emit(
+        &mut self,
+        definition: &Definition,
+        place: Place,
+        signal: u16,
+        args: &[Given],
+        detail: Option<&str>,
+    ) -> Result<(), Halt>
+        ensures step { Goes result
+            (uncounted (agenda_of definition.now self.old) self.old.counted (carrying_emit definition.now (world_of self.old.world) place.0 signal (map given_view args.now) (option_map (λ text. text.now) detail.entry)))
+            (config_of definition.now self.new) }
+        ensures quiet { OnErr result ((world_of self.new.world).transcript ≡ (world_of self.old.world).transcript) }
+        ensures counted { OnOk result (KeepsCounts definition.now self.old self.new) }
+    {
+        let object = self.held(usize::from(place.0))?;
+        let detail = self.detail_in(definition, object, signal, detail)?;
+        let args = self.operands(args)?;
+        self.push(Task::Beginning(NewEmission {
+            object,
+            signal,
+            detail,
+            args,
+            by_event: true,
+        }))?;
+        Ok(())
+    }
+
     // The builder lets an object go.
     #[tactic(auto, unfolding(ui_machine::specs::Rules::Events::carrying_release))]
     fn carrying_release(&mut self, definition: &Definition, place: Place) -> Result<(), Halt>
         requires holds { HoldsBuilt self.now }
         ensures step { Goes result
-            (uncounted (agenda_of definition.now self.old.stack) self.old.counted (carrying_release definition.now (world_of self.old.world) place.0))
+            (uncounted (agenda_of definition.now self.old) self.old.counted (carrying_release definition.now (world_of self.old.world) place.0))
             (config_of definition.now self.new) }
         ensures quiet { OnErr result ((world_of self.new.world).transcript ≡ (world_of self.old.world).transcript) }
         ensures counted { OnOk result (KeepsCounts definition.now self.old self.new) }
@@ -97,7 +127,7 @@ impl Engine {
     pub(crate) fn carrying(&mut self, definition: &Definition, event: Event) -> Result<(), Halt>
         requires holds { HoldsBuilt self.now }
         ensures step { Goes result
-            (uncounted (agenda_of definition.now self.old.stack) self.old.counted (carrying definition.now (world_of self.old.world) (request_of event)))
+            (uncounted (agenda_of definition.now self.old) self.old.counted (carrying definition.now (world_of self.old.world) (request_of event)))
             (config_of definition.now self.new) }
         ensures quiet { OnErr result ((world_of self.new.world).transcript ≡ (world_of self.old.world).transcript) }
         ensures counted { OnOk result (KeepsCounts definition.now self.old self.new) }
@@ -105,6 +135,12 @@ impl Engine {
         match event {
             Event::Set { place, slot, given } => self.carrying_set(definition, place, slot, given),
             Event::Get { place, slot } => self.carrying_get(definition, place, slot),
+            Event::Emit {
+                place,
+                signal,
+                args,
+                detail,
+            } => self.carrying_emit(definition, place, signal, args.as_slice(), text_of(&detail)),
             Event::Release { place } => self.carrying_release(definition, place),
         }
     }

@@ -51,6 +51,7 @@ impl Engine {
         ensures ok { OnOk result (world_of self.new.world ≡ said definition.now (world_of self.old.world) (lines.limit word.now)) }
         ensures err { OnErr result (world_of self.new.world ≡ world_of self.old.world) }
         ensures same { (self.new.stack ≡ self.old.stack) × (self.new.counted ≡ self.old.counted) }
+        ensures handlers { self.new.world.handlers ≡ self.old.world.handlers }
         ensures counted { OnOk result (KeepsCounts definition.now self.old self.new) }
     {
         let line = Line::Limit { word }.text(self.alloc, definition.types())?;
@@ -64,6 +65,7 @@ impl Engine {
         ensures ok { OnOk result (world_of self.new.world ≡ with_family definition.now (world_of self.old.world) kin.parent.0 kin.child.0) }
         ensures err { OnErr result ((world_of self.new.world).transcript ≡ (world_of self.old.world).transcript) }
         ensures same { (self.new.stack ≡ self.old.stack) × (self.new.counted ≡ self.old.counted) }
+        ensures handlers { self.new.world.handlers ≡ self.old.world.handlers }
         ensures counted { OnOk result (KeepsCounts definition.now self.old self.new) }
     {
         let Kin { parent, child } = kin;
@@ -83,6 +85,7 @@ impl Engine {
         ensures joins { Goes result (joined definition.now (world_of self.old.world) kin.parent.0 kin.child.0) (world_of self.new.world) }
         ensures quiet { OnErr result ((world_of self.new.world).transcript ≡ (world_of self.old.world).transcript) }
         ensures same { (self.new.stack ≡ self.old.stack) × (self.new.counted ≡ self.old.counted) }
+        ensures handlers { self.new.world.handlers ≡ self.old.world.handlers }
         ensures counted { OnOk result (KeepsCounts definition.now self.old self.new) }
     {
         match self.world.table.refusal(kin.parent, kin.child) {
@@ -103,7 +106,7 @@ impl Engine {
         forwards: Forwards,
     ) -> Result<(), Halt>
         ensures step { Goes result
-            (uncounted (agenda_of definition.now self.old.stack) self.old.counted (building_child definition.now (world_of self.old.world) place (build_from definition.now (suc place) forwards)))
+            (uncounted (agenda_of definition.now self.old) self.old.counted (building_child definition.now (world_of self.old.world) place (build_from definition.now (suc place) forwards)))
             (config_of definition.now self.new) }
         ensures quiet { OnErr result ((world_of self.new.world).transcript ≡ (world_of self.old.world).transcript) }
         ensures counted { OnOk result (KeepsCounts definition.now self.old self.new) }

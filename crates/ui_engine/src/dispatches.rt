@@ -5,7 +5,7 @@ ghost use Rattle.g_values.specs.View.{value_view};
 ghost use Rattle.ui_machine.specs.Definition as machine;
 ghost use Rattle.ui_machine.specs.Runs.{beginning, first_world};
 ghost use Rattle.ui_engine.specs.View.{world_of};
-ghost use Rattle.ui_engine.specs.TaskView.{task_of, agenda_of};
+ghost use Rattle.ui_engine.specs.TaskView.{task_in, agenda_of};
 ghost use Rattle.ui_engine.specs.EngineView.{config_of};
 ghost use Rattle.ui_machine.specs.Prefix.{IsPrefix};
 ghost use Rattle.ui_engine.specs.Counting.{KeepsCounts};
@@ -18,8 +18,9 @@ use crate::world::World;
 use builder_defs::Definition;
 use g_values::Value;
 use instances::{Table, WeakSlots};
+use signal_core::Handlers;
 use std::alloc::{AllocError, Global};
-use ui_machine::Halt;
+use ui_machine::{Halt, Limits};
 
 /// What a dispatch led to.
 #[derive(Drop)]
@@ -34,16 +35,18 @@ pub struct Reply {
 
 impl Engine {
     /// Nothing is built yet, and there is nothing to do.
-    pub fn new(alloc: Global, weak: WeakSlots, limit: u32) -> Self
+    pub fn new(alloc: Global, weak: WeakSlots, limits: Limits) -> Self
         ensures world { (d : machine.Definition) → world_of result.world ≡ first_world d [] }
         ensures counts { result.world.table.counts ≡ [] }
         ensures marks { result.world.weak ≡ weak }
-        ensures idle { (d : machine.Definition) → agenda_of d result.stack ≡ [] }
+        ensures idle { (d : machine.Definition) → agenda_of d result ≡ [] }
+        ensures silent { result.world.handlers.handlers ≡ [] }
     {
         Engine {
             world: World {
-                table: Table::new(alloc, limit),
+                table: Table::new(alloc, limits.objects),
                 weak,
+                handlers: Handlers::new(alloc, limits.handlers, 0),
                 builder: Vec::new(alloc),
                 transcript: Vec::new(alloc),
                 result: None,
@@ -56,9 +59,9 @@ impl Engine {
 
     // The task is all there is to do, and nothing of its dispatch is counted yet.
     fn begin(&mut self, definition: &Definition, task: Task) -> Result<(), AllocError>
-        requires idle { agenda_of definition.now self.now.stack ≡ [] }
+        requires idle { agenda_of definition.now self.now ≡ [] }
         ensures counted { OnOk result (KeepsCounts definition.now self.old self.new) }
-        ensures ok { OnOk result (config_of definition.now self.new ≡ beginning (world_of self.old.world) (task_of definition.now task)) }
+        ensures ok { OnOk result (config_of definition.now self.new ≡ beginning (world_of self.old.world) (task_in definition.now self.old task)) }
         ensures err { OnErr result ((world_of self.new.world).transcript ≡ (world_of self.old.world).transcript) }
     {
         // For the proof: the clauses speak of the definition.
@@ -83,7 +86,7 @@ impl Engine {
     pub(crate) fn dispatch(&mut self, definition: &Definition, task: Task) -> Result<Reply, Halt>
         requires rests { IsAtRest definition.now self.now }
         ensures rests { OnOk result (IsAtRest definition.now self.new) }
-        ensures carried { Carried result definition.now (beginning (world_of self.old.world) (task_of definition.now task)) (world_of self.new.world) }
+        ensures carried { Carried result definition.now (beginning (world_of self.old.world) (task_in definition.now self.old task)) (world_of self.new.world) }
         ensures grows { IsPrefix (world_of self.old.world).transcript (world_of self.new.world).transcript }
     {
         self.begin(definition, task)?;

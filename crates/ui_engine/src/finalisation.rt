@@ -1,6 +1,6 @@
 //! Finalisation: what nothing holds is disposed and taken out before anything else is done.
 
-ghost use Rattle.std.specs.Prelude.{◌≡◌, ◌<◌, suc, IsSome, OnOk, OnErr};
+ghost use Rattle.std.specs.Prelude.{◌≡◌, ◌<◌, [], suc, IsSome, OnOk, OnErr};
 ghost use Rattle.ui_machine.specs.Outcome.{Goes};
 ghost use Rattle.ui_machine.specs.Prefix.{IsPrefix};
 ghost use Rattle.ui_machine.specs.State.Objects.{living};
@@ -23,8 +23,9 @@ impl Engine {
         requires live { IsSome (living self.now.world.table.objects object.0) }
         requires unheld { count_of self.now.world.table.counts object.0 ≡ 0 }
         requires knows { Knows definition.now self.now.world.weak }
+        requires silent { self.now.world.handlers.handlers ≡ [] }
         ensures step { Goes result
-            (counted (agenda_of definition.now self.old.stack) self.old.counted (finalising definition.now (world_of self.old.world) object.0))
+            (counted (agenda_of definition.now self.old) self.old.counted (finalising definition.now (world_of self.old.world) object.0))
             (config_of definition.now self.new) }
         ensures quiet { OnErr result ((world_of self.new.world).transcript ≡ (world_of self.old.world).transcript) }
         ensures counts { OnOk result ((self.old.counted < most_steps) × (self.new.counted ≡ suc self.old.counted)) }

@@ -95,7 +95,7 @@ impl Engine {
     ) -> Result<(), Halt>
         requires past { length definition.now.places ≤ place }
         ensures step { Goes result
-            (uncounted (agenda_of definition.now self.old.stack) self.old.counted (building definition.now (world_of self.old.world) (map item_of forwards)))
+            (uncounted (agenda_of definition.now self.old) self.old.counted (building definition.now (world_of self.old.world) (map item_of forwards)))
             (config_of definition.now self.new) }
         ensures quiet { OnErr result ((world_of self.new.world).transcript ≡ (world_of self.old.world).transcript) }
         ensures counted { OnOk result (KeepsCounts definition.now self.old self.new) }

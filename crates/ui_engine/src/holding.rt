@@ -1,21 +1,25 @@
 //! What holds an object.
 //!
 //! The table counts how often each object is held. A property and a parent hold by the table itself; the builder holds what it has
-//! built, and a task holds its object from when it comes before the others until it is done.
+//! built, and a task holds its object from when it comes before the others until it is done. An emission holds its arguments, and the value
+//! that it has accumulated, from its beginning to its end.
 
-ghost use Rattle.std.specs.Prelude.{◌≡◌, ℕ, ◌+◌, ◌≤◌, ◌∷◌, OnOk};
+ghost use Rattle.std.specs.Prelude.{◌≡◌, ℕ, ◌+◌, ◌≤◌, List, ◌∷◌, map, OnOk};
 ghost use Rattle.ui_machine.specs.Definition as machine;
-ghost use Rattle.ui_machine.specs.State.References.{in_option, in_task};
+ghost use Rattle.ui_machine.specs.Seq.{total};
+ghost use Rattle.ui_machine.specs.State.Handlers.{Handler};
+ghost use Rattle.ui_machine.specs.State.References.{in_option, in_register, in_value};
 ghost use Rattle.g_values.specs.View.{value_view};
 ghost use Rattle.instances.specs.Store.{id_of, count_of, may_hold_any, named_by};
 ghost use Rattle.ui_engine.specs.View.{world_of};
-ghost use Rattle.ui_engine.specs.TaskView.{task_of, agenda_of};
-ghost use Rattle.ui_engine.specs.Counting.{OnlyCounts, KeepsCounts};
+ghost use Rattle.ui_engine.specs.TaskView.{task_of, task_in, agenda_of};
+ghost use Rattle.ui_engine.specs.Counting.{OnlyCounts, KeepsCounts, in_given, in_subject};
 
 use crate::engine::Engine;
 use crate::task::Task;
 use g_values::Value;
 use instances::Table;
+use signal_core::Cursor;
 use std::alloc::AllocError;
 use ui_machine::ObjectId;
 
@@ -56,15 +60,58 @@ pub(crate) fn can_hold_named(table: &Table, value: &Value) -> bool
     }
 }
 
+/// The object that a value names, if it names one.
+pub(crate) fn named(value: &Value) -> Option<ObjectId>
+    ensures { id_of result ≡ named_by (value_view value.now) }
+{
+    match value {
+        Value::Object(_, id) => *id,
+        _ => None,
+    }
+}
+
+/// Holds each object that one of these values names once more.
+pub(crate) fn hold_values(table: &mut Table, values: &[Value]) -> Result<(), AllocError>
+    ensures only { OnlyCounts table.old table.new }
+    ensures counts { OnOk result ((o : ℕ) → count_of table.new.counts o ≡ count_of table.old.counts o + total (in_value o) (map value_view values.now)) }
+{
+    for value in values {
+        hold_any(table, named(value))?;
+    }
+    Ok(())
+}
+
+/// Lets each object go that one of these values names.
+pub(crate) fn let_go_values(table: &mut Table, values: &[Value])
+    requires held { (o : ℕ) → total (in_value o) (map value_view values.now) ≤ count_of table.now.counts o }
+    ensures only { OnlyCounts table.old table.new }
+    ensures counts { (o : ℕ) → count_of table.new.counts o + total (in_value o) (map value_view values.now) ≡ count_of table.old.counts o }
+{
+    for value in values {
+        let_go_any(table, named(value));
+    }
+}
+
+/// The object that an emission's accumulated value names, if it names one.
+pub(crate) fn accumulated(cursor: &Cursor) -> Option<ObjectId>
+    ensures { (o : ℕ) → in_option o (id_of result) ≡ in_register o cursor.now.value }
+{
+    match cursor.accumulated() {
+        Some(value) => named(value),
+        None => None,
+    }
+}
+
 impl Task {
-    /// The object that a task holds, if it holds one.
+    /// The object that a task holds, if it holds one. It is let go once the task is done.
     pub(crate) fn object(&self) -> Option<ObjectId>
-        ensures { (d : machine.Definition) (o : ℕ) → in_option o (id_of result) ≡ in_task o (task_of d self.now) }
+        ensures { (d : machine.Definition) (hs : List Handler) (o : ℕ) → in_option o (id_of result) ≡ in_subject o (task_of d hs self.now) }
     {
         match self {
             Task::Setting { object, .. } => Some(*object),
             Task::Notifying { object, .. } => Some(*object),
-            Task::Emitting { object, .. } => Some(*object),
+            Task::Beginning(emission) => Some(emission.object),
+            Task::Emitting { cursor, .. } => Some(cursor.object()),
             Task::Thawing { object, .. } => Some(*object),
             Task::Constructing { object, .. } => Some(*object),
             Task::Building { .. } => None,
@@ -74,15 +121,45 @@ impl Task {
     }
 }
 
+// Holds what an emission holds beside its object.
+fn hold_given(table: &mut Table, task: &Task) -> Result<(), AllocError>
+    ensures only { OnlyCounts table.old table.new }
+    ensures counts { OnOk result ((d : machine.Definition) (hs : List Handler) (o : ℕ) → count_of table.new.counts o ≡ count_of table.old.counts o + in_given o (task_of d hs task.now)) }
+{
+    match task {
+        Task::Beginning(emission) => hold_values(table, emission.args.as_slice()),
+        Task::Emitting { cursor, args, .. } => hold_emitted(table, cursor, args.as_slice()),
+        Task::Setting { .. } => Ok(()),
+        Task::Notifying { .. } => Ok(()),
+        Task::Thawing { .. } => Ok(()),
+        Task::Constructing { .. } => Ok(()),
+        Task::Building { .. } => Ok(()),
+        Task::Adopting { .. } => Ok(()),
+        Task::Carrying(_) => Ok(()),
+    }
+}
+
+// Holds the arguments of an emission, and the value that it has accumulated.
+fn hold_emitted(table: &mut Table, cursor: &Cursor, args: &[Value]) -> Result<(), AllocError>
+    ensures only { OnlyCounts table.old table.new }
+    ensures counts { OnOk result ((o : ℕ) → count_of table.new.counts o
+        ≡ count_of table.old.counts o + (total (in_value o) (map value_view args.now) + in_register o cursor.now.value)) }
+{
+    hold_values(table, args)?;
+    hold_any(table, accumulated(cursor))
+}
+
 impl Engine {
-    /// Puts a task before the others, which holds its object from then on.
+    /// Puts a task before the others, which holds its objects from then on.
     pub(crate) fn push(&mut self, task: Task) -> Result<(), AllocError>
-        ensures agenda { OnOk result ((d : machine.Definition) → agenda_of d self.new.stack ≡ task_of d task ∷ agenda_of d self.old.stack) }
+        ensures agenda { OnOk result ((d : machine.Definition) → agenda_of d self.new ≡ task_in d self.old task ∷ agenda_of d self.old) }
         ensures world { world_of self.new.world ≡ world_of self.old.world }
         ensures same { self.new.counted ≡ self.old.counted }
+        ensures handlers { self.new.world.handlers ≡ self.old.world.handlers }
         ensures counted { OnOk result ((d : machine.Definition) → KeepsCounts d self.old self.new) }
     {
         hold_any(&mut self.world.table, task.object())?;
+        hold_given(&mut self.world.table, &task)?;
         self.stack.push(task)?;
         Ok(())
     }

@@ -4,12 +4,14 @@
 //! run of it.
 #![tactic(auto)]
 
+mod arguments;
 mod builder;
 mod builds;
 mod carrying;
 mod children;
 mod counting;
 mod dispatches;
+mod emission;
 mod engine;
 mod finalisation;
 mod forwards;

@@ -1,8 +1,8 @@
 //! The lines of a transcript, and the text of each.
 
-ghost use Rattle.std.specs.Prelude.{◌≡◌, ◌++◌, codes, decimal, OnOk, IfOk, string_bytes};
+ghost use Rattle.std.specs.Prelude.{◌≡◌, ◌++◌, codes, decimal, map, option_map, OnOk, IfOk, string_bytes};
 ghost use Rattle.std.specs.Fmt.{signed_decimal};
-ghost use Rattle.ui_machine.specs.Output.Text.{json_string, text_of_value, text_of_identity, text_of_line};
+ghost use Rattle.ui_machine.specs.Output.Text.{detail_text, json_string, text_of_value, text_of_values, text_of_identity, text_of_line};
 ghost use Rattle.serde_json.specs.Data.{string};
 ghost use Rattle.serde_json.specs.Written.{compact_text};
 ghost use Rattle.g_values.specs.View.{value_view};
@@ -40,6 +40,13 @@ pub enum Line<'a> {
         object: ObjectId,
         property: &'a str,
     },
+    /// An emission of another signal begins.
+    Emit {
+        object: ObjectId,
+        signal: &'a str,
+        detail: Option<&'a str>,
+        args: &'a [Value],
+    },
     /// A property is read.
     Get {
         object: ObjectId,
@@ -66,6 +73,10 @@ pub enum Line<'a> {
     /// An object is taken out.
     Final {
         object: ObjectId,
+    },
+    /// An event's emission ends, with a result.
+    Result {
+        value: &'a Value,
     },
     /// A dispatch ends, after so many counted steps.
     End {
@@ -97,6 +108,12 @@ impl Line<'_> {
                 value,
             } => value_line(alloc, types, "refused #", object.0, property, value),
             Line::Notify { object, property } => notify_line(alloc, object.0, property),
+            Line::Emit {
+                object,
+                signal,
+                detail,
+                args,
+            } => emit_line(alloc, types, object.0, signal, detail, args),
             Line::Get {
                 object,
                 property,
@@ -107,6 +124,7 @@ impl Line<'_> {
             Line::Release { id } => named_line(alloc, "release ", id),
             Line::Dispose { object } => object_line(alloc, "dispose #", object.0),
             Line::Final { object } => object_line(alloc, "final #", object.0),
+            Line::Result { value } => result_line(alloc, types, value),
             Line::End { steps } => end_line(alloc, steps),
         }
     }
@@ -154,6 +172,68 @@ fn object_line(alloc: Global, word: &str, object: u64) -> Result<String, AllocEr
 {
     let mut line = String::with_capacity(alloc, room(word))?;
     write!(line, "{word}{object}")?;
+    Ok(line)
+}
+
+// `emit #1.s::d(V,V)`
+fn emit_line(
+    alloc: Global,
+    types: &TypeTree,
+    object: u64,
+    signal: &str,
+    detail: Option<&str>,
+    args: &[Value],
+) -> Result<String, AllocError>
+    ensures { IfOk result (λ line. string_bytes line
+        ≡ codes "emit #" ++ (decimal object ++ (codes "." ++ (signal.now
+        ++ (detail_text (option_map (λ d. d.now) detail.entry) ++ (codes "(" ++ (text_of_values types.now (map value_view args.now) ++ codes ")"))))))) }
+{
+    let mut line = String::with_capacity(alloc, room(signal))?;
+    write!(line, "emit #{object}.{signal}")?;
+    push_detail(&mut line, detail)?;
+    line.push_str("(")?;
+    push_values(alloc, &mut line, types, args)?;
+    line.push_str(")")?;
+    Ok(line)
+}
+
+// `::d`, where there is a detail
+fn push_detail(line: &mut String, detail: Option<&str>) -> Result<(), AllocError>
+    ensures { OnOk result (string_bytes line.new ≡ string_bytes line.old ++ detail_text (option_map (λ d. d.now) detail.entry)) }
+{
+    let Some(detail) = detail else {
+        return Ok(());
+    };
+    write!(line, "::{detail}")
+}
+
+// Values, joined by commas.
+fn push_values(
+    alloc: Global,
+    line: &mut String,
+    types: &TypeTree,
+    values: &[Value],
+) -> Result<(), AllocError>
+    ensures { OnOk result (string_bytes line.new ≡ string_bytes line.old ++ text_of_values types.now (map value_view values.now)) }
+{
+    match values {
+        [] => Ok(()),
+        [last] => push_value(alloc, line, types, last),
+        [first, others @ ..] => {
+            push_value(alloc, line, types, first)?;
+            line.push_str(",")?;
+            push_values(alloc, line, types, others)
+        }
+    }
+}
+
+// `result V`
+fn result_line(alloc: Global, types: &TypeTree, value: &Value) -> Result<String, AllocError>
+    ensures { IfOk result (λ line. string_bytes line ≡ codes "result " ++ text_of_value types.now (value_view value.now)) }
+{
+    let mut line = String::with_capacity(alloc, room(""))?;
+    line.push_str("result ")?;
+    push_value(alloc, &mut line, types, value)?;
     Ok(line)
 }
 

@@ -1,6 +1,7 @@
 //! Which events are refused: those that name an object that the builder has let go.
 
-ghost use Rattle.std.specs.Prelude.{◌≡◌};
+ghost use Rattle.std.specs.Prelude.{◌≡◌, map};
+ghost use Rattle.std.specs.List.{list_any};
 ghost use Rattle.ui_machine.specs.State.Config.{held_at};
 ghost use Rattle.ui_machine.specs.Rules.Events.{is_released, gives_released, names_released};
 ghost use Rattle.builder_defs.specs.Meaning.{given_view, request_of};
@@ -28,6 +29,16 @@ impl World {
         }
     }
 
+    // Whether something of what is given names such an object.
+    fn any_released(&self, given: &[Given]) -> bool
+        ensures { result ≡ list_any (gives_released (world_of self.now)) (map given_view given.now) }
+    {
+        match given {
+            [] => false,
+            [first, others @ ..] => self.gives_released(first) || self.any_released(others),
+        }
+    }
+
     /// Whether an event names an object that the builder has let go, in any position.
     pub(crate) fn names_released(&self, event: &Event) -> bool
         ensures { result ≡ names_released (world_of self.now) (request_of event.now) }
@@ -36,6 +47,8 @@ impl World {
             Event::Set { place, given, .. } => self.is_released(*place)
                 || self.gives_released(given),
             Event::Get { place, .. } => self.is_released(*place),
+            Event::Emit { place, args, .. } => self.is_released(*place)
+                || self.any_released(args.as_slice()),
             Event::Release { place } => self.is_released(*place),
         }
     }

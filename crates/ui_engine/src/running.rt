@@ -2,10 +2,11 @@
 
 ghost use Rattle.std.specs.Prelude.{◌≡◌, ◌∷◌, OnOk, OnErr, IfOk};
 ghost use Rattle.ui_machine.specs.Outcome.{Goes};
+ghost use Rattle.ui_machine.specs.State.References.{in_task};
 ghost use Rattle.ui_machine.specs.Steps.{act};
 ghost use Rattle.ui_engine.specs.View.{world_of};
-ghost use Rattle.ui_engine.specs.TaskView.{task_of, agenda_of};
-ghost use Rattle.ui_engine.specs.Counting.{HoldsBuilt, KeepsCounts};
+ghost use Rattle.ui_engine.specs.TaskView.{task_in, agenda_of};
+ghost use Rattle.ui_engine.specs.Counting.{Counts, in_subject};
 ghost use Rattle.ui_engine.specs.EngineView.{config_of, IsMade};
 
 use crate::engine::{Engine, Made};
@@ -16,13 +17,13 @@ use ui_machine::Halt;
 impl Engine {
     // Does what a task says, and answers whether that was counted.
     pub(crate) fn act(&mut self, definition: &Definition, task: Task) -> Result<Made, Halt>
-        requires holds { HoldsBuilt self.now }
+        requires counted { Counts definition.now (λ o. in_task o (task_in definition.now self.now task)) self.now }
         ensures step { Goes result
-            (act definition.now (world_of self.old.world) None (task_of definition.now task ∷ agenda_of definition.now self.old.stack) self.old.counted)
+            (act definition.now (world_of self.old.world) None (task_in definition.now self.old task ∷ agenda_of definition.now self.old) self.old.counted)
             (config_of definition.now self.new) }
         ensures quiet { OnErr result ((world_of self.new.world).transcript ≡ (world_of self.old.world).transcript) }
-        ensures counted { OnOk result (KeepsCounts definition.now self.old self.new) }
-        ensures made { IfOk result (λ made. IsMade made definition.now task) }
+        ensures counted { OnOk result (Counts definition.now (λ o. in_subject o (task_in definition.now self.old task)) self.new) }
+        ensures made { IfOk result (λ made. IsMade made (task_in definition.now self.old task)) }
     {
         match task {
             Task::Setting {
@@ -37,12 +38,16 @@ impl Engine {
                 self.notifying(definition, object, slot)?;
                 return Ok(Made::Counted);
             }
+            Task::Beginning(emission) => {
+                self.beginning(definition, emission)?;
+                return Ok(Made::Counted);
+            }
             Task::Emitting {
-                object,
-                class,
-                slot,
+                cursor,
+                args,
+                by_event,
             } => {
-                self.ending(definition, object, class, slot)?;
+                self.emitting(definition, cursor, args, by_event)?;
                 return Ok(Made::Uncounted);
             }
             Task::Thawing { object, slots } => {

@@ -17,7 +17,7 @@ impl Engine {
     // What has floated longest, if something floats, floats no longer, where nothing else is left to do.
     fn settle(&mut self, definition: &Definition) -> Made
         requires none { NoneUnheld definition.now (config_of definition.now self.now) }
-        requires idle { agenda_of definition.now self.now.stack ≡ [] }
+        requires idle { agenda_of definition.now self.now ≡ [] }
         requires counted { Counts definition.now nothing self.now }
         ensures counted { Counts definition.now nothing self.new }
         ensures stepped { Stepped (Ok result) definition.now (config_of definition.now self.old) (config_of definition.now self.new) }

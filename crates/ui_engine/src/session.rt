@@ -107,7 +107,7 @@ impl Session {
                 definition,
             });
         };
-        let mut engine = Engine::new(alloc, weak, definition.limits().objects);
+        let mut engine = Engine::new(alloc, weak, definition.limits());
         let Ok(()) = engine.announce() else {
             return Err(Refused {
                 fault: StartFault::OutOfMemory,
@@ -147,7 +147,7 @@ impl Session {
     // Carries out a task with all that it leads to. Where that halts the session stops.
     fn carry_out(&mut self, task: Task) -> Result<Reply, SessionFault>
         requires goes_on { self.now.stopped ≡ false }
-        ensures comes { Comes result (carrying_out self.old.definition (beginning self.old.world (task_of self.old.definition task))) self.old.definition self.new }
+        ensures comes { Comes result (carrying_out self.old.definition (beginning self.old.world (task_of self.old.definition self.old.world.handlers task))) self.old.definition self.new }
         ensures grows { IsPrefix self.old.world.transcript self.new.world.transcript }
     {
         match self.engine.dispatch(&self.definition, task) {

@@ -14,13 +14,13 @@ ghost use Rattle.g_values.specs.View.{kind_view, value_view};
 ghost use Rattle.param_specs.specs.View.{spec_view};
 ghost use Rattle.builder_defs.specs.Meaning.{IsPlain};
 ghost use Rattle.ui_engine.specs.View.{world_of, with_line};
-ghost use Rattle.instances.specs.Store.{Shows, id_of, named_by};
+ghost use Rattle.instances.specs.Store.{Shows};
 ghost use Rattle.ui_engine.specs.TaskView.{agenda_of};
 ghost use Rattle.ui_engine.specs.Counting.{KeepsCounts};
 ghost use Rattle.ui_engine.specs.EngineView.{config_of};
 
 use crate::engine::Engine;
-use crate::holding::can_hold_named;
+use crate::holding::{can_hold_named, named};
 use crate::lines::Line;
 use crate::task::Task;
 use builder_defs::Definition;
@@ -63,18 +63,8 @@ fn refuses(spec: &Spec, is_changed: bool) -> bool
     is_changed && !spec.is_lax()
 }
 
-// The object that a value names, if it names one.
-fn named(value: &Value) -> Option<ObjectId>
-    ensures { id_of result ≡ named_by (value_view value.now) }
-{
-    match value {
-        Value::Object(_, id) => *id,
-        _ => None,
-    }
-}
-
-// The class of an object, if it lives.
-fn living_class(table: &Table, id: ObjectId) -> Option<TypeId>
+/// The class of an object, if it lives.
+pub(crate) fn living_class(table: &Table, id: ObjectId) -> Option<TypeId>
     ensures { result ≡ class_in table.now.objects id.0 }
 {
     match table.class_of(id) {
@@ -153,7 +143,7 @@ impl Engine {
         is_told: bool,
     ) -> Result<(), Halt>
         ensures step { Goes result
-            (uncounted (agenda_of definition.now self.old.stack) self.old.counted (raising_if is_told (with_line (string_bytes line) (world_of self.old.world)) object.0 slot))
+            (uncounted (agenda_of definition.now self.old) self.old.counted (raising_if is_told (with_line (string_bytes line) (world_of self.old.world)) object.0 slot))
             (config_of definition.now self.new) }
         ensures quiet { OnErr result ((world_of self.new.world).transcript ≡ (world_of self.old.world).transcript) }
         ensures counted { OnOk result (KeepsCounts definition.now self.old self.new) }
@@ -184,6 +174,7 @@ impl Engine {
         ensures changes { Follows value_view result (changed (world_of self.old.world).objects object.0 (with_value slot (value_view value))) (world_of self.new.world).objects }
         ensures world { world_of self.new.world ≡ with_objects (world_of self.old.world) (world_of self.new.world).objects }
         ensures same { (self.new.stack ≡ self.old.stack) × (self.new.counted ≡ self.old.counted) }
+        ensures handlers { self.new.world.handlers ≡ self.old.world.handlers }
         ensures counted { OnOk result (KeepsCounts definition.now self.old self.new) }
     {
         // For the proof: the clauses speak of the definition.
@@ -209,7 +200,7 @@ impl Engine {
         value: Value,
     ) -> Result<(), Halt>
         ensures step { Goes result
-            (uncounted (agenda_of definition.now self.old.stack) self.old.counted (written definition.now (world_of self.old.world) object.0 slot (spec_view spec.now) (value_view value)))
+            (uncounted (agenda_of definition.now self.old) self.old.counted (written definition.now (world_of self.old.world) object.0 slot (spec_view spec.now) (value_view value)))
             (config_of definition.now self.new) }
         ensures quiet { OnErr result ((world_of self.new.world).transcript ≡ (world_of self.old.world).transcript) }
         ensures counted { OnOk result (KeepsCounts definition.now self.old self.new) }
@@ -237,6 +228,7 @@ impl Engine {
         ensures err { OnErr result (world_of self.new.world ≡ world_of self.old.world) }
         ensures counted { OnOk result (KeepsCounts definition.now self.old self.new) }
         ensures same { (self.new.stack ≡ self.old.stack) × (self.new.counted ≡ self.old.counted) }
+        ensures handlers { self.new.world.handlers ≡ self.old.world.handlers }
     {
         let told = Line::Refused {
             object,
@@ -257,7 +249,7 @@ impl Engine {
         value: Value,
     ) -> Result<(), Halt>
         ensures step { Goes result
-            (uncounted (agenda_of definition.now self.old.stack) self.old.counted (setting definition.now (world_of self.old.world) object.0 slot (value_view value)))
+            (uncounted (agenda_of definition.now self.old) self.old.counted (setting definition.now (world_of self.old.world) object.0 slot (value_view value)))
             (config_of definition.now self.new) }
         ensures quiet { OnErr result ((world_of self.new.world).transcript ≡ (world_of self.old.world).transcript) }
         ensures counted { OnOk result (KeepsCounts definition.now self.old self.new) }

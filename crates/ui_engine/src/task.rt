@@ -1,15 +1,16 @@
 //! Tasks, and the stack of those that are left.
 
-ghost use Rattle.std.specs.Prelude.{◌≡◌, [], ◌∷◌, reverse, map, MatchOption, OnOk};
+ghost use Rattle.std.specs.Prelude.{◌≡◌, List, [], ◌∷◌, reverse, map, MatchOption, OnOk};
 ghost use Rattle.ui_machine.specs.Definition as machine;
 ghost use Rattle.ui_machine.specs.State.Tasks as config;
-ghost use Rattle.ui_engine.specs.TaskView.{making_of_code, task_of, agenda_of};
+ghost use Rattle.ui_machine.specs.State.Handlers.{Handler};
+ghost use Rattle.ui_engine.specs.TaskView.{making_of_code, task_of, tasks_of};
 
 use builder_defs::Event;
 use g_values::Value;
+use signal_core::Cursor;
 use std::alloc::{AllocError, Global};
 use std::marker::Model;
-use type_tree::TypeId;
 use ui_machine::{ObjectId, Place};
 
 /// The notifications that are left of a thaw. They are kept the other way round: the last is made first.
@@ -121,6 +122,20 @@ impl Forwards {
     }
 }
 
+/// An emission that is to begin (GObject manual, Signals: `g_signal_emit`).
+#[derive(Drop)]
+pub struct NewEmission {
+    /// The object that emits.
+    pub object: ObjectId,
+    /// The signal, by its number in the list of the object's class.
+    pub signal: u16,
+    /// The detail, as it stands at the signal.
+    pub detail: Option<String>,
+    pub args: Vec<Value>,
+    /// Whether an event emits, which tells of the result.
+    pub by_event: bool,
+}
+
 /// What there is to do.
 #[derive(Drop)]
 pub enum Task {
@@ -135,11 +150,13 @@ pub enum Task {
         object: ObjectId,
         slot: u16,
     },
-    /// The rest of a notification, to which nobody listens.
+    /// An emission is to begin.
+    Beginning(NewEmission),
+    /// The rest of an emission.
     Emitting {
-        object: ObjectId,
-        class: TypeId,
-        slot: u16,
+        cursor: Cursor,
+        args: Vec<Value>,
+        by_event: bool,
     },
     /// The notifications that are left of a thaw.
     Thawing {
@@ -174,11 +191,12 @@ pub struct Stack {
 
 impl Stack {
     ghost use Rattle.ui_machine.specs.Definition as machine;
-    ghost use Rattle.ui_engine.specs.TaskView.{task_of, agenda_of};
+    ghost use Rattle.ui_machine.specs.State.Handlers.{Handler};
+    ghost use Rattle.ui_engine.specs.TaskView.{task_of, tasks_of};
 
     /// Nothing to do.
     pub fn new(alloc: Global) -> Self
-        ensures { (d : machine.Definition) → agenda_of d result ≡ [] }
+        ensures { (d : machine.Definition) (hs : List Handler) → tasks_of d hs result ≡ [] }
     {
         Stack {
             tasks: Vec::new(alloc),
@@ -187,7 +205,7 @@ impl Stack {
 
     /// Puts a task before the others.
     pub fn push(&mut self, task: Task) -> Result<(), AllocError>
-        ensures { OnOk result ((d : machine.Definition) → agenda_of d self.new ≡ task_of d task ∷ agenda_of d self.old) }
+        ensures { OnOk result ((d : machine.Definition) (hs : List Handler) → tasks_of d hs self.new ≡ task_of d hs task ∷ tasks_of d hs self.old) }
     {
         self.tasks.push(task)?;
         Ok(())
@@ -195,16 +213,16 @@ impl Stack {
 
     /// Takes the first task.
     pub fn pop(&mut self) -> Option<Task>
-        ensures { (d : machine.Definition) → MatchOption result
-            ((agenda_of d self.old ≡ []) × (agenda_of d self.new ≡ []))
-            (λ task. agenda_of d self.old ≡ task_of d task ∷ agenda_of d self.new) }
+        ensures { (d : machine.Definition) (hs : List Handler) → MatchOption result
+            ((tasks_of d hs self.old ≡ []) × (tasks_of d hs self.new ≡ []))
+            (λ task. tasks_of d hs self.old ≡ task_of d hs task ∷ tasks_of d hs self.new) }
     {
         self.tasks.pop()
     }
 
     /// Leaves nothing to do.
     pub fn clear(&mut self)
-        ensures { (d : machine.Definition) → agenda_of d self.new ≡ [] }
+        ensures { (d : machine.Definition) (hs : List Handler) → tasks_of d hs self.new ≡ [] }
     {
         self.tasks.clear();
     }

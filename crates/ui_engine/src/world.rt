@@ -9,14 +9,18 @@ ghost use Rattle.ui_engine.specs.View.{held_of, world_of};
 use crate::builder::Held;
 use g_values::Value;
 use instances::{Table, WeakSlots};
+use signal_core::Handlers;
 use std::alloc::AllocError;
 use ui_machine::ObjectId;
 
-/// The objects, which of their properties are weak, what the builder holds of them, the transcript, and what the event answered.
+/// The objects, which of their properties are weak, the handlers, what the builder holds of the objects, the transcript, and what the event
+/// answered.
 #[derive(Drop)]
 pub struct World {
     pub table: Table,
     pub weak: WeakSlots,
+    /// What is connected to the objects' signals. Nothing connects handlers so far.
+    pub handlers: Handlers,
     /// What the builder has of each place, as far as it has built.
     pub builder: Vec<Held>,
     pub transcript: Vec<String>,
@@ -29,6 +33,7 @@ impl World {
         ensures ok { OnOk result (world_of self.new ≡ record (world_of self.old) { transcript = (world_of self.old).transcript ++ string_bytes line ∷ [] }) }
         ensures err { OnErr result (world_of self.new ≡ world_of self.old) }
         ensures beside { self.new ≡ record self.old { transcript = self.new.transcript } }
+        ensures handlers { self.new.handlers ≡ self.old.handlers }
     {
         self.transcript.push(line)?;
         Ok(())
@@ -47,6 +52,7 @@ impl World {
         }) }
         ensures err { OnErr result (world_of self.new ≡ world_of self.old) }
         ensures beside { self.new ≡ record self.old { transcript = self.new.transcript } }
+        ensures handlers { self.new.handlers ≡ self.old.handlers }
     {
         if !is_told {
             return self.say(second);

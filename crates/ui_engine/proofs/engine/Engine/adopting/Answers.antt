@@ -7,12 +7,12 @@ use Rattle.ui_machine.specs.Rules.Build.{building_child}
 use Rattle.ui_machine.specs.State.Config.{World}
 use Rattle.ui_machine.specs.State.Tasks.{Building, Task}
 use Rattle.ui_machine.specs.Steps.{uncounted}
-use Rattle.ui_engine.specs.declared.task.Stack.{Stack}
 use Rattle.ui_engine.specs.Counting.{KeepsCounts}
 use Rattle.ui_engine.specs.KinView.{kin_of, joined}
 use Rattle.ui_engine.specs.View.{world_of}
 use Rattle.ui_engine.specs.TaskView.{agenda_of, build_from}
 use Rattle.ui_engine.proofs.Counts.{keeps_on}
+use Rattle.ui_engine.proofs.Left.{same_agenda}
 use Rattle.ui_engine.proofs.Kin.{no_kin, no_place_there, joins_then}
 use Rattle.ui_engine.proofs.engine.Engine.adopting.Goals as goal
 
@@ -20,7 +20,7 @@ pub returns-then-place-object_count-clause-step : goal.returns-then-place-object
 returns-then-place-object_count-clause-step c =
     let d = c.args.definition.now in
     let e = c.args.self.now in
-    ap (uncounted (agenda_of d e.stack) e.counted)
+    ap (uncounted (agenda_of d e) e.counted)
     (no_place_there d (world_of e.world) c.args.place (build_from d (suc c.args.place) c.args.forwards)
     (omega (arith, c.object_count.ensures.count, c.if-place-object_count.true)))
 
@@ -30,7 +30,7 @@ returns-in_err-kin-clause-step c =
     let e = c.args.self.now in
     let p = err_from_is_err_and c.from_residual.result c.from_residual.ensures.1 in
     rw (p.1, p.2)
-    (ap (uncounted (agenda_of d e.stack) e.counted)
+    (ap (uncounted (agenda_of d e) e.counted)
     (no_kin d (world_of e.world) c.args.place (build_from d (suc c.args.place) c.args.forwards) _ c.in_err-kin.ensures))
 
 pub returns-clause-step : goal.returns-clause-step
@@ -38,14 +38,14 @@ returns-clause-step c =
     let d = c.args.definition.now in
     let e = c.args.self.now in
     let w = world_of e.world in
-    let rest = agenda_of d e.stack in
+    let rest = agenda_of d e in
     let n = e.counted in
     let new = world_of c.join.new.self.world in
     let kin = kin_of c.in_ok-kin.kin in
     let items = build_from d (suc c.args.place) c.args.forwards in
     let one : c.args.place + 1 ≡ suc c.args.place = omega arith in
     let pushed = c.in_ok-push.ensures.agenda d ∙ ap (λ place. Building (build_from d place c.args.forwards) ∷ rest) one in
-    let agenda = ap (λ (s : Stack). agenda_of d s) c.join.ensures.same.0 ∙ pushed in
+    let agenda = same_agenda d c.push.new.self c.join.new.self c.join.ensures.same.0 c.join.ensures.handlers ∙ pushed in
     let counted = c.join.ensures.same.1 ∙ c.push.ensures.same in
     let goes = subst (λ (v : World). Goes c.join.result (joined d v kin.parent kin.child) new) c.push.ensures.world c.join.ensures.joins in
     let a = uncounted rest n (building_child d w c.args.place items) in

@@ -1,6 +1,6 @@
 use Rattle.std.proofs.Common.{List, ◌∷◌, refl, sym, subst, ap, ◌∙◌}
 use Rattle.ui_machine.specs.State.Tasks.{Task}
-use Rattle.ui_engine.specs.TaskView.{task_of}
+use Rattle.ui_engine.specs.TaskView.{task_in}
 use Rattle.std.proofs.Common.{map}
 use Rattle.ui_engine.specs.View.{held_of}
 use Rattle.ui_engine.proofs.Counts.{Exact, keeps_on, keeps_by}
@@ -9,13 +9,13 @@ use Rattle.ui_engine.proofs.engine.Engine.begin.Goals as goal
 pub returns-clause-ok : goal.returns-clause-ok
 returns-clause-ok c =
     let d = c.args.definition.now in
-    let first = c.in_ok-push.ensures.agenda d ∙ ap (λ (ts : List Task). task_of d c.args.task ∷ ts) (c.clear.ensures d) in
+    let first = c.in_ok-push.ensures.agenda d ∙ ap (λ (ts : List Task). task_in d c.args.self.now c.args.task ∷ ts) (c.clear.ensures d c.args.self.now.world.handlers.handlers) in
     rw (c.push.ensures.world, c.push.ensures.same, first) refl
 
 pub returns-clause-counted : goal.returns-clause-counted
 returns-clause-counted c =
     let d = c.args.definition.now in
     let e = c.args.self.now in
-    let idle = c.requires.idle ∙ sym (c.clear.ensures d) in
-    keeps_on d _ _ _ (keeps_by d e _ refl (λ taken _ h. subst (λ (ts : List Task). Exact d taken e.world.table (map held_of e.world.builder.items) ts) idle h))
+    let idle = c.requires.idle ∙ sym (c.clear.ensures d e.world.handlers.handlers) in
+    keeps_on d _ _ _ (keeps_by d e _ refl refl (λ taken _ h. subst (λ (ts : List Task). Exact d taken e.world.table (map held_of e.world.builder.items) ts) idle h))
     (c.in_ok-push.ensures.counted d)

@@ -31,7 +31,7 @@ returns-clause-counted c =
     let place = c.from-place.result in
     let b = map held_of e.world.builder.items in
     let n = map held_of c.put_held.new.builder.items in
-    let a = agenda_of d e.stack in
+    let a = agenda_of d e in
     let f : Engine = record e { world = record e.world { table = c.let_go_any.new.table; builder = c.put_held.new.builder } } in
     let less : (o : ℕ) → total (in_held o) n + same o id ≡ total (in_held o) b =
     λ o. omega (
@@ -41,7 +41,7 @@ returns-clause-counted c =
       holds_built o (read unbuilt b place) id c.in_ok-object.ensures,
     ) in
     keeps_on d e f (record e { world = c.say.new.self })
-    (keeps_by d e f refl (λ taken _ h.
+    (keeps_by d e f refl refl (λ taken _ h.
     holder_less d taken e.world.table c.let_go_any.new.table b n a a (λ o. same o id) c.let_go_any.ensures.only c.let_go_any.ensures.counts
     (λ o. omega (arith, less o)) h))
     (keeps_said d f c.say.new.self c.say.ensures.beside)

@@ -27,5 +27,5 @@ returns-clause-step c =
     let is = settable_then (held_object w a.place.0) (λ (id : ℕ). spec_at d w.objects id a.slot) set
     ∙ ap (λ (r : Answer ℕ). r >>= set) object
     ∙ ap (λ (r : Answer Value). r >>= λ v. starts w (Setting c.in_ok-object.object.0 a.slot v ∷ [])) c.in_ok-value.ensures in
-    left_with d (world_of c.push.new.self.world) c.push.new.self.stack a.self.now.counted c.push.new.self.counted (agenda_of d a.self.now.stack) _ w
+    left_with (world_of c.push.new.self.world) (agenda_of d c.push.new.self) a.self.now.counted c.push.new.self.counted (agenda_of d a.self.now) _ w
     (Setting c.in_ok-object.object.0 a.slot (value_view c.in_ok-value.value)) is c.push.ensures.world (c.in_ok-push.ensures.agenda d) c.push.ensures.same

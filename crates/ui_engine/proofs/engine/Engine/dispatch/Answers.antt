@@ -3,7 +3,8 @@ use Rattle.std.proofs.lemmas.Result.{err_from_is_err_and}
 use Rattle.ui_machine.specs.State.Config.{World, Config}
 use Rattle.ui_machine.specs.Runs.{Reaches, beginning}
 use Rattle.ui_engine.specs.View.{world_of}
-use Rattle.ui_engine.specs.TaskView.{task_of}
+use Rattle.ui_engine.specs.TaskView.{task_in, tasks_of}
+use Rattle.signal_core.specs.Connected.{Connected}
 use Rattle.ui_engine.specs.EngineView.{config_of}
 use Rattle.ui_engine.specs.Counting.{nothing}
 use Rattle.ui_engine.proofs.Counts.{keeps_said}
@@ -15,7 +16,7 @@ pub returns-in_err-begin-clause-carried : goal.returns-in_err-begin-clause-carri
 returns-in_err-begin-clause-carried c =
     let p = err_from_is_err_and c.from_residual.result c.from_residual.ensures.1 in
     let d = c.args.definition.now in
-    let start = beginning (world_of c.args.self.now.world) (task_of d c.args.task) in
+    let start = beginning (world_of c.args.self.now.world) (task_in d c.args.self.now c.args.task) in
     rw (p.1, p.2) (record { at = start; reached = reaches_here d start; stops = tt; lines = sym c.in_err-begin.ensures.err })
 
 pub returns-clause-carried : goal.returns-clause-carried
@@ -39,7 +40,7 @@ returns-clause-rests c =
     let ran = c.in_ok-run.ensures.ran in
     record {
       counts = (keeps_said d c.run.new.self c.say.new.self c.say.ensures.beside).at nothing c.in_ok-run.ensures.counted;
-      idle = ran.1.agenda;
+      idle = ap (λ (h : Connected). tasks_of d h.handlers c.run.new.self.stack) c.say.ensures.handlers ∙ ran.1.agenda;
     }
 
 pub returns-clause-grows : goal.returns-clause-grows

@@ -10,7 +10,11 @@ use Rattle.instances.specs.Store.{made_object}
 use Rattle.ui_engine.specs.View.{world_of}
 use Rattle.ui_engine.proofs.Building.{made_there, valid_defaults}
 use Rattle.g_values.specs.View.{value_view}
-use Rattle.ui_engine.proofs.Left.{left_with}
+use Rattle.ui_engine.proofs.Left.{left_with, same_agenda}
+use Rattle.signal_core.specs.Connected.{Connected}
+use Rattle.ui_machine.specs.State.Tasks.{Task}
+use Rattle.ui_engine.specs.declared.task.Task.TheVariants as tasks
+use Rattle.ui_engine.specs.TaskView.{task_in, tasks_of}
 use Rattle.ui_machine.specs.State.References.{in_values}
 use Rattle.instances.proofs.Created.{made_holds}
 use Rattle.ui_engine.proofs.Counts.{keeps_on, keeps_said}
@@ -34,8 +38,10 @@ returns-clause-step c =
     ∙ ap (λ (v : World). record v { transcript = v.transcript ++ string_bytes c.in_ok-line.line ∷ [] }) c.in_ok-push.ensures.world
     ∙ ap (λ (v : World). record v { transcript = v.transcript ++ string_bytes c.in_ok-line.line ∷ [] }) object
     ∙ ap (λ text. record (with_object d w (new_object d c.args.place place None)) { transcript = w.transcript ++ text ∷ [] }) line in
-    left_with d (world_of c.say.new.self) c.push.new.self.stack _ _ _ _ _ _ made world
-    (pushed ∙ rw (c.in_ok-object.ensures.same.0, c.in_ok-object.ensures.identity, c.in_ok-steps.ensures) refl)
+    left_with (world_of c.say.new.self) (tasks_of d c.say.new.self.handlers.handlers c.push.new.self.stack) _ _ _ _ _ _ made world
+    (ap (λ (h : Connected). tasks_of d h.handlers c.push.new.self.stack) c.say.ensures.handlers ∙ pushed
+    ∙ ap (λ (ts : List Task). task_in d c.add.new.self (tasks.Constructing c.in_ok-object.object c.in_ok-steps.steps) ∷ ts) (same_agenda d c.args.self.now c.add.new.self c.in_ok-object.ensures.same.0 c.in_ok-object.ensures.handlers)
+    ∙ rw (c.in_ok-object.ensures.identity, c.in_ok-steps.ensures) refl)
     (c.in_ok-push.ensures.same ∙ c.in_ok-object.ensures.same.1)
 
 pub returns-clause-counted : goal.returns-clause-counted

@@ -12,7 +12,7 @@ returns-then-branch-clause-step c =
     let pushed = c.in_ok-push.ensures.agenda c.args.definition.now in
     let line = string_bytes c.args.line in
     let world = c.in_ok-say-2.ensures.ok ∙ ap (with_line line) c.in_ok-push.ensures.world in
-    rw (told, world, c.in_ok-push.ensures.same, pushed) (search rules)
+    rw (told, world, c.in_ok-push.ensures.same, c.in_ok-say-2.ensures.handlers, pushed) (search rules)
 
 pub returns-then-branch-clause-counted : goal.returns-then-branch-clause-counted
 returns-then-branch-clause-counted c =

@@ -15,12 +15,12 @@ use Rattle.ui_engine.proofs.engine.Engine.setting.Goals as goal
 pub returns-in_err-spec-clause-step : goal.returns-in_err-spec-clause-step
 returns-in_err-spec-clause-step c =
     let p = err_from_is_err_and c.from_residual.result c.from_residual.ensures.1 in
-    rw (p.1, p.2) (ap (uncounted (agenda_of c.args.definition.now c.args.self.now.stack) c.args.self.now.counted)
+    rw (p.1, p.2) (ap (uncounted (agenda_of c.args.definition.now c.args.self.now) c.args.self.now.counted)
     (no_spec_set c.args.definition.now (world_of c.args.self.now.world) c.args.object.0 c.args.slot (value_view c.args.value) _ c.in_err-spec.ensures.spec))
 
 pub returns-then-not-has_kind-clause-step : goal.returns-then-not-has_kind-clause-step
 returns-then-not-has_kind-clause-step c =
-    ap (uncounted (agenda_of c.args.definition.now c.args.self.now.stack) c.args.self.now.counted)
+    ap (uncounted (agenda_of c.args.definition.now c.args.self.now) c.args.self.now.counted)
     (other_kind_set c.args.definition.now (world_of c.args.self.now.world) c.args.object.0 c.args.slot (value_view c.args.value) (spec_view c.in_ok-spec.spec.now) c.in_ok-spec.ensures.spec (sym c.if-not-has_kind.ensures))
 
 pub returns-in_err-known-clause-step : goal.returns-in_err-known-clause-step
@@ -32,7 +32,7 @@ returns-in_err-known-clause-step c =
     let kind : has_kind v s.kind ≡ true = sym c.if-not-has_kind.ensures in
     let dead = only_err (lives w.objects v) v _ c.in_err-known.ensures.value in
     let p = err_from_is_err_and c.from_residual-in_err-known.result c.from_residual-in_err-known.ensures.1 in
-    rw (p.1, p.2) (ap (uncounted (agenda_of d c.args.self.now.stack) c.args.self.now.counted)
+    rw (p.1, p.2) (ap (uncounted (agenda_of d c.args.self.now) c.args.self.now.counted)
     (dead_set d w c.args.object.0 c.args.slot v s c.in_ok-spec.ensures.spec kind dead.0 ∙ ap Err (sym dead.1)))
 
 pub validate-valid-requires : goal.validate-valid-requires
@@ -62,7 +62,7 @@ returns-then-refuses-clause-step c =
     let alive : lives w.objects x ≡ true = subst (λ (v : Value). lives w.objects v ≡ true) (sym live.1) live.0 in
     let knows = c.in_ok-known.ensures.class in
     let told = refused_by_flag d w c.args.object.0 c.args.slot x s c.in_ok-spec.ensures.spec plain kind alive true _ (value_view c.in_ok-original.original) refl c.if-refuses.ensures (rw c.types.ensures.types at (c.validate-valid.ensures.changed (class_in w.objects) knows)) c.in_ok-original.ensures.value in
-    rw (← live.1) (left_alone d c.args.self.now c.refuse.new.self _ _ told (rw c.as_str.ensures.value at c.in_ok-refuse.ensures.ok) c.in_ok-refuse.ensures.same.0 c.in_ok-refuse.ensures.same.1)
+    rw (← live.1) (left_alone d c.args.self.now c.refuse.new.self _ _ told (rw c.as_str.ensures.value at c.in_ok-refuse.ensures.ok) c.in_ok-refuse.ensures.same.0 c.in_ok-refuse.ensures.same.1 c.in_ok-refuse.ensures.handlers)
 
 pub returns-in_err-put-clause-step : goal.returns-in_err-put-clause-step
 returns-in_err-put-clause-step c =
@@ -91,4 +91,4 @@ returns-clause-step c =
     let alive : lives w.objects x ≡ true = subst (λ (v : Value). lives w.objects v ≡ true) (sym live.1) live.0 in
     let knows = c.in_ok-known.ensures.class in
     let told = written_by_flag d w c.args.object.0 c.args.slot x s c.in_ok-spec.ensures.spec plain kind alive false _ (value_view c.kept-kept.result) refl c.if-refuses.ensures (rw c.types.ensures.types at (c.validate-valid.ensures.changed (class_in w.objects) knows)) (c.kept-kept.ensures ∙ ap (kept w.objects s) (rw c.types.ensures.types at (c.validate-valid.ensures.value (class_in w.objects) knows))) in
-    rw (← live.1) (ap (uncounted (agenda_of d c.args.self.now.stack) c.args.self.now.counted) told ∙ c.in_ok-put.ensures.step)
+    rw (← live.1) (ap (uncounted (agenda_of d c.args.self.now) c.args.self.now.counted) told ∙ c.in_ok-put.ensures.step)

@@ -1,0 +1,295 @@
+//! The event that emits a signal, read from the words of a line.
+
+ghost use Rattle.std.specs.Prelude.{◌≡◌, [], length, map, option_map, slice_get, string_bytes, None, Some, IfOk};
+ghost use Rattle.std.specs.List.{AllByRecursion};
+ghost use Rattle.serde_json.specs.Find.{as_array, as_str};
+ghost use Rattle.serde_json.specs.View.{view, items_view};
+ghost use Rattle.g_values.specs.View.{kind_view, IsKnown};
+ghost use Rattle.ui_machine.specs.Rules.Connections.{signal_number};
+ghost use Rattle.ui_machine.specs.Rules.EmissionPlan.{signal_of};
+ghost use Rattle.signal_core.specs.SignalView.{declared_view};
+ghost use Rattle.builder_defs.specs.Meaning.{IsKnownKind, class_at, event_of, given_view};
+ghost use Rattle.builder_defs.specs.EventMeaning.{Gives, Leads, detail_word, emitted, words_of_emit, but_notify, signal_target, count, check_count, check_detail, each_of, id_known, argument, emit_event};
+
+use crate::definition::Definition;
+use crate::event::Event;
+use crate::event_fault::{EventError, EventFault};
+use crate::event_reading::{given_by, object_named};
+use crate::names::is_name;
+use crate::object_entry::Given;
+use bitflags::Flags;
+use g_values::Kind;
+use serde_json::Value;
+use signal_core::{DeclaredSignal, SignalFlags};
+use std::alloc::{AllocError, Global};
+use type_tree::TypeId;
+use ui_machine::Place;
+
+// The words of an emission: an id, a signal's name, the arguments, and a detail, if there is one.
+#[derive(Clone, Copy)]
+struct Emitted<'a> {
+    id: &'a str,
+    name: &'a str,
+    args: &'a [Value],
+    detail: Option<&'a str>,
+}
+
+// A detail that is given.
+fn detail_word(value: &Value) -> Option<&str>
+    ensures { option_map (λ s. Some s.now) result ≡ detail_word (as_str (view value.now)) }
+{
+    let text = value.as_str()?;
+    if is_name(text) { Some(text) } else { None }
+}
+
+// The words of an emission without a detail.
+fn plain_words<'a>(id: &'a Value, name: &'a Value, args: &'a Value) -> Option<Emitted<'a>>
+    ensures { option_map (λ e. record { id = e.id.now; name = e.name.now; args = items_view e.args.now; detail = option_map (λ s. s.now) e.detail }) result
+        ≡ emitted (as_str (view id.now)) (as_str (view name.now)) (as_array (view args.now)) (Some None) }
+{
+    Some(Emitted {
+        id: id.as_str()?,
+        name: name.as_str()?,
+        args: args.as_array()?.as_slice(),
+        detail: None,
+    })
+}
+
+// The words of an emission with a detail.
+fn detailed_words<'a>(
+    id: &'a Value,
+    name: &'a Value,
+    args: &'a Value,
+    detail: &'a Value,
+) -> Option<Emitted<'a>>
+    ensures { option_map (λ e. record { id = e.id.now; name = e.name.now; args = items_view e.args.now; detail = option_map (λ s. s.now) e.detail }) result
+        ≡ emitted (as_str (view id.now)) (as_str (view name.now)) (as_array (view args.now)) (detail_word (as_str (view detail.now))) }
+{
+    Some(Emitted {
+        id: id.as_str()?,
+        name: name.as_str()?,
+        args: args.as_array()?.as_slice(),
+        detail: Some(detail_word(detail)?),
+    })
+}
+
+// The words of an emission.
+fn words_of_emit(items: &[Value]) -> Option<Emitted<'_>>
+    ensures { option_map (λ e. record { id = e.id.now; name = e.name.now; args = items_view e.args.now; detail = option_map (λ s. s.now) e.detail }) result ≡ words_of_emit (items_view items.now) }
+{
+    match items {
+        [id, name, args] => plain_words(id, name, args),
+        [id, name, args, detail] => detailed_words(id, name, args, detail),
+        [] => None,
+        [_] => None,
+        [_, _] => None,
+        [_, _, _, _, _, ..] => None,
+    }
+}
+
+// The number of the signal of a class that a name names, unless it is `notify`.
+fn emitted_number(definition: &Definition, class: TypeId, name: &str) -> Option<u16>
+    ensures { result ≡ but_notify (signal_number definition.now class name.now) }
+{
+    match definition.signal_number(class, name) {
+        Some(0) => None,
+        found => found,
+    }
+}
+
+// Tests that a detail goes with a signal.
+fn check_detail(
+    alloc: Global,
+    signal: &DeclaredSignal<'_>,
+    detail: Option<&str>,
+) -> Result<(), EventError>
+    ensures { Gives (λ _. tt) result (check_detail (declared_view signal.now) (option_map (λ s. s.now) detail.entry)) }
+{
+    match detail {
+        Some(detail) if !signal.flags.contains(SignalFlags::DETAILED) => {
+            Err(EventError::Refused(EventFault::Unknown(String::from_str(alloc, detail)?)))
+        }
+        _ => Ok(()),
+    }
+}
+
+// The kind of a parameter, if there are so many.
+fn param_at(params: &[Kind], index: usize) -> Option<Kind>
+    ensures { result ≡ slice_get params.now index }
+{
+    params.get(index).copied()
+}
+
+// Tests that the object that a value names, if it names one, is known.
+#[tactic(auto, unfolding(crate::specs::EventMeaning::id_known))]
+fn check_id(
+    alloc: Global,
+    definition: &Definition,
+    kind: Kind,
+    value: &Value,
+) -> Result<(), EventError>
+    ensures { Gives (λ _. tt) result (id_known definition.now tt (kind_view kind) (view value.now)) }
+{
+    object_named(alloc, definition, kind, value)?;
+    Ok(())
+}
+
+// Tests that the objects that values of these kinds name are known.
+fn check_ids(
+    alloc: Global,
+    definition: &Definition,
+    params: &[Kind],
+    args: &[Value],
+) -> Result<(), EventError>
+    ensures { Gives (λ _. tt) result (each_of (id_known definition.now) tt (map kind_view params.now) (items_view args.now)) }
+{
+    'values: for (index, value) in args.iter().enumerate() {
+        let Some(kind) = param_at(params, index) else {
+            return Ok(());
+        };
+        check_id(alloc, definition, kind, value)?;
+    }
+    Ok(())
+}
+
+// Adds an argument of a kind.
+#[tactic(auto, unfolding(crate::specs::EventMeaning::argument))]
+fn add_argument(
+    alloc: Global,
+    definition: &Definition,
+    kind: &Kind,
+    value: &Value,
+    given: &mut Vec<Given>,
+) -> Result<(), EventError>
+    requires { IsKnown definition.now.types kind.now }
+    ensures { Leads result (argument definition.now (map given_view given.old.items) (kind_view kind.now) (view value.now)) (map given_view given.new.items) }
+{
+    let object = object_named(alloc, definition, *kind, value)?;
+    let argument = given_by(alloc, definition, *kind, value, object)?;
+    given.push(argument)?;
+    Ok(())
+}
+
+// The arguments of these kinds.
+fn arguments_of(
+    alloc: Global,
+    definition: &Definition,
+    params: &[Kind],
+    args: &[Value],
+) -> Result<Vec<Given>, EventError>
+    requires { AllByRecursion (IsKnownKind definition.now.types) (map kind_view params.now) }
+    ensures { Gives (λ v. map given_view v.items) result (each_of (argument definition.now) [] (map kind_view params.now) (items_view args.now)) }
+{
+    let mut given = Vec::new(alloc);
+    'values: for (index, value) in args.iter().enumerate() {
+        let Some(kind) = param_at(params, index) else {
+            return Ok(given);
+        };
+        add_argument(alloc, definition, &kind, value, &mut given)?;
+    }
+    Ok(given)
+}
+
+// The same text, if there is one.
+fn copied(alloc: Global, detail: Option<&str>) -> Result<Option<String>, AllocError>
+    ensures { IfOk result (λ copy. option_map (λ text. string_bytes text) copy ≡ option_map (λ s. s.now) detail.entry) }
+{
+    match detail {
+        Some(detail) => Ok(Some(String::from_str(alloc, detail)?)),
+        None => Ok(None),
+    }
+}
+
+// A signal of an object, by its number.
+#[derive(Clone, Copy)]
+struct Target<'a> {
+    place: Place,
+    number: u16,
+    signal: DeclaredSignal<'a>,
+}
+
+// The signal of an object that an id and a name name, if an event may emit it.
+#[tactic(auto, unfolding(crate::specs::EventMeaning::signal_target))]
+fn target_of<'a>(
+    alloc: Global,
+    definition: &'a Definition,
+    id: &str,
+    name: &str,
+) -> Result<Target<'a>, EventError>
+    ensures target { Gives (λ t. record { place = t.place.0; which = t.number; signal = declared_view t.signal }) result (signal_target definition.now id.now name.now) }
+    ensures signal { IfOk result (λ t. signal_of definition.now (class_at definition.now t.place.0) t.number ≡ Some (declared_view t.signal)) }
+{
+    let Some(place) = definition.place(id) else {
+        return Err(EventError::Refused(EventFault::Unknown(String::from_str(alloc, id)?)));
+    };
+    let class = definition.class_at(place);
+    let Some(number) = emitted_number(definition, class, name) else {
+        return Err(EventError::Refused(EventFault::Unknown(String::from_str(alloc, name)?)));
+    };
+    match definition.signal(class, number) {
+        Some(signal) => Ok(Target {
+            place,
+            number,
+            signal,
+        }),
+        None => Err(EventError::Refused(EventFault::Unknown(String::from_str(alloc, name)?))),
+    }
+}
+
+// How many parameters a signal has.
+#[tactic(auto, using(crate::proofs::EachOf::params_are))]
+fn param_count(signal: &DeclaredSignal<'_>) -> usize
+    ensures { result ≡ length (declared_view signal.now).params }
+{
+    signal.params.len()
+}
+
+// How many values there are.
+#[tactic(auto, using(crate::proofs::EachOf::count_is))]
+fn count(args: &[Value]) -> usize
+    ensures { result ≡ count (items_view args.now) }
+{
+    args.len()
+}
+
+// Tests that a signal has as many parameters as there are values.
+fn check_count(signal: &DeclaredSignal<'_>, args: &[Value]) -> Result<(), EventError>
+    ensures { Gives (λ _. tt) result (check_count (declared_view signal.now) (items_view args.now)) }
+{
+    if param_count(signal) != count(args) {
+        return Err(EventError::Refused(EventFault::Shape));
+    }
+    Ok(())
+}
+
+// The emission that a list of words asks for.
+#[tactic(auto, unfolding(crate::specs::EventMeaning::emit_event))]
+pub(crate) fn emit_in(
+    alloc: Global,
+    definition: &Definition,
+    words: &Value,
+) -> Result<Event, EventError>
+    ensures { Gives event_of result (emit_event definition.now (view words.now)) }
+{
+    let Some(items) = words.as_array() else {
+        return Err(EventError::Refused(EventFault::Shape));
+    };
+    let Some(said) = words_of_emit(items.as_slice()) else {
+        return Err(EventError::Refused(EventFault::Shape));
+    };
+    // For the proof: what is known of a definition's signals.
+    let _types = definition.types();
+    let target = target_of(alloc, definition, said.id, said.name)?;
+    let signal = target.signal;
+    check_count(&signal, said.args)?;
+    check_ids(alloc, definition, signal.params, said.args)?;
+    check_detail(alloc, &signal, said.detail)?;
+    let args = arguments_of(alloc, definition, signal.params, said.args)?;
+    let detail = copied(alloc, said.detail)?;
+    Ok(Event::Emit {
+        place: target.place,
+        signal: target.number,
+        args,
+        detail,
+    })
+}
