@@ -1,4 +1,5 @@
 pub mod Computing
+pub mod Operand
 pub mod View
 pub mod Shape
 pub mod Known

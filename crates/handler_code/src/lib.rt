@@ -23,6 +23,7 @@ pub use computing::MOST_TEXT_BYTES;
 pub use error::{InstructionError, ProgramError};
 pub use fault::{ProgramFault, ProgramLimit};
 pub use instruction::{BlockNumber, Connection, Instruction};
+pub use operands::{data_at, identity_at, text_at, truth_at, value_at};
 pub use program::{Block, Program, RegisterKind};
 pub use reading::{
     Names, OutlineError, OutlineFault, ProgramPart, Scope, check_outline, read_instruction,

@@ -2,7 +2,7 @@
 //!
 //! Blocks lead to later blocks alone, and each ends with a jump or a return. So a program ends, and its steps have a bound.
 
-ghost use Rattle.std.specs.Prelude.{◌≡◌, ℕ, not, map, length, nat_lt, option_map, vec_len};
+ghost use Rattle.std.specs.Prelude.{◌≡◌, not, map, length, nat_lt};
 ghost use Rattle.std.specs.List.{list_any, enumerate_from, position_from};
 ghost use Rattle.ui_machine.specs.Seq.{total};
 ghost use Rattle.handler_code.specs.View.{instruction_view, block_view, program_view};

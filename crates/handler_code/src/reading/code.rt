@@ -1,6 +1,6 @@
 //! Reading the instructions of a program's blocks.
 
-ghost use Rattle.std.specs.Prelude.{◌≡◌, [], All, IfOk, OnOk, map};
+ghost use Rattle.std.specs.Prelude.{◌≡◌, All, IfOk, map};
 ghost use Rattle.serde_json.specs.View.{view};
 ghost use Rattle.handler_code.specs.View.{block_view, instruction_view, register_kind_view};
 ghost use Rattle.handler_code.specs.Known.{HasKnownKinds, HasKnownCode};

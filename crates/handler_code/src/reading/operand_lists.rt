@@ -1,11 +1,11 @@
 //! Operands that are lists: registers, and options.
 
-ghost use Rattle.std.specs.Prelude.{◌≡◌, ◌||◌, codes, map, option_map};
+ghost use Rattle.std.specs.Prelude.{◌≡◌, ◌||◌, map};
 ghost use Rattle.std.specs.List.{list_any, list_all};
 ghost use Rattle.serde_json.specs.View.{view, items_view};
 ghost use Rattle.serde_json.specs.Find.{as_str};
 ghost use Rattle.handler_code.specs.View.{number_of};
-ghost use Rattle.handler_code.specs.Reading.Operands.{Gives, expected, items_at, registers_of, registers_at, is_word, has_word, is_option, are_options, Options, options_of, options_at};
+ghost use Rattle.handler_code.specs.Reading.Operands.{Gives, expected, items_at, registers_of, registers_at, is_word, has_word, is_option, are_options, options_of, options_at};
 ghost use Rattle.handler_code.specs.Reading.OptionView.{options_view};
 
 use crate::computation::Register;

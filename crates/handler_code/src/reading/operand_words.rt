@@ -1,8 +1,8 @@
 //! The operands of instructions, as JSON gives them. The entry 0 of an instruction is its word.
 
-ghost use Rattle.std.specs.Prelude.{◌≡◌, ◌<◌, ◌≤ℤ◌, ℕ, pos, map, option_map, IfOk, IfSome, string_bytes};
+ghost use Rattle.std.specs.Prelude.{◌≡◌, ◌<◌, ◌≤ℤ◌, option_map, IfOk, IfSome, string_bytes};
 ghost use Rattle.std.specs.List.{list_all};
-ghost use Rattle.serde_json.specs.View.{view, items_view};
+ghost use Rattle.serde_json.specs.View.{view};
 ghost use Rattle.serde_json.specs.Find.{as_str};
 ghost use Rattle.type_tree.specs.TypeName.{is_within};
 ghost use Rattle.g_values.specs.View.{kind_view, value_view, value_kind, IsKnown};

@@ -1,6 +1,6 @@
 //! What the format refuses in a program's value.
 
-ghost use Rattle.std.specs.Prelude.{◌≡◌, ◌∷◌, [], codes};
+ghost use Rattle.std.specs.Prelude.{◌≡◌};
 ghost use Rattle.handler_code.specs.declared.reading.outline_fault.OutlineError.TheVariants as errors;
 ghost use Rattle.handler_code.specs.Reading.OutlineFaults.{part_view, all_of, member_of, entry_of};
 

@@ -10,7 +10,7 @@ ghost use Rattle.handler_code.specs.Reading.Operands.{named};
 ghost use Rattle.handler_code.specs.Reading.RegisterKinds.{kind_fault, names_view};
 ghost use Rattle.handler_code.specs.Reading.Each.{entries_of, each};
 ghost use Rattle.handler_code.specs.Reading.OutlineFaults.{Gives, member_of, shaped};
-ghost use Rattle.handler_code.specs.Reading.Outline.{IsWellFormed, block_at, block_step, blocks_at, entry_at, first_entry, outline_in, registers_of, result_at, result_of, result_text, result_word, some_entries, some_entries_at, tested};
+ghost use Rattle.handler_code.specs.Reading.Outline.{IsWellFormed, block_at, block_step, blocks_at, entry_at, first_entry, outline_in, registers_of, result_at, result_of, result_word, some_entries, some_entries_at, tested};
 ghost use Rattle.handler_code.specs.Reading.OutlineView.{block_outline_view, outline_view};
 
 use crate::program::RegisterKind;
