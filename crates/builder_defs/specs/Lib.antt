@@ -3,6 +3,7 @@ pub mod Causes
 pub mod Refusals
 pub mod FaultText
 pub mod Document
+pub mod EventWords
 pub mod EventMeaning
 pub mod Denoted
 pub mod OverrideView
