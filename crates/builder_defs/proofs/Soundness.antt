@@ -460,6 +460,7 @@ given_plain : (path : List ℕ) (types : List GType) (names : TypeNames) (t : �
 unfolding given_at
 given_plain path types names t own signals d plain known =
     on_bind (AllOwn types) PlainDraft (properties_at path types names t own d) _ (properties_plain path types names t own d plain) λ properties p.
+    on_bind (λ x. Unit {0}) PlainDraft (nothing_at path d (codes "signals" ∷ [])) _ (on_all _) λ unset u.
     on_bind (AllSignals types) PlainDraft (signals_at path types names t signals d) _ (signals_known path types names t signals d known) λ all k.
     record { plain = p; known = k }
 
