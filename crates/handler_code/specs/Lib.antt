@@ -1,8 +1,6 @@
 pub mod Computing
+pub mod Operand
 pub mod View
 pub mod Shape
-pub mod KindWords
-pub mod Operands
-pub mod OptionView
-pub mod Rows
 pub mod Known
+pub mod Reading

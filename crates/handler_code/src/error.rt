@@ -1,8 +1,10 @@
-//! Why no instruction is read.
+//! Why no instruction and no program is read.
 
 ghost use Rattle.std.specs.Prelude.{◌≡◌};
 ghost use Rattle.handler_code.specs.declared.error.InstructionError.TheVariants as errors;
+ghost use Rattle.handler_code.specs.declared.error.ProgramError.TheVariants as program_errors;
 
+use crate::fault::ProgramFault;
 use std::alloc::{AllocError, AllocFailed};
 
 /// Why no instruction is read.
@@ -27,5 +29,30 @@ impl<T: Drop> From<AllocFailed<T>> for InstructionError {
 
     fn from(_error: AllocFailed<T>) -> InstructionError {
         InstructionError::OutOfMemory
+    }
+}
+
+/// Why no program is read.
+#[derive(Clone, Copy, Debug, PartialEq, Eq)]
+pub enum ProgramError {
+    /// No memory was found.
+    OutOfMemory,
+    /// The value stands for no program.
+    Refused(ProgramFault),
+}
+
+impl From<AllocError> for ProgramError {
+    ghost from_gives = { λ _ error. error ≡ program_errors.OutOfMemory };
+
+    fn from(_error: AllocError) -> ProgramError {
+        ProgramError::OutOfMemory
+    }
+}
+
+impl<T: Drop> From<AllocFailed<T>> for ProgramError {
+    ghost from_gives = { λ _ error. error ≡ program_errors.OutOfMemory };
+
+    fn from(_error: AllocFailed<T>) -> ProgramError {
+        ProgramError::OutOfMemory
     }
 }

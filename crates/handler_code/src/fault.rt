@@ -13,9 +13,11 @@ pub enum ProgramLimit {
     Instructions,
 }
 
-/// Why the blocks of a program don't fit together.
+/// Why a value stands for no program.
 #[derive(Clone, Copy, Debug, PartialEq, Eq)]
 pub enum ProgramFault {
+    /// The entry of this number in this block's code is no instruction, or stands behind the last.
+    BadInstruction(BlockNumber, usize),
     /// This block leads to itself or to an earlier one.
     BackwardJump(BlockNumber),
     /// This block does not end with a jump or a return.

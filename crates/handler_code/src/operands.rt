@@ -4,9 +4,12 @@ ghost use Rattle.std.specs.Prelude.{◌≡◌, option_map, None};
 ghost use Rattle.ui_machine.specs.Seq.{read};
 ghost use Rattle.g_values.specs.View.{value_view};
 ghost use Rattle.handler_code.specs.Computing.{of_one, registers_of, text_of, truth_of};
+ghost use Rattle.handler_code.specs.Operand.{Shows, data_in, identity_in, number_of_object};
+ghost use Rattle.handler_code.specs.View.{number_of};
 
 use crate::computation::Register;
 use g_values::Value;
+use ui_machine::{Arm, ObjectId};
 
 /// The value of a register, if it is set.
 pub fn value_at(registers: &[Option<Value>], at: Register) -> Option<&Value>
@@ -37,5 +40,30 @@ pub fn text_at(registers: &[Option<Value>], at: Register) -> Option<&str>
         Value::Text(Some(text)) => Some(text.as_str()),
         Value::Text(None) => Some(""),
         _ => None,
+    }
+}
+
+/// The object that a register names. `Arm::Register` where the register is unset or has a value of another kind, `Arm::Operand` where it has
+/// null. Whether the object lives is not answered.
+pub fn identity_at(registers: &[Option<Value>], at: Register) -> Result<ObjectId, Arm>
+    ensures { Shows number_of_object result (identity_in (registers_of registers.now) at.0) }
+{
+    match value_at(registers, at) {
+        Some(Value::Object(_, Some(id))) => Ok(*id),
+        Some(Value::Object(_, None)) => Err(Arm::Operand),
+        _ => Err(Arm::Register),
+    }
+}
+
+/// The object that is the data of a handler or a source, if there is a register for it.
+pub fn data_at(registers: &[Option<Value>], at: Option<Register>) -> Result<Option<ObjectId>, Arm>
+    ensures { Shows (option_map number_of_object) result (data_in (registers_of registers.now) (option_map number_of at)) }
+{
+    match at {
+        Some(register) => match identity_at(registers, register) {
+            Ok(id) => Ok(Some(id)),
+            Err(arm) => Err(arm),
+        },
+        None => Ok(None),
     }
 }

@@ -2,7 +2,7 @@
 //!
 //! Blocks lead to later blocks alone, and each ends with a jump or a return. So a program ends, and its steps have a bound.
 
-ghost use Rattle.std.specs.Prelude.{◌≡◌, ℕ, not, map, length, nat_lt, option_map, vec_len};
+ghost use Rattle.std.specs.Prelude.{◌≡◌, not, map, length, nat_lt};
 ghost use Rattle.std.specs.List.{list_any, enumerate_from, position_from};
 ghost use Rattle.ui_machine.specs.Seq.{total};
 ghost use Rattle.handler_code.specs.View.{instruction_view, block_view, program_view};
@@ -103,10 +103,10 @@ fn first_backward(blocks: &[Block]) -> Option<usize>
 }
 
 // Whether the last instruction leads away.
-fn is_ended(block: &Block) -> bool
-    ensures { result ≡ is_ended (map instruction_view block.now.code.items) }
+pub(crate) fn is_ended(code: &[Instruction]) -> bool
+    ensures { result ≡ is_ended (map instruction_view code.now) }
 {
-    match block.code.last() {
+    match code.last() {
         Some(last) => ends_block(last),
         None => false,
     }
@@ -115,7 +115,9 @@ fn is_ended(block: &Block) -> bool
 fn open_in(blocks: &[Block]) -> Option<usize>
     ensures { result ≡ position_from (λ b. not (is_ended (map instruction_view b.code.items))) 0 blocks.now }
 {
-    blocks.iter().position(|block| !is_ended(block))
+    blocks
+        .iter()
+        .position(|block| !is_ended(block.code.as_slice()))
 }
 
 // The first block that leads nowhere.

@@ -1,7 +1,8 @@
 -- Objects that forget one.
-use Rattle.std.proofs.Common.{◌≡◌, ℕ, zero, suc, ◌<◌, List, [], ◌∷◌, map, Bool, false, cond, Option, Some, None, is_some, refl, sym, ap, subst, ◌∙◌, arith}
+use Rattle.std.proofs.Common.{◌≡◌, ℕ, zero, suc, ◌<◌, List, [], ◌∷◌, map, Bool, true, false, cond, Option, Some, None, is_some, refl, sym, ap, subst, ◌∙◌, arith}
 use Rattle.std.specs.Option.{option_map}
-use Rattle.ui_machine.specs.Seq.{listed, total}
+use Rattle.std.specs.List.{list_any}
+use Rattle.ui_machine.specs.Seq.{listed, read, total}
 use Rattle.ui_machine.specs.State.References.{same as same_as}
 use Rattle.ui_machine.specs.Definition.{Definition}
 use Rattle.ui_machine.specs.Definition.Lookups.{specs_of}
@@ -13,8 +14,8 @@ use Rattle.ui_machine.proofs.Listed.{listed-same}
 use Rattle.ui_machine.specs.declared.ids.ObjectId.{ObjectId}
 use Rattle.instances.specs.Store.{Store, ids_of, with_objects}
 use Rattle.instances.specs.Family.{parent_in, KeepsKin}
-use Rattle.instances.specs.View.{Lookup, object_in, count_in, objects_of, counts_of, store_of, InRange, IsSettled, KinInRange}
-use Rattle.instances.specs.Weak.{Marks, Knows, masked, forgotten_value, forgetting}
+use Rattle.instances.specs.View.{Lookup, object_in, count_in, objects_of, counts_of, store_of, AreHeldBelow, InRange, KinInRange}
+use Rattle.instances.specs.Weak.{Marks, Knows, has_weak, masked, forgotten_value, forgetting}
 use Rattle.instances.specs.declared.instance.Instance.{Instance}
 
 -- each object changed, and each count as it was
@@ -64,13 +65,13 @@ parent_kept g keeps None = refl
 parent_kept g keeps (Some x) = (keeps x).parent
 
 -- a change of each instance that keeps its count and its kin
-pub still_known : (at new : Lookup) (made : ℕ) (settled : Bool) (g : Instance → Instance)
+pub still_known : (at new : Lookup) (made below : ℕ) (g : Instance → Instance)
     → ((x : Instance) → (g x).mentions ≡ x.mentions) → ((x : Instance) → KeepsKin x.object (g x).object)
-    → ((q : ℕ) → new q ≡ option_map g (at q)) → InRange at made × IsSettled at settled × KinInRange at made
-    → InRange new made × IsSettled new settled × KinInRange new made
-still_known at new made settled g same keeps is well = (
+    → ((q : ℕ) → new q ≡ option_map g (at q)) → InRange at made × AreHeldBelow at below × KinInRange at made
+    → InRange new made × AreHeldBelow new below × KinInRange new made
+still_known at new made below g same keeps is well = (
   λ id some. well.0 id (sym (ap is_some (is id) ∙ was_there g (at id)) ∙ some),
-  λ s id y here. was_more g same (at id) y (well.1 s id) (sym (is id) ∙ here),
+  λ id y here small. was_more g same (at id) y (λ x e. well.1 id x e small) (sym (is id) ∙ here),
   (
     λ id child some.
         well.2.0 id child
@@ -103,3 +104,44 @@ all_forgets d weak id knows (None ∷ os) = ap (λ (xs : Objects). None ∷ xs) 
 all_forgets d weak id knows (Some o ∷ os) =
     ap (λ (x : Object). Some x ∷ map (option_map (forgetting weak id)) os) (one_forgets d weak id knows o)
     ∙ ap (λ (xs : Objects). Some (forgets d id o) ∷ xs) (all_forgets d weak id knows os)
+
+-- ** where nothing is weak
+
+no_mark : (weak : Marks) (class : ℕ) → has_weak weak ≡ false → list_any (λ b. b) (read [] weak class) ≡ false
+no_mark [] zero none = refl
+no_mark [] (suc class) none = refl
+no_mark (bs ∷ weak) zero none = by (list_any (λ b. b) bs) refl
+  where
+    by : (b : Bool) → list_any (λ b. b) bs ≡ b → list_any (λ b. b) bs ≡ false
+    by false e = e
+    by true e =
+        let some : has_weak (bs ∷ weak) ≡ true = rw e refl in
+        absurd (cc)
+no_mark (bs ∷ weak) (suc class) none = no_mark weak class (by (list_any (λ b. b) bs) refl)
+  where
+    by : (b : Bool) → list_any (λ b. b) bs ≡ b → has_weak weak ≡ false
+    by false e =
+        let rest : has_weak (bs ∷ weak) ≡ has_weak weak = rw e refl in
+        sym rest ∙ none
+    by true e =
+        let some : has_weak (bs ∷ weak) ≡ true = rw e refl in
+        absurd (cc)
+
+unmasked : (id : ℕ) (bs : List Bool) (vs : List Value) → list_any (λ b. b) bs ≡ false → masked (forgotten_value id) bs vs ≡ vs
+unmasked id [] vs none = refl
+unmasked id (b ∷ bs) [] none = refl
+unmasked id (true ∷ bs) (v ∷ vs) none = absurd (cc)
+unmasked id (false ∷ bs) (v ∷ vs) none = ap (λ (ws : List Value). v ∷ ws) (unmasked id bs vs none)
+
+none_forget : (weak : Marks) (id : ℕ) → has_weak weak ≡ false → (os : Objects) → os ≡ map (option_map (forgetting weak id)) os
+none_forget weak id none [] = refl
+none_forget weak id none (None ∷ os) = ap (λ (xs : Objects). None ∷ xs) (none_forget weak id none os)
+none_forget weak id none (Some o ∷ os) =
+    ap (λ (vs : List Value). Some (record o { values = vs }) ∷ os)
+    (sym (unmasked id (read [] weak o.class) o.values (no_mark weak o.class none)))
+    ∙ ap (λ (xs : Objects). Some (forgetting weak id o) ∷ xs) (none_forget weak id none os)
+
+-- where no property is weak, all stays as it is
+pub nothing_forgets : (d : Definition) (weak : Marks) (id : ℕ) → Knows d weak → has_weak weak ≡ false → (os : Objects)
+    → os ≡ all_forget d id os
+nothing_forgets d weak id knows none os = none_forget weak id none os ∙ all_forgets d weak id knows os

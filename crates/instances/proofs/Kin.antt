@@ -1,6 +1,6 @@
 -- What a change of one instance keeps of all: that each was given, that each is held once it is so known, and that children and
 -- parents were given.
-use Rattle.std.proofs.Common.{◌≡◌, ℕ, ◌<◌, ◌≤◌, List, [], ◌∷◌, ◌++◌, length, cond, nat_eq, refl, Bool, true, false, Option, Some, is_some, IsSome, inl, inr, sym, ap, subst, ◌∙◌, arith, ◌&&◌, nat_lt}
+use Rattle.std.proofs.Common.{◌≡◌, ℕ, ◌<◌, ◌≤◌, List, [], ◌∷◌, ◌++◌, length, cond, nat_eq, refl, Bool, true, false, Option, Some, is_some, IsSome, inl, inr, sym, ap, subst, ◌∙◌, arith}
 use Rattle.std.proofs.lemmas.Bool.{cases_eq}
 use Rattle.std.proofs.lemmas.Bool.Decides.{nat_tests}
 use Rattle.std.specs.Ordering.{nat_cmp}
@@ -14,15 +14,15 @@ use Rattle.ui_machine.specs.Rules.Disposal.{children_of}
 use Rattle.instances.specs.Family.{parent_in, KeepsKin}
 use Rattle.ui_machine.specs.declared.ids.ObjectId.{ObjectId}
 use Rattle.instances.specs.Store.{Store}
-use Rattle.instances.specs.View.{Lookup, object_in, store_of, InRange, IsSettled, KinInRange, Replaces}
+use Rattle.instances.specs.View.{Lookup, object_in, store_of, AreHeldBelow, InRange, KinInRange, Replaces}
 use Rattle.instances.specs.declared.instance.Instance.{Instance}
 use Rattle.instances.proofs.Exact.{one_more, split}
 use Rattle.instances.proofs.Maps.{written}
 use Rattle.instances.proofs.Shown.{found_in, given_out}
 
 -- what holds of all instances
-abbrev pub Well : Lookup → ℕ → Bool → Type 0
-Well at made settled = InRange at made × IsSettled at settled × KinInRange at made
+abbrev pub Well : Lookup → ℕ → ℕ → Type 0
+Well at made below = InRange at made × AreHeldBelow at below × KinInRange at made
 
 -- the children and the parent of one object were given
 abbrev pub KinGiven : ℕ → Option Object → Type 0
@@ -37,14 +37,14 @@ module _ (at new : Lookup) (made id : ℕ) (was y : Instance) (here : at id ≡ 
         | inr ne ↦ range q (subst IsSome (replaces.others q ne) some)
       ]
 
-  still_settled : (s t : Bool) → IsSettled at s → (t ≡ true → s ≡ true) → (t ≡ true → 0 < y.mentions) → IsSettled new t
-  still_settled s t settled before more now q x found =
+  still_held : (s t : ℕ) → AreHeldBelow at s → t ≤ s → (id < t → 0 < y.mentions) → AreHeldBelow new t
+  still_held s t held lower more q x found small =
       elim (cases_eq q id) [
         | inl is ↦
             let e : Some y ≡ Some x = sym replaces.changed ∙ ap new (sym is) ∙ found in
             let one : y ≡ x = cc in
-            subst (λ (z : Instance). 0 < z.mentions) one (more now)
-        | inr ne ↦ settled (before now) q x (sym (replaces.others q ne) ∙ found)
+            subst (λ (z : Instance). 0 < z.mentions) one (more (omega (arith, is, small)))
+        | inr ne ↦ held q x (sym (replaces.others q ne) ∙ found) (omega (arith, small, lower))
       ]
 
   still_kin : KinInRange at made → KinGiven made (Some y.object) → KinInRange new made
@@ -82,29 +82,20 @@ kin_kept at made id was o kin here keeps = (
 same_kin : (o p : Object) → p ≡ o → KeepsKin o p
 same_kin o p e = record { children = ap (λ (x : Object). x.children) e; parent = ap (λ (x : Object). x.parent) e }
 
-pub first_holds : (a b : Bool) → (a && b) ≡ true → a ≡ true
-first_holds true b e = refl
-first_holds false b e = absurd (cc)
-
-pub is_held : (a : Bool) (k : ℕ) → (a && nat_lt 0 k) ≡ true → 0 < k
-is_held true k e = grind (arith, nat_tests)
-is_held false k e = absurd (cc)
-
-module _ (m n : BTreeMap ℕ Instance) (made : ℕ) (s : Bool) (id : ℕ) (was y : Instance) (here : get nat_cmp m id ≡ Some was)
+module _ (m n : BTreeMap ℕ Instance) (made s id : ℕ) (was y : Instance) (here : get nat_cmp m id ≡ Some was)
     (h : WritesThrough nat_cmp (nat_cmp id) m y n) (well : Well (get nat_cmp m) made s) where
-  replaced_well : (t : Bool) → KinGiven made (Some y.object) → (t ≡ true → s ≡ true) → (t ≡ true → 0 < y.mentions)
-      → Well (get nat_cmp n) made t
-  replaced_well t given before more =
+  replaced_well : (t : ℕ) → KinGiven made (Some y.object) → t ≤ s → (id < t → 0 < y.mentions) → Well (get nat_cmp n) made t
+  replaced_well t given lower more =
       let replaces = written m n id was y here h in (
         still_range (get nat_cmp m) (get nat_cmp n) made id was y here replaces well.0,
-        still_settled (get nat_cmp m) (get nat_cmp n) made id was y here replaces s t well.1 before more,
+        still_held (get nat_cmp m) (get nat_cmp n) made id was y here replaces s t well.1 lower more,
         still_kin (get nat_cmp m) (get nat_cmp n) made id was y here replaces well.2 given,
       )
 
   -- an object with other kin, as often held
   pub kin_well : KinGiven made (Some y.object) → y.mentions ≡ was.mentions → Well (get nat_cmp n) made s
   kin_well given same =
-      replaced_well s given (λ e. e) (λ now. let more : 0 < was.mentions = well.1 now id was here in omega (arith, more, same))
+      replaced_well s given (omega arith) (λ small. let more : 0 < was.mentions = well.1 id was here small in omega (arith, more, same))
 
   -- another object with the same kin, as often held
   pub same_well : KeepsKin was.object y.object → y.mentions ≡ was.mentions → Well (get nat_cmp n) made s
@@ -113,17 +104,13 @@ module _ (m n : BTreeMap ℕ Instance) (made : ℕ) (s : Bool) (id : ℕ) (was y
   -- the same object, held more often
   pub held_well : y.object ≡ was.object → 0 < y.mentions → Well (get nat_cmp n) made s
   held_well same more =
-      replaced_well s (kin_kept (get nat_cmp m) made id was y.object well.2 here (same_kin was.object y.object same)) (λ e. e) (λ now. more)
+      replaced_well s (kin_kept (get nat_cmp m) made id was y.object well.2 here (same_kin was.object y.object same)) (omega arith)
+      (λ small. more)
 
-  -- the same object, of which nothing is known then
-  pub unsettled_well : y.object ≡ was.object → Well (get nat_cmp n) made false
-  unsettled_well same =
-      replaced_well false (kin_kept (get nat_cmp m) made id was y.object well.2 here (same_kin was.object y.object same)) (λ e. absurd (cc)) (λ e. absurd (cc))
-
-  -- the same object, which is held wherever it is said that each one is
-  pub still_well : (after : Bool) → y.object ≡ was.object → (after ≡ true → s ≡ true) → (after ≡ true → 0 < y.mentions) → Well (get nat_cmp n) made after
-  still_well after same before held =
-      replaced_well after (kin_kept (get nat_cmp m) made id was y.object well.2 here (same_kin was.object y.object same)) before held
+  -- the same object, which is held where it is below
+  pub still_well : (after : ℕ) → y.object ≡ was.object → after ≤ s → (id < after → 0 < y.mentions) → Well (get nat_cmp n) made after
+  still_well after same lower held =
+      replaced_well after (kin_kept (get nat_cmp m) made id was y.object well.2 here (same_kin was.object y.object same)) lower held
 
 -- ** other kin
 

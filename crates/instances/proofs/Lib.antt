@@ -11,7 +11,7 @@ pub mod Shown
 pub mod Scan
 pub mod Counts
 pub mod Maps
-pub mod Settled
+pub mod Unheld
 pub mod Kin
 pub mod Values
 pub mod Created

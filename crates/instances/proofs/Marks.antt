@@ -1,8 +1,9 @@
 -- Values that change where they are marked, one after the other.
-use Rattle.std.proofs.Common.{◌≡◌, ℕ, zero, suc, ◌<◌, ◌≤◌, List, [], ◌∷◌, length, map, take, get_or, slice_set, min, Bool, refl, ap, arith}
+use Rattle.std.proofs.Common.{◌≡◌, ℕ, zero, suc, ◌<◌, ◌≤◌, List, [], ◌∷◌, length, map, take, get_or, slice_set, min, Bool, true, false, ◌||◌, ◌++◌, refl, sym, ap, ◌∙◌, arith}
+use Rattle.std.specs.List.{list_any}
 use Rattle.ui_machine.specs.Seq.{read}
 use Rattle.ui_machine.specs.Definition.Values.{Value}
-use Rattle.instances.specs.Weak.{masked}
+use Rattle.instances.specs.Weak.{has_weak, masked}
 
 pub masked_next : {A : Type 0} (change : Bool → Value → Value) (f : A → Value) (bs : List Bool) (ws xs : List A) (i k : ℕ) (b : Bool) (x y : A)
     → k ≡ suc i → i < length bs → i < length ws → map f xs ≡ masked change (take i bs) (map f ws)
@@ -37,3 +38,25 @@ pub read_past : {A : Type 0} (f : A → List Bool) (xs : List A) (i : ℕ) → l
 read_past f [] i past = refl
 read_past f (x ∷ xs) zero past = absurd (omega arith)
 read_past f (x ∷ xs) (suc i) past = read_past f xs i (omega arith)
+
+-- ** whether one is weak
+
+one_more : {A : Type 0} (f : A → List Bool) (xs : List A) (y : A)
+    → has_weak (map f (xs ++ y ∷ [])) ≡ (has_weak (map f xs) || list_any (λ b. b) (f y))
+one_more f [] y = by (list_any (λ b. b) (f y))
+  where
+    by : (b : Bool) → (b || false) ≡ b
+    by true = refl
+    by false = refl
+one_more f (x ∷ xs) y = by (list_any (λ b. b) (f x)) (one_more f xs y)
+  where
+    by : (b : Bool) → has_weak (map f (xs ++ y ∷ [])) ≡ (has_weak (map f xs) || list_any (λ b. b) (f y))
+        → (b || has_weak (map f (xs ++ y ∷ []))) ≡ ((b || has_weak (map f xs)) || list_any (λ b. b) (f y))
+    by true rest = refl
+    by false rest = rest
+
+-- what is said of slots with those of one class more
+pub said_more : {A : Type 0} (f : A → List Bool) (said one : Bool) (xs ys : List A) (y : A) → said ≡ has_weak (map f xs)
+    → one ≡ list_any (λ b. b) (f y) → ys ≡ xs ++ y ∷ [] → (said || one) ≡ has_weak (map f ys)
+said_more f said one xs ys y before last is =
+    ap (λ b. b || one) before ∙ ap (λ b. has_weak (map f xs) || b) last ∙ sym (one_more f xs y) ∙ ap (λ zs. has_weak (map f zs)) (sym is)

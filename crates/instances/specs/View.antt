@@ -1,5 +1,5 @@
 -- Instances under their identities, seen as a store.
-use Rattle.std.specs.Prelude.{◌≡◌, ◌≢◌, ℕ, suc, ◌<◌, ◌≤◌, cond, nat_eq, List, [], ◌∷◌, Bool, true, Option, Some, None, IsSome}
+use Rattle.std.specs.Prelude.{◌≡◌, ◌≢◌, ℕ, suc, ◌<◌, ◌≤◌, cond, nat_eq, List, [], ◌∷◌, Option, Some, None, IsSome}
 use Rattle.ui_machine.specs.State.Objects.{Object, Objects}
 use Rattle.ui_machine.specs.State.References.{same}
 use Rattle.ui_machine.specs.Rules.Disposal.{children_of}
@@ -40,9 +40,9 @@ store_of at made limit floats = record {
 abbrev pub InRange : Lookup → ℕ → Type 0
 InRange at made = (id : ℕ) → IsSome (at id) → (0 < id) × (id ≤ made)
 
--- once it is settled, each instance is held
-abbrev pub IsSettled : Lookup → Bool → Type 0
-IsSettled at settled = settled ≡ true → (id : ℕ) (x : Instance) → at id ≡ Some x → 0 < x.mentions
+-- each instance of a lower identity is held
+abbrev pub AreHeldBelow : Lookup → ℕ → Type 0
+AreHeldBelow at below = (id : ℕ) (x : Instance) → at id ≡ Some x → id < below → 0 < x.mentions
 
 -- each child and each parent was given
 abbrev pub KinInRange : Lookup → ℕ → Type 0

@@ -1,5 +1,6 @@
 -- Which properties are weak, by class and slot, and values that change by that.
 use Rattle.std.specs.Prelude.{◌≡◌, ℕ, Bool, true, cond, false, not, List, [], ◌∷◌, map, Option, None, Some}
+use Rattle.std.specs.List.{list_any}
 use Rattle.ui_machine.specs.Seq.{read}
 use Rattle.ui_machine.specs.Definition.Values.{Value}
 use Rattle.ui_machine.specs.Definition.Values as values
@@ -12,6 +13,14 @@ use Rattle.ui_machine.specs.Rules.Disposal.{names_object, is_object}
 -- for each class, of each of its slots, whether it is weak
 abbrev pub Marks : Type 0
 Marks = List (List Bool)
+
+-- whether a slot of any class is marked weak
+abbrev pub has_weak : Marks → Bool
+has_weak weak = list_any (list_any (λ b. b)) weak
+
+-- it is said whether one is
+abbrev pub SaysWeak : Bool → Marks → Type 0
+SaysWeak said weak = said ≡ has_weak weak
 
 -- the marks are those of a definition
 abbrev pub Knows : Definition → Marks → Type 0

@@ -16,10 +16,13 @@ use crate::weak::WeakSlots;
 use ui_machine::ObjectId;
 
 impl Table {
-    /// Each weak property that names the object becomes null.
+    /// Each weak property that names the object becomes null. Where no property is weak it looks through none.
     pub fn forget(&mut self, weak: &WeakSlots, id: ObjectId)
         ensures { (d : machine.Definition) → Knows d weak.now → self.new ≡ with_objects self.old (all_forget d id.0 self.old.objects) }
     {
+        if !weak.has_weak() {
+            return;
+        }
         self.instances
             .retain(|_id, instance| instance.forget(weak, id));
     }

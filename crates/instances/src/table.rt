@@ -1,6 +1,6 @@
 //! The objects by their identities.
 
-ghost use Rattle.std.specs.Prelude.{◌≡◌, ℕ, ◌+◌, ◌-◌, ◌<◌, ◌^◌, [], IfSome, IsSome, is_some, None, Ok, map, reverse, OnOk, OnErr};
+ghost use Rattle.std.specs.Prelude.{◌≡◌, ℕ, ◌+◌, ◌-◌, ◌<◌, ◌≤◌, ◌^◌, [], IfSome, IsSome, is_some, None, Ok, map, reverse, OnOk, OnErr};
 ghost use Rattle.std.specs.Option.{option_map};
 ghost use Rattle.ui_machine.specs.State.Objects.{asked, changed, living, value_at, with_value};
 ghost use Rattle.ui_machine.specs.State.References.{next_unheld};
@@ -29,8 +29,8 @@ pub struct Table {
     made: u64,
     limit: u32,
     pub(crate) floating: Vec<ObjectId>,
-    // Whether it is known that each object is held.
-    pub(crate) settled: bool,
+    // Each object of a lower identity is held.
+    pub(crate) held_below: u64,
     pub(crate) alloc: Global,
 }
 
@@ -41,12 +41,12 @@ impl Model for Table {
 
     ghost use Rattle.std.specs.Ordering.{nat_cmp};
     ghost use Rattle.std.specs.BTreeMap.{get};
-    ghost use Rattle.instances.specs.View.{store_of, InRange, IsSettled, KinInRange};
+    ghost use Rattle.instances.specs.View.{store_of, AreHeldBelow, InRange, KinInRange};
 
     ghost view = { λ t. store_of (get nat_cmp t.instances) t.made t.limit t.floating.items };
 
     ghost invariant = { λ t. InRange (get nat_cmp t.instances) t.made
-        × IsSettled (get nat_cmp t.instances) t.settled
+        × AreHeldBelow (get nat_cmp t.instances) t.held_below
         × KinInRange (get nat_cmp t.instances) t.made };
 }
 
@@ -60,7 +60,7 @@ impl Table {
             made: 0,
             limit,
             floating: Vec::new(alloc),
-            settled: false,
+            held_below: 0,
             alloc,
         }
     }
@@ -84,7 +84,6 @@ impl Table {
         requires parentless { object.parent ≡ None }
         ensures { Creates result object self.old self.new }
     {
-        self.settled = false;
         if self.instances.len() >= self.limit as usize {
             return Err(CreateError::ObjectLimit);
         }
@@ -99,6 +98,7 @@ impl Table {
             return Err(CreateError::OutOfMemory);
         };
         self.made = id;
+        self.held_below = self.held_below.min(id);
         Ok(ObjectId(id))
     }
 
@@ -228,8 +228,7 @@ impl Table {
             return;
         };
         instance.mentions = instance.mentions.saturating_sub(times);
-        let is_held = instance.mentions > 0;
-        self.settled = self.settled & is_held;
+        self.held_below = lowest_unknown(self.held_below, id, instance.mentions);
     }
 
     /// Holds an object once more.
@@ -253,12 +252,11 @@ impl Table {
             return;
         };
         instance.mentions -= 1;
-        let is_held = instance.mentions > 0;
-        self.settled = self.settled & is_held;
+        self.held_below = lowest_unknown(self.held_below, id, instance.mentions);
     }
 
-    /// The lowest identity of an object that nothing holds. It looks through the objects only if one was made, or is held no more, since
-    /// it last found each of them held. What does not live is not held.
+    /// The lowest identity of an object that nothing holds. It looks through the objects from the lowest on that was made, or is held no
+    /// more, since it last looked; those below it are held. What does not live is not held.
     pub fn next_unheld(&mut self) -> Option<ObjectId>
         ensures found { option_map (λ (i : ObjectId). i.0) result ≡ next_unheld (count_of self.old.counts) self.old.objects }
         ensures dead { (o : ℕ) → living self.old.objects o ≡ None → count_of self.old.counts o ≡ 0 }
@@ -266,15 +264,31 @@ impl Table {
         ensures unheld { IfSome result (λ id. count_of self.old.counts id.0 ≡ 0) }
         ensures same { self.new ≡ self.old }
     {
-        if self.settled {
-            return None;
-        }
-        for (id, instance) in self.instances.iter() {
+        let found = self.first_unheld();
+        self.held_below = found.unwrap_or(self.made);
+        Some(ObjectId(found?))
+    }
+
+    // The lowest identity of an object that nothing holds.
+    fn first_unheld(&self) -> Option<u64>
+        ensures { result ≡ next_unheld (count_of self.now.counts) self.now.objects }
+    {
+        for (id, instance) in self.instances.range(self.held_below..) {
             if instance.mentions == 0 {
-                return Some(ObjectId(*id));
+                return Some(*id);
             }
         }
-        self.settled = true;
         None
     }
+}
+
+// Up to where each object is held, once one of them is held so often.
+fn lowest_unknown(held_below: u64, id: ObjectId, mentions: u128) -> u64
+    ensures below { result ≤ held_below }
+    ensures held { id.0 < result → 0 < mentions }
+{
+    if mentions > 0 {
+        return held_below;
+    }
+    held_below.min(id.0)
 }

@@ -1,8 +1,9 @@
 //! Which properties are weak.
 
 ghost use Rattle.std.specs.Prelude.{◌≡◌, ◌++◌, ◌∷◌, [], OnOk, OnErr};
+ghost use Rattle.std.specs.List.{list_any};
 ghost use Rattle.ui_machine.specs.Seq.{read};
-ghost use Rattle.instances.specs.Weak.{is_strong};
+ghost use Rattle.instances.specs.Weak.{has_weak, is_strong};
 
 use std::alloc::{AllocError, Global};
 use std::marker::Model;
@@ -12,15 +13,18 @@ use type_tree::TypeId;
 #[derive(Drop)]
 pub struct WeakSlots {
     classes: Vec<Vec<bool>>,
+    has_weak: bool,
 }
 
 impl Model for WeakSlots {
     ghost use Rattle.std.specs.Prelude.{map};
-    ghost use Rattle.instances.specs.Weak.{Marks};
+    ghost use Rattle.instances.specs.Weak.{Marks, SaysWeak};
 
     ghost Value = { Marks };
 
     ghost view = { λ w. map (λ v. v.items) w.classes.items };
+
+    ghost invariant = { λ w. SaysWeak w.has_weak (map (λ v. v.items) w.classes.items) };
 }
 
 impl WeakSlots {
@@ -30,6 +34,7 @@ impl WeakSlots {
     {
         WeakSlots {
             classes: Vec::new(alloc),
+            has_weak: false,
         }
     }
 
@@ -38,8 +43,17 @@ impl WeakSlots {
         ensures ok { OnOk result (self.new ≡ self.old ++ slots.items ∷ []) }
         ensures err { OnErr result (self.new ≡ self.old) }
     {
+        let is_weak = is_any_weak(&slots);
         self.classes.push(slots)?;
+        self.has_weak = self.has_weak | is_weak;
         Ok(())
+    }
+
+    /// Whether a slot of any class is weak.
+    pub fn has_weak(&self) -> bool
+        ensures { result ≡ has_weak self.now }
+    {
+        self.has_weak
     }
 
     /// Whether a slot of a class is there and is not weak.
@@ -65,4 +79,11 @@ impl WeakSlots {
             &[]
         }
     }
+}
+
+// Whether one of these slots is weak.
+fn is_any_weak(slots: &[bool]) -> bool
+    ensures { result ≡ list_any (λ is_weak. is_weak) slots.now }
+{
+    slots.iter().any(|is_weak| *is_weak)
 }

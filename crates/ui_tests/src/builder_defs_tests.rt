@@ -9,7 +9,7 @@ use param_specs::SpecFault;
 use std::alloc::Global;
 use std::test::Fail;
 use type_tree::TypeLimit;
-use ui_machine::Place;
+use ui_machine::{ObjectId, Place};
 
 // A definition of two classes and three objects.
 const BOXES: &str =
@@ -166,6 +166,36 @@ fn knows_the_longest_event(rt: HostRuntime) -> Result<(), Fail> {
             is_long,
             "{length}"
         );
+    }
+    Ok(())
+}
+
+// A class with a signal of its own, and with one of an interface.
+const SIGNALS: &str =
+    r#"{"format":1,"interfaces":[{"name":"Goes","signals":[{"name":"go"}]}],"classes":[{"name":"Box","implements":["Goes"],"signals":[{"name":"turned_on","params":["int","text"],"result":"int","flags":["detailed"],"accumulator":"first-wins"}]}],"objects":[{"id":"b","class":"Box"}]}"#;
+
+// What a definition says of a signal: its name, how many parameters it has, and the flags of its emissions.
+fn told_signal(alloc: Global, definition: &Definition, number: u16) -> Result<String, Fail> {
+    let class = definition.class_at(Place(0));
+    let Some(signal) = definition.signal(class, number) else {
+        return Ok(String::new(alloc));
+    };
+    let emission = definition.emission(class, ObjectId(1), number, None);
+    let (name, count, flags) = (signal.name, signal.params.len(), emission.ok_or("none")?.flags.0);
+    Ok(format!(in alloc; "{name} {count} {flags}")?)
+}
+
+#[test]
+fn tells_signals(rt: HostRuntime) -> Result<(), Fail> {
+    let alloc = rt.alloc();
+    let definition = read_definition(alloc, SIGNALS.as_bytes())?;
+    for (number, want) in [
+        (0, "notify 0 17"),
+        (1, "turned-on 2 16"),
+        (2, "go 0 2"),
+        (3, ""),
+    ] {
+        assert_eq!(rt; told_signal(alloc, &definition, number)?.as_str(), want, "{number}");
     }
     Ok(())
 }

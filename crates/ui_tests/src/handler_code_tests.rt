@@ -1,16 +1,18 @@
-//! What instructions compute of registers.
+//! Programs: how they are read, and what instructions compute of registers.
 
 use crate::fixtures::{number_of, times, tree_of_members, value_of};
 use g_values::{Kind, Value};
 use handler_code::{
     Arithmetic, Block, BlockNumber, Comparison, Computation, Computed, Instruction,
-    InstructionError, Program, ProgramFault, ProgramLimit, Register, Scope, read_instruction,
+    InstructionError, Names, OutlineError, Program, ProgramError, ProgramFault, ProgramLimit,
+    Register, Scope, check_outline, read_instruction, read_program,
 };
 use std::alloc::Global;
+use std::collections::BTreeMap;
 use std::rc::RcStr;
 use std::test::Fail;
 use type_tree::{TypeId, TypeTree};
-use ui_machine::{Arm, Halt};
+use ui_machine::{Arm, Halt, Place};
 
 const A: Register = Register(0);
 
@@ -97,11 +99,17 @@ fn joins_texts(rt: HostRuntime) -> Result<(), Fail> {
     Ok(())
 }
 
-// Whether a text stands for an instruction of a program with two registers and three blocks.
-fn reads(alloc: Global, types: &TypeTree, text: &str) -> Result<bool, Fail> {
+// The value that a text is.
+fn json_of(alloc: Global, text: &str) -> Result<serde_json::Value, Fail> {
     let Ok(json) = serde_json::Value::from_str(alloc, text) else {
         return Err(Fail::from("a text is no JSON"));
     };
+    Ok(json)
+}
+
+// Whether a text stands for an instruction of a program with two registers and three blocks.
+fn reads(alloc: Global, types: &TypeTree, text: &str) -> Result<bool, Fail> {
+    let json = json_of(alloc, text)?;
     let scope = Scope {
         types,
         registers: 2,
@@ -215,6 +223,174 @@ fn tests_shapes(rt: HostRuntime) -> Result<(), Fail> {
     ];
     for (program, fault) in programs.iter().zip(want.iter()) {
         assert_eq!(rt; program.shape_fault(), *fault);
+    }
+    Ok(())
+}
+
+// The places of the ids `a` and `b`.
+fn places(alloc: Global) -> Result<BTreeMap<String, Place>, Fail> {
+    let mut places = BTreeMap::new(alloc);
+    for (number, id) in ["a", "b"].iter().enumerate() {
+        let _ = places.insert(String::from_str(alloc, id)?, Place(number as u16))?;
+    }
+    Ok(places)
+}
+
+// The program of a value, or its fault. The format refuses nothing of it.
+fn read(
+    alloc: Global,
+    names: &Names<'_>,
+    json: &serde_json::Value,
+) -> Result<Result<Program, ProgramFault>, Fail> {
+    let Ok(()) = check_outline(alloc, json, names) else {
+        return Err(Fail::from("the format refuses a program"));
+    };
+    match read_program(alloc, json, names) {
+        Ok(program) => Ok(Ok(program)),
+        Err(ProgramError::Refused(fault)) => Ok(Err(fault)),
+        Err(ProgramError::OutOfMemory) => Err(Fail::from("no memory for a program")),
+    }
+}
+
+/// A block begins with the kinds of its `in`, the first one with the parameters. The other registers are unset.
+#[test]
+fn reads_programs(rt: HostRuntime) -> Result<(), Fail> {
+    let alloc = rt.alloc();
+    let (tree, places) = (tree_of_members(alloc)?, places(alloc)?);
+    let names = Names {
+        types: &tree,
+        places: &places,
+    };
+    let json = json_of(
+        alloc,
+        "{\"name\":\"p\",\"params\":[\"at:b\",\"bool\"],\"registers\":3,\"result\":\"enum:Mode\",\"blocks\":[
+        {\"code\":[[\"if\",1,1,2]]},{\"in\":[\"at?:a\"],\"code\":[[\"ifnull\",0,2,3]]},
+        {\"in\":[\"some:GObject\",\"unset\",\"text\"],\"code\":[[\"jump\",3]]},
+        {\"in\":[],\"code\":[[\"const\",0,\"enum:Mode\",\"on\"],[\"return\",0]]}]}",
+    )?;
+    let Ok(program) = read(alloc, &names, &json)? else {
+        return Err(Fail::from("a program is refused"));
+    };
+    let mut entries = String::new(alloc);
+    for block in &program.blocks {
+        let entry = format!(in alloc; "{:?} {}\n", block.entry, block.code.len())?;
+        entries.push_str(entry.as_str())?;
+    }
+    let want = "[At(Place(1)), Plain(Bool), Unset] 1
+[AtOrNull(Place(0)), Unset, Unset] 1
+[NotNull(TypeId { number: 0 }), Unset, Plain(Text)] 1
+[Unset, Unset, Unset] 2
+";
+    assert_eq!(rt; entries.as_str(), want);
+    Ok(())
+}
+
+// Why a program with so many registers and these blocks is refused, if it is.
+fn fault_of(
+    alloc: Global,
+    names: &Names<'_>,
+    registers: usize,
+    blocks: &str,
+) -> Result<Option<ProgramFault>, Fail> {
+    let text = format!(in alloc;
+        "{{\"name\":\"p\",\"registers\":{registers},\"blocks\":[{blocks}]}}"
+    )?;
+    let json = json_of(alloc, text.as_str())?;
+    match read(alloc, names, &json)? {
+        Ok(_) => Ok(None),
+        Err(fault) => Ok(Some(fault)),
+    }
+}
+
+/// A bad instruction is told first, then a jump back, then a block that leads nowhere, and then a limit.
+#[test]
+fn refuses_programs(rt: HostRuntime) -> Result<(), Fail> {
+    let alloc = rt.alloc();
+    let (tree, places) = (tree_of_members(alloc)?, places(alloc)?);
+    let names = Names {
+        types: &tree,
+        places: &places,
+    };
+    let bad = |block: usize, at: usize| Some(ProgramFault::BadInstruction(BlockNumber(block), at));
+    let back = |block: usize| Some(ProgramFault::BackwardJump(BlockNumber(block)));
+    let open = |block: usize| Some(ProgramFault::NoReturn(BlockNumber(block)));
+    let limit = Some(ProgramFault::Limit(ProgramLimit::Registers));
+    let table = [
+        (32, "{\"code\":[[\"return\",null]]}", None),
+        (33, "{\"code\":[[\"return\",null]]}", limit),
+        (33, "{\"code\":[[\"stop\"]]}", open(0)),
+        (33, "{\"code\":[]},{\"code\":[[\"jump\",1]]}", back(1)),
+        (
+            33,
+            "{\"code\":[]},{\"code\":[[\"jump\",0]]},{\"code\":[[\"stop\"],[\"halt\"]]}",
+            bad(2, 1),
+        ),
+        (1, "{\"code\":[[\"return\",null],[\"stop\"]]}", bad(0, 1)),
+        (1, "{\"code\":[[\"return\",1]]}", bad(0, 0)),
+        (1, "{\"code\":[[\"jump\",2]]},{\"code\":[7]}", bad(0, 0)),
+        (1, "{\"code\":[[\"jump\",1]]},{\"code\":[7]}", bad(1, 0)),
+    ];
+    for (registers, blocks, fault) in table {
+        assert_eq!(rt; fault_of(alloc, &names, registers, blocks)?, fault);
+    }
+    Ok(())
+}
+
+/// A part of the wrong shape is told with its block, its member and its entry, and so is a name that nothing has. A list is told before its
+/// entries, a list that is too long too.
+#[test]
+fn refuses_outlines(rt: HostRuntime) -> Result<(), Fail> {
+    let alloc = rt.alloc();
+    let (tree, places) = (tree_of_members(alloc)?, places(alloc)?);
+    let names = Names {
+        types: &tree,
+        places: &places,
+    };
+    let table = [
+        (
+            "3",
+            "Shape(ProgramPart { block: None, member: None, index: None })",
+        ),
+        (
+            "{\"name\":\"a b\",\"params\":3}",
+            "Shape(ProgramPart { block: None, member: Some(\"name\"), index: None })",
+        ),
+        (
+            "{\"name\":\"p\",\"params\":[\"int\",\"unset\"]}",
+            "Shape(ProgramPart { block: None, member: Some(\"params\"), index: Some(1) })",
+        ),
+        (
+            "{\"name\":\"p\",\"params\":[\"at:c\",\"nope\"]}",
+            "Unknown(ProgramPart { block: None, member: Some(\"params\"), index: Some(0) }, \"c\")",
+        ),
+        (
+            "{\"name\":\"p\",\"params\":[\"at:c\"],\"registers\":0}",
+            "Shape(ProgramPart { block: None, member: Some(\"params\"), index: None })",
+        ),
+        (
+            "{\"name\":\"p\",\"registers\":1,\"result\":\"some:GObject\"}",
+            "Shape(ProgramPart { block: None, member: Some(\"result\"), index: None })",
+        ),
+        (
+            "{\"name\":\"p\",\"registers\":1,\"blocks\":[]}",
+            "Shape(ProgramPart { block: None, member: Some(\"blocks\"), index: None })",
+        ),
+        (
+            "{\"name\":\"p\",\"registers\":1,\"blocks\":[{\"in\":[],\"code\":[]}]}",
+            "Shape(ProgramPart { block: Some(0), member: Some(\"in\"), index: None })",
+        ),
+        (
+            "{\"name\":\"p\",\"registers\":1,\"blocks\":[{\"code\":[]},{\"in\":[\"unset\"],\"repeat\":2,\"code\":[]}]}",
+            "Shape(ProgramPart { block: Some(1), member: Some(\"repeat\"), index: None })",
+        ),
+    ];
+    for (text, want) in table {
+        let json = json_of(alloc, text)?;
+        let Err(OutlineError::Refused(fault)) = check_outline(alloc, &json, &names) else {
+            return Err(Fail::from("the format refuses nothing"));
+        };
+        let got = format!(in alloc; "{fault:?}")?;
+        assert_eq!(rt; got.as_str(), want);
     }
     Ok(())
 }

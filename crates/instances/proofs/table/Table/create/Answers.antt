@@ -9,14 +9,14 @@ pub returns-then-len-self : goal.returns-then-len-self
 returns-then-len-self c = (
   full c.self.inside.instances c.self.inside.made c.self.inside.limit c.self.inside.floating.items _ c.self.invariant.0 c.self.view_is c.len.ensures.ordered 0
       (omega (arith, c.len.ensures.len, c.if-len-self.true)),
-  c.self.view_is,
+  refl,
 )
 
 pub returns-in_default : goal.returns-in_default
 returns-in_default c = (
   at_last c.self.inside.instances c.self.inside.made c.self.inside.limit c.self.inside.floating.items _ c.self.invariant.0 c.self.view_is c.len.ensures.ordered 0
       (omega (arith, c.in_default.ensures)),
-  c.self.view_is,
+  refl,
 )
 
 pub returns-in_default-insert : goal.returns-in_default-insert

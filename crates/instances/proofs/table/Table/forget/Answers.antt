@@ -1,4 +1,4 @@
-use Rattle.std.proofs.Common.{◌≡◌, ℕ, refl, ap, rules, ◌∙◌}
+use Rattle.std.proofs.Common.{◌≡◌, ℕ, refl, sym, ap, rules, ◌∙◌}
 use Rattle.std.specs.Option.{option_map}
 use Rattle.std.specs.Ordering.{nat_cmp}
 use Rattle.std.specs.BTreeMap.{get, is_at}
@@ -7,8 +7,13 @@ use Rattle.instances.specs.Store.{with_objects}
 use Rattle.instances.specs.Weak.{forgetting}
 use Rattle.instances.specs.declared.instance.Instance.{Instance}
 use Rattle.instances.specs.View.{object_in, count_in}
-use Rattle.instances.proofs.Forgotten.{forgotten_in, all_changed, one_object, one_count, still_known, all_forgets}
+use Rattle.instances.proofs.Forgotten.{forgotten_in, all_changed, one_object, one_count, still_known, all_forgets, nothing_forgets}
 use Rattle.instances.proofs.table.Table.forget.Goals as goal
+
+pub returns-then-not-has_weak : goal.returns-then-not-has_weak
+returns-then-not-has_weak c d knows =
+    ap (with_objects c.args.self.now)
+    (nothing_forgets d c.args.weak.now c.args.id.0 knows (sym c.has_weak.ensures ∙ c.if-not-has_weak.true) c.args.self.now.objects)
 
 pub returns : goal.returns
 returns c d knows =
@@ -28,5 +33,5 @@ invariant_of-self c =
     let e = map_same_pairs _ g _ (λ k v b w f' t. search rules) _ _ c.retain.ensures.filtered in
     let at : (q : ℕ) → get nat_cmp c.retain.new.self q ≡ option_map g (get nat_cmp c.self.inside.instances q) =
     λ q. rw e (lookup-map_values g (is_at (nat_cmp q)) c.self.inside.instances.entries) in
-    still_known (get nat_cmp c.self.inside.instances) (get nat_cmp c.retain.new.self) c.self.inside.made c.self.inside.settled g
+    still_known (get nat_cmp c.self.inside.instances) (get nat_cmp c.retain.new.self) c.self.inside.made c.self.inside.held_below g
     (λ x. refl) (λ x. record { children = refl; parent = refl }) at c.self.invariant

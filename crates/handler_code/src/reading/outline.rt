@@ -1,0 +1,22 @@
+//! What a program's value says beside its instructions.
+
+use crate::program::RegisterKind;
+use g_values::Kind;
+use serde_json::Value;
+
+// A block whose instructions are not read yet: the kinds of the first registers as it begins, and its instructions as JSON has them.
+#[derive(Drop)]
+pub(crate) struct BlockOutline<'a> {
+    pub(crate) entry: Vec<RegisterKind>,
+    pub(crate) code: &'a [Value],
+}
+
+// A program whose instructions are not read yet.
+#[derive(Drop)]
+pub(crate) struct Outline<'a> {
+    pub(crate) name: &'a str,
+    pub(crate) params: Vec<RegisterKind>,
+    pub(crate) registers: usize,
+    pub(crate) result: Option<Kind>,
+    pub(crate) blocks: Vec<BlockOutline<'a>>,
+}

@@ -1,0 +1,169 @@
+//! The members of a program's value and of its blocks, as JSON gives them.
+
+ghost use Rattle.std.specs.Prelude.{◌≡◌, [], map, not, option_copied, option_map, string_bytes};
+ghost use Rattle.std.specs.List.{find, list_any};
+ghost use Rattle.std.specs.Str.{bytes_eq};
+ghost use Rattle.std.specs.BTreeMap.{keys};
+ghost use Rattle.serde_json.specs.View.{view, members_view};
+ghost use Rattle.serde_json.specs.Find.{as_array, as_object, as_str};
+ghost use Rattle.handler_code.specs.View.{register_kind_view};
+ghost use Rattle.handler_code.specs.Reading.RegisterKinds.{kind_fault, names_view, register_kind_in};
+ghost use Rattle.handler_code.specs.Reading.Each.{entries_of, each};
+ghost use Rattle.handler_code.specs.Reading.OutlineFaults.{Gives, all_of, fault_view, kind_refusal, kind_there, part_view, shaped};
+ghost use Rattle.handler_code.specs.Reading.Outline.{entries_or_none, fit_registers, kind_step, kinds_at, only_at};
+
+use crate::program::RegisterKind;
+use crate::reading::kind_words::KindFault;
+use crate::reading::names::Names;
+use crate::reading::outline_fault::{OutlineError, OutlineFault, ProgramPart};
+use crate::reading::register_kinds::register_kind_in;
+use serde_json::{Map, Value};
+use std::alloc::Global;
+
+// The fault of a word at a part that names no kind.
+pub(crate) fn kind_refusal<'a>(part: ProgramPart<'a>, fault: KindFault<'a>) -> OutlineFault<'a>
+    ensures { fault_view result ≡ kind_refusal (part_view part.entry) (kind_fault fault.entry) }
+{
+    match fault {
+        KindFault::NoKind => OutlineFault::Shape(part),
+        KindFault::Unknown(name) => OutlineFault::Unknown(part, name),
+    }
+}
+
+// The members of a program or a block, which must be an object.
+pub(crate) fn members_of<'a>(
+    block: Option<usize>,
+    json: &'a Value,
+) -> Result<&'a Map<String, Value>, OutlineError<'a>>
+    ensures { Gives (λ m. members_view m.now.entries) result (shaped (all_of block) (as_object (view json.now))) }
+{
+    match json.as_object() {
+        Some(members) => Ok(members),
+        None => Err(OutlineError::Refused(OutlineFault::Shape(ProgramPart::all_of(block)))),
+    }
+}
+
+// The entries of an array.
+#[tactic(auto, using(crate::proofs::Each::entries_viewed))]
+pub(crate) fn entries_of(json: &Value) -> Option<&[Value]>
+    ensures { option_map (λ s. map view s.now) result ≡ option_map entries_of (as_array (view json.now)) }
+{
+    let items = json.as_array()?;
+    Some(items.as_slice())
+}
+
+// The entries of a list, which may be absent.
+fn entries_or_none<'a>(
+    part: ProgramPart<'a>,
+    json: Option<&'a Value>,
+) -> Result<&'a [Value], OutlineError<'a>>
+    ensures { Gives (λ s. map view s.now) result (entries_or_none (part_view part.entry) (option_map (λ v. view v.now) json.entry)) }
+{
+    let Some(list) = json else {
+        return Ok(&[]);
+    };
+    match entries_of(list) {
+        Some(items) => Ok(items),
+        None => Err(OutlineError::Refused(OutlineFault::Shape(part))),
+    }
+}
+
+// Tests that a list has no more entries than there are registers, if it is known how many.
+fn check_room<'a>(
+    part: ProgramPart<'a>,
+    registers: Option<usize>,
+    items: &[Value],
+) -> Result<(), OutlineError<'a>>
+    ensures { Gives (λ _. tt) result (fit_registers (part_view part.entry) registers (map view items.now)) }
+{
+    let Some(registers) = registers else {
+        return Ok(());
+    };
+    if items.len() > registers {
+        return Err(OutlineError::Refused(OutlineFault::Shape(part)));
+    }
+    Ok(())
+}
+
+// The kind of a register that an entry of a list gives.
+fn kind_there<'a>(
+    names: &Names<'_>,
+    may_be_unset: bool,
+    part: ProgramPart<'a>,
+    json: &'a Value,
+) -> Result<RegisterKind, OutlineError<'a>>
+    ensures { Gives register_kind_view result (kind_there (part_view part.entry) (register_kind_in (names_view names.now) may_be_unset (as_str (view json.now)))) }
+{
+    match register_kind_in(names, may_be_unset, json) {
+        Ok(kind) => Ok(kind),
+        Err(fault) => Err(OutlineError::Refused(kind_refusal(part, fault))),
+    }
+}
+
+// The kinds of registers that entries give.
+fn kinds_of<'a>(
+    alloc: Global,
+    names: &Names<'_>,
+    may_be_unset: bool,
+    part: ProgramPart<'a>,
+    items: &'a [Value],
+) -> Result<Vec<RegisterKind>, OutlineError<'a>>
+    ensures { Gives (λ v. map register_kind_view v.items) result (each (kind_step (names_view names.now) may_be_unset (part_view part.entry)) 0 [] (map view items.now)) }
+{
+    let mut kinds = Vec::new(alloc);
+    'items: for (index, item) in items.iter().enumerate() {
+        let kind = kind_there(names, may_be_unset, part.entry_of(index), item)?;
+        kinds.push(kind)?;
+    }
+    Ok(kinds)
+}
+
+// The kinds of registers that a list gives.
+#[tactic(auto, unfolding(crate::specs::Reading::Outline::kinds_at))]
+pub(crate) fn kinds_at<'a>(
+    alloc: Global,
+    names: &Names<'_>,
+    may_be_unset: bool,
+    part: ProgramPart<'a>,
+    registers: Option<usize>,
+    json: Option<&'a Value>,
+) -> Result<Vec<RegisterKind>, OutlineError<'a>>
+    ensures { Gives (λ v. map register_kind_view v.items) result (kinds_at (names_view names.now) may_be_unset (part_view part.entry) registers (option_map (λ v. view v.now) json.entry)) }
+{
+    let items = entries_or_none(part, json)?;
+    check_room(part, registers, items)?;
+    let kinds = kinds_of(alloc, names, may_be_unset, part, items)?;
+    Ok(kinds)
+}
+
+// Whether a key is one of these.
+fn is_among(keys: &[&str], key: &str) -> bool
+    ensures { result ≡ list_any (λ k. bytes_eq k.now key.now) keys.now }
+{
+    keys.iter().any(|known| *known == key)
+}
+
+// The first key that is none of these.
+fn first_other<'a>(members: &'a Map<String, Value>, known: &[&str]) -> Option<&'a String>
+    ensures { option_copied result ≡ find (λ key. not (list_any (λ k. bytes_eq k.now (string_bytes key)) known.now)) (keys members.now) }
+{
+    members.keys().find(|key| !is_among(known, key.as_str()))
+}
+
+// Tests that the members have no other keys.
+#[tactic(auto, using(crate::proofs::Members::first_other_is))]
+pub(crate) fn check_only<'a>(
+    block: Option<usize>,
+    members: &'a Map<String, Value>,
+    keys: &[&str],
+) -> Result<(), OutlineError<'a>>
+    ensures { Gives (λ _. tt) result (only_at block (members_view members.now.entries) (map (λ k. k.now) keys.now)) }
+{
+    match first_other(members, keys) {
+        None => Ok(()),
+        Some(key) => Err(OutlineError::Refused(OutlineFault::Shape(ProgramPart::member_of(
+            block,
+            key.as_str(),
+        )))),
+    }
+}

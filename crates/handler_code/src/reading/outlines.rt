@@ -1,0 +1,276 @@
+//! Reading what a program's value says beside its instructions.
+
+ghost use Rattle.std.specs.Prelude.{◌≡◌, [], IfOk, codes, map, option_and_then, option_map};
+ghost use Rattle.serde_json.specs.View.{view};
+ghost use Rattle.serde_json.specs.Find.{as_array, as_str, get};
+ghost use Rattle.g_values.specs.View.{kind_view};
+ghost use Rattle.handler_code.specs.View.{register_kind_view};
+ghost use Rattle.handler_code.specs.Reading.Views.{seen};
+ghost use Rattle.handler_code.specs.Reading.Operands.{named};
+ghost use Rattle.handler_code.specs.Reading.RegisterKinds.{kind_fault, names_view};
+ghost use Rattle.handler_code.specs.Reading.Each.{entries_of, each};
+ghost use Rattle.handler_code.specs.Reading.OutlineFaults.{Gives, member_of, shaped};
+ghost use Rattle.handler_code.specs.Reading.Outline.{IsWellFormed, block_at, block_step, blocks_at, entry_at, first_entry, outline_in, registers_of, result_at, result_of, result_word, some_entries, some_entries_at, tested};
+ghost use Rattle.handler_code.specs.Reading.OutlineView.{block_outline_view, outline_view};
+
+use crate::program::RegisterKind;
+use crate::reading::kind_words::{KindFault, kind_of_word};
+use crate::reading::names::Names;
+use crate::reading::operand_words::name_in;
+use crate::reading::outline::{BlockOutline, Outline};
+use crate::reading::outline_fault::{OutlineError, OutlineFault, ProgramPart};
+use crate::reading::outline_parts::{check_only, entries_of, kind_refusal, kinds_at, members_of};
+use g_values::Kind;
+use serde_json::Value;
+use std::alloc::Global;
+use type_tree::TypeTree;
+
+const MEMBERS: [&str; 5] = ["name", "params", "registers", "result", "blocks"];
+
+const BLOCK_MEMBERS: [&str; 2] = ["in", "code"];
+
+// The name of the program.
+fn name_at<'a>(json: &'a Value) -> Result<&'a str, OutlineError<'a>>
+    ensures { Gives (λ s. s.now) result (shaped (member_of None (codes "name")) (named (option_and_then as_str (get (codes "name") (view json.now))))) }
+{
+    match json.get("name").and_then(name_in) {
+        Some(name) => Ok(name),
+        None => Err(OutlineError::Refused(OutlineFault::Shape(ProgramPart::member_of(
+            None, "name",
+        )))),
+    }
+}
+
+// How many registers it has.
+fn registers_of(json: &Value) -> Option<usize>
+    ensures { result ≡ registers_of (view json.now) }
+{
+    let registers = json.get("registers")?.as_u64()?;
+    Some(registers as usize)
+}
+
+fn registers_at<'a>(json: &'a Value) -> Result<usize, OutlineError<'a>>
+    ensures { Gives (λ n. n) result (shaped (member_of None (codes "registers")) (registers_of (view json.now))) }
+{
+    match registers_of(json) {
+        Some(registers) => Ok(registers),
+        None => Err(OutlineError::Refused(OutlineFault::Shape(ProgramPart::member_of(
+            None,
+            "registers",
+        )))),
+    }
+}
+
+// The kind of a result, by its word.
+fn result_word<'a>(types: &TypeTree, word: &'a str) -> Result<Option<Kind>, KindFault<'a>>
+    ensures { seen (option_map kind_view) kind_fault result ≡ result_word types.now word.now }
+{
+    if word == "none" {
+        return Ok(None);
+    }
+    match kind_of_word(types, word) {
+        Ok(kind) => Ok(Some(kind)),
+        Err(fault) => Err(fault),
+    }
+}
+
+// The kind of a result, if it is given.
+fn result_of<'a>(types: &TypeTree, json: Option<&'a Value>) -> Result<Option<Kind>, KindFault<'a>>
+    ensures { seen (option_map kind_view) kind_fault result ≡ result_of types.now (option_map (λ v. view v.now) json.entry) }
+{
+    let Some(value) = json else {
+        return Ok(None);
+    };
+    match value.as_str() {
+        Some(word) => result_word(types, word),
+        None => Err(KindFault::NoKind),
+    }
+}
+
+// The kind of what the program returns.
+fn result_at<'a>(types: &TypeTree, json: &'a Value) -> Result<Option<Kind>, OutlineError<'a>>
+    ensures { Gives (option_map kind_view) result (result_at types.now (view json.now)) }
+{
+    let part = ProgramPart::member_of(None, "result");
+    match result_of(types, json.get("result")) {
+        Ok(kind) => Ok(kind),
+        Err(fault) => Err(OutlineError::Refused(kind_refusal(part, fault))),
+    }
+}
+
+// The kinds of registers as the first block begins, which are those of the parameters.
+fn first_entry<'a>(
+    alloc: Global,
+    params: &[RegisterKind],
+    json: Option<&'a Value>,
+) -> Result<Vec<RegisterKind>, OutlineError<'a>>
+    ensures { Gives (λ v. map register_kind_view v.items) result (first_entry (map register_kind_view params.now) (option_map (λ v. view v.now) json.entry)) }
+{
+    if json.is_some() {
+        return Err(OutlineError::Refused(OutlineFault::Shape(ProgramPart::member_of(
+            Some(0),
+            "in",
+        ))));
+    }
+    let entry = Vec::from_slice(alloc, params)?;
+    Ok(entry)
+}
+
+// The kinds of the first registers as a block begins.
+fn entry_at<'a>(
+    alloc: Global,
+    names: &Names<'_>,
+    params: &[RegisterKind],
+    registers: usize,
+    block: usize,
+    json: &'a Value,
+) -> Result<Vec<RegisterKind>, OutlineError<'a>>
+    ensures { Gives (λ v. map register_kind_view v.items) result (entry_at (names_view names.now) (map register_kind_view params.now) registers block (view json.now)) }
+{
+    let kinds = json.get("in");
+    if block == 0 {
+        return first_entry(alloc, params, kinds);
+    }
+    let part = ProgramPart::member_of(Some(block), "in");
+    kinds_at(alloc, names, true, part, Some(registers), kinds)
+}
+
+// The instructions of a block, as JSON has them.
+fn code_at<'a>(block: usize, json: &'a Value) -> Result<&'a [Value], OutlineError<'a>>
+    ensures { Gives (λ s. map view s.now) result (shaped (member_of (Some block) (codes "code")) (option_map entries_of (option_and_then as_array (get (codes "code") (view json.now))))) }
+{
+    match json.get("code").and_then(entries_of) {
+        Some(code) => Ok(code),
+        None => Err(OutlineError::Refused(OutlineFault::Shape(ProgramPart::member_of(
+            Some(block),
+            "code",
+        )))),
+    }
+}
+
+// A block, by its number.
+#[tactic(auto, unfolding(crate::specs::Reading::Outline::block_at))]
+fn block_at<'a>(
+    alloc: Global,
+    names: &Names<'_>,
+    params: &[RegisterKind],
+    registers: usize,
+    block: usize,
+    json: &'a Value,
+) -> Result<BlockOutline<'a>, OutlineError<'a>>
+    ensures { Gives block_outline_view result (block_at (names_view names.now) (map register_kind_view params.now) registers block (view json.now)) }
+{
+    let members = members_of(Some(block), json)?;
+    let entry = entry_at(alloc, names, params, registers, block, json)?;
+    let code = code_at(block, json)?;
+    check_only(Some(block), members, &BLOCK_MEMBERS)?;
+    Ok(BlockOutline { entry, code })
+}
+
+// The blocks that entries give.
+fn blocks_of<'a>(
+    alloc: Global,
+    names: &Names<'_>,
+    params: &[RegisterKind],
+    registers: usize,
+    items: &'a [Value],
+) -> Result<Vec<BlockOutline<'a>>, OutlineError<'a>>
+    ensures { Gives (λ v. map block_outline_view v.items) result (each (block_step (names_view names.now) (map register_kind_view params.now) registers) 0 [] (map view items.now)) }
+{
+    let mut blocks = Vec::new(alloc);
+    'items: for (number, item) in items.iter().enumerate() {
+        let block = block_at(alloc, names, params, registers, number, item)?;
+        blocks.push(block)?;
+    }
+    Ok(blocks)
+}
+
+// The entries of a list that has one at least.
+fn some_entries(json: &Value) -> Option<&[Value]>
+    ensures { option_map (λ s. map view s.now) result ≡ option_and_then some_entries (option_map entries_of (as_array (view json.now))) }
+{
+    let items = entries_of(json)?;
+    if items.is_empty() { None } else { Some(items) }
+}
+
+fn some_entries_at<'a>(json: &'a Value, key: &'a str) -> Result<&'a [Value], OutlineError<'a>>
+    ensures { Gives (λ s. map view s.now) result (some_entries_at (view json.now) key.now) }
+{
+    match json.get(key).and_then(some_entries) {
+        Some(items) => Ok(items),
+        None => Err(OutlineError::Refused(OutlineFault::Shape(ProgramPart::member_of(None, key)))),
+    }
+}
+
+// The blocks of the program.
+#[tactic(auto, unfolding(crate::specs::Reading::Outline::blocks_at))]
+fn blocks_at<'a>(
+    alloc: Global,
+    names: &Names<'_>,
+    params: &[RegisterKind],
+    registers: usize,
+    json: &'a Value,
+) -> Result<Vec<BlockOutline<'a>>, OutlineError<'a>>
+    ensures { Gives (λ v. map block_outline_view v.items) result (blocks_at (names_view names.now) (map register_kind_view params.now) registers (view json.now)) }
+{
+    let items = some_entries_at(json, "blocks")?;
+    let blocks = blocks_of(alloc, names, params, registers, items)?;
+    Ok(blocks)
+}
+
+// What the value says beside its instructions, or the first fault in document order.
+#[tactic(auto, unfolding(crate::specs::Reading::Outline::outline_in))]
+pub(crate) fn read_outline<'a>(
+    alloc: Global,
+    json: &'a Value,
+    names: &Names<'_>,
+) -> Result<Outline<'a>, OutlineError<'a>>
+    ensures { Gives outline_view result (outline_in (names_view names.now) (view json.now)) }
+{
+    let members = members_of(None, json)?;
+    let name = name_at(json)?;
+    let part = ProgramPart::member_of(None, "params");
+    let params = kinds_at(
+        alloc,
+        names,
+        false,
+        part,
+        registers_of(json),
+        json.get("params"),
+    )?;
+    let registers = registers_at(json)?;
+    let result = result_at(names.types, json)?;
+    let blocks = blocks_at(alloc, names, params.as_slice(), registers, json)?;
+    check_only(None, members, &MEMBERS)?;
+    Ok(Outline {
+        name,
+        params,
+        registers,
+        result,
+        blocks,
+    })
+}
+
+/// Tests what a program's value says beside its instructions: that its parts are those of the format, and that the kinds name what is there.
+/// A value that passes can be given to [`read_program`](crate::read_program), with the same names.
+///
+/// The members are `name`, `params`, `registers`, `result` and `blocks`, those of a block `in` and `code`. A name is 1 to 64 ASCII letters,
+/// digits, `-` and `_`. There are no more parameters, and no more kinds in `in`, than registers; the first block has no `in`; there is a block
+/// at least. A kind of a register is one of a value, `some:T` of a class or interface, or `at:ID` or `at?:ID` of an object or prototype, and
+/// in `in` also `unset`. The result is a kind of values, or `none`.
+///
+/// # Errors
+///
+/// `Refused` with the first fault: in the order of the members above, a part before what it has in it, and keys that are no members last, by
+/// their bytes. `OutOfMemory` where a list of kinds can't be made.
+pub fn check_outline<'a>(
+    alloc: Global,
+    json: &'a Value,
+    names: &Names<'_>,
+) -> Result<(), OutlineError<'a>>
+    ensures tested { Gives (λ _. tt) result (tested (names_view names.now) (view json.now)) }
+    ensures well_formed { IfOk result (λ _. IsWellFormed (names_view names.now) (view json.now)) }
+{
+    read_outline(alloc, json, names)?;
+    Ok(())
+}

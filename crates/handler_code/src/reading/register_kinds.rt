@@ -1,0 +1,102 @@
+//! Kinds of registers, by their words.
+
+ghost use Rattle.std.specs.Prelude.{◌≡◌};
+ghost use Rattle.serde_json.specs.View.{view};
+ghost use Rattle.serde_json.specs.Find.{as_str};
+ghost use Rattle.handler_code.specs.Reading.KindWords.{parted};
+ghost use Rattle.handler_code.specs.Reading.RegisterKinds.{names_view, kind_fault, place_in, register_kind_of, register_kind_by, register_kind, register_kind_in};
+ghost use Rattle.handler_code.specs.View.{register_kind_view};
+ghost use Rattle.handler_code.specs.Reading.Views.{seen};
+
+use crate::program::RegisterKind;
+use crate::reading::kind_words::{KindFault, kind_of_type, parted, plain_kind};
+use crate::reading::names::Names;
+use crate::reading::operand_words::is_name;
+use serde_json::Value;
+use ui_machine::Place;
+
+// The place of an id.
+fn place_in<'a>(names: &Names<'_>, id: &'a str) -> Result<Place, KindFault<'a>>
+    ensures { seen (λ p. p.0) kind_fault result ≡ place_in (names_view names.now) id.now }
+{
+    if !is_name(id) {
+        return Err(KindFault::NoKind);
+    }
+    match names.places.get(id) {
+        Some(place) => Ok(*place),
+        None => Err(KindFault::Unknown(id)),
+    }
+}
+
+// The kind of a sort and of what a name names.
+fn kind_of_parts<'a>(
+    names: &Names<'_>,
+    sort: &str,
+    name: &'a str,
+) -> Result<RegisterKind, KindFault<'a>>
+    ensures { seen register_kind_view kind_fault result ≡ register_kind_of (names_view names.now) sort.now name.now }
+{
+    if sort == "some" {
+        return match names.types.find_required(name) {
+            Some(found) => Ok(RegisterKind::NotNull(found)),
+            None => Err(KindFault::Unknown(name)),
+        };
+    }
+    if sort == "at" {
+        return match place_in(names, name) {
+            Ok(place) => Ok(RegisterKind::At(place)),
+            Err(fault) => Err(fault),
+        };
+    }
+    if sort == "at?" {
+        return match place_in(names, name) {
+            Ok(place) => Ok(RegisterKind::AtOrNull(place)),
+            Err(fault) => Err(fault),
+        };
+    }
+    match kind_of_type(names.types, sort, name) {
+        Ok(kind) => Ok(RegisterKind::Plain(kind)),
+        Err(fault) => Err(fault),
+    }
+}
+
+// The kind of a word that is not `unset`.
+fn kind_of_word<'a>(names: &Names<'_>, word: &'a str) -> Result<RegisterKind, KindFault<'a>>
+    ensures { seen register_kind_view kind_fault result ≡ register_kind_by (names_view names.now) word.now (parted word.now) }
+{
+    if let Some((sort, name)) = parted(word) {
+        return kind_of_parts(names, sort, name);
+    }
+    match plain_kind(word) {
+        Ok(kind) => Ok(RegisterKind::Plain(kind)),
+        Err(fault) => Err(fault),
+    }
+}
+
+// The kind of a word, which may be `unset` where a register need not be set.
+fn kind_or_unset<'a>(
+    names: &Names<'_>,
+    may_be_unset: bool,
+    word: &'a str,
+) -> Result<RegisterKind, KindFault<'a>>
+    ensures { seen register_kind_view kind_fault result ≡ register_kind (names_view names.now) may_be_unset word.now }
+{
+    if may_be_unset && word == "unset" {
+        return Ok(RegisterKind::Unset);
+    }
+    kind_of_word(names, word)
+}
+
+// The kind that a value is the word of.
+pub(crate) fn register_kind_in<'a>(
+    names: &Names<'_>,
+    may_be_unset: bool,
+    json: &'a Value,
+) -> Result<RegisterKind, KindFault<'a>>
+    ensures { seen register_kind_view kind_fault result ≡ register_kind_in (names_view names.now) may_be_unset (as_str (view json.now)) }
+{
+    match json.as_str() {
+        Some(word) => kind_or_unset(names, may_be_unset, word),
+        None => Err(KindFault::NoKind),
+    }
+}

@@ -1,0 +1,132 @@
+//! The rows of the instructions on signals, handlers and bindings.
+
+ghost use Rattle.std.specs.Prelude.{IfOk};
+ghost use Rattle.serde_json.specs.View.{view};
+ghost use Rattle.handler_code.specs.View.{instruction_view};
+ghost use Rattle.handler_code.specs.Known.{HasKnownKinds};
+ghost use Rattle.handler_code.specs.Reading.Operands.{Gives};
+ghost use Rattle.handler_code.specs.Reading.Scopes.{scope_view};
+ghost use Rattle.handler_code.specs.Reading.SignalRows.{emit_row, connect_row, disconnect_row, block_row, unblock_row, stop_row, unbind_row};
+
+use crate::error::InstructionError;
+use crate::instruction::Instruction;
+use crate::reading::operand_lists::registers_at;
+use crate::reading::operand_shapes::{connection_at, one_name, register_and_name};
+use crate::reading::operand_words::{
+    check_none, detail_at, name_at, register_at, register_or_null_at,
+};
+use crate::reading::scope::Scope;
+use serde_json::Value;
+use std::alloc::Global;
+
+// `emit z o s D [a..]`
+#[tactic(auto, unfolding(crate::specs::Reading::SignalRows::emit_row))]
+pub(crate) fn read_emit(
+    alloc: Global,
+    scope: &Scope<'_>,
+    json: &Value,
+) -> Result<Instruction, InstructionError>
+    ensures read { Gives instruction_view result (emit_row (scope_view scope.now) (view json.now)) }
+    ensures known { IfOk result (λ i. HasKnownKinds scope.now.types.now i) }
+{
+    check_none(json, 6)?;
+    let into = register_or_null_at(json, 1, scope.registers)?;
+    let object = register_at(json, 2, scope.registers)?;
+    let signal = name_at(alloc, json, 3)?;
+    let detail = detail_at(alloc, json, 4)?;
+    let args = registers_at(alloc, json, 5, scope.registers)?;
+    Ok(Instruction::Emit {
+        into,
+        object,
+        signal,
+        detail,
+        args,
+    })
+}
+
+// `connect d o s D p [options] z`
+#[tactic(auto, unfolding(crate::specs::Reading::SignalRows::connect_row))]
+pub(crate) fn read_connect(
+    alloc: Global,
+    scope: &Scope<'_>,
+    json: &Value,
+) -> Result<Instruction, InstructionError>
+    ensures read { Gives instruction_view result (connect_row (scope_view scope.now) (view json.now)) }
+    ensures known { IfOk result (λ i. HasKnownKinds scope.now.types.now i) }
+{
+    check_none(json, 8)?;
+    let to = register_at(json, 1, scope.registers)?;
+    let object = register_at(json, 2, scope.registers)?;
+    let connection = connection_at(alloc, scope, json)?;
+    Ok(Instruction::Connect {
+        to,
+        object,
+        connection,
+    })
+}
+
+// `disconnect o p`
+#[tactic(auto, unfolding(crate::specs::Reading::SignalRows::disconnect_row))]
+pub(crate) fn read_disconnect(
+    alloc: Global,
+    scope: &Scope<'_>,
+    json: &Value,
+) -> Result<Instruction, InstructionError>
+    ensures read { Gives instruction_view result (disconnect_row (scope_view scope.now) (view json.now)) }
+    ensures known { IfOk result (λ i. HasKnownKinds scope.now.types.now i) }
+{
+    let (object, program) = register_and_name(alloc, scope, json)?;
+    Ok(Instruction::Disconnect { object, program })
+}
+
+// `block o p`
+#[tactic(auto, unfolding(crate::specs::Reading::SignalRows::block_row))]
+pub(crate) fn read_block(
+    alloc: Global,
+    scope: &Scope<'_>,
+    json: &Value,
+) -> Result<Instruction, InstructionError>
+    ensures read { Gives instruction_view result (block_row (scope_view scope.now) (view json.now)) }
+    ensures known { IfOk result (λ i. HasKnownKinds scope.now.types.now i) }
+{
+    let (object, program) = register_and_name(alloc, scope, json)?;
+    Ok(Instruction::Block { object, program })
+}
+
+// `unblock o p`
+#[tactic(auto, unfolding(crate::specs::Reading::SignalRows::unblock_row))]
+pub(crate) fn read_unblock(
+    alloc: Global,
+    scope: &Scope<'_>,
+    json: &Value,
+) -> Result<Instruction, InstructionError>
+    ensures read { Gives instruction_view result (unblock_row (scope_view scope.now) (view json.now)) }
+    ensures known { IfOk result (λ i. HasKnownKinds scope.now.types.now i) }
+{
+    let (object, program) = register_and_name(alloc, scope, json)?;
+    Ok(Instruction::Unblock { object, program })
+}
+
+// `stop`
+#[tactic(auto, unfolding(crate::specs::Reading::SignalRows::stop_row))]
+pub(crate) fn read_stop(scope: &Scope<'_>, json: &Value) -> Result<Instruction, InstructionError>
+    ensures read { Gives instruction_view result (stop_row (scope_view scope.now) (view json.now)) }
+    ensures known { IfOk result (λ i. HasKnownKinds scope.now.types.now i) }
+{
+    check_none(json, 1)?;
+    Ok(Instruction::Stop)
+}
+
+// `unbind name`
+#[tactic(auto, unfolding(crate::specs::Reading::SignalRows::unbind_row))]
+pub(crate) fn read_unbind(
+    alloc: Global,
+    scope: &Scope<'_>,
+    json: &Value,
+) -> Result<Instruction, InstructionError>
+    ensures read { Gives instruction_view result (unbind_row (scope_view scope.now) (view json.now)) }
+    ensures known { IfOk result (λ i. HasKnownKinds scope.now.types.now i) }
+{
+    let name = one_name(alloc, json)?;
+    Ok(Instruction::Unbind(name))
+}
