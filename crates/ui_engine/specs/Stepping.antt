@@ -24,7 +24,8 @@ pub record IsAtRest (d : Definition) (e : Engine) : Type 0 where
   pub counts : Counts d nothing e
   pub idle : agenda_of d e ≡ []
 
--- one step: an uncounted one leaves less work, and a counted one was still to be had
+-- One step: an uncounted one leaves less work, and a counted one was still to be had. It is one of the machine's: no handler is connected, so that
+-- an emission passes over none, and the turn of its bindings has no entry.
 abbrev pub Stepped : Result Made Halt → Definition → Config → Config → Type 0
 Stepped (Ok mades.Nothing) d c e = HasEnded d c × (e ≡ c)
 Stepped (Ok mades.Uncounted) d c e = Step d None c e × (work d e < work d c) × (e.counted ≡ c.counted)
