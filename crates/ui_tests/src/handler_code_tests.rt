@@ -5,14 +5,14 @@ use g_values::{Kind, Value};
 use handler_code::{
     Arithmetic, Block, BlockNumber, Comparison, Computation, Computed, Instruction,
     InstructionError, Names, OutlineError, Program, ProgramError, ProgramFault, ProgramLimit,
-    Register, Scope, check_outline, read_instruction, read_program,
+    Register, Scope, check_outline, data_at, identity_at, read_instruction, read_program,
 };
 use std::alloc::Global;
 use std::collections::BTreeMap;
 use std::rc::RcStr;
 use std::test::Fail;
 use type_tree::{TypeId, TypeTree};
-use ui_machine::{Arm, Halt, Place};
+use ui_machine::{Arm, Halt, ObjectId, Place};
 
 const A: Register = Register(0);
 
@@ -82,6 +82,20 @@ fn compares_objects(rt: HostRuntime) -> Result<(), Fail> {
     ];
     let want = [Ok(Some(1)), Err(Halt::Stuck(Arm::Register))];
     assert_eq!(rt; got.as_slice(), want.as_slice());
+    Ok(())
+}
+
+/// An operand names an object. Data may be left out.
+#[test]
+fn finds_operands(rt: HostRuntime) -> Result<(), Fail> {
+    let alloc = rt.alloc();
+    let object = Kind::Object(TypeId::new(0));
+    let operands = registers(alloc, value_of(object, 3), value_of(object, 0))?;
+    let operands = operands.as_slice();
+    assert_eq!(rt; identity_at(operands, A), Ok(ObjectId(3)));
+    assert_eq!(rt; identity_at(operands, B), Err(Arm::Operand));
+    assert_eq!(rt; data_at(operands, Some(UNSET)), Err(Arm::Register));
+    assert_eq!(rt; data_at(operands, None), Ok(None));
     Ok(())
 }
 
@@ -282,6 +296,14 @@ fn reads_programs(rt: HostRuntime) -> Result<(), Fail> {
 [Unset, Unset, Unset] 2
 ";
     assert_eq!(rt; entries.as_str(), want);
+    let Some(last) = program.block(BlockNumber(3)) else {
+        return Err(Fail::from("a block is not there"));
+    };
+    let result = last.instruction(1);
+    assert_eq!(rt;
+        last.is_last(1) && matches!(result, Some(Instruction::Return(Some(A)))),
+        true
+    );
     Ok(())
 }
 
