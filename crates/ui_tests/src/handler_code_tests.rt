@@ -89,13 +89,18 @@ fn compares_objects(rt: HostRuntime) -> Result<(), Fail> {
 #[test]
 fn finds_operands(rt: HostRuntime) -> Result<(), Fail> {
     let alloc = rt.alloc();
-    let object = Kind::Object(TypeId::new(0));
-    let operands = registers(alloc, value_of(object, 3), value_of(object, 0))?;
+    let (object, child) = (Kind::Object(TypeId::new(0)), Kind::Object(TypeId::new(1)));
+    let operands = registers(alloc, value_of(object, 3), value_of(child, 0))?;
     let operands = operands.as_slice();
-    assert_eq!(rt; identity_at(operands, A), Ok(ObjectId(3)));
-    assert_eq!(rt; identity_at(operands, B), Err(Arm::Operand));
-    assert_eq!(rt; data_at(operands, Some(UNSET)), Err(Arm::Register));
-    assert_eq!(rt; data_at(operands, None), Ok(None));
+    let got = [
+        identity_at(operands, A),
+        identity_at(operands, B),
+        identity_at(operands, UNSET),
+    ];
+    let want = [Ok(ObjectId(3)), Err(Arm::Operand), Err(Arm::Register)];
+    assert_eq!(rt; got.as_slice(), want.as_slice());
+    let none = data_at(operands, None);
+    assert_eq!(rt; none, Ok(None));
     Ok(())
 }
 
