@@ -5,14 +5,14 @@ use g_values::{Kind, Value};
 use handler_code::{
     Arithmetic, Block, BlockNumber, Comparison, Computation, Computed, Instruction,
     InstructionError, Names, OutlineError, Program, ProgramError, ProgramFault, ProgramLimit,
-    Register, Scope, check_outline, read_instruction, read_program,
+    Register, Scope, check_outline, data_at, identity_at, read_instruction, read_program,
 };
 use std::alloc::Global;
 use std::collections::BTreeMap;
 use std::rc::RcStr;
 use std::test::Fail;
 use type_tree::{TypeId, TypeTree};
-use ui_machine::{Arm, Halt, Place};
+use ui_machine::{Arm, Halt, ObjectId, Place};
 
 const A: Register = Register(0);
 
@@ -82,6 +82,25 @@ fn compares_objects(rt: HostRuntime) -> Result<(), Fail> {
     ];
     let want = [Ok(Some(1)), Err(Halt::Stuck(Arm::Register))];
     assert_eq!(rt; got.as_slice(), want.as_slice());
+    Ok(())
+}
+
+/// An operand names an object. Data may be left out.
+#[test]
+fn finds_operands(rt: HostRuntime) -> Result<(), Fail> {
+    let alloc = rt.alloc();
+    let (object, child) = (Kind::Object(TypeId::new(0)), Kind::Object(TypeId::new(1)));
+    let operands = registers(alloc, value_of(object, 3), value_of(child, 0))?;
+    let operands = operands.as_slice();
+    let got = [
+        identity_at(operands, A),
+        identity_at(operands, B),
+        identity_at(operands, UNSET),
+    ];
+    let want = [Ok(ObjectId(3)), Err(Arm::Operand), Err(Arm::Register)];
+    assert_eq!(rt; got.as_slice(), want.as_slice());
+    let none = data_at(operands, None);
+    assert_eq!(rt; none, Ok(None));
     Ok(())
 }
 
@@ -282,6 +301,14 @@ fn reads_programs(rt: HostRuntime) -> Result<(), Fail> {
 [Unset, Unset, Unset] 2
 ";
     assert_eq!(rt; entries.as_str(), want);
+    let Some(last) = program.block(BlockNumber(3)) else {
+        return Err(Fail::from("a block is not there"));
+    };
+    let result = last.instruction(1);
+    assert_eq!(rt;
+        last.is_last(1) && matches!(result, Some(Instruction::Return(Some(A)))),
+        true
+    );
     Ok(())
 }
 
