@@ -71,7 +71,7 @@ fn give_signals(
     Ok(())
 }
 
-// Gives a type the properties and the signals of its entry.
+// Gives a type the properties of its entry. A list of signals is still refused, unless it is empty.
 #[tactic(auto, unfolding(crate::specs::Denoted::Drafts::given_at))]
 pub(crate) fn give_members(
     part: Part<'_>,
@@ -85,6 +85,7 @@ pub(crate) fn give_members(
     ensures { Leads result (given_at (path_of part.entry.path) types.now names.now t (own_of specs.old) (declared.own_of signals.old.signals) (view part.entry.value.now)) (draft_of types.now specs.new signals.new.signals) }
 {
     give_properties(part, types, names, specs, t)?;
+    part.check_nothing(&["signals"])?;
     give_signals(part, types, names, signals, t)?;
     Ok(())
 }
