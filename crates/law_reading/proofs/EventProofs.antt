@@ -1,7 +1,11 @@
--- An event that a line denotes names what is there, and its value fits.
-use Rattle.std.proofs.Common.{◌≡◌, ℕ, Bool, true, false, List, Option, None, Some, option_and_then, Result, Ok, Err, refl, ap, subst}
+-- An event that a line denotes names what is there, and its values fit.
+use Rattle.std.proofs.Common.{◌≡◌, ℕ, zero, suc, ◌<◌, nat_eq, Bool, true, false, List, [], ◌∷◌, ◌++◌, length, Option, None, Some, option_and_then, option_map, Result, Ok, Err, refl, sym, ap, subst, ◌∙◌, arith}
+use Rattle.std.specs.List.{AllZip}
+use Rattle.std.proofs.lemmas.Bool.{eqb-true}
+use Rattle.std.proofs.lemmas.Bool.Decides.{nat_tests}
+use Rattle.std.proofs.lemmas.List.{append-nil, append_assoc}
 use Rattle.std.specs.Prelude.{if◌then◌else◌, IfOk, codes}
-use Rattle.serde_json.specs.Data.{Data}
+use Rattle.serde_json.specs.Data.{Data, Items, no_items, item}
 use Rattle.serde_json.specs.Find.{get, as_array, as_str}
 use Rattle.g_values.specs.Reading.{json_value}
 use Rattle.g_values.specs.declared.error.JsonFault.{JsonFault}
@@ -11,14 +15,18 @@ use Rattle.ui_machine.specs.Definition.Lookups.{place_at, place_of, slot_of, spe
 use Rattle.ui_machine.specs.Definition.Kinds.{Kind}
 use Rattle.ui_machine.specs.Definition.Kinds as kinds
 use Rattle.ui_machine.specs.Definition.Places.{Given, Place, named}
-use Rattle.ui_machine.specs.Definition.Properties.{Spec, is_readable, is_writable, is_construct_only}
+use Rattle.ui_machine.specs.Definition.Properties.{Spec, has_flags, is_readable, is_writable, is_construct_only}
+use Rattle.ui_machine.specs.Definition.Signals.{Signal}
+use Rattle.ui_machine.specs.Rules.Connections.{may_stand, signal_number}
+use Rattle.ui_machine.specs.Rules.EmissionPlan.{signal_of}
 use Rattle.ui_machine.specs.Definition.Values.{Value}
 use Rattle.ui_machine.specs.Output.Text.{members_of}
 use Rattle.ui_machine.specs.Rules.Ancestry.{is_a}
 use Rattle.ui_machine.specs.Rules.Transform.{kind_fits}
-use Rattle.builder_defs.specs.Meaning.{class_at}
+use Rattle.builder_defs.specs.Meaning as code
 use Rattle.builder_defs.specs.Denoted.Given.{reference}
-use Rattle.builder_defs.specs.EventMeaning.{EventRefusal, unknown, shape, not_readable, construct_only, not_writable, value_fault, or_refused, line_value, has_one_member, words_of_set, words_of_get, Target, target, object_of, object_named, is_of_kind, itself, given_by, or_value_fault, writable, readable, set_event, get_event, release_event, release_by, event_by, event_meant, event_denoted}
+use Rattle.builder_defs.specs.EventMeaning.{EventRefusal, unknown, shape, not_readable, construct_only, not_writable, value_fault, or_refused, line_value, has_one_member, words_of_set, words_of_get, Target, target, object_of, object_named, is_of_kind, itself, given_by, or_value_fault, writable, readable, set_event, get_event, release_event, release_by, event_by, event_meant, event_denoted, words_of_emit, SignalTarget, but_notify, signal_target, count, check_count, check_detail, each_of, id_known, argument, emit_event, emit_by}
+use Rattle.law_typing.specs.Rules.RegisterKinds.{class_at}
 use Rattle.law_typing.specs.Graph.Channels.{spec_at}
 use Rattle.law_typing.specs.Laws.WellRead.{no_class_of, GivenFits, IsObject}
 use Rattle.law_sessions.specs.Sessions.{EventRead}
@@ -42,21 +50,21 @@ module _ (d : Definition) (few : (t : ℕ) → HaveFewBits (members_of d.types t
     object : IsObject d t.place
     spec : spec_at d t.place t.slot ≡ Some t.spec
 
-  target_of : (place slot : ℕ) (p : Place) (spec : Spec) → place_at d place ≡ Some p → spec_of d (class_at d place) slot ≡ Some spec
+  target_of : (place slot : ℕ) (p : Place) (spec : Spec) → place_at d place ≡ Some p → spec_of d (code.class_at d place) slot ≡ Some spec
       → IsTarget (record { place = place; slot = slot; spec = spec })
   target_of place slot p spec there has = record { object = (p, there, objects place p there); spec = by there has }
     where
-      by : place_at d place ≡ Some p → spec_of d (class_at d place) slot ≡ Some spec → spec_at d place slot ≡ Some spec
+      by : place_at d place ≡ Some p → spec_of d (code.class_at d place) slot ≡ Some spec → spec_at d place slot ≡ Some spec
       by e f = let known : spec_of d p.class slot ≡ Some spec = rw e at f in rw e known
 
   is_target : (id name : List ℕ) → IfOk (target d id name) IsTarget
   unfolding target
   is_target id name =
       after_read (or_refused (unknown id) (place_of d id)) _ IsTarget λ place found.
-      after_each (or_refused (unknown name) (slot_of d (class_at d place) name)) _ IsTarget λ slot.
-      after_read (or_refused (unknown name) (spec_of d (class_at d place) slot)) _ IsTarget λ spec has.
+      after_each (or_refused (unknown name) (slot_of d (code.class_at d place) name)) _ IsTarget λ slot.
+      after_read (or_refused (unknown name) (spec_of d (code.class_at d place) slot)) _ IsTarget λ spec has.
       let p = named_entry (λ (x : Place). x.id) d.places id place (taken (unknown id) (place_of d id) place found) in
-      target_of place slot p.0 spec p.1 (taken (unknown name) (spec_of d (class_at d place) slot) spec has)
+      target_of place slot p.0 spec p.1 (taken (unknown name) (spec_of d (code.class_at d place) slot) spec has)
 
   may_be_set : (s : Spec) → IfOk (writable s) (λ u. (is_writable s ≡ true) × (is_construct_only s ≡ false))
   may_be_set s = by (is_writable s) (is_construct_only s) refl refl
@@ -85,12 +93,12 @@ module _ (d : Definition) (few : (t : ℕ) → HaveFewBits (members_of d.types t
       by (Err cause) h = tt
 
   -- an object of the document
-  object_fits : (kind : Kind) (place : ℕ) (p : Place) → place_at d place ≡ Some p → is_of_kind d.types kind (class_at d place) ≡ true
+  object_fits : (kind : Kind) (place : ℕ) (p : Place) → place_at d place ≡ Some p → is_of_kind d.types kind (code.class_at d place) ≡ true
       → GivenFits d kind (named place)
   object_fits (kinds.object t) place p there h =
       let class : is_a d.types p.class t ≡ true = by there h in (p, t, there, objects place p there, refl, class)
     where
-      by : place_at d place ≡ Some p → is_a d.types (class_at d place) t ≡ true → is_a d.types p.class t ≡ true
+      by : place_at d place ≡ Some p → is_a d.types (code.class_at d place) t ≡ true → is_a d.types p.class t ≡ true
       by e h = let known : is_a d.types p.class t ≡ true = rw e at h in known
   object_fits kinds.bool place p there h = absurd (cc)
   object_fits (kinds.whole k) place p there h = absurd (cc)
@@ -117,9 +125,9 @@ module _ (d : Definition) (few : (t : ℕ) → HaveFewBits (members_of d.types t
 
   is_given : (kind : Kind) (words : Data) (o : Option ℕ) → IsThere o → IfOk (given_by d kind words o) (GivenFits d kind)
   is_given kind words None there = is_value kind words
-  is_given kind words (Some place) there = by (is_of_kind d.types kind (class_at d place)) refl
+  is_given kind words (Some place) there = by (is_of_kind d.types kind (code.class_at d place)) refl
     where
-      by : (b : Bool) → is_of_kind d.types kind (class_at d place) ≡ b
+      by : (b : Bool) → is_of_kind d.types kind (code.class_at d place) ≡ b
           → IfOk {T = Given} (if b then Ok (named place) else Err value_fault) (GivenFits d kind)
       by true e = let found = there place refl in object_fits kind place found.0 found.1 e
       by false e = tt
@@ -152,22 +160,138 @@ module _ (d : Definition) (few : (t : ℕ) → HaveFewBits (members_of d.types t
       let p = named_entry (λ (x : Place). x.id) d.places id place (taken (unknown id) (place_of d id) place found) in
       (p.0, p.1, objects place p.0 p.1)
 
-  by_release : (release : Option Data) → IfOk (release_by d release) (EventRead d)
-  by_release None = tt
-  by_release (Some word) = release_read word
+  -- ** emissions
 
-  by_member : (set get release : Option Data) → IfOk (event_by d set get release) (EventRead d)
-  by_member None None release = by_release release
-  by_member None (Some words) release = get_read words
-  by_member (Some words) get release = set_read words
+  -- a signal of an object of the document, and not `notify`
+  record IsEmitted (t : SignalTarget) : Type 0 where
+    object : IsObject d t.place
+    class : ℕ
+    placed : class_at d t.place ≡ Some class
+    signal : signal_of d class t.which ≡ Some t.signal
+    number : 0 < t.which
+
+  above_notify : (found : Option ℕ) (number : ℕ) → but_notify found ≡ Some number → 0 < number
+  above_notify None number e = absurd (cc)
+  above_notify (Some zero) number e = absurd (cc)
+  above_notify (Some (suc n)) number e = let same : suc n ≡ number = cc in omega (arith, same)
+
+  emitted_by : (place number : ℕ) (p : Place) (s : Signal) → place_at d place ≡ Some p → signal_of d (code.class_at d place) number ≡ Some s → 0 < number
+      → IsEmitted (record { place = place; which = number; signal = s })
+  emitted_by place number p s there has above =
+      record { object = (p, there, objects place p there); class = p.class; placed = placed there; signal = by there has; number = above }
+    where
+      placed : place_at d place ≡ Some p → class_at d place ≡ Some p.class
+      placed e = ap (λ o. option_map (λ (x : Place). x.class) o) e
+
+      by : place_at d place ≡ Some p → signal_of d (code.class_at d place) number ≡ Some s → signal_of d p.class number ≡ Some s
+      by e f = let known : signal_of d p.class number ≡ Some s = rw e at f in known
+
+  is_emitted : (id name : List ℕ) → IfOk (signal_target d id name) IsEmitted
+  unfolding signal_target
+  is_emitted id name =
+      after_read (or_refused (unknown id) (place_of d id)) _ IsEmitted λ place is.
+      after_read (or_refused (unknown name) (but_notify (signal_number d (code.class_at d place) name))) _ IsEmitted λ number named.
+      after_read (or_refused (unknown name) (signal_of d (code.class_at d place) number)) _ IsEmitted λ s has.
+      let p = named_entry (λ (x : Place). x.id) d.places id place (taken (unknown id) (place_of d id) place is) in
+      emitted_by place number p.0 s p.1 (taken (unknown name) (signal_of d (code.class_at d place) number) s has)
+      (above_notify (signal_number d (code.class_at d place) name) number (taken (unknown name) (but_notify (signal_number d (code.class_at d place) name)) number named))
+
+  -- the arguments so far, with one more that fits
+  OneMore : Kind → List Given → List Given → Type 0
+  OneMore kind so_far more = (g : Given) × (more ≡ so_far ++ g ∷ []) × GivenFits d kind g
+
+  is_argument : (kind : Kind) (words : Data) (so_far : List Given) → IfOk (argument d so_far kind words) (OneMore kind so_far)
+  unfolding argument OneMore
+  is_argument kind words so_far =
+      after_such (object_named d (reference kind (as_str words))) _ IsThere (OneMore kind so_far) (named_there (reference kind (as_str words))) λ o there.
+      after_such (given_by d kind words o) _ (GivenFits d kind) (OneMore kind so_far) (is_given kind words o there) λ g fits. (g, refl, fits)
+
+  -- the arguments so far, with as many more as there are kinds, each of its kind
+  AllFit : List Kind → List Given → List Given → Type 0
+  AllFit ks so_far all = (rest : List Given) × (all ≡ so_far ++ rest) × AllZip (λ g kind. GivenFits d kind g) rest ks
+
+  if_more : {A E : Type 0} (P Q : A → Type 0) (r : Result A E) → ((x : A) → P x → Q x) → IfOk r P → IfOk r Q
+  if_more P Q (Ok x) more p = more x p
+  if_more P Q (Err e) more p = tt
+
+  one_before : (kind : Kind) (ks : List Kind) (so_far more all : List Given) → OneMore kind so_far more → AllFit ks more all → AllFit (kind ∷ ks) so_far all
+  unfolding OneMore AllFit
+  one_before kind ks so_far more all one rest =
+      (one.0 ∷ rest.0, rest.1 ∙ ap (λ (gs : List Given). gs ++ rest.0) one.1 ∙ append_assoc so_far (one.0 ∷ []) rest.0, (one.2, rest.2))
+
+  all_fit : (ks : List Kind) (vs : Items) (so_far : List Given) → count vs ≡ length ks → IfOk (each_of (argument d) so_far ks vs) (AllFit ks so_far)
+  unfolding each_of AllFit
+  all_fit [] no_items so_far same = ([], sym (append-nil so_far), tt)
+  all_fit [] (item v vs) so_far same = absurd (cc)
+  all_fit (k ∷ ks) no_items so_far same = absurd (cc)
+  all_fit (k ∷ ks) (item v vs) so_far same =
+      after_such (argument d so_far k v) _ (OneMore k so_far) (AllFit (k ∷ ks) so_far) (is_argument k v so_far) λ more one.
+      if_more (AllFit ks more) (AllFit (k ∷ ks) so_far) (each_of (argument d) more ks vs) (λ all rest. one_before k ks so_far more all one rest)
+      (all_fit ks vs more (let same : count vs ≡ length ks = omega (arith, same) in same))
+
+  as_many : (s : Signal) (args : Items) → IfOk (check_count s args) (λ u. count args ≡ length s.params)
+  as_many s args = by (nat_eq (length s.params) (count args)) refl
+    where
+      by : (b : Bool) → nat_eq (length s.params) (count args) ≡ b → IfOk {T = Unit {0}} (if b then Ok tt else Err shape) (λ u. count args ≡ length s.params)
+      by true e = grind (arith, nat_tests)
+      by false e = tt
+
+  not_notify : (n : ℕ) → nat_eq (suc n) 0 ≡ false
+  not_notify n = by (nat_eq (suc n) 0) refl
+    where
+      by : (b : Bool) → nat_eq (suc n) 0 ≡ b → nat_eq (suc n) 0 ≡ false
+      by true e = let same = eqb-true (suc n) 0 e in absurd (omega (arith, same))
+      by false e = e
+
+  may_be_detailed : (class number : ℕ) (s : Signal) (detail : Option (List ℕ)) → 0 < number → IfOk (check_detail s detail) (λ u. may_stand d class number s detail ≡ true)
+  may_be_detailed class number s None above = refl
+  may_be_detailed class zero s (Some detail) above = absurd (omega (arith, above))
+  may_be_detailed class (suc n) s (Some detail) above = by (has_flags 16 s.flags) refl
+    where
+      by : (b : Bool) → has_flags 16 s.flags ≡ b → IfOk {T = Unit {0}} (if b then Ok tt else Err (unknown detail)) (λ u. may_stand d class (suc n) s (Some detail) ≡ true)
+      by true e = let other = not_notify n in rw (e, other) refl
+      by false e = tt
+
+  emit_read : (words : Data) → IfOk (emit_event d words) (EventRead d)
+  unfolding emit_event AllFit
+  emit_read words =
+      after_each (or_refused shape (option_and_then words_of_emit (as_array words))) _ (EventRead d) λ said.
+      after_such (signal_target d said.id said.name) _ IsEmitted (EventRead d) (is_emitted said.id said.name) λ t is.
+      after_such (check_count t.signal said.args) _ (λ u. count said.args ≡ length t.signal.params) (EventRead d) (as_many t.signal said.args) λ u same.
+      after_each (each_of (id_known d) tt t.signal.params said.args) _ (EventRead d) λ v.
+      after_such (check_detail t.signal said.detail) _ (λ u. may_stand d is.class t.which t.signal said.detail ≡ true) (EventRead d)
+      (may_be_detailed is.class t.which t.signal said.detail is.number) λ w may.
+      after_such (each_of (argument d) [] t.signal.params said.args) _ (AllFit t.signal.params []) (EventRead d) (all_fit t.signal.params said.args [] same) λ all fit. (
+        is.object,
+        is.class,
+        t.signal,
+        is.placed,
+        is.signal,
+        is.number,
+        subst (λ gs. AllZip (λ g kind. GivenFits d kind g) gs t.signal.params) (sym fit.1) fit.2,
+        may,
+      )
+
+  by_emit : (emit : Option Data) → IfOk (emit_by d emit) (EventRead d)
+  by_emit None = tt
+  by_emit (Some words) = emit_read words
+
+  by_release : (release emit : Option Data) → IfOk (release_by d release emit) (EventRead d)
+  by_release None emit = by_emit emit
+  by_release (Some word) emit = release_read word
+
+  by_member : (set get release emit : Option Data) → IfOk (event_by d set get release emit) (EventRead d)
+  by_member None None release emit = by_release release emit
+  by_member None (Some words) release emit = get_read words
+  by_member (Some words) get release emit = set_read words
 
   meant_read : (value : Data) → IfOk (event_meant d value) (EventRead d)
   unfolding event_meant
   meant_read value = by (has_one_member value)
     where
       by : (b : Bool)
-          → IfOk (if b then event_by d (get (codes "set") value) (get (codes "get") value) (get (codes "release") value) else Err shape) (EventRead d)
-      by true = by_member (get (codes "set") value) (get (codes "get") value) (get (codes "release") value)
+          → IfOk (if b then event_by d (get (codes "set") value) (get (codes "get") value) (get (codes "release") value) (get (codes "emit") value) else Err shape) (EventRead d)
+      by true = by_member (get (codes "set") value) (get (codes "get") value) (get (codes "release") value) (get (codes "emit") value)
       by false = tt
 
   pub event_read : (line : List ℕ) → IfOk (event_denoted d line) (EventRead d)

@@ -12,7 +12,7 @@ use Rattle.ui_machine.specs.Definition.Lookups.{class_of, specs_of, spec_of, slo
 use Rattle.ui_machine.specs.Rules.Ancestry.{is_a}
 use Rattle.ui_machine.specs.Rules.Transform.{same_kind, same_bool}
 use Rattle.machine_laws.proofs.ClampProofs.{same_value_itself}
-use Rattle.builder_defs.specs.Meaning.{notify_signal}
+use Rattle.ui_machine.specs.Words.{notify}
 use Rattle.law_typing.specs.Verdict.Inherits.{same_spec, is_spec, spec_named, is_signal, signal_named, has_all_of, implies, types_of, inherits}
 use Rattle.law_reading.proofs.ListProofs.{all_listed, all_entries}
 use Rattle.law_reading.proofs.NameProofs.{AreNamed, name_refl, named_found}
@@ -46,14 +46,14 @@ module _ (d : Definition) where
       rw (slot, has) (spec_itself s)
 
   -- `notify` is all that both have of signals
-  found_signals : (class type : ℕ) → (class_of d class).signals ≡ notify_signal ∷ [] → (class_of d type).signals ≡ notify_signal ∷ []
+  found_signals : (class type : ℕ) → (class_of d class).signals ≡ notify ∷ [] → (class_of d type).signals ≡ notify ∷ []
       → list_all (λ (s : Signal). is_signal s (signal_named d class s.name)) (class_of d type).signals ≡ true
   found_signals class type own other = rw (other, own, own) refl
 
   -- What a class has, if it has each property of a type in some slot.
   pub has_all : (class type : ℕ) → AreNamed (specs_of d class)
       → ((slot : ℕ) (s : Spec) → spec_of d type slot ≡ Some s → (canonical s.name ≡ s.name) × ((at : ℕ) × (spec_of d class at ≡ Some s)))
-      → (class_of d class).signals ≡ notify_signal ∷ [] → (class_of d type).signals ≡ notify_signal ∷ [] → has_all_of d class type ≡ true
+      → (class_of d class).signals ≡ notify ∷ [] → (class_of d type).signals ≡ notify ∷ [] → has_all_of d class type ≡ true
   has_all class type named has own other =
       both_true (list_all (λ (s : Spec). is_spec s (spec_named d class s.name)) (specs_of d type)) _
       (all_entries (λ (s : Spec). is_spec s (spec_named d class s.name)) (specs_of d type)

@@ -24,7 +24,7 @@ use Rattle.law_reading.proofs.ListProofs.{each_more, got_within}
 use Rattle.law_reading.proofs.ObjectProofs.{IsObjectRead, AreObjects}
 use Rattle.law_reading.proofs.SignalProofs.{known, no_shape}
 
-module _ (draft : Draft) (places : List Place) (limits : Limits)
+module _ (draft : Draft) (places : List Place) (limits : Limits) (bare : (t : ℕ) → draft.signals t ≡ [])
     (objects : AreObjects draft.types (specs_by draft.types draft.own) places) (fit : length places ≤ 512) where
   object_is : (place : ℕ) (p : Place) → place_at (definition_with draft places limits) place ≡ Some p
       → IsObjectRead draft.types (specs_by draft.types draft.own) objects.names place p
@@ -62,7 +62,7 @@ module _ (draft : Draft) (places : List Place) (limits : Limits)
       → GivenRead (definition_with draft places limits) place p g
   given_read place p there g fit = record {
     spec = fit.spec;
-    is = ap (λ (c : Class). slice_get c.specs g.slot) (known draft places limits p.class there) ∙ fit.is;
+    is = ap (λ (c : Class). slice_get c.specs g.slot) (known draft places limits bare p.class there) ∙ fit.is;
     writable = fit.writable;
     fits = given_fits fit.spec.kind g.given fit.fits;
     forward = fit.forward;
@@ -88,7 +88,7 @@ module _ (draft : Draft) (places : List Place) (limits : Limits)
         slots = o.given.apart;
         plain = λ h. absurd (let no = o.object in cc);
         silent = λ h. absurd (let no = o.object in cc);
-        peers = λ h. ap length o.peers ∙ sym (ap (λ shape. cond (is_some shape) 1 0) (no_shape draft places limits p.class));
+        peers = λ h. ap length o.peers ∙ sym (ap (λ shape. cond (is_some shape) 1 0) (no_shape draft places limits bare p.class));
         signals = subst (Each _) (sym o.signals) tt;
       }
 

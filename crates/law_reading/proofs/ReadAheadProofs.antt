@@ -37,7 +37,8 @@ use Rattle.builder_defs.specs.Denoted.Defaults.{default_or_zero, default_at, che
 use Rattle.builder_defs.specs.Denoted.Overrides.{own_name}
 use Rattle.builder_defs.specs.Denoted.Properties.{specs_by, inherited_of, inherited_by, property_spec, room_for_property, new_name, new_property, weak_at, keys_of_property, valued_at, spec_at}
 use Rattle.builder_defs.proofs.LaterTypes.{kept_but_class, IsKept, valid_later}
-use Rattle.builder_defs.proofs.Soundness.{OnRead, IsOpen, on_bind, on_all, kind_open}
+use Rattle.builder_defs.specs.Meaning.{IsKnownKind}
+use Rattle.builder_defs.proofs.Soundness.{OnRead, on_bind, on_all, kind_open}
 use Rattle.law_static.proofs.Same.{names_same}
 use Rattle.law_reading.proofs.Ancestors.{child_specs}
 use Rattle.law_reading.proofs.AheadProofs.{IsReadAhead}
@@ -177,13 +178,13 @@ module _ (types : List GType) (g : GType) (class : g.sort ≡ sorts.class) where
 
 -- ** values
 
-open_kept : (types : List GType) (g : GType) (k : Kind) → IsOpen types k → IsKept types (types ++ g ∷ []) k
-open_kept types g kinds.bool p = tt
-open_kept types g (kinds.whole k) p = tt
-open_kept types g kinds.text p = tt
-open_kept types g (kinds.enum t) p = kept_but_class types g t sorts.enum p (λ e. cc)
-open_kept types g (kinds.flags t) p = kept_but_class types g t sorts.flags p (λ e. cc)
-open_kept types g (kinds.object t) p = tt
+known_kept : (types : List GType) (g : GType) (k : Kind) → IsKnownKind types k → IsKept types (types ++ g ∷ []) k
+known_kept types g kinds.bool p = tt
+known_kept types g (kinds.whole k) p = tt
+known_kept types g kinds.text p = tt
+known_kept types g (kinds.enum t) p = kept_but_class types g t sorts.enum p (λ e. cc)
+known_kept types g (kinds.flags t) p = kept_but_class types g t sorts.flags p (λ e. cc)
+known_kept types g (kinds.object t) p = tt
 
 zero_alike : (types all : List GType) (k : Kind) → IsKept types all k → zero_value all k ≡ zero_value types k
 zero_alike types all kinds.bool same = refl
@@ -279,8 +280,8 @@ module _ (types : List GType) (g : GType) (class : g.sort ≡ sorts.class) (room
       (kind_read types g class names room number path d) λ kind of e.
       both_ways (flags_at path d) (flags_at path d) _ _ s e (λ x h. h) λ flags h e.
       both_ways (valued_at path (types ++ g ∷ []) name kind flags d) (valued_at path types name kind flags d) _ _ s e
-      (valued_ahead types (types ++ g ∷ []) kind (open_kept types g kind
-      (subst (OnRead (IsOpen types)) (kind_read types g class names room number path d kind of) (kind_open path types names d))) path name flags d)
+      (valued_ahead types (types ++ g ∷ []) kind (known_kept types g kind
+      (subst (OnRead (IsKnownKind types)) (kind_read types g class names room number path d kind of) (kind_open path types names d))) path name flags d)
       λ spec h e. e
 
   pub read_ahead : IsTree types → (table : ℕ → List Spec) (parent : ℕ)

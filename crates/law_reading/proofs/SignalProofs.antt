@@ -1,6 +1,6 @@
 -- The signals of a definition that was read: each type has `notify` alone.
 use Rattle.std.proofs.Common.{◌≡◌, ℕ, zero, suc, ◌<◌, ◌≤◌, true, List, [], ◌∷◌, length, Option, None, Some, slice_get, refl, sym, ap, subst, ◌∙◌, arith, inl, inr, ◌⊎◌}
-use Rattle.std.specs.List.{list_all}
+use Rattle.std.specs.List.{list_all, flat_map}
 use Rattle.std.proofs.lemmas.Bool.{cases_lt}
 use Rattle.std.proofs.lemmas.Option.{none-some}
 use Rattle.ui_machine.specs.Definition.{Class}
@@ -14,7 +14,10 @@ use Rattle.ui_machine.specs.Rules.Construction.{nearest_shape}
 use Rattle.ui_machine.specs.Rules.Ancestry.{lineage}
 use Rattle.ui_machine.specs.declared.limits.Limits.{Limits}
 use Rattle.ui_machine.proofs.Listed.{read-listed, length-listed}
-use Rattle.builder_defs.specs.Meaning.{class_with, notify_signal}
+use Rattle.ui_machine.specs.Words.{notify}
+use Rattle.signal_core.specs.Sources.{sources_of}
+use Rattle.builder_defs.specs.Meaning.{class_with}
+use Rattle.builder_defs.specs.Denoted.Signals.{signals_by}
 use Rattle.builder_defs.specs.Denoted.Properties.{specs_by}
 use Rattle.builder_defs.specs.Denoted.Drafts.{Draft}
 use Rattle.builder_defs.specs.Denoted.{definition_with}
@@ -25,18 +28,30 @@ none_given : (f : ℕ → Option ℕ) → ((t : ℕ) → f t ≡ None) → (ts :
 none_given f all [] = refl
 none_given f all (t ∷ ts) = let e = all t in let rest = none_given f all ts in rw e rest
 
-module _ (draft : Draft) (places : List Place) (limits : Limits) where
+nothing_flat : (own : ℕ → List Signal) → ((t : ℕ) → own t ≡ []) → (ts : List ℕ) → flat_map own ts ≡ []
+nothing_flat own none [] = refl
+nothing_flat own none (t ∷ ts) = let here = none t in let rest = nothing_flat own none ts in rw (here, rest) refl
+
+module _ (draft : Draft) (places : List Place) (limits : Limits) (silent : (t : ℕ) → draft.signals t ≡ []) where
+  -- `notify` is all that a type has
+  alone : (t : ℕ) → signals_by draft.types draft.signals t ≡ notify ∷ []
+  alone t = ap (λ ss. notify ∷ ss) (nothing_flat draft.signals silent (sources_of draft.types t))
+
+  abbrev class : ℕ → Class
+  class t = class_with (specs_by draft.types draft.own t) (signals_by draft.types draft.signals t)
+
   pub known : (t : ℕ) → t < length draft.types
-      → class_of (definition_with draft places limits) t ≡ class_with (specs_by draft.types draft.own t)
+      → class_of (definition_with draft places limits) t ≡ class_with (specs_by draft.types draft.own t) (notify ∷ [])
   known t h =
-      read-listed no_class (λ t. class_with (specs_by draft.types draft.own t)) (length draft.types) t (λ past. absurd (omega arith))
+      read-listed no_class class (length draft.types) t (λ past. absurd (omega arith))
+      ∙ ap (class_with (specs_by draft.types draft.own t)) (alone t)
 
   pub past : (t : ℕ) → length draft.types ≤ t → class_of (definition_with draft places limits) t ≡ no_class
-  past t h = read_past no_class (λ t. class_with (specs_by draft.types draft.own t)) (length draft.types) t h
+  past t h = read_past no_class class (length draft.types) t h
 
   pub has_notify : (t : ℕ) → t < length draft.types → HasNotify (definition_with draft places limits) t
   has_notify t h = record {
-    signal = notify_signal;
+    signal = notify;
     is = ap (λ (c : Class). slice_get c.signals 0) (known t h);
     name = refl;
     flags = refl;
@@ -51,11 +66,11 @@ module _ (draft : Draft) (places : List Place) (limits : Limits) where
       by (inl h) = h
       by (inr h) = absurd (none-some s (sym (ap (λ (c : Class). slice_get c.signals number) (past t h)) ∙ e))
 
-  one_signal : (number : ℕ) (s : Signal) → slice_get (notify_signal ∷ []) number ≡ Some s
-      → place_named (λ (s : Signal). s.name) (notify_signal ∷ []) (canonical s.name) ≡ Some number
+  one_signal : (number : ℕ) (s : Signal) → slice_get (notify ∷ []) number ≡ Some s
+      → place_named (λ (s : Signal). s.name) (notify ∷ []) (canonical s.name) ≡ Some number
   one_signal zero s e =
-      let same : notify_signal ≡ s = cc in
-      subst (λ (x : Signal). place_named (λ (s : Signal). s.name) (notify_signal ∷ []) (canonical x.name) ≡ Some 0) same refl
+      let same : notify ≡ s = cc in
+      subst (λ (x : Signal). place_named (λ (s : Signal). s.name) (notify ∷ []) (canonical x.name) ≡ Some 0) same refl
   one_signal (suc n) s e = absurd (cc)
 
   pub found : (t number : ℕ) (s : Signal) → signal_of (definition_with draft places limits) t number ≡ Some s
@@ -66,13 +81,13 @@ module _ (draft : Draft) (places : List Place) (limits : Limits) where
       ∙ one_signal number s (sym (ap (λ (c : Class). slice_get c.signals number) (known t h)) ∙ e)
 
   pub as_many : length (definition_with draft places limits).classes ≡ length draft.types
-  as_many = length-listed (λ t. class_with (specs_by draft.types draft.own t)) (length draft.types)
+  as_many = length-listed class (length draft.types)
 
   pub results_filled : list_all (λ (c : Class). list_all (result_has_values (definition_with draft places limits)) c.signals)
       (definition_with draft places limits).classes ≡ true
   results_filled =
       all_listed (λ (c : Class). list_all (result_has_values (definition_with draft places limits)) c.signals)
-      (λ t. class_with (specs_by draft.types draft.own t)) (length draft.types) (λ i h. refl)
+      class (length draft.types) (λ i h. ap (list_all (result_has_values (definition_with draft places limits))) (alone i))
 
   bare_shape : (t : ℕ) → (class_of (definition_with draft places limits) t).shape ≡ None
   bare_shape t = by (cases_lt t (length draft.types))

@@ -19,6 +19,7 @@ use Rattle.ui_machine.specs.Seq.{read}
 use Rattle.ui_machine.specs.declared.limits.Limits.{Limits}
 use Rattle.builder_defs.specs.Meaning.{class_with, IsPlain, IsPlainKind}
 use Rattle.builder_defs.specs.Denoted.Properties.{specs_by}
+use Rattle.builder_defs.specs.Denoted.Signals.{signals_by}
 use Rattle.builder_defs.specs.Denoted.Drafts.{Draft}
 use Rattle.builder_defs.specs.Denoted.{definition_with}
 use Rattle.builder_defs.proofs.Soundness.{PlainDraft, plain_flat, plain_get}
@@ -66,8 +67,8 @@ module _ (draft : Draft) (places : List Place) (limits : Limits) (grown : GrownD
   there class slot s e = by (cases_lt class (length draft.types))
     where
       by : (class < length draft.types) ⊎ (length draft.types ≤ class) → slice_get (specs_by draft.types draft.own class) slot ≡ Some s
-      by (inl h) = sym (ap (λ (c : Class). slice_get c.specs slot) (known draft places limits class h)) ∙ e
-      by (inr h) = absurd (none-some s (sym (ap (λ (c : Class). slice_get c.specs slot) (past draft places limits class h)) ∙ e))
+      by (inl h) = sym (ap (λ (c : Class). slice_get c.specs slot) (known draft places limits grown.3 class h)) ∙ e
+      by (inr h) = absurd (none-some s (sym (ap (λ (c : Class). slice_get c.specs slot) (past draft places limits grown.3 class h)) ∙ e))
 
   kept : (class slot : ℕ) (s : Spec) → spec_of (definition_with draft places limits) class slot ≡ Some s → IsKept s
   kept class slot s e =
@@ -77,7 +78,7 @@ module _ (draft : Draft) (places : List Place) (limits : Limits) (grown : GrownD
   is_plain : (class slot : ℕ) (s : Spec) → spec_of (definition_with draft places limits) class slot ≡ Some s → IsPlain draft.types s
   is_plain class slot s e =
       plain_get draft.types (specs_by draft.types draft.own class) slot s
-      (plain_flat draft.types draft.own plain (reverse (lineage draft.types class))) (there class slot s e)
+      (plain_flat draft.types draft.own plain.plain (reverse (lineage draft.types class))) (there class slot s e)
 
   pub spec_read : (class slot : ℕ) (s : Spec) → spec_of (definition_with draft places limits) class slot ≡ Some s
       → SpecRead (definition_with draft places limits) s
@@ -95,7 +96,8 @@ module _ (draft : Draft) (places : List Place) (limits : Limits) (grown : GrownD
 
   pub names_apart : list_all (λ (c : Class). no_two same_name (names_of c.specs)) (definition_with draft places limits).classes ≡ true
   names_apart =
-      all_listed (λ (c : Class). no_two same_name (names_of c.specs)) (λ t. class_with (specs_by draft.types draft.own t))
+      all_listed (λ (c : Class). no_two same_name (names_of c.specs))
+      (λ t. class_with (specs_by draft.types draft.own t) (signals_by draft.types draft.signals t))
       (length draft.types)
       (λ t h. grown.1.named t)
 
@@ -105,7 +107,7 @@ module _ (draft : Draft) (places : List Place) (limits : Limits) (grown : GrownD
       → (at : ℕ) × (spec_of (definition_with draft places limits) class at ≡ Some s)
   has_spec class type below is slot s e =
       let has = has_each draft.types grown.0.tree grown.0.heirs draft.own grown.2 class type is slot s (there type slot s e) in
-      (has.0, ap (λ (c : Class). slice_get c.specs has.0) (known draft places limits class below) ∙ has.1)
+      (has.0, ap (λ (c : Class). slice_get c.specs has.0) (known draft places limits grown.3 class below) ∙ has.1)
 
   pub specs_inherited : inherits (definition_with draft places limits) ≡ true
   specs_inherited = inherited (definition_with draft places limits) all
@@ -114,7 +116,7 @@ module _ (draft : Draft) (places : List Place) (limits : Limits) (grown : GrownD
           → has_all_of (definition_with draft places limits) class type ≡ true
       all class type below there is =
           has_all (definition_with draft places limits) class type
-          (subst AreNamed (sym (ap (λ (c : Class). c.specs) (known draft places limits class below))) (grown.1.named class))
+          (subst AreNamed (sym (ap (λ (c : Class). c.specs) (known draft places limits grown.3 class below))) (grown.1.named class))
           (λ slot s e. ((kept type slot s e).name, has_spec class type below is slot s e))
-          (ap (λ (c : Class). c.signals) (known draft places limits class below))
-          (ap (λ (c : Class). c.signals) (known draft places limits type there))
+          (ap (λ (c : Class). c.signals) (known draft places limits grown.3 class below))
+          (ap (λ (c : Class). c.signals) (known draft places limits grown.3 type there))

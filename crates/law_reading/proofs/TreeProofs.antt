@@ -6,7 +6,7 @@ use Rattle.std.proofs.lemmas.Bool.{cases_lt, eqb-true}
 use Rattle.std.proofs.lemmas.Bool.Decides.{nat_tests}
 use Rattle.std.proofs.lemmas.Option.{none-some}
 use Rattle.serde_json.specs.Data.{Data, Items, no_items, item}
-use Rattle.serde_json.specs.Find.{get, as_str}
+use Rattle.serde_json.specs.Find.{get, as_str, as_array}
 use Rattle.ui_machine.specs.Seq.{read}
 use Rattle.ui_machine.specs.Definition.Types.{GType, Sort, predeclared}
 use Rattle.ui_machine.specs.Definition.Types as sorts
@@ -24,14 +24,16 @@ use Rattle.type_tree.proofs.Entries.{IsTree-append, read-front, read-past, read-
 use Rattle.builder_defs.specs.Causes.{unknown_parent, final_parent, named_cause}
 use Rattle.builder_defs.specs.Refusals.{Refusal, limit, shape, unknown, duplicate, bad_type, bad_spec, or_refused, refused_if}
 use Rattle.builder_defs.specs.declared.fault.DefinitionLimit.TheVariants.{Types}
-use Rattle.builder_defs.specs.Document.{each, at_entry, under, nth, members_at, text_at, entries_at, listed_ahead, nothing_at, only_at}
+use Rattle.builder_defs.specs.Document.{each, at_entry, under, nth, members_at, text_at, entries, entries_at, listed_ahead, is_empty_list, is_absent_or_empty, nothing_at, only_at}
 use Rattle.builder_defs.specs.Denoted.Types.{is_declared, is_from, room_for_type, new_type_name}
 use Rattle.builder_defs.specs.Denoted.Enums.{enum_at, flags_at, enum_member_at, flags_member_at, members_with, keys_of_members}
 use Rattle.builder_defs.specs.Denoted.Entries.{TypeNames, type_names, name_under, names_under, number_from, section}
-use Rattle.builder_defs.specs.Denoted.Drafts.{Draft, bare_draft, properties_at, type_at}
+use Rattle.builder_defs.specs.Denoted.Drafts.{Draft, bare_draft, properties_at, given_at, type_at}
+use Rattle.builder_defs.specs.Denoted.Signals.{signal_at, signals_at}
+use Rattle.builder_defs.specs.Denoted.Brought.{own_signals_ahead}
 use Rattle.builder_defs.specs.Denoted.Overrides.{Own, own_ahead, override_cause}
 use Rattle.builder_defs.specs.Denoted.Properties.{specs_by}
-use Rattle.builder_defs.specs.Denoted.Implements.{Heir, heir_with, check_prerequisites, check_overrides, newly_implemented, interface_at_entry, implemented_at, named_at, implements_listed, implements_of, implements_at}
+use Rattle.builder_defs.specs.Denoted.Implements.{Heir, heir_with, heir_at, check_brought, check_prerequisites, check_overrides, newly_implemented, interface_at_entry, implemented_at, named_at, implements_listed, implements_of, implements_at}
 use Rattle.builder_defs.specs.Denoted.Interfaces.{requires_at, interface_type_at, keys_of_interface, interface_at}
 use Rattle.builder_defs.specs.Denoted.Classes.{parent_found, parent_called, named_parent, parent_or, parent_at, parent_ahead, check_depth, keys_of_class, declared_at, answering_at, class_at}
 use Rattle.builder_defs.specs.Denoted.Classes as classes
@@ -39,6 +41,7 @@ use Rattle.builder_defs.specs.Denoted.{unset_before_classes, enums_in, flags_in,
 use Rattle.builder_defs.proofs.Soundness.{OnRead, on_bind, on_all, on_each}
 use Rattle.std.specs.List.{flat_map, list_any}
 use Rattle.ui_machine.specs.Definition.Properties.{Spec}
+use Rattle.ui_machine.specs.Definition.Signals.{Signal}
 use Rattle.ui_machine.specs.Rules.Ancestry.{lineage}
 use Rattle.law_reading.proofs.Ancestors.{AreInterfaces, Implements, specs_before}
 use Rattle.law_reading.proofs.ListProofs.{named_within}
@@ -237,6 +240,7 @@ implemented_are types path heir same is d all =
         → OnRead (λ is. AreInterfaces types is × IsHeir heir is) (if b then Ok is else newly_implemented path heir i is)
     by i one true = all
     by i one false =
+        on_bind (λ x. Unit {0}) (λ is. AreInterfaces types is × IsHeir heir is) (check_brought path heir i is) _ (on_all _) λ new u.
         on_bind (λ x. Unit {0}) (λ is. AreInterfaces types is × IsHeir heir is) (check_prerequisites path heir i) _ (on_all _) λ required u.
         on_read (λ is. AreInterfaces types is × IsHeir heir is) (check_overrides path heir i) _ λ overridden fine. (
           with_interface types is i all.0 one,
@@ -244,32 +248,56 @@ implemented_are types path heir same is d all =
               (override_cause (specs_by heir.types heir.table heir.parent) heir.own (heir.table i)) overridden fine),
         )
 
-module _ (types : List GType) (names : TypeNames) (table : ℕ → List Spec) (parent : ℕ) where
+module _ (draft : Draft) (names : TypeNames) (parent : ℕ) where
   abbrev AreImplemented : List ℕ → Data → List ℕ → Type 0
-  AreImplemented path d is = AreInterfaces types is × AreOverridden types names table parent path d is
+  AreImplemented path d is = AreInterfaces draft.types is × AreOverridden draft.types names draft.own parent path d is
 
-  listed_are : (path : List ℕ) (d : Data) (list : Items) → OnRead (AreImplemented path d) (implements_of path types names table parent d list)
-  unfolding implements_listed
-  listed_are path d no_items = (tt, λ i named own e. absurd (cc))
-  listed_are path d (item x xs) =
-      on_bind (λ x. Unit {0}) (AreImplemented path d) (each (at_entry (λ entry. named_at entry types) (under path (codes "implements"))) 0 [] (item x xs)) _ (on_all _) λ named u.
-      on_read (AreImplemented path d) (own_ahead path types names table parent d) _ λ own read.
-      more_on (λ is. AreInterfaces types is × IsHeir (heir_with types table parent named own) is) (AreImplemented path d)
-      (each (at_entry (λ entry. implemented_at entry (heir_with types table parent named own)) (under path (codes "implements"))) 0 [] (item x xs))
+  -- what is known of a class, with what was read ahead
+  IsAhead : List ℕ → Data → List ℕ → Heir → Type 0
+  IsAhead path d named heir =
+      (own : List Own) × (declared : List (List ℕ)) × (own_ahead path draft.types names draft.own parent d ≡ Ok own)
+      × (heir ≡ heir_with draft parent named own declared)
+
+  heir_ahead : (path : List ℕ) (d : Data) (named : List ℕ) → OnRead (IsAhead path d named) (heir_at path names draft parent d named)
+  unfolding heir_at IsAhead
+  heir_ahead path d named =
+      on_read (IsAhead path d named) (own_ahead path draft.types names draft.own parent d) _ λ own read.
+      on_read (IsAhead path d named) (own_signals_ahead path d) _ λ declared e. (own, declared, read, refl)
+
+  listed_by : (path : List ℕ) (d : Data) (x : Data) (xs : Items) (heir : Heir) (own : List Own) → heir.types ≡ draft.types → heir.table ≡ draft.own → heir.parent ≡ parent → heir.own ≡ own
+      → own_ahead path draft.types names draft.own parent d ≡ Ok own
+      → OnRead (AreImplemented path d) (each (at_entry (λ entry. implemented_at entry heir) (under path (codes "implements"))) 0 [] (item x xs))
+  listed_by path d x xs heir own types table up same read =
+      more_on (λ is. AreInterfaces draft.types is × IsHeir heir is) (AreImplemented path d)
+      (each (at_entry (λ entry. implemented_at entry heir) (under path (codes "implements"))) 0 [] (item x xs))
       (λ is all. (
         all.0,
-        λ i h ahead e. let same : own ≡ ahead = one_answer own ahead (sym read ∙ e) in
-            ap (λ a. override_cause (specs_by types table parent) a (table i)) (sym same) ∙ all.1 i h,
+        λ i h ahead e. let agree : own ≡ ahead = one_answer own ahead (sym read ∙ e) in
+            let fine : override_cause (specs_by heir.types heir.table heir.parent) heir.own (heir.table i) ≡ None = all.1 i h in
+            ap (λ a. override_cause (specs_by draft.types draft.own parent) a (draft.own i)) (sym agree ∙ sym same)
+            ∙ ap (λ ts. override_cause (specs_by ts draft.own parent) heir.own (draft.own i)) (sym types)
+            ∙ ap (λ (t : ℕ → List Spec). override_cause (specs_by heir.types t parent) heir.own (t i)) (sym table)
+            ∙ ap (λ p. override_cause (specs_by heir.types heir.table p) heir.own (heir.table i)) (sym up)
+            ∙ fine,
       ))
-      (on_each (λ is. AreInterfaces types is × IsHeir (heir_with types table parent named own) is)
-      (at_entry (λ entry. implemented_at entry (heir_with types table parent named own)) (under path (codes "implements")))
-      (λ i is e all. implemented_are types (nth (under path (codes "implements")) i) (heir_with types table parent named own) refl is e all) 0 [] (item x xs)
+      (on_each (λ is. AreInterfaces draft.types is × IsHeir heir is)
+      (at_entry (λ entry. implemented_at entry heir) (under path (codes "implements")))
+      (λ i is e all. implemented_are draft.types (nth (under path (codes "implements")) i) heir types is e all) 0 [] (item x xs)
       (tt, λ i h. absurd (cc)))
     where
       one_answer : (a b : List Own) → ◌≡◌ {A = Result (List Own) Refusal} (Ok a) (Ok b) → a ≡ b
       one_answer a b e = cc
 
-  implements_are : (path : List ℕ) (d : Data) → OnRead (AreImplemented path d) (implements_at path types names table parent d)
+  listed_are : (path : List ℕ) (d : Data) (list : Items) → OnRead (AreImplemented path d) (implements_of path names draft parent d list)
+  unfolding implements_listed IsAhead
+  listed_are path d no_items = (tt, λ i named own e. absurd (cc))
+  listed_are path d (item x xs) =
+      on_bind (λ x. Unit {0}) (AreImplemented path d) (each (at_entry (λ entry. named_at entry draft.types) (under path (codes "implements"))) 0 [] (item x xs)) _ (on_all _) λ named u.
+      on_bind (IsAhead path d named) (AreImplemented path d) (heir_at path names draft parent d named) _ (heir_ahead path d named) λ heir is.
+      let same = is.3 in
+      listed_by path d x xs heir is.0 (ap (λ (h : Heir). h.types) same) (ap (λ (h : Heir). h.table) same) (ap (λ (h : Heir). h.parent) same) (ap (λ (h : Heir). h.own) same) is.2
+
+  implements_are : (path : List ℕ) (d : Data) → OnRead (AreImplemented path d) (implements_at path names draft parent d)
   unfolding implements_at
   implements_are path d =
       on_bind (λ x. Unit {0}) (AreImplemented path d) (entries_at path d (codes "implements")) _ (on_all _) λ list u. listed_are path d list
@@ -325,8 +353,8 @@ declared_grown path first list names draft d old read next =
     on_bind (λ p. p < length draft.types) (Declared path names draft d) (parent_at path list draft.types d) _
     (parent_in (under path (codes "parent")) list draft.types (get (codes "parent") d)) λ parent within.
     on_bind (λ x. Unit {0}) (Declared path names draft d) (classes.flags_at path d) _ (on_all _) λ flags u.
-    on_bind (AreImplemented draft.types names draft.own parent path d) (Declared path names draft d) (implements_at path draft.types names draft.own parent d) _
-    (implements_are draft.types names draft.own parent path d) λ interfaces all.
+    on_bind (AreImplemented draft names parent path d) (Declared path names draft d) (implements_at path names draft parent d) _
+    (implements_are draft names parent path d) λ interfaces all.
     let g = class_type name parent flags interfaces in
     let more = one_more draft.types g old room (class_fresh draft.types name parent flags interfaces within all.0) in
     let is = taken (shape (under path (codes "name"))) (option_and_then as_str (get (codes "name") d)) name called in
@@ -373,7 +401,8 @@ one_longer : (types all : List GType) → More types all → suc (length types) 
 one_longer types all more = let same = ap length more.1.1 in let one = length-append types (more.1.0 ∷ []) in omega (arith, same, one)
 
 abbrev pub GrownDraft : Draft → Type 0
-GrownDraft draft = Grown draft.types × OwnRead draft.types draft.own × ((t : ℕ) → Provides draft.types draft.own t)
+GrownDraft draft =
+    Grown draft.types × OwnRead draft.types draft.own × ((t : ℕ) → Provides draft.types draft.own t) × ((t : ℕ) → draft.signals t ≡ [])
 
 provides_by : (types all : List GType) (own changed : ℕ → List Spec) → Grown types → OwnRead types own → More types all
     → OnlyAt (length types) own changed → ((t : ℕ) → Provides types own t) → Provides all changed (length types) → (t : ℕ) → Provides all changed t
@@ -385,22 +414,74 @@ provides_by types all own changed grown read more same old new =
 abbrev With : (List GType → Type 0) → Draft → Type 0
 With Q draft = GrownDraft draft × Q draft.types
 
+-- ** signals
+
+-- what is absent or empty has no entries
+none_listed : (path : List ℕ) (o : Option Data) → is_absent_or_empty o ≡ true → OnRead (λ list. list ≡ no_items) (entries path o)
+none_listed path None e = refl
+none_listed path (Some d) e = by (as_array d) e
+  where
+    by : (found : Option Items) → is_empty_list found ≡ true → OnRead (λ list. list ≡ no_items) (or_refused (shape path) found)
+    by None h = absurd (cc)
+    by (Some no_items) h = refl
+    by (Some (item x xs)) h = absurd (cc)
+
+is_unset : (path key : List ℕ) (d : Data) (u : Unit {0}) → nothing_at path d (key ∷ []) ≡ Ok u → is_absent_or_empty (get key d) ≡ true
+is_unset path key d u e = by (is_absent_or_empty (get key d)) e
+  where
+    by : (b : Bool) → refused_if (λ (k : List ℕ). shape (under path k)) (cond (not b) (Some key) None) ≡ Ok u → b ≡ true
+    by true h = refl
+    by false h = absurd (cc)
+
+-- an entry that lists no signals leaves each type's as they were
+signals_kept : (path : List ℕ) (types : List GType) (names : TypeNames) (t : ℕ) (signals : ℕ → List Signal) (d : Data)
+    → is_absent_or_empty (get (codes "signals") d) ≡ true → OnRead (λ all. all ≡ signals) (signals_at path types names t signals d)
+unfolding signals_at each
+signals_kept path types names t signals d unset =
+    on_bind (λ list. list ≡ no_items) (λ all. all ≡ signals) (entries_at path d (codes "signals")) _
+    (none_listed (under path (codes "signals")) (get (codes "signals") d) unset) λ list none.
+    subst (λ ds. OnRead (λ all. all ≡ signals) (each (at_entry (λ entry. signal_at entry types names t) (under path (codes "signals"))) 0 signals ds))
+    (sym none) refl
+
+-- what an entry gives to a type: properties, and no signals
+IsGiven : List ℕ → List GType → TypeNames → ℕ → (ℕ → List Spec) → (ℕ → List Signal) → Data → Draft → Type 0
+IsGiven path types names t own signals d given =
+    (properties : ℕ → List Spec) × (given ≡ record { types = types; own = properties; signals = signals })
+    × (properties_at path types names t own d ≡ Ok properties)
+
+given_read : (path : List ℕ) (types : List GType) (names : TypeNames) (t : ℕ) (own : ℕ → List Spec) (signals : ℕ → List Signal) (d : Data)
+    → OnRead (IsGiven path types names t own signals d) (given_at path types names t own signals d)
+unfolding given_at IsGiven
+given_read path types names t own signals d =
+    on_read (IsGiven path types names t own signals d) (properties_at path types names t own d) _ λ properties e.
+    on_read (IsGiven path types names t own signals d) (nothing_at path d (codes "signals" ∷ [])) _ λ u unset.
+    on_bind (λ all. all ≡ signals) (IsGiven path types names t own signals d) (signals_at path types names t signals d) _
+    (signals_kept path types names t signals d (is_unset path (codes "signals") d u unset)) λ all same.
+    (properties, ap (with_signals properties) same, e)
+  where
+    with_signals : (ℕ → List Spec) → (ℕ → List Signal) → Draft
+    with_signals properties all = record { types = types; own = properties; signals = all }
+
 type_grown : (Q : List GType → Type 0) (path : List ℕ) (keys : List (List ℕ)) (declared : Result (List GType) Refusal) (behind : Result (Unit {0}) Refusal) (names : TypeNames)
     (draft : Draft) (d : Data) → OnRead (Declared path names draft d) declared → GrownDraft draft
     → ((g : GType) → name_under (codes "name") d ≡ Some g.name → Q (draft.types ++ g ∷ [])) → OnRead (With Q) (type_at path keys declared behind names draft d)
-unfolding type_at
+unfolding type_at IsGiven
 type_grown Q path keys declared behind names draft d grown old left =
     on_bind (λ x. Unit {0}) (With Q) (members_at path d) _ (on_all _) λ ms u.
     on_bind (Declared path names draft d) (With Q) declared _ grown λ types more.
-    on_read (With Q) (properties_at path types names (length draft.types) draft.own d) _ λ own e.
+    on_bind (IsGiven path types names (length draft.types) draft.own draft.signals d) (With Q) (given_at path types names (length draft.types) draft.own draft.signals d) _
+    (given_read path types names (length draft.types) draft.own draft.signals d) λ given is.
+    let own = is.0 in
+    let e = is.2 in
     on_bind (λ x. Unit {0}) (With Q) behind _ (on_all _) λ done u.
-    on_bind (λ x. Unit {0}) (With Q) (only_at path ms keys) _ (on_all _) λ only u. (
+    on_bind (λ x. Unit {0}) (With Q) (only_at path ms keys) _ (on_all _) λ only u. subst (With Q) (sym is.1) (
       (
         more.0.0,
         subst (OnRead (OwnRead types)) e (properties_read types more.0.0.tree (length draft.types) (one_longer draft.types types more.0) names path draft.own d
             (longer_by draft.types types draft.own old.0.tree more.0 old.1)),
         provides_by draft.types types draft.own own old.0 old.1 more.0
             (subst (OnRead (OnlyAt (length draft.types) draft.own)) e (properties_only types names (length draft.types) draft.own path d)) old.2 (more.1 own e),
+        old.3,
       ),
       subst Q (sym more.2.1) (left more.2.0 more.2.2),
     )
@@ -429,10 +510,10 @@ interfaces_grown names types d old begin =
     (at_entry (λ path. interface_at path (length types) list (listed_ahead (codes "classes") d) names) (under [] (codes "interfaces")))
     (λ i draft e ds all. type_grown (λ ts. InterfacesLeft names ts ds) (nth (under [] (codes "interfaces")) i) keys_of_interface
     (interface_type_at (nth (under [] (codes "interfaces")) i) (length types) list (listed_ahead (codes "classes") d) draft.types e)
-    (nothing_at (nth (under [] (codes "interfaces")) i) e (codes "signals" ∷ [])) names draft e
+    (Ok tt) names draft e
     (interface_grown (nth (under [] (codes "interfaces")) i) (length types) list (listed_ahead (codes "classes") d) names draft e all.0.0) all.0
     (λ g called. interface_left names draft.types e ds g called all.1))
-    0 (bare_draft types) list ((old, bare_read types, λ t i named slot s at. absurd (cc)), begin list listed)
+    0 (bare_draft types) list ((old, bare_read types, λ t i named slot s at. absurd (cc), λ t. refl), begin list listed)
 
 classes_grown : (names : TypeNames) (draft : Draft) (d : Data) → GrownDraft draft
     → ((list : Items) → entries_at [] d (codes "classes") ≡ Ok list → ClassesLeft names draft.types list) → OnRead GrownDraft (classes_in names draft d)

@@ -31,18 +31,18 @@ module _ (draft : Draft) (places : List Place) (limits : Limits) (grown : GrownD
     (few : AreFew limits.objects places) where
   types_read : TypesRead (definition_with draft places limits)
   types_read = record {
-    classes = as_many draft places limits;
+    classes = as_many draft places limits grown.3;
     parents = grown.0.tree.parents_first;
     transitive = transitive draft.types grown.0.tree grown.0.heirs;
     inherits = specs_inherited draft places limits grown plain;
-    shapes = λ class type shape h e. absurd (none-some shape (sym (no_shape draft places limits type) ∙ e));
-    notify = λ class known sort. has_notify draft places limits class known;
-    first = λ type number s e. has_notify draft places limits type (some_signal draft places limits type number s e);
+    shapes = λ class type shape h e. absurd (none-some shape (sym (no_shape draft places limits grown.3 type) ∙ e));
+    notify = λ class known sort. has_notify draft places limits grown.3 class known;
+    first = λ type number s e. has_notify draft places limits grown.3 type (some_signal draft places limits grown.3 type number s e);
     specs = spec_read draft places limits grown plain;
     names = names_apart draft places limits grown plain;
     replies = refl;
-    results = results_filled draft places limits;
-    signals = found draft places limits;
+    results = results_filled draft places limits grown.3;
+    signals = found draft places limits grown.3;
     members = all_read no_type _ draft.types (λ t. (grown.0.members t).few);
   }
 
@@ -52,8 +52,8 @@ module _ (draft : Draft) (places : List Place) (limits : Limits) (grown : GrownD
       record {
         types = types_read;
         programs = λ number p e. absurd (cc);
-        places = place_read draft places limits objects few.placed;
-        order = place_order draft places limits objects few.placed;
+        places = place_read draft places limits grown.3 objects few.placed;
+        order = place_order draft places limits grown.3 objects few.placed;
         peers = peers_apart draft.types (specs_by draft.types draft.own) places objects;
         bindings = tt;
         objects = omega (arith, all, few.live);

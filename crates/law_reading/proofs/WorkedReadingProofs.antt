@@ -9,6 +9,9 @@ use Rattle.builder_defs.specs.Document.{each, document}
 use Rattle.builder_defs.specs.Denoted.{enums_in, flags_in, interfaces_in, classes_in, draft_in, objects_in, definition_in, denoted}
 use Rattle.builder_defs.specs.Denoted.Classes.{named_parent, flags_at, declared_at, answering_at}
 use Rattle.builder_defs.specs.Denoted.Drafts.{properties_at, type_at}
+use Rattle.builder_defs.specs.Denoted.Drafts as drafts
+use Rattle.builder_defs.specs.Denoted.Signals.{signals_at}
+use Rattle.signal_core.specs.Sources.{sources_of}
 use Rattle.builder_defs.specs.Denoted.Implements.{implements_at}
 use Rattle.builder_defs.specs.Denoted.Given.{property_named, given_at, givens_at}
 use Rattle.builder_defs.specs.Denoted.Objects.{place_at, added_at, object_at}
@@ -27,7 +30,7 @@ unfolding is_utf8 chars serde_json_on_literals document each
 text_on_literals = tt
 
 unfoldable types_on_literals : ⊤
-unfolding enums_in flags_in interfaces_in classes_in draft_in type_at declared_at flags_at named_parent implements_at properties_at answering_at
+unfolding enums_in flags_in interfaces_in classes_in draft_in type_at declared_at flags_at named_parent implements_at properties_at answering_at drafts.given_at signals_at sources_of
 types_on_literals = tt
 
 unfoldable properties_on_literals : ⊤
