@@ -1,5 +1,5 @@
 -- A step adds lines to the transcript, and never reads it.
-use Rattle.std.proofs.Common.{◌≡◌, refl, ap, sym, ◌∙◌, ℕ, suc, ℤ, Bool, true, false, cond, List, [], ◌∷◌, Option, None, Some, Ok, Err, append_assoc}
+use Rattle.std.proofs.Common.{◌≡◌, refl, ap, sym, ◌∙◌, ℕ, suc, Bool, true, false, cond, List, [], ◌∷◌, Option, None, Some, Ok, Err, append_assoc}
 use Rattle.std.specs.Prelude.{codes, length, nat_lt}
 use Rattle.ui_machine.specs.declared.arm.Arm.{Arm}
 use Rattle.ui_machine.specs.declared.arm.Arm.TheVariants as arms
@@ -21,7 +21,7 @@ use Rattle.ui_machine.specs.Rules.Transform.{zero_value}
 use Rattle.ui_machine.specs.Output.Text.{text_of_line}
 use Rattle.ui_machine.specs.State.Tasks as config
 use Rattle.ui_machine.specs.State.Objects.{Object, Objects, living}
-use Rattle.ui_machine.specs.State.Peers.{Peer, Reply, Question, no_peer, closed_peer}
+use Rattle.ui_machine.specs.State.Peers.{Peer, Reply, no_peer, closed_peer}
 use Rattle.ui_machine.specs.State.Config.{World, Config, Held, Started, said, with_objects, with_held, sunk, Left, with_peer_state}
 use Rattle.ui_machine.specs.State.Tasks.{Setting, Notifying, Beginning, Emitting, Transferring, Unsetting, Thawing, Running, Answering, Calling, Constructing, Building, Carrying, Due, Task, Emission, PlanEntry, class_handler, handler, Frame, Call, Making, sets, runs, thaws, Item, makes, adopts, forwards, binds, connects, Request}
 use Rattle.ui_machine.specs.State.Bindings.{Binding, binding_of}
@@ -82,7 +82,7 @@ module _ (front : List (List ℕ)) (d : Definition) where
   abbrev family : After World Bool → After World Bool
   family done = record done { state = fronted front done.state }
 
-  abbrev remaining : Left → Left
+  abbrev pub remaining : Left → Left
   remaining l = record l { world = fronted front l.world }
 
   ruleset parts = (mapped_then, mapped_if, mapped_cond, said_in_front, said_with_objects)
@@ -495,7 +495,7 @@ module _ (front : List (List ℕ)) (d : Definition) where
   instructs_all w rest f (words.branch_null on then_to else_to) = begins w rest (branching_null d (fronted front w) f on then_to else_to) (branching_null d w f on then_to else_to) (branches_null w f on then_to else_to)
   instructs_all w rest f (words.return from) = returns w f rest from
 
-  runs_on : (w : World) (rest : List Task) (f : Frame) → running d (fronted front w) rest f ≡ mapped remaining (running d w rest f)
+  pub runs_on : (w : World) (rest : List Task) (f : Frame) → running d (fronted front w) rest f ≡ mapped remaining (running d w rest f)
   unfolding running
   runs_on w rest f = simp (running, parts, instructs_all)
 

@@ -820,7 +820,7 @@ module _ (gone : ℕ → Bool) (d : Definition) where
   holds_as o (Carrying request) = refl
   holds_as o (Due source) = refl
 
-  hold_as : (o : ℕ) (tasks : List Task) → total (in_task o) (map (pruned gone) tasks) ≡ total (in_task o) tasks
+  pub hold_as : (o : ℕ) (tasks : List Task) → total (in_task o) (map (pruned gone) tasks) ≡ total (in_task o) tasks
   hold_as o [] = refl
   hold_as o (task ∷ rest) = ap (λ n. n + total (in_task o) (map (pruned gone) rest)) (holds_as o task) ∙ ap (λ n. in_task o task + n) (hold_as o rest)
 
@@ -828,7 +828,7 @@ module _ (gone : ℕ → Bool) (d : Definition) where
   mentions_as c o =
       ap (λ n. total (in_object d o) c.world.objects + (total (in_held o) c.world.builder + (total (same o) c.world.floating + (total (in_source o) c.world.sources + n)))) (hold_as o c.agenda)
 
-  unheld_as : (c : Config) → next_unheld (mentions d (pruned_at gone c)) c.world.objects ≡ next_unheld (mentions d c) c.world.objects
+  pub unheld_as : (c : Config) → next_unheld (mentions d (pruned_at gone c)) c.world.objects ≡ next_unheld (mentions d c) c.world.objects
   unheld_as c = ap (λ (m : ℕ → ℕ). next_unheld m c.world.objects) (fun_ext (mentions_as c))
 
   asks_first : (w : World) (tasks : List Task) → asked_first w (map (pruned gone) tasks) ≡ asked_first w tasks

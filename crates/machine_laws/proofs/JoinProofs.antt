@@ -1,11 +1,11 @@
 -- The parts of a run, joined.
-use Rattle.std.proofs.Common.{◌≡◌, ℕ, ◌+◌, zero, suc, List, [], ◌∷◌, ◌++◌, refl, sym, ap, subst, ◌∙◌, append_assoc, add_assoc, add-zero, zero-add}
+use Rattle.std.proofs.Common.{◌≡◌, ℕ, ◌+◌, List, [], ◌∷◌, ◌++◌, refl, sym, ap, subst, ◌∙◌, append_assoc, add_assoc, add-zero, zero-add}
 use Rattle.std.proofs.lemmas.List.{append-nil}
 use Rattle.ui_machine.specs.Definition.{Definition}
-use Rattle.ui_machine.specs.State.Peers.{Peer, Reply}
+use Rattle.ui_machine.specs.State.Peers.{Reply}
 use Rattle.ui_machine.specs.State.Tasks.{Event}
 use Rattle.ui_machine.specs.State.Config.{World}
-use Rattle.ui_machine.specs.Runs.{Tally, no_dispatch, tallied, Then, Rests, Carries, Serves, ServesAll, IsRun, of_build, first_world}
+use Rattle.ui_machine.specs.Runs.{Tally, no_dispatch, tallied, Serves, ServesAll}
 use Rattle.machine_laws.specs.JoinLaws.{BuildIsRun, RunsGoOn}
 
 none_more : (t : Tally) → tallied t no_dispatch ≡ t

@@ -7,3 +7,4 @@ pub mod FrontProofs
 pub mod FrontRuns
 pub mod JoinProofs
 pub mod GoneProofs
+pub mod KeptProofs

@@ -1,10 +1,10 @@
 -- Laws that join the parts of a run.
-use Rattle.std.specs.Prelude.{◌≡◌, List, [], ◌∷◌, ◌++◌}
+use Rattle.std.specs.Prelude.{List, [], ◌∷◌, ◌++◌}
 use Rattle.ui_machine.specs.Definition.{Definition}
 use Rattle.ui_machine.specs.State.Peers.{Peer, Reply}
 use Rattle.ui_machine.specs.State.Tasks.{Event}
 use Rattle.ui_machine.specs.State.Config.{World}
-use Rattle.ui_machine.specs.Runs.{Tally, tallied, Carries, Serves, IsRun, of_build, first_world}
+use Rattle.ui_machine.specs.Runs.{Tally, tallied, Carries, Serves, IsRun, of_build}
 
 -- the build alone is a run without events
 abbrev pub BuildIsRun : Type 0

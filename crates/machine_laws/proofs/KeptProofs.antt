@@ -1,0 +1,476 @@
+-- What an instruction leaves of the handlers that are gone, and of the transcript.
+use Rattle.std.proofs.Common.{◌≡◌, refl, ap, sym, subst, ◌∙◌, ℕ, suc, ◌≤◌, Bool, true, false, cond, not, nat_eq, List, [], ◌∷◌, ◌++◌, map, Option, None, Some, Ok, Err, ◌&&◌, arith}
+use Rattle.std.specs.List.{filter, list_all}
+use Rattle.std.specs.Prelude.{IfOk, codes, is_some, length, nat_le, nat_lt, slice_get}
+use Rattle.std.proofs.lemmas.Bool.{false≢true}
+use Rattle.std.proofs.lemmas.Bool.Decides.{nat_tests}
+use Rattle.std.proofs.lemmas.List.{append-nil}
+use Rattle.ui_machine.specs.declared.arm.Arm.{Arm}
+use Rattle.ui_machine.specs.declared.arm.Arm.TheVariants as arms
+use Rattle.ui_machine.specs.Definition.{Definition}
+use Rattle.ui_machine.specs.Definition.Kinds.{Kind}
+use Rattle.ui_machine.specs.Definition.Lookups.{place_at, place_of, program_at, program_of, specs_of, type_of}
+use Rattle.ui_machine.specs.Definition.Places.{Place}
+use Rattle.ui_machine.specs.Definition.Properties.{is_construct_only, is_readable, is_writable}
+use Rattle.ui_machine.specs.Definition.Programs.{Arithmetic, Comparison, Connect, Instruction}
+use Rattle.ui_machine.specs.Definition.Programs as words
+use Rattle.ui_machine.specs.Definition.Values.{Value}
+use Rattle.ui_machine.specs.Definition.Values as values
+use Rattle.ui_machine.specs.Instructions.{in_front, instructed, running}
+use Rattle.ui_machine.specs.Instructions.Arithmetic.{bytes_of, conjunction, comparing, converting, disjunction, gives_from, joining, most_bytes, negating, reckoning, sameness, within_bytes}
+use Rattle.ui_machine.specs.Instructions.Jumps.{block_in, branching, branching_null, in_pass, jumping, null_of, past, returned, returning}
+use Rattle.ui_machine.specs.Instructions.Objects.{adopting, creating, disposed_once, disposing, freezing, has_room_for_object, made_new, naming, orphaning, sinking, unfreezing}
+use Rattle.ui_machine.specs.Instructions.Peers.{calling}
+use Rattle.ui_machine.specs.Instructions.Properties.{assigning, getting, set_from, slot_at, telling, then_goes_on}
+use Rattle.ui_machine.specs.Instructions.Registers.{clearing, constant, data_in, goes_on, moving, operand_in, tells, text_in, truth_in, value_in, values_in, whole_in, with_register, written_to}
+use Rattle.ui_machine.specs.Instructions.Signals.{Emit, blocking, connecting, connection_by_code, disconnecting, emitting, on_handlers, signal_in, signal_to_emit, unbinding, unblocking}
+use Rattle.ui_machine.specs.Instructions.Sources.{Attach, attaching, removing, with_source}
+use Rattle.ui_machine.specs.Outcome.{After, Answer, known, only_if, ◌>>=◌}
+use Rattle.ui_machine.specs.Output.Lines as lines
+use Rattle.ui_machine.specs.Prefix.{IsPrefix}
+use Rattle.ui_machine.specs.Rules.Accumulation.{collecting, down_to_emission, down_to_source, given_down}
+use Rattle.ui_machine.specs.Rules.Children.{adopted, is_unadoptable, orphaned, with_family}
+use Rattle.ui_machine.specs.Rules.Connections.{Connection, blocked, connected, detail_in, disconnected, has_room_for_handler, is_on, is_too_late, new_handler, unblocked, with_handler, with_handlers_on}
+use Rattle.ui_machine.specs.Rules.Construction.{construction, has_valid_default, making, new_object, peer_to_take, with_object}
+use Rattle.ui_machine.specs.Rules.Disposal.{closing, disposed, is_first, is_of_object, peer_of, said_if, without_object}
+use Rattle.ui_machine.specs.Rules.NotifyQueue.{frozen_less, frozen_more, raised}
+use Rattle.ui_machine.specs.Rules.Programs.{all_fit}
+use Rattle.ui_machine.specs.Rules.Transform.{kind_fits}
+use Rattle.ui_machine.specs.Rules.Sets.{is_disposed, raising, spec_at}
+use Rattle.ui_machine.specs.State.Bindings.{is_binding}
+use Rattle.ui_machine.specs.State.Config.{Left, Started, World, peer_at, said, starts}
+use Rattle.ui_machine.specs.State.Handlers.{Handler, handler_of}
+use Rattle.ui_machine.specs.State.Objects.{asked, changed, class_in, living, object_at, value_at}
+use Rattle.ui_machine.specs.State.Peers.{Peer, closed_peer, method_number, method_of, no_peer}
+use Rattle.ui_machine.specs.Seq.{write}
+use Rattle.ui_machine.specs.State.Sources as sources
+use Rattle.ui_machine.specs.State.Tasks.{Answering, Calling, Constructing, Emission, Emitting, Frame, PlanEntry, Task}
+use Rattle.machine_laws.specs.FrontLaws.{fronted, mapped}
+use Rattle.machine_laws.specs.GoneLaws.{gone_in}
+use Rattle.machine_laws.proofs.FrontProofs.{remaining, runs_on}
+
+-- who was gone in one world is gone in the other
+pub record KeepsGone (w v : World) : Type 0 where
+  pub at : (number : ℕ) → gone_in w number ≡ true → gone_in v number ≡ true
+
+bind_keeps : {A B : Type 0} (a : Answer A) (f : A → Answer B) (P : B → Type 0) → ((x : A) → a ≡ Ok x → IfOk (f x) P) → IfOk (a >>= f) P
+bind_keeps (Ok x) f P h = h x refl
+bind_keeps (Err arm) f P h = tt
+
+only_keeps : {A : Type 0} (b : Bool) (arm : Arm) (a : Answer A) (P : A → Type 0) → IfOk a P → IfOk (only_if b arm a) P
+only_keeps true arm a P h = h
+only_keeps false arm a P h = tt
+
+cond_keeps : {A : Type 0} (b : Bool) (x y : Answer A) (P : A → Type 0) → IfOk x P → IfOk y P → IfOk (cond b x y) P
+cond_keeps true x y P p q = p
+cond_keeps false x y P p q = q
+
+kept_at : {A : Type 0} (P : A → Type 0) (a : Answer A) (x : A) → IfOk a P → a ≡ Ok x → P x
+kept_at {A} P a x h e = subst (λ (r : Answer A). IfOk r P) e h
+
+-- ** handlers
+
+both_true : (a b : Bool) → (a && b) ≡ true → (a ≡ true) × (b ≡ true)
+both_true true b h = (refl, h)
+both_true false b h = absurd (false≢true h)
+
+none_there : (o : Option Handler) → not (is_some o) ≡ true → o ≡ None
+none_there None none = refl
+none_there (Some h) none = absurd (false≢true none)
+
+-- the same handlers stand
+pub same_kept : (w v : World) → v.handlers ≡ w.handlers → v.last_handler ≡ w.last_handler → KeepsGone w v
+same_kept w v handlers last = record {
+  at = λ number is. ap (λ (hs : List Handler). nat_le number v.last_handler && not (is_some (handler_of number hs))) handlers
+      ∙ ap (λ n. nat_le number n && not (is_some (handler_of number w.handlers))) last ∙ is;
+}
+
+-- who is not found before a change of the handlers is not found behind it
+changed_kept : (w v : World) → v.last_handler ≡ w.last_handler
+    → ((number : ℕ) → handler_of number w.handlers ≡ None → handler_of number v.handlers ≡ None) → KeepsGone w v
+changed_kept w v last none = record {
+  at = λ number is.
+      let parts = both_true (nat_le number w.last_handler) (not (is_some (handler_of number w.handlers))) is in
+      ap (λ o. nat_le number v.last_handler && not (is_some o)) (none number (none_there (handler_of number w.handlers) parts.1))
+      ∙ ap (λ n. nat_le number n && true) last ∙ ap (λ b. b && true) parts.0;
+}
+
+-- some of them
+fewer : (keeps : Handler → Bool) (number : ℕ) (hs : List Handler) → handler_of number hs ≡ None → handler_of number (filter keeps hs) ≡ None
+fewer keeps number [] none = refl
+fewer keeps number (h ∷ hs) none = by (keeps h) (nat_eq h.number number) refl none (λ later. fewer keeps number hs later)
+  where
+    by : (k b : Bool) → nat_eq h.number number ≡ b → cond b (Some h) (handler_of number hs) ≡ None → (handler_of number hs ≡ None → handler_of number (filter keeps hs) ≡ None)
+        → handler_of number (cond k (h ∷ filter keeps hs) (filter keeps hs)) ≡ None
+    by k true e none rest = absurd (cc none)
+    by true false e none rest = ap (λ c. cond c (Some h) (handler_of number (filter keeps hs))) e ∙ rest none
+    by false false e none rest = rest none
+
+-- each under its number
+alike : (change : Handler → Handler) → ((h : Handler) → (change h).number ≡ h.number) → (number : ℕ) (hs : List Handler)
+    → handler_of number hs ≡ None → handler_of number (map change hs) ≡ None
+alike change same number [] none = refl
+alike change same number (h ∷ hs) none = by (nat_eq h.number number) refl none (λ later. alike change same number hs later)
+  where
+    by : (b : Bool) → nat_eq h.number number ≡ b → cond b (Some h) (handler_of number hs) ≡ None → (handler_of number hs ≡ None → handler_of number (map change hs) ≡ None)
+        → cond (nat_eq (change h).number number) (Some (change h)) (handler_of number (map change hs)) ≡ None
+    by true e none rest = absurd (cc none)
+    by false e none rest = ap (λ c. cond c (Some (change h)) (handler_of number (map change hs))) (ap (λ n. nat_eq n number) (same h) ∙ e) ∙ rest none
+
+-- and one more, whose number was not given before
+not_new : (number : ℕ) (hs : List Handler) (h : Handler) → nat_eq h.number number ≡ false → handler_of number hs ≡ None → handler_of number (hs ++ h ∷ []) ≡ None
+not_new number [] h other none = ap (λ b. cond b (Some h) None) other
+not_new number (i ∷ hs) h other none = by (nat_eq i.number number) refl none (λ later. not_new number hs h other later)
+  where
+    by : (b : Bool) → nat_eq i.number number ≡ b → cond b (Some i) (handler_of number hs) ≡ None → (handler_of number hs ≡ None → handler_of number (hs ++ h ∷ []) ≡ None)
+        → cond (nat_eq i.number number) (Some i) (handler_of number (hs ++ h ∷ [])) ≡ None
+    by true e none rest = absurd (cc none)
+    by false e none rest = ap (λ c. cond c (Some i) (handler_of number (hs ++ h ∷ []))) e ∙ rest none
+
+connected_kept : (w : World) (c : Connection) → KeepsGone w (with_handler w c)
+connected_kept w c = record {
+  at = λ number is.
+      let parts = both_true (nat_le number w.last_handler) (not (is_some (handler_of number w.handlers))) is in
+      let low : number ≤ w.last_handler = let le = parts.0 in grind (arith, nat_tests) in
+      let within : nat_le number (suc w.last_handler) ≡ true = grind (arith, nat_tests) in
+      let other : nat_eq (suc w.last_handler) number ≡ false = grind (arith, nat_tests) in
+      ap (λ o. nat_le number (suc w.last_handler) && not (is_some o)) (not_new number w.handlers (new_handler (suc w.last_handler) c) other (none_there (handler_of number w.handlers) parts.1))
+      ∙ ap (λ b. b && true) within;
+}
+
+-- ** what an instruction starts
+
+module _ (d : Definition) (w : World) where
+  abbrev Kept : Started → Type 0
+  Kept s = KeepsGone w s.world
+
+  gives_kept : (v : World) → KeepsGone w v → (to : ℕ) (x : Option Value) (f : Frame) → IfOk (written_to v to x f) Kept
+  unfolding written_to
+  gives_kept v kept to x f = bind_keeps (with_register to x f.registers) _ Kept (λ r _. kept)
+
+  -- a register is written
+  writes : (to : ℕ) (x : Option Value) (f : Frame) → IfOk (written_to w to x f) Kept
+  writes to x f = gives_kept w (same_kept w w refl refl) to x f
+
+  moves : (f : Frame) (to from : ℕ) → IfOk (moving w f to from) Kept
+  unfolding moving
+  moves f to from = bind_keeps (value_in f from) _ Kept (λ v _. writes to (Some v) f)
+
+  reckons : (f : Frame) (op : Arithmetic) (to a b : ℕ) → IfOk (reckoning w f op to a b) Kept
+  unfolding reckoning
+  reckons f op to a b = bind_keeps (whole_in f a) _ Kept (λ m _. bind_keeps (whole_in f b) _ Kept (λ n _. only_keeps _ _ _ Kept (writes to _ f)))
+
+  compares : (f : Frame) (op : Comparison) (to a b : ℕ) → IfOk (comparing w f op to a b) Kept
+  unfolding comparing
+  compares f op to a b = bind_keeps (whole_in f a) _ Kept (λ m _. bind_keeps (whole_in f b) _ Kept (λ n _. only_keeps _ _ _ Kept (writes to _ f)))
+
+  sames : (f : Frame) (to a b : ℕ) → IfOk (sameness w f to a b) Kept
+  unfolding sameness
+  sames f to a b = bind_keeps (value_in f a) _ Kept (λ u _. bind_keeps (value_in f b) _ Kept (λ v _. only_keeps _ _ _ Kept (writes to _ f)))
+
+  negates : (f : Frame) (to a : ℕ) → IfOk (negating w f to a) Kept
+  unfolding negating
+  negates f to a = bind_keeps (truth_in f a) _ Kept (λ p _. writes to _ f)
+
+  both : (f : Frame) (to a b : ℕ) → IfOk (conjunction w f to a b) Kept
+  unfolding conjunction
+  both f to a b = bind_keeps (truth_in f a) _ Kept (λ p _. bind_keeps (truth_in f b) _ Kept (λ q _. writes to _ f))
+
+  either : (f : Frame) (to a b : ℕ) → IfOk (disjunction w f to a b) Kept
+  unfolding disjunction
+  either f to a b = bind_keeps (truth_in f a) _ Kept (λ p _. bind_keeps (truth_in f b) _ Kept (λ q _. writes to _ f))
+
+  joins : (f : Frame) (to a b : ℕ) → IfOk (joining d w f to a b) Kept
+  unfolding joining
+  joins f to a b = bind_keeps (text_in f a) _ Kept (λ s _. bind_keeps (text_in f b) _ Kept (λ t _. by (bytes_of s ++ bytes_of t)))
+    where
+      by : (s : List ℕ) → IfOk (gives_from (within_bytes d w s) to f) Kept
+      by s = long (nat_lt most_bytes (length s))
+        where
+          long : (b : Bool) → IfOk (gives_from (cond b (record { state = said d w (lines.limit (codes "join")); answer = values.text None }) (record { state = w; answer = values.text (Some s) })) to f) Kept
+          long true = gives_kept (said d w (lines.limit (codes "join"))) (same_kept w _ refl refl) to (Some (values.text None)) f
+          long false = writes to (Some (values.text (Some s))) f
+
+  converts : (f : Frame) (to a : ℕ) (kind : Kind) → IfOk (converting d w f to a kind) Kept
+  unfolding converting
+  converts f to a kind = bind_keeps (value_in f a) _ Kept (λ v _. only_keeps _ _ _ Kept (writes to _ f))
+
+  -- ** properties
+
+  gets : (f : Frame) (to object : ℕ) (name : List ℕ) → IfOk (getting d w f to object name) Kept
+  unfolding getting
+  gets f to object name = bind_keeps (operand_in w f object) _ Kept (λ id _. bind_keeps (slot_at d w id name) _ Kept (λ slot _.
+      bind_keeps (spec_at d w.objects id slot) _ Kept (λ s _. bind_keeps (asked w.objects id (value_at slot)) _ Kept (λ v _. only_keeps _ _ _ Kept (writes to _ f)))))
+
+  sets_from : (f : Frame) (id slot from : ℕ) → IfOk (set_from w f id slot from) Kept
+  unfolding set_from
+  sets_from f id slot from = bind_keeps (value_in f from) _ Kept (λ v _. same_kept w w refl refl)
+
+  assigns : (f : Frame) (object : ℕ) (name : List ℕ) (from : ℕ) → IfOk (assigning d w f object name from) Kept
+  unfolding assigning
+  assigns f object name from = bind_keeps (operand_in w f object) _ Kept (λ id _. bind_keeps (slot_at d w id name) _ Kept (λ slot _.
+      bind_keeps (spec_at d w.objects id slot) _ Kept (λ s _.
+      only_keeps (is_writable s) arms.Flags (only_if (not (is_construct_only s)) arms.ConstructOnly (set_from w f id slot from)) Kept
+      (only_keeps (not (is_construct_only s)) arms.ConstructOnly (set_from w f id slot from) Kept (sets_from f id slot from)))))
+
+  raises : (f : Frame) (id slot : ℕ) → IfOk (then_goes_on f (raising w id slot)) Kept
+  unfolding then_goes_on raising
+  raises f id slot = bind_keeps (raising w id slot) _ Kept (λ s is. kept_at Kept (raising w id slot) s (bind_keeps (changed w.objects id (raised slot)) _ Kept (λ r _. same_kept w _ refl refl)) is)
+
+  notifies : (f : Frame) (object : ℕ) (name : List ℕ) → IfOk (telling d w f object name) Kept
+  unfolding telling
+  notifies f object name = bind_keeps (operand_in w f object) _ Kept (λ id _. bind_keeps (slot_at d w id name) _ Kept (λ slot _.
+      bind_keeps (spec_at d w.objects id slot) _ Kept (λ s _. cond_keeps (is_readable s) _ _ Kept (raises f id slot) (same_kept w w refl refl))))
+
+  -- ** objects
+
+  names : (f : Frame) (to : ℕ) (id : List ℕ) → IfOk (naming d w f to id) Kept
+  unfolding naming
+  names f to id = bind_keeps (known arms.Code (place_of d id)) _ Kept (λ place _. bind_keeps (known arms.Code (place_at d place)) _ Kept (λ p _. only_keeps _ _ _ Kept (writes to _ f)))
+
+  makes : (place : ℕ) (peer : Option ℕ) (held : Bool) → IfOk (making d w place peer held) Kept
+  unfolding making
+  makes place peer held = bind_keeps (known arms.Code (place_at d place)) _ Kept (λ p _.
+      only_keeps (not (type_of d p.class).is_abstract) arms.Abstract (only_if (list_all (has_valid_default d) (specs_of d p.class)) arms.Value (begun p)) Kept
+      (only_keeps (list_all (has_valid_default d) (specs_of d p.class)) arms.Value (begun p) Kept (same_kept w _ refl refl)))
+    where
+      begun : Place → Answer Started
+      begun p = starts (said d (with_object d w (new_object d place p peer)) (lines.construct (suc (length w.objects)) (type_of d p.class).name))
+          (Constructing (suc (length w.objects)) (construction d w place p) held ∷ [])
+
+  makes_new : (f : Frame) (to place : ℕ) (p : Place) → IfOk (made_new d w f to place p) Kept
+  unfolding made_new
+  makes_new f to place p = bind_keeps (making d w place (peer_to_take d w p) false) _ Kept (λ made is.
+      bind_keeps (with_register to _ f.registers) _ Kept (λ r _. kept_at Kept (making d w place (peer_to_take d w p) false) made (makes place (peer_to_take d w p) false) is))
+
+  creates : (rest : List Task) (f : Frame) (to : ℕ) (id : List ℕ) → IfOk (creating d w rest f to id) Kept
+  unfolding creating
+  creates rest f to id = bind_keeps (known arms.Code (place_of d id)) _ Kept (λ place _. bind_keeps (known arms.Code (place_at d place)) _ Kept (λ p _.
+      only_keeps _ _ _ Kept (cond_keeps (has_room_for_object d w _ p) _ _ Kept (makes_new f to place p) (gives_kept (said d w (lines.limit (codes "new"))) (same_kept w _ refl refl) to (Some (values.object None)) f))))
+
+  sinks : (f : Frame) (object : ℕ) → IfOk (sinking w f object) Kept
+  unfolding sinking
+  sinks f object = bind_keeps (operand_in w f object) _ Kept (λ id _. same_kept w _ refl refl)
+
+  orphans : (f : Frame) (object : ℕ) → IfOk (orphaning d w f object) Kept
+  unfolding orphaning
+  orphans f object = bind_keeps (operand_in w f object) _ Kept (λ id _. bind_keeps (object_at w.objects id) _ Kept (λ o _. by id o.parent))
+    where
+      by : (id : ℕ) (parent : Option ℕ) → KeepsGone w (orphaned d w id parent)
+      by id None = same_kept w w refl refl
+      by id (Some parent) = same_kept w _ refl refl
+
+  closes : (v : World) → KeepsGone w v → (peer : Option ℕ) → IfOk (closing d peer v) (KeepsGone w)
+  unfolding closing
+  closes v kept None = kept
+  closes v kept (Some number) = bind_keeps (known arms.Code (slice_get v.peers number)) _ (KeepsGone w) (λ p _. shut p p.state.is_open)
+    where
+      shut : (p : Peer) (b : Bool) → KeepsGone w (cond b (said d (record v { peers = write no_peer v.peers number (closed_peer p) }) (lines.close p.name)) v)
+      shut p true = record { at = kept.at }
+      shut p false = kept
+
+  goes : (id : ℕ) (first : Bool) → KeepsGone w (said_if d first (without_object d w id) (lines.dispose id))
+  goes id true = changed_kept w _ refl (λ number. fewer (λ h. not (is_of_object id h)) number w.handlers)
+  goes id false = changed_kept w _ refl (λ number. fewer (λ h. not (is_of_object id h)) number w.handlers)
+
+  disposes : (f : Frame) (object : ℕ) → IfOk (disposing d w f object) Kept
+  unfolding disposing
+  disposes f object = bind_keeps (operand_in w f object) _ Kept (λ id _. bind_keeps (disposed_once d w id) _ Kept (λ v is.
+      kept_at (KeepsGone w) (disposed_once d w id) v (cond_keeps (is_disposed (living w.objects id)) (Ok w) (disposed d w id) (KeepsGone w) (same_kept w w refl refl)
+      (closes _ (goes id (is_first (living w.objects id))) (peer_of (living w.objects id)))) is))
+
+  adopts : (f : Frame) (to parent child : ℕ) → IfOk (adopting d w f to parent child) Kept
+  unfolding adopting adopted
+  adopts f to parent child = bind_keeps (operand_in w f parent) _ Kept (λ p _. bind_keeps (operand_in w f child) _ Kept (λ c _.
+      bind_keeps (adopted d w p c) _ Kept (λ family is. gives_kept family.state (kept_at Family (adopted d w p c) family (joined p c) is) to (Some (values.bool family.answer)) f)))
+    where
+      Family : After World Bool → Type 0
+      Family = λ r. KeepsGone w r.state
+
+      joined : (p c : ℕ) → IfOk (adopted d w p c) Family
+      joined p c = bind_keeps (object_at w.objects p) _ Family (λ o _. bind_keeps (object_at w.objects c) _ Family (λ i _. by (is_unadoptable p o c i)))
+        where
+          by : (b : Bool) → Family (cond b (record { state = said d w (lines.limit (codes "adopt")); answer = false }) (record { state = with_family d w p c; answer = true }))
+          by true = same_kept w _ refl refl
+          by false = same_kept w _ refl refl
+
+  freezes : (f : Frame) (object : ℕ) → IfOk (freezing w f object) Kept
+  unfolding freezing
+  freezes f object = bind_keeps (operand_in w f object) _ Kept (λ id _. bind_keeps (changed w.objects id frozen_more) _ Kept (λ r _. same_kept w _ refl refl))
+
+  thaws : (f : Frame) (object : ℕ) → IfOk (unfreezing w f object) Kept
+  unfolding unfreezing
+  thaws f object = bind_keeps (operand_in w f object) _ Kept (λ id _. bind_keeps (changed w.objects id frozen_less) _ Kept (λ r _. same_kept w _ refl refl))
+
+  -- ** signals
+
+  emits : (f : Frame) (object : ℕ) (e : Emit) → IfOk (emitting d w f object e) Kept
+  unfolding emitting
+  emits f object e = bind_keeps (operand_in w f object) _ Kept (λ id _. bind_keeps (signal_to_emit d w id e.signal) _ Kept (λ signal _.
+      bind_keeps (detail_in d w id signal e.detail) _ Kept (λ detail _. bind_keeps (values_in f e.args) _ Kept (λ given _. same_kept w w refl refl))))
+
+  connects_one : (to_come : ℕ) (c : Connection) (to : ℕ) (f : Frame) → IfOk (tells (connected d w to_come c) to f) Kept
+  connects_one to_come c to f = late (is_too_late w.objects c.object c.arg)
+    where
+      room : (b : Bool) → IfOk (tells (cond b (record { state = with_handler w c; answer = true }) (record { state = said d w (lines.limit (codes "connect")); answer = false })) to f) Kept
+      room true = gives_kept (with_handler w c) (connected_kept w c) to (Some (values.bool true)) f
+      room false = gives_kept (said d w (lines.limit (codes "connect"))) (same_kept w _ refl refl) to (Some (values.bool false)) f
+
+      late : (b : Bool) → IfOk (tells (cond b (record { state = w; answer = false })
+          (cond (has_room_for_handler d w to_come c.object c.signal) (record { state = with_handler w c; answer = true }) (record { state = said d w (lines.limit (codes "connect")); answer = false }))) to f) Kept
+      late true = writes to (Some (values.bool false)) f
+      late false = room (has_room_for_handler d w to_come c.object c.signal)
+
+  connects : (rest : List Task) (f : Frame) (to object : ℕ) (c : Connect) → IfOk (connecting d w rest f to object c) Kept
+  unfolding connecting
+  connects rest f to object c = bind_keeps (operand_in w f object) _ Kept (λ id _. bind_keeps (signal_in d w id c.signal) _ Kept (λ signal _.
+      bind_keeps (detail_in d w id signal c.detail) _ Kept (λ detail _. bind_keeps (known arms.Code (program_of d c.program)) _ Kept (λ program _.
+      bind_keeps (data_in w f c.with) _ Kept (λ arg _. connects_one _ (connection_by_code id signal detail program arg c) to f)))))
+
+  changes : (f : Frame) (object : ℕ) (program : List ℕ) (change : World → ℕ → ℕ → World) → ((id number : ℕ) → KeepsGone w (change w id number))
+      → IfOk (on_handlers d w f object program change) Kept
+  unfolding on_handlers
+  changes f object program change kept = bind_keeps (operand_in w f object) _ Kept (λ id _. bind_keeps (known arms.Code (program_of d program)) _ Kept (λ number _. kept id number))
+
+  with_each : (change : Handler → Handler) → ((h : Handler) → (change h).number ≡ h.number) → (id number : ℕ) → KeepsGone w (with_handlers_on change w id number)
+  with_each change same id number = changed_kept w _ refl (λ n. alike (λ h. cond (is_on id number h) (change h) h) (λ h. by h (is_on id number h)) n w.handlers)
+    where
+      by : (h : Handler) (b : Bool) → (cond b (change h) h).number ≡ h.number
+      by h true = same h
+      by h false = refl
+
+  -- ** sources, peers and jumps
+
+  attaches : (f : Frame) (to : ℕ) (a : Attach) → IfOk (attaching d w f to a) Kept
+  unfolding attaching
+  attaches f to a = bind_keeps (known arms.Code (program_of d a.program)) _ Kept (λ program _. bind_keeps (data_in w f a.with) _ Kept (λ arg _. room program arg (sources.has_room w.sources w.last_source)))
+    where
+      room : (program : ℕ) (arg : Option ℕ) (b : Bool)
+          → IfOk (tells (cond b (record { state = with_source w a program arg; answer = true }) (record { state = said d w (lines.limit a.word); answer = false })) to f) Kept
+      room program arg true = gives_kept (with_source w a program arg) (same_kept w _ refl refl) to (Some (values.bool true)) f
+      room program arg false = gives_kept (said d w (lines.limit a.word)) (same_kept w _ refl refl) to (Some (values.bool false)) f
+
+  removes : (f : Frame) (program : List ℕ) → IfOk (removing d w f program) Kept
+  unfolding removing
+  removes f program = bind_keeps (known arms.Code (program_of d program)) _ Kept (λ number _. same_kept w _ refl refl)
+
+  calls : (f : Frame) (to object : ℕ) (name args : List ℕ) → IfOk (calling d w f to object name args) Kept
+  unfolding calling
+  calls f to object name args = bind_keeps (operand_in w f object) _ Kept (λ id _. bind_keeps (object_at w.objects id) _ Kept (λ o _. bind_keeps (known arms.Call o.peer) _ Kept (λ peer _.
+      bind_keeps (known arms.Call (peer_at w peer)) _ Kept (λ p _. bind_keeps (known arms.Call (method_number p name)) _ Kept (λ number _. bind_keeps (known arms.Call (method_of p number)) _ Kept (λ m _.
+      bind_keeps (values_in f args) _ Kept (λ given _. only_keeps (all_fit (kind_fits (class_in w.objects) d.types) given m.params) arms.Call (only_if (nat_lt to (length f.registers)) arms.Code (asks id peer number given)) Kept
+      (only_keeps (nat_lt to (length f.registers)) arms.Code (asks id peer number given) Kept (same_kept w w refl refl)))))))))
+    where
+      asks : (id peer number : ℕ) → List Value → Answer Started
+      asks id peer number given = goes_on w (Calling (record { object = id; peer = peer; method = number; args = given; to = to }) ∷ []) f
+
+  jumps : (f : Frame) (to : ℕ) → IfOk (jumping d w f to) Kept
+  unfolding jumping
+  jumps f to = bind_keeps (known arms.Code (program_at d f.program)) _ Kept (λ p _. bind_keeps (known arms.Code (slice_get p.blocks to)) _ Kept (λ b _. same_kept w w refl refl))
+
+  branches : (f : Frame) (on then_to else_to : ℕ) → IfOk (branching d w f on then_to else_to) Kept
+  unfolding branching
+  branches f on then_to else_to = bind_keeps (truth_in f on) _ Kept (λ p _. jumps f (cond p then_to else_to))
+
+  branches_null : (f : Frame) (on then_to else_to : ℕ) → IfOk (branching_null d w f on then_to else_to) Kept
+  unfolding branching_null
+  branches_null f on then_to else_to = bind_keeps (value_in f on) _ Kept (λ v _. bind_keeps (null_of v) _ Kept (λ p _. jumps f (cond p then_to else_to)))
+
+  -- ** what an instruction leaves
+
+  abbrev Leaves : Left → Type 0
+  Leaves l = KeepsGone w l.world
+
+  begins : (rest : List Task) (a : Answer Started) → IfOk a Kept → IfOk (in_front rest a) Leaves
+  unfolding in_front
+  begins rest (Ok s) kept = kept
+  begins rest (Err arm) kept = tt
+
+  down_emission : (e : Emission) (entries : List PlanEntry) (rest : List Task) (given : Option Value) → IfOk (down_to_emission d w e entries rest given) Leaves
+  unfolding down_to_emission
+  down_emission e entries rest given = bind_keeps (collecting d w e entries given) _ Leaves (λ t _. same_kept w w refl refl)
+
+  down_source : (source : ℕ) (rest : List Task) (given : Option Value) → IfOk (down_to_source w source rest given) Leaves
+  unfolding down_to_source
+  down_source source rest (Some (values.bool keep)) = same_kept w _ refl refl
+  down_source source rest None = tt
+  down_source source rest (Some (values.whole kind n)) = tt
+  down_source source rest (Some (values.text s)) = tt
+  down_source source rest (Some (values.enum type n)) = tt
+  down_source source rest (Some (values.flags type bits)) = tt
+  down_source source rest (Some (values.object o)) = tt
+
+  down : (rest : List Task) (given : Option Value) → IfOk (given_down d w rest given) Leaves
+  down (Emitting e entries ∷ rest) given = down_emission e entries rest given
+  down (Answering source ∷ rest) given = down_source source rest given
+  down rest None = same_kept w w refl refl
+  down rest (Some v) = tt
+
+  returns : (f : Frame) (rest : List Task) (from : Option ℕ) → IfOk (returning d w f rest from) Leaves
+  unfolding returning
+  returns f rest from = bind_keeps (returned d w f from) _ Leaves (λ given _. down rest given)
+
+  pub instructed_kept : (rest : List Task) (f : Frame) (i : Instruction) → IfOk (instructed d w rest f i) Leaves
+  instructed_kept rest f (words.const to kind v) = begins rest (constant w f to v) (writes to (Some v) f)
+  instructed_kept rest f (words.move to from) = begins rest (moving w f to from) (moves f to from)
+  instructed_kept rest f (words.clear to) = begins rest (clearing w f to) (writes to None f)
+  instructed_kept rest f (words.arithmetic operation to a b) = begins rest (reckoning w f operation to a b) (reckons f operation to a b)
+  instructed_kept rest f (words.compare comparison to a b) = begins rest (comparing w f comparison to a b) (compares f comparison to a b)
+  instructed_kept rest f (words.same to a b) = begins rest (sameness w f to a b) (sames f to a b)
+  instructed_kept rest f (words.negate to a) = begins rest (negating w f to a) (negates f to a)
+  instructed_kept rest f (words.both to a b) = begins rest (conjunction w f to a b) (both f to a b)
+  instructed_kept rest f (words.either to a b) = begins rest (disjunction w f to a b) (either f to a b)
+  instructed_kept rest f (words.join to a b) = begins rest (joining d w f to a b) (joins f to a b)
+  instructed_kept rest f (words.convert to a kind) = begins rest (converting d w f to a kind) (converts f to a kind)
+  instructed_kept rest f (words.get to object name) = begins rest (getting d w f to object name) (gets f to object name)
+  instructed_kept rest f (words.set object name from) = begins rest (assigning d w f object name from) (assigns f object name from)
+  instructed_kept rest f (words.object to id) = begins rest (naming d w f to id) (names f to id)
+  instructed_kept rest f (words.new to id) = begins rest (creating d w rest f to id) (creates rest f to id)
+  instructed_kept rest f (words.sink object) = begins rest (sinking w f object) (sinks f object)
+  instructed_kept rest f (words.orphan object) = begins rest (orphaning d w f object) (orphans f object)
+  instructed_kept rest f (words.dispose object) = begins rest (disposing d w f object) (disposes f object)
+  instructed_kept rest f (words.adopt to parent child) = begins rest (adopting d w f to parent child) (adopts f to parent child)
+  instructed_kept rest f (words.freeze object) = begins rest (freezing w f object) (freezes f object)
+  instructed_kept rest f (words.thaw object) = begins rest (unfreezing w f object) (thaws f object)
+  instructed_kept rest f (words.emit into object name detail args) = begins rest (emitting d w f object _) (emits f object (record { into = into; signal = name; detail = detail; args = args }))
+  instructed_kept rest f (words.notify object name) = begins rest (telling d w f object name) (notifies f object name)
+  instructed_kept rest f (words.connect to object c) = begins rest (connecting d w rest f to object c) (connects rest f to object c)
+  instructed_kept rest f (words.disconnect object program) = begins rest (disconnecting d w f object program)
+      (changes f object program disconnected (λ id number. changed_kept w _ refl (λ n. fewer (λ h. not (is_on id number h)) n w.handlers)))
+  instructed_kept rest f (words.block object program) = begins rest (blocking d w f object program) (changes f object program (with_handlers_on blocked) (with_each blocked (λ h. refl)))
+  instructed_kept rest f (words.unblock object program) = begins rest (unblocking d w f object program) (changes f object program (with_handlers_on unblocked) (with_each unblocked (λ h. refl)))
+  instructed_kept rest f words.stop = same_kept w w refl refl
+  instructed_kept rest f (words.unbind name) = begins rest (unbinding d w f name) (only_keeps (is_binding d name) arms.Code _ Kept (same_kept w _ refl refl))
+  instructed_kept rest f (words.idle to program priority with) = begins rest (attaching d w f to _) (attaches f to (record { word = codes "idle"; program = program; priority = priority; interval = None; with = with }))
+  instructed_kept rest f (words.timeout to program priority interval with) = begins rest (attaching d w f to _) (attaches f to (record { word = codes "timeout"; program = program; priority = priority; interval = Some interval; with = with }))
+  instructed_kept rest f (words.remove program) = begins rest (removing d w f program) (removes f program)
+  instructed_kept rest f (words.call to object name args) = begins rest (calling d w f to object name args) (calls f to object name args)
+  instructed_kept rest f (words.jump to) = begins rest (jumping d w f to) (jumps f to)
+  instructed_kept rest f (words.branch on then_to else_to) = begins rest (branching d w f on then_to else_to) (branches f on then_to else_to)
+  instructed_kept rest f (words.branch_null on then_to else_to) = begins rest (branching_null d w f on then_to else_to) (branches_null f on then_to else_to)
+  instructed_kept rest f (words.return from) = returns f rest from
+
+  -- an instruction of a program brings back no handler that is gone
+  pub running_kept : (rest : List Task) (f : Frame) → IfOk (running d w rest f) Leaves
+  unfolding running
+  running_kept rest f = bind_keeps (block_in d f) _ Leaves (λ b _. bind_keeps (known arms.Code (slice_get b.code (in_pass b f).at)) _ Leaves (λ i _. instructed_kept rest (past (in_pass b f)) i))
+
+-- and takes no line back
+pub running_grows : (d : Definition) (w : World) (rest : List Task) (f : Frame) → IfOk (running d w rest f) (λ l. IsPrefix w.transcript l.world.transcript)
+running_grows d w rest f = subst (λ (a : Answer Left). IfOk a Grows) (sym whole) (behind (running d silent rest f))
+  where
+    silent : World
+    silent = record w { transcript = [] }
+
+    Grows : Left → Type 0
+    Grows = λ l. IsPrefix w.transcript l.world.transcript
+
+    same : w ≡ fronted w.transcript silent
+    same = ap (λ (ls : List (List ℕ)). record w { transcript = ls }) (sym (append-nil w.transcript))
+
+    whole : running d w rest f ≡ mapped (remaining w.transcript d) (running d silent rest f)
+    whole = ap (λ v. running d v rest f) same ∙ runs_on w.transcript d silent rest f
+
+    behind : (a : Answer Left) → IfOk (mapped (remaining w.transcript d) a) Grows
+    behind (Ok l) = record { more = l.world.transcript; whole = refl }
+    behind (Err arm) = tt
