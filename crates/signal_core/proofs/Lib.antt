@@ -10,4 +10,4 @@ pub mod Walks
 pub mod Lists
 pub mod Naming
 pub mod Inherited
-pub mod SilentTurns
+pub mod Telling

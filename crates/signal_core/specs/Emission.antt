@@ -179,3 +179,7 @@ past_transfers w hs = past w (next_step w hs)
 -- the turn of a program that is the next one
 abbrev pub program_turn : Walk → List Handler → Option Turn
 program_turn w hs = option_map (λ (step : Step). step.turn) (next_step (past_transfers w hs) hs)
+
+-- an emission once that turn is taken
+abbrev pub after_program : Walk → List Handler → Walk
+after_program w hs = record w { stage = stage_after (next_step (past_transfers w hs) hs) }

@@ -1,13 +1,13 @@
 -- What the turns of an emission are, from its beginning on.
 use Rattle.std.specs.List.{flat_map}
-use Rattle.std.specs.Prelude.{◌≡◌, Bool, List, None, Option, Some, [], cond, false, nat_eq, ℕ, ◌∷◌}
+use Rattle.std.specs.Prelude.{◌≡◌, Bool, List, None, Option, Some, [], cond, false, nat_eq, nat_lt, true, ℕ, ◌∷◌}
 use Rattle.ui_machine.specs.Definition.Signals.{Accumulator}
 use Rattle.ui_machine.specs.Rules.EmissionPlan.{Planned, plan}
 use Rattle.ui_machine.specs.State.Config.{World}
-use Rattle.ui_machine.specs.State.Handlers.{Handler}
-use Rattle.ui_machine.specs.State.Tasks.{PlanEntry, class_handler, handler}
+use Rattle.ui_machine.specs.State.Handlers.{Handler, handler_of}
+use Rattle.ui_machine.specs.State.Tasks.{PlanEntry, class_handler, handler, transfer}
 use Rattle.signal_core.specs.Connected.{Numbered}
-use Rattle.signal_core.specs.Emission.{Due, Walk, from_first, is_over, next_step, to_come}
+use Rattle.signal_core.specs.Emission.{Due, Walk, after_program, from_first, is_over, next_step, of_handler, program_turn, to_come}
 use Rattle.signal_core.specs.declared.stage.Stage.{Stage}
 use Rattle.signal_core.specs.declared.stage.Stage.TheVariants as stages
 use Rattle.signal_core.specs.declared.step.Step.{Step}
@@ -63,9 +63,43 @@ abbrev pub TurnsGoOn : Type 0
 TurnsGoOn = (w : Walk) (hs : List Handler) (last : ℕ) → Numbered 0 hs last → (step : Step) → next_step w hs ≡ Some step →
     to_come (record w { stage = step.then_at }) hs ≡ after_next (to_come w hs)
 
--- ** where no handler is connected
+-- ** what is passed over
 
--- the entries by the turn of a program that is the next one: without one there are none, and else the first is the class handler's
-abbrev pub IsToldBy : Option Turn → List PlanEntry → Type 0
-IsToldBy None entries = entries ≡ []
-IsToldBy (Some turn) entries = (program : ℕ) × (cleanup : Bool) × (rest : List PlanEntry) × (entries ≡ class_handler program cleanup ∷ rest)
+-- whether the turn of a handler is passed over: it is blocked, or it is gone
+abbrev pub is_passed_over : Option Handler → Bool
+is_passed_over None = true
+is_passed_over (Some h) = nat_lt 0 h.blocks
+
+-- the entries from the first one on that is not passed over
+abbrev pub entries_left : List Handler → List PlanEntry → List PlanEntry
+entries_left hs [] = []
+entries_left hs (class_handler program cleanup ∷ entries) = class_handler program cleanup ∷ entries
+entries_left hs (handler number ∷ entries) = cond (is_passed_over (handler_of number hs)) (entries_left hs entries) (handler number ∷ entries)
+entries_left hs (transfer number back ∷ entries) = transfer number back ∷ entries
+
+-- ** where there are no bindings
+
+-- the turn and the entry of a handler that stands and is not blocked
+pub record OfHandler (hs : List Handler) (turn : Turn) (entry : PlanEntry) : Type 0 where
+  pub from : Handler
+  pub stands : handler_of from.number hs ≡ Some from
+  pub is_free : nat_lt 0 from.blocks ≡ false
+  pub has_turn : turn ≡ (of_handler stages.Before from).step.turn
+  pub has_entry : entry ≡ handler from.number
+
+-- whether an entry is that of a program's turn, which leads to a stage
+abbrev pub IsEntry : List Handler → Turn → Stage → PlanEntry → Type 0
+IsEntry hs (turns.Class program) next entry = entry ≡ class_handler program (is_over next)
+IsEntry hs (turns.Handler program swapped arg) next entry = OfHandler hs (turns.Handler program swapped arg) entry
+IsEntry hs turns.Transfers next entry = ⊥
+
+-- Without a program's turn no entries are left. Else the first is that of the turn, and the others are to come once it is taken.
+abbrev pub IsToldBy : Option Turn → Walk → List Handler → List PlanEntry → Type 0
+IsToldBy None new hs entries = entries ≡ []
+IsToldBy (Some turn) new hs entries =
+    (entry : PlanEntry) × (entries ≡ entry ∷ flat_map (entries_of []) (to_come new hs)) × IsEntry hs turn new.stage entry
+
+-- what the next turn of a program tells of the entries
+abbrev pub TurnsTell : Type 0
+TurnsTell = (w : Walk) (hs : List Handler) (last : ℕ) → Numbered 0 hs last →
+    IsToldBy (program_turn w hs) (after_program w hs) hs (entries_left hs (flat_map (entries_of []) (to_come w hs)))

@@ -35,7 +35,7 @@ impl Model for Handlers {
 }
 
 impl Handlers {
-    ghost use Rattle.signal_core.specs.Connected.{none_connected, connection_of, has_room, has_room_for_code, with_connection};
+    ghost use Rattle.signal_core.specs.Connected.{Numbered, none_connected, connection_of, has_room, has_room_for_code, with_connection};
     ghost use Rattle.signal_core.specs.Connected.{without_matched, with_blocked, with_unblocked, without_object};
     ghost use Rattle.signal_core.specs.Emission.{has_next_turn};
 
@@ -74,9 +74,10 @@ impl Handlers {
         Ok(number)
     }
 
-    /// The number of the handler that was connected last.
-    pub(crate) fn last(&self) -> u64
-        ensures { result ≡ self.now.last }
+    /// The number of the handler that was connected last. Those that are connected have rising numbers up to it.
+    pub fn last(&self) -> u64
+        ensures number { result ≡ self.now.last }
+        ensures rises { Numbered 0 self.now.handlers self.now.last }
     {
         self.last
     }
