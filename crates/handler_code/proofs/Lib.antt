@@ -1,4 +1,6 @@
 pub mod RegisterReads
+pub mod FrameRegisters
+pub mod FrameSteps
 pub mod MachineSteps
 pub mod FromRegisters
 pub mod Shapes

@@ -1,6 +1,7 @@
 pub mod Computing
 pub mod Operand
 pub mod View
+pub mod FrameView
 pub mod Shape
 pub mod Known
 pub mod Reading

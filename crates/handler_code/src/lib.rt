@@ -11,6 +11,7 @@ mod computation;
 mod computing;
 mod error;
 mod fault;
+mod frame;
 mod instruction;
 mod operands;
 mod position;
@@ -22,8 +23,9 @@ pub use computation::{Arithmetic, Comparison, Computation, Computed, Register};
 pub use computing::MOST_TEXT_BYTES;
 pub use error::{InstructionError, ProgramError};
 pub use fault::{ProgramFault, ProgramLimit};
+pub use frame::Frame;
 pub use instruction::{BlockNumber, Connection, Instruction};
-pub use operands::{data_at, identity_at, text_at, truth_at, value_at};
+pub use operands::{data_at, identity_at, text_at, truth_at, value_at, values_at};
 pub use program::{Block, Program, RegisterKind};
 pub use reading::{
     Names, OutlineError, OutlineFault, ProgramPart, Scope, check_outline, read_instruction,

@@ -1,15 +1,19 @@
 //! The operands of instructions: registers that have to be set, with values of the kind that is asked for.
 
-ghost use Rattle.std.specs.Prelude.{◌≡◌, option_map, None};
+ghost use Rattle.std.specs.Prelude.{◌≡◌, map, option_map, None};
+ghost use Rattle.ui_machine.specs.Instructions.Registers.{values_in};
 ghost use Rattle.ui_machine.specs.Seq.{read};
+ghost use Rattle.ui_machine.specs.State.Tasks.{Frame};
 ghost use Rattle.g_values.specs.View.{value_view};
 ghost use Rattle.handler_code.specs.Computing.{of_one, registers_of, text_of, truth_of};
+ghost use Rattle.handler_code.specs.FrameView.{Answers};
 ghost use Rattle.handler_code.specs.Operand.{Shows, data_in, identity_in, number_of_object};
 ghost use Rattle.handler_code.specs.View.{number_of};
 
 use crate::computation::Register;
 use g_values::Value;
-use ui_machine::{Arm, ObjectId};
+use std::alloc::Global;
+use ui_machine::{Arm, Halt, ObjectId};
 
 /// The value of a register, if it is set.
 pub fn value_at(registers: &[Option<Value>], at: Register) -> Option<&Value>
@@ -20,6 +24,28 @@ pub fn value_at(registers: &[Option<Value>], at: Register) -> Option<&Value>
     } else {
         None
     }
+}
+
+/// The values of some registers.
+///
+/// # Errors
+///
+/// `Stuck(Register)` where one of them is unset. `OutOfMemory` where the list or a text can't be made or shared.
+pub fn values_at(
+    alloc: Global,
+    registers: &[Option<Value>],
+    from: &[Register],
+) -> Result<Vec<Value>, Halt>
+    ensures { (f : Frame) → f.registers ≡ registers_of registers.now → Answers (λ vs. map value_view vs.items) result (values_in f (map number_of from.now)) }
+{
+    let mut values = Vec::new(alloc);
+    for register in from {
+        let Some(value) = value_at(registers, *register) else {
+            return Err(Halt::Stuck(Arm::Register));
+        };
+        values.push(value.copied()?)?;
+    }
+    Ok(values)
 }
 
 /// The truth value in a register, if it has one.

@@ -1,6 +1,6 @@
 //! Reading a program.
 
-ghost use Rattle.std.specs.Prelude.{◌≡◌, IfOk};
+ghost use Rattle.std.specs.Prelude.{◌≡◌, IfOk, None};
 ghost use Rattle.serde_json.specs.View.{view};
 ghost use Rattle.handler_code.specs.View.{program_view};
 ghost use Rattle.handler_code.specs.Known.{HasKnownBlocks};
@@ -9,6 +9,7 @@ ghost use Rattle.handler_code.specs.Reading.Outline.{IsWellFormed, outline_in};
 ghost use Rattle.handler_code.specs.Reading.Outline as outlines;
 ghost use Rattle.handler_code.specs.Reading.OutlineView.{outline_view};
 ghost use Rattle.handler_code.specs.Reading.Programs.{Gives, program_of};
+ghost use Rattle.handler_code.specs.Shape.{shape_fault};
 
 use crate::error::ProgramError;
 use crate::program::Program;
@@ -30,6 +31,7 @@ fn program_of(
 ) -> Result<Program, ProgramError>
     ensures read { Gives program_view result (program_of (names_view names.now) (outline_view outline.entry)) }
     ensures known { IfOk result (λ p. HasKnownBlocks names.now.types.now p) }
+    ensures shaped { IfOk result (λ p. shape_fault (program_view p) ≡ None) }
 {
     let scope = Scope {
         types: names.types,
@@ -72,6 +74,7 @@ pub fn read_program(alloc: Global, json: &Value, names: &Names<'_>) -> Result<Pr
     requires { IsWellFormed (names_view names.now) (view json.now) }
     ensures read { (o : outlines.Outline) → outline_in (names_view names.now) (view json.now) ≡ Ok o → Gives program_view result (program_of (names_view names.now) o) }
     ensures known { IfOk result (λ p. HasKnownBlocks names.now.types.now p) }
+    ensures shaped { IfOk result (λ p. shape_fault (program_view p) ≡ None) }
 {
     match read_outline(alloc, json, names) {
         Ok(outline) => program_of(alloc, outline, names),
