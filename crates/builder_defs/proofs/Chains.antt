@@ -1,5 +1,5 @@
 -- One reading after the other, where one fails.
-use Rattle.std.proofs.Common.{◌≡◌, ℕ, List, length, Result, Ok, sym, ap, ◌∙◌}
+use Rattle.std.proofs.Common.{◌≡◌, ℕ, List, length, Result, Ok, Err, refl, sym, ap, ◌∙◌}
 use Rattle.serde_json.specs.Data.{Data, Members}
 use Rattle.ui_machine.specs.Definition.Types.{GType}
 use Rattle.ui_machine.specs.Definition.Properties.{Spec}
@@ -15,6 +15,11 @@ use Rattle.builder_defs.specs.Denoted.Entries.{TypeNames}
 use Rattle.builder_defs.specs.Denoted.Properties.{spec_at, installed, property_at}
 use Rattle.builder_defs.specs.Denoted.Drafts.{Draft, draft_of, given_at, type_at}
 use Rattle.builder_defs.proofs.Installing.{inherited_in, property_at_is}
+
+-- a chain that gives something, link by link
+pub bound : {A B E : Type 0} (r : Result A E) (f : A → Result B E) (y : B) → (r >>= f) ≡ Ok y → (x : A) × (r ≡ Ok x) × (f x ≡ Ok y)
+bound (Ok x) f y h = (x, refl, h)
+bound (Err e) f y h = absurd (cc)
 
 pub fails_first : {A B : Type 0} (e : ReadError) (r : Result A Refusal) (f : A → Result B Refusal) → Fails e r → Fails e (r >>= f)
 fails_first errors.OutOfMemory r f h = tt

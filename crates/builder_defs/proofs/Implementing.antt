@@ -1,12 +1,10 @@
 -- The interfaces of a class, read beside tables of properties and signals.
-use Rattle.std.proofs.Common.{◌≡◌, ◌∙◌, ℕ, nat_eq, false, List, [], ◌∷◌, length, map, codes, Bool, ◌||◌, Option, option_map, Result, Ok, refl, sym, ap, arith}
+use Rattle.std.proofs.Common.{◌≡◌, ◌∙◌, ℕ, nat_eq, false, List, [], ◌∷◌, length, map, codes, Bool, ◌||◌, Option, option_map, Result, Ok, refl, sym, ap}
 use Rattle.std.specs.List.{list_any}
-use Rattle.std.proofs.lemmas.Bool.Decides.{nat_tests}
 use Rattle.serde_json.specs.Data.{Data, Items}
 use Rattle.serde_json.specs.declared.value.Value.{Value}
 use Rattle.serde_json.specs.View.{items_view}
 use Rattle.ui_machine.specs.Outcome.{◌>>=◌}
-use Rattle.ui_machine.specs.Definition.Types.{GType}
 use Rattle.ui_machine.specs.Definition.Properties.{Spec}
 use Rattle.param_specs.specs.Table.{own_of, specs_of}
 use Rattle.signal_core.specs.Sources.{declared_of, signals_of}

@@ -16,6 +16,13 @@ pub mod Words
 pub mod Members
 pub mod Parents
 pub mod Ids
+pub mod Elements
+pub mod Registers
+pub mod AddedPrograms
+pub mod CodeNames
+pub mod PlaceIds
+pub mod Outlines
+pub mod Unset
 pub mod Values
 pub mod Printing
 pub mod PlainKinds

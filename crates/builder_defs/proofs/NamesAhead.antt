@@ -1,5 +1,5 @@
 -- The names of a class's own signals, read ahead.
-use Rattle.std.proofs.Common.{◌≡◌, ◌∙◌, ℕ, Bool, true, false, ◌||◌, cond, List, [], ◌∷◌, ◌++◌, Option, Some, is_some, codes, option_and_then, String, Global, string_eq, string_bytes, if◌then◌else◌, Result, Ok, refl, sym, ap}
+use Rattle.std.proofs.Common.{◌≡◌, ◌∙◌, ℕ, Bool, true, false, ◌||◌, cond, List, [], ◌∷◌, ◌++◌, Some, is_some, codes, option_and_then, String, Global, string_eq, string_bytes, if◌then◌else◌, Ok, refl, sym, ap}
 use Rattle.std.specs.List.{list_any}
 use Rattle.std.specs.Map.{lookup}
 use Rattle.std.specs.Str.{bytes_eq}
@@ -7,7 +7,6 @@ use Rattle.std.proofs.lemmas.List.{map_push}
 use Rattle.indexmap.specs.IndexMap.{insert_entry}
 use Rattle.serde_json.specs.Data.{Data, Items}
 use Rattle.serde_json.specs.Find.{get, as_str}
-use Rattle.builder_defs.specs.Refusals.{Refusal}
 use Rattle.builder_defs.specs.Denoted.Overrides.{own_name}
 use Rattle.builder_defs.specs.Denoted.Brought.{names_with, own_signal_at, own_signals_ahead}
 use Rattle.builder_defs.specs.Document.{under, listed_ahead, each, at_entry}

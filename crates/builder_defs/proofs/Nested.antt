@@ -1,5 +1,5 @@
 -- An object with its children behind it, part by part.
-use Rattle.std.proofs.Common.{◌≡◌, ℕ, suc, List, length, codes, Option, Some, Result, Ok, refl, sym, ap, subst, ◌∙◌}
+use Rattle.std.proofs.Common.{◌≡◌, ℕ, suc, List, length, codes, Option, Some, Result, Ok, sym, ap, ◌∙◌}
 use Rattle.serde_json.specs.Data.{Data, Items, Members}
 use Rattle.ui_machine.specs.Outcome.{◌>>=◌}
 use Rattle.ui_machine.specs.Definition.Places.{Place}

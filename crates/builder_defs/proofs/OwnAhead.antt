@@ -1,5 +1,5 @@
 -- A class's own properties, read ahead, by their names.
-use Rattle.std.proofs.Common.{◌≡◌, ◌∙◌, ℕ, Bool, true, false, cond, ◌||◌, List, [], ◌∷◌, ◌++◌, map, Option, None, Some, is_some, option_map, option_and_then, codes, String, Global, string_eq, string_bytes, if◌then◌else◌, Ok, refl, sym, ap}
+use Rattle.std.proofs.Common.{◌≡◌, ◌∙◌, ℕ, Bool, true, false, cond, ◌||◌, List, [], ◌∷◌, ◌++◌, map, Option, Some, is_some, option_map, option_and_then, codes, String, Global, string_eq, string_bytes, if◌then◌else◌, Ok, refl, sym, ap}
 use Rattle.std.specs.List.{find, list_any}
 use Rattle.std.specs.Map.{lookup}
 use Rattle.std.specs.Str.{bytes_eq}

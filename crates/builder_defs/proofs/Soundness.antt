@@ -3,7 +3,8 @@ use Rattle.std.proofs.Common.{◌≡◌, ◌≤◌, ◌<◌, ℕ, codes, zero, s
 use Rattle.std.specs.List.{flat_map, AllByRecursion}
 use Rattle.std.proofs.lemmas.List.{length_push, length-map}
 use Rattle.std.proofs.lemmas.Bool.Decides.{nat_tests}
-use Rattle.ui_machine.specs.Definition.Places.{Place}
+use Rattle.ui_machine.specs.Definition.Places.{Attached, Place}
+use Rattle.ui_machine.specs.Definition.Programs.{Program}
 use Rattle.serde_json.specs.Data.{Data, Items, no_items, item}
 use Rattle.ui_machine.specs.Definition.Types.{GType}
 use Rattle.ui_machine.specs.Definition.Types as sorts
@@ -13,16 +14,16 @@ use Rattle.ui_machine.specs.Definition.Kinds.{Kind}
 use Rattle.ui_machine.specs.Definition.Values.{Value}
 use Rattle.ui_machine.specs.Definition.Values as values
 use Rattle.ui_machine.specs.Definition.Properties.{Spec}
-use Rattle.ui_machine.specs.Definition.Signals.{Signal}
+use Rattle.ui_machine.specs.Definition.Signals.{ClassHandler, Signal}
 use Rattle.ui_machine.specs.Words.{notify}
 use Rattle.signal_core.specs.Sources.{declared_of, sources_of}
 use Rattle.signal_core.specs.Sources as declared
-use Rattle.signal_core.specs.Table.{canonical_signal}
+use Rattle.signal_core.specs.Table.{canonical_signal, named_of}
 use Rattle.std.specs.Str.{bytes_eq}
 use Rattle.ui_machine.specs.Definition.Kinds as kinds
 use Rattle.ui_machine.specs.Rules.Ancestry.{lineage}
 use Rattle.ui_machine.specs.Rules.Validation.{is_valid}
-use Rattle.serde_json.specs.Find.{get, as_str}
+use Rattle.serde_json.specs.Find.{get, as_array, as_str}
 use Rattle.g_values.specs.View.{is_whole_kind}
 use Rattle.g_values.specs.Reading.{whole_number, number_between}
 use Rattle.g_values.specs.declared.error.JsonFault.TheVariants.{OutOfRange}
@@ -30,13 +31,12 @@ use Rattle.std.proofs.lemmas.Int.{ints}
 use Rattle.param_specs.specs.declared.error.SpecFault.{SpecFault}
 use Rattle.param_specs.specs.declared.error.SpecFault.TheVariants.{DefaultInvalid}
 use Rattle.param_specs.specs.Table.{own_of, specs_of, install_fault, canonical_spec}
-use Rattle.ui_machine.specs.declared.limits.Limits.{Limits}
-use Rattle.builder_defs.specs.Meaning.{Entry, plain_object, IsPlain, IsPlainKind, AreLimits, ArePlain, IsKnownKind, HasKnownKinds, HaveKnownKinds, IsSound}
-use Rattle.builder_defs.specs.Refusals.{Refusal, shape, unknown, not_installed, limit, or_refused, or_value_fault}
+use Rattle.builder_defs.specs.Meaning.{Parts, plain_object, plain_program, IsPlain, IsPlainKind, AreLimits, ArePlain, IsKnownKind, HasKnownKinds, HaveKnownKinds, HasOwnName, IsSound, IsSoundProgram}
+use Rattle.builder_defs.specs.Refusals.{Refusal, shape, unknown, not_installed, limit, or_refused, or_value_fault, refused_if}
 use Rattle.builder_defs.specs.declared.fault.DefinitionLimit.TheVariants.{Places, Objects}
 use Rattle.ui_machine.specs.Outcome.{◌>>=◌}
-use Rattle.builder_defs.specs.Document.{each, at_entry, under, nth, members_at, text_at, truth_at, entries_at, listed_ahead, absent_at, nothing_at, only_at}
-use Rattle.builder_defs.specs.Denoted.Entries.{TypeNames, type_names, most_levels}
+use Rattle.builder_defs.specs.Document.{each, at_entry, under, nth, members_at, text_at, entries_at, listed_ahead, absent_at, nothing_at, only_at, is_empty_list, is_absent_or_empty, entries}
+use Rattle.builder_defs.specs.Denoted.Entries.{ObjectNames, TypeNames, type_names, most_levels}
 use Rattle.builder_defs.specs.Denoted.Kinds.{is_enum, is_flags, enum_named, flags_named, parted, object_type, kind_by, kind_at, lowest, highest}
 use Rattle.builder_defs.specs.Denoted.PropertyFlags.{flags_at}
 use Rattle.builder_defs.specs.Denoted.Ranges.{Range, whole_range, end_given, end_or, check_filled, range_at}
@@ -52,7 +52,9 @@ use Rattle.builder_defs.specs.Denoted.Classes.{parent_at, parent_ahead, check_de
 use Rattle.builder_defs.specs.Denoted.Classes as classes
 use Rattle.builder_defs.specs.Denoted.Objects.{Scope, room_for_object, new_id, class_at_key, keys_of_object, place_at, added_at, object_at}
 use Rattle.builder_defs.specs.Denoted.Given.{givens_at}
+use Rattle.builder_defs.specs.Denoted.Attached.{all_attached, attached_at}
 use Rattle.builder_defs.specs.Denoted.{unset_before_classes, unset_before_objects, enums_in, flags_in, interfaces_in, classes_in, draft_in, scope_with, objects_in}
+use Rattle.builder_defs.proofs.Elements.{both_all, flat_all, all_get, all_map}
 use Rattle.builder_defs.proofs.Installing.{specs_of-is}
 use Rattle.builder_defs.proofs.LaterTypes.{plain_later, known_later}
 
@@ -354,24 +356,6 @@ AllKnown types ss = AllByRecursion (HasKnownKinds types) ss
 abbrev pub AllSignals : List GType → (ℕ → List Signal) → Type 0
 AllSignals types own = (t : ℕ) → AllKnown types (own t)
 
--- all that is so of each of two lists is so of both
-both_all : {A : Type 0} (P : A → Type 0) (xs ys : List A) → AllByRecursion P xs → AllByRecursion P ys → AllByRecursion P (xs ++ ys)
-both_all P [] ys p q = q
-both_all P (x ∷ xs) ys p q = (p.0, both_all P xs ys p.1 q)
-
-flat_all : {A : Type 0} (P : A → Type 0) (own : ℕ → List A) → ((t : ℕ) → AllByRecursion P (own t)) → (ts : List ℕ) → AllByRecursion P (flat_map own ts)
-flat_all P own all [] = tt
-flat_all P own all (t ∷ ts) = both_all P (own t) (flat_map own ts) (all t) (flat_all P own all ts)
-
-all_get : {A : Type 0} (P : A → Type 0) (xs : List A) (i : ℕ) (x : A) → AllByRecursion P xs → slice_get xs i ≡ Some x → P x
-all_get P [] i x p h = absurd (cc)
-all_get P (y ∷ ys) zero x p h = let e : y ≡ x = cc in subst P e p.0
-all_get P (y ∷ ys) (suc i) x p h = all_get P ys i x p.1 h
-
-all_map : {A : Type 0} (P Q : A → Type 0) → ((x : A) → P x → Q x) → (xs : List A) → AllByRecursion P xs → AllByRecursion Q xs
-all_map P Q f [] p = tt
-all_map P Q f (x ∷ xs) p = (f x p.0, all_map P Q f xs p.1)
-
 some_map : {A : Type 0} (P Q : A → Type 0) → ((x : A) → P x → Q x) → (o : Option A) → IfSome o P → IfSome o Q
 some_map P Q f None p = tt
 some_map P Q f (Some x) p = f x p
@@ -460,7 +444,6 @@ given_plain : (path : List ℕ) (types : List GType) (names : TypeNames) (t : �
 unfolding given_at
 given_plain path types names t own signals d plain known =
     on_bind (AllOwn types) PlainDraft (properties_at path types names t own d) _ (properties_plain path types names t own d plain) λ properties p.
-    on_bind (λ x. Unit {0}) PlainDraft (nothing_at path d (codes "signals" ∷ [])) _ (on_all _) λ unset u.
     on_bind (AllSignals types) PlainDraft (signals_at path types names t signals d) _ (signals_known path types names t signals d known) λ all k.
     record { plain = p; known = k }
 
@@ -507,12 +490,49 @@ draft_plain d =
     on_bind PlainDraft PlainDraft (interfaces_in (type_names types d) types d) _ (interfaces_plain (type_names types d) types d) λ draft all.
     classes_plain (type_names types d) draft d all
 
+-- ** lists of which there is nothing so far
+
+-- a list that must be absent or empty is so
+pub unset : (path key : List ℕ) (d : Data) → OnRead {A = Unit {0}} (λ u. is_absent_or_empty (get key d) ≡ true) (nothing_at path d (key ∷ []))
+unset path key d = by (is_absent_or_empty (get key d)) refl
+  where
+    by : (b : Bool) → is_absent_or_empty (get key d) ≡ b
+        → OnRead {A = Unit {0}} (λ u. is_absent_or_empty (get key d) ≡ true) (refused_if (λ k. shape (under path k)) (cond (not b) (Some key) None))
+    by true e = e
+    by false e = tt
+
+none_of : (r : Refusal) (list : Option Items) → is_empty_list list ≡ true → OnRead (λ ds. ds ≡ no_items) (or_refused r list)
+none_of r None h = tt
+none_of r (Some no_items) h = refl
+none_of r (Some (item d ds)) h = absurd (cc)
+
+-- and has no entries
+pub no_entries : (path : List ℕ) (list : Option Data) → is_absent_or_empty list ≡ true → OnRead (λ ds. ds ≡ no_items) (entries path list)
+no_entries path None h = refl
+no_entries path (Some d) h = none_of (shape path) (as_array d) h
+
+pub each_of_none : {S : Type 0} (step : ℕ → S → Data → Result S Refusal) (s : S) (list : Items) → list ≡ no_items → OnRead (λ t. t ≡ s) (each step 0 s list)
+unfolding each
+each_of_none step s list none = subst (λ ds. OnRead (λ t. t ≡ s) (each step 0 s ds)) (sym none) refl
+
+pub none_attached : (path : List ℕ) (programs : List Program) (objects : ObjectNames) (d : Data) → is_absent_or_empty (get (codes "signals") d) ≡ true
+    → OnRead (λ (signals : List Attached). signals ≡ []) (all_attached path programs objects d)
+unfolding all_attached
+none_attached path programs objects d bare =
+    on_bind (λ ds. ds ≡ no_items) (λ signals. signals ≡ []) (entries_at path d (codes "signals")) _ (no_entries (under path (codes "signals")) (get (codes "signals") d) bare) λ list none.
+    each_of_none (at_entry (λ entry. attached_at entry programs objects) (under path (codes "signals"))) [] list none
+
 -- ** no more objects than there is room for
 
--- not more than there are places, and not more than may live
+-- a place names no programs for its signals so far
+abbrev pub HasNoSignals : Place → Type 0
+HasNoSignals place = place.signals ≡ []
+
+-- not more than there are places, and not more than may live; none of them has signals
 pub record AreFew (most : ℕ) (places : List Place) : Type 0 where
   pub placed : length places ≤ 512
   pub live : length places ≤ most
+  pub silent : AllByRecursion HasNoSignals places
 
 -- there is room for one more
 record HasRoom (most : ℕ) (places : List Place) : Type 0 where
@@ -528,51 +548,60 @@ room_below most places = by (nat_le 512 (length places)) (nat_le most (length pl
     by false true e f = tt
     by false false e f = record { place = grind (arith, nat_tests); life = grind (arith, nat_tests) }
 
+-- there is room for a place, which has no signals
+abbrev FitsIn : ℕ → List Place → Place → Type 0
+FitsIn most places place = HasRoom most places × HasNoSignals place
+
 place_few : (scope : Scope) (parent : Option ℕ) (path : List ℕ) (places : List Place) (d : Data)
-    → OnRead (λ place. HasRoom scope.most places) (place_at path scope parent places d)
+    → OnRead (FitsIn scope.most places) (place_at path scope parent places d)
 unfolding place_at
 place_few scope parent path places d =
-    on_bind (λ x. HasRoom scope.most places) (λ place. HasRoom scope.most places) (room_for_object scope.most places) _ (room_below scope.most places) λ u room.
-    on_bind (λ x. Unit {0}) (λ place. HasRoom scope.most places) (text_at path d (codes "id")) _ (on_all _) λ id u.
-    on_bind (λ x. Unit {0}) (λ place. HasRoom scope.most places) (new_id (under path (codes "id")) places id) _ (on_all _) λ new u.
-    on_bind (λ x. Unit {0}) (λ place. HasRoom scope.most places) (class_at_key path scope.types d) _ (on_all _) λ class u.
-    on_bind (λ x. Unit {0}) (λ place. HasRoom scope.most places) (absent_at path d (codes "peer" ∷ [])) _ (on_all _) λ peer u.
-    on_bind (λ x. Unit {0}) (λ place. HasRoom scope.most places) (givens_at path scope.types scope.names (length places) (scope.specs class) d) _ (on_all _) λ given u.
-    on_bind (λ x. Unit {0}) (λ place. HasRoom scope.most places) (nothing_at path d (codes "signals" ∷ [])) _ (on_all _) λ bare u. room
+    on_bind (λ x. HasRoom scope.most places) (FitsIn scope.most places) (room_for_object scope.most places) _ (room_below scope.most places) λ u room.
+    on_bind (λ x. Unit {0}) (FitsIn scope.most places) (text_at path d (codes "id")) _ (on_all _) λ id u.
+    on_bind (λ x. Unit {0}) (FitsIn scope.most places) (new_id (under path (codes "id")) places id) _ (on_all _) λ new u.
+    on_bind (λ x. Unit {0}) (FitsIn scope.most places) (class_at_key path scope.types d) _ (on_all _) λ class u.
+    on_bind (λ x. Unit {0}) (FitsIn scope.most places) (absent_at path d (codes "peer" ∷ [])) _ (on_all _) λ peer u.
+    on_bind (λ x. Unit {0}) (FitsIn scope.most places) (givens_at path scope.types scope.names (length places) (scope.specs class) d) _ (on_all _) λ given u.
+    on_bind (λ u. is_absent_or_empty (get (codes "signals") d) ≡ true) (FitsIn scope.most places) (nothing_at path d (codes "signals" ∷ [])) _ (unset path (codes "signals") d) λ u bare.
+    on_bind (λ signals. signals ≡ []) (FitsIn scope.most places) (all_attached path scope.programs scope.names d) _ (none_attached path scope.programs scope.names d bare) λ signals none. (room, none)
 
-one_place_more : (most : ℕ) (places : List Place) (place : Place) → HasRoom most places → AreFew most (places ++ place ∷ [])
-one_place_more most places place room =
+one_place_more : (most : ℕ) (places : List Place) (place : Place) → AllByRecursion HasNoSignals places → FitsIn most places place → AreFew most (places ++ place ∷ [])
+one_place_more most places place silent fits =
     let one = length_push places place in
-    record { placed = omega (arith, one, room.place); live = omega (arith, one, room.life) }
+    record {
+      placed = omega (arith, one, fits.0.place);
+      live = omega (arith, one, fits.0.life);
+      silent = both_all HasNoSignals places (place ∷ []) silent (fits.1, tt);
+    }
 
-added_few : (scope : Scope) (parent : Option ℕ) (path : List ℕ) (places : List Place) (d : Data)
+added_few : (scope : Scope) (parent : Option ℕ) (path : List ℕ) (places : List Place) (d : Data) → AllByRecursion HasNoSignals places
     → OnRead (AreFew scope.most) (added_at path scope parent places d)
 unfolding added_at
-added_few scope parent path places d =
-    on_bind (λ place. HasRoom scope.most places) (AreFew scope.most) (place_at path scope parent places d) (λ place. Ok (places ++ place ∷ []))
-    (place_few scope parent path places d) λ place room. one_place_more scope.most places place room
+added_few scope parent path places d silent =
+    on_bind (FitsIn scope.most places) (AreFew scope.most) (place_at path scope parent places d) (λ place. Ok (places ++ place ∷ []))
+    (place_few scope parent path places d) λ place fits. one_place_more scope.most places place silent fits
 
-object_few : (levels : ℕ) (scope : Scope) (parent : Option ℕ) (path : List ℕ) (places : List Place) (d : Data)
+object_few : (levels : ℕ) (scope : Scope) (parent : Option ℕ) (path : List ℕ) (places : List Place) (d : Data) → AllByRecursion HasNoSignals places
     → OnRead (AreFew scope.most) (object_at levels scope parent path places d)
 unfolding object_at
-object_few zero scope parent path places d = tt
-object_few (suc levels) scope parent path places d =
+object_few zero scope parent path places d silent = tt
+object_few (suc levels) scope parent path places d silent =
     on_bind (λ x. Unit {0}) (AreFew scope.most) (members_at path d) _ (on_all _) λ ms u.
-    on_bind (AreFew scope.most) (AreFew scope.most) (added_at path scope parent places d) _ (added_few scope parent path places d) λ more few.
+    on_bind (AreFew scope.most) (AreFew scope.most) (added_at path scope parent places d) _ (added_few scope parent path places d silent) λ more few.
     on_bind (λ x. Unit {0}) (AreFew scope.most) (entries_at path d (codes "children")) _ (on_all _) λ list u.
     on_bind (AreFew scope.most) (AreFew scope.most) (each (at_entry (object_at levels scope (Some (length places))) (under path (codes "children"))) 0 more list) _
     (on_each (AreFew scope.most) (at_entry (object_at levels scope (Some (length places))) (under path (codes "children")))
-    (λ i others entry fewer. object_few levels scope (Some (length places)) (nth (under path (codes "children")) i) others entry) 0 more list few) λ all fewer.
+    (λ i others entry fewer. object_few levels scope (Some (length places)) (nth (under path (codes "children")) i) others entry fewer.silent) 0 more list few) λ all fewer.
     on_bind (λ x. Unit {0}) (AreFew scope.most) (only_at path ms keys_of_object) _ (on_all _) λ only u. fewer
 
-pub objects_few : (types : List GType) (specs : ℕ → List Spec) (most : ℕ) (d : Data) → OnRead (AreFew most) (objects_in types specs most d)
+pub objects_few : (types : List GType) (specs : ℕ → List Spec) (programs : List Program) (most : ℕ) (d : Data) → OnRead (AreFew most) (objects_in types specs programs most d)
 unfolding objects_in
-objects_few types specs most d =
+objects_few types specs programs most d =
     on_bind (λ x. Unit {0}) (AreFew most) (nothing_at [] d unset_before_objects) _ (on_all _) λ unset u.
     on_bind (λ x. Unit {0}) (AreFew most) (entries_at [] d (codes "objects")) _ (on_all _) λ list u.
-    on_each (AreFew most) (at_entry (object_at most_levels (scope_with types specs most list) None) (under [] (codes "objects")))
-    (λ i others entry fewer. object_few most_levels (scope_with types specs most list) None (nth (under [] (codes "objects")) i) others entry) 0 [] list
-    (record { placed = omega arith; live = omega arith })
+    on_each (AreFew most) (at_entry (object_at most_levels (scope_with types specs programs most list) None) (under [] (codes "objects")))
+    (λ i others entry fewer. object_few most_levels (scope_with types specs programs most list) None (nth (under [] (codes "objects")) i) others entry fewer.silent) 0 [] list
+    (record { placed = omega arith; live = omega arith; silent = tt })
 
 -- the properties of types that were read are plain
 pub plain_read : (types : List GType) (table : List (List Spec)) (signals : List (List Signal)) (d : Data) → draft_in d ≡ Ok (draft_of types table signals) → ArePlain types table
@@ -595,14 +624,25 @@ kinds_read types table signals d read =
           (record { params = tt; result = tt }, flat_all (HasKnownKinds types) (declared.own_of signals) all.known (sources_of types t)) h;
     }
 
-pub sound : (types : List GType) (table : List (List Spec)) (signals : List (List Signal)) (os : List Entry) (limits : Limits) (d : Data) → draft_in d ≡ Ok (draft_of types table signals)
-    → AreLimits limits → objects_in types (specs_by types (own_of table)) limits.objects d ≡ Ok (map plain_object os) → IsSound types table signals os limits
-sound types table signals os limits d read within objects =
-    let few : AreFew limits.objects (map plain_object os) = subst (OnRead (AreFew limits.objects)) objects (objects_few types (specs_by types (own_of table)) limits.objects d) in
+-- a definition of what was read, which has no programs and names none
+pub sound : (p : Parts) (d : Data) → draft_in d ≡ Ok (draft_of p.types p.specs p.declared.signals) → AreLimits p.limits
+    → objects_in p.types (specs_by p.types (own_of p.specs)) (map plain_program p.programs) p.limits.objects d ≡ Ok (map plain_object p.objects)
+    → p.declared.handlers ≡ [] → p.constructed ≡ [] → p.programs ≡ [] → AllByRecursion HasOwnName p.programs → AllByRecursion (IsSoundProgram p.types) p.programs
+    → length p.programs ≤ 256 → IsSound p
+sound p d read within objects unhandled unconstructed none named programs fewer =
+    let few : AreFew p.limits.objects (map plain_object p.objects) = subst (OnRead (AreFew p.limits.objects)) objects (objects_few p.types (specs_by p.types (own_of p.specs)) (map plain_program p.programs) p.limits.objects d) in
     record {
-      plain = plain_read types table signals d read;
-      kinds = kinds_read types table signals d read;
-      declared = within;
-      few = omega (arith, few.live, length-map os plain_object);
-      places = omega (arith, few.placed, length-map os plain_object);
+      plain = plain_read p.types p.specs p.declared.signals d read;
+      kinds = kinds_read p.types p.specs p.declared.signals d read;
+      limited = within;
+      few = omega (arith, few.live, length-map p.objects plain_object);
+      places = omega (arith, few.placed, length-map p.objects plain_object);
+      named = named;
+      programs = programs;
+      few_programs = fewer;
+      handlers = λ t past. ap (λ (hs : List (List ClassHandler)). named_of hs t) unhandled;
+      no_programs = none;
+      no_handlers = unhandled;
+      no_constructed = unconstructed;
+      no_signals = few.silent;
     }

@@ -16,7 +16,9 @@ pub mod Brought
 pub mod Implements
 pub mod Interfaces
 pub mod Classes
+pub mod Programs
 pub mod Given
+pub mod Attached
 pub mod Objects
 use Rattle.std.specs.Prelude.{ℕ, List, [], ◌∷◌, length, codes, ◌==◌, if◌then◌else◌, Option, None, Some, option_and_then, Result, Ok, Err}
 use Rattle.serde_json.specs.Data.{Data, Items}
@@ -25,6 +27,7 @@ use Rattle.ui_machine.specs.Outcome.{◌>>=◌}
 use Rattle.ui_machine.specs.Seq.{listed}
 use Rattle.ui_machine.specs.Definition.Types.{GType, predeclared}
 use Rattle.ui_machine.specs.Definition.Properties.{Spec}
+use Rattle.ui_machine.specs.Definition.Programs.{Program}
 use Rattle.ui_machine.specs.Definition.Places as machine
 use Rattle.ui_machine.specs.Definition as definition
 use Rattle.ui_machine.specs.declared.limits.Limits.{Limits}
@@ -39,6 +42,7 @@ use Rattle.builder_defs.specs.Denoted.Enums.{enum_at, flags_at}
 use Rattle.builder_defs.specs.Denoted.Drafts.{Draft, bare_draft}
 use Rattle.builder_defs.specs.Denoted.Interfaces.{interface_at}
 use Rattle.builder_defs.specs.Denoted.Classes.{class_at}
+use Rattle.builder_defs.specs.Denoted.Programs.{programs_in}
 use Rattle.builder_defs.specs.Denoted.Objects.{Scope, object_at}
 
 -- the member `format`, which is 1
@@ -50,18 +54,18 @@ abbrev pub unset_before_classes : List (List ℕ)
 unset_before_classes = codes "shapes" ∷ []
 
 abbrev pub unset_before_objects : List (List ℕ)
-unset_before_objects = codes "programs" ∷ codes "prototypes" ∷ []
+unset_before_objects = codes "prototypes" ∷ []
 
 abbrev pub keys_of_definition : List (List ℕ)
 keys_of_definition = codes "format" ∷ codes "limits" ∷ codes "enums" ∷ codes "flags" ∷ codes "interfaces" ∷ codes "shapes" ∷ codes "classes" ∷ codes "programs" ∷ codes "prototypes" ∷ codes "objects" ∷ []
 
--- the definition of these classes and objects, with these limits
-abbrev pub definition_with : Draft → List machine.Place → Limits → definition.Definition
-definition_with draft places limits = record {
+-- the definition of these classes, programs and objects, with these limits
+abbrev pub definition_with : Draft → List Program → List machine.Place → Limits → definition.Definition
+definition_with draft programs places limits = record {
   types = draft.types;
   classes = listed (λ t. class_with (specs_by draft.types draft.own t) (signals_by draft.types draft.signals t)) (length draft.types);
   shapes = [];
-  programs = [];
+  programs = programs;
   places = places;
   bindings = [];
   most_objects = limits.objects;
@@ -102,15 +106,15 @@ draft_in d = do
   classes_in (type_names types d) interfaces d
 
 -- what is known where the objects of a list are read
-abbrev pub scope_with : List GType → (ℕ → List Spec) → ℕ → Items → Scope
-scope_with types specs most list = record { types = types; specs = specs; most = most; names = object_names list }
+abbrev pub scope_with : List GType → (ℕ → List Spec) → List Program → ℕ → Items → Scope
+scope_with types specs programs most list = record { types = types; specs = specs; programs = programs; most = most; names = object_names list }
 
--- the objects of these types with their properties, where so many may live
-unfoldable pub objects_in : List GType → (ℕ → List Spec) → ℕ → Data → Result (List machine.Place) Refusal
-objects_in types specs most d = do
+-- the objects of these types with their properties, which may run these programs, where so many may live
+unfoldable pub objects_in : List GType → (ℕ → List Spec) → List Program → ℕ → Data → Result (List machine.Place) Refusal
+objects_in types specs programs most d = do
   unset ← nothing_at [] d unset_before_objects
   list ← entries_at [] d (codes "objects")
-  each (at_entry (object_at most_levels (scope_with types specs most list) None) (under [] (codes "objects"))) 0 [] list
+  each (at_entry (object_at most_levels (scope_with types specs programs most list) None) (under [] (codes "objects"))) 0 [] list
 
 unfoldable pub definition_in : Data → Result definition.Definition Refusal
 definition_in d = do
@@ -118,9 +122,10 @@ definition_in d = do
   format ← format_of (option_and_then as_u64 (option_and_then as_number (get (codes "format") d)))
   limits ← limits_in d
   draft ← draft_in d
-  places ← objects_in draft.types (specs_by draft.types draft.own) limits.objects d
+  programs ← programs_in draft.types d
+  places ← objects_in draft.types (specs_by draft.types draft.own) programs limits.objects d
   only ← only_at [] members keys_of_definition
-  Ok (definition_with draft places limits)
+  Ok (definition_with draft programs places limits)
 
 -- the definition that bytes denote
 unfoldable pub denoted : List ℕ → Result definition.Definition Refusal

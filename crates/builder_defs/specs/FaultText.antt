@@ -1,5 +1,5 @@
 -- How the refusal of a definition is printed: its name and its fields, with one blank between them.
-use Rattle.std.specs.Prelude.{ℕ, ◌+◌, ◌/◌, ◌%◌, List, [], ◌∷◌, ◌++◌, codes, nat_lt, if◌then◌else◌}
+use Rattle.std.specs.Prelude.{ℕ, ◌+◌, ◌/◌, ◌%◌, List, [], ◌∷◌, ◌++◌, codes, decimal, nat_lt, if◌then◌else◌}
 use Rattle.std.specs.List.{flat_map}
 use Rattle.type_tree.specs.TypeName.{is_within}
 use Rattle.type_tree.specs.declared.error.TypeLimit.{TypeLimit}
@@ -12,9 +12,13 @@ use Rattle.param_specs.specs.declared.error.SpecFault.{SpecFault}
 use Rattle.param_specs.specs.declared.error.SpecFault.TheVariants as specs
 use Rattle.signal_core.specs.declared.fault.SignalFault.{SignalFault}
 use Rattle.signal_core.specs.declared.fault.SignalFault.TheVariants as signals
+use Rattle.handler_code.specs.declared.fault.ProgramFault.{ProgramFault}
+use Rattle.handler_code.specs.declared.fault.ProgramFault.TheVariants as programs
+use Rattle.handler_code.specs.declared.fault.ProgramLimit.{ProgramLimit}
+use Rattle.handler_code.specs.declared.fault.ProgramLimit.TheVariants as program_limits
 use Rattle.builder_defs.specs.declared.fault.DefinitionLimit.{DefinitionLimit}
-use Rattle.builder_defs.specs.declared.fault.DefinitionLimit.TheVariants.{Types, Depth, Properties, Signals, Places, Objects, Handlers}
-use Rattle.builder_defs.specs.Refusals.{Refusal, too_long, not_utf8, not_json, shape, unknown, duplicate, bad_type, bad_spec, value_fault, forward_construct_only, limit}
+use Rattle.builder_defs.specs.declared.fault.DefinitionLimit.TheVariants.{Types, Depth, Properties, Signals, Programs, Places, Objects, Handlers}
+use Rattle.builder_defs.specs.Refusals.{Refusal, too_long, not_utf8, not_json, shape, unknown, duplicate, bad_type, bad_spec, bad_program, value_fault, forward_construct_only, limit}
 
 -- ** paths and names
 
@@ -69,6 +73,18 @@ spec_cause_text causes.not_writable = codes "NotWritable"
 spec_cause_text (causes.override_missing name) = codes "OverrideMissing " ++ printed name
 spec_cause_text (causes.override_differs name) = codes "OverrideDiffers " ++ printed name
 
+abbrev pub program_limit_name : ProgramLimit → List ℕ
+program_limit_name program_limits.Registers = codes "registers"
+program_limit_name program_limits.Blocks = codes "blocks"
+program_limit_name program_limits.Instructions = codes "instructions"
+
+-- why JSON stands for no program: the name of the cause, and the numbers of the block and of the instruction
+abbrev pub program_cause_text : ProgramFault → List ℕ
+program_cause_text (programs.BadInstruction block at) = codes "BadInstruction " ++ (decimal block.0 ++ (codes " " ++ decimal at))
+program_cause_text (programs.BackwardJump block) = codes "BackwardJump " ++ decimal block.0
+program_cause_text (programs.NoReturn block) = codes "NoReturn " ++ decimal block.0
+program_cause_text (programs.Limit l) = codes "Limit " ++ program_limit_name l
+
 -- why JSON stands for no value
 abbrev pub value_cause_text : JsonFault → List ℕ
 value_cause_text values.WrongJson = codes "WrongJson"
@@ -83,6 +99,7 @@ limit_name Types = codes "types"
 limit_name Depth = codes "depth"
 limit_name Properties = codes "properties"
 limit_name Signals = codes "signals"
+limit_name Programs = codes "programs"
 limit_name Places = codes "places"
 limit_name Objects = codes "objects"
 limit_name Handlers = codes "handlers"
@@ -97,6 +114,7 @@ refusal_text (unknown path name) = codes "Unknown " ++ (printed path ++ (codes "
 refusal_text (duplicate path) = codes "Duplicate " ++ printed path
 refusal_text (bad_type path cause) = codes "BadType " ++ (printed path ++ (codes " " ++ type_cause_text cause))
 refusal_text (bad_spec path cause) = codes "BadSpec " ++ (printed path ++ (codes " " ++ spec_cause_text cause))
+refusal_text (bad_program path cause) = codes "BadProgram " ++ (printed path ++ (codes " " ++ program_cause_text cause))
 refusal_text (value_fault path cause) = codes "ValueFault " ++ (printed path ++ (codes " " ++ value_cause_text cause))
 refusal_text (forward_construct_only path) = codes "ForwardConstructOnly " ++ printed path
 refusal_text (limit l) = codes "Limit " ++ limit_name l

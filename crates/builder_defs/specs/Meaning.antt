@@ -1,8 +1,8 @@
 -- Which definition and event of the machine the code's stand for.
-use Rattle.std.specs.Prelude.{◌≡◌, ℕ, ◌<◌, ◌≤◌, ◌≤ℤ◌, true, false, List, [], ◌∷◌, map, length, Option, None, Some, option_map, String, string_bytes, codes, slice_get, IfSome}
+use Rattle.std.specs.Prelude.{◌≡◌, ℕ, ◌<◌, ◌≤◌, ◌≤ℤ◌, true, false, List, [], map, length, Option, None, Some, option_map, String, string_bytes, slice_get, IfSome}
 use Rattle.std.specs.Global.{Global}
 use Rattle.std.specs.List.{AllByRecursion}
-use Rattle.ui_machine.specs.Seq.{listed}
+use Rattle.ui_machine.specs.Seq.{listed, read}
 use Rattle.ui_machine.specs.declared.ids.Place.{Place}
 use Rattle.ui_machine.specs.declared.limits.Limits.{Limits}
 use Rattle.ui_machine.specs.Definition.Kinds as kinds
@@ -13,7 +13,8 @@ use Rattle.ui_machine.specs.Definition.Properties.{Spec}
 use Rattle.ui_machine.specs.Rules.Validation.{is_valid}
 use Rattle.ui_machine.specs.Definition.Places as machine
 use Rattle.ui_machine.specs.Definition as definition
-use Rattle.ui_machine.specs.Definition.Signals.{Signal}
+use Rattle.ui_machine.specs.Definition.Signals.{ClassHandler, Signal}
+use Rattle.ui_machine.specs.Definition.Programs.{Program}
 use Rattle.ui_machine.specs.Definition.Lookups as lookups
 use Rattle.ui_machine.specs.Rules.EmissionPlan.{Planned, class_handler_of, signal_of}
 use Rattle.ui_machine.specs.State.Tasks as config
@@ -22,6 +23,12 @@ use Rattle.type_tree.specs.Adding.{sort_of}
 use Rattle.g_values.specs.View.{value_view}
 use Rattle.param_specs.specs.Table.{specs_of}
 use Rattle.signal_core.specs.Sources.{signals_of}
+use Rattle.signal_core.specs.Table.{Declared, named_of}
+use Rattle.handler_code.specs.declared.program.Program as code_program
+use Rattle.handler_code.specs.View.{program_view}
+use Rattle.handler_code.specs.Known.{HasKnownBlocks}
+use Rattle.handler_code.specs.Shape.{shape_fault}
+use Rattle.builder_defs.specs.declared.object_entry.Attached.{Attached}
 use Rattle.builder_defs.specs.declared.object_entry.Given.{Given}
 use Rattle.builder_defs.specs.declared.object_entry.Given.TheVariants as givens
 use Rattle.builder_defs.specs.declared.object_entry.GivenValue.{GivenValue}
@@ -29,9 +36,13 @@ use Rattle.builder_defs.specs.declared.object_entry.ObjectBody.{ObjectBody}
 use Rattle.builder_defs.specs.declared.event.Event.{Event}
 use Rattle.builder_defs.specs.declared.event.Event.TheVariants as events
 
+-- a type with these properties and signals, and the programs that it names: for signals, and for its objects once they are constructed
+abbrev pub type_with : List Spec → List Signal → List ClassHandler → Option ℕ → definition.Class
+type_with specs signals handlers constructed = record { specs = specs; signals = signals; handlers = handlers; constructed = constructed; shape = None }
+
 -- a type with these properties and signals, and nothing else
 abbrev pub class_with : List Spec → List Signal → definition.Class
-class_with specs signals = record { specs = specs; signals = signals; handlers = []; constructed = None; shape = None }
+class_with specs signals = type_with specs signals [] None
 
 -- a value itself, or the object of a place
 abbrev pub given_view : Given → machine.Given
@@ -42,13 +53,25 @@ given_view (givens.Object place) = machine.named place.0
 abbrev pub given_property : GivenValue → machine.GivenProperty
 given_property g = record { slot = g.slot; given = given_view g.given }
 
--- an object without peer and signals, the child of the object at a place, if it is a child
-abbrev pub plain_place : List ℕ → ℕ → Option ℕ → List machine.GivenProperty → machine.Place
-plain_place id class parent given = record { id = id; class = class; is_prototype = false; parent = parent; given = given; peers = []; signals = [] }
+-- an object without peer, the child of the object at a place, if it is a child
+abbrev pub plain_place : List ℕ → ℕ → Option ℕ → List machine.GivenProperty → List machine.Attached → machine.Place
+plain_place id class parent given signals =
+    record { id = id; class = class; is_prototype = false; parent = parent; given = given; peers = []; signals = signals }
 
 -- the number of a place, if there is one
 abbrev pub place_number : Option Place → Option ℕ
 place_number place = option_map (λ (p : Place). p.0) place
+
+-- a signal of an object, with the program that it runs
+abbrev pub attached_view : Attached → machine.Attached
+attached_view a = record {
+  signal = string_bytes a.signal;
+  detail = option_map (λ text. string_bytes text) a.detail;
+  program = a.program;
+  after = a.after;
+  swapped = a.swapped;
+  with = place_number a.with;
+}
 
 -- the id of an object, and what it has under it
 abbrev pub Entry : Type 0
@@ -56,23 +79,57 @@ Entry = String Global × ObjectBody
 
 -- the object of an entry
 abbrev pub plain_object : Entry → machine.Place
-plain_object entry = plain_place (string_bytes entry.0) entry.1.class (place_number entry.1.parent) (map given_property entry.1.given.items)
+plain_object entry =
+    plain_place (string_bytes entry.0) entry.1.class (place_number entry.1.parent) (map given_property entry.1.given.items) (map attached_view entry.1.signals.items)
+
+-- a program, and the name under which it is found
+abbrev pub NamedProgram : Type 0
+NamedProgram = String Global × code_program.Program
+
+-- the program of an entry
+abbrev pub plain_program : NamedProgram → Program
+plain_program entry = program_view entry.1
 
 -- what a definition has that sets no limits: 64 objects live at a time, and programs connect no handlers
 abbrev pub default_limits : Limits
 default_limits = record { objects = 64; handlers = 0 }
 
--- the definition of these types, specs, signals and objects, with these limits
-abbrev pub meaning : List GType → List (List Spec) → List (List Signal) → List Entry → Limits → definition.Definition
-meaning types specs signals objects limits = record {
+-- what a definition is made of
+pub record Parts : Type 0 where
+  pub types : List GType
+  pub specs : List (List Spec)
+  pub declared : Declared
+  pub constructed : List (Option ℕ)  -- the program that a class names itself, by class
+  pub programs : List NamedProgram
+  pub objects : List Entry
+  pub limits : Limits
+
+abbrev pub parts : List GType → List (List Spec) → Declared → List (Option ℕ) → List NamedProgram → List Entry → Limits → Parts
+parts types specs declared constructed programs objects limits = record {
   types = types;
-  classes = listed (λ t. class_with (specs_of types specs t) (signals_of types signals t)) (length types);
+  specs = specs;
+  declared = declared;
+  constructed = constructed;
+  programs = programs;
+  objects = objects;
+  limits = limits;
+}
+
+-- what it has of a type
+abbrev pub class_in : Parts → ℕ → definition.Class
+class_in p t = type_with (specs_of p.types p.specs t) (signals_of p.types p.declared.signals t) (named_of p.declared.handlers t) (read None p.constructed t)
+
+-- the definition of these parts
+abbrev pub meaning : Parts → definition.Definition
+meaning p = record {
+  types = p.types;
+  classes = listed (class_in p) (length p.types);
   shapes = [];
-  programs = [];
-  places = map plain_object objects;
+  programs = map plain_program p.programs;
+  places = map plain_object p.objects;
   bindings = [];
-  most_objects = limits.objects;
-  most_handlers = limits.handlers;
+  most_objects = p.limits.objects;
+  most_handlers = p.limits.handlers;
 }
 
 -- A property of a kind that there is, among these types: a truth value, a number of a range within its kind, a text, a value of an enum or
@@ -118,13 +175,30 @@ pub record AreLimits (limits : Limits) : Type 0 where
   pub most_objects : limits.objects ≤ 4096
   pub most_handlers : limits.handlers ≤ 16
 
--- what is so of every definition
-pub record IsSound (types : List GType) (specs : List (List Spec)) (signals : List (List Signal)) (objects : List Entry) (limits : Limits) : Type 0 where
-  pub plain : ArePlain types specs
-  pub kinds : HaveKnownKinds types signals
-  pub declared : AreLimits limits
-  pub few : length objects ≤ limits.objects
-  pub places : length objects ≤ 512
+-- a program stands under its own name
+abbrev pub HasOwnName : NamedProgram → Type 0
+HasOwnName entry = string_bytes entry.0 ≡ string_bytes entry.1.name
+
+-- the kinds in its code are known, its blocks fit together, and it is not too long
+pub record IsSoundProgram (types : List GType) (entry : NamedProgram) : Type 0 where
+  pub known : HasKnownBlocks types entry.1
+  pub shaped : shape_fault (program_view entry.1) ≡ None
+
+-- What is so of every definition. It has no programs so far, and names none.
+pub record IsSound (p : Parts) : Type 0 where
+  pub plain : ArePlain p.types p.specs
+  pub kinds : HaveKnownKinds p.types p.declared.signals
+  pub limited : AreLimits p.limits
+  pub few : length p.objects ≤ p.limits.objects
+  pub places : length p.objects ≤ 512
+  pub named : AllByRecursion HasOwnName p.programs
+  pub programs : AllByRecursion (IsSoundProgram p.types) p.programs
+  pub few_programs : length p.programs ≤ 256
+  pub handlers : (t : ℕ) → length p.types ≤ t → named_of p.declared.handlers t ≡ []
+  pub no_programs : p.programs ≡ []
+  pub no_handlers : p.declared.handlers ≡ []
+  pub no_constructed : p.constructed ≡ []
+  pub no_signals : AllByRecursion (λ (place : machine.Place). place.signals ≡ []) (map plain_object p.objects)
 
 abbrev pub class_of_place : Option machine.Place → ℕ
 class_of_place None = 0
@@ -145,6 +219,9 @@ pub record IsBasic (d : definition.Definition) : Type 0 where
   pub signals : (p : ℕ) (place : machine.Place) → slice_get d.places p ≡ Some place → place.signals ≡ []
   pub bindings : d.bindings ≡ []
   pub programs : d.programs ≡ []
+  pub few_programs : length d.programs ≤ 256
+  pub shaped : (number : ℕ) (p : Program) → lookups.program_at d number ≡ Some p → shape_fault p ≡ None
+  pub few_registers : (number : ℕ) (p : Program) → lookups.program_at d number ≡ Some p → p.registers ≤ 32
   pub first_signal : (t : ℕ) → t < length d.types → signal_of d t 0 ≡ Some notify
   pub signal_kinds : (t number : ℕ) (s : Signal) → signal_of d t number ≡ Some s → HasKnownKinds d.types s
   pub unknown_signals : (t : ℕ) → length d.types ≤ t → (lookups.class_of d t).signals ≡ []

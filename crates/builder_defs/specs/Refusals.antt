@@ -1,6 +1,7 @@
 -- Why bytes denote no definition.
 use Rattle.std.specs.Prelude.{◌≡◌, ℕ, List, Option, None, Some, Result, Ok, Err, string_bytes}
 use Rattle.g_values.specs.declared.error.JsonFault.{JsonFault}
+use Rattle.handler_code.specs.declared.fault.ProgramFault.{ProgramFault}
 use Rattle.param_specs.specs.declared.error.SpecFault.{SpecFault}
 use Rattle.signal_core.specs.declared.fault.SignalFault.{SignalFault}
 use Rattle.builder_defs.specs.Causes.{Cause, cause_view, PropertyCause, install, declare, property_cause}
@@ -19,6 +20,7 @@ pub data Refusal : Type 0 where
   duplicate : (path : List ℕ) → Refusal
   bad_type : (path : List ℕ) (cause : Cause) → Refusal
   bad_spec : (path : List ℕ) (cause : PropertyCause) → Refusal
+  bad_program : (path : List ℕ) (cause : ProgramFault) → Refusal
   value_fault : (path : List ℕ) (cause : JsonFault) → Refusal
   forward_construct_only : (path : List ℕ) → Refusal
   limit : DefinitionLimit → Refusal
@@ -41,6 +43,7 @@ refusal (faults.Unknown path name) = unknown (string_bytes path) (string_bytes n
 refusal (faults.Duplicate path) = duplicate (string_bytes path)
 refusal (faults.BadType path cause) = bad_type (string_bytes path) (cause_view cause)
 refusal (faults.BadSpec path cause) = bad_spec (string_bytes path) (property_cause cause)
+refusal (faults.BadProgram path cause) = bad_program (string_bytes path) cause
 refusal (faults.ValueFault path cause) = value_fault (string_bytes path) cause
 refusal (faults.ForwardConstructOnly path) = forward_construct_only (string_bytes path)
 refusal (faults.Limit l) = limit l

@@ -178,7 +178,8 @@ fn read_class(
     specs: &mut SpecTable,
     signals: &mut SignalTable,
 ) -> Result<(), ReadError>
-    ensures { Leads result (class_at (path_of part.entry.path) first (items_view list.now) names.now (draft_of types.old specs.old signals.old.signals) (view part.entry.value.now)) (draft_of types.new specs.new signals.new.signals) }
+    ensures draft { Leads result (class_at (path_of part.entry.path) first (items_view list.now) names.now (draft_of types.old specs.old signals.old.signals) (view part.entry.value.now)) (draft_of types.new specs.new signals.new.signals) }
+    ensures handlers { signals.new.handlers ≡ signals.old.handlers }
 {
     let members = part.members()?;
     let class = declare(part, first, list, names, types, specs, signals)?;
@@ -197,6 +198,8 @@ struct ClassEntries<'a> {
 }
 
 impl<'a> Reads<Draft> for ClassEntries<'a> {
+    ghost use Rattle.std.specs.Prelude.{List};
+    ghost use Rattle.ui_machine.specs.Definition.Signals as machine;
     ghost use Rattle.serde_json.specs.View.{items_view};
     ghost use Rattle.builder_defs.specs.Denoted.Classes as denoted;
     ghost use Rattle.builder_defs.specs.Denoted.Drafts as drafts;
@@ -204,6 +207,10 @@ impl<'a> Reads<Draft> for ClassEntries<'a> {
     ghost State = { drafts.Draft };
 
     ghost seen = { λ draft. drafts.draft_of draft.types draft.specs draft.signals.signals };
+
+    ghost Unchanged = { List (List machine.ClassHandler) };
+
+    ghost kept = { λ draft. draft.signals.handlers };
 
     ghost known = { λ r. Unit {0} };
 
@@ -228,7 +235,8 @@ pub(crate) fn read_classes(
     names: &TypeNames<'_>,
     draft: &mut Draft,
 ) -> Result<(), ReadError>
-    ensures { Leads result (each (at_entry (λ path. class_at path (length draft.old.types) (items_view list.entry.items.now) names.now) list.entry.path.now) 0 (draft_of draft.old.types draft.old.specs draft.old.signals.signals) (items_view list.entry.items.now)) (draft_of draft.new.types draft.new.specs draft.new.signals.signals) }
+    ensures draft { Leads result (each (at_entry (λ path. class_at path (length draft.old.types) (items_view list.entry.items.now) names.now) list.entry.path.now) 0 (draft_of draft.old.types draft.old.specs draft.old.signals.signals) (items_view list.entry.items.now)) (draft_of draft.new.types draft.new.specs draft.new.signals.signals) }
+    ensures handlers { draft.new.signals.handlers ≡ draft.old.signals.handlers }
 {
     let reader = ClassEntries {
         first: draft.types.len(),

@@ -1,18 +1,23 @@
 //! What a definition says.
 
-ghost use Rattle.std.specs.Prelude.{◌≡◌, ◌<◌, ◌≤◌, ℕ, length, option_map, slice_get, string_bytes, IfSome, map};
+ghost use Rattle.std.specs.Prelude.{◌≡◌, ◌<◌, ◌≤◌, None, ℕ, length, option_map, slice_get, string_bytes, IfSome, map};
 ghost use Rattle.ui_machine.specs.Definition.Names.{place_named};
-ghost use Rattle.ui_machine.specs.Definition.Lookups.{place_of, spec_of, specs_of, slot_of, type_of};
+ghost use Rattle.ui_machine.specs.Definition.Lookups.{class_of, place_of, program_at, program_of, spec_of, specs_of, slot_of, type_of};
+ghost use Rattle.ui_machine.specs.Seq.{read};
 ghost use Rattle.ui_machine.specs.Rules.Connections.{signal_number};
 ghost use Rattle.ui_machine.specs.Rules.EmissionPlan.{signal_of};
+ghost use Rattle.handler_code.specs.Known.{HasKnownBlocks};
+ghost use Rattle.handler_code.specs.View.{program_view};
 ghost use Rattle.param_specs.specs.View.{spec_view};
 ghost use Rattle.signal_core.specs.Emission.{begun};
 ghost use Rattle.signal_core.specs.Laws.{walk_for};
 ghost use Rattle.signal_core.specs.SignalView.{declared_view};
-ghost use Rattle.builder_defs.specs.Meaning.{AreLimits, IsBasic, plain_place, place_number, class_at, plain_object, planned, given_property};
+ghost use Rattle.builder_defs.specs.Meaning.{AreLimits, IsBasic, attached_view, plain_place, place_number, class_at, plain_object, planned, given_property};
 
 use crate::object_entry::{ObjectBody, ObjectEntry};
+use crate::programs::number_of;
 use crate::types::type_name;
+use handler_code::Program;
 use indexmap::IndexMap;
 use param_specs::{Spec, SpecTable};
 use signal_core::{DeclaredSignal, Emission, SignalTable};
@@ -23,12 +28,16 @@ use ui_machine::{Limits, ObjectId, Place};
 /// The most places of a definition.
 pub const MOST_PLACES: usize = 512;
 
-/// A definition: its types with their properties and signals, its objects in document order, and its limits. It is seen as the machine's.
+/// A definition: its types with their properties and signals, and the programs that classes name; its programs and its objects in document
+/// order; and its limits. It is seen as the machine's.
 #[derive(Drop)]
 pub struct Definition {
     pub(crate) types: TypeTree,
     pub(crate) specs: SpecTable,
     pub(crate) signals: SignalTable,
+    // The programs that classes name for their objects once they are constructed, by class.
+    pub(crate) constructed: Vec<Option<u16>>,
+    pub(crate) programs: IndexMap<String, Program>,
     pub(crate) objects: IndexMap<String, ObjectBody>,
     pub(crate) limits: Limits,
 }
@@ -38,11 +47,11 @@ impl Model for Definition {
 
     ghost Value = { machine.Definition };
 
-    ghost use Rattle.builder_defs.specs.Meaning.{meaning, IsSound};
+    ghost use Rattle.builder_defs.specs.Meaning.{meaning, IsSound, parts};
 
-    ghost view = { λ d. meaning d.types d.specs d.signals.signals d.objects.entries d.limits };
+    ghost view = { λ d. meaning (parts d.types d.specs d.signals d.constructed.items d.programs.entries d.objects.entries d.limits) };
 
-    ghost invariant = { λ d. IsSound d.types d.specs d.signals.signals d.objects.entries d.limits };
+    ghost invariant = { λ d. IsSound (parts d.types d.specs d.signals d.constructed.items d.programs.entries d.objects.entries d.limits) };
 }
 
 impl Definition {
@@ -73,7 +82,7 @@ impl Definition {
 
     /// The object at a place, if there is one.
     pub fn object(&self, place: usize) -> Option<ObjectEntry<'_>>
-        ensures { option_map (λ o. plain_place o.id.now o.class (place_number o.parent) (map given_property o.given.now)) result ≡ slice_get self.now.places place }
+        ensures { option_map (λ o. plain_place o.id.now o.class (place_number o.parent) (map given_property o.given.now) (map attached_view o.signals.now)) result ≡ slice_get self.now.places place }
     {
         let (id, body) = self.objects.get_index(place)?;
         Some(ObjectEntry {
@@ -81,6 +90,7 @@ impl Definition {
             class: body.class,
             parent: body.parent,
             given: body.given.as_slice(),
+            signals: body.signals.as_slice(),
         })
     }
 
@@ -155,7 +165,7 @@ impl Definition {
     }
 
     /// What an emission by an object begins with: of the signal of its class of a number, with a detail. `None` where the class has no signal of
-    /// the number. No class names a program for a signal so far.
+    /// the number.
     pub fn emission(
         &self,
         class: TypeId,
@@ -168,19 +178,38 @@ impl Definition {
             (planned self.now class object.0 number (option_map (λ text. string_bytes text) detail) s))
             (signal_of self.now class number) }
     {
-        // For the proof: what is known of a definition's classes.
-        let _types = self.types();
-        match self.signal(class, number) {
-            Some(signal) => Some(Emission {
-                object,
-                signal: number,
-                detail,
-                flags: signal.flags,
-                accumulator: signal.accumulator,
-                class_program: None,
-            }),
-            None => None,
+        if class.index() >= self.types.len() {
+            return None;
         }
+        self.signals
+            .emission(&self.types, class, object, number, detail)
+    }
+
+    /// The program that a class itself names for its objects once they are constructed.
+    pub fn constructed(&self, class: TypeId) -> Option<u16>
+        ensures { result ≡ (class_of self.now class).constructed }
+    {
+        if class.index() >= self.types.len() {
+            return None;
+        }
+        number_at(self.constructed.as_slice(), class.index())
+    }
+
+    /// The program of a number, if there is one. The kinds in its code are known, and it has at most 32 registers.
+    pub fn program(&self, number: u16) -> Option<&Program>
+        ensures program { option_map (λ p. program_view p.now) result ≡ program_at self.now number }
+        ensures known { IfSome result (λ p. HasKnownBlocks self.now.types p.now) }
+        ensures few { IfSome result (λ p. p.now.registers ≤ 32) }
+    {
+        let (_, program) = self.programs.get_index(usize::from(number))?;
+        Some(program)
+    }
+
+    /// The number of the program of a name.
+    pub fn program_number(&self, name: &str) -> Option<u16>
+        ensures { result ≡ program_of self.now name.now }
+    {
+        number_of(&self.programs, name)
     }
 
     /// The name of a class, and nothing where there is none.
@@ -197,4 +226,15 @@ pub(crate) fn position_of(objects: &IndexMap<String, ObjectBody>, id: &str) -> O
     ensures within { IfSome result (λ i. i < length objects.now.entries) }
 {
     objects.get_index_of(id)
+}
+
+// The number that stands at a place, if one stands there.
+fn number_at(numbers: &[Option<u16>], place: usize) -> Option<u16>
+    ensures { result ≡ read None numbers.now place }
+{
+    if place < numbers.len() {
+        numbers[place]
+    } else {
+        None
+    }
 }

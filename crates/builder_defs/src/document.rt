@@ -310,7 +310,7 @@ fn push_escaped(out: &mut String, c: char) -> Result<(), AllocError>
 }
 
 // A key as a path writes it: `~0` for `~`, and `~1` for `/`.
-fn escaped(alloc: Global, key: &str) -> Result<String, AllocError>
+pub(crate) fn escaped(alloc: Global, key: &str) -> Result<String, AllocError>
     ensures { IfOk result (λ s. string_bytes s ≡ escaped key.now) }
 {
     let mut out = String::new(alloc);

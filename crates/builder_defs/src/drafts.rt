@@ -58,7 +58,8 @@ fn give_signals(
     t: TypeId,
 ) -> Result<(), ReadError>
     requires { t < length types.now }
-    ensures { Leads result (signals_at (path_of part.entry.path) types.now names.now t (declared.own_of signals.old.signals) (view part.entry.value.now)) (declared.own_of signals.new.signals) }
+    ensures signals { Leads result (signals_at (path_of part.entry.path) types.now names.now t (declared.own_of signals.old.signals) (view part.entry.value.now)) (declared.own_of signals.new.signals) }
+    ensures handlers { signals.new.handlers ≡ signals.old.handlers }
 {
     let items = part.entries("signals")?;
     let path = path_under(part.alloc, part.path, "signals")?;
@@ -71,7 +72,7 @@ fn give_signals(
     Ok(())
 }
 
-// Gives a type the properties of its entry. A list of signals is still refused, unless it is empty.
+// Gives a type the properties and signals of its entry.
 #[tactic(auto, unfolding(crate::specs::Denoted::Drafts::given_at))]
 pub(crate) fn give_members(
     part: Part<'_>,
@@ -82,10 +83,10 @@ pub(crate) fn give_members(
     t: TypeId,
 ) -> Result<(), ReadError>
     requires { t < length types.now }
-    ensures { Leads result (given_at (path_of part.entry.path) types.now names.now t (own_of specs.old) (declared.own_of signals.old.signals) (view part.entry.value.now)) (draft_of types.now specs.new signals.new.signals) }
+    ensures given { Leads result (given_at (path_of part.entry.path) types.now names.now t (own_of specs.old) (declared.own_of signals.old.signals) (view part.entry.value.now)) (draft_of types.now specs.new signals.new.signals) }
+    ensures handlers { signals.new.handlers ≡ signals.old.handlers }
 {
     give_properties(part, types, names, specs, t)?;
-    part.check_nothing(&["signals"])?;
     give_signals(part, types, names, signals, t)?;
     Ok(())
 }

@@ -29,7 +29,7 @@ fn entry<'a>(entries: &[&'a Value], number: usize) -> Option<&'a Value>
 }
 
 // The entries of a list that a member is; none, where it is no list.
-fn section<'a>(value: &'a Value, key: &str) -> &'a [Value]
+pub(crate) fn section<'a>(value: &'a Value, key: &str) -> &'a [Value]
     ensures { items_view result.now ≡ section key.now (view value.now) }
 {
     match value.get(key).and_then(Value::as_array) {
@@ -92,7 +92,7 @@ fn numbers_in(
 }
 
 // Adds the objects of a list in document order: behind each its children. Lists nest so many levels deep.
-fn add_objects<'a>(
+pub(crate) fn add_objects<'a>(
     items: &'a [Value],
     levels: usize,
     objects: &mut Vec<&'a Value>,

@@ -156,6 +156,10 @@ impl Reads<Vec<EnumMember>> for EnumMembers {
 
     ghost seen = { λ members. map enum_member members.items };
 
+    ghost Unchanged = { Unit {0} };
+
+    ghost kept = { λ members. tt };
+
     ghost known = { λ r. Unit {0} };
 
     ghost step = { λ r path members d. enum_member_at path members d };
@@ -196,6 +200,10 @@ impl Reads<Vec<FlagsMember>> for FlagsMembers {
     ghost State = { List Member };
 
     ghost seen = { λ members. map flags_member members.items };
+
+    ghost Unchanged = { Unit {0} };
+
+    ghost kept = { λ members. tt };
 
     ghost known = { λ r. Unit {0} };
 
@@ -306,6 +314,10 @@ impl Reads<TypeTree> for EnumEntries {
 
     ghost seen = { λ types. types };
 
+    ghost Unchanged = { Unit {0} };
+
+    ghost kept = { λ types. tt };
+
     ghost known = { λ r. Unit {0} };
 
     ghost step = { λ r path types d. enum_at path r.first types d };
@@ -329,6 +341,10 @@ impl Reads<TypeTree> for FlagsEntries {
     ghost State = { List GType };
 
     ghost seen = { λ types. types };
+
+    ghost Unchanged = { Unit {0} };
+
+    ghost kept = { λ types. tt };
 
     ghost known = { λ r. Unit {0} };
 

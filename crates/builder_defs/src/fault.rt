@@ -4,6 +4,7 @@ ghost use Rattle.std.specs.Prelude.{◌≡◌};
 ghost use Rattle.builder_defs.specs.declared.fault.ReadError.TheVariants.{OutOfMemory};
 
 use g_values::JsonFault;
+use handler_code::ProgramFault;
 use param_specs::SpecFault;
 use signal_core::SignalFault;
 use std::alloc::{AllocError, AllocFailed};
@@ -20,6 +21,8 @@ pub enum DefinitionLimit {
     Properties,
     /// More than 64 signals of one class and its ancestors, `notify` and those of interfaces not counted, or of one interface.
     Signals,
+    /// More than 256 programs.
+    Programs,
     /// More than 512 places: objects and prototypes.
     Places,
     /// More objects than the definition allows to live at a time, or a limit of them that is not 1 to 4,096.
@@ -83,6 +86,8 @@ pub enum DefinitionFault {
     BadType(String, TypeCause),
     /// A property is not installed or given no value, the class does not have it as its interface has it, or a signal is not declared.
     BadSpec(String, SpecCause),
+    /// At the path stands no program.
+    BadProgram(String, ProgramFault),
     /// At the path stands no value of the kind.
     ValueFault(String, JsonFault),
     /// An object is given to a property that constructions alone set, before it is built.

@@ -3,10 +3,11 @@
 ghost use Rattle.std.specs.Prelude.{◌≡◌, ◌<◌, ◌++◌, IfOk, OnOk, string_bytes};
 ghost use Rattle.builder_defs.specs.Causes.{cause_view, property_cause};
 ghost use Rattle.builder_defs.specs.Refusals.{refusal};
-ghost use Rattle.builder_defs.specs.FaultText.{hex_digit, printed_byte, printed, type_limit_name, type_cause_text, spec_fault_text, signal_fault_text, spec_cause_text, value_cause_text, limit_name, refusal_text};
+ghost use Rattle.builder_defs.specs.FaultText.{hex_digit, printed_byte, printed, type_limit_name, type_cause_text, spec_fault_text, signal_fault_text, spec_cause_text, program_limit_name, program_cause_text, value_cause_text, limit_name, refusal_text};
 
 use crate::fault::{DefinitionFault, DefinitionLimit, SpecCause, TypeCause};
 use g_values::JsonFault;
+use handler_code::{ProgramFault, ProgramLimit};
 use param_specs::SpecFault;
 use signal_core::SignalFault;
 use std::alloc::{AllocError, Global};
@@ -45,6 +46,11 @@ impl DefinitionFault {
                 let cause = spec_cause_text(alloc, cause)?;
                 format!(in alloc; "BadSpec {path} {cause}")
             }
+            DefinitionFault::BadProgram(path, cause) => {
+                let path = printed(alloc, path.as_str())?;
+                let cause = program_cause_text(alloc, *cause)?;
+                format!(in alloc; "BadProgram {path} {cause}")
+            }
             DefinitionFault::ValueFault(path, cause) => {
                 let path = printed(alloc, path.as_str())?;
                 let cause = value_cause_text(*cause);
@@ -71,6 +77,7 @@ fn limit_name(limit: DefinitionLimit) -> &'static str
         DefinitionLimit::Depth => "depth",
         DefinitionLimit::Properties => "properties",
         DefinitionLimit::Signals => "signals",
+        DefinitionLimit::Programs => "programs",
         DefinitionLimit::Places => "places",
         DefinitionLimit::Objects => "objects",
         DefinitionLimit::Handlers => "handlers",
@@ -149,6 +156,41 @@ fn spec_cause_text(alloc: Global, cause: &SpecCause) -> Result<String, AllocErro
         SpecCause::OverrideDiffers(property) => {
             let name = printed(alloc, property.as_str())?;
             format!(in alloc; "OverrideDiffers {name}")
+        }
+    }
+}
+
+// What a program has too much of.
+fn program_limit_name(limit: ProgramLimit) -> &'static str
+    ensures { result.now ≡ program_limit_name limit }
+{
+    match limit {
+        ProgramLimit::Registers => "registers",
+        ProgramLimit::Blocks => "blocks",
+        ProgramLimit::Instructions => "instructions",
+    }
+}
+
+// Why JSON stands for no program: the name of the cause, and the numbers of the block and of the instruction.
+fn program_cause_text(alloc: Global, cause: ProgramFault) -> Result<String, AllocError>
+    ensures { IfOk result (λ text. string_bytes text ≡ program_cause_text cause) }
+{
+    match cause {
+        ProgramFault::BadInstruction(block, at) => {
+            let block = block.0;
+            format!(in alloc; "BadInstruction {block} {at}")
+        }
+        ProgramFault::BackwardJump(block) => {
+            let block = block.0;
+            format!(in alloc; "BackwardJump {block}")
+        }
+        ProgramFault::NoReturn(block) => {
+            let block = block.0;
+            format!(in alloc; "NoReturn {block}")
+        }
+        ProgramFault::Limit(limit) => {
+            let name = program_limit_name(limit);
+            format!(in alloc; "Limit {name}")
         }
     }
 }

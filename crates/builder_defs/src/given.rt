@@ -324,6 +324,10 @@ impl<'a> Reads<Vec<GivenValue>> for GivenEntries<'a> {
 
     ghost seen = { λ given. map given_property given.items };
 
+    ghost Unchanged = { Unit {0} };
+
+    ghost kept = { λ given. tt };
+
     ghost known = { λ r. ArePlain r.types.now r.specs.now };
 
     ghost step = { λ r path given d. given_at path r.types.now r.objects.now r.place (specs_of r.types.now r.specs.now r.class) given d };

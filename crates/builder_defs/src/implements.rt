@@ -78,6 +78,10 @@ impl<'a> Reads<Vec<TypeId>> for NamedEntries<'a> {
 
     ghost seen = { λ named. named.items };
 
+    ghost Unchanged = { Unit {0} };
+
+    ghost kept = { λ named. tt };
+
     ghost known = { λ r. Unit {0} };
 
     ghost step = { λ r path named d. named_at path r.types.now named d };
@@ -225,6 +229,10 @@ impl<'a> Reads<Vec<TypeId>> for Heir<'a> {
     ghost State = { List ℕ };
 
     ghost seen = { λ implemented. implemented.items };
+
+    ghost Unchanged = { Unit {0} };
+
+    ghost kept = { λ implemented. tt };
 
     ghost known = { λ r. Unit {0} };
 

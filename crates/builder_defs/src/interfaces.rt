@@ -81,6 +81,10 @@ impl<'a> Reads<Vec<TypeId>> for RequiredEntries<'a> {
 
     ghost seen = { λ required. required.items };
 
+    ghost Unchanged = { Unit {0} };
+
+    ghost kept = { λ required. tt };
+
     ghost known = { λ r. Unit {0} };
 
     ghost step = { λ r path required d. required_at path (items_view r.sections.interfaces.now) (items_view r.sections.classes.now) r.types.now required d };
@@ -146,7 +150,8 @@ fn read_interface(
     specs: &mut SpecTable,
     signals: &mut SignalTable,
 ) -> Result<(), ReadError>
-    ensures { Leads result (interface_at (path_of part.entry.path) first (items_view sections.entry.interfaces.now) (items_view sections.entry.classes.now) names.now (draft_of types.old specs.old signals.old.signals) (view part.entry.value.now)) (draft_of types.new specs.new signals.new.signals) }
+    ensures draft { Leads result (interface_at (path_of part.entry.path) first (items_view sections.entry.interfaces.now) (items_view sections.entry.classes.now) names.now (draft_of types.old specs.old signals.old.signals) (view part.entry.value.now)) (draft_of types.new specs.new signals.new.signals) }
+    ensures handlers { signals.new.handlers ≡ signals.old.handlers }
 {
     let members = part.members()?;
     let interface = declare(part, first, sections, types)?;
@@ -164,6 +169,8 @@ struct InterfaceEntries<'a> {
 }
 
 impl<'a> Reads<Draft> for InterfaceEntries<'a> {
+    ghost use Rattle.std.specs.Prelude.{List};
+    ghost use Rattle.ui_machine.specs.Definition.Signals as machine;
     ghost use Rattle.serde_json.specs.View.{items_view};
     ghost use Rattle.builder_defs.specs.Denoted.Interfaces.{interface_at};
     ghost use Rattle.builder_defs.specs.Denoted.Drafts as drafts;
@@ -171,6 +178,10 @@ impl<'a> Reads<Draft> for InterfaceEntries<'a> {
     ghost State = { drafts.Draft };
 
     ghost seen = { λ draft. drafts.draft_of draft.types draft.specs draft.signals.signals };
+
+    ghost Unchanged = { List (List machine.ClassHandler) };
+
+    ghost kept = { λ draft. draft.signals.handlers };
 
     ghost known = { λ r. Unit {0} };
 
@@ -196,7 +207,8 @@ pub(crate) fn read_interfaces(
     names: &TypeNames<'_>,
     draft: &mut Draft,
 ) -> Result<(), ReadError>
-    ensures { Leads result (each (at_entry (λ path. interface_at path (length draft.old.types) (items_view list.entry.items.now) (items_view classes.now) names.now) list.entry.path.now) 0 (draft_of draft.old.types draft.old.specs draft.old.signals.signals) (items_view list.entry.items.now)) (draft_of draft.new.types draft.new.specs draft.new.signals.signals) }
+    ensures draft { Leads result (each (at_entry (λ path. interface_at path (length draft.old.types) (items_view list.entry.items.now) (items_view classes.now) names.now) list.entry.path.now) 0 (draft_of draft.old.types draft.old.specs draft.old.signals.signals) (items_view list.entry.items.now)) (draft_of draft.new.types draft.new.specs draft.new.signals.signals) }
+    ensures handlers { draft.new.signals.handlers ≡ draft.old.signals.handlers }
 {
     let sections = Sections {
         interfaces: list.items,

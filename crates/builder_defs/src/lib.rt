@@ -3,6 +3,7 @@
 //! A definition is what the JSON text of an interface's description says; an event is a line that is told to a running one.
 #![tactic(auto)]
 
+mod attached;
 mod classes;
 mod defaults;
 mod definition;
@@ -27,6 +28,8 @@ mod object_entry;
 mod objects;
 mod overrides;
 mod own_signals;
+mod places;
+mod programs;
 mod properties;
 mod property_flags;
 mod ranges;
@@ -42,5 +45,5 @@ pub use event::Event;
 pub use event_fault::{EventError, EventFault};
 pub use event_reading::{MAX_LINE_BYTES, read_event};
 pub use fault::{DefinitionFault, DefinitionLimit, ReadError, SpecCause, TypeCause};
-pub use object_entry::{Given, GivenValue, ObjectEntry};
+pub use object_entry::{Attached, Given, GivenValue, ObjectEntry};
 pub use reading::read_definition;

@@ -1,4 +1,4 @@
-//! An object of a definition, and what is given to it.
+//! An object of a definition, what is given to it, and the programs that it runs for signals.
 
 use g_values::Value;
 use type_tree::TypeId;
@@ -20,15 +20,34 @@ pub struct GivenValue {
     pub given: Given,
 }
 
-// What an object has under its id: its class, its parent, if it is a child, and the given values in the given order.
+/// A signal of an object, with the program that it runs.
+#[derive(Debug, Drop)]
+pub struct Attached {
+    /// The signal, by its name.
+    pub signal: String,
+    /// The detail for which it runs. Without one it runs for all.
+    pub detail: Option<String>,
+    /// The program, by its number.
+    pub program: u16,
+    /// Whether it runs behind the class handler.
+    pub after: bool,
+    /// Whether the data comes first among what the program is given, and the object last.
+    pub swapped: bool,
+    /// The object that is the data, by its place.
+    pub with: Option<Place>,
+}
+
+// What an object has under its id: its class, its parent, if it is a child, the given values in the given order, and its signals.
 #[derive(Drop)]
 pub(crate) struct ObjectBody {
     pub(crate) class: TypeId,
     pub(crate) parent: Option<Place>,
     pub(crate) given: Vec<GivenValue>,
+    pub(crate) signals: Vec<Attached>,
 }
 
-/// An object of a definition: its id, its class, its parent, if it is a child, and the given values in the given order.
+/// An object of a definition: its id, its class, its parent, if it is a child, the given values in the given order, and its signals in
+/// document order.
 #[derive(Clone, Copy)]
 pub struct ObjectEntry<'a> {
     pub id: &'a str,
@@ -36,4 +55,5 @@ pub struct ObjectEntry<'a> {
     /// The place of the object whose child it is.
     pub parent: Option<Place>,
     pub given: &'a [GivenValue],
+    pub signals: &'a [Attached],
 }

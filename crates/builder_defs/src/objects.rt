@@ -3,16 +3,18 @@
 ghost use Rattle.std.specs.Prelude.{◌≡◌, ◌<◌, ◌≤◌, [], codes, map, length, is_some, string_bytes, None, IfOk};
 ghost use Rattle.serde_json.specs.View.{view, items_view};
 ghost use Rattle.ui_machine.specs.Definition.Names.{place_named};
-ghost use Rattle.builder_defs.specs.Meaning.{ArePlain, plain_object, place_number};
+ghost use Rattle.std.specs.List.{AllByRecursion};
+ghost use Rattle.builder_defs.specs.Meaning.{ArePlain, HasOwnName, plain_object, plain_program, place_number};
 ghost use Rattle.param_specs.specs.Table.{own_of};
 ghost use Rattle.builder_defs.specs.Refusals.{Gives, Leads};
 ghost use Rattle.builder_defs.specs.Document.{under, path_of, each, at_entry};
 ghost use Rattle.builder_defs.specs.Denoted.Objects.{room_for_object, new_id, unless_abstract, class_at_key, place_at, added_at, object_at};
 ghost use Rattle.builder_defs.specs.Denoted.{scope_with};
-ghost use Rattle.builder_defs.specs.ScopeView.{scope_of};
+ghost use Rattle.builder_defs.specs.ScopeView.{scope_of, IsReady};
 ghost use Rattle.builder_defs.specs.Denoted.Entries.{most_levels, object_names};
 ghost use Rattle.builder_defs.specs.Denoted.Properties.{specs_by};
 
+use crate::attached::read_attached;
 use crate::definition::{MOST_PLACES, position_of};
 use crate::document::{Entries, Part, Path, bad_shape, path_text, path_under, unknown_name};
 use crate::entries::ObjectNames;
@@ -20,6 +22,7 @@ use crate::fault::{DefinitionFault, DefinitionLimit, ReadError, TypeCause};
 use crate::given::read_givens;
 use crate::names::is_name;
 use crate::object_entry::ObjectBody;
+use crate::programs::Programs;
 use indexmap::IndexMap;
 use param_specs::SpecTable;
 use type_tree::{TypeId, TypeTree};
@@ -102,11 +105,12 @@ struct NewObject {
     body: ObjectBody,
 }
 
-// What is known where objects are read: the types with their properties, how many objects may live, and the names of all objects.
+// What is known where objects are read: the types with their properties, the programs, how many objects may live, and the names of all objects.
 #[derive(Clone, Copy)]
 struct Scope<'a, 'b> {
     types: &'a TypeTree,
     specs: &'a SpecTable,
+    programs: &'a Programs,
     most: usize,
     names: &'b ObjectNames<'a>,
 }
@@ -120,7 +124,7 @@ impl<'a, 'b> Scope<'a, 'b> {
         parent: Option<Place>,
         objects: &IndexMap<String, ObjectBody>,
     ) -> Result<NewObject, ReadError>
-        requires { ArePlain self.now.types.now self.now.specs.now }
+        requires { IsReady self.now }
         ensures object { Gives (λ o. plain_object (o.id, o.body)) result (place_at (path_of part.entry.path) (scope_of self.now) (place_number parent) (map plain_object objects.now.entries) (view part.entry.value.now)) }
         ensures new { IfOk result (λ o. place_named (λ p. p.id) (map plain_object objects.now.entries) (string_bytes o.id) ≡ None) }
         ensures room { IfOk result (λ o. length objects.now.entries < 512) }
@@ -139,11 +143,13 @@ impl<'a, 'b> Scope<'a, 'b> {
             class,
         )?;
         part.check_nothing(&["signals"])?;
+        let signals = read_attached(part, self.programs, self.names)?;
         let id = String::from_str(part.alloc, id)?;
         let body = ObjectBody {
             class,
             parent,
             given,
+            signals,
         };
         Ok(NewObject { id, body })
     }
@@ -155,7 +161,7 @@ impl<'a, 'b> Scope<'a, 'b> {
         parent: Option<Place>,
         objects: &mut IndexMap<String, ObjectBody>,
     ) -> Result<Place, ReadError>
-        requires { ArePlain self.now.types.now self.now.specs.now }
+        requires { IsReady self.now }
         ensures objects { Leads result (added_at (path_of part.entry.path) (scope_of self.now) (place_number parent) (map plain_object objects.old.entries) (view part.entry.value.now)) (map plain_object objects.new.entries) }
         ensures place { IfOk result (λ place. place.0 ≡ length (map plain_object objects.old.entries)) }
     {
@@ -175,7 +181,7 @@ impl<'a, 'b> Scope<'a, 'b> {
         parent: Option<Place>,
         objects: &mut IndexMap<String, ObjectBody>,
     ) -> Result<(), ReadError>
-        requires { ArePlain self.now.types.now self.now.specs.now }
+        requires { IsReady self.now }
         ensures { Leads result (object_at levels (scope_of self.now) (place_number parent) (path_of part.entry.path) (map plain_object objects.old.entries) (view part.entry.value.now)) (map plain_object objects.new.entries) }
     {
         if levels == 0 {
@@ -206,7 +212,7 @@ impl<'a, 'b> Scope<'a, 'b> {
         parent: Option<Place>,
         objects: &mut IndexMap<String, ObjectBody>,
     ) -> Result<(), ReadError>
-        requires { ArePlain self.now.types.now self.now.specs.now }
+        requires { IsReady self.now }
         ensures { Leads result (each (at_entry (object_at levels (scope_of self.now) (place_number parent)) list.entry.path.now) 0 (map plain_object objects.old.entries) (items_view list.entry.items.now)) (map plain_object objects.new.entries) }
     {
         'items: for (index, value) in list.items.iter().enumerate() {
@@ -230,7 +236,7 @@ fn read_within(
     list: Entries<'_>,
     scope: &Scope<'_, '_>,
 ) -> Result<IndexMap<String, ObjectBody>, ReadError>
-    requires { ArePlain scope.now.types.now scope.now.specs.now }
+    requires { IsReady scope.now }
     ensures { Gives (λ v. map plain_object v.entries) result (each (at_entry (object_at most_levels (scope_of scope.now) None) list.entry.path.now) 0 [] (items_view list.entry.items.now)) }
 {
     let mut objects = IndexMap::new(list.alloc);
@@ -243,16 +249,20 @@ fn read_named<'a, 'b>(
     list: Entries<'_>,
     types: &'a TypeTree,
     specs: &'a SpecTable,
+    programs: &'a Programs,
     most: usize,
     names: &'b ObjectNames<'a>,
 ) -> Result<IndexMap<String, ObjectBody>, ReadError>
     requires plain { ArePlain types.now specs.now }
+    requires named { AllByRecursion HasOwnName programs.now.entries }
+    requires few { length programs.now.entries ≤ 256 }
     requires names { names.now ≡ object_names (items_view list.items.now) }
-    ensures { Gives (λ v. map plain_object v.entries) result (each (at_entry (object_at most_levels (scope_with types.now (specs_by types.now (own_of specs.now)) most (items_view list.entry.items.now)) None) list.entry.path.now) 0 [] (items_view list.entry.items.now)) }
+    ensures { Gives (λ v. map plain_object v.entries) result (each (at_entry (object_at most_levels (scope_with types.now (specs_by types.now (own_of specs.now)) (map plain_program programs.now.entries) most (items_view list.entry.items.now)) None) list.entry.path.now) 0 [] (items_view list.entry.items.now)) }
 {
     let scope = Scope {
         types,
         specs,
+        programs,
         most,
         names,
     };
@@ -264,11 +274,14 @@ pub(crate) fn read_objects<'a>(
     list: Entries<'a>,
     types: &'a TypeTree,
     specs: &'a SpecTable,
+    programs: &'a Programs,
     most: usize,
 ) -> Result<IndexMap<String, ObjectBody>, ReadError>
-    requires { ArePlain types.now specs.now }
-    ensures { Gives (λ v. map plain_object v.entries) result (each (at_entry (object_at most_levels (scope_with types.now (specs_by types.now (own_of specs.now)) most (items_view list.entry.items.now)) None) list.entry.path.now) 0 [] (items_view list.entry.items.now)) }
+    requires plain { ArePlain types.now specs.now }
+    requires named { AllByRecursion HasOwnName programs.now.entries }
+    requires few { length programs.now.entries ≤ 256 }
+    ensures { Gives (λ v. map plain_object v.entries) result (each (at_entry (object_at most_levels (scope_with types.now (specs_by types.now (own_of specs.now)) (map plain_program programs.now.entries) most (items_view list.entry.items.now)) None) list.entry.path.now) 0 [] (items_view list.entry.items.now)) }
 {
     let names = ObjectNames::new(list.alloc, list.items)?;
-    read_named(list, types, specs, most, &names)
+    read_named(list, types, specs, programs, most, &names)
 }

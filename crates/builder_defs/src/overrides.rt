@@ -94,6 +94,10 @@ impl<'a> Reads<OwnAhead> for OwnEntries<'a> {
 
     ghost seen = { λ own. map own_view own.entries };
 
+    ghost Unchanged = { Unit {0} };
+
+    ghost kept = { λ own. tt };
+
     ghost known = { λ r. Unit {0} };
 
     ghost step = { λ r path own d. own_at path r.types.now r.names.now (own_of r.specs.now) r.parent own d };

@@ -38,6 +38,10 @@ impl Reads<OwnSignals> for OwnSignalEntries {
 
     ghost seen = { λ own. names_of own.entries };
 
+    ghost Unchanged = { Unit {0} };
+
+    ghost kept = { λ own. tt };
+
     ghost known = { λ r. Unit {0} };
 
     ghost step = { λ r path own d. own_signal_at path own d };

@@ -233,6 +233,10 @@ impl<'a> Reads<SpecTable> for PropertyEntries<'a> {
 
     ghost seen = { λ specs. own_of specs };
 
+    ghost Unchanged = { Unit {0} };
+
+    ghost kept = { λ specs. tt };
+
     ghost known = { λ r. Unit {0} };
 
     ghost step = { λ r path own d. property_at path r.types.now r.names.now r.class own d };

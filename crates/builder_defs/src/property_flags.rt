@@ -54,6 +54,10 @@ impl Reads<PropertyFlags> for FlagWords {
 
     ghost seen = { λ flags. flags.0 };
 
+    ghost Unchanged = { Unit {0} };
+
+    ghost kept = { λ flags. tt };
+
     ghost known = { λ r. Unit {0} };
 
     ghost step = { λ r path flags d. flag_at path flags d };

@@ -1,15 +1,17 @@
 //! Definitions, read from their bytes.
 
-ghost use Rattle.std.specs.Prelude.{◌≡◌, [], map, codes, option_and_then};
+ghost use Rattle.std.specs.Prelude.{◌≡◌, ◌≤◌, [], length, map, codes, option_and_then, IfOk};
 ghost use Rattle.serde_json.specs.Find.{get, as_number, as_u64};
+ghost use Rattle.std.specs.List.{AllByRecursion};
 ghost use Rattle.serde_json.specs.View.{view};
 ghost use Rattle.ui_machine.specs.Definition.Types.{predeclared};
-ghost use Rattle.builder_defs.specs.Meaning.{ArePlain, plain_object};
+ghost use Rattle.builder_defs.specs.Meaning.{ArePlain, HasOwnName, IsSoundProgram, plain_object, plain_program};
 ghost use Rattle.builder_defs.specs.Refusals.{Gives, Leads};
 ghost use Rattle.builder_defs.specs.Document.{path_of};
 ghost use Rattle.param_specs.specs.Table.{own_of};
 ghost use Rattle.builder_defs.specs.Denoted.Properties.{specs_by};
 ghost use Rattle.builder_defs.specs.Denoted.Drafts.{draft_of};
+ghost use Rattle.builder_defs.specs.Denoted.Programs.{programs_in};
 ghost use Rattle.builder_defs.specs.Denoted.{format_of, enums_in, flags_in, interfaces_in, classes_in, draft_in, objects_in, definition_in, denoted};
 
 use crate::classes::read_classes;
@@ -23,6 +25,9 @@ use crate::interfaces::read_interfaces;
 use crate::limits::limits_of;
 use crate::object_entry::ObjectBody;
 use crate::objects::read_objects;
+use crate::places::read_places;
+use crate::programs::{Programs, read_programs};
+use handler_code::Names;
 use indexmap::IndexMap;
 use param_specs::SpecTable;
 use serde_json::Value;
@@ -32,7 +37,7 @@ use type_tree::TypeTree;
 
 const UNSET_BEFORE_CLASSES: [&str; 1] = ["shapes"];
 
-const UNSET_BEFORE_OBJECTS: [&str; 2] = ["programs", "prototypes"];
+const UNSET_BEFORE_OBJECTS: [&str; 1] = ["prototypes"];
 
 const MEMBERS: [&str; 10] = [
     "format",
@@ -103,7 +108,8 @@ fn interfaces_of(part: Part<'_>, names: &TypeNames<'_>, draft: &mut Draft) -> Re
     requires root { path_of part.path ≡ [] }
     requires bare { draft.old.specs ≡ [] }
     requires undeclared { draft.old.signals.signals ≡ [] }
-    ensures { Leads result (interfaces_in names.now draft.old.types (view part.entry.value.now)) (draft_of draft.new.types draft.new.specs draft.new.signals.signals) }
+    ensures draft { Leads result (interfaces_in names.now draft.old.types (view part.entry.value.now)) (draft_of draft.new.types draft.new.specs draft.new.signals.signals) }
+    ensures handlers { draft.new.signals.handlers ≡ draft.old.signals.handlers }
 {
     let items = part.entries("interfaces")?;
     let list = Entries {
@@ -119,7 +125,8 @@ fn interfaces_of(part: Part<'_>, names: &TypeNames<'_>, draft: &mut Draft) -> Re
 #[tactic(auto, unfolding(crate::specs::Denoted::classes_in))]
 fn classes_of(part: Part<'_>, names: &TypeNames<'_>, draft: &mut Draft) -> Result<(), ReadError>
     requires { path_of part.path ≡ [] }
-    ensures { Leads result (classes_in names.now (draft_of draft.old.types draft.old.specs draft.old.signals.signals) (view part.entry.value.now)) (draft_of draft.new.types draft.new.specs draft.new.signals.signals) }
+    ensures draft { Leads result (classes_in names.now (draft_of draft.old.types draft.old.specs draft.old.signals.signals) (view part.entry.value.now)) (draft_of draft.new.types draft.new.specs draft.new.signals.signals) }
+    ensures handlers { draft.new.signals.handlers ≡ draft.old.signals.handlers }
 {
     part.check_nothing(&UNSET_BEFORE_CLASSES)?;
     let items = part.entries("classes")?;
@@ -136,7 +143,8 @@ fn classes_of(part: Part<'_>, names: &TypeNames<'_>, draft: &mut Draft) -> Resul
 #[tactic(auto, unfolding(crate::specs::Denoted::draft_in))]
 fn read_draft(part: Part<'_>) -> Result<Draft, ReadError>
     requires { path_of part.path ≡ [] }
-    ensures { Gives (λ draft. draft_of draft.types draft.specs draft.signals.signals) result (draft_in (view part.entry.value.now)) }
+    ensures draft { Gives (λ draft. draft_of draft.types draft.specs draft.signals.signals) result (draft_in (view part.entry.value.now)) }
+    ensures unhandled { IfOk result (λ draft. draft.signals.handlers ≡ []) }
 {
     let mut types = TypeTree::new(part.alloc)?;
     enums_of(part, &mut types)?;
@@ -154,17 +162,45 @@ fn read_draft(part: Part<'_>) -> Result<Draft, ReadError>
     Ok(draft)
 }
 
+// The programs of a definition whose types are these. A list of them is refused, unless it is empty, until there is something that runs them.
+#[tactic(auto, unfolding(crate::specs::Denoted::Programs::programs_in))]
+fn programs_of(part: Part<'_>, types: &TypeTree) -> Result<Programs, ReadError>
+    requires { path_of part.path ≡ [] }
+    ensures read { Gives (λ programs. map plain_program programs.entries) result (programs_in types.now (view part.entry.value.now)) }
+    ensures named { IfOk result (λ programs. AllByRecursion HasOwnName programs.entries) }
+    ensures sound { IfOk result (λ programs. AllByRecursion (IsSoundProgram types.now) programs.entries) }
+    ensures few { IfOk result (λ programs. length programs.entries ≤ 256) }
+{
+    part.check_nothing(&["programs"])?;
+    let items = part.entries("programs")?;
+    let list = Entries {
+        alloc: part.alloc,
+        path: "/programs",
+        items,
+    };
+    let places = read_places(part.alloc, part.value)?;
+    let names = Names {
+        types,
+        places: &places,
+    };
+    let programs = read_programs(list, &names)?;
+    Ok(programs)
+}
+
 // The objects of a definition, where so many may live.
 #[tactic(auto, unfolding(crate::specs::Denoted::objects_in))]
 fn objects_of<'a>(
     part: Part<'a>,
     types: &'a TypeTree,
     specs: &'a SpecTable,
+    programs: &'a Programs,
     most: usize,
 ) -> Result<IndexMap<String, ObjectBody>, ReadError>
     requires root { path_of part.path ≡ [] }
     requires plain { ArePlain types.now specs.now }
-    ensures { Gives (λ v. map plain_object v.entries) result (objects_in types.now (specs_by types.now (own_of specs.now)) most (view part.entry.value.now)) }
+    requires named { AllByRecursion HasOwnName programs.now.entries }
+    requires few { length programs.now.entries ≤ 256 }
+    ensures { Gives (λ v. map plain_object v.entries) result (objects_in types.now (specs_by types.now (own_of specs.now)) (map plain_program programs.now.entries) most (view part.entry.value.now)) }
 {
     part.check_nothing(&UNSET_BEFORE_OBJECTS)?;
     let items = part.entries("objects")?;
@@ -173,7 +209,7 @@ fn objects_of<'a>(
         path: "/objects",
         items,
     };
-    let objects = read_objects(list, types, specs, most)?;
+    let objects = read_objects(list, types, specs, programs, most)?;
     Ok(objects)
 }
 
@@ -194,13 +230,16 @@ fn definition_of(alloc: Global, value: &Value) -> Result<Definition, ReadError>
     check_format(alloc, format_in(value))?;
     let limits = limits_of(part)?;
     let draft = read_draft(part)?;
+    let programs = programs_of(part, &draft.types)?;
     let most = limits.objects as usize;
-    let objects = objects_of(part, &draft.types, &draft.specs, most)?;
+    let objects = objects_of(part, &draft.types, &draft.specs, &programs, most)?;
     part.check_only(members, &MEMBERS)?;
     Ok(Definition {
         types: draft.types,
         specs: draft.specs,
         signals: draft.signals,
+        constructed: Vec::new(alloc),
+        programs,
         objects,
         limits,
     })

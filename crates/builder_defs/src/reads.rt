@@ -16,6 +16,11 @@ pub(crate) trait Reads<S> {
 
     ghost seen: { S → State };
 
+    // What no entry changes.
+    ghost Unchanged: { Type 0 };
+
+    ghost kept: { S → Unchanged };
+
     // What must be known of the reader.
     ghost known: { Self → Type 0 };
 
@@ -24,7 +29,8 @@ pub(crate) trait Reads<S> {
 
     fn read(&self, part: Part<'_>, state: &mut S) -> Result<(), ReadError>
         requires { known self.now }
-        ensures { Leads result (step self.now (path_of part.entry.path) (seen state.old) (view part.entry.value.now)) (seen state.new) };
+        ensures read { Leads result (step self.now (path_of part.entry.path) (seen state.old) (view part.entry.value.now)) (seen state.new) }
+        ensures same { kept state.new ≡ kept state.old };
 }
 
 // Reads the entries of a list, from the first on.
@@ -34,7 +40,8 @@ pub(crate) fn read_each<S, R: Reads<S>>(
     state: &mut S,
 ) -> Result<(), ReadError>
     requires { R.known reader.now }
-    ensures { Leads result (each (at_entry (R.step reader.now) list.entry.path.now) 0 (R.seen state.old) (items_view list.entry.items.now)) (R.seen state.new) }
+    ensures read { Leads result (each (at_entry (R.step reader.now) list.entry.path.now) 0 (R.seen state.old) (items_view list.entry.items.now)) (R.seen state.new) }
+    ensures same { R.kept state.new ≡ R.kept state.old }
 {
     'items: for (index, value) in list.items.iter().enumerate() {
         let path = Path {

@@ -48,6 +48,10 @@ impl<'a> Reads<Vec<Kind>> for ParamEntries<'a> {
 
     ghost seen = { λ params. map kind_view params.items };
 
+    ghost Unchanged = { Unit {0} };
+
+    ghost kept = { λ params. tt };
+
     ghost known = { λ r. Unit {0} };
 
     ghost step = { λ r path params d. param_at path r.types.now r.names.now params d };
@@ -284,7 +288,8 @@ fn declare(
 ) -> Result<(), ReadError>
     requires within { t < length types.now }
     requires fine { declare_fault types.now signals.old.signals t (signal_view signal) ≡ None }
-    ensures { Leads result (Ok (add_signal (own_of signals.old.signals) t (canonical_signal (signal_view signal)))) (own_of signals.new.signals) }
+    ensures signals { Leads result (Ok (add_signal (own_of signals.old.signals) t (canonical_signal (signal_view signal)))) (own_of signals.new.signals) }
+    ensures handlers { signals.new.handlers ≡ signals.old.handlers }
 {
     match signals.declare(types, t, signal) {
         Ok(()) => Ok(()),
@@ -302,7 +307,8 @@ fn read_signal(
     t: TypeId,
 ) -> Result<(), ReadError>
     requires { t < length types.now }
-    ensures { Leads result (signal_at (path_of part.entry.path) types.now names.now t (own_of signals.old.signals) (view part.entry.value.now)) (own_of signals.new.signals) }
+    ensures signals { Leads result (signal_at (path_of part.entry.path) types.now names.now t (own_of signals.old.signals) (view part.entry.value.now)) (own_of signals.new.signals) }
+    ensures handlers { signals.new.handlers ≡ signals.old.handlers }
 {
     let signal = signal_in(part, types, names, signals, t)?;
     declare(types, signals, t, signal)?;
@@ -327,6 +333,10 @@ impl<'a> Reads<SignalTable> for SignalEntries<'a> {
 
     ghost seen = { λ signals. own_of signals.signals };
 
+    ghost Unchanged = { List (List machine.ClassHandler) };
+
+    ghost kept = { λ signals. signals.handlers };
+
     ghost known = { λ r. r.t < length r.types.now };
 
     ghost step = { λ r path own d. signal_at path r.types.now r.names.now r.t own d };
@@ -345,7 +355,8 @@ pub(crate) fn read_signals(
     t: TypeId,
 ) -> Result<(), ReadError>
     requires { t < length types.now }
-    ensures { Leads result (each (at_entry (λ path. signal_at path types.now names.now t) list.entry.path.now) 0 (own_of signals.old.signals) (items_view list.entry.items.now)) (own_of signals.new.signals) }
+    ensures signals { Leads result (each (at_entry (λ path. signal_at path types.now names.now t) list.entry.path.now) 0 (own_of signals.old.signals) (items_view list.entry.items.now)) (own_of signals.new.signals) }
+    ensures handlers { signals.new.handlers ≡ signals.old.handlers }
 {
     let reader = SignalEntries { types, names, t };
     read_each(&reader, list, signals)

@@ -33,6 +33,12 @@ pub bound : {A B : Type 0} (r : Result A Refusal) (f : A → Result B Refusal) (
 bound (Ok x) f y e = (x, refl, e)
 bound (Err refusal) f y e = absurd (cc)
 
+-- a list that was read is the one that is read ahead
+pub listed_is : (path : List ℕ) (d : Option Data) (list : Items) → entries path d ≡ Ok list
+    → items_or_none (option_and_then as_array d) ≡ list
+listed_is path None list e = cc
+listed_is path (Some d) list e = ap items_or_none (taken (shape path) (as_array d) list e)
+
 -- a property that is read with these inherited ones, and with these and further ones as those that a type has
 abbrev pub IsReadAhead : List GType → List GType → TypeNames → (grand inherited : List Spec) → Type 0
 IsReadAhead types all names grand inherited =
@@ -144,10 +150,6 @@ module _ (types : List GType) (g : GType) (tree : IsTree types) (more : IsTree (
       (subst (λ xs. Each (Found xs) (own_with ahead (Some (canonical one.spec.name)) (Some one.spec))) (sym own_is)
       (found_more (own (length types)) ahead one.spec found)) in
       each_ahead path (i + 1) ds with_one first.0 changed (only_more own first.0 (canonical_spec one.spec) one.is same) there first.2
-
-  listed_is : (path : List ℕ) (d : Option Data) (list : Items) → entries path d ≡ Ok list → items_or_none (option_and_then as_array d) ≡ list
-  listed_is path None list e = cc
-  listed_is path (Some d) list e = ap items_or_none (taken (shape path) (as_array d) list e)
 
   pub own_found : (path : List ℕ) (d : Data) (changed : ℕ → List Spec) → properties_at path (types ++ g ∷ []) names (length types) table d ≡ Ok changed
       → (ahead : List Own) × (own_ahead path types names table parent d ≡ Ok ahead) × Each (Found (changed (length types))) ahead

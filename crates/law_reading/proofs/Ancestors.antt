@@ -40,6 +40,12 @@ or_false : (b : Bool) → (b || false) ≡ b
 or_false true = refl
 or_false false = refl
 
+-- what the last of some types has stands last, where they are taken from the root down
+pub last_own : {A : Type 0} (own : ℕ → List A) (ts : List ℕ) (t : ℕ) → flat_map own (reverse (t ∷ ts)) ≡ flat_map own (reverse ts) ++ own t
+last_own own ts t =
+    ap (flat_map own) (reverse-append (t ∷ []) ts) ∙ flat_map-append own (reverse ts) (t ∷ [])
+    ∙ ap (λ l. flat_map own (reverse ts) ++ l) (append-nil (own t))
+
 module _ (types : List GType) (tree : IsTree types) where
   -- what is so of a type without parent, and of each child of a type of which it is so, is so of all
   pub along : (P : ℕ → Type 0) → ((t : ℕ) → parent_of types t ≡ None → P t)
@@ -110,11 +116,6 @@ module _ (types : List GType) (tree : IsTree types) where
         up t p e h = up_by t p (is_or_implements types c t) refl e h
 
   -- ** properties
-
-  last_own : (own : ℕ → List Spec) (ts : List ℕ) (t : ℕ) → flat_map own (reverse (t ∷ ts)) ≡ flat_map own (reverse ts) ++ own t
-  last_own own ts t =
-      ap (flat_map own) (reverse-append (t ∷ []) ts) ∙ flat_map-append own (reverse ts) (t ∷ [])
-      ∙ ap (λ l. flat_map own (reverse ts) ++ l) (append-nil (own t))
 
   pub child_specs : (own : ℕ → List Spec) (t p : ℕ) → parent_of types t ≡ Some p → specs_by types own t ≡ specs_by types own p ++ own t
   child_specs own t p e = ap (λ l. flat_map own (reverse (t ∷ l))) (line_from-parent types tree t p e) ∙ last_own own (lineage types p) t

@@ -58,7 +58,7 @@ pub record AreGiven (types : List GType) (objects : ObjectNames) (place : ℕ) (
   pub apart : no_two nat_eq (map (λ (g : GivenProperty). g.slot) given) ≡ true
 
 -- the number of an entry is below the number of all
-number_within : (i : ℕ) (names : List (Option (List ℕ))) (name : List ℕ) (n : ℕ) → number_from i names name ≡ Some n → n < i + length names
+pub number_within : (i : ℕ) (names : List (Option (List ℕ))) (name : List ℕ) (n : ℕ) → number_from i names name ≡ Some n → n < i + length names
 number_within i [] name n h = absurd (cc)
 number_within i (own ∷ names) name n h = by (is_called own name) h (number_within (suc i) names name n)
   where

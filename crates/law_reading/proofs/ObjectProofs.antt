@@ -1,4 +1,4 @@
--- The objects of a definition that was read: of concrete classes, each behind its parent, without peers and signals.
+-- The objects of a definition that was read: of concrete classes, each behind its parent, without peers.
 use Rattle.std.proofs.Common.{◌≡◌, ℕ, zero, suc, ◌+◌, ◌<◌, ◌⊎◌, inl, inr, Bool, true, false, nat_le, List, [], ◌∷◌, ◌++◌, length, slice_get, Option, None, Some, option_and_then, Ok, Err, codes, map, refl, sym, ap, subst, ◌∙◌, arith, length-append}
 use Rattle.std.proofs.lemmas.List.{append_assoc, append-nil, length-map}
 use Rattle.std.proofs.lemmas.Bool.Decides.{nat_tests}
@@ -6,6 +6,7 @@ use Rattle.std.specs.Prelude.{if◌then◌else◌}
 use Rattle.serde_json.specs.Data.{Data, Items, no_items, item}
 use Rattle.type_tree.specs.Adding.{find_type, class_named}
 use Rattle.ui_machine.specs.Seq.{read}
+use Rattle.ui_machine.specs.Definition.Programs.{Program}
 use Rattle.ui_machine.specs.Definition.Places.{Place}
 use Rattle.ui_machine.specs.Definition.Properties.{Spec}
 use Rattle.ui_machine.specs.Definition.Types.{GType}
@@ -15,11 +16,14 @@ use Rattle.builder_defs.specs.Causes.{abstract_class}
 use Rattle.builder_defs.specs.declared.fault.DefinitionLimit.TheVariants.{Places, Objects}
 use Rattle.builder_defs.specs.Refusals.{shape, unknown, bad_type, limit, or_refused}
 use Rattle.builder_defs.specs.Document.{each, at_entry, under, nth, members_at, text_at, entries_at, absent_at, nothing_at, only_at}
+use Rattle.builder_defs.specs.Denoted.Attached.{all_attached}
 use Rattle.builder_defs.specs.Denoted.Objects.{Scope, room_for_object, new_id, unless_abstract, class_at_key, keys_of_object, place_at, added_at, object_at}
 use Rattle.builder_defs.specs.Denoted.Entries.{ObjectNames, names_of, name_under, section, with_all, in_order, most_levels}
 use Rattle.builder_defs.specs.Denoted.Given.{class_ahead, givens_at}
 use Rattle.builder_defs.specs.Denoted.{unset_before_objects, objects_in}
 use Rattle.builder_defs.proofs.Soundness.{OnRead, on_bind, on_all}
+use Rattle.law_typing.specs.Verdict.Accepted.{Each}
+use Rattle.law_reading.proofs.AttachedProofs.{HasData, attached_read}
 use Rattle.law_reading.proofs.GivenProofs.{AreGiven, all_given}
 use Rattle.law_reading.proofs.ListProofs.{get_push, read_behind}
 use Rattle.law_reading.proofs.Parts.{on_read, more_on, section_is, taken}
@@ -42,7 +46,7 @@ pub record IsObjectRead (types : List GType) (specs : ℕ → List Spec) (names 
   pub object : p.is_prototype ≡ false
   pub parent : (above : ℕ) → p.parent ≡ Some above → above < place
   pub peers : p.peers ≡ []
-  pub signals : p.signals ≡ []
+  pub signals : Each (HasData names) p.signals
 
 abbrev pub AreRead : List GType → (ℕ → List Spec) → ObjectNames → List Place → Type 0
 AreRead types specs names places = (i : ℕ) (p : Place) → slice_get places i ≡ Some p → IsObjectRead types specs names i p
@@ -90,12 +94,13 @@ place_left most places = by (nat_le 512 (length places)) refl
     by true e = tt
     by false e = life (nat_le most (length places)) (grind (arith, nat_tests))
 
-module _ (types : List GType) (few : (t : ℕ) → HaveFewBits (members_of types t)) (specs : ℕ → List Spec) (most : ℕ) (order : List Data) where
+module _ (types : List GType) (few : (t : ℕ) → HaveFewBits (members_of types t)) (specs : ℕ → List Spec) (programs : List Program) (most : ℕ)
+    (order : List Data) where
   abbrev names : ObjectNames
   names = names_of order
 
   abbrev scope : Scope
-  scope = record { types = types; specs = specs; most = most; names = names }
+  scope = record { types = types; specs = specs; programs = programs; most = most; names = names }
 
   -- the object that another is a child of, if it is one, is one of these
   abbrev IsAbove : Option ℕ → List Place → Type 0
@@ -119,6 +124,7 @@ module _ (types : List GType) (few : (t : ℕ) → HaveFewBits (members_of types
       on_bind (AreGiven types names (length places) (specs class)) (One places) (givens_at path types names (length places) (specs class) d) _
       (all_given types few names (length places) room (specs class) path d) λ given fit.
       on_bind (λ x. Unit {0}) (One places) (nothing_at path d (codes "signals" ∷ [])) _ (on_all _) λ bare u.
+      on_bind (Each (HasData names)) (One places) (all_attached path programs names d) _ (attached_read programs names path d) λ signals have.
       record {
         class = is.concrete;
         given = fit;
@@ -126,7 +132,7 @@ module _ (types : List GType) (few : (t : ℕ) → HaveFewBits (members_of types
         object = refl;
         parent = higher;
         peers = refl;
-        signals = refl;
+        signals = have;
       }
 
   -- ** all objects, in document order
@@ -249,10 +255,10 @@ module _ (types : List GType) (few : (t : ℕ) → HaveFewBits (members_of types
         so = λ i p h. absurd (cc);
       }
 
-module _ (types : List GType) (few : (t : ℕ) → HaveFewBits (members_of types t)) (specs : ℕ → List Spec) (most : ℕ) where
-  pub all_objects : (d : Data) → OnRead (AreObjects types specs) (objects_in types specs most d)
+module _ (types : List GType) (few : (t : ℕ) → HaveFewBits (members_of types t)) (specs : ℕ → List Spec) (programs : List Program) (most : ℕ) where
+  pub all_objects : (d : Data) → OnRead (AreObjects types specs) (objects_in types specs programs most d)
   unfolding objects_in
   all_objects d =
       on_bind (λ x. Unit {0}) (AreObjects types specs) (nothing_at [] d unset_before_objects) _ (on_all _) λ unset u.
       on_bind (λ x. Unit {0}) (AreObjects types specs) (entries_at [] d (codes "objects")) _ (on_all _) λ list u.
-      read_all types few specs most (in_order most_levels list) most_levels list refl
+      read_all types few specs programs most (in_order most_levels list) most_levels list refl

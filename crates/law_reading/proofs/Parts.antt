@@ -4,6 +4,7 @@ use Rattle.serde_json.specs.Find.{get, as_array, as_number, as_u64}
 use Rattle.serde_json.specs.Data.{Data, Items}
 use Rattle.ui_machine.specs.Outcome.{◌>>=◌}
 use Rattle.ui_machine.specs.Definition.{Definition}
+use Rattle.ui_machine.specs.Definition.Programs.{Program}
 use Rattle.ui_machine.specs.Definition.Places.{Place}
 use Rattle.ui_machine.specs.declared.limits.Limits.{Limits}
 use Rattle.builder_defs.specs.Refusals.{Refusal, shape, or_refused}
@@ -12,6 +13,7 @@ use Rattle.builder_defs.specs.Denoted.Entries.{listed, section}
 use Rattle.builder_defs.specs.Denoted.Properties.{specs_by}
 use Rattle.builder_defs.specs.Denoted.Drafts.{Draft}
 use Rattle.builder_defs.specs.Denoted.SessionLimits.{limits_in}
+use Rattle.builder_defs.specs.Denoted.Programs.{programs_in}
 use Rattle.builder_defs.specs.Denoted.{keys_of_definition, format_of, draft_in, objects_in, definition_in, definition_with, denoted}
 use Rattle.builder_defs.proofs.Soundness.{OnRead}
 
@@ -43,11 +45,13 @@ pub record IsRead (d : Definition) : Type 0 where
   pub value : Data
   pub draft : Draft
   pub limits : Limits
+  pub programs : List Program
   pub places : List Place
   pub drafted : draft_in value ≡ Ok draft
   pub limited : limits_in value ≡ Ok limits
-  pub placed : objects_in draft.types (specs_by draft.types draft.own) limits.objects value ≡ Ok places
-  pub is : definition_with draft places limits ≡ d
+  pub programmed : programs_in draft.types value ≡ Ok programs
+  pub placed : objects_in draft.types (specs_by draft.types draft.own) programs limits.objects value ≡ Ok places
+  pub is : definition_with draft programs places limits ≡ d
 
 of_value : (v : Data) → OnRead IsRead (definition_in v)
 unfolding definition_in
@@ -56,10 +60,22 @@ of_value v =
     on_read IsRead (format_of (option_and_then as_u64 (option_and_then as_number (get (codes "format") v)))) _ λ u f.
     on_read IsRead (limits_in v) _ λ limits l.
     on_read IsRead (draft_in v) _ λ draft c.
-    on_read IsRead (objects_in draft.types (specs_by draft.types draft.own) limits.objects v) _ λ places o.
+    on_read IsRead (programs_in draft.types v) _ λ programs p.
+    on_read IsRead (objects_in draft.types (specs_by draft.types draft.own) programs limits.objects v) _ λ places o.
     on_read IsRead (only_at [] ms keys_of_definition) _ λ u k.
-    let read : IsRead (definition_with draft places limits) =
-    record { value = v; draft = draft; limits = limits; places = places; drafted = c; limited = l; placed = o; is = refl } in read
+    let read : IsRead (definition_with draft programs places limits) =
+    record {
+      value = v;
+      draft = draft;
+      limits = limits;
+      programs = programs;
+      places = places;
+      drafted = c;
+      limited = l;
+      programmed = p;
+      placed = o;
+      is = refl;
+    } in read
 
 of_bytes : (bytes : List ℕ) → OnRead IsRead (denoted bytes)
 unfolding denoted

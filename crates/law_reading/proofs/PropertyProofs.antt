@@ -29,7 +29,7 @@ use Rattle.type_tree.specs.Tree.{IsTree}
 use Rattle.law_typing.specs.Verdict.Accepted.{Each}
 use Rattle.law_typing.proofs.Lists.{each_append}
 use Rattle.law_reading.proofs.Ancestors.{other_specs, last_specs}
-use Rattle.law_reading.proofs.NameProofs.{AreNamed, named_push}
+use Rattle.law_reading.proofs.NameProofs.{AreNamed, spec_name, named_push}
 
 -- ** flags
 
@@ -124,11 +124,11 @@ no_fault false true c f g h rest e = absurd (cc)
 no_fault false false true f g h rest e = absurd (cc)
 no_fault false false false f g h rest e = (refl, refl)
 
-none_there : (o : Option ℕ) → is_some o ≡ false → o ≡ None
+pub none_there : (o : Option ℕ) → is_some o ≡ false → o ≡ None
 none_there None e = refl
 none_there (Some x) e = absurd (cc)
 
-canonical_once : (name : List ℕ) → canonical (canonical name) ≡ canonical name
+pub canonical_once : (name : List ℕ) → canonical (canonical name) ≡ canonical name
 canonical_once [] = refl
 canonical_once (x ∷ xs) = by (canonical_once xs) (nat_eq x 95) refl
   where
@@ -173,7 +173,7 @@ module _ (types : List GType) (tree : IsTree types) (last : ℕ) (is : suc last 
       by true e =
           subst (λ u. AreNamed (specs_by types (add_own own last (canonical_spec spec)) u)) (sym (eqb-true t last e))
           (subst AreNamed (sym (last_specs types tree own last is (canonical_spec spec)))
-          (named_push 0 (specs_by types own last) (canonical_spec spec) (old.named last) none))
+          (named_push spec_name 0 (specs_by types own last) (canonical_spec spec) (old.named last) none))
 
   kept_one : HasFlags spec → is_clash spec.flags ≡ false → IsKept (canonical_spec spec)
   kept_one flags fine =
@@ -218,8 +218,8 @@ module _ (types : List GType) (tree : IsTree types) (last : ℕ) (is : suc last 
 
 -- ** what stays
 
--- only the own properties of one type are others
-abbrev pub OnlyAt : ℕ → (ℕ → List Spec) → (ℕ → List Spec) → Type 0
+-- what only one type has is other
+abbrev pub OnlyAt : {A : Type 0} → ℕ → (ℕ → List A) → (ℕ → List A) → Type 0
 OnlyAt last own changed = (u : ℕ) → nat_eq u last ≡ false → changed u ≡ own u
 
 module _ (types : List GType) (names : TypeNames) (last : ℕ) (first : ℕ → List Spec) where

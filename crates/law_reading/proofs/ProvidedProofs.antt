@@ -14,9 +14,9 @@ use Rattle.builder_defs.specs.Denoted.Properties.{specs_by}
 use Rattle.law_reading.proofs.Ancestors.{Implements, is_interface, reached, root_specs, child_specs, unchanged_specs, front_specs}
 use Rattle.law_reading.proofs.ListProofs.{get_front}
 
--- a property is among these, in some slot
-abbrev pub Has : List Spec → Spec → Type 0
-Has specs s = (slot : ℕ) × (slice_get specs slot ≡ Some s)
+-- an entry is among these, at some place
+abbrev pub Has : {A : Type 0} → List A → A → Type 0
+Has xs x = (at : ℕ) × (slice_get xs at ≡ Some x)
 
 -- a type has the properties of each interface that it names
 abbrev pub Provides : List GType → (ℕ → List Spec) → ℕ → Type 0
@@ -43,6 +43,15 @@ module _ (types : List GType) (tree : IsTree types) (heirs : Implements types) (
       child t p up has =
           (has.0, ap (λ ss. slice_get ss has.0) (child_specs types tree own t p up) ∙ get_front (specs_by types own p) (own t) has.0 s has.1)
 
+-- an interface stands among the types
+pub interface_within : (types : List GType) (i : ℕ) → sort_of types i ≡ sorts.interface → i < length types
+interface_within types i e = by (cases_lt i (length types))
+  where
+    by : (i < length types) ⊎ (length types ≤ i) → i < length types
+    by (inl h) = h
+    by (inr h) =
+        let other : sorts.class ≡ sorts.interface = sym (ap (λ (x : GType). x.sort) (read-past no_type types i h)) ∙ e in absurd (cc)
+
 -- a type more, which alone has its own properties changed
 module _ (types : List GType) (g : GType) (tree : IsTree types) (more : IsTree (types ++ g ∷ [])) (heirs : Implements types)
     (own changed : ℕ → List Spec) (past : (t : ℕ) → length types ≤ t → own t ≡ [])
@@ -57,14 +66,6 @@ module _ (types : List GType) (g : GType) (tree : IsTree types) (more : IsTree (
       by true e = let same = eqb-true t n e in absurd (omega (arith, same, h))
       by false e = e
 
-  -- an interface stands among the types
-  interface_within : (i : ℕ) → sort_of types i ≡ sorts.interface → i < length types
-  interface_within i e = by (cases_lt i (length types))
-    where
-      by : (i < length types) ⊎ (length types ≤ i) → i < length types
-      by (inl h) = h
-      by (inr h) = let other : sorts.class ≡ sorts.interface = sym (ap (λ (x : GType). x.sort) (read-past no_type types i h)) ∙ e in absurd (cc)
-
   -- the types before it have the properties that they had
   pub kept_specs : (t : ℕ) → t < length types → specs_by (types ++ g ∷ []) changed t ≡ specs_by types own t
   kept_specs t h =
@@ -73,7 +74,7 @@ module _ (types : List GType) (g : GType) (tree : IsTree types) (more : IsTree (
 
   -- and each interface among them has its own
   pub kept_own : (i : ℕ) → sort_of types i ≡ sorts.interface → changed i ≡ own i
-  kept_own i e = same i (less i (length types) (interface_within i e))
+  kept_own i e = same i (less i (length types) (interface_within types i e))
 
   before : (t : ℕ) → t < length types → Provides types own t → Provides (types ++ g ∷ []) changed t
   before t h old i named slot s e =

@@ -186,23 +186,23 @@ known_kept types g (kinds.enum t) p = kept_but_class types g t sorts.enum p (λ 
 known_kept types g (kinds.flags t) p = kept_but_class types g t sorts.flags p (λ e. cc)
 known_kept types g (kinds.object t) p = tt
 
-zero_alike : (types all : List GType) (k : Kind) → IsKept types all k → zero_value all k ≡ zero_value types k
-zero_alike types all kinds.bool same = refl
-zero_alike types all (kinds.whole k) same = refl
-zero_alike types all kinds.text same = refl
-zero_alike types all (kinds.enum t) same = ap (λ (x : GType). values.enum t (first_number x.members)) same
-zero_alike types all (kinds.flags t) same = refl
-zero_alike types all (kinds.object t) same = refl
+zero_alike : (types later : List GType) (k : Kind) → IsKept types later k → zero_value later k ≡ zero_value types k
+zero_alike types later kinds.bool same = refl
+zero_alike types later (kinds.whole k) same = refl
+zero_alike types later kinds.text same = refl
+zero_alike types later (kinds.enum t) same = ap (λ (x : GType). values.enum t (first_number x.members)) same
+zero_alike types later (kinds.flags t) same = refl
+zero_alike types later (kinds.object t) same = refl
 
-json_alike : (types all : List GType) (k : Kind) (d : Data) → IsKept types all k → json_value all k d ≡ json_value types k d
-json_alike types all kinds.bool d same = refl
-json_alike types all (kinds.whole k) d same = refl
-json_alike types all kinds.text d same = refl
-json_alike types all (kinds.enum t) d same =
+json_alike : (types later : List GType) (k : Kind) (d : Data) → IsKept types later k → json_value later k d ≡ json_value types k d
+json_alike types later kinds.bool d same = refl
+json_alike types later (kinds.whole k) d same = refl
+json_alike types later kinds.text d same = refl
+json_alike types later (kinds.enum t) d same =
     ap (λ (x : GType). value_of (values.enum t) (enum_number x.members (as_str d) (whole_number d))) same
-json_alike types all (kinds.flags t) d same =
+json_alike types later (kinds.flags t) d same =
     ap (λ (x : GType). value_of (values.flags t) (flags_bits x.members (as_str d) (whole_number d))) same
-json_alike types all (kinds.object t) d same = refl
+json_alike types later (kinds.object t) d same = refl
 
 module _ (types all : List GType) (k : Kind) (same : IsKept types all k) where
   default_alike : (path : List ℕ) (d : Option Data) → default_or_zero path all k d ≡ default_or_zero path types k d

@@ -1,19 +1,19 @@
 -- The types of a definition that was read are a tree, in which classes implement interfaces.
-use Rattle.std.proofs.Common.{◌≡◌, ℕ, zero, suc, ◌+◌, ◌<◌, ◌≤◌, ◌⊎◌, inl, inr, Bool, true, false, cond, not, ◌||◌, nat_eq, nat_le, is_some, option_and_then, List, [], ◌∷◌, ◌++◌, length, Option, None, Some, Result, Ok, Err, refl, sym, ap, subst, ◌∙◌, arith, reverse, length-append}
+use Rattle.std.proofs.Common.{◌≡◌, ℕ, zero, suc, ◌+◌, ◌<◌, ◌≤◌, ◌⊎◌, inl, inr, Bool, true, false, cond, not, nat_eq, nat_le, is_some, option_and_then, List, [], ◌∷◌, ◌++◌, length, Option, None, Some, Result, Ok, Err, refl, sym, ap, subst, ◌∙◌, arith, reverse, length-append}
 use Rattle.std.specs.Prelude.{codes, if◌then◌else◌}
 use Rattle.std.specs.Option.{ForSome, option_or}
-use Rattle.std.proofs.lemmas.Bool.{cases_lt, eqb-true}
+use Rattle.std.proofs.lemmas.Bool.{cases_lt}
 use Rattle.std.proofs.lemmas.Bool.Decides.{nat_tests}
 use Rattle.std.proofs.lemmas.Option.{none-some}
-use Rattle.serde_json.specs.Data.{Data, Items, no_items, item}
-use Rattle.serde_json.specs.Find.{get, as_str, as_array}
+use Rattle.serde_json.specs.Data.{Data, Items, no_items}
+use Rattle.serde_json.specs.Find.{get, as_str}
 use Rattle.ui_machine.specs.Seq.{read}
 use Rattle.ui_machine.specs.Definition.Types.{GType, Sort, predeclared}
 use Rattle.ui_machine.specs.Definition.Types as sorts
 use Rattle.ui_machine.specs.Output.Text.{no_type}
 use Rattle.ui_machine.specs.Rules.Ancestry.{parent_of, implemented, implemented_by}
 use Rattle.type_tree.specs.Tree.{IsTree}
-use Rattle.type_tree.specs.Adding.{find_type, sort_of, is_class, is_interface, of_sort, class_named, interface_named, new_enum, new_flags, fault_if, ◌or_else◌}
+use Rattle.type_tree.specs.Adding.{find_type, sort_of, is_class, of_sort, class_named, new_enum, new_flags, fault_if, ◌or_else◌}
 use Rattle.type_tree.specs.declared.error.TypeFault.TheVariants as faults
 use Rattle.type_tree.specs.declared.error.TypeLimit.TheVariants as limits
 use Rattle.type_tree.specs.Entry.{class_type, interface_type}
@@ -22,18 +22,15 @@ use Rattle.type_tree.specs.declared.error.TypeFault.TheVariants.{BadName, Duplic
 use Rattle.type_tree.specs.TypeName.{is_type_name}
 use Rattle.type_tree.proofs.Entries.{IsTree-append, read-front, read-past, read-last}
 use Rattle.builder_defs.specs.Causes.{unknown_parent, final_parent, named_cause}
-use Rattle.builder_defs.specs.Refusals.{Refusal, limit, shape, unknown, duplicate, bad_type, bad_spec, or_refused, refused_if}
+use Rattle.builder_defs.specs.Refusals.{Refusal, limit, shape, unknown, duplicate, bad_type, or_refused, refused_if}
 use Rattle.builder_defs.specs.declared.fault.DefinitionLimit.TheVariants.{Types}
-use Rattle.builder_defs.specs.Document.{each, at_entry, under, nth, members_at, text_at, entries, entries_at, listed_ahead, is_empty_list, is_absent_or_empty, nothing_at, only_at}
+use Rattle.builder_defs.specs.Document.{each, at_entry, under, nth, members_at, text_at, entries_at, listed_ahead, nothing_at, only_at}
 use Rattle.builder_defs.specs.Denoted.Types.{is_declared, is_from, room_for_type, new_type_name}
 use Rattle.builder_defs.specs.Denoted.Enums.{enum_at, flags_at, enum_member_at, flags_member_at, members_with, keys_of_members}
 use Rattle.builder_defs.specs.Denoted.Entries.{TypeNames, type_names, name_under, names_under, number_from, section}
 use Rattle.builder_defs.specs.Denoted.Drafts.{Draft, bare_draft, properties_at, given_at, type_at}
-use Rattle.builder_defs.specs.Denoted.Signals.{signal_at, signals_at}
-use Rattle.builder_defs.specs.Denoted.Brought.{own_signals_ahead}
-use Rattle.builder_defs.specs.Denoted.Overrides.{Own, own_ahead, override_cause}
-use Rattle.builder_defs.specs.Denoted.Properties.{specs_by}
-use Rattle.builder_defs.specs.Denoted.Implements.{Heir, heir_with, heir_at, check_brought, check_prerequisites, check_overrides, newly_implemented, interface_at_entry, implemented_at, named_at, implements_listed, implements_of, implements_at}
+use Rattle.builder_defs.specs.Denoted.Signals.{signals_at}
+use Rattle.builder_defs.specs.Denoted.Implements.{implements_at}
 use Rattle.builder_defs.specs.Denoted.Interfaces.{requires_at, interface_type_at, keys_of_interface, interface_at}
 use Rattle.builder_defs.specs.Denoted.Classes.{parent_found, parent_called, named_parent, parent_or, parent_at, parent_ahead, check_depth, keys_of_class, declared_at, answering_at, class_at}
 use Rattle.builder_defs.specs.Denoted.Classes as classes
@@ -45,12 +42,17 @@ use Rattle.ui_machine.specs.Definition.Signals.{Signal}
 use Rattle.ui_machine.specs.Rules.Ancestry.{lineage}
 use Rattle.law_reading.proofs.Ancestors.{AreInterfaces, Implements, specs_before}
 use Rattle.law_reading.proofs.ListProofs.{named_within}
+use Rattle.law_reading.proofs.OwnSignalProofs.{SignalsRead}
+use Rattle.law_reading.proofs.HeirProofs.{AreImplemented, implements_are}
+use Rattle.law_reading.proofs.SignalTreeProofs.{Announces, root_announces, class_announces}
+use Rattle.signal_core.specs.Sources.{sources_of}
+use Rattle.ui_machine.specs.Words.{notify}
 use Rattle.law_reading.proofs.MemberProofs.{AreMembers, HasMembers, has_these, enum_members, flags_members}
-use Rattle.law_reading.proofs.NameProofs.{AreNamed}
+use Rattle.law_reading.proofs.NameProofs.{AreApart, AreNamed, signal_name}
 use Rattle.law_reading.proofs.Parts.{on_read, more_on, section_is, taken}
 use Rattle.law_reading.proofs.PropertyProofs.{OwnRead, OnlyAt, properties_only, properties_read}
 use Rattle.law_reading.proofs.ProvidedProofs.{Provides, all_provide}
-use Rattle.law_reading.proofs.ImplementProofs.{AreOverridden, class_provides}
+use Rattle.law_reading.proofs.ImplementProofs.{class_provides}
 use Rattle.law_reading.proofs.ReadAheadProofs.{read_ahead}
 use Rattle.law_reading.proofs.NumberProofs.{on_rest, ClassesLeft, InterfacesLeft, IsNext, is_next, class_left, interface_left, no_interface_left}
 
@@ -181,127 +183,6 @@ parent_in path list types None = parent_called_in path list types (codes "GObjec
 parent_in path list types (Some d) =
     on_bind (λ x. Unit {0}) (λ p. p < length types) (or_refused (shape path) (as_str d)) _ (on_all _) λ name u. parent_called_in path list types name
 
--- ** implemented interfaces
-
-named_interface : (types : List GType) (r : Refusal) (found : Option ℕ)
-    → OnRead (λ i. sort_of types i ≡ sorts.interface) (or_refused r (of_sort is_interface types found))
-named_interface types r None = tt
-named_interface types r (Some t) = by (sort_of types t) refl
-  where
-    by : (s : sorts.Sort) → sort_of types t ≡ s → OnRead (λ i. sort_of types i ≡ sorts.interface) (or_refused r (cond (is_interface s) (Some t) None))
-    by sorts.class e = tt
-    by sorts.interface e = e
-    by sorts.enum e = tt
-    by sorts.flags e = tt
-
-with_interface : (types : List GType) (is : List ℕ) (i : ℕ) → AreInterfaces types is → sort_of types i ≡ sorts.interface → AreInterfaces types (is ++ i ∷ [])
-with_interface types [] i all one = (one, tt)
-with_interface types (j ∷ is) i all one = (all.0, with_interface types is i all.1 one)
-
-one_of : (is : List ℕ) (i j : ℕ) → list_any (nat_eq j) (is ++ i ∷ []) ≡ true → (list_any (nat_eq j) is ≡ true) ⊎ (j ≡ i)
-one_of [] i j h = by (nat_eq j i) refl h
-  where
-    by : (b : Bool) → nat_eq j i ≡ b → (b || false) ≡ true → (false ≡ true) ⊎ (j ≡ i)
-    by true e h = inr (eqb-true j i e)
-    by false e h = absurd (cc)
-one_of (k ∷ is) i j h = by (nat_eq j k) h (one_of is i j)
-  where
-    by : (b : Bool) → (b || list_any (nat_eq j) (is ++ i ∷ [])) ≡ true
-        → (list_any (nat_eq j) (is ++ i ∷ []) ≡ true → (list_any (nat_eq j) is ≡ true) ⊎ (j ≡ i)) → ((b || list_any (nat_eq j) is) ≡ true) ⊎ (j ≡ i)
-    by true h rest = inl refl
-    by false h rest = rest h
-
--- nothing is wrong with the overrides of these interfaces
-abbrev IsHeir : Heir → List ℕ → Type 0
-IsHeir heir is = (i : ℕ) → list_any (nat_eq i) is ≡ true → override_cause (specs_by heir.types heir.table heir.parent) heir.own (heir.table i) ≡ None
-
-one_overridden : (heir : Heir) (is : List ℕ) (i : ℕ) → IsHeir heir is
-    → override_cause (specs_by heir.types heir.table heir.parent) heir.own (heir.table i) ≡ None → IsHeir heir (is ++ i ∷ [])
-one_overridden heir is i all one j h = by (one_of is i j h)
-  where
-    by : (list_any (nat_eq j) is ≡ true) ⊎ (j ≡ i) → override_cause (specs_by heir.types heir.table heir.parent) heir.own (heir.table j) ≡ None
-    by (inl e) = all j e
-    by (inr e) = ap (λ k. override_cause (specs_by heir.types heir.table heir.parent) heir.own (heir.table k)) e ∙ one
-
-nothing_refused : {A : Type 0} (refusal : A → Refusal) (found : Option A) (u : Unit {0}) → refused_if refusal found ≡ Ok u → found ≡ None
-nothing_refused refusal None u e = refl
-nothing_refused refusal (Some x) u e = absurd (cc)
-
-implemented_are : (types : List GType) (path : List ℕ) (heir : Heir) → heir.types ≡ types → (is : List ℕ) (d : Data) → AreInterfaces types is × IsHeir heir is
-    → OnRead (λ is. AreInterfaces types is × IsHeir heir is) (implemented_at path heir is d)
-unfolding implemented_at interface_at_entry newly_implemented
-implemented_are types path heir same is d all =
-    on_bind (λ i. sort_of types i ≡ sorts.interface) (λ is. AreInterfaces types is × IsHeir heir is) (interface_at_entry path heir.types d) _
-    (on_bind (λ x. Unit {0}) (λ i. sort_of types i ≡ sorts.interface) (or_refused (shape path) (as_str d)) _ (on_all _) λ name u.
-    subst (λ ts. OnRead (λ i. sort_of types i ≡ sorts.interface) (or_refused (unknown path name) (interface_named ts name))) (sym same)
-    (named_interface types (unknown path name) (find_type types name))) λ i one. by i one (list_any (nat_eq i) is)
-  where
-    by : (i : ℕ) → sort_of types i ≡ sorts.interface → (b : Bool)
-        → OnRead (λ is. AreInterfaces types is × IsHeir heir is) (if b then Ok is else newly_implemented path heir i is)
-    by i one true = all
-    by i one false =
-        on_bind (λ x. Unit {0}) (λ is. AreInterfaces types is × IsHeir heir is) (check_brought path heir i is) _ (on_all _) λ new u.
-        on_bind (λ x. Unit {0}) (λ is. AreInterfaces types is × IsHeir heir is) (check_prerequisites path heir i) _ (on_all _) λ required u.
-        on_read (λ is. AreInterfaces types is × IsHeir heir is) (check_overrides path heir i) _ λ overridden fine. (
-          with_interface types is i all.0 one,
-          one_overridden heir is i all.1 (nothing_refused (bad_spec path)
-              (override_cause (specs_by heir.types heir.table heir.parent) heir.own (heir.table i)) overridden fine),
-        )
-
-module _ (draft : Draft) (names : TypeNames) (parent : ℕ) where
-  abbrev AreImplemented : List ℕ → Data → List ℕ → Type 0
-  AreImplemented path d is = AreInterfaces draft.types is × AreOverridden draft.types names draft.own parent path d is
-
-  -- what is known of a class, with what was read ahead
-  IsAhead : List ℕ → Data → List ℕ → Heir → Type 0
-  IsAhead path d named heir =
-      (own : List Own) × (declared : List (List ℕ)) × (own_ahead path draft.types names draft.own parent d ≡ Ok own)
-      × (heir ≡ heir_with draft parent named own declared)
-
-  heir_ahead : (path : List ℕ) (d : Data) (named : List ℕ) → OnRead (IsAhead path d named) (heir_at path names draft parent d named)
-  unfolding heir_at IsAhead
-  heir_ahead path d named =
-      on_read (IsAhead path d named) (own_ahead path draft.types names draft.own parent d) _ λ own read.
-      on_read (IsAhead path d named) (own_signals_ahead path d) _ λ declared e. (own, declared, read, refl)
-
-  listed_by : (path : List ℕ) (d : Data) (x : Data) (xs : Items) (heir : Heir) (own : List Own) → heir.types ≡ draft.types → heir.table ≡ draft.own → heir.parent ≡ parent → heir.own ≡ own
-      → own_ahead path draft.types names draft.own parent d ≡ Ok own
-      → OnRead (AreImplemented path d) (each (at_entry (λ entry. implemented_at entry heir) (under path (codes "implements"))) 0 [] (item x xs))
-  listed_by path d x xs heir own types table up same read =
-      more_on (λ is. AreInterfaces draft.types is × IsHeir heir is) (AreImplemented path d)
-      (each (at_entry (λ entry. implemented_at entry heir) (under path (codes "implements"))) 0 [] (item x xs))
-      (λ is all. (
-        all.0,
-        λ i h ahead e. let agree : own ≡ ahead = one_answer own ahead (sym read ∙ e) in
-            let fine : override_cause (specs_by heir.types heir.table heir.parent) heir.own (heir.table i) ≡ None = all.1 i h in
-            ap (λ a. override_cause (specs_by draft.types draft.own parent) a (draft.own i)) (sym agree ∙ sym same)
-            ∙ ap (λ ts. override_cause (specs_by ts draft.own parent) heir.own (draft.own i)) (sym types)
-            ∙ ap (λ (t : ℕ → List Spec). override_cause (specs_by heir.types t parent) heir.own (t i)) (sym table)
-            ∙ ap (λ p. override_cause (specs_by heir.types heir.table p) heir.own (heir.table i)) (sym up)
-            ∙ fine,
-      ))
-      (on_each (λ is. AreInterfaces draft.types is × IsHeir heir is)
-      (at_entry (λ entry. implemented_at entry heir) (under path (codes "implements")))
-      (λ i is e all. implemented_are draft.types (nth (under path (codes "implements")) i) heir types is e all) 0 [] (item x xs)
-      (tt, λ i h. absurd (cc)))
-    where
-      one_answer : (a b : List Own) → ◌≡◌ {A = Result (List Own) Refusal} (Ok a) (Ok b) → a ≡ b
-      one_answer a b e = cc
-
-  listed_are : (path : List ℕ) (d : Data) (list : Items) → OnRead (AreImplemented path d) (implements_of path names draft parent d list)
-  unfolding implements_listed IsAhead
-  listed_are path d no_items = (tt, λ i named own e. absurd (cc))
-  listed_are path d (item x xs) =
-      on_bind (λ x. Unit {0}) (AreImplemented path d) (each (at_entry (λ entry. named_at entry draft.types) (under path (codes "implements"))) 0 [] (item x xs)) _ (on_all _) λ named u.
-      on_bind (IsAhead path d named) (AreImplemented path d) (heir_at path names draft parent d named) _ (heir_ahead path d named) λ heir is.
-      let same = is.3 in
-      listed_by path d x xs heir is.0 (ap (λ (h : Heir). h.types) same) (ap (λ (h : Heir). h.table) same) (ap (λ (h : Heir). h.parent) same) (ap (λ (h : Heir). h.own) same) is.2
-
-  implements_are : (path : List ℕ) (d : Data) → OnRead (AreImplemented path d) (implements_at path names draft parent d)
-  unfolding implements_at
-  implements_are path d =
-      on_bind (λ x. Unit {0}) (AreImplemented path d) (entries_at path d (codes "implements")) _ (on_all _) λ list u. listed_are path d list
-
 class_fresh : (types : List GType) (name : List ℕ) (parent : ℕ) (flags : TypeFlags) (interfaces : List ℕ) → parent < length types → AreInterfaces types interfaces
     → Fresh types (class_type name parent flags interfaces)
 class_fresh types name parent flags interfaces within all = record {
@@ -325,7 +206,8 @@ abbrev pub IsCalled : Data → List GType → List GType → Type 0
 IsCalled d types all = (g : GType) × (all ≡ types ++ g ∷ []) × (name_under (codes "name") d ≡ Some g.name)
 
 abbrev pub Declared : List ℕ → TypeNames → Draft → Data → List GType → Type 0
-Declared path names draft d all = More draft.types all × Offers path names draft d all × IsCalled d draft.types all
+Declared path names draft d all =
+    More draft.types all × Offers path names draft d all × IsCalled d draft.types all × Announces path names draft d all
 
 unfound : (path : List ℕ) (first : ℕ) (types : List GType) (name : List ℕ) (u : Unit {0}) → new_type_name path first types name ≡ Ok u → find_type types name ≡ None
 unfound path first types name u = by (find_type types name) (is_type_name name)
@@ -343,9 +225,10 @@ unfound path first types name u = by (find_type types name) (is_type_name name)
     by (Some t) valid e = absurd (later first t valid (nat_le first t) e)
 
 declared_grown : (path : List ℕ) (first : ℕ) (list : Items) (names : TypeNames) (draft : Draft) (d : Data) → Grown draft.types
-    → OwnRead draft.types draft.own → IsNext names draft.types d → OnRead (Declared path names draft d) (declared_at path first list names draft d)
+    → OwnRead draft.types draft.own → SignalsRead draft.types draft.signals → IsNext names draft.types d
+    → OnRead (Declared path names draft d) (declared_at path first list names draft d)
 unfolding declared_at
-declared_grown path first list names draft d old read next =
+declared_grown path first list names draft d old read signals next =
     on_bind (λ x. length draft.types < 256) (Declared path names draft d) (room_for_type draft.types) _ (room_left draft.types) λ r room.
     on_bind (λ x. Unit {0}) (Declared path names draft d) (check_depth draft.types (parent_ahead draft.types (get (codes "parent") d))) _ (on_all _) λ deep u.
     on_read (Declared path names draft d) (text_at path d (codes "name")) _ λ name called.
@@ -353,8 +236,9 @@ declared_grown path first list names draft d old read next =
     on_bind (λ p. p < length draft.types) (Declared path names draft d) (parent_at path list draft.types d) _
     (parent_in (under path (codes "parent")) list draft.types (get (codes "parent") d)) λ parent within.
     on_bind (λ x. Unit {0}) (Declared path names draft d) (classes.flags_at path d) _ (on_all _) λ flags u.
-    on_bind (AreImplemented draft names parent path d) (Declared path names draft d) (implements_at path names draft parent d) _
-    (implements_are draft names parent path d) λ interfaces all.
+    on_bind (AreImplemented draft old.tree old.heirs signals names parent within path d) (Declared path names draft d)
+    (implements_at path names draft parent d) _
+    (implements_are draft old.tree old.heirs signals names parent within path d) λ interfaces all.
     let g = class_type name parent flags interfaces in
     let more = one_more draft.types g old room (class_fresh draft.types name parent flags interfaces within all.0) in
     let is = taken (shape (under path (codes "name"))) (option_and_then as_str (get (codes "name") d)) name called in
@@ -365,22 +249,27 @@ declared_grown path first list names draft d old read next =
       class_provides draft.types g old.tree more.tree old.heirs draft.own read parent within refl names
           (read_ahead draft.types g refl room names number old.tree draft.own parent) path d interfaces refl all.0 all.1,
       (g, refl, is),
+      class_announces draft.types g old.tree more.tree old.heirs draft.signals signals names path d
+          parent within refl interfaces all.0 refl all.2,
     )
 
 interface_grown : (path : List ℕ) (first : ℕ) (interfaces classes : Items) (names : TypeNames) (draft : Draft) (d : Data) → Grown draft.types
+    → SignalsRead draft.types draft.signals
     → OnRead (Declared path names draft d) (interface_type_at path first interfaces classes draft.types d)
 unfolding interface_type_at
-interface_grown path first interfaces classes names draft d old =
+interface_grown path first interfaces classes names draft d old signals =
     on_bind (λ x. length draft.types < 256) (Declared path names draft d) (room_for_type draft.types) _ (room_left draft.types) λ r room.
     on_read (Declared path names draft d) (text_at path d (codes "name")) _ λ name called.
     on_bind (λ x. Unit {0}) (Declared path names draft d) (new_type_name (under path (codes "name")) first draft.types name) _ (on_all _) λ new u.
     on_bind (λ x. Unit {0}) (Declared path names draft d) (requires_at path interfaces classes draft.types d) _ (on_all _) λ required u.
-    let g = interface_type name required in (
-      (one_more draft.types g old room (plain_fresh draft.types g refl refl (record { filled = λ e. absurd (cc); few = refl })), (g, refl)),
+    let g = interface_type name required in
+    let more = one_more draft.types g old room (plain_fresh draft.types g refl refl (record { filled = λ e. absurd (cc); few = refl })) in (
+      (more, (g, refl)),
       (λ own e i named slot s at.
           let none : false ≡ true =
           sym (ap (λ (x : GType). list_any (nat_eq i) (implemented x.sort x.interfaces)) (read-last no_type g draft.types)) ∙ named in absurd (cc)),
       (g, refl, taken (shape (under path (codes "name"))) (option_and_then as_str (get (codes "name") d)) name called),
+      root_announces draft.types g old.tree more.tree old.heirs draft.signals signals names path d refl refl,
     )
 
 -- ** properties
@@ -402,7 +291,8 @@ one_longer types all more = let same = ap length more.1.1 in let one = length-ap
 
 abbrev pub GrownDraft : Draft → Type 0
 GrownDraft draft =
-    Grown draft.types × OwnRead draft.types draft.own × ((t : ℕ) → Provides draft.types draft.own t) × ((t : ℕ) → draft.signals t ≡ [])
+    Grown draft.types × OwnRead draft.types draft.own × ((t : ℕ) → Provides draft.types draft.own t)
+    × SignalsRead draft.types draft.signals
 
 provides_by : (types all : List GType) (own changed : ℕ → List Spec) → Grown types → OwnRead types own → More types all
     → OnlyAt (length types) own changed → ((t : ℕ) → Provides types own t) → Provides all changed (length types) → (t : ℕ) → Provides all changed t
@@ -414,53 +304,18 @@ provides_by types all own changed grown read more same old new =
 abbrev With : (List GType → Type 0) → Draft → Type 0
 With Q draft = GrownDraft draft × Q draft.types
 
--- ** signals
-
--- what is absent or empty has no entries
-none_listed : (path : List ℕ) (o : Option Data) → is_absent_or_empty o ≡ true → OnRead (λ list. list ≡ no_items) (entries path o)
-none_listed path None e = refl
-none_listed path (Some d) e = by (as_array d) e
-  where
-    by : (found : Option Items) → is_empty_list found ≡ true → OnRead (λ list. list ≡ no_items) (or_refused (shape path) found)
-    by None h = absurd (cc)
-    by (Some no_items) h = refl
-    by (Some (item x xs)) h = absurd (cc)
-
-is_unset : (path key : List ℕ) (d : Data) (u : Unit {0}) → nothing_at path d (key ∷ []) ≡ Ok u → is_absent_or_empty (get key d) ≡ true
-is_unset path key d u e = by (is_absent_or_empty (get key d)) e
-  where
-    by : (b : Bool) → refused_if (λ (k : List ℕ). shape (under path k)) (cond (not b) (Some key) None) ≡ Ok u → b ≡ true
-    by true h = refl
-    by false h = absurd (cc)
-
--- an entry that lists no signals leaves each type's as they were
-signals_kept : (path : List ℕ) (types : List GType) (names : TypeNames) (t : ℕ) (signals : ℕ → List Signal) (d : Data)
-    → is_absent_or_empty (get (codes "signals") d) ≡ true → OnRead (λ all. all ≡ signals) (signals_at path types names t signals d)
-unfolding signals_at each
-signals_kept path types names t signals d unset =
-    on_bind (λ list. list ≡ no_items) (λ all. all ≡ signals) (entries_at path d (codes "signals")) _
-    (none_listed (under path (codes "signals")) (get (codes "signals") d) unset) λ list none.
-    subst (λ ds. OnRead (λ all. all ≡ signals) (each (at_entry (λ entry. signal_at entry types names t) (under path (codes "signals"))) 0 signals ds))
-    (sym none) refl
-
--- what an entry gives to a type: properties, and no signals
+-- what an entry gives to a type: properties, and signals
 IsGiven : List ℕ → List GType → TypeNames → ℕ → (ℕ → List Spec) → (ℕ → List Signal) → Data → Draft → Type 0
 IsGiven path types names t own signals d given =
-    (properties : ℕ → List Spec) × (given ≡ record { types = types; own = properties; signals = signals })
-    × (properties_at path types names t own d ≡ Ok properties)
+    (properties : ℕ → List Spec) × (all : ℕ → List Signal) × (given ≡ record { types = types; own = properties; signals = all })
+    × (properties_at path types names t own d ≡ Ok properties) × (signals_at path types names t signals d ≡ Ok all)
 
 given_read : (path : List ℕ) (types : List GType) (names : TypeNames) (t : ℕ) (own : ℕ → List Spec) (signals : ℕ → List Signal) (d : Data)
     → OnRead (IsGiven path types names t own signals d) (given_at path types names t own signals d)
 unfolding given_at IsGiven
 given_read path types names t own signals d =
     on_read (IsGiven path types names t own signals d) (properties_at path types names t own d) _ λ properties e.
-    on_read (IsGiven path types names t own signals d) (nothing_at path d (codes "signals" ∷ [])) _ λ u unset.
-    on_bind (λ all. all ≡ signals) (IsGiven path types names t own signals d) (signals_at path types names t signals d) _
-    (signals_kept path types names t signals d (is_unset path (codes "signals") d u unset)) λ all same.
-    (properties, ap (with_signals properties) same, e)
-  where
-    with_signals : (ℕ → List Spec) → (ℕ → List Signal) → Draft
-    with_signals properties all = record { types = types; own = properties; signals = all }
+    on_read (IsGiven path types names t own signals d) (signals_at path types names t signals d) _ λ all f. (properties, all, refl, e, f)
 
 type_grown : (Q : List GType → Type 0) (path : List ℕ) (keys : List (List ℕ)) (declared : Result (List GType) Refusal) (behind : Result (Unit {0}) Refusal) (names : TypeNames)
     (draft : Draft) (d : Data) → OnRead (Declared path names draft d) declared → GrownDraft draft
@@ -472,32 +327,42 @@ type_grown Q path keys declared behind names draft d grown old left =
     on_bind (IsGiven path types names (length draft.types) draft.own draft.signals d) (With Q) (given_at path types names (length draft.types) draft.own draft.signals d) _
     (given_read path types names (length draft.types) draft.own draft.signals d) λ given is.
     let own = is.0 in
-    let e = is.2 in
+    let e = is.3 in
     on_bind (λ x. Unit {0}) (With Q) behind _ (on_all _) λ done u.
-    on_bind (λ x. Unit {0}) (With Q) (only_at path ms keys) _ (on_all _) λ only u. subst (With Q) (sym is.1) (
+    on_bind (λ x. Unit {0}) (With Q) (only_at path ms keys) _ (on_all _) λ only u. subst (With Q) (sym is.2) (
       (
         more.0.0,
         subst (OnRead (OwnRead types)) e (properties_read types more.0.0.tree (length draft.types) (one_longer draft.types types more.0) names path draft.own d
             (longer_by draft.types types draft.own old.0.tree more.0 old.1)),
         provides_by draft.types types draft.own own old.0 old.1 more.0
             (subst (OnRead (OnlyAt (length draft.types) draft.own)) e (properties_only types names (length draft.types) draft.own path d)) old.2 (more.1 own e),
-        old.3,
+        more.3 is.1 is.4,
       ),
       subst Q (sym more.2.1) (left more.2.0 more.2.2),
     )
 
+nothing_flat : {A : Type 0} (own : ℕ → List A) → ((t : ℕ) → own t ≡ []) → (ts : List ℕ) → flat_map own ts ≡ []
+nothing_flat own none [] = refl
+nothing_flat own none (t ∷ ts) = ap (λ l. l ++ flat_map own ts) (none t) ∙ nothing_flat own none ts
+
 abbrev no_specs : ℕ → List Spec
 no_specs t = []
-
-nothing_flat : (ts : List ℕ) → flat_map no_specs ts ≡ []
-nothing_flat [] = refl
-nothing_flat (t ∷ ts) = nothing_flat ts
 
 bare_read : (types : List GType) → OwnRead types no_specs
 bare_read types = record {
   kept = λ t. tt;
   past = λ t h. refl;
-  named = λ t. subst AreNamed (sym (nothing_flat (reverse (lineage types t)))) refl;
+  named = λ t. subst AreNamed (sym (nothing_flat no_specs (λ u. refl) (reverse (lineage types t)))) refl;
+}
+
+abbrev no_signals : ℕ → List Signal
+no_signals t = []
+
+silent_read : (types : List GType) → SignalsRead types no_signals
+silent_read types = record {
+  kept = λ t. tt;
+  past = λ t h. refl;
+  apart = λ t h. subst (λ l. AreApart signal_name (notify ∷ l)) (sym (nothing_flat no_signals (λ u. refl) (sources_of types t))) refl;
 }
 
 interfaces_grown : (names : TypeNames) (types : List GType) (d : Data) → Grown types
@@ -511,9 +376,10 @@ interfaces_grown names types d old begin =
     (λ i draft e ds all. type_grown (λ ts. InterfacesLeft names ts ds) (nth (under [] (codes "interfaces")) i) keys_of_interface
     (interface_type_at (nth (under [] (codes "interfaces")) i) (length types) list (listed_ahead (codes "classes") d) draft.types e)
     (Ok tt) names draft e
-    (interface_grown (nth (under [] (codes "interfaces")) i) (length types) list (listed_ahead (codes "classes") d) names draft e all.0.0) all.0
+    (interface_grown (nth (under [] (codes "interfaces")) i) (length types) list (listed_ahead (codes "classes") d) names draft e
+    all.0.0 all.0.3) all.0
     (λ g called. interface_left names draft.types e ds g called all.1))
-    0 (bare_draft types) list ((old, bare_read types, λ t i named slot s at. absurd (cc), λ t. refl), begin list listed)
+    0 (bare_draft types) list ((old, bare_read types, λ t i named slot s at. absurd (cc), silent_read types), begin list listed)
 
 classes_grown : (names : TypeNames) (draft : Draft) (d : Data) → GrownDraft draft
     → ((list : Items) → entries_at [] d (codes "classes") ≡ Ok list → ClassesLeft names draft.types list) → OnRead GrownDraft (classes_in names draft d)
@@ -527,7 +393,8 @@ classes_grown names draft d old begin =
     (at_entry (λ path. class_at path (length draft.types) list names) (under [] (codes "classes")))
     (λ i more e ds all. type_grown (λ ts. ClassesLeft names ts ds) (nth (under [] (codes "classes")) i) keys_of_class
     (declared_at (nth (under [] (codes "classes")) i) (length draft.types) list names more e) (answering_at (nth (under [] (codes "classes")) i) e) names more e
-    (declared_grown (nth (under [] (codes "classes")) i) (length draft.types) list names more e all.0.0 all.0.1 (is_next names more.types e ds all.1)) all.0
+    (declared_grown (nth (under [] (codes "classes")) i) (length draft.types) list names more e
+    all.0.0 all.0.1 all.0.3 (is_next names more.types e ds all.1)) all.0
     (λ g called. class_left names more.types e ds g called all.1)) 0 draft list (old, begin list listed))
 
 first_parents : (t p : ℕ) → parent_of predeclared t ≡ Some p → p < t

@@ -2,6 +2,7 @@
 use Rattle.std.proofs.Common.{◌≡◌, ℕ, false, List, Some, slice_get, refl, sym, ap, subst, ◌∙◌, arith, IfOk}
 use Rattle.std.proofs.lemmas.Option.{none-some}
 use Rattle.ui_machine.specs.Definition.{Definition}
+use Rattle.ui_machine.specs.Definition.Programs.{Program}
 use Rattle.ui_machine.specs.Definition.Places.{Place}
 use Rattle.ui_machine.specs.Output.Text.{no_type, members_of}
 use Rattle.ui_machine.specs.Definition.Lookups.{place_at}
@@ -11,7 +12,8 @@ use Rattle.builder_defs.specs.Denoted.Drafts.{Draft}
 use Rattle.builder_defs.specs.Denoted.Properties.{specs_by}
 use Rattle.builder_defs.proofs.Soundness as soundness
 use Rattle.builder_defs.proofs.Soundness.{OnRead, AreFew, PlainDraft, draft_plain}
-use Rattle.law_typing.specs.Laws.WellRead.{TypesRead, WellRead}
+use Rattle.law_typing.specs.Laws.WellRead.{ProgramRead, TypesRead, WellRead}
+use Rattle.law_typing.specs.Verdict.Accepted.{Each}
 use Rattle.law_reading.specs.Reading.{ReadingIsWell, EventsAreRead}
 use Rattle.law_reading.proofs.EventProofs.{event_read}
 use Rattle.law_reading.proofs.ValueProofs.{HaveFewBits}
@@ -19,41 +21,42 @@ use Rattle.law_sessions.specs.Sessions.{EventRead}
 use Rattle.law_reading.proofs.Parts.{IsRead, parts}
 use Rattle.law_reading.proofs.Ancestors.{transitive}
 use Rattle.law_reading.proofs.LimitProofs.{Small, limits_small, objects_few}
-use Rattle.law_reading.proofs.ListProofs.{all_read}
+use Rattle.law_reading.proofs.ListProofs.{all_read, each_get}
+use Rattle.law_reading.proofs.ListedPrograms.{programs_read}
 use Rattle.law_reading.proofs.ObjectProofs.{AreObjects, all_objects}
 use Rattle.law_reading.proofs.PlaceProofs.{place_read, place_order, peers_apart}
 use Rattle.law_reading.proofs.SignalProofs.{as_many, has_notify, some_signal, found, results_filled, no_shape}
 use Rattle.law_reading.proofs.SpecProofs.{spec_read, names_apart, specs_inherited}
 use Rattle.law_reading.proofs.TreeProofs.{GrownDraft, draft_grown}
 
-module _ (draft : Draft) (places : List Place) (limits : Limits) (grown : GrownDraft draft) (plain : PlainDraft draft)
+module _ (draft : Draft) (programs : List Program) (places : List Place) (limits : Limits) (grown : GrownDraft draft) (plain : PlainDraft draft)
     (objects : AreObjects draft.types (specs_by draft.types draft.own) places) (small : Small limits)
-    (few : AreFew limits.objects places) where
-  types_read : TypesRead (definition_with draft places limits)
+    (few : AreFew limits.objects places) (read : Each (ProgramRead (definition_with draft programs places limits)) programs) where
+  types_read : TypesRead (definition_with draft programs places limits)
   types_read = record {
-    classes = as_many draft places limits grown.3;
+    classes = as_many draft programs places limits;
     parents = grown.0.tree.parents_first;
     transitive = transitive draft.types grown.0.tree grown.0.heirs;
-    inherits = specs_inherited draft places limits grown plain;
-    shapes = λ class type shape h e. absurd (none-some shape (sym (no_shape draft places limits grown.3 type) ∙ e));
-    notify = λ class known sort. has_notify draft places limits grown.3 class known;
-    first = λ type number s e. has_notify draft places limits grown.3 type (some_signal draft places limits grown.3 type number s e);
-    specs = spec_read draft places limits grown plain;
-    names = names_apart draft places limits grown plain;
+    inherits = specs_inherited draft programs places limits grown plain;
+    shapes = λ class type shape h e. absurd (none-some shape (sym (no_shape draft programs places limits type) ∙ e));
+    notify = λ class known sort. has_notify draft programs places limits class known;
+    first = λ type number s e. has_notify draft programs places limits type (some_signal draft programs places limits type number s e);
+    specs = spec_read draft programs places limits grown plain;
+    names = names_apart draft programs places limits grown plain;
     replies = refl;
-    results = results_filled draft places limits grown.3;
-    signals = found draft places limits grown.3;
+    results = results_filled draft programs places limits grown.3 grown.0 plain.known;
+    signals = found draft programs places limits grown.3;
     members = all_read no_type _ draft.types (λ t. (grown.0.members t).few);
   }
 
-  well : WellRead (definition_with draft places limits)
+  well : WellRead (definition_with draft programs places limits)
   well =
       let all = objects_few places in
       record {
         types = types_read;
-        programs = λ number p e. absurd (cc);
-        places = place_read draft places limits grown.3 objects few.placed;
-        order = place_order draft places limits grown.3 objects few.placed;
+        programs = λ number p e. each_get (ProgramRead (definition_with draft programs places limits)) programs number p read e;
+        places = place_read draft programs places limits objects few.placed;
+        order = place_order draft programs places limits objects few.placed;
         peers = peers_apart draft.types (specs_by draft.types draft.own) places objects;
         bindings = tt;
         objects = omega (arith, all, few.live);
@@ -69,6 +72,7 @@ pub record Facts (d : Definition) : Type 0 where
   pub objects : AreObjects read.draft.types (specs_by read.draft.types read.draft.own) read.places
   pub small : Small read.limits
   pub few : AreFew read.limits.objects read.places
+  pub programs : Each (ProgramRead d) read.programs
 
 pub facts : (d : Definition) → IsRead d → Facts d
 facts d r =
@@ -79,9 +83,12 @@ facts d r =
       grown = grown;
       plain = subst (OnRead PlainDraft) r.drafted (draft_plain r.value);
       objects = subst (OnRead (AreObjects r.draft.types specs)) r.placed
-          (all_objects r.draft.types (λ t. (grown.0.members t).few) specs r.limits.objects r.value);
+          (all_objects r.draft.types (λ t. (grown.0.members t).few) specs r.programs r.limits.objects r.value);
       small = subst (OnRead Small) r.limited (limits_small r.value);
-      few = subst (OnRead (AreFew r.limits.objects)) r.placed (soundness.objects_few r.draft.types specs r.limits.objects r.value);
+      few = subst (OnRead (AreFew r.limits.objects)) r.placed (soundness.objects_few r.draft.types specs r.programs r.limits.objects r.value);
+      programs = subst (λ (x : Definition). Each (ProgramRead x) r.programs) r.is
+          (subst (OnRead (Each (ProgramRead (definition_with r.draft r.programs r.places r.limits)))) r.programmed
+          (programs_read (definition_with r.draft r.programs r.places r.limits) (λ t. grown.0.members t) r.value));
     }
 
 -- no prototype is a place of it
@@ -101,4 +108,5 @@ events_read bytes d h line event e =
 pub well_read : ReadingIsWell
 well_read bytes d h =
     let f = facts d (parts bytes d h) in
-    subst WellRead f.read.is (well f.read.draft f.read.places f.read.limits f.grown f.plain f.objects f.small f.few)
+    let programs = subst (λ (x : Definition). Each (ProgramRead x) f.read.programs) (sym f.read.is) f.programs in
+    subst WellRead f.read.is (well f.read.draft f.read.programs f.read.places f.read.limits f.grown f.plain f.objects f.small f.few programs)

@@ -10,14 +10,16 @@ use Rattle.builder_defs.specs.Denoted.{enums_in, flags_in, interfaces_in, classe
 use Rattle.builder_defs.specs.Denoted.Classes.{named_parent, flags_at, declared_at, answering_at}
 use Rattle.builder_defs.specs.Denoted.Drafts.{properties_at, type_at}
 use Rattle.builder_defs.specs.Denoted.Drafts as drafts
-use Rattle.builder_defs.specs.Denoted.Signals.{signals_at}
+use Rattle.builder_defs.specs.Denoted.Signals.{param_at, params_at, signal_of_entry, signal_at, signals_at}
 use Rattle.signal_core.specs.Sources.{sources_of}
 use Rattle.builder_defs.specs.Denoted.Implements.{implements_at}
+use Rattle.builder_defs.specs.Denoted.Attached.{all_attached}
+use Rattle.builder_defs.specs.Denoted.Programs.{programs_in}
 use Rattle.builder_defs.specs.Denoted.Given.{property_named, given_at, givens_at}
 use Rattle.builder_defs.specs.Denoted.Objects.{place_at, added_at, object_at}
 use Rattle.builder_defs.specs.Denoted.Properties.{valued_at, spec_at, property_at}
 use Rattle.builder_defs.specs.Denoted.Ranges.{range_at}
-use Rattle.builder_defs.specs.EventMeaning.{line_value, target, object_of, set_event, get_event, release_event, event_meant, event_denoted}
+use Rattle.builder_defs.specs.EventMeaning.{line_value, target, signal_target, object_of, each_of, id_known, argument, set_event, get_event, release_event, emit_event, event_meant, event_denoted}
 use Rattle.law_typing.specs.Laws.StepsKeepGood.{PeerReady, PoolReady}
 use Rattle.law_typing.specs.Verdict.{verdict, accepted}
 use Rattle.law_typing.specs.Verdict.Accepted.{Each}
@@ -30,19 +32,23 @@ unfolding is_utf8 chars serde_json_on_literals document each
 text_on_literals = tt
 
 unfoldable types_on_literals : ⊤
-unfolding enums_in flags_in interfaces_in classes_in draft_in type_at declared_at flags_at named_parent implements_at properties_at answering_at drafts.given_at signals_at sources_of
+unfolding enums_in flags_in interfaces_in classes_in draft_in type_at declared_at flags_at named_parent implements_at properties_at answering_at drafts.given_at
 types_on_literals = tt
+
+unfoldable signals_on_literals : ⊤
+unfolding signals_at signal_at signal_of_entry params_at param_at sources_of
+signals_on_literals = tt
 
 unfoldable properties_on_literals : ⊤
 unfolding property_at spec_at valued_at range_at
 properties_on_literals = tt
 
 unfoldable objects_on_literals : ⊤
-unfolding objects_in object_at added_at place_at givens_at given_at property_named
+unfolding programs_in objects_in object_at added_at place_at givens_at given_at property_named all_attached
 objects_on_literals = tt
 
 unfoldable lines_on_literals : ⊤
-unfolding event_denoted event_meant set_event get_event release_event target object_of line_value
+unfolding event_denoted event_meant set_event get_event release_event emit_event target signal_target each_of id_known argument object_of line_value
 lines_on_literals = tt
 
 -- the peers of a place, if there is one, are ready
@@ -60,7 +66,7 @@ unfolding digits
 is_judged = refl
 
 pub premises_met : PremisesMet
-unfolding denoted definition_in text_on_literals types_on_literals properties_on_literals objects_on_literals lines_on_literals
+unfolding denoted definition_in text_on_literals types_on_literals signals_on_literals properties_on_literals objects_on_literals lines_on_literals
 premises_met = record {
   read = refl;
   judged = is_judged;

@@ -1,11 +1,14 @@
--- What the promise asks of bytes is met: by the definition of the first run with a child, and lines that set, read and let go.
-use Rattle.std.specs.Prelude.{◌≡◌, ℕ, pos, List, [], ◌∷◌, ◌++◌, codes, None, Some, Ok}
+-- What the promise asks of bytes is met: by the definition of the first run with a signal and a child, and lines that set, emit, read and let
+-- go.
+use Rattle.std.specs.Prelude.{◌≡◌, ℕ, pos, negsuc, false, List, [], ◌∷◌, ◌++◌, codes, None, Some, Ok}
 use Rattle.ui_machine.specs.Definition.{Definition}
 use Rattle.ui_machine.specs.Definition.Kinds.{int}
+use Rattle.ui_machine.specs.Definition.Kinds as kinds
 use Rattle.ui_machine.specs.Definition.Places.{value}
+use Rattle.ui_machine.specs.Definition.Signals.{Signal}
 use Rattle.ui_machine.specs.Definition.Values.{whole}
-use Rattle.ui_machine.specs.State.Tasks.{request, set, get, release}
-use Rattle.ui_machine.specs.Words.{object}
+use Rattle.ui_machine.specs.State.Tasks.{request, set, emit, get, release}
+use Rattle.ui_machine.specs.Words.{bare, class_with, notify, object, property, signal}
 use Rattle.builder_defs.specs.Denoted.{denoted}
 use Rattle.law_typing.specs.Examples.FirstRun as first_run
 use Rattle.law_typing.specs.Laws.StepsKeepGood.{PoolReady}
@@ -13,16 +16,28 @@ use Rattle.law_typing.specs.Verdict.{verdict, accepted}
 use Rattle.law_typing.specs.Verdict.Accepted.{Accepted}
 use Rattle.law_reading.specs.ReadRuns.{events_in}
 
--- a class with a property, an object of it, and another that is its child
+-- a class with a property and a signal, an object of it, and another that is its child
 abbrev pub bytes : List ℕ
 bytes =
-    codes "{\"format\":1,\"classes\":[{\"name\":\"Box\",\"properties\":[{\"name\":\"n\",\"kind\":\"int\"}]}],"
+    codes "{\"format\":1,\"classes\":[{\"name\":\"Box\",\"properties\":[{\"name\":\"n\",\"kind\":\"int\"}],"
+    ++ codes "\"signals\":[{\"name\":\"turned_on\",\"params\":[\"int\"]}]}],"
     ++ codes "\"objects\":[{\"id\":\"b\",\"class\":\"Box\",\"children\":[{\"id\":\"c\",\"class\":\"Box\"}]}]}\n"
 
--- the definition of the first run, with the child behind its object
+-- the signal, as it is kept
+abbrev pub turned_on : Signal
+turned_on = signal (codes "turned-on") (kinds.whole int ∷ []) None 2 None
+
+-- the definition of the first run, with the signal, and with the child behind its object
 abbrev pub definition : Definition
-definition =
-    record first_run.definition { places = object (codes "b") 2 None [] [] [] ∷ object (codes "c") 2 (Some 0) [] [] [] ∷ [] }
+definition = record first_run.definition {
+  classes =
+      bare
+      ∷ bare
+      ∷ class_with (property (codes "n") (kinds.whole int) 3 (whole int (pos 0)) (negsuc 2147483647) (pos 2147483647) false ∷ [])
+      (notify ∷ turned_on ∷ []) [] None None
+      ∷ [];
+  places = object (codes "b") 2 None [] [] [] ∷ object (codes "c") 2 (Some 0) [] [] [] ∷ [];
+}
 
 -- what its report tells
 abbrev pub told : List (List ℕ)
@@ -30,15 +45,18 @@ told =
     codes "depth 1"
     ∷ codes "build bound 64"
     ∷ codes "property b.n rank 0 bound 65"
+    ∷ codes "signal b.turned-on rank 0 bound 65"
     ∷ codes "property c.n rank 0 bound 65"
+    ∷ codes "signal c.turned-on rank 0 bound 65"
     ∷ []
 
--- the property of the object is set, that of the child is read, and the child is let go; between the first two stands a line that denotes
--- no event
+-- the property of the object is set, the signal emitted, the property of the child is read, and the child is let go; between the first two
+-- stands a line that denotes no event
 abbrev pub lines : List (List ℕ)
 lines =
     codes "{\"set\":[\"b\",\"n\",5]}"
     ∷ codes "{\"get\":[\"b\",\"m\"]}"
+    ∷ codes "{\"emit\":[\"b\",\"turned_on\",[3]]}"
     ∷ codes "{\"get\":[\"c\",\"n\"]}"
     ∷ codes "{\"release\":\"c\"}"
     ∷ []
@@ -49,4 +67,9 @@ pub record PremisesMet : Type 0 where
   pub accepted : Accepted definition
   pub ready : PoolReady definition []
   pub events :
-      events_in definition lines ≡ request (set 0 0 (value (whole int (pos 5)))) ∷ request (get 1 0) ∷ request (release 1) ∷ []
+      events_in definition lines
+      ≡ request (set 0 0 (value (whole int (pos 5))))
+      ∷ request (emit 0 1 (value (whole int (pos 3)) ∷ []) None)
+      ∷ request (get 1 0)
+      ∷ request (release 1)
+      ∷ []

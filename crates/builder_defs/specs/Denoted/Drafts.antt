@@ -1,5 +1,5 @@
 -- Types with their properties and signals, while they are read.
-use Rattle.std.specs.Prelude.{ℕ, List, [], ◌∷◌, length, codes, Result, Ok}
+use Rattle.std.specs.Prelude.{ℕ, List, [], length, codes, Result, Ok}
 use Rattle.serde_json.specs.Data.{Data}
 use Rattle.ui_machine.specs.Outcome.{◌>>=◌}
 use Rattle.ui_machine.specs.Definition.Types.{GType}
@@ -8,7 +8,7 @@ use Rattle.ui_machine.specs.Definition.Signals.{Signal}
 use Rattle.param_specs.specs.Table.{own_of}
 use Rattle.signal_core.specs.Sources as tables
 use Rattle.builder_defs.specs.Refusals.{Refusal}
-use Rattle.builder_defs.specs.Document.{under, members_at, entries_at, nothing_at, only_at, each, at_entry}
+use Rattle.builder_defs.specs.Document.{under, members_at, entries_at, only_at, each, at_entry}
 use Rattle.builder_defs.specs.Denoted.Entries.{TypeNames}
 use Rattle.builder_defs.specs.Denoted.Properties.{property_at}
 use Rattle.builder_defs.specs.Denoted.Signals.{signals_at}
@@ -32,12 +32,10 @@ properties_at path types names t own d = do
   list ← entries_at path d (codes "properties")
   each (at_entry (λ entry. property_at entry types names t) (under path (codes "properties"))) 0 own list
 
--- The draft of these types, where one gets the properties and signals of an entry. It has no signals of its own yet: a list of them is refused,
--- unless it is empty.
+-- The draft of these types, where one gets the properties and signals of an entry. It has no signals of its own yet.
 unfoldable pub given_at : List ℕ → List GType → TypeNames → ℕ → (ℕ → List Spec) → (ℕ → List Signal) → Data → Result Draft Refusal
 given_at path types names t own signals d = do
   properties ← properties_at path types names t own d
-  unset ← nothing_at path d (codes "signals" ∷ [])
   all ← signals_at path types names t signals d
   Ok (record { types = types; own = properties; signals = all })
 

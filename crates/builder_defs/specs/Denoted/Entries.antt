@@ -1,6 +1,6 @@
 -- Entries of the document's lists by what they are called. Each counts by itself, however faulty it is, so that those that come later are
 -- known too.
-use Rattle.std.specs.Prelude.{◌≡◌, ℕ, zero, suc, ◌+◌, List, [], ◌∷◌, ◌++◌, map, length, codes, Bool, false, nat_lt, if◌then◌else◌, Option, None, Some, option_and_then}
+use Rattle.std.specs.Prelude.{◌≡◌, ℕ, zero, suc, ◌+◌, List, [], ◌∷◌, ◌++◌, map, length, codes, Bool, false, nat_lt, if◌then◌else◌, Option, None, Some, option_map, option_and_then}
 use Rattle.std.specs.Option.{option_or}
 use Rattle.std.specs.Str.{bytes_eq}
 use Rattle.serde_json.specs.Data.{Data, Items, no_items, item}
@@ -91,3 +91,13 @@ names_of objects = record { ids = map (name_under (codes "id")) objects; classes
 
 abbrev pub object_names : Items → ObjectNames
 object_names list = names_of (in_order most_levels list)
+
+-- ** places by id
+
+-- the objects of a document and then its prototypes, which have no children
+abbrev pub places_in_order : Data → List Data
+places_in_order d = in_order most_levels (section (codes "objects") d) ++ in_order 1 (section (codes "prototypes") d)
+
+-- the place of the object or prototype of an id; one past the 512 places that there may be stands for none
+abbrev pub place_with_id : Data → List ℕ → Option ℕ
+place_with_id d id = option_map (at_most 512) (number_from 0 (map (name_under (codes "id")) (places_in_order d)) id)

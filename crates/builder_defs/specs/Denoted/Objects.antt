@@ -6,6 +6,7 @@ use Rattle.ui_machine.specs.Definition.Types.{GType}
 use Rattle.ui_machine.specs.Definition.Properties.{Spec}
 use Rattle.ui_machine.specs.Definition.Names.{place_named}
 use Rattle.ui_machine.specs.Definition.Places as machine
+use Rattle.ui_machine.specs.Definition.Programs.{Program}
 use Rattle.ui_machine.specs.Seq.{read}
 use Rattle.ui_machine.specs.Output.Text.{no_type}
 use Rattle.type_tree.specs.Adding.{class_named}
@@ -17,6 +18,7 @@ use Rattle.builder_defs.specs.Document.{under, members_at, text_at, entries_at, 
 use Rattle.builder_defs.specs.Denoted.Names.{is_name}
 use Rattle.builder_defs.specs.Denoted.Entries.{ObjectNames}
 use Rattle.builder_defs.specs.Denoted.Given.{givens_at}
+use Rattle.builder_defs.specs.Denoted.Attached.{all_attached}
 
 -- there is a place for one more, and it may live
 abbrev pub room_for_object : ℕ → List machine.Place → Result (Unit {0}) Refusal
@@ -41,14 +43,16 @@ class_at_key path types d = do
 abbrev pub keys_of_object : List (List ℕ)
 keys_of_object = codes "id" ∷ codes "class" ∷ codes "peer" ∷ codes "properties" ∷ codes "signals" ∷ codes "children" ∷ []
 
--- what is known where objects are read: the types with their properties, how many objects may live, and the names of all objects
+-- what is known where objects are read: the types with their properties, the programs, how many objects may live, and the names of all objects
 pub record Scope : Type 0 where
   pub types : List GType
   pub specs : ℕ → List Spec
+  pub programs : List Program
   pub most : ℕ
   pub names : ObjectNames
 
--- The object that an entry gives beside these, the child of the object at a place, if it is a child. It has no peer and no signals so far.
+-- The object that an entry gives beside these, the child of the object at a place, if it is a child. It has no peer so far. A list of signals is
+-- refused, unless it is empty, until there is something that runs programs.
 unfoldable pub place_at : List ℕ → Scope → Option ℕ → List machine.Place → Data → Result machine.Place Refusal
 place_at path scope parent places d = do
   room ← room_for_object scope.most places
@@ -58,7 +62,8 @@ place_at path scope parent places d = do
   peer ← absent_at path d (codes "peer" ∷ [])
   given ← givens_at path scope.types scope.names (length places) (scope.specs class) d
   bare ← nothing_at path d (codes "signals" ∷ [])
-  Ok (plain_place id class parent given)
+  signals ← all_attached path scope.programs scope.names d
+  Ok (plain_place id class parent given signals)
 
 -- these objects, with the one that an entry gives
 unfoldable pub added_at : List ℕ → Scope → Option ℕ → List machine.Place → Data → Result (List machine.Place) Refusal

@@ -7,7 +7,6 @@ use Rattle.serde_json.specs.Find.{get, as_str, as_array}
 use Rattle.ui_machine.specs.Outcome.{◌>>=◌}
 use Rattle.ui_machine.specs.Seq.{total}
 use Rattle.ui_machine.specs.Definition.Kinds.{Kind}
-use Rattle.ui_machine.specs.Definition.Names.{canonical}
 use Rattle.ui_machine.specs.Definition.Signals.{Accumulator, Signal, first_wins, true_handled}
 use Rattle.ui_machine.specs.Definition.Types.{GType, Sort}
 use Rattle.ui_machine.specs.Definition.Types as sorts

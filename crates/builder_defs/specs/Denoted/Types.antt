@@ -1,6 +1,6 @@
 -- What all types of a definition have: a name, and their place among the 256.
-use Rattle.std.specs.Prelude.{ℕ, List, codes, Bool, false, ◌||◌, nat_le, if◌then◌else◌, Option, None, Some, Result, Ok, Err}
-use Rattle.serde_json.specs.Data.{Data, Items, no_items, item}
+use Rattle.std.specs.Prelude.{ℕ, List, codes, Bool, false, ◌||◌, nat_le, if◌then◌else◌, Option, None, Some, Result, Err}
+use Rattle.serde_json.specs.Data.{Items, no_items, item}
 use Rattle.ui_machine.specs.Definition.Types.{GType}
 use Rattle.type_tree.specs.Adding.{find_type, name_fault, room_fault}
 use Rattle.builder_defs.specs.declared.fault.DefinitionLimit.TheVariants.{Types}

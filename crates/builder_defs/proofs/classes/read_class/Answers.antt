@@ -12,36 +12,36 @@ give_members-requires c =
     within_declared (path_of c.args.part.path) c.args.first (items_view c.args.list.now) c.args.names.now (draft_of c.args.types.now c.args.specs.now c.args.signals.now.signals) (view c.args.part.value.now)
     c.declare.new.types c.in_ok-class.class c.in_ok-class.ensures.types c.in_ok-class.ensures.class
 
-pub returns-in_err-give_members : goal.returns-in_err-give_members
-returns-in_err-give_members c =
+pub returns-in_err-give_members-clause-draft : goal.returns-in_err-give_members-clause-draft
+returns-in_err-give_members-clause-draft c =
     let p = err_from_is_err_and c.from_residual-in_err-give_members.result c.from_residual-in_err-give_members.ensures.1 in
     rw (p.1, p.2) (members_fail (path_of c.args.part.path) keys_of_class
     (declared_at (path_of c.args.part.path) c.args.first (items_view c.args.list.now) c.args.names.now (draft_of c.args.types.now c.args.specs.now c.args.signals.now.signals) (view c.args.part.value.now))
     (answering_at (path_of c.args.part.path) (view c.args.part.value.now)) c.args.names.now c.args.types.now c.args.specs.now c.args.signals.now.signals (view c.args.part.value.now)
     (members_view c.in_ok-members.members.now.entries) c.declare.new.types c.in_ok-class.class c.in_ok-members.ensures c.in_ok-class.ensures.types c.in_ok-class.ensures.class
-    c.in_err-give_members.field-0.0 c.in_err-give_members.ensures)
+    c.in_err-give_members.field-0.0 c.in_err-give_members.ensures.given)
 
-pub returns-in_err-check_answering : goal.returns-in_err-check_answering
-returns-in_err-check_answering c =
+pub returns-in_err-check_answering-clause-draft : goal.returns-in_err-check_answering-clause-draft
+returns-in_err-check_answering-clause-draft c =
     let p = err_from_is_err_and c.from_residual-in_err-check_answering.result c.from_residual-in_err-check_answering.ensures.1 in
     rw (p.1, p.2) (unset_fails (path_of c.args.part.path) keys_of_class
     (declared_at (path_of c.args.part.path) c.args.first (items_view c.args.list.now) c.args.names.now (draft_of c.args.types.now c.args.specs.now c.args.signals.now.signals) (view c.args.part.value.now))
     (answering_at (path_of c.args.part.path) (view c.args.part.value.now)) c.args.names.now c.args.types.now c.args.specs.now c.args.signals.now.signals (view c.args.part.value.now)
     (members_view c.in_ok-members.members.now.entries) c.declare.new.types c.in_ok-class.class c.in_ok-members.ensures c.in_ok-class.ensures.types c.in_ok-class.ensures.class
-    (draft_of c.declare.new.types c.give_members.new.specs c.give_members.new.signals.signals) c.in_ok-give_members.ensures c.in_err-check_answering.field-0.0 c.in_err-check_answering.ensures)
+    (draft_of c.declare.new.types c.give_members.new.specs c.give_members.new.signals.signals) c.in_ok-give_members.ensures.given c.in_err-check_answering.field-0.0 c.in_err-check_answering.ensures)
 
-pub returns-in_err-check_only : goal.returns-in_err-check_only
-returns-in_err-check_only c =
+pub returns-in_err-check_only-clause-draft : goal.returns-in_err-check_only-clause-draft
+returns-in_err-check_only-clause-draft c =
     let p = err_from_is_err_and c.from_residual-in_err-check_only.result c.from_residual-in_err-check_only.ensures.1 in
     rw (p.1, p.2) (only_fails (path_of c.args.part.path) keys_of_class
     (declared_at (path_of c.args.part.path) c.args.first (items_view c.args.list.now) c.args.names.now (draft_of c.args.types.now c.args.specs.now c.args.signals.now.signals) (view c.args.part.value.now))
     (answering_at (path_of c.args.part.path) (view c.args.part.value.now)) c.args.names.now c.args.types.now c.args.specs.now c.args.signals.now.signals (view c.args.part.value.now)
     (members_view c.in_ok-members.members.now.entries) c.declare.new.types c.in_ok-class.class c.in_ok-members.ensures c.in_ok-class.ensures.types c.in_ok-class.ensures.class
-    (draft_of c.declare.new.types c.give_members.new.specs c.give_members.new.signals.signals) c.in_ok-give_members.ensures c.in_err-check_only.field-0.0 c.in_ok-check_answering.ensures c.in_err-check_only.ensures)
+    (draft_of c.declare.new.types c.give_members.new.specs c.give_members.new.signals.signals) c.in_ok-give_members.ensures.given c.in_err-check_only.field-0.0 c.in_ok-check_answering.ensures c.in_err-check_only.ensures)
 
-pub returns : goal.returns
-returns c = type_done (path_of c.args.part.path) keys_of_class
+pub returns-clause-draft : goal.returns-clause-draft
+returns-clause-draft c = type_done (path_of c.args.part.path) keys_of_class
     (declared_at (path_of c.args.part.path) c.args.first (items_view c.args.list.now) c.args.names.now (draft_of c.args.types.now c.args.specs.now c.args.signals.now.signals) (view c.args.part.value.now))
     (answering_at (path_of c.args.part.path) (view c.args.part.value.now)) c.args.names.now c.args.types.now c.args.specs.now c.args.signals.now.signals (view c.args.part.value.now)
     (members_view c.in_ok-members.members.now.entries) c.declare.new.types c.in_ok-class.class c.in_ok-members.ensures c.in_ok-class.ensures.types c.in_ok-class.ensures.class
-    (draft_of c.declare.new.types c.give_members.new.specs c.give_members.new.signals.signals) c.in_ok-give_members.ensures c.in_ok-check_answering.ensures c.in_ok-check_only.ensures
+    (draft_of c.declare.new.types c.give_members.new.specs c.give_members.new.signals.signals) c.in_ok-give_members.ensures.given c.in_ok-check_answering.ensures c.in_ok-check_only.ensures

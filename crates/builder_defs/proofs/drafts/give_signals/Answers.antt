@@ -8,8 +8,8 @@ use Rattle.builder_defs.specs.Denoted.Signals.{signal_at}
 use Rattle.builder_defs.proofs.Sections.{signals_read_fail}
 use Rattle.builder_defs.proofs.drafts.give_signals.Goals as goal
 
-pub returns-in_err-read_signals : goal.returns-in_err-read_signals
-returns-in_err-read_signals c =
+pub returns-in_err-read_signals-clause-signals : goal.returns-in_err-read_signals-clause-signals
+returns-in_err-read_signals-clause-signals c =
     let a = c.args in
     let list = items_view c.in_ok-items.items.now in
     let e = c.in_err-read_signals.field-0.0 in
@@ -17,4 +17,4 @@ returns-in_err-read_signals c =
     rw (p.1, p.2) (signals_read_fail (path_of a.part.path) a.types.now a.names.now a.t (own_of a.signals.now.signals) (view a.part.value.now) list e
     c.in_ok-items.ensures
     (subst (λ (base : List ℕ). Fails e (each (at_entry (λ entry. signal_at entry a.types.now a.names.now a.t) base) 0 (own_of a.signals.now.signals) list))
-    (c.as_str.ensures.value ∙ c.in_ok-path.ensures) c.in_err-read_signals.ensures))
+    (c.as_str.ensures.value ∙ c.in_ok-path.ensures) c.in_err-read_signals.ensures.signals))

@@ -1,4 +1,4 @@
-use Rattle.std.proofs.Common.{◌≡◌, ◌++◌, ◌<◌, ◌-◌, ℕ, List, drop}
+use Rattle.std.proofs.Common.{◌≡◌, ◌++◌, ◌<◌, ◌-◌, drop}
 use Rattle.serde_json.specs.View.{items_view}
 use Rattle.builder_defs.specs.EntryViews.{views}
 use Rattle.builder_defs.specs.Denoted.Entries.{with_all, in_order}

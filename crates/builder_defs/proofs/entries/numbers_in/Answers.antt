@@ -1,7 +1,6 @@
-use Rattle.std.proofs.Common.{◌≡◌, List, map, sym, ap, ◌∙◌}
+use Rattle.std.proofs.Common.{◌≡◌, map, sym, ap, ◌∙◌}
 use Rattle.std.proofs.lemmas.Result.{IfOk-weaker}
 use Rattle.serde_json.specs.View.{view, items_view}
-use Rattle.serde_json.specs.declared.value.Value.{Value}
 use Rattle.builder_defs.specs.EntryViews.{views}
 use Rattle.builder_defs.specs.Denoted.Entries.{name_under, names_under, number_from}
 use Rattle.builder_defs.proofs.Numbered.{names_are, views_are}

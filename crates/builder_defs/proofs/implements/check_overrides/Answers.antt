@@ -1,5 +1,4 @@
-use Rattle.std.proofs.Common.{◌≡◌, ◌∙◌, sym, ap, None, Some, Err}
-use Rattle.serde_json.specs.View.{view}
+use Rattle.std.proofs.Common.{◌∙◌, sym, ap, None, Some, Err}
 use Rattle.builder_defs.specs.Causes.{property_cause}
 use Rattle.builder_defs.specs.Refusals.{bad_spec}
 use Rattle.builder_defs.specs.Document.{path_of}

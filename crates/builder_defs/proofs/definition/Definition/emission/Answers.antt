@@ -1,9 +1,13 @@
-use Rattle.std.proofs.Common.{◌∙◌, option_map, string_bytes, sym, ap}
-use Rattle.signal_core.specs.SignalView.{declared_view}
-use Rattle.builder_defs.proofs.Tables.{begins}
+use Rattle.std.proofs.Common.{◌∙◌, option_map, string_bytes, arith}
+use Rattle.builder_defs.specs.Meaning.{parts}
+use Rattle.builder_defs.proofs.Tables.{begins, begins_nothing}
 use Rattle.builder_defs.proofs.definition.Definition.emission.Goals as goal
 
-pub returns-in-Some : goal.returns-in-Some
-returns-in-Some c greatest =
-    begins c.args.self.now c.types-types.ensures.basic c.args.class c.args.object.0 c.args.number (option_map (λ text. string_bytes text) c.args.detail) greatest (declared_view c.in-Some.signal)
-    (sym (ap (option_map declared_view) c.in-Some.is) ∙ c.signal.ensures)
+pub returns-then-index-len : goal.returns-then-index-len
+returns-then-index-len c greatest =
+    begins_nothing (parts c.self.inside.types c.self.inside.specs c.self.inside.signals c.self.inside.constructed.items c.self.inside.programs.entries c.self.inside.objects.entries c.self.inside.limits) c.self.invariant c.args.class c.args.object.0 c.args.number (option_map (λ text. string_bytes text) c.args.detail) greatest c.args.self.now c.self.view_is (omega (arith, c.len.ensures, c.index.ensures))
+
+pub returns : goal.returns
+returns c greatest =
+    c.emission.ensures greatest
+    ∙ begins (parts c.self.inside.types c.self.inside.specs c.self.inside.signals c.self.inside.constructed.items c.self.inside.programs.entries c.self.inside.objects.entries c.self.inside.limits) c.self.invariant c.args.class c.args.object.0 c.args.number (option_map (λ text. string_bytes text) c.args.detail) greatest c.args.self.now c.self.view_is (omega (arith, c.len.ensures, c.index.ensures))

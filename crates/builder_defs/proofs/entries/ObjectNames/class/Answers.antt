@@ -1,4 +1,4 @@
-use Rattle.std.proofs.Common.{◌≡◌, List, None, Some, Bor, codes, option_map, sym, ap, ◌∙◌}
+use Rattle.std.proofs.Common.{List, None, Some, Bor, codes, option_map, sym, ap, ◌∙◌}
 use Rattle.serde_json.specs.View.{view}
 use Rattle.serde_json.specs.declared.value.Value.{Value}
 use Rattle.ui_machine.specs.Seq.{read}

@@ -7,8 +7,8 @@ use Rattle.builder_defs.specs.OverrideView.{Entry, own_view}
 use Rattle.builder_defs.proofs.OwnAhead.{own_pushed}
 use Rattle.builder_defs.proofs.overrides.OwnEntriesReadsOwnAhead.read.Goals as goal
 
-pub returns : goal.returns
-returns c =
+pub returns-clause-read : goal.returns-clause-read
+returns-clause-read c =
     let same : c.as_str.result.now ≡ string_bytes c.in-Some.name = cc in
     own_pushed (path_of c.args.part.path) c.args.self.now.types.now c.args.self.now.names.now c.args.self.now.specs.now c.args.self.now.parent c.args.own.now.entries (view c.args.part.value.now) c.in-Some.name c.in_ok-spec.spec
     (sym (ap (option_map string_bytes) c.in-Some.is) ∙ c.in_ok-name.ensures)

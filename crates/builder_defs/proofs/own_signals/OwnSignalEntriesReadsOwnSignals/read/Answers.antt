@@ -7,8 +7,8 @@ use Rattle.builder_defs.specs.OverrideView.{names_of}
 use Rattle.builder_defs.proofs.NamesAhead.{Kept, name_pushed}
 use Rattle.builder_defs.proofs.own_signals.OwnSignalEntriesReadsOwnSignals.read.Goals as goal
 
-pub returns : goal.returns
-returns c =
+pub returns-clause-read : goal.returns-clause-read
+returns-clause-read c =
     let same : c.as_str.result.now ≡ string_bytes c.in-Some.name = cc in
     name_pushed (path_of c.args.part.path) c.args.own.now.entries (view c.args.part.value.now) c.in-Some.name
     (sym (ap (option_map string_bytes) c.in-Some.is) ∙ c.in_ok-name.ensures)
