@@ -1,5 +1,5 @@
 -- What the step of each task leaves of what holds the objects, of the work and of the count.
-use Rattle.std.proofs.Common.{◌≡◌, ℕ, zero, suc, ◌+◌, ◌*◌, ◌<◌, ◌≤◌, Bool, true, false, nat_lt, List, [], ◌∷◌, ◌++◌, length, map, Option, Some, None, Ok, Err, slice_get, refl, sym, ap, subst, arith}
+use Rattle.std.proofs.Common.{◌≡◌, ℕ, zero, suc, ◌+◌, ◌*◌, ◌<◌, ◌≤◌, Bool, true, false, cond, nat_lt, List, [], ◌∷◌, ◌++◌, length, map, Option, Some, None, Ok, Err, slice_get, refl, sym, ap, subst, arith}
 use Rattle.std.specs.Prelude.{IfOk}
 use Rattle.std.proofs.lemmas.Bool.Decides.{nat_tests}
 use Rattle.ui_machine.specs.Definition.Properties.{is_writable}
@@ -13,13 +13,14 @@ use Rattle.ui_machine.specs.Output.Lines as lines
 use Rattle.ui_machine.specs.Definition.Lookups.{type_of, program_at, place_at, specs_of}
 use Rattle.ui_machine.specs.State.Tasks as config
 use Rattle.ui_machine.specs.State.Objects.{Object, Objects, changed, object_at}
-use Rattle.ui_machine.specs.State.Tasks.{Making, Item, makes, adopts, Emission, Task, Setting, Notifying, Beginning, Emitting, Transferring, Unsetting, Thawing, Running, Answering, Calling, Constructing, Building, Carrying, Due}
+use Rattle.ui_machine.specs.State.Tasks.{Making, Item, makes, adopts, PlanEntry, class_handler, handler, transfer, Emission, Frame, Task, Setting, Notifying, Beginning, Emitting, Transferring, Unsetting, Thawing, Running, Answering, Calling, Constructing, Building, Carrying, Due}
 use Rattle.ui_machine.specs.State.Config.{World, Config, built, Started, starts, said, held_at, is_unbuilt, with_held, sunk, Left}
 use Rattle.ui_machine.specs.Outcome.{After, Answer, known, only_if}
 use Rattle.ui_machine.specs.Rules.NotifyQueue.{frozen_less, thawing}
 use Rattle.ui_machine.specs.Rules.Programs.{first_frame, all_fit, fits_register, beginning_program, program_before}
 use Rattle.ui_machine.specs.Rules.EmissionPlan.{notifying, beginning_emission}
-use Rattle.ui_machine.specs.Rules.Accumulation.{resulting, passed_down, told, ending}
+use Rattle.ui_machine.specs.Rules.Accumulation.{resulting, passed_down, received_by, taken, told, ending, given_to, in_stage, instance_of, running_handler, taking_entry}
+use Rattle.ui_machine.specs.Rules.Transfers.{transfer_for}
 use Rattle.ui_machine.specs.Rules.Construction.{not_forward, initially_unowned, making, with_object, new_object, thawing_made, constructed, making_set}
 use Rattle.ui_machine.specs.Rules.Sets.{setting, spec_at}
 use Rattle.ui_machine.specs.Steps.{most_steps, before, uncounted, left, act}
@@ -35,13 +36,18 @@ use Rattle.ui_engine.specs.declared.task.Task as code
 use Rattle.ui_engine.specs.declared.task.Forward.{Forward}
 use Rattle.ui_engine.specs.GivenView.{detail_of}
 use Rattle.ui_engine.specs.TaskView.{task_of, new_of, emission_of, entries_to_come, item_of, build_from, build_behind}
-use Rattle.ui_engine.proofs.Notified.{down}
-use Rattle.ui_engine.proofs.Turns.{by_turn}
-use Rattle.signal_core.specs.Emission.{Walk}
-use Rattle.ui_machine.specs.State.Handlers.{Handler}
+use Rattle.handler_code.specs.FrameView.{frame_view}
+use Rattle.ui_machine.specs.Instructions.{running}
+use Rattle.ui_machine.specs.Instructions.Registers.{with_register}
+use Rattle.ui_engine.proofs.Gone.{same_stay}
+use Rattle.signal_core.specs.Laws.{entries_left, is_passed_over}
+use Rattle.ui_machine.specs.State.Bindings.{Binding, binding_of}
+use Rattle.ui_machine.specs.State.Handlers.{Handler, handler_of}
 use Rattle.ui_engine.specs.EngineView.{is_counted}
+use Rattle.ui_engine.specs.Standing.{GoneStay, come_first}
 use Rattle.ui_machine.specs.Prefix.{IsPrefix}
 use Rattle.ui_machine.proofs.Prefixes.{prefix_same, prefix_one}
+use Rattle.machine_laws.proofs.KeptProofs.{KeepsGone, running_grows, running_kept}
 use Rattle.ui_engine.specs.Measure.{sets_of_place, weight, waiting_in, waiting}
 use Rattle.ui_engine.specs.MakingView.{making_of_object}
 use Rattle.ui_engine.proofs.Lists.{total-append}
@@ -57,6 +63,7 @@ pub record Passes (d : Definition) (w : World) (t : Task) (rest : List Task) (n 
   pub stays : is_counted t ≡ false → e.counted ≡ n
   pub counts : is_counted t ≡ true → (n < most_steps) × (e.counted ≡ suc n)
   pub grows : IsPrefix w.transcript e.world.transcript
+  pub gone : GoneStay w e.world
 
 within_none : {A : Type 0} (xs : List A) (i : ℕ) → slice_get xs i ≡ None → length xs ≤ i
 within_none [] i none = omega arith
@@ -79,6 +86,7 @@ module _ (d : Definition) (w : World) (rest : List Task) (n : ℕ) where
     stays = λ _. refl;
     counts = λ yes. cc (yes, plain);
     grows = calm.grows;
+    gone = same_stay w _ calm.handlers calm.last;
   }
 
   steadily : (t : Task) → is_counted t ≡ false → (a : Answer Started) → IfOk a (Calm w) → IfOk a (Falls d w (weight d t)) → IfOk (uncounted rest n a) (Passes d w t rest n)
@@ -92,6 +100,7 @@ module _ (d : Definition) (w : World) (rest : List Task) (n : ℕ) where
     stays = λ no. cc no;
     counts = λ _. (small, refl);
     grows = calm.grows;
+    gone = same_stay w _ calm.handlers calm.last;
   }
   notified id slot small (Err arm) calm = tt
 
@@ -104,54 +113,165 @@ module _ (d : Definition) (w : World) (rest : List Task) (n : ℕ) where
 
   -- ** ends of notifications
 
-  -- nothing of the engine's waits for a result
-  kept_down : (hs : List Handler) (ts : List code.Task) (v : Option Value) → passed_down (map (task_of d hs) ts) v ≡ Ok (map (task_of d hs) ts)
-  kept_down hs ts v = down d hs ts v
+  -- a result that goes down leaves the same tasks to do
+  down_weighs : (ts : List Task) (v : Option Value) → IfOk (passed_down ts v) (λ agenda. total (weight d) agenda ≡ total (weight d) ts)
+  unfolding received_by
+  down_weighs [] v = refl
+  down_weighs (Running f ∷ ts) v = by f.into v
+    where
+      Same : List Task → Type 0
+      Same = λ agenda. total (weight d) agenda ≡ total (weight d) (Running f ∷ ts)
 
-  ending_at : (e : Emission) (turns : List config.PlanEntry) → (v : World) → v.objects ≡ w.objects → v.floating ≡ w.floating → IsPrefix w.transcript v.transcript
-      → Passes d w (Emitting e turns) rest n (record { world = v; agenda = rest; counted = n })
-  ending_at e turns v objects floating grows = record {
-    falls = λ _. let same = ap waiting objects in let f = ap (λ (fl : List ℕ). length fl) floating in omega (arith, same, f);
+      by : (into : Option ℕ) (v : Option Value) → IfOk (taken into f ts v) Same
+      by None v = refl
+      by (Some to) None = tt
+      by (Some to) (Some v) = bind_ok (with_register to (Some v) f.registers) _ Same (λ new _. refl)
+  down_weighs (task ∷ ts) v = refl
+
+  ending_at : (e : Emission) (agenda : List Task) → total (weight d) agenda ≡ total (weight d) rest → (v : World) → v.objects ≡ w.objects → v.floating ≡ w.floating
+      → v.handlers ≡ w.handlers → v.last_handler ≡ w.last_handler → IsPrefix w.transcript v.transcript
+      → Passes d w (Emitting e []) rest n (record { world = v; agenda = agenda; counted = n })
+  ending_at e agenda weighs v objects floating handlers last grows = record {
+    falls = λ _. let same = ap waiting objects in let f = ap (λ (fl : List ℕ). length fl) floating in omega (arith, same, f, weighs);
     stays = λ _. refl;
     counts = λ yes. cc yes;
     grows = grows;
+    gone = same_stay w v handlers last;
   }
 
-  ended : (e : Emission) (turns : List config.PlanEntry) → (v : Option Value) (b : Bool)
-      → Passes d w (Emitting e turns) rest n (record { world = told d w b v; agenda = rest; counted = n })
-  ended e turns None b = ending_at e turns w refl refl (prefix_same w.transcript)
-  ended e turns (Some v) false = ending_at e turns w refl refl (prefix_same w.transcript)
-  ended e turns (Some v) true = ending_at e turns (told d w true (Some v)) refl refl (prefix_one w.transcript _)
+  ended : (e : Emission) (agenda : List Task) → total (weight d) agenda ≡ total (weight d) rest → (v : Option Value) (b : Bool)
+      → Passes d w (Emitting e []) rest n (record { world = told d w b v; agenda = agenda; counted = n })
+  ended e agenda weighs None b = ending_at e agenda weighs w refl refl refl refl (prefix_same w.transcript)
+  ended e agenda weighs (Some v) false = ending_at e agenda weighs w refl refl refl refl (prefix_same w.transcript)
+  ended e agenda weighs (Some v) true = ending_at e agenda weighs (told d w true (Some v)) refl refl refl refl (prefix_one w.transcript _)
 
   left_if : (t : Task) (a : Answer Left) → IfOk a (λ l. Passes d w t rest n (record { world = l.world; agenda = l.agenda; counted = n })) → IfOk (left n a) (Passes d w t rest n)
   unfolding left
   left_if t (Ok l) h = h
   left_if t (Err arm) h = tt
 
-  ending_passes : (e : Emission) (hs : List Handler) (ts : List code.Task) → map (task_of d hs) ts ≡ rest → IfOk (left n (ending d w e rest)) (Passes d w (Emitting e []) rest n)
+  ending_passes : (e : Emission) → IfOk (left n (ending d w e rest)) (Passes d w (Emitting e []) rest n)
   unfolding ending
-  ending_passes e hs ts same = left_if (Emitting e []) (ending d w e rest) (bind_ok (resulting d w e) _ Left_passes (λ v _.
-      let down : passed_down rest v ≡ Ok rest = subst (λ (r : List Task). passed_down r v ≡ Ok r) same (kept_down hs ts v) in
-      rw down (ended e [] v e.by_event)))
+  ending_passes e = left_if (Emitting e []) (ending d w e rest) (bind_ok (resulting d w e) _ Left_passes (λ v _. bind_ok (passed_down rest v) _ Left_passes (λ agenda is.
+      ended e agenda (if_ok_at (λ (ts : List Task). total (weight d) ts ≡ total (weight d) rest) (passed_down rest v) agenda (down_weighs rest v) is) v e.by_event)))
     where
       Left_passes : Left → Type 0
       Left_passes = λ l. Passes d w (Emitting e []) rest n (record { world = l.world; agenda = l.agenda; counted = n })
 
-  -- an emission takes its next turn, or ends
-  emitting_passes : IsBasic d → (hs : List Handler) → hs ≡ [] → (ts : List code.Task) → map (task_of d hs) ts ≡ rest → (cursor : Walk) (e : Emission)
-      → IfOk (act d w None (Emitting e (entries_to_come cursor hs) ∷ rest) n) (Passes d w (Emitting e (entries_to_come cursor hs)) rest n)
-  emitting_passes basic hs silent ts same cursor e =
-      by_turn d basic.programs w rest n cursor hs silent e (λ (a : Answer Config). IfOk a (Passes d w (Emitting e (entries_to_come cursor hs)) rest n)) tt
-      (both Ended Ended Onward (left n (ending d w e rest)) (ending_passes e hs ts same) (ending_passes e hs ts same) (λ x p _. on x p))
+  -- ** turns
+
+  -- a step of an emission with some entries left that goes on behind a task
+  onward : (e m : Emission) (entry : PlanEntry) (entries : List PlanEntry) (s : Started) → Quietly w s.world → total (weight d) s.tasks ≤ 1 → waiting s.world.objects ≡ waiting w.objects
+      → Passes d w (Emitting e (entry ∷ entries)) rest n (before rest n (record { world = s.world; tasks = s.tasks ++ Emitting m entries ∷ [] }))
+  onward e m entry entries s quiet few waits = record {
+    falls = λ _.
+        let f = ap (λ (fl : List ℕ). length fl) quiet.floating in
+        omega (arith, few, waits, f, total-append (weight d) (s.tasks ++ Emitting m entries ∷ []) rest, total-append (weight d) s.tasks (Emitting m entries ∷ []));
+    stays = λ _. refl;
+    counts = λ yes. cc yes;
+    grows = quiet.grows;
+    gone = same_stay w _ quiet.handlers quiet.last;
+  }
+
+  -- a program begins
+  Begins : Started → Type 0
+  Begins = λ s. Quietly w s.world × (total (weight d) s.tasks ≤ 1) × (waiting s.world.objects ≡ waiting w.objects)
+
+  begins : (program : ℕ) (args : List Value) → IfOk (beginning_program d w program args) Begins
+  unfolding beginning_program Begins
+  begins program args = bind_ok (known arms.Code (program_at d program)) _ Begins (λ p _.
+      only (all_fit (fits_register d w.objects) args p.params) (record { world = said d w (lines.run p.name); tasks = Running (first_frame program p args) ∷ [] })
+      (record { floating = refl; handlers = refl; last = refl; grows = prefix_one w.transcript _ }, omega arith, refl))
     where
-      Ended : Config → Type 0
-      Ended = Passes d w (Emitting e []) rest n
+      only : (b : Bool) (s : Started) → Begins s → IfOk (only_if b arms.Parameters (Ok s)) Begins
+      only true s h = h
+      only false s h = tt
 
-      Onward : Config → Type 0
-      Onward = Passes d w (Emitting e (entries_to_come cursor hs)) rest n
+  begins_before : (program : ℕ) (args : List Value) (tasks : List Task) (P : Started → Type 0) → ((s : Started) → Begins s → P (record { world = s.world; tasks = s.tasks ++ tasks }))
+      → IfOk (program_before d w program args tasks) P
+  unfolding program_before
+  begins_before program args tasks P on = bind_ok (beginning_program d w program args) _ P (λ s is. on s (if_ok_at Begins (beginning_program d w program args) s (begins program args) is))
 
-      on : (x : Config) → Ended x → Onward x
-      on x p = record { falls = λ no. p.falls refl; stays = λ no. p.stays refl; counts = λ yes. cc yes; grows = p.grows }
+  taking_passes : (e : Emission) (entry : PlanEntry) (entries : List PlanEntry) → IfOk (act d w None (Emitting e (entry ∷ entries) ∷ rest) n) (Passes d w (Emitting e (entry ∷ entries)) rest n)
+  unfolding Begins
+  taking_passes e entry entries = uncounted_if (Emitting e (entry ∷ entries)) (taking_entry d w e entries entry) (by entry)
+    where
+      P : PlanEntry → Started → Type 0
+      P = λ entry s. Passes d w (Emitting e (entry ∷ entries)) rest n (before rest n s)
+
+      runs : (entry : PlanEntry) (m : Emission) (program : ℕ) (args : List Value) → IfOk (program_before d w program args (Emitting m entries ∷ [])) (P entry)
+      runs entry m program args = begins_before program args (Emitting m entries ∷ []) (P entry) (λ s b. onward e m entry entries s b.0 b.1 b.2)
+
+      none : (entry : PlanEntry) (tasks : List Task) → total (weight d) tasks ≤ 1 → P entry (record { world = w; tasks = tasks ++ Emitting e entries ∷ [] })
+      none entry tasks few = onward e e entry entries (record { world = w; tasks = tasks }) (record { floating = refl; handlers = refl; last = refl; grows = prefix_same w.transcript }) few refl
+
+      blocked : (number : ℕ) (h : Handler) (b : Bool) → IfOk (cond b (starts w (Emitting e entries ∷ [])) (program_before d w h.program (given_to e h) (Emitting e entries ∷ []))) (P (handler number))
+      blocked number h true = none (handler number) [] (omega arith)
+      blocked number h false = runs (handler number) e h.program (given_to e h)
+
+      of_handler : (number : ℕ) (o : Option Handler) → IfOk (running_handler d w e entries o) (P (handler number))
+      of_handler number None = none (handler number) [] (omega arith)
+      of_handler number (Some h) = blocked number h (nat_lt 0 h.blocks)
+
+      of_binding : (number : ℕ) (back : Bool) (o : Option Binding) → IfOk (starts w (transfer_for o number back ++ Emitting e entries ∷ [])) (P (transfer number back))
+      of_binding number back None = none (transfer number back) [] (omega arith)
+      of_binding number back (Some b) = busy b.busy
+        where
+          busy : (x : Bool) → IfOk (starts w (cond x [] (Transferring number back ∷ []) ++ Emitting e entries ∷ [])) (P (transfer number back))
+          busy true = none (transfer number back) [] (omega arith)
+          busy false = none (transfer number back) (Transferring number back ∷ []) (omega arith)
+
+      by : (entry : PlanEntry) → IfOk (taking_entry d w e entries entry) (P entry)
+      by (class_handler program cleanup) = runs (class_handler program cleanup) (in_stage cleanup e) program (instance_of e ∷ e.args)
+      by (handler number) = of_handler number (handler_of number w.handlers)
+      by (transfer number back) = of_binding number back (binding_of number w.bindings)
+
+  -- an emission takes its next turn, or ends
+  emitting_passes : (e : Emission) (entries : List PlanEntry) → IfOk (act d w None (Emitting e entries ∷ rest) n) (Passes d w (Emitting e entries) rest n)
+  emitting_passes e [] = ending_passes e
+  emitting_passes e (entry ∷ entries) = taking_passes e entry entries
+
+  -- and it has less to do once it comes first
+  first_passes : (e : Emission) (entries : List PlanEntry) (c : Config) → Passes d w (Emitting e (entries_left w.handlers entries)) rest n c → Passes d w (Emitting e entries) rest n c
+  first_passes e entries c p = record {
+    falls = λ plain. let less = p.falls refl in omega (arith, less, fewer entries);
+    stays = λ plain. p.stays refl;
+    counts = λ yes. cc yes;
+    grows = p.grows;
+    gone = p.gone;
+  }
+    where
+      fewer : (entries : List PlanEntry) → length (entries_left w.handlers entries) ≤ length entries
+      fewer [] = omega arith
+      fewer (class_handler program cleanup ∷ entries) = omega arith
+      fewer (transfer number back ∷ entries) = omega arith
+      fewer (handler number ∷ entries) = by (is_passed_over (handler_of number w.handlers)) (fewer entries)
+        where
+          by : (b : Bool) → length (entries_left w.handlers entries) ≤ length entries → length (cond b (entries_left w.handlers entries) (handler number ∷ entries)) ≤ suc (length entries)
+          by true less = omega (arith, less)
+          by false less = omega arith
+
+  -- ** programs
+
+  -- it takes an instruction, which is counted
+  ran : (f : Frame) → n < most_steps → (a : Answer Left) → IfOk a (λ l. KeepsGone w l.world) → IfOk a (λ l. IsPrefix w.transcript l.world.transcript)
+      → IfOk (left (suc n) a) (Passes d w (Running f) rest n)
+  unfolding left
+  ran f small (Ok l) kept grows = record {
+    falls = λ no. cc no;
+    stays = λ no. cc no;
+    counts = λ _. (small, refl);
+    grows = grows;
+    gone = record { stay = kept.at };
+  }
+  ran f small (Err arm) kept grows = tt
+
+  running_passes : (f : Frame) → IfOk (act d w None (Running f ∷ rest) n) (Passes d w (Running f) rest n)
+  running_passes f = by (nat_lt n most_steps) refl
+    where
+      by : (b : Bool) → nat_lt n most_steps ≡ b → IfOk (only_if b arms.Steps (left (suc n) (running d w rest f))) (Passes d w (Running f) rest n)
+      by true small = ran f (let few : n < most_steps = grind (arith, nat_tests) in few) (running d w rest f) (running_kept d w rest f) (running_grows d w rest f)
+      by false large = tt
 
   -- ** other emissions
 
@@ -161,6 +281,7 @@ module _ (d : Definition) (w : World) (rest : List Task) (n : ℕ) where
     stays = λ no. cc no;
     counts = λ _. (small, refl);
     grows = calm.grows;
+    gone = same_stay w _ calm.handlers calm.last;
   }
   begun e small (Err arm) calm = tt
 
@@ -186,6 +307,7 @@ module _ (d : Definition) (w : World) (rest : List Task) (n : ℕ) where
         stays = λ _. refl;
         counts = λ yes. cc yes;
         grows = prefix_same w.transcript;
+        gone = same_stay w _ refl refl;
       }
       by place false old = tt
 
@@ -196,6 +318,7 @@ module _ (d : Definition) (w : World) (rest : List Task) (n : ℕ) where
     stays = λ _. refl;
     counts = λ yes. cc (yes, plain);
     grows = quiet.grows;
+    gone = same_stay w _ quiet.handlers quiet.last;
   }
 
   sets_passes : (id slot : ℕ) (v : Value) (steps : List Making) → IfOk (uncounted rest n (making_set d w id slot v (Constructing id steps true ∷ []))) (Passes d w (Constructing id (config.sets slot v ∷ steps) true) rest n)
@@ -210,36 +333,21 @@ module _ (d : Definition) (w : World) (rest : List Task) (n : ℕ) where
 
       by : (b : Bool) → IfOk (only_if b arms.Flags (starts w (Setting id slot v ∷ Constructing id steps true ∷ []))) P
       by true = handing whole refl (record { world = w; tasks = Setting id slot v ∷ Constructing id steps true ∷ [] })
-          (record { floating = refl; grows = prefix_same w.transcript })
+          (record { floating = refl; handlers = refl; last = refl; grows = prefix_same w.transcript })
           (record { less = omega arith })
       by false = tt
 
   runs_passes : (id program : ℕ) (steps : List Making) → (args : List Value)
       → IfOk (uncounted rest n (program_before d w program args (Constructing id steps true ∷ []))) (Passes d w (Constructing id (config.runs program ∷ steps) true) rest n)
-  unfolding program_before beginning_program
-  runs_passes id program steps args = uncounted_if whole (program_before d w program args (Constructing id steps true ∷ [])) (bind_ok (beginning_program d w program args) _ P (λ s is.
-      let b = if_ok_at Begins (beginning_program d w program args) s begins is in
+  unfolding Begins
+  runs_passes id program steps args = uncounted_if whole (program_before d w program args (Constructing id steps true ∷ []))
+      (begins_before program args (Constructing id steps true ∷ []) (λ s. Passes d w whole rest n (before rest n s)) (λ s b.
       handing whole refl (record { world = s.world; tasks = s.tasks ++ Constructing id steps true ∷ [] })
       b.0
       (record { less = let l = b.1 in let k = b.2 in omega (arith, l, k, total-append (weight d) s.tasks (Constructing id steps true ∷ [])) })))
     where
       whole : Task
       whole = Constructing id (config.runs program ∷ steps) true
-
-      P : Started → Type 0
-      P = λ s. Passes d w whole rest n (before rest n s)
-
-      Begins : Started → Type 0
-      Begins = λ s. Quietly w s.world × (total (weight d) s.tasks ≤ 1) × (waiting s.world.objects ≡ waiting w.objects)
-
-      only : (b : Bool) (s : Started) → Begins s → IfOk (only_if b arms.Parameters (Ok s)) Begins
-      only true s h = h
-      only false s h = tt
-
-      begins : IfOk (beginning_program d w program args) Begins
-      begins = bind_ok (known arms.Code (program_at d program)) _ Begins (λ p _.
-          only (all_fit (fits_register d w.objects) args p.params) (record { world = said d w (lines.run p.name); tasks = Running (first_frame program p args) ∷ [] })
-          (record { floating = refl; grows = prefix_one w.transcript _ }, omega arith, refl))
 
   thaws_passes : (id : ℕ) (steps : List Making) → IfOk (uncounted rest n (thawing_made w id steps true)) (Passes d w (Constructing id (config.thaws ∷ steps) true) rest n)
   unfolding thawing_made
@@ -254,7 +362,7 @@ module _ (d : Definition) (w : World) (rest : List Task) (n : ℕ) where
       Quiet = λ s. Quietly w s.world
 
       quiet : IfOk (thawing_made w id steps true) Quiet
-      quiet = bind_ok (changed w.objects id frozen_less) _ Quiet (λ r e. record { floating = refl; grows = prefix_same w.transcript })
+      quiet = bind_ok (changed w.objects id frozen_less) _ Quiet (λ r e. record { floating = refl; handlers = refl; last = refl; grows = prefix_same w.transcript })
 
   constructing_passes : (id : ℕ) (steps : List Making) → IfOk (act d w None (Constructing id steps true ∷ rest) n) (Passes d w (Constructing id steps true) rest n)
   constructing_passes id [] = constructed_passes id
@@ -297,13 +405,14 @@ module _ (d : Definition) (w : World) (rest : List Task) (n : ℕ) where
     stays = λ _. refl;
     counts = λ yes. cc yes;
     grows = (prefix_one w.transcript _);
+    gone = same_stay w _ refl refl;
   }
 
   -- a forward reference is set
   forward_passes : (fs : List Forward) → IfOk (uncounted rest n (building d w (map item_of fs))) (Passes d w (Building (map item_of fs)) rest n)
   forward_passes [] =
       steady (Building []) refl (record { world = w; tasks = [] })
-      (record { floating = refl; grows = prefix_same w.transcript })
+      (record { floating = refl; handlers = refl; last = refl; grows = prefix_same w.transcript })
       (record { less = omega arith })
   forward_passes (f ∷ fs) =
       steadily (Building (item_of f ∷ map item_of fs)) refl (building_forward d w f.object f.slot f.to.0 (map item_of fs))
@@ -329,6 +438,7 @@ module _ (d : Definition) (w : World) (rest : List Task) (n : ℕ) where
         stays = λ _. refl;
         counts = λ yes. cc yes;
         grows = joins.grows;
+        gone = same_stay w _ joins.handlers joins.last;
       }
 
   module _ (basic : IsBasic d) (place : ℕ) (fs : List Forward) where
@@ -367,14 +477,23 @@ module _ (d : Definition) (w : World) (rest : List Task) (n : ℕ) where
         by None at = built_past (within_none d.places place at)
 
   -- what the step of each task of the engine leads to
-  pub acted : IsBasic d → (hs : List Handler) → hs ≡ [] → (t : code.Task) (ts : List code.Task) → map (task_of d hs) ts ≡ rest
-      → IfOk (act d w None (task_of d hs t ∷ rest) n) (Passes d w (task_of d hs t) rest n)
-  acted basic hs silent (tasks.Setting id slot v) ts same = setting_passes id.0 slot (value_view v)
-  acted basic hs silent (tasks.Notifying id slot) ts same = notifying_passes id.0 slot
-  acted basic hs silent (tasks.Beginning e) ts same = beginning_passes (new_of e)
-  acted basic hs silent (tasks.Emitting cursor args by_event) ts same = emitting_passes basic hs silent ts same cursor (emission_of cursor args.items by_event)
-  acted basic hs silent (tasks.Thawing id slots) ts same = thawing_passes id.0 slots
-  acted basic hs silent (tasks.Constructing id steps) ts same = constructing_passes id.0 steps
-  acted basic hs silent (tasks.Building place forwards) ts same = building_passes basic place forwards
-  acted basic hs silent (tasks.Adopting place forwards) ts same = adopting_passes place (build_from d (suc place) forwards)
-  acted basic hs silent (tasks.Carrying event) ts same = carrying_passes event
+  pub acted : IsBasic d → (hs : List Handler) → hs ≡ w.handlers → (t : code.Task) (ts : List code.Task) → map (task_of d hs) ts ≡ rest
+      → IfOk (act d w None (come_first hs (task_of d hs t) ∷ rest) n) (Passes d w (task_of d hs t) rest n)
+  acted basic hs own (tasks.Setting id slot v) ts same = setting_passes id.0 slot (value_view v)
+  acted basic hs own (tasks.Notifying id slot) ts same = notifying_passes id.0 slot
+  acted basic hs own (tasks.Beginning e) ts same = beginning_passes (new_of e)
+  acted basic hs own (tasks.Emitting cursor args by_event) ts same =
+      let e = emission_of cursor args.items by_event in
+      subst (λ (all : List Handler). IfOk (act d w None (come_first all (Emitting e (entries_to_come cursor hs)) ∷ rest) n) (Passes d w (Emitting e (entries_to_come cursor hs)) rest n)) (sym own)
+      (weaker (act d w None (Emitting e (entries_left w.handlers (entries_to_come cursor hs)) ∷ rest) n) (λ c p. first_passes e (entries_to_come cursor hs) c p)
+      (emitting_passes e (entries_left w.handlers (entries_to_come cursor hs))))
+    where
+      weaker : {P Q : Config → Type 0} (a : Answer Config) → ((c : Config) → P c → Q c) → IfOk a P → IfOk a Q
+      weaker (Ok c) on p = on c p
+      weaker (Err arm) on p = tt
+  acted basic hs own (tasks.Running frame) ts same = running_passes (frame_view frame)
+  acted basic hs own (tasks.Thawing id slots) ts same = thawing_passes id.0 slots
+  acted basic hs own (tasks.Constructing id steps) ts same = constructing_passes id.0 steps
+  acted basic hs own (tasks.Building place forwards) ts same = building_passes basic place forwards
+  acted basic hs own (tasks.Adopting place forwards) ts same = adopting_passes place (build_from d (suc place) forwards)
+  acted basic hs own (tasks.Carrying event) ts same = carrying_passes event

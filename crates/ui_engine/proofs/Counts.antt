@@ -34,6 +34,8 @@ use Rattle.ui_engine.specs.EngineView.{config_of}
 use Rattle.ui_engine.specs.View.{held_of, world_of}
 use Rattle.ui_engine.specs.declared.task.Task as code
 use Rattle.ui_engine.specs.TaskView.{task_in, tasks_of, agenda_of}
+use Rattle.machine_laws.specs.GoneLaws.{pruned}
+use Rattle.machine_laws.proofs.GoneProofs.{hold_as}
 use Rattle.ui_engine.proofs.Left.{same_agenda}
 use Rattle.signal_core.specs.Connected.{Connected}
 use Rattle.ui_engine.specs.Counting.{OnlyCounts, Counts, KeepsCounts, in_emitted, in_subject, nothing}
@@ -189,14 +191,13 @@ module _ (d : Definition) (m : Marks) (t n : Store) (id slot : ℕ) (v : Value) 
 -- ** the engine
 
 module _ (d : Definition) (e new : Engine) where
-  pub keeps_by : new.world.weak ≡ e.world.weak → new.world.handlers ≡ e.world.handlers
+  pub keeps_by : new.world.weak ≡ e.world.weak
       → ((taken : ℕ → ℕ) → Knows d e.world.weak → Exact d taken e.world.table (map held_of e.world.builder.items) (agenda_of d e)
       → Exact d taken new.world.table (map held_of new.world.builder.items) (agenda_of d new))
       → KeepsCounts d e new
-  keeps_by weak handlers moves = record {
+  keeps_by weak moves = record {
     at = λ taken h. record {
       knows = subst (λ (m : Marks). Knows d m) (sym weak) h.knows;
-      silent = ap (λ (hs : Connected). hs.handlers) handlers ∙ h.silent;
       exact = moves taken h.knows h.exact;
     };
   }
@@ -207,7 +208,7 @@ keeps_on d e f new p q = record { at = λ taken h. q.at taken (p.at taken h) }
 -- a line more, another result or another count of steps moves nothing
 pub keeps_same : (d : Definition) (e new : Engine) → new.world.table ≡ e.world.table → new.world.weak ≡ e.world.weak
     → new.world.builder ≡ e.world.builder → new.stack ≡ e.stack → new.world.handlers ≡ e.world.handlers → KeepsCounts d e new
-keeps_same d e new table weak builder stack handlers = keeps_by d e new weak handlers (λ taken _ h.
+keeps_same d e new table weak builder stack handlers = keeps_by d e new weak (λ taken _ h.
     subst (λ (t : Store). Exact d taken t (map held_of new.world.builder.items) (agenda_of d new)) (sym table)
     (subst (λ (ts : List Task). Exact d taken e.world.table (map held_of new.world.builder.items) ts) (sym (same_agenda d e new stack handlers))
     (subst (λ bs. Exact d taken e.world.table (map held_of bs.items) (agenda_of d e)) (sym builder) h)))
@@ -222,7 +223,7 @@ pub keeps_changed : (d : Definition) (e : Engine) (t : Store) → t ≡ with_obj
     → ((o : ℕ) → total (in_object d o) t.objects ≡ total (in_object d o) e.world.table.objects)
     → KeepsCounts d e (record e { world = record e.world { table = t } })
 keeps_changed d e t beside alike =
-    keeps_by d e (record e { world = record e.world { table = t } }) refl refl
+    keeps_by d e (record e { world = record e.world { table = t } }) refl
     (λ taken _ h. objects_alike d taken e.world.table t (map held_of e.world.builder.items) (agenda_of d e) beside alike h)
 
 -- the same of a change that answers
@@ -268,7 +269,6 @@ pub taken_off : (d : Definition) (e : Engine) (s : Stack) (t : Task) → agenda_
     → Counts d (λ o. in_task o t) (record e { stack = s })
 taken_off d e s t first h = record {
   knows = h.knows;
-  silent = h.silent;
   exact = λ o. omega (arith, h.exact o, ap (λ (ts : List Task). total (in_task o) ts) first);
 }
 
@@ -278,7 +278,6 @@ pub given_back : (d : Definition) (e : Engine) (t : Store) (gone : ℕ → ℕ) 
     → Counts d nothing (record e { world = record e.world { table = t } })
 given_back d e t gone only counts h = record {
   knows = h.knows;
-  silent = h.silent;
   exact = λ o.
       let objects : total (in_object d o) t.objects ≡ total (in_object d o) e.world.table.objects = ap (total (in_object d o)) only.objects in
       let floats : total (same o) t.floating ≡ total (same o) e.world.table.floating = ap (total (same o)) only.floating in
@@ -289,7 +288,6 @@ given_back d e t gone only counts h = record {
 pub same_tasks : (d : Definition) (e : Engine) (s : Stack) → tasks_of d e.world.handlers.handlers s ≡ agenda_of d e → Counts d nothing e → Counts d nothing (record e { stack = s })
 same_tasks d e s is h = record {
   knows = h.knows;
-  silent = h.silent;
   exact = λ o. omega (arith, h.exact o, ap (λ (ts : List Task). total (in_task o) ts) is);
 }
 
@@ -299,10 +297,9 @@ none_of zero = refl
 none_of (suc o) = refl
 
 pub none_counted : (d : Definition) (e : Engine) (m : Marks) → Knows d m → e.world.weak ≡ m → e.world.table.counts ≡ [] → world_of e.world ≡ said d (first_world d []) lines.build
-    → agenda_of d e ≡ [] → e.world.handlers.handlers ≡ [] → Counts d nothing e
-none_counted d e m knows marks counts world idle silent = record {
+    → agenda_of d e ≡ [] → Counts d nothing e
+none_counted d e m knows marks counts world idle = record {
   knows = subst (λ (w : Marks). Knows d w) (sym marks) knows;
-  silent = silent;
   exact = λ o.
       let none : count_of e.world.table.counts o ≡ 0 = ap (λ cs. count_of cs o) counts ∙ none_of o in
       let same : mentions d (config_of d e) o ≡ 0 =
@@ -319,15 +316,18 @@ pub finds_mentioned : (d : Definition) (e : Engine) → Counts d nothing e
 finds_mentioned d e h =
     counted_finds e.world.table.objects (count_of e.world.table.counts) (mentions d (config_of d e)) (λ id some. omega (arith, h.exact id))
 
--- what is finalised held what it let go of
-pub keeps_finalised : (d : Definition) (e : Engine) (t : Store) (w : World) (id n : ℕ) → (Knows d e.world.weak → Finalises d id e.world.table t)
-    → w ≡ record (record e.world { table = t }) { transcript = w.transcript } → KeepsCounts d e (record e { world = w; counted = n })
-keeps_finalised d e t w id n finalises is =
-    keeps_by d e (record e { world = w; counted = n }) (ap (λ (v : World). v.weak) is) (ap (λ (v : World). v.handlers) is) (λ taken knows h.
+-- what is finalised held what it let go of; its handlers hold nothing
+pub keeps_finalised : (d : Definition) (e : Engine) (t : Store) (hs : Connected) (w : World) (gone : ℕ → Bool) (id n : ℕ) → (Knows d e.world.weak → Finalises d id e.world.table t)
+    → w ≡ record (record e.world { table = t; handlers = hs }) { transcript = w.transcript } → tasks_of d hs.handlers e.stack ≡ map (pruned gone) (agenda_of d e)
+    → KeepsCounts d e (record e { world = w; counted = n })
+keeps_finalised d e t hs w gone id n finalises is left =
+    keeps_by d e (record e { world = w; counted = n }) (ap (λ (v : World). v.weak) is) (λ taken knows h.
     let b = map held_of e.world.builder.items in
     let a = agenda_of d e in
     let after = from_counted d taken t b a (finalise_exact d (beside_of taken b a) e.world.table t id (finalises knows) (to_counted d taken e.world.table b a h)) in
-    subst (λ (v : World). Exact d taken v.table (map held_of v.builder.items) (tasks_of d v.handlers.handlers e.stack)) (sym is) after)
+    let alike : (o : ℕ) → total (in_task o) (tasks_of d hs.handlers e.stack) ≡ total (in_task o) a = λ o. ap (total (in_task o)) left ∙ hold_as gone d o a in
+    subst (λ (v : World). Exact d taken v.table (map held_of v.builder.items) (tasks_of d v.handlers.handlers e.stack)) (sym is)
+    (λ o. omega (arith, after o, alike o)))
 
 -- the engine with another table
 abbrev pub with_table : Engine → Store → Engine
@@ -335,7 +335,7 @@ with_table e t = record e { world = record e.world { table = t } }
 
 -- as much is held beside
 pub taken_alike : (d : Definition) (e : Engine) (more less : ℕ → ℕ) → ((o : ℕ) → more o ≡ less o) → Counts d more e → Counts d less e
-taken_alike d e more less alike h = record { knows = h.knows; silent = h.silent; exact = λ o. omega (arith, h.exact o, alike o) }
+taken_alike d e more less alike h = record { knows = h.knows; exact = λ o. omega (arith, h.exact o, alike o) }
 
 -- the rest of an emission goes on with what it was given, and holds its object
 pub pushed_rest : (d : Definition) (e : Engine) (t : Store) (s : Stack) (taken : ℕ → ℕ) (m : Emission) (entries : List PlanEntry) → OnlyCounts e.world.table t
@@ -344,7 +344,6 @@ pub pushed_rest : (d : Definition) (e : Engine) (t : Store) (s : Stack) (taken :
     → Counts d (λ o. taken o + in_emitted o m) e → Counts d taken (record e { world = record e.world { table = t }; stack = s })
 pushed_rest d e t s taken m entries only counts first h = record {
   knows = h.knows;
-  silent = h.silent;
   exact = λ o.
       let objects : total (in_object d o) t.objects ≡ total (in_object d o) e.world.table.objects = ap (total (in_object d o)) only.objects in
       let floats : total (same o) t.floating ≡ total (same o) e.world.table.floating = ap (total (same o)) only.floating in
@@ -357,7 +356,6 @@ pub less_held : (d : Definition) (e : Engine) (t : Store) (more left gone : ℕ 
     → Counts d more e → Counts d left (record e { world = record e.world { table = t } })
 less_held d e t more left gone only counts parts h = record {
   knows = h.knows;
-  silent = h.silent;
   exact = λ o.
       let objects : total (in_object d o) t.objects ≡ total (in_object d o) e.world.table.objects = ap (total (in_object d o)) only.objects in
       let floats : total (same o) t.floating ≡ total (same o) e.world.table.floating = ap (total (same o)) only.floating in

@@ -1,12 +1,12 @@
 -- How an object that nothing holds is finalised where there are no peers.
-use Rattle.std.proofs.Common.{◌≡◌, ℕ, suc, Bool, true, false, cond, not, List, [], ◌∷◌, ◌++◌, Option, Some, None, IsSome, is_some, Ok, Err, refl, ap, ◌∙◌}
+use Rattle.std.proofs.Common.{◌≡◌, ℕ, suc, Bool, true, false, cond, not, List, [], ◌∷◌, ◌++◌, map, Option, Some, None, IsSome, is_some, Ok, Err, refl, sym, ap, subst, ◌∙◌}
 use Rattle.ui_machine.specs.declared.arm.Arm.TheVariants as arms
 use Rattle.ui_machine.specs.Definition.{Definition}
 use Rattle.ui_machine.specs.Output.Lines as lines
 use Rattle.ui_machine.specs.Output.Text.{text_of_line}
 use Rattle.ui_machine.specs.Outcome.{Answer, ◌>>=◌}
-use Rattle.std.specs.List.{filter}
-use Rattle.ui_machine.specs.Rules.Disposal.{is_of_object, closing, said_if, is_first, peer_of, without_object, objects_disposed, finalised}
+use Rattle.ui_machine.specs.Rules.Disposal.{is_of_object, closing, said_if, is_first, peer_of, objects_disposed, finalised}
+use Rattle.ui_machine.specs.Rules.Disposal as disposal
 use Rattle.ui_machine.specs.Rules.Sets.{is_disposed}
 use Rattle.ui_machine.specs.State.Config.{World, Started, starts, said, with_objects}
 use Rattle.ui_machine.specs.State.Objects.{Object, Objects, living, put}
@@ -14,6 +14,13 @@ use Rattle.ui_machine.specs.State.Tasks.{Task}
 use Rattle.ui_machine.specs.Steps.{finalising, uncounted}
 use Rattle.instances.specs.Store.{Store}
 use Rattle.instances.specs.Release.{Finalises}
+use Rattle.signal_core.specs.Connected.{Connected, Numbered, without_object}
+use Rattle.machine_laws.specs.GoneLaws.{gone_in, pruned}
+use Rattle.ui_machine.specs.State.Handlers.{Handler}
+use Rattle.ui_engine.specs.Standing.{GoneStay}
+use Rattle.ui_engine.specs.TaskView.{agenda_of, tasks_of}
+use Rattle.ui_engine.specs.declared.engine.Engine.{Engine}
+use Rattle.ui_engine.proofs.Gone.{kept_left, kept_stay, tasks_alike}
 use Rattle.ui_engine.specs.declared.world.World as code
 use Rattle.ui_engine.specs.View.{world_of}
 
@@ -33,7 +40,7 @@ no_peer_there (Some n) none is = cc none
 module _ (d : Definition) (v : code.World) (id : ℕ) where
   -- the world after a dispose, which is told of or not
   abbrev gone : Bool → World
-  gone first = said_if d first (without_object d (world_of v) id) (lines.dispose id)
+  gone first = said_if d first (disposal.without_object d (world_of v) id) (lines.dispose id)
 
   -- and taken out
   abbrev taken_out : World → Answer Started
@@ -54,33 +61,56 @@ module _ (d : Definition) (v : code.World) (id : ℕ) where
       by true = refl
       by false = refl
 
-  pub finalised_now : v.handlers.handlers ≡ [] → peer_of (living (world_of v).objects id) ≡ None → (first : Bool) → is_first (living (world_of v).objects id) ≡ first
+  pub finalised_now : peer_of (living (world_of v).objects id) ≡ None → (first : Bool) → is_first (living (world_of v).objects id) ≡ first
       → finalising d (world_of v) id ≡ starts (record (world_of v) {
         objects = put (objects_disposed d id v.table.objects) id None;
+        handlers = without_object id v.handlers.handlers;
         transcript = cond first ((world_of v).transcript ++ text_of_line d.types (lines.dispose id) ∷ []) (world_of v).transcript ++ text_of_line d.types (lines.final id) ∷ [];
       }) []
   unfolding closing
-  finalised_now silent none first is = by_peer None none ∙ ap (λ f. taken_out (gone f)) is ∙ by first
+  finalised_now none first is = by_peer None none ∙ ap (λ f. taken_out (gone f)) is ∙ by first
     where
-      forgotten : filter (λ h. not (is_of_object id h)) v.handlers.handlers ≡ v.handlers.handlers
-      forgotten = rw silent refl
-
       by : (f : Bool) → taken_out (gone f) ≡ starts (record (world_of v) {
         objects = put (objects_disposed d id v.table.objects) id None;
+        handlers = without_object id v.handlers.handlers;
         transcript = cond f ((world_of v).transcript ++ text_of_line d.types (lines.dispose id) ∷ []) (world_of v).transcript ++ text_of_line d.types (lines.final id) ∷ [];
       }) []
-      by true = rw forgotten refl
-      by false = rw forgotten refl
+      by true = refl
+      by false = refl
 
 -- what code leaves after it
-pub last_config : (d : Definition) (rest : List Task) (n : ℕ) (w : code.World) (t : Store) (id : ℕ) (first : Bool) (x y : List ℕ) (new : World) (m : ℕ) (tasks : List Task)
-    → new ≡ record (world_of (record w { table = t })) { transcript = cond first ((world_of w).transcript ++ x ∷ []) (world_of w).transcript ++ y ∷ [] }
-    → Finalises d id w.table t → x ≡ text_of_line d.types (lines.dispose id) → y ≡ text_of_line d.types (lines.final id) → m ≡ suc n → tasks ≡ rest
+pub last_config : (d : Definition) (rest : List Task) (n : ℕ) (w : code.World) (t : Store) (hs : Connected) (id : ℕ) (first : Bool) (x y : List ℕ) (new : World) (m : ℕ)
+    → new ≡ record (world_of (record w { table = t; handlers = hs })) { transcript = cond first ((world_of w).transcript ++ x ∷ []) (world_of w).transcript ++ y ∷ [] }
+    → Finalises d id w.table t → hs ≡ record w.handlers { handlers = without_object id w.handlers.handlers }
+    → x ≡ text_of_line d.types (lines.dispose id) → y ≡ text_of_line d.types (lines.final id) → m ≡ suc n
     → uncounted rest (suc n) (starts (record (world_of w) {
       objects = put (objects_disposed d id w.table.objects) id None;
+      handlers = without_object id w.handlers.handlers;
       transcript = cond first ((world_of w).transcript ++ text_of_line d.types (lines.dispose id) ∷ []) (world_of w).transcript ++ text_of_line d.types (lines.final id) ∷ [];
-    }) []) ≡ Ok (record { world = new; agenda = tasks; counted = m })
-last_config d rest n w t id first x y new m tasks is fin ex ey em et =
+    }) []) ≡ Ok (record { world = new; agenda = rest; counted = m })
+last_config d rest n w t hs id first x y new m is fin left ex ey em =
     let objects = fin.objects in
     let floating = fin.floating in
-    rw (is, objects, floating, ex, ey, em, et) refl
+    rw (is, objects, floating, left, ex, ey, em) refl
+
+-- ** handlers of an object that goes
+
+module _ (e : Engine) (hs : Connected) (w : code.World) (id : ℕ) (left : hs ≡ record e.world.handlers { handlers = without_object id e.world.handlers.handlers }) (same : w.handlers ≡ hs) where
+  own : w.handlers.handlers ≡ without_object id e.world.handlers.handlers
+  own = ap (λ (c : Connected). c.handlers) (same ∙ left)
+
+  last : w.handlers.last ≡ e.world.handlers.last
+  last = ap (λ (c : Connected). c.last) (same ∙ left)
+
+  pub finalised_gone : GoneStay (world_of e.world) (world_of w)
+  finalised_gone = kept_stay (λ h. not (is_of_object id h)) (world_of e.world) (world_of w) own last
+
+-- the emissions have no more turns of them
+pub finalised_agenda : (d : Definition) (e : Engine) (hs : Connected) (w : code.World) (id : ℕ) → hs ≡ record e.world.handlers { handlers = without_object id e.world.handlers.handlers }
+    → w.handlers ≡ hs → Numbered 0 e.world.handlers.handlers e.world.handlers.last
+    → tasks_of d w.handlers.handlers e.stack ≡ map (pruned (gone_in (world_of w))) (agenda_of d e)
+finalised_agenda d e hs w id left same rises =
+    let kept = own e hs w id left same in
+    let numbered : Numbered 0 e.world.handlers.handlers w.handlers.last = subst (λ n. Numbered 0 e.world.handlers.handlers n) (sym (last e hs w id left same)) rises in
+    ap (λ (l : List Handler). tasks_of d l e.stack) kept
+    ∙ sym (tasks_alike (gone_in (world_of w)) (λ h. not (is_of_object id h)) d e.world.handlers.handlers (kept_left (λ h. not (is_of_object id h)) (world_of w) e.world.handlers.handlers kept numbered) e.stack)

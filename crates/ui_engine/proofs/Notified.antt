@@ -15,13 +15,6 @@ use Rattle.ui_machine.specs.State.Config.{World, Started, starts, said}
 use Rattle.ui_machine.specs.Outcome.{Answer, ◌>>=◌, known}
 use Rattle.ui_machine.specs.Steps.{counted, uncounted, most_steps}
 use Rattle.ui_machine.specs.Rules.EmissionPlan.{notifying, notification, notify_plan, first_given, or_else, signal_at, signal_of}
-use Rattle.ui_machine.specs.Definition.Values.{Value}
-use Rattle.ui_machine.specs.Rules.Accumulation.{passed_down}
-use Rattle.ui_engine.specs.TaskView.{task_of, tasks_of}
-use Rattle.ui_machine.specs.State.Handlers.{Handler}
-use Rattle.ui_engine.specs.declared.task.Stack.{Stack}
-use Rattle.ui_engine.specs.declared.task.Task as code
-use Rattle.ui_engine.specs.declared.task.Task.TheVariants as tasks
 
 -- ** counted steps
 
@@ -74,28 +67,8 @@ module _ (d : Definition) (w : World) (id slot : ℕ) where
         ∙ ap (λ (p : Option Spec). known arms.Code p >>= λ p. signal_at d class 0 >>= λ s. begin class p s) some
         ∙ ap (λ (s : Option Signal). known arms.Code s >>= λ s. begin class p s) declared
 
--- ** the tasks of the engine
-
--- none waits for the result of an emission
-pub down : (d : Definition) (hs : List Handler) (ts : List code.Task) (v : Option Value) → passed_down (map (task_of d hs) ts) v ≡ Ok (map (task_of d hs) ts)
-down d hs [] v = refl
-down d hs (tasks.Setting id slot x ∷ ts) v = refl
-down d hs (tasks.Notifying id slot ∷ ts) v = refl
-down d hs (tasks.Beginning emission ∷ ts) v = refl
-down d hs (tasks.Emitting cursor args by_event ∷ ts) v = refl
-down d hs (tasks.Thawing id slots ∷ ts) v = refl
-down d hs (tasks.Constructing id steps ∷ ts) v = refl
-down d hs (tasks.Building place forwards ∷ ts) v = refl
-down d hs (tasks.Adopting place forwards ∷ ts) v = refl
-down d hs (tasks.Carrying event ∷ ts) v = refl
-
 pub reverse-map : {A B : Type 0} (f : A → B) (xs : List A) → reverse (map f xs) ≡ map f (reverse xs)
 reverse-map f [] = refl
 reverse-map f (x ∷ xs) =
     reverse-append (f x ∷ []) (map f xs) ∙ ap (λ ys. ys ++ f x ∷ []) (reverse-map f xs) ∙ sym (map-append f (reverse xs) (x ∷ []))
     ∙ ap (map f) (sym (reverse-append (x ∷ []) xs))
-
-pub none_waits : (d : Definition) (hs : List Handler) (s : Stack) (v : Option Value) → passed_down (tasks_of d hs s) v ≡ Ok (tasks_of d hs s)
-none_waits d hs s v =
-    let e : tasks_of d hs s ≡ map (task_of d hs) (reverse s.tasks.items) = reverse-map (task_of d hs) s.tasks.items in
-    rw e (down d hs (reverse s.tasks.items) v)

@@ -13,6 +13,7 @@ parts d hs (tasks.Setting id slot x) o = omega arith
 parts d hs (tasks.Notifying id slot) o = omega arith
 parts d hs (tasks.Beginning emission) o = refl
 parts d hs (tasks.Emitting cursor args by_event) o = refl
+parts d hs (tasks.Running frame) o = omega arith
 parts d hs (tasks.Thawing id slots) o = omega arith
 parts d hs (tasks.Constructing id steps) o = omega arith
 parts d hs (tasks.Building place forwards) o = omega arith

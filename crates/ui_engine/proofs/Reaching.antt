@@ -33,7 +33,7 @@ module _ (d : Definition) where
   reaches_on {first} {later} {c} {m} {e} r s = steps_on r.count s.count first later c m e r.steps s.steps
 
   -- a run of one step that asks no peer
-  reaches_once : {c e : Config} → Step d None c e → Reaches d [] c e
+  pub reaches_once : {c e : Config} → Step d None c e → Reaches d [] c e
   reaches_once {c} {e} s = record {
     count = suc zero;
     steps = record { reply = None; later = []; mid = e; replied = refl; step = s; follows = (refl, refl) };

@@ -1,14 +1,15 @@
 -- What the engine counts of each object, beside what the machine mentions of it.
-use Rattle.std.specs.Prelude.{◌≡◌, ℕ, ◌+◌, ◌≤◌, []}
+use Rattle.std.specs.Prelude.{◌≡◌, ℕ, ◌+◌, ◌≤◌}
 use Rattle.ui_machine.specs.Definition.{Definition}
 use Rattle.ui_machine.specs.State.References.{same, in_value, in_register, in_held, in_task, mentions}
-use Rattle.ui_machine.specs.State.Tasks.{Emission, Task, Beginning, Emitting}
+use Rattle.ui_machine.specs.State.Tasks.{Emission, Frame, Task, Beginning, Emitting, Running}
 use Rattle.instances.specs.Store.{Store, count_of}
 use Rattle.ui_engine.specs.declared.engine.Engine.{Engine}
 use Rattle.instances.specs.Weak.{Knows}
 use Rattle.ui_machine.specs.Seq.{total}
 use Rattle.ui_engine.specs.View.{world_of}
 use Rattle.ui_engine.specs.EngineView.{config_of}
+use Rattle.ui_engine.specs.TaskView.{agenda_of}
 
 -- nothing but the counts of a table differs
 pub record OnlyCounts (old new : Store) : Type 0 where
@@ -16,15 +17,23 @@ pub record OnlyCounts (old new : Store) : Type 0 where
   pub floating : new.floating ≡ old.floating
 
 -- Each object is counted as often as it is mentioned, and so often more as is said: so much holds a task that was taken off and is not done yet.
--- It is known which properties are weak, and no handler is connected so far.
+-- It is known which properties are weak.
 pub record Counts (d : Definition) (taken : ℕ → ℕ) (e : Engine) : Type 0 where
   pub knows : Knows d e.world.weak
-  pub silent : e.world.handlers.handlers ≡ []
   pub exact : (o : ℕ) → count_of e.world.table.counts o ≡ mentions d (config_of d e) o + taken o
 
 -- what the builder holds is counted at least so often
 pub record HoldsBuilt (e : Engine) : Type 0 where
   pub at : (o : ℕ) → total (in_held o) (world_of e.world).builder ≤ count_of e.world.table.counts o
+
+-- the first tasks are counted at least so often
+pub record HoldsTasks (d : Definition) (e : Engine) : Type 0 where
+  pub at : (o : ℕ) → total (in_task o) (agenda_of d e) ≤ count_of e.world.table.counts o
+
+-- nothing but what there is to do and the counts of the table differs
+pub record OnlyTasks (old new : Engine) : Type 0 where
+  pub beside : new ≡ record old { stack = new.stack; world = record old.world { table = new.world.table } }
+  pub table : OnlyCounts old.world.table new.world.table
 
 -- what code keeps that counts all that it moves
 pub record KeepsCounts (d : Definition) (old new : Engine) : Type 0 where
@@ -40,13 +49,19 @@ nothing o = 0
 abbrev pub in_emitted : ℕ → Emission → ℕ
 in_emitted o e = total (in_value o) e.args + in_register o e.value
 
+-- what a program that runs holds: what its registers name
+abbrev pub in_frame : ℕ → Frame → ℕ
+in_frame o f = total (in_register o) f.registers
+
 abbrev pub in_given : ℕ → Task → ℕ
 in_given o (Beginning emission) = in_emitted o emission
 in_given o (Emitting emission entries) = in_emitted o emission
+in_given o (Running frame) = in_frame o frame
 in_given o _ = 0
 
 -- the object that a task holds; it is let go once the task is done
 abbrev pub in_subject : ℕ → Task → ℕ
 in_subject o (Beginning emission) = same o emission.object
 in_subject o (Emitting emission entries) = same o emission.object
+in_subject o (Running frame) = 0
 in_subject o task = in_task o task

@@ -8,7 +8,7 @@ use Rattle.ui_machine.specs.Outcome.{Answer, known, ◌>>=◌}
 use Rattle.ui_machine.specs.Rules.Build.{held_object}
 use Rattle.ui_machine.specs.Rules.Children.{adopted}
 use Rattle.ui_machine.specs.State.Config.{World}
-use Rattle.ui_engine.specs.declared.children.Kin as code
+use Rattle.ui_engine.specs.declared.tasks.children.Kin as code
 
 pub record Kin : Type 0 where
   pub parent : ℕ

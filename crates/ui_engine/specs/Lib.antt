@@ -1,4 +1,5 @@
 pub mod GivenView
+pub mod JumpView
 pub mod KinView
 pub mod WeakView
 pub mod View
@@ -7,6 +8,7 @@ pub mod LineView
 pub mod TaskView
 pub mod Measure
 pub mod EngineView
+pub mod Standing
 pub mod Counting
 pub mod Stepping
 pub mod SessionView

@@ -24,7 +24,7 @@ abbrev pub weight : Definition → Task → ℕ
 weight d (Setting id slot v) = 3
 weight d (Notifying id slot) = 1
 weight d (Beginning emission) = 1
-weight d (Emitting emission turns) = 1
+weight d (Emitting emission entries) = 2 * length entries + 1
 weight d (Transferring number back) = 1
 weight d (Unsetting number) = 1
 weight d (Thawing id slots) = 2 * length slots + 1

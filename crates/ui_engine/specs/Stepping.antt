@@ -5,13 +5,14 @@ use Rattle.ui_machine.specs.Definition.{Definition}
 use Rattle.ui_machine.specs.State.Config.{World, Config}
 use Rattle.ui_machine.specs.State.References.{mentions, next_unheld}
 use Rattle.ui_machine.specs.Steps.{most_steps}
-use Rattle.ui_machine.specs.Runs.{Step, Reaches, HasEnded, HaltsAt, Dispatches, Halts}
+use Rattle.ui_machine.specs.Runs.{HasEnded, Dispatches, Halts}
 use Rattle.g_values.specs.View.{value_view}
 use Rattle.ui_engine.specs.declared.dispatches.Reply.{Reply}
 use Rattle.ui_engine.specs.declared.engine.Engine.{Engine}
 use Rattle.ui_engine.specs.TaskView.{agenda_of}
 use Rattle.ui_engine.specs.Counting.{Counts, nothing}
 use Rattle.ui_engine.specs.Measure.{work}
+use Rattle.ui_engine.specs.Standing.{Breaks, Follows}
 use Rattle.ui_engine.specs.declared.engine.Made.{Made}
 use Rattle.ui_engine.specs.declared.engine.Made.TheVariants as mades
 
@@ -24,24 +25,24 @@ pub record IsAtRest (d : Definition) (e : Engine) : Type 0 where
   pub counts : Counts d nothing e
   pub idle : agenda_of d e ≡ []
 
--- One step: an uncounted one leaves less work, and a counted one was still to be had. It is one of the machine's: no handler is connected, so that
--- an emission passes over none, and the turn of its bindings has no entry.
+-- One step: an uncounted one leaves less work, and a counted one was still to be had. It is one of the machine's, behind those by which an
+-- emission passes over turns.
 abbrev pub Stepped : Result Made Halt → Definition → Config → Config → Type 0
 Stepped (Ok mades.Nothing) d c e = HasEnded d c × (e ≡ c)
-Stepped (Ok mades.Uncounted) d c e = Step d None c e × (work d e < work d c) × (e.counted ≡ c.counted)
-Stepped (Ok mades.Counted) d c e = Step d None c e × (c.counted < most_steps) × (e.counted ≡ suc c.counted)
-Stepped (Err halt) d c e = HaltsAt d c halt × (e.world.transcript ≡ c.world.transcript)
+Stepped (Ok mades.Uncounted) d c e = Follows d c e × (work d e < work d c) × (e.counted ≡ c.counted)
+Stepped (Ok mades.Counted) d c e = Follows d c e × (c.counted < most_steps) × (e.counted ≡ suc c.counted)
+Stepped (Err halt) d c e = Breaks d c halt e.world.transcript
 
 -- steps up to a counted one, or to the end
 abbrev pub Advanced : Result Bool Halt → Definition → Config → Config → Type 0
-Advanced (Ok true) d c e = Reaches d [] c e × (c.counted < most_steps) × (e.counted ≡ suc c.counted)
-Advanced (Ok false) d c e = Reaches d [] c e × HasEnded d e
-Advanced (Err halt) d c e = Halts d [] c halt e.world.transcript
+Advanced (Ok true) d c e = Follows d c e × (c.counted < most_steps) × (e.counted ≡ suc c.counted)
+Advanced (Ok false) d c e = Follows d c e × HasEnded d e
+Advanced (Err halt) d c e = Breaks d c halt e.world.transcript
 
 -- all steps
 abbrev pub Ran : {X : Type 0} → Result X Halt → Definition → Config → Config → Type 0
-Ran (Ok _) d c e = Reaches d [] c e × HasEnded d e
-Ran (Err halt) d c e = Halts d [] c halt e.world.transcript
+Ran (Ok _) d c e = Follows d c e × HasEnded d e
+Ran (Err halt) d c e = Breaks d c halt e.world.transcript
 
 -- a whole dispatch, or how far it came
 abbrev pub Carried : Result Reply Halt → Definition → Config → World → Type 0

@@ -13,6 +13,7 @@ use Rattle.g_values.specs.declared.value.Value.{Value}
 use Rattle.signal_core.specs.Emission.{Walk, is_over, to_come}
 use Rattle.signal_core.specs.Laws.{entries_of}
 use Rattle.builder_defs.specs.Meaning.{request_of}
+use Rattle.handler_code.specs.FrameView.{frame_view}
 use Rattle.ui_engine.specs.declared.task.Task.{Task}
 use Rattle.ui_engine.specs.declared.task.Task.TheVariants as tasks
 use Rattle.ui_engine.specs.declared.task.Forward.{Forward}
@@ -80,6 +81,7 @@ task_of d hs (tasks.Setting id slot v) = config.Setting id.0 slot (value_view v)
 task_of d hs (tasks.Notifying id slot) = config.Notifying id.0 slot
 task_of d hs (tasks.Beginning e) = config.Beginning (new_of e)
 task_of d hs (tasks.Emitting cursor args by_event) = config.Emitting (emission_of cursor args.items by_event) (entries_to_come cursor hs)
+task_of d hs (tasks.Running frame) = config.Running (frame_view frame)
 task_of d hs (tasks.Thawing id slots) = config.Thawing id.0 slots
 task_of d hs (tasks.Constructing id steps) = config.Constructing id.0 steps true
 task_of d hs (tasks.Building place forwards) = config.Building (build_from d place forwards)

@@ -15,7 +15,7 @@ ghost use Rattle.ui_engine.specs.GivenView.{Finds, detail_of, detail_named, stan
 ghost use Rattle.ui_engine.specs.View.{world_of};
 
 use crate::engine::Engine;
-use crate::sets::living_class;
+use crate::tasks::sets::living_class;
 use bitflags::Flags;
 use builder_defs::{Definition, Given};
 use g_values::{Kind, Value, has_number};

@@ -40,7 +40,6 @@ impl Engine {
         ensures counts { result.world.table.counts ≡ [] }
         ensures marks { result.world.weak ≡ weak }
         ensures idle { (d : machine.Definition) → agenda_of d result ≡ [] }
-        ensures silent { result.world.handlers.handlers ≡ [] }
     {
         Engine {
             world: World {

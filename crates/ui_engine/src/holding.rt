@@ -2,14 +2,15 @@
 //!
 //! The table counts how often each object is held. A property and a parent hold by the table itself; the builder holds what it has
 //! built, and a task holds its object from when it comes before the others until it is done. An emission holds its arguments, and the value
-//! that it has accumulated, from its beginning to its end.
+//! that it has accumulated, from its beginning to its end, and a program what its registers name.
 
-ghost use Rattle.std.specs.Prelude.{◌≡◌, ℕ, ◌+◌, ◌≤◌, List, ◌∷◌, map, OnOk};
+ghost use Rattle.std.specs.Prelude.{◌≡◌, ℕ, ◌+◌, ◌≤◌, List, ◌∷◌, map, option_map, OnOk};
 ghost use Rattle.ui_machine.specs.Definition as machine;
 ghost use Rattle.ui_machine.specs.Seq.{total};
 ghost use Rattle.ui_machine.specs.State.Handlers.{Handler};
 ghost use Rattle.ui_machine.specs.State.References.{in_option, in_register, in_value};
 ghost use Rattle.g_values.specs.View.{value_view};
+ghost use Rattle.handler_code.specs.Computing.{registers_of};
 ghost use Rattle.instances.specs.Store.{id_of, count_of, may_hold_any, named_by};
 ghost use Rattle.ui_engine.specs.View.{world_of};
 ghost use Rattle.ui_engine.specs.TaskView.{task_of, task_in, agenda_of};
@@ -112,6 +113,7 @@ impl Task {
             Task::Notifying { object, .. } => Some(*object),
             Task::Beginning(emission) => Some(emission.object),
             Task::Emitting { cursor, .. } => Some(cursor.object()),
+            Task::Running(_) => None,
             Task::Thawing { object, .. } => Some(*object),
             Task::Constructing { object, .. } => Some(*object),
             Task::Building { .. } => None,
@@ -121,7 +123,28 @@ impl Task {
     }
 }
 
-// Holds what an emission holds beside its object.
+/// The object that a register names, if it names one.
+pub(crate) fn register_named(register: &Option<Value>) -> Option<ObjectId>
+    ensures { (o : ℕ) → in_option o (id_of result) ≡ in_register o (option_map value_view register.now) }
+{
+    match register {
+        Some(value) => named(value),
+        None => None,
+    }
+}
+
+// Holds each object that one of these registers names once more.
+fn hold_registers(table: &mut Table, registers: &[Option<Value>]) -> Result<(), AllocError>
+    ensures only { OnlyCounts table.old table.new }
+    ensures counts { OnOk result ((o : ℕ) → count_of table.new.counts o ≡ count_of table.old.counts o + total (in_register o) (registers_of registers.now)) }
+{
+    for register in registers {
+        hold_any(table, register_named(register))?;
+    }
+    Ok(())
+}
+
+// Holds what an emission holds beside its object, and what the registers of a program name.
 fn hold_given(table: &mut Table, task: &Task) -> Result<(), AllocError>
     ensures only { OnlyCounts table.old table.new }
     ensures counts { OnOk result ((d : machine.Definition) (hs : List Handler) (o : ℕ) → count_of table.new.counts o ≡ count_of table.old.counts o + in_given o (task_of d hs task.now)) }
@@ -131,6 +154,7 @@ fn hold_given(table: &mut Table, task: &Task) -> Result<(), AllocError>
         Task::Emitting { cursor, args, .. } => hold_emitted(table, cursor, args.as_slice()),
         Task::Setting { .. } => Ok(()),
         Task::Notifying { .. } => Ok(()),
+        Task::Running(frame) => hold_registers(table, frame.registers.as_slice()),
         Task::Thawing { .. } => Ok(()),
         Task::Constructing { .. } => Ok(()),
         Task::Building { .. } => Ok(()),

@@ -6,25 +6,19 @@
 
 mod arguments;
 mod builder;
-mod builds;
-mod carrying;
-mod children;
 mod counting;
 mod dispatches;
-mod emission;
 mod engine;
-mod finalisation;
-mod forwards;
+mod frames;
 mod given;
 mod holding;
+mod instructions;
 mod lines;
-mod notifications;
 mod refusals;
-mod running;
 mod runs;
 mod session;
-mod sets;
 mod task;
+mod tasks;
 mod weak_slots;
 mod world;
 

@@ -9,8 +9,8 @@ ghost use Rattle.ui_engine.specs.SessionView.{AnswersEvent, Comes, building, car
 
 use crate::dispatches::Reply;
 use crate::engine::Engine;
-use crate::forwards::forwards;
 use crate::task::Task;
+use crate::tasks::forwards::forwards;
 use crate::weak_slots::weak_slots;
 use builder_defs::{Definition, Event};
 use std::alloc::Global;

@@ -8,6 +8,7 @@ ghost use Rattle.ui_engine.specs.TaskView.{making_of_code, task_of, tasks_of};
 
 use builder_defs::Event;
 use g_values::Value;
+use handler_code::Frame;
 use signal_core::Cursor;
 use std::alloc::{AllocError, Global};
 use std::marker::Model;
@@ -158,6 +159,8 @@ pub enum Task {
         args: Vec<Value>,
         by_event: bool,
     },
+    /// The rest of a program.
+    Running(Frame),
     /// The notifications that are left of a thaw.
     Thawing {
         object: ObjectId,

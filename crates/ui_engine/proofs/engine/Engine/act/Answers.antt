@@ -1,5 +1,6 @@
-use Rattle.std.proofs.Common.{refl}
+use Rattle.std.proofs.Common.{Ok, refl}
 use Rattle.ui_engine.proofs.Counts.{done_plain}
+use Rattle.ui_engine.proofs.Whole.{goes_whole}
 use Rattle.ui_engine.proofs.engine.Engine.act.Goals as goal
 
 pub returns-in-Setting-clause-counted : goal.returns-in-Setting-clause-counted
@@ -29,3 +30,30 @@ returns-in-Adopting-clause-counted c =
 pub returns-in-Carrying-clause-counted : goal.returns-in-Carrying-clause-counted
 returns-in-Carrying-clause-counted c =
     done_plain c.args.definition.now c.args.self.now c.carrying.new.self c.args.task _ c.in-Carrying.is (λ o. refl) c.in_ok-carrying-in-Carrying.ensures.counted c.requires.counted
+
+pub returns-in-Setting-clause-step : goal.returns-in-Setting-clause-step
+returns-in-Setting-clause-step c = rw c.in-Setting.is (goes_whole c.args.definition.now c.setting.new.self (Ok (tt {0})) _ c.in_ok-setting-in-Setting.ensures.step)
+
+pub returns-in-Notifying-clause-step : goal.returns-in-Notifying-clause-step
+returns-in-Notifying-clause-step c = rw c.in-Notifying.is (goes_whole c.args.definition.now c.notifying.new.self (Ok (tt {0})) _ c.in_ok-notifying-in-Notifying.ensures.step)
+
+pub returns-in-Beginning-clause-step : goal.returns-in-Beginning-clause-step
+returns-in-Beginning-clause-step c = rw c.in-Beginning.is (goes_whole c.args.definition.now c.beginning.new.self (Ok (tt {0})) _ c.in_ok-beginning-in-Beginning.ensures.step)
+
+pub returns-in-Emitting-clause-step : goal.returns-in-Emitting-clause-step
+returns-in-Emitting-clause-step c = rw c.in-Emitting.is (goes_whole c.args.definition.now c.emitting.new.self (Ok (tt {0})) _ c.in_ok-emitting-in-Emitting.ensures.step)
+
+pub returns-in-Thawing-clause-step : goal.returns-in-Thawing-clause-step
+returns-in-Thawing-clause-step c = rw c.in-Thawing.is (goes_whole c.args.definition.now c.thawing.new.self (Ok (tt {0})) _ c.in_ok-thawing-in-Thawing.ensures.step)
+
+pub returns-in-Constructing-clause-step : goal.returns-in-Constructing-clause-step
+returns-in-Constructing-clause-step c = rw c.in-Constructing.is (goes_whole c.args.definition.now c.constructing.new.self (Ok (tt {0})) _ c.in_ok-constructing-in-Constructing.ensures.step)
+
+pub returns-in-Building-clause-step : goal.returns-in-Building-clause-step
+returns-in-Building-clause-step c = rw c.in-Building.is (goes_whole c.args.definition.now c.building.new.self (Ok (tt {0})) _ c.in_ok-building-in-Building.ensures.step)
+
+pub returns-in-Adopting-clause-step : goal.returns-in-Adopting-clause-step
+returns-in-Adopting-clause-step c = rw c.in-Adopting.is (goes_whole c.args.definition.now c.adopting.new.self (Ok (tt {0})) _ c.in_ok-adopting-in-Adopting.ensures.step)
+
+pub returns-in-Carrying-clause-step : goal.returns-in-Carrying-clause-step
+returns-in-Carrying-clause-step c = rw c.in-Carrying.is (goes_whole c.args.definition.now c.carrying.new.self (Ok (tt {0})) _ c.in_ok-carrying-in-Carrying.ensures.step)

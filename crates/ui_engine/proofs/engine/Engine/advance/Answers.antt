@@ -1,22 +1,34 @@
 use Rattle.std.proofs.Common.{Ok, refl, ◌∙◌, subst, sym}
+use Rattle.std.proofs.lemmas.Result.{err_from_is_err_and}
 use Rattle.ui_engine.specs.declared.engine.Made.{Made}
 use Rattle.ui_engine.specs.EngineView.{config_of}
 use Rattle.ui_engine.specs.Stepping.{Stepped}
 use Rattle.ui_machine.specs.Steps.{most_steps}
 use Rattle.std.specs.Prelude.{◌<◌}
-use Rattle.ui_machine.proofs.Prefixes.{prefix_on}
-use Rattle.ui_engine.proofs.Reaching.{reaches_more}
+use Rattle.ui_machine.proofs.Prefixes.{prefix_on, prefix_same}
+use Rattle.ui_engine.proofs.Standing.{breaks_on, follows_here, follows_on}
 use Rattle.ui_engine.proofs.engine.Engine.advance.Goals as goal
+
+pub loop-init : goal.loop-init
+loop-init c =
+    let d = c.args.definition.now in
+    let e = config_of d c.args.self.now in
+    record { follows = follows_here d e; counts = c.requires.counted; grows = prefix_same e.world.transcript; counted = refl }
 
 pub loop-preserved : goal.loop-preserved
 loop-preserved c =
     let d = c.args.definition.now in
     let s = subst (λ (made : Made). Stepped (Ok made) d (config_of d c.loop.self) (config_of d c.step.new.self)) c.in-Uncounted.is c.in_ok-step.ensures.stepped in
-    record { reached = reaches_more d c.loop.invariant.reached s.0; counts = c.in_ok-step.ensures.counted; grows = prefix_on c.loop.invariant.grows c.in_ok-step.ensures.grows; counted = s.2 ∙ c.loop.invariant.counted }
+    record { follows = follows_on d c.loop.invariant.follows s.0; counts = c.in_ok-step.ensures.counted; grows = prefix_on c.loop.invariant.grows c.in_ok-step.ensures.grows; counted = s.2 ∙ c.loop.invariant.counted }
 
 pub returns-in-Counted-clause-advanced : goal.returns-in-Counted-clause-advanced
 returns-in-Counted-clause-advanced c =
     let d = c.args.definition.now in
     let s = subst (λ (made : Made). Stepped (Ok made) d (config_of d c.loop.self) (config_of d c.step.new.self)) c.in-Counted.is c.in_ok-step.ensures.stepped in
     let few : c.args.self.now.counted < most_steps = rw (sym c.loop.invariant.counted) s.1 in
-    (reaches_more d c.loop.invariant.reached s.0, few, s.2 ∙ rw c.loop.invariant.counted refl)
+    (follows_on d c.loop.invariant.follows s.0, few, s.2 ∙ rw c.loop.invariant.counted refl)
+
+pub returns-in_err-step-clause-advanced : goal.returns-in_err-step-clause-advanced
+returns-in_err-step-clause-advanced c =
+    let p = err_from_is_err_and c.from_residual.result c.from_residual.ensures.1 in
+    rw (p.1, p.2) (breaks_on c.args.definition.now c.loop.invariant.follows c.in_err-step.ensures.stepped)

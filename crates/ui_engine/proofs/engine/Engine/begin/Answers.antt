@@ -17,5 +17,5 @@ returns-clause-counted c =
     let d = c.args.definition.now in
     let e = c.args.self.now in
     let idle = c.requires.idle ∙ sym (c.clear.ensures d e.world.handlers.handlers) in
-    keeps_on d _ _ _ (keeps_by d e _ refl refl (λ taken _ h. subst (λ (ts : List Task). Exact d taken e.world.table (map held_of e.world.builder.items) ts) idle h))
+    keeps_on d _ _ _ (keeps_by d e _ refl (λ taken _ h. subst (λ (ts : List Task). Exact d taken e.world.table (map held_of e.world.builder.items) ts) idle h))
     (c.in_ok-push.ensures.counted d)

@@ -1,4 +1,4 @@
-use Rattle.std.proofs.Common.{ℕ, suc, List, ◌∷◌, option_map, sym, ap, ◌∙◌, arith}
+use Rattle.std.proofs.Common.{ℕ, suc, List, ◌∷◌, option_map, sym, ap, subst, ◌∙◌, arith}
 use Rattle.std.proofs.lemmas.Result.{err_from_is_err_and}
 use Rattle.ui_machine.specs.Definition.Types.{GType}
 use Rattle.ui_machine.specs.Definition.Signals.{Signal}
@@ -8,6 +8,7 @@ use Rattle.ui_machine.specs.Rules.EmissionPlan.{beginning_emission}
 use Rattle.ui_machine.specs.State.References.{same}
 use Rattle.ui_machine.specs.State.Tasks.{Emitting, Task}
 use Rattle.ui_machine.specs.Steps.{counted, uncounted}
+use Rattle.signal_core.specs.Connected.{Numbered}
 use Rattle.signal_core.specs.Emission.{begun}
 use Rattle.signal_core.specs.Laws.{walk_for}
 use Rattle.signal_core.specs.SignalView.{declared_view}
@@ -89,8 +90,8 @@ returns-clause-step c =
     let g = λ (s : Signal). walk_for last s.accumulator (planned d class m.object.0 m.signal (new_of m).detail s) in
     let found = ap (option_map (λ (x : Emission). begun x last)) (sym c.in-Some-emission.is) ∙ c.emission.ensures last in
     let walk = begun_as (λ (x : Emission). begun x last) g c.in-Some-emission.planned _ s found declared in
-    let silent = ap (λ (h : Engine). h.world.handlers.handlers) is ∙ c.requires.counted.silent in
-    let starts_so = beginning_starts d w silent m class c.in_ok-class.ensures s declared fit (begun c.in-Some-emission.planned last) walk in
+    let rises = subst (λ (h : Engine). Numbered 0 h.world.handlers.handlers h.world.handlers.last) (sym is) c.last-last.ensures.rises in
+    let starts_so = beginning_starts d w rises m class c.in_ok-class.ensures s declared fit (begun c.in-Some-emission.planned last) walk in
     let line = c.in_ok-line.ensures ∙ ap (λ (types : List GType). text_of_line types (lines.emit m.object.0 s.name (new_of m).detail (new_of m).args)) c.types-types.ensures.types in
     let world = c.in_ok-start.ensures.world ∙ ap (λ (text : List ℕ). with_line text w) line in
     let agenda = c.in_ok-start.ensures.agenda d

@@ -10,6 +10,8 @@ use Rattle.ui_engine.specs.Counting.{nothing}
 use Rattle.ui_engine.proofs.Counts.{keeps_said}
 use Rattle.ui_machine.proofs.Prefixes.{prefix_by, prefix_on}
 use Rattle.ui_engine.proofs.Reaching.{reaches_here}
+use Rattle.ui_engine.proofs.Standing.{breaks_there, ends_there, halts_from}
+use Rattle.ui_engine.proofs.Whole.{engine_whole}
 use Rattle.ui_engine.proofs.engine.Engine.dispatch.Goals as goal
 
 pub returns-in_err-begin-clause-carried : goal.returns-in_err-begin-clause-carried
@@ -19,12 +21,44 @@ returns-in_err-begin-clause-carried c =
     let start = beginning (world_of c.args.self.now.world) (task_in d c.args.self.now c.args.task) in
     rw (p.1, p.2) (record { at = start; reached = reaches_here d start; stops = tt; lines = sym c.in_err-begin.ensures.err })
 
+pub returns-in_err-run-clause-carried : goal.returns-in_err-run-clause-carried
+returns-in_err-run-clause-carried c =
+    let p = err_from_is_err_and c.from_residual-in_err-run.result c.from_residual-in_err-run.ensures.1 in
+    let d = c.args.definition.now in
+    let breaks = breaks_there d (config_of d c.begin.new.self) _ _ (engine_whole d c.begin.new.self) c.in_err-run.ensures.ran in
+    rw (p.1, p.2) (halts_from d c.in_ok-begin.ensures.ok breaks)
+
+pub returns-in_err-result-clause-carried : goal.returns-in_err-result-clause-carried
+returns-in_err-result-clause-carried c =
+    let p = err_from_is_err_and c.from_residual-in_err-result.result c.from_residual-in_err-result.ensures.1 in
+    let d = c.args.definition.now in
+    let e = config_of d c.run.new.self in
+    let reached = subst (λ (from : Config). Reaches d [] from e) c.in_ok-begin.ensures.ok (ends_there d (config_of d c.begin.new.self) e (engine_whole d c.begin.new.self) c.in_ok-run.ensures.ran.0 c.in_ok-run.ensures.ran.1) in
+    rw (p.1, p.2) (record { at = e; reached = reached; stops = tt; lines = refl })
+
+pub returns-in_err-line-clause-carried : goal.returns-in_err-line-clause-carried
+returns-in_err-line-clause-carried c =
+    let p = err_from_is_err_and c.from_residual-in_err-line.result c.from_residual-in_err-line.ensures.1 in
+    let d = c.args.definition.now in
+    let e = config_of d c.run.new.self in
+    let reached = subst (λ (from : Config). Reaches d [] from e) c.in_ok-begin.ensures.ok (ends_there d (config_of d c.begin.new.self) e (engine_whole d c.begin.new.self) c.in_ok-run.ensures.ran.0 c.in_ok-run.ensures.ran.1) in
+    rw (p.1, p.2) (record { at = e; reached = reached; stops = tt; lines = refl })
+
+pub returns-in_err-say-clause-carried : goal.returns-in_err-say-clause-carried
+returns-in_err-say-clause-carried c =
+    let p = err_from_is_err_and c.from_residual-in_err-say.result c.from_residual-in_err-say.ensures.1 in
+    let d = c.args.definition.now in
+    let e = config_of d c.run.new.self in
+    let reached = subst (λ (from : Config). Reaches d [] from e) c.in_ok-begin.ensures.ok (ends_there d (config_of d c.begin.new.self) e (engine_whole d c.begin.new.self) c.in_ok-run.ensures.ran.0 c.in_ok-run.ensures.ran.1) in
+    rw (p.1, p.2) (record { at = e; reached = reached; stops = tt; lines = sym (ap (λ (w : World). w.transcript) c.in_err-say.ensures.err) })
+
 pub returns-clause-carried : goal.returns-clause-carried
 returns-clause-carried c =
     let d = c.args.definition.now in
     let e = config_of d c.run.new.self in
     let ran = c.in_ok-run.ensures.ran in
-    let reached = subst (λ (from : Config). Reaches d [] from e) c.in_ok-begin.ensures.ok ran.0 in
+    let whole = engine_whole d c.begin.new.self in
+    let reached = subst (λ (from : Config). Reaches d [] from e) c.in_ok-begin.ensures.ok (ends_there d (config_of d c.begin.new.self) e whole ran.0 ran.1) in
     let said = c.in_ok-say.ensures.ok ∙ ap (λ line. record (world_of c.run.new.self.world) { transcript = (world_of c.run.new.self.world).transcript ++ line ∷ [] }) c.in_ok-line.ensures in (
       record { at = e; reached = reached; ended = ran.1; counts = refl; leaves = sym said },
       c.in_ok-result.ensures ∙ ap (λ (w : World). w.result) (sym said),

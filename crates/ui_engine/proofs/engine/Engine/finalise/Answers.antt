@@ -1,4 +1,4 @@
-use Rattle.std.proofs.Common.{◌≡◌, [], suc, not, List, IsSome, sym, ap, subst, ◌∙◌}
+use Rattle.std.proofs.Common.{suc, not, List, map, IsSome, sym, ap, subst, ◌∙◌}
 use Rattle.ui_machine.specs.Definition.Types.{GType}
 use Rattle.ui_machine.specs.Output.Lines as lines
 use Rattle.ui_machine.specs.Output.Text.{text_of_line}
@@ -12,34 +12,33 @@ use Rattle.ui_engine.specs.View.{world_of}
 use Rattle.ui_engine.specs.TaskView.{tasks_of, agenda_of}
 use Rattle.signal_core.specs.Connected.{Connected}
 use Rattle.ui_engine.proofs.Counts.{keeps_on, keeps_same, keeps_finalised}
-use Rattle.ui_engine.proofs.Finalising.{first_time, no_such_peer, no_peer_there, finalised_now, last_config}
+use Rattle.machine_laws.specs.GoneLaws.{gone_in, pruned}
+use Rattle.ui_engine.specs.Standing.{GoneStay}
+use Rattle.ui_engine.proofs.Finalising.{first_time, no_such_peer, no_peer_there, finalised_now, finalised_agenda, finalised_gone, last_config}
 use Rattle.ui_engine.proofs.Notified.{counted_on}
 use Rattle.ui_engine.proofs.engine.Engine.finalise.Goals as goal
 
 pub returns-then-is_some-clause-step : goal.returns-then-is_some-clause-step
-returns-then-is_some-clause-step c =
+returns-then-is_some-clause-step c rest =
     let d = c.args.definition.now in
     let e = c.args.self.now in
     let id = c.args.object.0 in
-    let rest = agenda_of d e in
     let world = ap (λ (f : Engine). f.world) c.in_ok-count.ensures.ok.1 in
     let peer = sym (c.peer_of.ensures ∙ ap (λ (w : World). peer_of (living w.table.objects id)) world) in
     counted_on rest e.counted _ c.in_ok-count.ensures.ok.0
     ∙ ap (uncounted rest (suc e.counted)) (no_such_peer d e.world id c.peer_of.result peer (sym c.is_some.ensures ∙ c.if-is_some.true))
 
 pub returns-clause-step : goal.returns-clause-step
-returns-clause-step c =
+returns-clause-step c rest =
     let d = c.args.definition.now in
     let e = c.args.self.now in
     let id = c.args.object.0 in
-    let rest = agenda_of d e in
     let n = e.counted in
     let is = c.in_ok-count.ensures.ok.1 in
     let world = ap (λ (f : Engine). f.world) is in
     let w = c.count.new.self.world in
     let live = subst (λ (v : World). IsSome (living v.table.objects id)) (sym world) c.requires.live in
     let knows = subst (λ (v : World). Knows d v.weak) (sym world) c.requires.knows in
-    let silent = subst (λ (v : World). v.handlers.handlers ≡ []) (sym world) c.requires.silent in
     let none = no_peer_there c.peer_of.result (sym c.is_some.ensures ∙ c.if-is_some.false) (sym c.peer_of.ensures) in
     let first = not c.is_disposed-is_first.result in
     let told = first_time w.table.objects id live ∙ ap not (sym c.is_disposed-is_first.ensures) in
@@ -47,10 +46,26 @@ returns-clause-step c =
     let y = c.in_ok-finalised.ensures ∙ ap (λ (types : List GType). text_of_line types (lines.final id)) c.types-types.ensures.types in
     counted_on rest n _ c.in_ok-count.ensures.ok.0
     ∙ ap (λ (v : World). uncounted rest (suc n) (finalising d (world_of v) id)) (sym world)
-    ∙ ap (uncounted rest (suc n)) (finalised_now d w id silent none first told)
-    ∙ last_config d rest n w c.finalise.new.self id first _ _ _ c.count.new.self.counted (tasks_of d c.say_both.new.self.handlers.handlers c.count.new.self.stack)
-    c.in_ok-say_both.ensures.ok (c.finalise.ensures.finalises d knows) x y (ap (λ (f : Engine). f.counted) is)
-    (ap (λ (h : Connected). tasks_of d h.handlers c.count.new.self.stack) c.say_both.ensures.handlers ∙ ap (λ (f : Engine). agenda_of d f) is)
+    ∙ ap (uncounted rest (suc n)) (finalised_now d w id none first told)
+    ∙ last_config d rest n w c.finalise.new.self c.disconnect_object.new.self id first _ _ _ c.count.new.self.counted
+    c.in_ok-say_both.ensures.ok (c.finalise.ensures.finalises d knows) c.disconnect_object.ensures.left x y (ap (λ (f : Engine). f.counted) is)
+
+-- the tasks as they are left
+pub returns-clause-agenda : goal.returns-clause-agenda
+returns-clause-agenda c =
+    let d = c.args.definition.now in
+    let e = c.args.self.now in
+    let f = c.count.new.self in
+    let is = c.in_ok-count.ensures.ok.1 in
+    let rises = c.last-last.ensures.rises in
+    finalised_agenda d f c.disconnect_object.new.self c.say_both.new.self c.args.object.0 c.disconnect_object.ensures.left c.say_both.ensures.handlers rises
+    ∙ ap (λ (g : Engine). map (pruned (gone_in (world_of c.say_both.new.self))) (agenda_of d g)) is
+
+pub returns-clause-gone : goal.returns-clause-gone
+returns-clause-gone c =
+    let is = c.in_ok-count.ensures.ok.1 in
+    subst (λ (g : Engine). GoneStay (world_of g.world) (world_of c.say_both.new.self)) is
+    (finalised_gone c.count.new.self c.disconnect_object.new.self c.say_both.new.self c.args.object.0 c.disconnect_object.ensures.left c.say_both.ensures.handlers)
 
 pub returns-clause-counted : goal.returns-clause-counted
 returns-clause-counted c =
@@ -59,4 +74,7 @@ returns-clause-counted c =
     let f = c.count.new.self in
     let is = c.in_ok-count.ensures.ok.1 in
     let same = keeps_same d e f (ap (λ (g : Engine). g.world.table) is) (ap (λ (g : Engine). g.world.weak) is) (ap (λ (g : Engine). g.world.builder) is) (ap (λ (g : Engine). g.stack) is) (ap (λ (g : Engine). g.world.handlers) is) in
-    keeps_on d _ _ _ same (keeps_finalised d f c.finalise.new.self c.say_both.new.self c.args.object.0 f.counted (c.finalise.ensures.finalises d) c.in_ok-say_both.ensures.beside)
+    let left = finalised_agenda d f c.disconnect_object.new.self c.say_both.new.self c.args.object.0 c.disconnect_object.ensures.left c.say_both.ensures.handlers c.last-last.ensures.rises in
+    keeps_on d _ _ _ same
+    (keeps_finalised d f c.finalise.new.self c.disconnect_object.new.self c.say_both.new.self (gone_in (world_of c.say_both.new.self)) c.args.object.0 f.counted (c.finalise.ensures.finalises d)
+    c.in_ok-say_both.ensures.beside (ap (λ (h : Connected). tasks_of d h.handlers f.stack) (sym c.say_both.ensures.handlers) ∙ left))

@@ -5,7 +5,7 @@ use Rattle.ui_machine.specs.Output.Text.{text_of_line}
 use Rattle.ui_machine.specs.Definition.Values.{Value}
 use Rattle.ui_machine.specs.State.Config.{World, said}
 use Rattle.ui_machine.specs.Rules.Construction.{with_object, new_object}
-use Rattle.builder_defs.specs.Meaning.{plain_place, place_number, given_property}
+use Rattle.builder_defs.specs.Meaning.{attached_view, plain_place, place_number, given_property}
 use Rattle.instances.specs.Store.{made_object}
 use Rattle.ui_engine.specs.View.{world_of}
 use Rattle.ui_engine.proofs.Building.{made_there, valid_defaults}
@@ -25,7 +25,7 @@ returns-clause-step c =
     let d = c.args.definition.now in
     let w = world_of c.args.self.now.world in
     let class = c.in-Some.entry.class in
-    let place = plain_place c.in-Some.entry.id.now class (place_number c.in-Some.entry.parent) (map given_property c.in-Some.entry.given.now) in
+    let place = plain_place c.in-Some.entry.id.now class (place_number c.in-Some.entry.parent) (map given_property c.in-Some.entry.given.now) (map attached_view c.in-Some.entry.signals.now) in
     let at : slice_get d.places c.args.place ≡ Some place = sym c.in-Some.ensures in
     let concrete : (type_of d class).is_abstract ≡ false = search rules in
     let made = made_there d c.types-types.ensures.basic w c.args.place place at concrete in
@@ -48,7 +48,7 @@ pub returns-clause-counted : goal.returns-clause-counted
 returns-clause-counted c =
     let d = c.args.definition.now in
     let class = c.in-Some.entry.class in
-    let place = plain_place c.in-Some.entry.id.now class (place_number c.in-Some.entry.parent) (map given_property c.in-Some.entry.given.now) in
+    let place = plain_place c.in-Some.entry.id.now class (place_number c.in-Some.entry.parent) (map given_property c.in-Some.entry.given.now) (map attached_view c.in-Some.entry.signals.now) in
     let at : slice_get d.places c.args.place ≡ Some place = sym c.in-Some.ensures in
     let valid = valid_defaults d c.types-types.ensures.basic (world_of c.args.self.now.world) c.args.place place at in
     let none : (o : ℕ) → in_values o (specs_of d class) (map value_view c.in_ok-values.values.items) ≡ 0 =

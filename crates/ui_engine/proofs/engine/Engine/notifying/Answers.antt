@@ -1,4 +1,4 @@
-use Rattle.std.proofs.Common.{ℕ, suc, List, [], ◌∷◌, map, false, Some, Bor, option_map, string_bytes, refl, sym, ap, ◌∙◌, arith}
+use Rattle.std.proofs.Common.{ℕ, suc, List, [], ◌∷◌, map, false, Some, Bor, option_map, string_bytes, refl, sym, ap, subst, ◌∙◌, arith}
 use Rattle.std.proofs.lemmas.Result.{err_from_is_err_and}
 use Rattle.ui_machine.specs.Definition.Types.{GType}
 use Rattle.ui_machine.specs.Definition.Signals.{Signal}
@@ -13,6 +13,7 @@ use Rattle.g_values.specs.View.{value_view}
 use Rattle.g_values.specs.declared.value.Value.{Value}
 use Rattle.param_specs.specs.declared.spec.Spec.{Spec}
 use Rattle.param_specs.specs.View.{spec_view}
+use Rattle.signal_core.specs.Connected.{Numbered}
 use Rattle.signal_core.specs.Emission.{begun}
 use Rattle.signal_core.specs.Laws.{walk_for}
 use Rattle.signal_core.specs.declared.emission.Emission.{Emission}
@@ -72,8 +73,8 @@ returns-clause-step c =
     let found = ap (option_map (λ (m : Emission). begun m last)) (sym c.in-Some-emission.is) ∙ c.emission.ensures last in
     let declared = begun_some (λ (m : Emission). begun m last) (g (string_bytes c.in_ok-name.name)) c.in-Some-emission.emission _ found in
     let walk = begun_as (λ (m : Emission). begun m last) (g (string_bytes c.in_ok-name.name)) c.in-Some-emission.emission _ declared.0 found declared.1 ∙ ap (λ (detail : List ℕ). g detail declared.0) name in
-    let silent = ap (λ (h : Engine). h.world.handlers.handlers) is ∙ c.requires.silent in
-    let starts_so = notifying_starts d w silent refl id c.args.slot class c.in_ok-class.ensures p some declared.0 declared.1 (begun c.in-Some-emission.emission last) walk in
+    let rises = subst (λ (h : Engine). Numbered 0 h.world.handlers.handlers h.world.handlers.last) (sym is) c.last-last.ensures.rises in
+    let starts_so = notifying_starts d w rises refl id c.args.slot class c.in_ok-class.ensures p some declared.0 declared.1 (begun c.in-Some-emission.emission last) walk in
     let line = (rw c.as_str-2.ensures.value at c.in_ok-line.ensures) ∙ ap (λ (types : List GType). text_of_line types (lines.notify id p.name)) c.types.ensures.types in
     let world = c.in_ok-start.ensures.world ∙ ap (λ (text : List ℕ). with_line text w) line in
     let agenda = c.in_ok-start.ensures.agenda d

@@ -21,9 +21,8 @@ invariant_of-session c _ =
     let idle = ap (λ (e : Engine). agenda_of d e) beside ∙ c.new-engine.ensures.idle d in
     let marks = ap (λ (e : Engine). e.world.weak) beside ∙ c.new-engine.ensures.marks in
     let counts = ap (λ (e : Engine). e.world.table.counts) beside ∙ c.new-engine.ensures.counts in
-    let silent = ap (λ (e : Engine). e.world.handlers.handlers) beside ∙ c.new-engine.ensures.silent in
     record {
-      counts = none_counted d c.announce.new.self c.in-Ok.weak c.in-Ok.ensures marks counts world idle silent;
+      counts = none_counted d c.announce.new.self c.in-Ok.weak c.in-Ok.ensures marks counts world idle;
       idle = idle;
     }
 

@@ -1,0 +1,237 @@
+-- How the machine follows the engine: it passes over the turns of handlers that are gone or blocked, and then does the same step.
+use Rattle.std.proofs.Common.{◌≡◌, ◌∙◌, refl, sym, ap, subst, ℕ, Bool, true, false, cond, map, List, [], ◌∷◌, Option, None, Some, Ok, Err}
+use Rattle.ui_machine.specs.declared.arm.Arm.{Arm}
+use Rattle.ui_machine.specs.declared.arm.Halt.{Halt}
+use Rattle.ui_machine.specs.declared.arm.Halt.TheVariants as halts
+use Rattle.ui_machine.specs.Definition.{Definition}
+use Rattle.ui_machine.specs.Outcome.{Answer, Stops}
+use Rattle.ui_machine.specs.Rules.Accumulation.{given_to, running_handler}
+use Rattle.ui_machine.specs.Rules.Programs.{program_before}
+use Rattle.ui_machine.specs.Runs.{Halts, HaltsAt, HasEnded, Reaches}
+use Rattle.ui_machine.specs.State.Config.{Config, World, starts}
+use Rattle.ui_machine.specs.State.Handlers.{Handler, handler_of}
+use Rattle.ui_machine.specs.State.References.{mentions, next_unheld}
+use Rattle.ui_machine.specs.State.Tasks.{Emission, Emitting, PlanEntry, Task, class_handler, handler, transfer}
+use Rattle.ui_machine.specs.Steps.{act, asked_after, asked_first, first_of, question, step, uncounted}
+use Rattle.machine_laws.specs.FrontLaws.{mapped}
+use Rattle.machine_laws.specs.GoneLaws.{gone_in, is_next, pruned, pruned_at}
+use Rattle.machine_laws.proofs.GoneProofs.{given_are_gone, pruned_again, question_does_without, step_does_without, unheld_as}
+use Rattle.signal_core.specs.Laws.{entries_left, is_passed_over}
+use Rattle.ui_engine.specs.Standing.{Arrives, Breaks, Follows, GoneStay, with_first, without_gone}
+use Rattle.ui_engine.specs.Stepping.{NoneUnheld}
+use Rattle.ui_engine.proofs.Gone.{first_stands, with_first_stays}
+use Rattle.ui_engine.proofs.Reaching.{halts_on, reaches_here, reaches_on, reaches_once}
+
+-- a configuration whose first task is past the turns that are passed over
+abbrev pub at_first : Config → Config
+at_first c = record c { agenda = with_first c.world.handlers c.agenda }
+
+module _ (d : Definition) where
+  -- ** turns that are passed over
+
+  module _ (w : World) (e : Emission) (rest : List Task) (n : ℕ) where
+    abbrev emitting : List PlanEntry → Config
+    emitting entries = record { world = w; agenda = Emitting e entries ∷ rest; counted = n }
+
+    passed : (number : ℕ) (entries : List PlanEntry) → is_passed_over (handler_of number w.handlers) ≡ true
+        → act d w None (Emitting e (handler number ∷ entries) ∷ rest) n ≡ Ok (emitting entries)
+    passed number entries over = ap (uncounted rest n) (by (handler_of number w.handlers) over)
+      where
+        by : (o : Option Handler) → is_passed_over o ≡ true → running_handler d w e entries o ≡ starts w (Emitting e entries ∷ [])
+        by None over = refl
+        by (Some h) over = ap (λ b. cond b (starts w (Emitting e entries ∷ [])) (program_before d w h.program (given_to e h) (Emitting e entries ∷ []))) over
+
+    passes : (entries : List PlanEntry) → NoneUnheld d (emitting entries) → Reaches d [] (emitting entries) (emitting (entries_left w.handlers entries))
+    passes [] none = reaches_here d (emitting [])
+    passes (class_handler program cleanup ∷ entries) none = reaches_here d (emitting (class_handler program cleanup ∷ entries))
+    passes (transfer number back ∷ entries) none = reaches_here d (emitting (transfer number back ∷ entries))
+    passes (handler number ∷ entries) none = by (is_passed_over (handler_of number w.handlers)) refl (passes entries none)
+      where
+        by : (b : Bool) → is_passed_over (handler_of number w.handlers) ≡ b → Reaches d [] (emitting entries) (emitting (entries_left w.handlers entries))
+            → Reaches d [] (emitting (handler number ∷ entries)) (emitting (cond b (entries_left w.handlers entries) (handler number ∷ entries)))
+        by true over later =
+            reaches_on d (reaches_once d (record { asks = ap (asked_after (emitting (handler number ∷ entries))) none; leads = ap (first_of d None (emitting (handler number ∷ entries))) none ∙ passed number entries over })) later
+        by false free later = reaches_here d (emitting (handler number ∷ entries))
+
+  -- the first task comes first by uncounted steps
+  comes_first : (w : World) (agenda : List Task) (n : ℕ) → NoneUnheld d (record { world = w; agenda = agenda; counted = n })
+      → Reaches d [] (record { world = w; agenda = agenda; counted = n }) (record { world = w; agenda = with_first w.handlers agenda; counted = n })
+  comes_first w [] n none = reaches_here d _
+  comes_first w (Emitting e entries ∷ rest) n none = passes w e rest n entries none
+  comes_first w (task ∷ rest) n none = reaches_here d (record { world = w; agenda = task ∷ rest; counted = n })
+
+  -- and nothing is unheld then that was not before
+  first_holds : (w : World) (agenda : List Task) (n : ℕ) → NoneUnheld d (record { world = w; agenda = agenda; counted = n })
+      → NoneUnheld d (record { world = w; agenda = with_first w.handlers agenda; counted = n })
+  first_holds w [] n none = none
+  first_holds w (Emitting e entries ∷ rest) n none = none
+  first_holds w (task ∷ rest) n none = none
+
+  first_asks : (w : World) (agenda : List Task) → asked_first w (with_first w.handlers agenda) ≡ asked_first w agenda
+  first_asks w [] = refl
+  first_asks w (Emitting e entries ∷ rest) = refl
+  first_asks w (task ∷ rest) = refl
+
+  -- ** steps of the machine that the engine's stand for
+
+  module _ (c m : Config) (stands : without_gone m ≡ c) where
+    same_world : m.world ≡ c.world
+    same_world = ap (λ (x : Config). x.world) stands
+
+    gone : ℕ → Bool
+    gone = gone_in m.world
+
+    -- what the step leads to where the engine's configuration leads to another
+    leads : {A B : Type 0} (f : A → B) (a : Answer A) (x : B) → mapped f a ≡ Ok x → (y : A) × (a ≡ Ok y) × (f y ≡ x)
+    leads f (Ok y) x is = (y, refl, cc is)
+    leads f (Err arm) x is = absurd (cc is)
+
+    stuck : {A B : Type 0} (f : A → B) (a : Answer A) (arm : Arm) → mapped f a ≡ Err arm → a ≡ Err arm
+    stuck f (Ok y) arm is = absurd (cc is)
+    stuck f (Err other) arm is = cc is
+
+    -- one step
+    steps_so : (None_or : next_unheld (mentions d m) m.world.objects ≡ None → is_next (gone_in m.world) m.agenda ≡ false) → step d None c ≡ mapped (pruned_at (gone_in m.world)) (step d None m)
+    steps_so apart = ap (step d None) (sym stands) ∙ step_does_without (gone_in m.world) d None m (given_are_gone m.world) apart
+
+    asks_so : question d m ≡ question d c
+    asks_so = sym (question_does_without (gone_in m.world) d m) ∙ ap (question d) stands
+
+    unheld_so : next_unheld (mentions d m) m.world.objects ≡ next_unheld (mentions d c) c.world.objects
+    unheld_so = sym (unheld_as (gone_in m.world) d m) ∙ ap (λ (x : Config). next_unheld (mentions d x) x.world.objects) stands
+
+    arrives_by : (x : Config) → (next_unheld (mentions d m) m.world.objects ≡ None → is_next (gone_in m.world) m.agenda ≡ false) → question d c ≡ None → step d None c ≡ Ok x
+        → GoneStay c.world x.world → Arrives d m (without_gone x)
+    arrives_by x apart asks leads_to stay =
+        let to = leads (pruned_at (gone_in m.world)) (step d None m) x (sym (steps_so apart) ∙ leads_to) in
+        let world : to.0.world ≡ x.world = ap (λ (y : Config). y.world) to.2 in
+        let more = subst (λ (w : World). (number : ℕ) → gone_in w number ≡ true → gone_in x.world number ≡ true) (sym same_world) stay.stay in
+        record {
+          at = to.0;
+          reached = reaches_once d (record { asks = asks_so ∙ asks; leads = to.1 });
+          stands =
+              ap (λ (w : World). pruned_at (gone_in w) to.0) world
+              ∙ sym (pruned_again (gone_in m.world) (gone_in x.world) more to.0)
+              ∙ ap (pruned_at (gone_in x.world)) to.2;
+        }
+
+    halts_by : (arm : Arm) → (next_unheld (mentions d m) m.world.objects ≡ None → is_next (gone_in m.world) m.agenda ≡ false) → question d c ≡ None → step d None c ≡ Err arm → HaltsAt d m (halts.Stuck arm)
+    halts_by arm apart asks is = record {
+      reply = None;
+      asks = asks_so ∙ asks;
+      stuck = stuck (pruned_at (gone_in m.world)) (step d None m) arm (sym (steps_so apart) ∙ is);
+    }
+
+  -- where nothing is to be finalised the first task comes first
+  module _ (c : Config) (none : NoneUnheld d c) where
+    first_on : (m : Config) → without_gone m ≡ c → Reaches d [] m (at_first m)
+    first_on m stands = comes_first m.world m.agenda m.counted (unheld_so c m stands ∙ none)
+
+    first_shows : (m : Config) → without_gone m ≡ c → without_gone (at_first m) ≡ at_first c
+    first_shows m stands = ap (λ (l : List Task). record m { agenda = l }) (with_first_stays m.world m.agenda) ∙ ap at_first stands
+
+    first_apart : (m : Config) → is_next (gone_in m.world) (at_first m).agenda ≡ false
+    first_apart m = first_stands m.world m.agenda
+
+    first_none : NoneUnheld d (at_first c)
+    first_none = first_holds c.world c.agenda c.counted none
+
+    acts_first : step d None (at_first c) ≡ act d c.world None (with_first c.world.handlers c.agenda) c.counted
+    acts_first = ap (first_of d None (at_first c)) first_none
+
+    asks_first : asked_first c.world c.agenda ≡ None → question d (at_first c) ≡ None
+    asks_first asks = ap (asked_after (at_first c)) first_none ∙ first_asks c.world c.agenda ∙ asks
+
+    pub first_follows : (x new : Config) → asked_first c.world c.agenda ≡ None → act d c.world None (with_first c.world.handlers c.agenda) c.counted ≡ Ok x
+        → GoneStay c.world x.world → without_gone x ≡ new → Follows d c new
+    first_follows x new asks is stay shows = record {
+      arrives = λ m stands.
+          let next = arrives_by (at_first c) (at_first m) (first_shows m stands) x (λ _. first_apart m) (asks_first asks) (acts_first ∙ is) stay in
+          record { at = next.at; reached = reaches_on d (first_on m stands) next.reached; stands = next.stands ∙ shows };
+    }
+
+    pub first_breaks : (halt : Halt) (shown : List (List ℕ)) → asked_first c.world c.agenda ≡ None → Stops halt (act d c.world None (with_first c.world.handlers c.agenda) c.counted)
+        → shown ≡ c.world.transcript → Breaks d c halt shown
+    first_breaks halts.OutOfMemory shown asks is same = record {
+      halts = λ m stands. record { at = m; reached = reaches_here d m; stops = tt; lines = ap (λ (w : World). w.transcript) (same_world c m stands) ∙ sym same };
+    }
+    first_breaks (halts.Stuck arm) shown asks is same = record {
+      halts = λ m stands. record {
+        at = at_first m;
+        reached = first_on m stands;
+        stops = halts_by (at_first c) (at_first m) (first_shows m stands) arm (λ _. first_apart m) (asks_first asks) (acts_first ∙ is);
+        lines = ap (λ (w : World). w.transcript) (same_world c m stands) ∙ sym same;
+      };
+    }
+
+  -- where an object is finalised nothing else is done
+  module _ (c : Config) (id : ℕ) (unheld : next_unheld (mentions d c) c.world.objects ≡ Some id) where
+    not_none : (m : Config) → without_gone m ≡ c → next_unheld (mentions d m) m.world.objects ≡ None → is_next (gone_in m.world) m.agenda ≡ false
+    not_none m stands none = absurd (some_none (sym unheld ∙ sym (unheld_so c m stands) ∙ none))
+      where
+        some_none : ◌≡◌ {A = Option ℕ} (Some id) None → ⊥
+        some_none e = cc e
+
+    asks_nothing : question d c ≡ None
+    asks_nothing = ap (asked_after c) unheld
+
+    pub last_follows : (x new : Config) → step d None c ≡ Ok x → GoneStay c.world x.world → without_gone x ≡ new → Follows d c new
+    last_follows x new is stay shows = record {
+      arrives = λ m stands.
+          let next = arrives_by c m stands x (not_none m stands) asks_nothing is stay in
+          record { at = next.at; reached = next.reached; stands = next.stands ∙ shows };
+    }
+
+    pub last_breaks : (halt : Halt) (shown : List (List ℕ)) → Stops halt (step d None c) → shown ≡ c.world.transcript → Breaks d c halt shown
+    last_breaks halts.OutOfMemory shown is same = record {
+      halts = λ m stands. record { at = m; reached = reaches_here d m; stops = tt; lines = ap (λ (w : World). w.transcript) (same_world c m stands) ∙ sym same };
+    }
+    last_breaks (halts.Stuck arm) shown is same = record {
+      halts = λ m stands. record {
+        at = m;
+        reached = reaches_here d m;
+        stops = halts_by c m stands arm (not_none m stands) asks_nothing is;
+        lines = ap (λ (w : World). w.transcript) (same_world c m stands) ∙ sym same;
+      };
+    }
+
+  -- ** runs
+
+  pub follows_here : (c : Config) → Follows d c c
+  follows_here c = record { arrives = λ m stands. record { at = m; reached = reaches_here d m; stands = stands } }
+
+  -- one after the other
+  pub follows_on : {c m e : Config} → Follows d c m → Follows d m e → Follows d c e
+  follows_on p q = record {
+    arrives = λ x stands.
+        let first = p.arrives x stands in
+        let later = q.arrives first.at first.stands in
+        record { at = later.at; reached = reaches_on d first.reached later.reached; stands = later.stands };
+  }
+
+  pub breaks_on : {c m : Config} {halt : Halt} {shown : List (List ℕ)} → Follows d c m → Breaks d m halt shown → Breaks d c halt shown
+  breaks_on p q = record {
+    halts = λ x stands.
+        let first = p.arrives x stands in
+        halts_on d first.reached (q.halts first.at first.stands);
+  }
+
+  -- what ends has no tasks, so that the machine stands there itself
+  pub ends_there : (c e : Config) → without_gone c ≡ c → Follows d c e → HasEnded d e → Reaches d [] c e
+  ends_there c e whole follows ended =
+      let there = follows.arrives c whole in
+      let none : map (pruned (gone_in there.at.world)) there.at.agenda ≡ [] = ap (λ (x : Config). x.agenda) there.stands ∙ ended.agenda in
+      let idle : there.at.agenda ≡ [] = no_tasks (pruned (gone_in there.at.world)) there.at.agenda none in
+      let same : there.at ≡ e =
+      sym (ap (λ (l : List Task). record there.at { agenda = l }) (none ∙ sym idle)) ∙ there.stands in
+      subst (λ (x : Config). Reaches d [] c x) same there.reached
+    where
+      no_tasks : (f : Task → Task) (ts : List Task) → map f ts ≡ [] → ts ≡ []
+      no_tasks f [] none = refl
+      no_tasks f (t ∷ ts) none = absurd (cc none)
+
+  pub breaks_there : (c : Config) (halt : Halt) (shown : List (List ℕ)) → without_gone c ≡ c → Breaks d c halt shown → Halts d [] c halt shown
+  breaks_there c halt shown whole breaks = breaks.halts c whole
+
+  pub halts_from : {c e : Config} {halt : Halt} {shown : List (List ℕ)} → c ≡ e → Halts d [] c halt shown → Halts d [] e halt shown
+  halts_from {c} {e} {halt} {shown} same h = subst (λ (x : Config). Halts d [] x halt shown) same h

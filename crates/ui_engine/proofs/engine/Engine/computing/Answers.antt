@@ -1,0 +1,16 @@
+use Rattle.std.proofs.Common.{ap, sym}
+use Rattle.std.proofs.lemmas.Result.{err_from_is_err_and}
+use Rattle.handler_code.specs.Computing.{registers_of}
+use Rattle.handler_code.specs.FrameView.{frame_view}
+use Rattle.ui_engine.specs.TaskView.{agenda_of}
+use Rattle.ui_engine.specs.View.{world_of}
+use Rattle.ui_engine.proofs.Programs.{left_stops}
+use Rattle.ui_engine.proofs.engine.Engine.computing.Goals as goal
+
+pub returns-in_err-computed-clause-step : goal.returns-in_err-computed-clause-step
+returns-in_err-computed-clause-step c =
+    let d = c.args.definition.now in
+    let e = c.args.self.now in
+    let p = err_from_is_err_and c.from_residual.result c.from_residual.ensures.1 in
+    rw (p.1, p.2) (left_stops e.counted _ _
+    (c.in_err-computed.ensures.computed d (world_of e.world) (agenda_of d e) (frame_view c.args.frame) c.args.to.0 (sym c.types-types.ensures.types) (ap (λ rs. registers_of rs) (sym c.as_slice.ensures.value))))

@@ -1,0 +1,99 @@
+//! Instructions that touch registers alone.
+
+ghost use Rattle.std.specs.Prelude.{◌≡◌, Some, codes, option_map, OnOk, OnErr};
+ghost use Rattle.ui_machine.specs.Instructions.{in_front, instructed};
+ghost use Rattle.ui_machine.specs.Instructions.Registers.{written_to};
+ghost use Rattle.ui_machine.specs.Definition.Values as values;
+ghost use Rattle.ui_machine.specs.Outcome.{Goes};
+ghost use Rattle.ui_machine.specs.Output.Lines as lines;
+ghost use Rattle.ui_machine.specs.State.Config.{said};
+ghost use Rattle.ui_machine.specs.Steps.{left};
+ghost use Rattle.g_values.specs.View.{value_view};
+ghost use Rattle.handler_code.specs.Computing.{HasKnownKind, instruction_of};
+ghost use Rattle.handler_code.specs.FrameView.{frame_view};
+ghost use Rattle.ui_engine.specs.View.{world_of};
+ghost use Rattle.ui_engine.specs.TaskView.{agenda_of};
+ghost use Rattle.ui_engine.specs.Counting.{Counts, in_frame, nothing};
+ghost use Rattle.ui_engine.specs.EngineView.{config_of};
+
+use crate::engine::Engine;
+use crate::frames::put;
+use builder_defs::Definition;
+use g_values::Value;
+use handler_code::{Computation, Computed, Frame, Register};
+use ui_machine::Halt;
+
+impl Engine {
+    /// A register is written, or unset, and the program goes on.
+    pub(crate) fn writing(
+        &mut self,
+        definition: &Definition,
+        mut frame: Frame,
+        to: Register,
+        value: Option<Value>,
+    ) -> Result<(), Halt>
+        requires counted { Counts definition.now (λ o. in_frame o (frame_view frame)) self.now }
+        ensures step { Goes result
+            (left self.old.counted (in_front (agenda_of definition.now self.old) (written_to (world_of self.old.world) to.0 (option_map value_view value) (frame_view frame))))
+            (config_of definition.now self.new) }
+        ensures quiet { OnErr result ((world_of self.new.world).transcript ≡ (world_of self.old.world).transcript) }
+        ensures counted { OnOk result (Counts definition.now nothing self.new) }
+    {
+        // For the proof: the clauses speak of the definition.
+        let _ = definition;
+        put(&mut self.world.table, &mut frame, to, value)?;
+        self.push_frame(frame)?;
+        Ok(())
+    }
+
+    // The joined text would be too long: a line says so, and the register gets the null text.
+    fn too_long(
+        &mut self,
+        definition: &Definition,
+        mut frame: Frame,
+        to: Register,
+    ) -> Result<(), Halt>
+        requires counted { Counts definition.now (λ o. in_frame o (frame_view frame)) self.now }
+        ensures step { Goes result
+            (left self.old.counted (in_front (agenda_of definition.now self.old)
+            (written_to (said definition.now (world_of self.old.world) (lines.limit (codes "join"))) to.0 (Some (values.text None)) (frame_view frame))))
+            (config_of definition.now self.new) }
+        ensures quiet { OnErr result ((world_of self.new.world).transcript ≡ (world_of self.old.world).transcript) }
+        ensures counted { OnOk result (Counts definition.now nothing self.new) }
+    {
+        put(
+            &mut self.world.table,
+            &mut frame,
+            to,
+            Some(Value::Text(None)),
+        )?;
+        self.push_frame(frame)?;
+        self.tell_limit(definition, "join")?;
+        Ok(())
+    }
+
+    /// A register is written with what comes of others.
+    pub(crate) fn computing(
+        &mut self,
+        definition: &Definition,
+        frame: Frame,
+        to: Register,
+        computation: &Computation,
+    ) -> Result<(), Halt>
+        requires known { HasKnownKind definition.now.types computation.now }
+        requires counted { Counts definition.now (λ o. in_frame o (frame_view frame)) self.now }
+        ensures step { Goes result
+            (left self.old.counted (instructed definition.now (world_of self.old.world) (agenda_of definition.now self.old) (frame_view frame) (instruction_of computation.now to.0)))
+            (config_of definition.now self.new) }
+        ensures quiet { OnErr result ((world_of self.new.world).transcript ≡ (world_of self.old.world).transcript) }
+        ensures counted { OnOk result (Counts definition.now nothing self.new) }
+    {
+        let types = definition.types();
+        let computed = computation.compute(self.alloc, types, frame.registers.as_slice())?;
+        match computed {
+            Computed::Value(value) => self.writing(definition, frame, to, Some(value)),
+            Computed::Unset => self.writing(definition, frame, to, None),
+            Computed::TooLong => self.too_long(definition, frame, to),
+        }
+    }
+}

@@ -1,0 +1,147 @@
+//! What events do.
+
+ghost use Rattle.std.specs.Prelude.{◌≡◌, map, option_map, OnOk, OnErr};
+ghost use Rattle.ui_machine.specs.Outcome.{Goes};
+ghost use Rattle.ui_machine.specs.Steps.{uncounted};
+ghost use Rattle.ui_machine.specs.Rules.Events.{carrying, carrying_set, carrying_get, carrying_emit, carrying_release};
+ghost use Rattle.builder_defs.specs.Meaning.{given_view, request_of};
+ghost use Rattle.ui_engine.specs.View.{world_of};
+ghost use Rattle.ui_engine.specs.TaskView.{agenda_of};
+ghost use Rattle.ui_engine.specs.Counting.{HoldsBuilt, KeepsCounts};
+ghost use Rattle.ui_engine.specs.EngineView.{config_of};
+
+use crate::builder::{Held, put_held};
+use crate::engine::Engine;
+use crate::holding::let_go_any;
+use crate::lines::Line;
+use crate::task::{NewEmission, Task};
+use crate::tasks::emission::text_of;
+use builder_defs::{Definition, Event, Given};
+use ui_machine::{Arm, Halt, Place};
+
+impl Engine {
+    // A set by an event.
+    #[tactic(auto, unfolding(ui_machine::specs::Rules::Events::carrying_set, ui_machine::specs::Rules::Events::set_given))]
+    fn carrying_set(
+        &mut self,
+        definition: &Definition,
+        place: Place,
+        slot: u16,
+        given: Given,
+    ) -> Result<(), Halt>
+        ensures step { Goes result
+            (uncounted (agenda_of definition.now self.old) self.old.counted (carrying_set definition.now (world_of self.old.world) place.0 slot (given_view given)))
+            (config_of definition.now self.new) }
+        ensures quiet { OnErr result ((world_of self.new.world).transcript ≡ (world_of self.old.world).transcript) }
+        ensures counted { OnOk result (KeepsCounts definition.now self.old self.new) }
+    {
+        let object = self.settable(definition, usize::from(place.0), slot)?;
+        let value = self.operand(given)?;
+        self.push(Task::Setting {
+            object,
+            slot,
+            value,
+        })?;
+        Ok(())
+    }
+
+    // A get by an event.
+    #[tactic(auto, unfolding(ui_machine::specs::Rules::Events::carrying_get))]
+    fn carrying_get(&mut self, definition: &Definition, place: Place, slot: u16) -> Result<(), Halt>
+        ensures step { Goes result
+            (uncounted (agenda_of definition.now self.old) self.old.counted (carrying_get definition.now (world_of self.old.world) place.0 slot))
+            (config_of definition.now self.new) }
+        ensures quiet { OnErr result ((world_of self.new.world).transcript ≡ (world_of self.old.world).transcript) }
+        ensures counted { OnOk result (KeepsCounts definition.now self.old self.new) }
+    {
+        let object = self.held(usize::from(place.0))?;
+        let spec = self.spec_of(definition, object, slot)?;
+        let value = self.world.table.read(object, slot)?;
+        if !spec.is_readable() {
+            return Err(Halt::Stuck(Arm::Flags));
+        }
+        let value = value.copied()?;
+        let told = Line::Get {
+            object,
+            property: spec.name.as_str(),
+            value: &value,
+        };
+        let line = told.text(self.alloc, definition.types())?;
+        self.world.say(line)?;
+        self.world.result = Some(value);
+        Ok(())
+    }
+
+    // An emission by an event.
+    #[tactic(auto, unfolding(ui_machine::specs::Rules::Events::carrying_emit))]
+    fn carrying_emit(
+        &mut self,
+        definition: &Definition,
+        place: Place,
+        signal: u16,
+        args: &[Given],
+        detail: Option<&str>,
+    ) -> Result<(), Halt>
+        ensures step { Goes result
+            (uncounted (agenda_of definition.now self.old) self.old.counted (carrying_emit definition.now (world_of self.old.world) place.0 signal (map given_view args.now) (option_map (λ text. text.now) detail.entry)))
+            (config_of definition.now self.new) }
+        ensures quiet { OnErr result ((world_of self.new.world).transcript ≡ (world_of self.old.world).transcript) }
+        ensures counted { OnOk result (KeepsCounts definition.now self.old self.new) }
+    {
+        let object = self.held(usize::from(place.0))?;
+        let detail = self.detail_in(definition, object, signal, detail)?;
+        let args = self.operands(args)?;
+        self.push(Task::Beginning(NewEmission {
+            object,
+            signal,
+            detail,
+            args,
+            by_event: true,
+        }))?;
+        Ok(())
+    }
+
+    // The builder lets an object go.
+    #[tactic(auto, unfolding(ui_machine::specs::Rules::Events::carrying_release))]
+    fn carrying_release(&mut self, definition: &Definition, place: Place) -> Result<(), Halt>
+        requires holds { HoldsBuilt self.now }
+        ensures step { Goes result
+            (uncounted (agenda_of definition.now self.old) self.old.counted (carrying_release definition.now (world_of self.old.world) place.0))
+            (config_of definition.now self.new) }
+        ensures quiet { OnErr result ((world_of self.new.world).transcript ≡ (world_of self.old.world).transcript) }
+        ensures counted { OnOk result (KeepsCounts definition.now self.old self.new) }
+    {
+        let place = usize::from(place.0);
+        let Some(entry) = definition.object(place) else {
+            return Err(Halt::Stuck(Arm::Code));
+        };
+        let object = self.held(place)?;
+        let line = Line::Release { id: entry.id }.text(self.alloc, definition.types())?;
+        put_held(&mut self.world.builder, place, Held::Released)?;
+        let_go_any(&mut self.world.table, Some(object));
+        self.world.say(line)?;
+        Ok(())
+    }
+
+    // What an event does.
+    pub(crate) fn carrying(&mut self, definition: &Definition, event: Event) -> Result<(), Halt>
+        requires holds { HoldsBuilt self.now }
+        ensures step { Goes result
+            (uncounted (agenda_of definition.now self.old) self.old.counted (carrying definition.now (world_of self.old.world) (request_of event)))
+            (config_of definition.now self.new) }
+        ensures quiet { OnErr result ((world_of self.new.world).transcript ≡ (world_of self.old.world).transcript) }
+        ensures counted { OnOk result (KeepsCounts definition.now self.old self.new) }
+    {
+        match event {
+            Event::Set { place, slot, given } => self.carrying_set(definition, place, slot, given),
+            Event::Get { place, slot } => self.carrying_get(definition, place, slot),
+            Event::Emit {
+                place,
+                signal,
+                args,
+                detail,
+            } => self.carrying_emit(definition, place, signal, args.as_slice(), text_of(&detail)),
+            Event::Release { place } => self.carrying_release(definition, place),
+        }
+    }
+}

@@ -1,0 +1,79 @@
+//! Notifications: how one begins, and those of a thaw.
+
+ghost use Rattle.std.specs.Prelude.{◌≡◌, OnOk, OnErr};
+ghost use Rattle.ui_machine.specs.Outcome.{Goes};
+ghost use Rattle.ui_machine.specs.Rules.EmissionPlan.{notifying};
+ghost use Rattle.ui_machine.specs.Steps.{counted, uncounted};
+ghost use Rattle.ui_machine.specs.Rules.NotifyQueue.{thawing};
+ghost use Rattle.ui_engine.specs.View.{world_of};
+ghost use Rattle.ui_engine.specs.TaskView.{agenda_of};
+ghost use Rattle.ui_engine.specs.Counting.{KeepsCounts};
+ghost use Rattle.ui_engine.specs.EngineView.{config_of};
+
+use crate::engine::Engine;
+use crate::lines::Line;
+use crate::task::{Slots, Task};
+use builder_defs::Definition;
+use ui_machine::{Arm, Halt, ObjectId};
+
+// The number of the signal `notify`.
+const NOTIFY: u16 = 0;
+
+impl Engine {
+    // A due notification begins. It is counted and told of.
+    #[tactic(auto, unfolding(ui_machine::specs::Rules::EmissionPlan::notifying))]
+    pub(crate) fn notifying(
+        &mut self,
+        definition: &Definition,
+        object: ObjectId,
+        slot: u16,
+    ) -> Result<(), Halt>
+        ensures step { Goes result
+            (counted (agenda_of definition.now self.old) self.old.counted (notifying definition.now (world_of self.old.world) object.0 slot))
+            (config_of definition.now self.new) }
+        ensures quiet { OnErr result ((world_of self.new.world).transcript ≡ (world_of self.old.world).transcript) }
+        ensures counted { OnOk result (KeepsCounts definition.now self.old self.new) }
+    {
+        // For the proof: what is known of the numbers of handlers.
+        let _last = self.world.handlers.last();
+        self.count()?;
+        let class = self.world.table.class_of(object)?;
+        let Some(spec) = definition.spec(class, slot) else {
+            return Err(Halt::Stuck(Arm::Code));
+        };
+        let name = String::from_str(self.alloc, spec.name.as_str())?;
+        let Some(emission) = definition.emission(class, object, NOTIFY, Some(name)) else {
+            return Err(Halt::Stuck(Arm::Code));
+        };
+        let told = Line::Notify {
+            object,
+            property: spec.name.as_str(),
+        };
+        let line = told.text(self.alloc, definition.types())?;
+        self.start(emission, Vec::new(self.alloc), false, line)?;
+        Ok(())
+    }
+
+    // The next of the notifications that are left of a thaw.
+    pub(crate) fn thawing(
+        &mut self,
+        definition: &Definition,
+        object: ObjectId,
+        mut slots: Slots,
+    ) -> Result<(), Halt>
+        ensures step { Goes result
+            (uncounted (agenda_of definition.now self.old) self.old.counted (thawing (world_of self.old.world) object.0 slots))
+            (config_of definition.now self.new) }
+        ensures quiet { OnErr result ((world_of self.new.world).transcript ≡ (world_of self.old.world).transcript) }
+        ensures counted { OnOk result (KeepsCounts definition.now self.old self.new) }
+    {
+        // For the proof: the clauses speak of the definition.
+        let _ = definition;
+        let Some(slot) = slots.take() else {
+            return Ok(());
+        };
+        self.push(Task::Thawing { object, slots })?;
+        self.push(Task::Notifying { object, slot })?;
+        Ok(())
+    }
+}
