@@ -170,7 +170,11 @@ fn knows_the_longest_event(rt: HostRuntime) -> Result<(), Fail> {
     Ok(())
 }
 
-// What a definition says of a signal of the first object's class: its name, how many parameters it has, and the flags of its emissions.
+// A class with a signal of its own, and with one of an interface.
+const SIGNALS: &str =
+    r#"{"format":1,"interfaces":[{"name":"Goes","signals":[{"name":"go"}]}],"classes":[{"name":"Box","implements":["Goes"],"signals":[{"name":"turned_on","params":["int","text"],"result":"int","flags":["detailed"],"accumulator":"first-wins"}]}],"objects":[{"id":"b","class":"Box"}]}"#;
+
+// What a definition says of a signal: its name, how many parameters it has, and the flags of its emissions.
 fn told_signal(alloc: Global, definition: &Definition, number: u16) -> Result<String, Fail> {
     let class = definition.class_at(Place(0));
     let Some(signal) = definition.signal(class, number) else {
@@ -188,8 +192,13 @@ fn told_signal(alloc: Global, definition: &Definition, number: u16) -> Result<St
 #[test]
 fn tells_signals(rt: HostRuntime) -> Result<(), Fail> {
     let alloc = rt.alloc();
-    let definition = read_definition(alloc, BOXES.as_bytes())?;
-    for (number, want) in [(0, "notify 0 17"), (1, "")] {
+    let definition = read_definition(alloc, SIGNALS.as_bytes())?;
+    for (number, want) in [
+        (0, "notify 0 17"),
+        (1, "turned-on 2 16"),
+        (2, "go 0 2"),
+        (3, ""),
+    ] {
         assert_eq!(rt;
             told_signal(alloc, &definition, number)?.as_str(),
             want,

@@ -3,9 +3,10 @@
 use crate::fixtures::{number_of, times, tree_of_members, value_of};
 use g_values::{Kind, Value};
 use handler_code::{
-    Arithmetic, Block, BlockNumber, Comparison, Computation, Computed, Instruction,
+    Arithmetic, Block, BlockNumber, Comparison, Computation, Computed, Frame, Instruction,
     InstructionError, Names, OutlineError, Program, ProgramError, ProgramFault, ProgramLimit,
     Register, Scope, check_outline, data_at, identity_at, read_instruction, read_program,
+    values_at,
 };
 use std::alloc::Global;
 use std::collections::BTreeMap;
@@ -194,16 +195,16 @@ fn block_of(alloc: Global, instruction: Instruction) -> Result<Block, Fail> {
     })
 }
 
-// A program of two blocks, with so many registers.
-fn program_of(
+// A program of these two blocks, with so many registers.
+fn program_of_blocks(
     alloc: Global,
     registers: usize,
-    first: Instruction,
-    second: Instruction,
+    first: Block,
+    second: Block,
 ) -> Result<Program, Fail> {
     let mut blocks = Vec::new(alloc);
-    blocks.push(block_of(alloc, first)?)?;
-    blocks.push(block_of(alloc, second)?)?;
+    blocks.push(first)?;
+    blocks.push(second)?;
     Ok(Program {
         name: String::from_str(alloc, "p")?,
         params: Vec::new(alloc),
@@ -211,6 +212,69 @@ fn program_of(
         result: None,
         blocks,
     })
+}
+
+// A program of two blocks of one instruction each, with so many registers.
+fn program_of(
+    alloc: Global,
+    registers: usize,
+    first: Instruction,
+    second: Instruction,
+) -> Result<Program, Fail> {
+    let first = block_of(alloc, first)?;
+    let second = block_of(alloc, second)?;
+    program_of_blocks(alloc, registers, first, second)
+}
+
+// What the next instruction of a frame is called.
+fn next_of(alloc: Global, frame: &mut Frame, program: &Program) -> Result<String, Fail> {
+    match frame.take(program) {
+        Some(instruction) => Ok(format!(in alloc; "{instruction:?}")?),
+        None => Ok(String::from_str(alloc, "none")?),
+    }
+}
+
+/// The first block's body is carried out twice before its last instruction; what follows the last block is none.
+#[test]
+fn takes_the_instructions_of_its_blocks(rt: HostRuntime) -> Result<(), Fail> {
+    let alloc = rt.alloc();
+    let mut first = block_of(alloc, Instruction::Stop)?;
+    first.code.push(Instruction::Jump(BlockNumber(1)))?;
+    first.passes = 2;
+    let second = block_of(alloc, Instruction::Return(None))?;
+    let program = program_of_blocks(alloc, 2, first, second)?;
+    let mut frame = Frame::new(alloc, 0, &program, Vec::new(alloc))?;
+    for want in ["Stop", "Stop", "Jump(BlockNumber(1))"] {
+        assert_eq!(rt; next_of(alloc, &mut frame, &program)?.as_str(), want);
+    }
+    assert_eq!(rt; frame.jump(&program, BlockNumber(2)), Err(Arm::Code));
+    assert_eq!(rt; frame.jump(&program, BlockNumber(1)), Ok(()));
+    for want in ["Return(None)", "none"] {
+        assert_eq!(rt; next_of(alloc, &mut frame, &program)?.as_str(), want);
+    }
+    Ok(())
+}
+
+/// A frame's first registers are the arguments. What is written gives back what was there.
+#[test]
+fn writes_registers(rt: HostRuntime) -> Result<(), Fail> {
+    let alloc = rt.alloc();
+    let program = program_of(alloc, 2, Instruction::Stop, Instruction::Stop)?;
+    let mut args = Vec::new(alloc);
+    args.push(value_of(Kind::Int, 7))?;
+    let mut frame = Frame::new(alloc, 0, &program, args)?;
+    assert!(rt; values_at(alloc, frame.registers.as_slice(), &[A, B]).is_err());
+    let Ok(Some(old)) = frame.put(A, Some(value_of(Kind::Int, 8))) else {
+        return Err(Fail::from("the first register is unset"));
+    };
+    assert_eq!(rt; number_of(&old), Some(7));
+    assert!(rt; matches!(frame.put(B, Some(value_of(Kind::Int, 9))), Ok(None)));
+    assert!(rt; matches!(frame.put(UNSET, None), Err(Arm::Code)));
+    let values = values_at(alloc, frame.registers.as_slice(), &[B, A, B])?;
+    for (at, want) in [(0, 9), (1, 8), (2, 9)] {
+        assert_eq!(rt; values.get(at).and_then(number_of), Some(want));
+    }
+    Ok(())
 }
 
 /// Blocks lead to later ones, each ends, and there are not too many registers. The first of these faults is told.
