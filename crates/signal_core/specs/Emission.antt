@@ -153,12 +153,16 @@ is_over _ = false
 abbrev pub stopped : Walk → Walk
 stopped w = record w { stage = cond (is_over w.stage) stages.Over stages.Cleanup }
 
--- the emission after one of its programs gave a value: the cleanup stage takes none, and what the accumulator ends by is the last one
-abbrev pub with_value : Value → Walk → Walk
-with_value v w = cond (is_over w.stage) w (cond (is_last w.accumulator v) (stopped taken) taken)
+-- the emission after one of its programs gave a value, which stops it where it is the last one; the cleanup stage takes none
+abbrev pub collected : Value → (is_last : Bool) → Walk → Walk
+collected v is_last w = cond (is_over w.stage) w (cond is_last (stopped taken) taken)
   where
     taken : Walk
     taken = record w { value = Some v }
+
+-- the same by the emission's own accumulator
+abbrev pub with_value : Value → Walk → Walk
+with_value v w = collected v (is_last w.accumulator v) w
 
 -- ** where there are no bindings
 

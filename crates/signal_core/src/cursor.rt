@@ -3,10 +3,9 @@
 ghost use Rattle.std.specs.Prelude.{◌≡◌, ◌&&◌, nat_eq, nat_le, nat_lt, option_map, string_bytes};
 ghost use Rattle.g_values.specs.View.{value_view};
 ghost use Rattle.ui_machine.specs.Definition.Properties.{has_flags};
-ghost use Rattle.ui_machine.specs.Rules.Accumulation.{is_last};
 ghost use Rattle.ui_machine.specs.Rules.EmissionPlan.{fits_detail};
 
-use crate::emission::{Accumulator, Emission};
+use crate::emission::{Emission, is_last};
 use crate::flags::SignalFlags;
 use crate::stage::Stage;
 use crate::step::Step;
@@ -37,7 +36,7 @@ impl Model for Cursor {
 }
 
 impl Cursor {
-    ghost use Rattle.signal_core.specs.Emission.{begun, first_step, from_cleanup, of_bindings, of_class, stage_after, stopped, with_value};
+    ghost use Rattle.signal_core.specs.Emission.{begun, collected, first_step, from_cleanup, of_bindings, of_class, stage_after, stopped, with_value};
 
     /// An emission at its beginning. The last handler that was connected has the number `greatest`.
     pub(crate) fn new(emission: Emission, greatest: u64) -> Self
@@ -145,10 +144,17 @@ impl Cursor {
     pub fn accumulate(&mut self, value: Value)
         ensures { self.new ≡ with_value (value_view value) self.old }
     {
+        let is_last = is_last(self.emission.accumulator, &value);
+        self.collect(value, is_last);
+    }
+
+    /// The same, where the caller says whether the value is the last one, which stops the emission.
+    pub fn collect(&mut self, value: Value, is_last: bool)
+        ensures { self.new ≡ collected (value_view value) is_last self.old }
+    {
         if self.stage == Stage::Over {
             return;
         }
-        let is_last = self.ends_by(&value);
         self.value = Some(value);
         if is_last {
             self.stop();
@@ -182,16 +188,5 @@ impl Cursor {
     {
         let Cursor { value, .. } = self;
         value
-    }
-
-    // Whether the accumulator stops the emission by a value.
-    fn ends_by(&self, value: &Value) -> bool
-        ensures { result ≡ is_last self.now.accumulator (value_view value.now) }
-    {
-        match self.emission.accumulator {
-            None => false,
-            Some(Accumulator::FirstWins) => true,
-            Some(Accumulator::TrueHandled) => matches!(value, Value::Bool(true)),
-        }
     }
 }

@@ -1,6 +1,12 @@
 //! What an emission begins with.
 
+ghost use Rattle.std.specs.Prelude.{◌≡◌, option_map};
+ghost use Rattle.g_values.specs.View.{value_view};
+ghost use Rattle.ui_machine.specs.Rules.Accumulation.{is_last};
+ghost use Rattle.signal_core.specs.Emission.{accumulator_of};
+
 use crate::flags::SignalFlags;
+use g_values::Value;
 use ui_machine::ObjectId;
 
 /// How the results of an emission's programs are put together (GObject manual, Signals: GSignalAccumulator). Without an accumulator the last
@@ -11,6 +17,17 @@ pub enum Accumulator {
     TrueHandled,
     /// The first one, and the emission stops there (`g_signal_accumulator_first_wins`).
     FirstWins,
+}
+
+/// Whether a value that a program gave is the last one, which stops the emission.
+pub fn is_last(accumulator: Option<Accumulator>, value: &Value) -> bool
+    ensures { result ≡ is_last (option_map accumulator_of accumulator) (value_view value.now) }
+{
+    match accumulator {
+        None => false,
+        Some(Accumulator::FirstWins) => true,
+        Some(Accumulator::TrueHandled) => matches!(value, Value::Bool(true)),
+    }
 }
 
 /// An emission that is to begin (GObject manual, Signals: `g_signal_emit`).

@@ -35,7 +35,7 @@ mod walking;
 
 pub use connection::Connection;
 pub use cursor::Cursor;
-pub use emission::{Accumulator, Emission};
+pub use emission::{Accumulator, Emission, is_last};
 pub use fault::{ConnectError, SignalError, SignalFault};
 pub use flags::SignalFlags;
 pub use handlers::Handlers;
