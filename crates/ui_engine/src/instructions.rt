@@ -15,6 +15,7 @@ ghost use Rattle.ui_engine.specs.EngineView.{config_of};
 ghost use Rattle.ui_engine.specs.Standing.{GoesPruned};
 
 mod jumps;
+mod operands;
 mod registers;
 
 use crate::engine::Engine;

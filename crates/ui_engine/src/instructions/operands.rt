@@ -1,0 +1,57 @@
+//! Operands of instructions: the objects that registers name, and the programs that go by a name.
+
+ghost use Rattle.std.specs.Prelude.{option_map};
+ghost use Rattle.ui_machine.specs.Definition.Lookups.{program_of};
+ghost use Rattle.ui_machine.specs.Instructions.Registers.{data_in, operand_in};
+ghost use Rattle.ui_machine.specs.Outcome.{known};
+ghost use Rattle.ui_machine.specs.declared.arm.Arm.TheVariants as arms;
+ghost use Rattle.handler_code.specs.FrameView.{frame_view};
+ghost use Rattle.handler_code.specs.Operand.{number_of_object};
+ghost use Rattle.handler_code.specs.View.{number_of};
+ghost use Rattle.ui_engine.specs.View.{world_of};
+ghost use Rattle.ui_engine.specs.GivenView.{Finds};
+
+use crate::engine::Engine;
+use builder_defs::Definition;
+use handler_code::{Frame, Register, identity_at};
+use ui_machine::{Arm, Halt, ObjectId};
+
+impl Engine {
+    /// The living object that a register names.
+    pub(crate) fn operand(&self, frame: &Frame, from: Register) -> Result<ObjectId, Halt>
+        ensures { Finds number_of_object result (operand_in (world_of self.now.world) (frame_view frame.now) from.0) }
+    {
+        let object = identity_at(frame.registers.as_slice(), from)?;
+        if !self.world.table.is_live(object) {
+            return Err(Halt::Stuck(Arm::Operand));
+        }
+        Ok(object)
+    }
+
+    /// The same of a register that may be left out.
+    pub(crate) fn operand_if_any(
+        &self,
+        frame: &Frame,
+        from: Option<Register>,
+    ) -> Result<Option<ObjectId>, Halt>
+        ensures { Finds (λ o. option_map number_of_object o) result (data_in (world_of self.now.world) (frame_view frame.now) (option_map number_of from)) }
+    {
+        match from {
+            Some(register) => {
+                let object = self.operand(frame, register)?;
+                Ok(Some(object))
+            }
+            None => Ok(None),
+        }
+    }
+}
+
+/// The number of the program of a name.
+pub(crate) fn program_named(definition: &Definition, name: &str) -> Result<u16, Halt>
+    ensures { Finds (λ n. n) result (known arms.Code (program_of definition.now name.now)) }
+{
+    match definition.program_number(name) {
+        Some(number) => Ok(number),
+        None => Err(Halt::Stuck(Arm::Code)),
+    }
+}
