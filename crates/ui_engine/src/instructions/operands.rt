@@ -18,7 +18,7 @@ use ui_machine::{Arm, Halt, ObjectId};
 
 impl Engine {
     /// The living object that a register names.
-    pub(crate) fn operand(&self, frame: &Frame, from: Register) -> Result<ObjectId, Halt>
+    pub(crate) fn object_in(&self, frame: &Frame, from: Register) -> Result<ObjectId, Halt>
         ensures { Finds number_of_object result (operand_in (world_of self.now.world) (frame_view frame.now) from.0) }
     {
         let object = identity_at(frame.registers.as_slice(), from)?;
@@ -29,7 +29,7 @@ impl Engine {
     }
 
     /// The same of a register that may be left out.
-    pub(crate) fn operand_if_any(
+    pub(crate) fn data_in(
         &self,
         frame: &Frame,
         from: Option<Register>,
@@ -38,7 +38,7 @@ impl Engine {
     {
         match from {
             Some(register) => {
-                let object = self.operand(frame, register)?;
+                let object = self.object_in(frame, register)?;
                 Ok(Some(object))
             }
             None => Ok(None),
