@@ -23,6 +23,12 @@ pub mod Programs
 pub mod KnownCode
 pub mod Jumping
 pub mod Operands
+pub mod Starting
+pub mod Properties
+pub mod ObjectSteps
+pub mod Adopting
+pub mod Pushed
+pub mod Disposing
 pub mod Emitted
 pub mod Built
 pub mod Gone

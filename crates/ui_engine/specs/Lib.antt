@@ -1,6 +1,7 @@
 pub mod GivenView
 pub mod JumpView
 pub mod KinView
+pub mod PropertyView
 pub mod WeakView
 pub mod View
 pub mod MakingView

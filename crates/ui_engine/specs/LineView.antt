@@ -15,6 +15,7 @@ line_view (code.Emit object signal detail args) = lines.emit object.0 signal.now
 line_view (code.Get object property value) = lines.get object.0 property.now (value_view value.now)
 line_view (code.Limit word) = lines.limit word.now
 line_view (code.Adopt parent child) = lines.adopt parent.0 child.0
+line_view (code.Orphan child) = lines.orphan child.0
 line_view (code.Release id) = lines.release id.now
 line_view (code.Dispose object) = lines.dispose object.0
 line_view (code.Final object) = lines.final object.0

@@ -8,7 +8,7 @@ ghost use Rattle.ui_machine.specs.Rules.Build.{held_object};
 ghost use Rattle.ui_machine.specs.Rules.Construction.{given_value};
 ghost use Rattle.g_values.specs.View.{value_view};
 ghost use Rattle.builder_defs.specs.Meaning.{given_view};
-ghost use Rattle.instances.specs.Store.{Shows};
+ghost use Rattle.instances.specs.Store.{Shows, id_of};
 ghost use Rattle.ui_machine.specs.declared.ids.ObjectId.{ObjectId};
 ghost use Rattle.ui_engine.specs.GivenView.{held_value, settable_at};
 ghost use Rattle.ui_engine.specs.View.{world_of};
@@ -88,4 +88,11 @@ impl Engine {
         }
         Ok(object)
     }
+}
+
+/// An object as a value, or the null object.
+pub(crate) fn object_or_null(object: Option<ObjectId>) -> Value
+    ensures { value_view result ≡ values.object (id_of object) }
+{
+    Value::Object(TypeId::new(G_OBJECT), object)
 }

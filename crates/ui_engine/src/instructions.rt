@@ -15,7 +15,9 @@ ghost use Rattle.ui_engine.specs.EngineView.{config_of};
 ghost use Rattle.ui_engine.specs.Standing.{GoesPruned};
 
 mod jumps;
+mod objects;
 mod operands;
+mod properties;
 mod registers;
 
 use crate::engine::Engine;

@@ -62,6 +62,10 @@ pub enum Line<'a> {
         parent: ObjectId,
         child: ObjectId,
     },
+    /// A child leaves its parent.
+    Orphan {
+        child: ObjectId,
+    },
     /// The builder lets go of an object, which goes by this id.
     Release {
         id: &'a str,
@@ -121,6 +125,7 @@ impl Line<'_> {
             } => value_line(alloc, types, "get #", object.0, property, value),
             Line::Limit { word } => named_line(alloc, "limit ", word),
             Line::Adopt { parent, child } => adopt_line(alloc, parent.0, child.0),
+            Line::Orphan { child } => object_line(alloc, "orphan #", child.0),
             Line::Release { id } => named_line(alloc, "release ", id),
             Line::Dispose { object } => object_line(alloc, "dispose #", object.0),
             Line::Final { object } => object_line(alloc, "final #", object.0),

@@ -102,6 +102,22 @@ impl Engine {
         Ok(())
     }
 
+    /// An object becomes another's child, or does not, by a limit's line.
+    pub(crate) fn joining(
+        &mut self,
+        definition: &Definition,
+        parent: ObjectId,
+        child: ObjectId,
+    ) -> Result<(), Halt>
+        ensures joins { Goes result (joined definition.now (world_of self.old.world) parent.0 child.0) (world_of self.new.world) }
+        ensures quiet { OnErr result ((world_of self.new.world).transcript ≡ (world_of self.old.world).transcript) }
+        ensures same { (self.new.stack ≡ self.old.stack) × (self.new.counted ≡ self.old.counted) }
+        ensures handlers { self.new.world.handlers ≡ self.old.world.handlers }
+        ensures counted { OnOk result (KeepsCounts definition.now self.old self.new) }
+    {
+        self.join(definition, Kin { parent, child })
+    }
+
     // The object at a place becomes its parent's child, and then the build goes on behind it.
     pub(crate) fn adopting(
         &mut self,

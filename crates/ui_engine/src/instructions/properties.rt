@@ -1,0 +1,178 @@
+//! Instructions on properties: `get`, `set` and `notify`.
+
+ghost use Rattle.std.specs.Prelude.{◌≡◌, OnOk, OnErr};
+ghost use Rattle.ui_machine.specs.Instructions.{in_front};
+ghost use Rattle.ui_machine.specs.Instructions.Properties.{assigning, getting, slot_at, telling};
+ghost use Rattle.ui_machine.specs.Instructions.Registers.{value_in};
+ghost use Rattle.ui_machine.specs.Outcome.{Goes};
+ghost use Rattle.ui_machine.specs.Rules.Sets.{raising};
+ghost use Rattle.ui_machine.specs.Steps.{left, uncounted};
+ghost use Rattle.g_values.specs.View.{value_view};
+ghost use Rattle.handler_code.specs.FrameView.{frame_view};
+ghost use Rattle.instances.specs.Store.{Shows};
+ghost use Rattle.ui_engine.specs.View.{world_of};
+ghost use Rattle.ui_engine.specs.GivenView.{Finds};
+ghost use Rattle.ui_engine.specs.PropertyView.{settable_slot, readable_value};
+ghost use Rattle.ui_engine.specs.TaskView.{agenda_of};
+ghost use Rattle.ui_engine.specs.Counting.{Counts, KeepsCounts, in_frame, nothing};
+ghost use Rattle.ui_engine.specs.EngineView.{config_of};
+
+use crate::engine::Engine;
+use crate::task::Task;
+use builder_defs::Definition;
+use g_values::Value;
+use handler_code::{Frame, Register, value_at};
+use ui_machine::{Arm, Halt, ObjectId};
+
+// The value of a register that is set.
+fn value_in(frame: &Frame, from: Register) -> Result<Value, Halt>
+    ensures { Finds value_view result (value_in (frame_view frame.now) from.0) }
+{
+    let Some(value) = value_at(frame.registers.as_slice(), from) else {
+        return Err(Halt::Stuck(Arm::Register));
+    };
+    Ok(value.copied()?)
+}
+
+impl Engine {
+    // The slot of an object's property by its name.
+    fn slot_at(&self, definition: &Definition, object: ObjectId, property: &str) -> Result<u16, Arm>
+        ensures { Shows (λ slot. slot) result (slot_at definition.now (world_of self.now.world) object.0 property.now) }
+    {
+        let class = self.world.table.class_of(object)?;
+        let Some(slot) = definition.slot(class, property) else {
+            return Err(Arm::Code);
+        };
+        Ok(slot)
+    }
+
+    // The value of an object's property, which may be read.
+    fn readable_value(
+        &self,
+        definition: &Definition,
+        object: ObjectId,
+        property: &str,
+    ) -> Result<Value, Halt>
+        ensures { Finds value_view result (readable_value definition.now (world_of self.now.world) object.0 property.now) }
+    {
+        let slot = self.slot_at(definition, object, property)?;
+        let spec = self.spec_of(definition, object, slot)?;
+        let value = self.world.table.read(object, slot)?;
+        if !spec.is_readable() {
+            return Err(Halt::Stuck(Arm::Flags));
+        }
+        Ok(value.copied()?)
+    }
+
+    // The slot of an object's property, which may be set.
+    fn settable_slot(
+        &self,
+        definition: &Definition,
+        object: ObjectId,
+        property: &str,
+    ) -> Result<u16, Arm>
+        ensures { Shows (λ slot. slot) result (settable_slot definition.now (world_of self.now.world) object.0 property.now) }
+    {
+        let slot = self.slot_at(definition, object, property)?;
+        let spec = self.spec_of(definition, object, slot)?;
+        if !spec.is_writable() {
+            return Err(Arm::Flags);
+        }
+        if spec.is_construct_only() {
+            return Err(Arm::ConstructOnly);
+        }
+        Ok(slot)
+    }
+
+    /// A register is written with the value of an object's property.
+    pub(crate) fn getting(
+        &mut self,
+        definition: &Definition,
+        frame: Frame,
+        to: Register,
+        object: Register,
+        property: &str,
+    ) -> Result<(), Halt>
+        requires counted { Counts definition.now (λ o. in_frame o (frame_view frame)) self.now }
+        ensures step { Goes result
+            (left self.old.counted (in_front (agenda_of definition.now self.old) (getting definition.now (world_of self.old.world) (frame_view frame) to.0 object.0 property.now)))
+            (config_of definition.now self.new) }
+        ensures quiet { OnErr result ((world_of self.new.world).transcript ≡ (world_of self.old.world).transcript) }
+        ensures counted { OnOk result (Counts definition.now nothing self.new) }
+    {
+        let object = self.object_in(&frame, object)?;
+        let value = self.readable_value(definition, object, property)?;
+        self.writing(definition, frame, to, Some(value))
+    }
+
+    /// An object's property is set to the value of a register, before the program goes on.
+    pub(crate) fn assigning(
+        &mut self,
+        definition: &Definition,
+        frame: Frame,
+        object: Register,
+        property: &str,
+        from: Register,
+    ) -> Result<(), Halt>
+        requires counted { Counts definition.now (λ o. in_frame o (frame_view frame)) self.now }
+        ensures step { Goes result
+            (left self.old.counted (in_front (agenda_of definition.now self.old) (assigning definition.now (world_of self.old.world) (frame_view frame) object.0 property.now from.0)))
+            (config_of definition.now self.new) }
+        ensures quiet { OnErr result ((world_of self.new.world).transcript ≡ (world_of self.old.world).transcript) }
+        ensures counted { OnOk result (Counts definition.now nothing self.new) }
+    {
+        let object = self.object_in(&frame, object)?;
+        let slot = self.settable_slot(definition, object, property)?;
+        let value = value_in(&frame, from)?;
+        self.push_frame(frame)?;
+        self.push(Task::Setting {
+            object,
+            slot,
+            value,
+        })?;
+        Ok(())
+    }
+
+    // The notification of a property is raised: it waits on a frozen object, and comes first on any other.
+    #[tactic(auto, unfolding(ui_machine::specs::Rules::Sets::raising))]
+    fn raise(&mut self, definition: &Definition, object: ObjectId, slot: u16) -> Result<(), Halt>
+        ensures step { Goes result
+            (uncounted (agenda_of definition.now self.old) self.old.counted (raising (world_of self.old.world) object.0 slot))
+            (config_of definition.now self.new) }
+        ensures quiet { OnErr result ((world_of self.new.world).transcript ≡ (world_of self.old.world).transcript) }
+        ensures counted { OnOk result (KeepsCounts definition.now self.old self.new) }
+    {
+        // For the proof: the clauses speak of the definition.
+        let _ = definition;
+        if self.world.table.add(object, slot)? {
+            self.push(Task::Notifying { object, slot })?;
+            return Ok(());
+        }
+        Ok(())
+    }
+
+    /// The notification of an object's property is raised before the program goes on, if the property may be read.
+    pub(crate) fn telling(
+        &mut self,
+        definition: &Definition,
+        frame: Frame,
+        object: Register,
+        property: &str,
+    ) -> Result<(), Halt>
+        requires counted { Counts definition.now (λ o. in_frame o (frame_view frame)) self.now }
+        ensures step { Goes result
+            (left self.old.counted (in_front (agenda_of definition.now self.old) (telling definition.now (world_of self.old.world) (frame_view frame) object.0 property.now)))
+            (config_of definition.now self.new) }
+        ensures quiet { OnErr result ((world_of self.new.world).transcript ≡ (world_of self.old.world).transcript) }
+        ensures counted { OnOk result (Counts definition.now nothing self.new) }
+    {
+        let object = self.object_in(&frame, object)?;
+        let slot = self.slot_at(definition, object, property)?;
+        let spec = self.spec_of(definition, object, slot)?;
+        self.push_frame(frame)?;
+        if !spec.is_readable() {
+            return Ok(());
+        }
+        self.raise(definition, object, slot)
+    }
+}
