@@ -32,6 +32,10 @@ pub mod Disposing
 pub mod Emitted
 pub mod Built
 pub mod Gone
+pub mod SameTurns
+pub mod Connections
+pub mod Stops
+pub mod Calling
 pub mod Whole
 pub mod Reaching
 pub mod Standing

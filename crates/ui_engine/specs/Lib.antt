@@ -1,4 +1,6 @@
+pub mod EmitView
 pub mod GivenView
+pub mod HandlersView
 pub mod JumpView
 pub mod KinView
 pub mod PropertyView

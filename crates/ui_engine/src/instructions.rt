@@ -14,13 +14,18 @@ ghost use Rattle.ui_engine.specs.Counting.{Counts, in_frame, nothing};
 ghost use Rattle.ui_engine.specs.EngineView.{config_of};
 ghost use Rattle.ui_engine.specs.Standing.{GoesPruned};
 
+mod connections;
+mod emits;
 mod jumps;
 mod objects;
 mod operands;
 mod properties;
 mod registers;
+mod stops;
 
 use crate::engine::Engine;
+use crate::instructions::emits::Emit;
+use crate::tasks::emission::text_of;
 use builder_defs::Definition;
 use handler_code::{Frame, Instruction, Program};
 use ui_machine::{Arm, Halt};
@@ -43,11 +48,16 @@ impl Engine {
         ensures quiet { OnErr result ((world_of self.new.world).transcript ≡ (world_of self.old.world).transcript) }
         ensures counted { OnOk result (Counts definition.now nothing self.new) }
     {
-        self.instruct(definition, program, frame, instruction)
+        match instruction {
+            Instruction::Disconnect { object, program } => {
+                self.disconnecting(definition, frame, *object, program.as_str())
+            }
+            Instruction::Dispose(object) => self.disposing(definition, frame, *object),
+            _ => self.instruct(definition, program, frame, instruction),
+        }
     }
 
-    // Does what an instruction says, which is counted already. No definition has programs so far: what touches registers alone, jumps and
-    // branches are all that is done.
+    // Does what an instruction says that disconnects no handler: here, what touches registers alone, and where the program goes on.
     fn instruct(
         &mut self,
         definition: &Definition,
@@ -64,8 +74,6 @@ impl Engine {
         ensures quiet { OnErr result ((world_of self.new.world).transcript ≡ (world_of self.old.world).transcript) }
         ensures counted { OnOk result (Counts definition.now nothing self.new) }
     {
-        // For the proof: what is known of a definition's programs.
-        let _types = definition.types();
         match instruction {
             Instruction::Compute { to, computation } => {
                 self.computing(definition, frame, *to, computation)
@@ -81,6 +89,93 @@ impl Engine {
                 then_to,
                 else_to,
             } => self.branching_null(definition, program, frame, *on, *then_to, *else_to),
+            _ => self.instruct_on_objects(definition, program, frame, instruction),
+        }
+    }
+
+    // The instructions on objects and their properties.
+    fn instruct_on_objects(
+        &mut self,
+        definition: &Definition,
+        program: &Program,
+        frame: Frame,
+        instruction: &Instruction,
+    ) -> Result<(), Halt>
+        requires program { program_at definition.now (frame_view frame).program ≡ Some (program_view program.now) }
+        requires counted { Counts definition.now (λ o. in_frame o (frame_view frame)) self.now }
+        ensures step { Goes result
+            (left self.old.counted (instructed definition.now (world_of self.old.world) (agenda_of definition.now self.old) (frame_view frame) (instruction_view instruction.now)))
+            (config_of definition.now self.new) }
+        ensures quiet { OnErr result ((world_of self.new.world).transcript ≡ (world_of self.old.world).transcript) }
+        ensures counted { OnOk result (Counts definition.now nothing self.new) }
+    {
+        match instruction {
+            Instruction::Get {
+                to,
+                object,
+                property,
+            } => self.getting(definition, frame, *to, *object, property.as_str()),
+            Instruction::Set {
+                object,
+                property,
+                from,
+            } => self.assigning(definition, frame, *object, property.as_str(), *from),
+            Instruction::Notify { object, property } => {
+                self.telling(definition, frame, *object, property.as_str())
+            }
+            Instruction::Object { to, id } => self.naming(definition, frame, *to, id.as_str()),
+            Instruction::Sink(object) => self.sinking(definition, frame, *object),
+            Instruction::Orphan(object) => self.orphaning(definition, frame, *object),
+            Instruction::Adopt { to, parent, child } => {
+                self.adopting_child(definition, frame, *to, *parent, *child)
+            }
+            Instruction::Freeze(object) => self.freezing(definition, frame, *object),
+            Instruction::Thaw(object) => self.unfreezing(definition, frame, *object),
+            _ => self.instruct_on_signals(definition, program, frame, instruction),
+        }
+    }
+
+    // The instructions on signals and handlers. No definition has programs so far: no other instruction is carried out.
+    fn instruct_on_signals(
+        &mut self,
+        definition: &Definition,
+        program: &Program,
+        frame: Frame,
+        instruction: &Instruction,
+    ) -> Result<(), Halt>
+        requires program { program_at definition.now (frame_view frame).program ≡ Some (program_view program.now) }
+        requires counted { Counts definition.now (λ o. in_frame o (frame_view frame)) self.now }
+        ensures step { Goes result
+            (left self.old.counted (instructed definition.now (world_of self.old.world) (agenda_of definition.now self.old) (frame_view frame) (instruction_view instruction.now)))
+            (config_of definition.now self.new) }
+        ensures quiet { OnErr result ((world_of self.new.world).transcript ≡ (world_of self.old.world).transcript) }
+        ensures counted { OnOk result (Counts definition.now nothing self.new) }
+    {
+        // For the proof: what is known of a definition's programs.
+        let _types = definition.types();
+        match instruction {
+            Instruction::Stop => self.stopping(definition, frame),
+            Instruction::Emit {
+                into,
+                object,
+                signal,
+                detail,
+                args,
+            } => {
+                let emit = Emit {
+                    into: *into,
+                    signal: signal.as_str(),
+                    detail: text_of(detail),
+                    args: args.as_slice(),
+                };
+                self.emitting_by_code(definition, frame, *object, emit)
+            }
+            Instruction::Block { object, program } => {
+                self.blocking(definition, frame, *object, program.as_str())
+            }
+            Instruction::Unblock { object, program } => {
+                self.unblocking(definition, frame, *object, program.as_str())
+            }
             _ => Err(Halt::Stuck(Arm::Code)),
         }
     }

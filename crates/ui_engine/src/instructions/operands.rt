@@ -1,13 +1,11 @@
 //! Operands of instructions: the objects that registers name, and the programs that go by a name.
 
-ghost use Rattle.std.specs.Prelude.{option_map};
 ghost use Rattle.ui_machine.specs.Definition.Lookups.{program_of};
-ghost use Rattle.ui_machine.specs.Instructions.Registers.{data_in, operand_in};
+ghost use Rattle.ui_machine.specs.Instructions.Registers.{operand_in};
 ghost use Rattle.ui_machine.specs.Outcome.{known};
 ghost use Rattle.ui_machine.specs.declared.arm.Arm.TheVariants as arms;
 ghost use Rattle.handler_code.specs.FrameView.{frame_view};
 ghost use Rattle.handler_code.specs.Operand.{number_of_object};
-ghost use Rattle.handler_code.specs.View.{number_of};
 ghost use Rattle.ui_engine.specs.View.{world_of};
 ghost use Rattle.ui_engine.specs.GivenView.{Finds};
 
@@ -26,23 +24,6 @@ impl Engine {
             return Err(Halt::Stuck(Arm::Operand));
         }
         Ok(object)
-    }
-
-    /// The same of a register that may be left out.
-    pub(crate) fn data_in(
-        &self,
-        frame: &Frame,
-        from: Option<Register>,
-    ) -> Result<Option<ObjectId>, Halt>
-        ensures { Finds (λ o. option_map number_of_object o) result (data_in (world_of self.now.world) (frame_view frame.now) (option_map number_of from)) }
-    {
-        match from {
-            Some(register) => {
-                let object = self.object_in(frame, register)?;
-                Ok(Some(object))
-            }
-            None => Ok(None),
-        }
     }
 }
 

@@ -1,0 +1,154 @@
+//! Instructions on handlers (GObject manual, Signals: `g_signal_connect_data`, `g_signal_handlers_disconnect_matched`,
+//! `g_signal_handlers_block_matched`).
+
+ghost use Rattle.std.specs.Prelude.{◌≡◌, map, OnOk, OnErr};
+ghost use Rattle.ui_machine.specs.Instructions.{in_front};
+ghost use Rattle.ui_machine.specs.Instructions.Signals.{blocking, disconnecting, unblocking};
+ghost use Rattle.ui_machine.specs.Outcome.{Goes};
+ghost use Rattle.ui_machine.specs.Rules.Connections.{blocked, disconnected, unblocked, with_handlers_on};
+ghost use Rattle.ui_machine.specs.Steps.{left};
+ghost use Rattle.handler_code.specs.FrameView.{frame_view};
+ghost use Rattle.machine_laws.specs.GoneLaws.{gone_in, pruned};
+ghost use Rattle.ui_engine.specs.Counting.{Counts, KeepsCounts, in_frame, nothing};
+ghost use Rattle.ui_engine.specs.EngineView.{config_of};
+ghost use Rattle.ui_engine.specs.GivenView.{Finds};
+ghost use Rattle.ui_engine.specs.HandlersView.{matched_in, matched_of};
+ghost use Rattle.ui_engine.specs.Standing.{GoesPruned};
+ghost use Rattle.ui_engine.specs.TaskView.{agenda_of};
+ghost use Rattle.ui_engine.specs.View.{world_of};
+
+use crate::engine::Engine;
+use crate::instructions::operands::program_named;
+use builder_defs::Definition;
+use handler_code::{Frame, Register};
+use ui_machine::{Halt, ObjectId};
+
+/// The handlers of a program on an object.
+#[derive(Clone, Copy, Debug)]
+struct Matched {
+    object: ObjectId,
+    program: u16,
+}
+
+impl Engine {
+    // The handlers of the program of a name, on the object that a register names.
+    fn matched(
+        &self,
+        definition: &Definition,
+        frame: &Frame,
+        object: Register,
+        program: &str,
+    ) -> Result<Matched, Halt>
+        ensures { Finds matched_of result (matched_in definition.now (world_of self.now.world) (frame_view frame.now) object.0 program.now) }
+    {
+        let object = self.object_in(frame, object)?;
+        let program = program_named(definition, program)?;
+        Ok(Matched { object, program })
+    }
+
+    // Disconnects them. They have no more turns in the emissions that go on.
+    fn disconnect(&mut self, definition: &Definition, matched: Matched)
+        ensures world { world_of self.new.world ≡ disconnected (world_of self.old.world) matched.object.0 matched.program }
+        ensures agenda { agenda_of definition.now self.new ≡ map (pruned (gone_in (world_of self.new.world))) (agenda_of definition.now self.old) }
+        ensures same { self.new.counted ≡ self.old.counted }
+        ensures counted { KeepsCounts definition.now self.old self.new }
+    {
+        // For the proof: the clauses speak of the definition, and of the numbers of handlers.
+        let _ = definition;
+        let _last = self.world.handlers.last();
+        self.world
+            .handlers
+            .disconnect_matched(matched.object, matched.program);
+    }
+
+    // Blocks them once more.
+    fn block(&mut self, definition: &Definition, matched: Matched)
+        ensures world { world_of self.new.world ≡ with_handlers_on blocked (world_of self.old.world) matched.object.0 matched.program }
+        ensures agenda { agenda_of definition.now self.new ≡ agenda_of definition.now self.old }
+        ensures same { self.new.counted ≡ self.old.counted }
+        ensures counted { KeepsCounts definition.now self.old self.new }
+    {
+        // For the proof: the clauses speak of the definition.
+        let _ = definition;
+        self.world
+            .handlers
+            .block_matched(matched.object, matched.program);
+    }
+
+    // Blocks them once less.
+    fn unblock(&mut self, definition: &Definition, matched: Matched)
+        ensures world { world_of self.new.world ≡ with_handlers_on unblocked (world_of self.old.world) matched.object.0 matched.program }
+        ensures agenda { agenda_of definition.now self.new ≡ agenda_of definition.now self.old }
+        ensures same { self.new.counted ≡ self.old.counted }
+        ensures counted { KeepsCounts definition.now self.old self.new }
+    {
+        // For the proof: the clauses speak of the definition.
+        let _ = definition;
+        self.world
+            .handlers
+            .unblock_matched(matched.object, matched.program);
+    }
+
+    /// The handlers of a program on an object are disconnected.
+    pub(crate) fn disconnecting(
+        &mut self,
+        definition: &Definition,
+        frame: Frame,
+        object: Register,
+        program: &str,
+    ) -> Result<(), Halt>
+        requires counted { Counts definition.now (λ o. in_frame o (frame_view frame)) self.now }
+        ensures step { GoesPruned result
+            (left self.old.counted (in_front (agenda_of definition.now self.old) (disconnecting definition.now (world_of self.old.world) (frame_view frame) object.0 program.now)))
+            (config_of definition.now self.new) }
+        ensures quiet { OnErr result ((world_of self.new.world).transcript ≡ (world_of self.old.world).transcript) }
+        ensures counted { OnOk result (Counts definition.now nothing self.new) }
+    {
+        let matched = self.matched(definition, &frame, object, program)?;
+        self.disconnect(definition, matched);
+        self.push_frame(frame)?;
+        Ok(())
+    }
+
+    /// The handlers of a program on an object are blocked once more.
+    pub(crate) fn blocking(
+        &mut self,
+        definition: &Definition,
+        frame: Frame,
+        object: Register,
+        program: &str,
+    ) -> Result<(), Halt>
+        requires counted { Counts definition.now (λ o. in_frame o (frame_view frame)) self.now }
+        ensures step { Goes result
+            (left self.old.counted (in_front (agenda_of definition.now self.old) (blocking definition.now (world_of self.old.world) (frame_view frame) object.0 program.now)))
+            (config_of definition.now self.new) }
+        ensures quiet { OnErr result ((world_of self.new.world).transcript ≡ (world_of self.old.world).transcript) }
+        ensures counted { OnOk result (Counts definition.now nothing self.new) }
+    {
+        let matched = self.matched(definition, &frame, object, program)?;
+        self.block(definition, matched);
+        self.push_frame(frame)?;
+        Ok(())
+    }
+
+    /// The handlers of a program on an object are blocked once less.
+    pub(crate) fn unblocking(
+        &mut self,
+        definition: &Definition,
+        frame: Frame,
+        object: Register,
+        program: &str,
+    ) -> Result<(), Halt>
+        requires counted { Counts definition.now (λ o. in_frame o (frame_view frame)) self.now }
+        ensures step { Goes result
+            (left self.old.counted (in_front (agenda_of definition.now self.old) (unblocking definition.now (world_of self.old.world) (frame_view frame) object.0 program.now)))
+            (config_of definition.now self.new) }
+        ensures quiet { OnErr result ((world_of self.new.world).transcript ≡ (world_of self.old.world).transcript) }
+        ensures counted { OnOk result (Counts definition.now nothing self.new) }
+    {
+        let matched = self.matched(definition, &frame, object, program)?;
+        self.unblock(definition, matched);
+        self.push_frame(frame)?;
+        Ok(())
+    }
+}
