@@ -8,7 +8,7 @@ use Rattle.ui_machine.specs.Outcome.{◌>>=◌}
 use Rattle.handler_code.specs.Reading.RegisterKinds.{Names}
 use Rattle.builder_defs.specs.declared.fault.ReadError.{ReadError}
 use Rattle.builder_defs.specs.Refusals.{Refusal, Fails}
-use Rattle.builder_defs.specs.Document.{nothing_at, entries_at, each, at_entry}
+use Rattle.builder_defs.specs.Document.{entries_at, each, at_entry}
 use Rattle.builder_defs.specs.Denoted.Entries.{place_with_id}
 use Rattle.builder_defs.specs.Denoted.Programs.{code_names, program_at, programs_in}
 use Rattle.builder_defs.proofs.Chains.{fails_as}
@@ -16,7 +16,7 @@ use Rattle.builder_defs.proofs.Chains.{fails_as}
 with_places : List GType → (List ℕ → Option ℕ) → Names
 with_places types place = record { types = types; place = place }
 
-module _ (types : List GType) (d : Data) (list : Items) (unset : nothing_at [] d (codes "programs" ∷ []) ≡ Ok tt) (listed : entries_at [] d (codes "programs") ≡ Ok list)
+module _ (types : List GType) (d : Data) (list : Items) (listed : entries_at [] d (codes "programs") ≡ Ok list)
     (place : List ℕ → Option ℕ) (places : (id : List ℕ) → place id ≡ place_with_id d id) where
   read_with : Names → Result (List Program) Refusal
   read_with names = each (at_entry (λ path. program_at path names) (codes "/programs")) 0 [] list
@@ -24,8 +24,7 @@ module _ (types : List GType) (d : Data) (list : Items) (unset : nothing_at [] d
   programs_are : programs_in types d ≡ read_with (record { types = types; place = place })
   unfolding programs_in read_with with_places
   programs_are =
-      ap (λ (r : Result (Unit {0}) Refusal). r >>= λ u. entries_at [] d (codes "programs") >>= λ list. each (at_entry (λ path. program_at path (code_names types d)) (codes "/programs")) 0 [] list) unset
-      ∙ ap (λ (r : Result Items Refusal). r >>= λ list. each (at_entry (λ path. program_at path (code_names types d)) (codes "/programs")) 0 [] list) listed
+      ap (λ (r : Result Items Refusal). r >>= λ list. each (at_entry (λ path. program_at path (code_names types d)) (codes "/programs")) 0 [] list) listed
       ∙ ap (λ (f : List ℕ → Option ℕ). read_with (with_places types f)) (sym (fun_ext places))
 
   pub programs_fail : (e : ReadError) → Fails e (each (at_entry (λ path. program_at path (record { types = types; place = place })) (codes "/programs")) 0 [] list) → Fails e (programs_in types d)

@@ -14,7 +14,8 @@ use Rattle.ui_machine.specs.Definition.Programs.{Program}
 use Rattle.ui_machine.specs.Definition.Lookups.{place_of}
 use Rattle.handler_code.specs.declared.program.Program as code
 use Rattle.builder_defs.specs.declared.object_entry.ObjectBody.{ObjectBody}
-use Rattle.builder_defs.specs.Meaning.{Parts, Entry, NamedProgram, HasOwnName, plain_object, plain_program, meaning}
+use Rattle.builder_defs.specs.declared.object_entry.PrototypeBody.{PrototypeBody}
+use Rattle.builder_defs.specs.Meaning.{Parts, Entry, Prototype, NamedProgram, HasOwnName, plain_object, plain_prototype, plain_program, places_of, meaning}
 
 nat_eq-comm : (x y : ℕ) → nat_eq x y ≡ nat_eq y x
 nat_eq-comm x y = grind (arith, nat_tests)
@@ -86,12 +87,26 @@ pub place_is : (id : List ℕ) (es : List Entry) → place_named (λ (p : Place)
 place_is id es = number_is plain_object (λ (p : Place). p.id) id es (named_objects es)
 
 pub place_found : (p : Parts) (d : Definition) → meaning p ≡ d → (id : List ℕ) (r : Option ℕ)
-    → r ≡ place_named (λ (p : Place). p.id) (map plain_object p.objects) id → r ≡ place_of d id
+    → r ≡ place_named (λ (p : Place). p.id) (places_of p.objects p.prototypes) id → r ≡ place_of d id
 place_found p d is id r found = found ∙ ap (λ (e : Definition). place_of e id) is
 
 pub goes_last : (id : String Global) (body : ObjectBody) (es : List Entry)
     → place_named (λ (p : Place). p.id) (map plain_object es) (string_bytes id) ≡ None → insert_entry string_eq es id body ≡ es ++ (id, body) ∷ []
 goes_last id body es h = named_last plain_object (λ (p : Place). p.id) id body es (named_objects es) h
+
+-- ** prototypes
+
+named_prototypes : (es : List Prototype) → AllByRecursion (IsNamed plain_prototype (λ (p : Place). p.id)) es
+named_prototypes [] = tt
+named_prototypes (e ∷ es) = (refl, named_prototypes es)
+
+pub prototype_is : (id : List ℕ) (es : List Prototype)
+    → place_named (λ (p : Place). p.id) (map plain_prototype es) id ≡ position (λ k. bytes_eq id (string_bytes k)) (keys_of es)
+prototype_is id es = number_is plain_prototype (λ (p : Place). p.id) id es (named_prototypes es)
+
+pub prototype_last : (id : String Global) (body : PrototypeBody) (es : List Prototype)
+    → place_named (λ (p : Place). p.id) (map plain_prototype es) (string_bytes id) ≡ None → insert_entry string_eq es id body ≡ es ++ (id, body) ∷ []
+prototype_last id body es h = named_last plain_prototype (λ (p : Place). p.id) id body es (named_prototypes es) h
 
 -- ** programs
 

@@ -21,8 +21,8 @@ pub mod Registers
 pub mod AddedPrograms
 pub mod CodeNames
 pub mod PlaceIds
+pub mod AllPlaces
 pub mod Outlines
-pub mod Unset
 pub mod Values
 pub mod Printing
 pub mod PlainKinds

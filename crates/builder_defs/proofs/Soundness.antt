@@ -35,7 +35,7 @@ use Rattle.builder_defs.specs.Meaning.{Parts, plain_object, plain_program, IsPla
 use Rattle.builder_defs.specs.Refusals.{Refusal, shape, unknown, not_installed, limit, or_refused, or_value_fault, refused_if}
 use Rattle.builder_defs.specs.declared.fault.DefinitionLimit.TheVariants.{Places, Objects}
 use Rattle.ui_machine.specs.Outcome.{◌>>=◌}
-use Rattle.builder_defs.specs.Document.{each, at_entry, under, nth, members_at, text_at, entries_at, listed_ahead, absent_at, nothing_at, only_at, is_empty_list, is_absent_or_empty, entries}
+use Rattle.builder_defs.specs.Document.{each, at_entry, under, nth, members_at, text_at, entries_at, listed_ahead, nothing_at, only_at}
 use Rattle.builder_defs.specs.Denoted.Entries.{ObjectNames, TypeNames, type_names, most_levels}
 use Rattle.builder_defs.specs.Denoted.Kinds.{is_enum, is_flags, enum_named, flags_named, parted, object_type, kind_by, kind_at, lowest, highest}
 use Rattle.builder_defs.specs.Denoted.PropertyFlags.{flags_at}
@@ -70,6 +70,10 @@ on_bind Q P (Err e) f q h = tt
 pub on_all : {A : Type 0} (r : Result A Refusal) → OnRead (λ x. Unit {0}) r
 on_all (Ok x) = tt
 on_all (Err e) = tt
+
+on_known : {A : Type 0} (P : Type 0) → P → (r : Result A Refusal) → OnRead (λ x. P) r
+on_known P p (Ok x) = p
+on_known P p (Err e) = tt
 
 pub on_each : {S : Type 0} (P : S → Type 0) (step : ℕ → S → Data → Result S Refusal) → ((i : ℕ) (s : S) (d : Data) → P s → OnRead P (step i s d))
     → (i : ℕ) (s : S) (ds : Items) → P s → OnRead P (each step i s ds)
@@ -490,49 +494,12 @@ draft_plain d =
     on_bind PlainDraft PlainDraft (interfaces_in (type_names types d) types d) _ (interfaces_plain (type_names types d) types d) λ draft all.
     classes_plain (type_names types d) draft d all
 
--- ** lists of which there is nothing so far
-
--- a list that must be absent or empty is so
-pub unset : (path key : List ℕ) (d : Data) → OnRead {A = Unit {0}} (λ u. is_absent_or_empty (get key d) ≡ true) (nothing_at path d (key ∷ []))
-unset path key d = by (is_absent_or_empty (get key d)) refl
-  where
-    by : (b : Bool) → is_absent_or_empty (get key d) ≡ b
-        → OnRead {A = Unit {0}} (λ u. is_absent_or_empty (get key d) ≡ true) (refused_if (λ k. shape (under path k)) (cond (not b) (Some key) None))
-    by true e = e
-    by false e = tt
-
-none_of : (r : Refusal) (list : Option Items) → is_empty_list list ≡ true → OnRead (λ ds. ds ≡ no_items) (or_refused r list)
-none_of r None h = tt
-none_of r (Some no_items) h = refl
-none_of r (Some (item d ds)) h = absurd (cc)
-
--- and has no entries
-pub no_entries : (path : List ℕ) (list : Option Data) → is_absent_or_empty list ≡ true → OnRead (λ ds. ds ≡ no_items) (entries path list)
-no_entries path None h = refl
-no_entries path (Some d) h = none_of (shape path) (as_array d) h
-
-pub each_of_none : {S : Type 0} (step : ℕ → S → Data → Result S Refusal) (s : S) (list : Items) → list ≡ no_items → OnRead (λ t. t ≡ s) (each step 0 s list)
-unfolding each
-each_of_none step s list none = subst (λ ds. OnRead (λ t. t ≡ s) (each step 0 s ds)) (sym none) refl
-
-pub none_attached : (path : List ℕ) (programs : List Program) (objects : ObjectNames) (d : Data) → is_absent_or_empty (get (codes "signals") d) ≡ true
-    → OnRead (λ (signals : List Attached). signals ≡ []) (all_attached path programs objects d)
-unfolding all_attached
-none_attached path programs objects d bare =
-    on_bind (λ ds. ds ≡ no_items) (λ signals. signals ≡ []) (entries_at path d (codes "signals")) _ (no_entries (under path (codes "signals")) (get (codes "signals") d) bare) λ list none.
-    each_of_none (at_entry (λ entry. attached_at entry programs objects) (under path (codes "signals"))) [] list none
-
 -- ** no more objects than there is room for
 
--- a place names no programs for its signals so far
-abbrev pub HasNoSignals : Place → Type 0
-HasNoSignals place = place.signals ≡ []
-
--- not more than there are places, and not more than may live; none of them has signals
+-- not more than there are places, and not more than may live
 pub record AreFew (most : ℕ) (places : List Place) : Type 0 where
   pub placed : length places ≤ 512
   pub live : length places ≤ most
-  pub silent : AllByRecursion HasNoSignals places
 
 -- there is room for one more
 record HasRoom (most : ℕ) (places : List Place) : Type 0 where
@@ -548,50 +515,35 @@ room_below most places = by (nat_le 512 (length places)) (nat_le most (length pl
     by false true e f = tt
     by false false e f = record { place = grind (arith, nat_tests); life = grind (arith, nat_tests) }
 
--- there is room for a place, which has no signals
-abbrev FitsIn : ℕ → List Place → Place → Type 0
-FitsIn most places place = HasRoom most places × HasNoSignals place
-
 place_few : (scope : Scope) (parent : Option ℕ) (path : List ℕ) (places : List Place) (d : Data)
-    → OnRead (FitsIn scope.most places) (place_at path scope parent places d)
+    → OnRead (λ place. HasRoom scope.most places) (place_at path scope parent places d)
 unfolding place_at
 place_few scope parent path places d =
-    on_bind (λ x. HasRoom scope.most places) (FitsIn scope.most places) (room_for_object scope.most places) _ (room_below scope.most places) λ u room.
-    on_bind (λ x. Unit {0}) (FitsIn scope.most places) (text_at path d (codes "id")) _ (on_all _) λ id u.
-    on_bind (λ x. Unit {0}) (FitsIn scope.most places) (new_id (under path (codes "id")) places id) _ (on_all _) λ new u.
-    on_bind (λ x. Unit {0}) (FitsIn scope.most places) (class_at_key path scope.types d) _ (on_all _) λ class u.
-    on_bind (λ x. Unit {0}) (FitsIn scope.most places) (absent_at path d (codes "peer" ∷ [])) _ (on_all _) λ peer u.
-    on_bind (λ x. Unit {0}) (FitsIn scope.most places) (givens_at path scope.types scope.names (length places) (scope.specs class) d) _ (on_all _) λ given u.
-    on_bind (λ u. is_absent_or_empty (get (codes "signals") d) ≡ true) (FitsIn scope.most places) (nothing_at path d (codes "signals" ∷ [])) _ (unset path (codes "signals") d) λ u bare.
-    on_bind (λ signals. signals ≡ []) (FitsIn scope.most places) (all_attached path scope.programs scope.names d) _ (none_attached path scope.programs scope.names d bare) λ signals none. (room, none)
+    on_bind (λ x. HasRoom scope.most places) (λ place. HasRoom scope.most places) (room_for_object scope.most places) _ (room_below scope.most places) λ u room.
+    on_known (HasRoom scope.most places) room _
 
-one_place_more : (most : ℕ) (places : List Place) (place : Place) → AllByRecursion HasNoSignals places → FitsIn most places place → AreFew most (places ++ place ∷ [])
-one_place_more most places place silent fits =
+one_place_more : (most : ℕ) (places : List Place) (place : Place) → HasRoom most places → AreFew most (places ++ place ∷ [])
+one_place_more most places place room =
     let one = length_push places place in
-    record {
-      placed = omega (arith, one, fits.0.place);
-      live = omega (arith, one, fits.0.life);
-      silent = both_all HasNoSignals places (place ∷ []) silent (fits.1, tt);
-    }
+    record { placed = omega (arith, one, room.place); live = omega (arith, one, room.life) }
 
-added_few : (scope : Scope) (parent : Option ℕ) (path : List ℕ) (places : List Place) (d : Data) → AllByRecursion HasNoSignals places
-    → OnRead (AreFew scope.most) (added_at path scope parent places d)
+added_few : (scope : Scope) (parent : Option ℕ) (path : List ℕ) (places : List Place) (d : Data) → OnRead (AreFew scope.most) (added_at path scope parent places d)
 unfolding added_at
-added_few scope parent path places d silent =
-    on_bind (FitsIn scope.most places) (AreFew scope.most) (place_at path scope parent places d) (λ place. Ok (places ++ place ∷ []))
-    (place_few scope parent path places d) λ place fits. one_place_more scope.most places place silent fits
+added_few scope parent path places d =
+    on_bind (λ place. HasRoom scope.most places) (AreFew scope.most) (place_at path scope parent places d) (λ place. Ok (places ++ place ∷ []))
+    (place_few scope parent path places d) λ place room. one_place_more scope.most places place room
 
-object_few : (levels : ℕ) (scope : Scope) (parent : Option ℕ) (path : List ℕ) (places : List Place) (d : Data) → AllByRecursion HasNoSignals places
+object_few : (levels : ℕ) (scope : Scope) (parent : Option ℕ) (path : List ℕ) (places : List Place) (d : Data)
     → OnRead (AreFew scope.most) (object_at levels scope parent path places d)
 unfolding object_at
-object_few zero scope parent path places d silent = tt
-object_few (suc levels) scope parent path places d silent =
+object_few zero scope parent path places d = tt
+object_few (suc levels) scope parent path places d =
     on_bind (λ x. Unit {0}) (AreFew scope.most) (members_at path d) _ (on_all _) λ ms u.
-    on_bind (AreFew scope.most) (AreFew scope.most) (added_at path scope parent places d) _ (added_few scope parent path places d silent) λ more few.
+    on_bind (AreFew scope.most) (AreFew scope.most) (added_at path scope parent places d) _ (added_few scope parent path places d) λ more few.
     on_bind (λ x. Unit {0}) (AreFew scope.most) (entries_at path d (codes "children")) _ (on_all _) λ list u.
     on_bind (AreFew scope.most) (AreFew scope.most) (each (at_entry (object_at levels scope (Some (length places))) (under path (codes "children"))) 0 more list) _
     (on_each (AreFew scope.most) (at_entry (object_at levels scope (Some (length places))) (under path (codes "children")))
-    (λ i others entry fewer. object_few levels scope (Some (length places)) (nth (under path (codes "children")) i) others entry fewer.silent) 0 more list few) λ all fewer.
+    (λ i others entry fewer. object_few levels scope (Some (length places)) (nth (under path (codes "children")) i) others entry) 0 more list few) λ all fewer.
     on_bind (λ x. Unit {0}) (AreFew scope.most) (only_at path ms keys_of_object) _ (on_all _) λ only u. fewer
 
 pub objects_few : (types : List GType) (specs : ℕ → List Spec) (programs : List Program) (most : ℕ) (d : Data) → OnRead (AreFew most) (objects_in types specs programs most d)
@@ -600,8 +552,8 @@ objects_few types specs programs most d =
     on_bind (λ x. Unit {0}) (AreFew most) (nothing_at [] d unset_before_objects) _ (on_all _) λ unset u.
     on_bind (λ x. Unit {0}) (AreFew most) (entries_at [] d (codes "objects")) _ (on_all _) λ list u.
     on_each (AreFew most) (at_entry (object_at most_levels (scope_with types specs programs most list) None) (under [] (codes "objects")))
-    (λ i others entry fewer. object_few most_levels (scope_with types specs programs most list) None (nth (under [] (codes "objects")) i) others entry fewer.silent) 0 [] list
-    (record { placed = omega arith; live = omega arith; silent = tt })
+    (λ i others entry fewer. object_few most_levels (scope_with types specs programs most list) None (nth (under [] (codes "objects")) i) others entry) 0 [] list
+    (record { placed = omega arith; live = omega arith })
 
 -- the properties of types that were read are plain
 pub plain_read : (types : List GType) (table : List (List Spec)) (signals : List (List Signal)) (d : Data) → draft_in d ≡ Ok (draft_of types table signals) → ArePlain types table
@@ -624,25 +576,24 @@ kinds_read types table signals d read =
           (record { params = tt; result = tt }, flat_all (HasKnownKinds types) (declared.own_of signals) all.known (sources_of types t)) h;
     }
 
--- a definition of what was read, which has no programs and names none
+-- a definition of what was read, whose classes name no programs
 pub sound : (p : Parts) (d : Data) → draft_in d ≡ Ok (draft_of p.types p.specs p.declared.signals) → AreLimits p.limits
     → objects_in p.types (specs_by p.types (own_of p.specs)) (map plain_program p.programs) p.limits.objects d ≡ Ok (map plain_object p.objects)
-    → p.declared.handlers ≡ [] → p.constructed ≡ [] → p.programs ≡ [] → AllByRecursion HasOwnName p.programs → AllByRecursion (IsSoundProgram p.types) p.programs
+    → p.declared.handlers ≡ [] → p.constructed ≡ [] → p.prototypes ≡ [] → AllByRecursion HasOwnName p.programs → AllByRecursion (IsSoundProgram p.types) p.programs
     → length p.programs ≤ 256 → IsSound p
-sound p d read within objects unhandled unconstructed none named programs fewer =
+sound p d read within objects unhandled unconstructed bare named programs fewer =
     let few : AreFew p.limits.objects (map plain_object p.objects) = subst (OnRead (AreFew p.limits.objects)) objects (objects_few p.types (specs_by p.types (own_of p.specs)) (map plain_program p.programs) p.limits.objects d) in
     record {
       plain = plain_read p.types p.specs p.declared.signals d read;
       kinds = kinds_read p.types p.specs p.declared.signals d read;
       limited = within;
       few = omega (arith, few.live, length-map p.objects plain_object);
-      places = omega (arith, few.placed, length-map p.objects plain_object);
+      places = omega (arith, few.placed, length-map p.objects plain_object, ap length bare);
       named = named;
       programs = programs;
       few_programs = fewer;
       handlers = λ t past. ap (λ (hs : List (List ClassHandler)). named_of hs t) unhandled;
-      no_programs = none;
       no_handlers = unhandled;
       no_constructed = unconstructed;
-      no_signals = few.silent;
+      no_prototypes = bare;
     }

@@ -1,5 +1,5 @@
 -- The specs, the signals and the name of a class of a definition, and the programs that it names.
-use Rattle.std.proofs.Common.{◌≡◌, ℕ, zero, suc, ◌<◌, ◌≤◌, false, Option, List, [], ◌∷◌, length, map, Some, None, option_map, slice_get, refl, sym, ap, subst, ◌∙◌, arith, inl, inr}
+use Rattle.std.proofs.Common.{◌≡◌, ℕ, zero, suc, ◌<◌, ◌≤◌, true, false, Option, List, [], ◌∷◌, length, map, Some, None, option_map, slice_get, refl, sym, ap, subst, ◌∙◌, arith, inl, inr}
 use Rattle.std.specs.List.{AllByRecursion}
 use Rattle.std.proofs.Math.Path.{fun_ext}
 use Rattle.std.proofs.lemmas.Bool.{cases_lt}
@@ -20,9 +20,9 @@ use Rattle.param_specs.specs.Table.{specs_of}
 use Rattle.signal_core.specs.Laws.{walk_for}
 use Rattle.signal_core.specs.Sources.{signals_of}
 use Rattle.signal_core.specs.Table.{named_of, planned_for}
-use Rattle.builder_defs.specs.Meaning.{Parts, Entry, class_in, plain_object, plain_program, meaning, IsPlain, HasKnownKinds, IsSound, IsSoundProgram, IsBasic, planned}
+use Rattle.builder_defs.specs.Meaning.{Parts, Entry, Prototype, class_in, plain_object, plain_prototype, plain_program, places_of, meaning, IsPlain, HasKnownKinds, IsSound, IsSoundProgram, IsBasic, planned}
 use Rattle.ui_machine.proofs.Listed.{read-listed}
-use Rattle.builder_defs.proofs.Elements.{all_get}
+use Rattle.builder_defs.proofs.AllPlaces.{objects_first, each_place}
 use Rattle.builder_defs.proofs.Registers.{few_registers}
 
 read-past : {A : Type 0} (d : A) (f : ℕ → A) (n i : ℕ) → n ≤ i → read d (listed f n) i ≡ d
@@ -109,11 +109,6 @@ each_seen P view Q all [] each i y h = cc
 each_seen P view Q all (x ∷ xs) each zero y h = let e : view x ≡ y = cc in subst P e (all x each.0)
 each_seen P view Q all (x ∷ xs) each (suc i) y h = each_seen P view Q all xs each.1 i y h
 
-each_object : (P : Place → Type 0) → ((o : Entry) → P (plain_object o)) → (os : List Entry) (p : ℕ) (place : Place) → slice_get (map plain_object os) p ≡ Some place → P place
-each_object P all [] p place h = cc
-each_object P all (o ∷ os) zero place h = let e : plain_object o ≡ place = cc in subst P e (all o)
-each_object P all (o ∷ os) (suc p) place h = each_object P all os p place h
-
 module _ (p : Parts) (sound : IsSound p) where
   plain_spec : (t slot : ℕ) (s : Spec) → lookups.spec_of (meaning p) t slot ≡ Some s → IsPlain p.types s
   plain_spec t slot s h = elim (cases_lt t (length p.types)) [
@@ -136,17 +131,23 @@ module _ (p : Parts) (sound : IsSound p) where
   well_shaped : (number : ℕ) (q : Program) → lookups.program_at (meaning p) number ≡ Some q → shape_fault q ≡ None
   well_shaped = each_seen (λ (q : Program). shape_fault q ≡ None) plain_program (IsSoundProgram p.types) (λ e fine. fine.shaped) p.programs sound.programs
 
+  plain_only : (es : List Entry) (n : ℕ) (place : Place) → slice_get (places_of es []) n ≡ Some place → place.is_prototype ≡ false
+  plain_only [] n place h = cc h
+  plain_only (e ∷ es) zero place h = let same : plain_object e ≡ place = cc h in subst (λ (x : Place). x.is_prototype ≡ false) same refl
+  plain_only (e ∷ es) (suc n) place h = plain_only es n place h
+
   pub basic : IsBasic (meaning p)
   basic = record {
     handlers = λ t. sym (handlers_are p sound t) ∙ ap (λ (hs : List (List ClassHandler)). named_of hs t) sound.no_handlers;
     constructed = no_constructed;
     shapes = λ t. each_class (λ (c : Class). c.shape ≡ None) lookups.no_class (class_in p) (length p.types) t refl (λ t. refl);
     plain = plain_spec;
-    prototypes = each_object (λ (place : Place). place.is_prototype ≡ false) (λ o. refl) p.objects;
-    peers = each_object (λ (place : Place). place.peers ≡ []) (λ o. refl) p.objects;
-    signals = λ n place h. all_get (λ (place : Place). place.signals ≡ []) (map plain_object p.objects) n place sound.no_signals h;
+    prototypes = objects_first p.prototypes p.objects;
+    only_objects = λ n place h. plain_only p.objects n place (subst (λ (qs : List Prototype). slice_get (places_of p.objects qs) n ≡ Some place) sound.no_prototypes h);
+    no_parents = each_place p.prototypes (λ (place : Place). place.is_prototype ≡ true → place.parent ≡ None) (λ o h. absurd (cc)) (λ q h. refl) p.objects;
+    silent = each_place p.prototypes (λ (place : Place). place.is_prototype ≡ true → place.signals ≡ []) (λ o h. absurd (cc)) (λ q h. refl) p.objects;
+    peers = each_place p.prototypes (λ (place : Place). place.peers ≡ []) (λ o. refl) (λ q. refl) p.objects;
     bindings = refl;
-    programs = ap (map plain_program) sound.no_programs;
     few_programs = omega (arith, sound.few_programs, length-map p.programs plain_program);
     shaped = well_shaped;
     few_registers = λ number q h. few_registers q (well_shaped number q h);

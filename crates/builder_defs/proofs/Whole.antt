@@ -1,5 +1,6 @@
 -- A whole definition, of its parts.
 use Rattle.std.proofs.Common.{◌≡◌, ℕ, List, [], map, codes, Result, Ok, Option, option_and_then, sym, ap, ◌∙◌, refl}
+use Rattle.std.proofs.lemmas.List.{append-nil}
 use Rattle.serde_json.specs.Data.{Data, Members}
 use Rattle.serde_json.specs.Find.{get, as_number, as_u64}
 use Rattle.ui_machine.specs.Definition.Types.{GType}
@@ -11,7 +12,7 @@ use Rattle.ui_machine.specs.Definition.Programs.{Program}
 use Rattle.ui_machine.specs.declared.limits.Limits.{Limits}
 use Rattle.param_specs.specs.Table.{own_of, specs_of}
 use Rattle.signal_core.specs.Sources.{declared_of}
-use Rattle.builder_defs.specs.Meaning.{Parts, Entry, NamedProgram, parts, meaning, plain_object, plain_program}
+use Rattle.builder_defs.specs.Meaning.{Parts, Entry, Prototype, NamedProgram, parts, meaning, plain_object, plain_program}
 use Rattle.ui_machine.specs.Outcome.{◌>>=◌}
 use Rattle.builder_defs.specs.declared.fault.ReadError.{ReadError}
 use Rattle.builder_defs.specs.Refusals.{Refusal, Fails}
@@ -25,16 +26,17 @@ use Rattle.builder_defs.proofs.Chains.{fails_as, fails_first}
 
 -- a definition whose classes name no programs
 bare : (types : List GType) (table : List (List Spec)) (signals : List (List Signal)) (ps : List NamedProgram) (os : List Entry) (limits : Limits)
-    → definition_with (draft_of types table signals) (map plain_program ps) (map plain_object os) limits ≡ meaning (parts types table (record { signals = signals; handlers = [] }) [] ps os limits)
+    → definition_with (draft_of types table signals) (map plain_program ps) (map plain_object os) limits ≡ meaning (parts types table (record { signals = signals; handlers = [] }) [] ps [] os limits)
 unfolding specs_of declared_of
-bare types table signals ps os limits = refl
+bare types table signals ps os limits = ap (λ (places : List Place). definition_with (draft_of types table signals) (map plain_program ps) places limits) (sym (append-nil (map plain_object os)))
 
-meant : (p : Parts) → p.declared.handlers ≡ [] → p.constructed ≡ []
+meant : (p : Parts) → p.declared.handlers ≡ [] → p.constructed ≡ [] → p.prototypes ≡ []
     → definition_with (draft_of p.types p.specs p.declared.signals) (map plain_program p.programs) (map plain_object p.objects) p.limits ≡ meaning p
-meant p unhandled unconstructed =
+meant p unhandled unconstructed none =
     bare p.types p.specs p.declared.signals p.programs p.objects p.limits
-    ∙ ap (λ (hs : List (List ClassHandler)). meaning (parts p.types p.specs (record { signals = p.declared.signals; handlers = hs }) [] p.programs p.objects p.limits)) (sym unhandled)
-    ∙ ap (λ (cs : List (Option ℕ)). meaning (parts p.types p.specs p.declared cs p.programs p.objects p.limits)) (sym unconstructed)
+    ∙ ap (λ (hs : List (List ClassHandler)). meaning (parts p.types p.specs (record { signals = p.declared.signals; handlers = hs }) [] p.programs [] p.objects p.limits)) (sym unhandled)
+    ∙ ap (λ (cs : List (Option ℕ)). meaning (parts p.types p.specs p.declared cs p.programs [] p.objects p.limits)) (sym unconstructed)
+    ∙ ap (λ (qs : List Prototype). meaning (parts p.types p.specs p.declared p.constructed p.programs qs p.objects p.limits)) (sym none)
 
 module _ (d : Data) where
   -- what is left to read behind each part
@@ -80,7 +82,7 @@ module _ (d : Data) where
       → members_at [] d ≡ Ok ms → format ≡ option_and_then as_u64 (option_and_then as_number (get (codes "format") d)) → format_of format ≡ Ok tt
       → limits_in d ≡ Ok p.limits → draft_in d ≡ Ok (draft_of p.types p.specs p.declared.signals) → programs_in p.types d ≡ Ok (map plain_program p.programs)
       → objects_in p.types (specs_by p.types (own_of p.specs)) (map plain_program p.programs) p.limits.objects d ≡ Ok (map plain_object p.objects)
-      → only_at [] ms keys_of_definition ≡ Ok tt → p.declared.handlers ≡ [] → p.constructed ≡ [] → definition_in d ≡ Ok (meaning p)
-  definition_done ms format p members is one limited classes programs objects only unhandled unconstructed =
+      → only_at [] ms keys_of_definition ≡ Ok tt → p.declared.handlers ≡ [] → p.constructed ≡ [] → p.prototypes ≡ [] → definition_in d ≡ Ok (meaning p)
+  definition_done ms format p members is one limited classes programs objects only unhandled unconstructed none =
       definition_whole ms format p.limits (draft_of p.types p.specs p.declared.signals) (map plain_program p.programs) (map plain_object p.objects) members is one limited classes programs objects only
-      ∙ ap (λ (m : Definition). Ok m) (meant p unhandled unconstructed)
+      ∙ ap (λ (m : Definition). Ok m) (meant p unhandled unconstructed none)

@@ -1,5 +1,5 @@
 -- Which definition and event of the machine the code's stand for.
-use Rattle.std.specs.Prelude.{◌≡◌, ℕ, ◌<◌, ◌≤◌, ◌≤ℤ◌, true, false, List, [], map, length, Option, None, Some, option_map, String, string_bytes, slice_get, IfSome}
+use Rattle.std.specs.Prelude.{◌≡◌, ℕ, ◌<◌, ◌≤◌, ◌+◌, ◌≤ℤ◌, Bool, true, false, not, nat_le, List, [], ◌++◌, map, length, count_by, Option, None, Some, option_map, String, string_bytes, slice_get, IfSome}
 use Rattle.std.specs.Global.{Global}
 use Rattle.std.specs.List.{AllByRecursion}
 use Rattle.ui_machine.specs.Seq.{listed, read}
@@ -33,6 +33,7 @@ use Rattle.builder_defs.specs.declared.object_entry.Given.{Given}
 use Rattle.builder_defs.specs.declared.object_entry.Given.TheVariants as givens
 use Rattle.builder_defs.specs.declared.object_entry.GivenValue.{GivenValue}
 use Rattle.builder_defs.specs.declared.object_entry.ObjectBody.{ObjectBody}
+use Rattle.builder_defs.specs.declared.object_entry.PrototypeBody.{PrototypeBody}
 use Rattle.builder_defs.specs.declared.event.Event.{Event}
 use Rattle.builder_defs.specs.declared.event.Event.TheVariants as events
 
@@ -53,10 +54,18 @@ given_view (givens.Object place) = machine.named place.0
 abbrev pub given_property : GivenValue → machine.GivenProperty
 given_property g = record { slot = g.slot; given = given_view g.given }
 
+-- an object or a prototype, without peers
+abbrev pub bare_place : List ℕ → ℕ → Bool → Option ℕ → List machine.GivenProperty → List machine.Attached → machine.Place
+bare_place id class is_prototype parent given signals =
+    record { id = id; class = class; is_prototype = is_prototype; parent = parent; given = given; peers = []; signals = signals }
+
 -- an object without peer, the child of the object at a place, if it is a child
 abbrev pub plain_place : List ℕ → ℕ → Option ℕ → List machine.GivenProperty → List machine.Attached → machine.Place
-plain_place id class parent given signals =
-    record { id = id; class = class; is_prototype = false; parent = parent; given = given; peers = []; signals = signals }
+plain_place id class parent given signals = bare_place id class false parent given signals
+
+-- a prototype without peers: it has neither a parent nor signals
+abbrev pub bare_prototype : List ℕ → ℕ → List machine.GivenProperty → machine.Place
+bare_prototype id class given = bare_place id class true None given []
 
 -- the number of a place, if there is one
 abbrev pub place_number : Option Place → Option ℕ
@@ -82,6 +91,14 @@ abbrev pub plain_object : Entry → machine.Place
 plain_object entry =
     plain_place (string_bytes entry.0) entry.1.class (place_number entry.1.parent) (map given_property entry.1.given.items) (map attached_view entry.1.signals.items)
 
+-- the id of a prototype, and what it has under it
+abbrev pub Prototype : Type 0
+Prototype = String Global × PrototypeBody
+
+-- the prototype of an entry
+abbrev pub plain_prototype : Prototype → machine.Place
+plain_prototype entry = bare_prototype (string_bytes entry.0) entry.1.class (map given_property entry.1.given.items)
+
 -- a program, and the name under which it is found
 abbrev pub NamedProgram : Type 0
 NamedProgram = String Global × code_program.Program
@@ -101,16 +118,18 @@ pub record Parts : Type 0 where
   pub declared : Declared
   pub constructed : List (Option ℕ)  -- the program that a class names itself, by class
   pub programs : List NamedProgram
+  pub prototypes : List Prototype
   pub objects : List Entry
   pub limits : Limits
 
-abbrev pub parts : List GType → List (List Spec) → Declared → List (Option ℕ) → List NamedProgram → List Entry → Limits → Parts
-parts types specs declared constructed programs objects limits = record {
+abbrev pub parts : List GType → List (List Spec) → Declared → List (Option ℕ) → List NamedProgram → List Prototype → List Entry → Limits → Parts
+parts types specs declared constructed programs prototypes objects limits = record {
   types = types;
   specs = specs;
   declared = declared;
   constructed = constructed;
   programs = programs;
+  prototypes = prototypes;
   objects = objects;
   limits = limits;
 }
@@ -119,6 +138,10 @@ parts types specs declared constructed programs objects limits = record {
 abbrev pub class_in : Parts → ℕ → definition.Class
 class_in p t = type_with (specs_of p.types p.specs t) (signals_of p.types p.declared.signals t) (named_of p.declared.handlers t) (read None p.constructed t)
 
+-- the places of these objects and, behind them, of these prototypes
+abbrev pub places_of : List Entry → List Prototype → List machine.Place
+places_of objects prototypes = map plain_object objects ++ map plain_prototype prototypes
+
 -- the definition of these parts
 abbrev pub meaning : Parts → definition.Definition
 meaning p = record {
@@ -126,7 +149,7 @@ meaning p = record {
   classes = listed (class_in p) (length p.types);
   shapes = [];
   programs = map plain_program p.programs;
-  places = map plain_object p.objects;
+  places = places_of p.objects p.prototypes;
   bindings = [];
   most_objects = p.limits.objects;
   most_handlers = p.limits.handlers;
@@ -184,21 +207,20 @@ pub record IsSoundProgram (types : List GType) (entry : NamedProgram) : Type 0 w
   pub known : HasKnownBlocks types entry.1
   pub shaped : shape_fault (program_view entry.1) ≡ None
 
--- What is so of every definition. It has no programs so far, and names none.
+-- What is so of every definition. Its classes name no programs so far, and it has no prototypes.
 pub record IsSound (p : Parts) : Type 0 where
   pub plain : ArePlain p.types p.specs
   pub kinds : HaveKnownKinds p.types p.declared.signals
   pub limited : AreLimits p.limits
   pub few : length p.objects ≤ p.limits.objects
-  pub places : length p.objects ≤ 512
+  pub places : length p.objects + length p.prototypes ≤ 512
   pub named : AllByRecursion HasOwnName p.programs
   pub programs : AllByRecursion (IsSoundProgram p.types) p.programs
   pub few_programs : length p.programs ≤ 256
   pub handlers : (t : ℕ) → length p.types ≤ t → named_of p.declared.handlers t ≡ []
-  pub no_programs : p.programs ≡ []
   pub no_handlers : p.declared.handlers ≡ []
   pub no_constructed : p.constructed ≡ []
-  pub no_signals : AllByRecursion (λ (place : machine.Place). place.signals ≡ []) (map plain_object p.objects)
+  pub no_prototypes : p.prototypes ≡ []
 
 abbrev pub class_of_place : Option machine.Place → ℕ
 class_of_place None = 0
@@ -208,17 +230,26 @@ class_of_place (Some place) = place.class
 abbrev pub class_at : definition.Definition → ℕ → ℕ
 class_at d place = class_of_place (lookups.place_at d place)
 
--- what a definition does not have so far: handlers, programs, shapes, bindings, and objects but plain ones
+-- whether a place is of an object
+abbrev pub is_object : machine.Place → Bool
+is_object place = not place.is_prototype
+
+-- how many places of a definition are objects
+abbrev pub object_count : definition.Definition → ℕ
+object_count d = count_by is_object d.places
+
+-- What a definition does not have so far: class handlers, shapes, bindings, peers and prototypes. Its objects come first among its places.
 pub record IsBasic (d : definition.Definition) : Type 0 where
   pub handlers : (t : ℕ) → (lookups.class_of d t).handlers ≡ []
   pub constructed : (t : ℕ) → (lookups.class_of d t).constructed ≡ None
   pub shapes : (t : ℕ) → (lookups.class_of d t).shape ≡ None
   pub plain : (t slot : ℕ) (s : Spec) → lookups.spec_of d t slot ≡ Some s → IsPlain d.types s
-  pub prototypes : (p : ℕ) (place : machine.Place) → slice_get d.places p ≡ Some place → place.is_prototype ≡ false
+  pub prototypes : (p : ℕ) (place : machine.Place) → slice_get d.places p ≡ Some place → place.is_prototype ≡ nat_le (object_count d) p
+  pub only_objects : (p : ℕ) (place : machine.Place) → slice_get d.places p ≡ Some place → place.is_prototype ≡ false
+  pub no_parents : (p : ℕ) (place : machine.Place) → slice_get d.places p ≡ Some place → place.is_prototype ≡ true → place.parent ≡ None
+  pub silent : (p : ℕ) (place : machine.Place) → slice_get d.places p ≡ Some place → place.is_prototype ≡ true → place.signals ≡ []
   pub peers : (p : ℕ) (place : machine.Place) → slice_get d.places p ≡ Some place → place.peers ≡ []
-  pub signals : (p : ℕ) (place : machine.Place) → slice_get d.places p ≡ Some place → place.signals ≡ []
   pub bindings : d.bindings ≡ []
-  pub programs : d.programs ≡ []
   pub few_programs : length d.programs ≤ 256
   pub shaped : (number : ℕ) (p : Program) → lookups.program_at d number ≡ Some p → shape_fault p ≡ None
   pub few_registers : (number : ℕ) (p : Program) → lookups.program_at d number ≡ Some p → p.registers ≤ 32

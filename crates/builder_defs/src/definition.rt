@@ -1,6 +1,6 @@
 //! What a definition says.
 
-ghost use Rattle.std.specs.Prelude.{◌≡◌, ◌<◌, ◌≤◌, None, ℕ, length, option_map, slice_get, string_bytes, IfSome, map};
+ghost use Rattle.std.specs.Prelude.{◌≡◌, ◌<◌, ◌≤◌, ◌+◌, None, ℕ, length, option_map, slice_get, string_bytes, IfSome, map};
 ghost use Rattle.ui_machine.specs.Definition.Names.{place_named};
 ghost use Rattle.ui_machine.specs.Definition.Lookups.{class_of, place_of, program_at, program_of, spec_of, specs_of, slot_of, type_of};
 ghost use Rattle.ui_machine.specs.Seq.{read};
@@ -12,9 +12,9 @@ ghost use Rattle.param_specs.specs.View.{spec_view};
 ghost use Rattle.signal_core.specs.Emission.{begun};
 ghost use Rattle.signal_core.specs.Laws.{walk_for};
 ghost use Rattle.signal_core.specs.SignalView.{declared_view};
-ghost use Rattle.builder_defs.specs.Meaning.{AreLimits, IsBasic, attached_view, plain_place, place_number, class_at, plain_object, planned, given_property};
+ghost use Rattle.builder_defs.specs.Meaning.{AreLimits, IsBasic, attached_view, bare_place, place_number, places_of, class_at, object_count, plain_object, plain_prototype, planned, given_property};
 
-use crate::object_entry::{ObjectBody, ObjectEntry};
+use crate::object_entry::{ObjectBody, ObjectEntry, PrototypeBody};
 use crate::programs::number_of;
 use crate::types::type_name;
 use handler_code::Program;
@@ -28,8 +28,8 @@ use ui_machine::{Limits, ObjectId, Place};
 /// The most places of a definition.
 pub const MOST_PLACES: usize = 512;
 
-/// A definition: its types with their properties and signals, and the programs that classes name; its programs and its objects in document
-/// order; and its limits. It is seen as the machine's.
+/// A definition: its types with their properties and signals, and the programs that classes name; its programs, its prototypes and its objects
+/// in document order; and its limits. Its places are its objects and, behind them, its prototypes. It is seen as the machine's.
 #[derive(Drop)]
 pub struct Definition {
     pub(crate) types: TypeTree,
@@ -38,6 +38,7 @@ pub struct Definition {
     // The programs that classes name for their objects once they are constructed, by class.
     pub(crate) constructed: Vec<Option<u16>>,
     pub(crate) programs: IndexMap<String, Program>,
+    pub(crate) prototypes: IndexMap<String, PrototypeBody>,
     pub(crate) objects: IndexMap<String, ObjectBody>,
     pub(crate) limits: Limits,
 }
@@ -49,9 +50,9 @@ impl Model for Definition {
 
     ghost use Rattle.builder_defs.specs.Meaning.{meaning, IsSound, parts};
 
-    ghost view = { λ d. meaning (parts d.types d.specs d.signals d.constructed.items d.programs.entries d.objects.entries d.limits) };
+    ghost view = { λ d. meaning (parts d.types d.specs d.signals d.constructed.items d.programs.entries d.prototypes.entries d.objects.entries d.limits) };
 
-    ghost invariant = { λ d. IsSound (parts d.types d.specs d.signals d.constructed.items d.programs.entries d.objects.entries d.limits) };
+    ghost invariant = { λ d. IsSound (parts d.types d.specs d.signals d.constructed.items d.programs.entries d.prototypes.entries d.objects.entries d.limits) };
 }
 
 impl Definition {
@@ -72,42 +73,47 @@ impl Definition {
         self.limits
     }
 
-    /// How many objects it has: not more than may live.
+    /// How many objects it has: not more than may live. They are its first places, and all others are prototypes.
     pub fn object_count(&self) -> usize
-        ensures count { result ≡ length self.now.places }
+        ensures count { result ≡ object_count self.now }
         ensures few { result ≤ self.now.most_objects }
     {
         self.objects.len()
     }
 
-    /// The object at a place, if there is one.
-    pub fn object(&self, place: usize) -> Option<ObjectEntry<'_>>
-        ensures { option_map (λ o. plain_place o.id.now o.class (place_number o.parent) (map given_property o.given.now) (map attached_view o.signals.now)) result ≡ slice_get self.now.places place }
+    /// How many places it has: its objects and its prototypes.
+    pub fn place_count(&self) -> usize
+        ensures count { result ≡ length self.now.places }
+        ensures few { result ≤ 512 }
     {
-        let (id, body) = self.objects.get_index(place)?;
-        Some(ObjectEntry {
-            id: id.as_str(),
-            class: body.class,
-            parent: body.parent,
-            given: body.given.as_slice(),
-            signals: body.signals.as_slice(),
-        })
+        self.objects.len() + self.prototypes.len()
     }
 
-    /// The place of the object of an id.
+    /// The object or prototype at a place, if there is one.
+    pub fn object(&self, place: usize) -> Option<ObjectEntry<'_>>
+        ensures { option_map (λ o. bare_place o.id.now o.class o.is_prototype (place_number o.parent) (map given_property o.given.now) (map attached_view o.signals.now)) result ≡ slice_get self.now.places place }
+    {
+        let count = self.objects.len();
+        if place < count {
+            return object_entry(&self.objects, place);
+        }
+        prototype_entry(&self.prototypes, place - count)
+    }
+
+    /// The place of the object or prototype of an id.
     pub fn place(&self, id: &str) -> Option<Place>
         ensures { option_map (λ p. p.0) result ≡ place_of self.now id.now }
     {
-        let place = position_of(&self.objects, id)?;
+        let place = place_in(&self.objects, &self.prototypes, id)?;
         Some(Place(place as u16))
     }
 
-    /// The class of the object at a place, and the first class where there is none.
+    /// The class of the object or prototype at a place, and the first class where there is none.
     pub fn class_at(&self, place: Place) -> TypeId
         ensures { result ≡ class_at self.now place.0 }
     {
-        match self.objects.get_index(usize::from(place.0)) {
-            Some((_, body)) => body.class,
+        match self.object(usize::from(place.0)) {
+            Some(entry) => entry.class,
             None => TypeId::new(0),
         }
     }
@@ -226,6 +232,66 @@ pub(crate) fn position_of(objects: &IndexMap<String, ObjectBody>, id: &str) -> O
     ensures within { IfSome result (λ i. i < length objects.now.entries) }
 {
     objects.get_index_of(id)
+}
+
+// Where the prototype of an id stands among the prototypes.
+pub(crate) fn prototype_of(prototypes: &IndexMap<String, PrototypeBody>, id: &str) -> Option<usize>
+    ensures place { result ≡ place_named (λ p. p.id) (map plain_prototype prototypes.now.entries) id.now }
+    ensures within { IfSome result (λ i. i < length prototypes.now.entries) }
+{
+    prototypes.get_index_of(id)
+}
+
+// Where the object or prototype of an id stands: prototypes stand behind the objects.
+fn place_in(
+    objects: &IndexMap<String, ObjectBody>,
+    prototypes: &IndexMap<String, PrototypeBody>,
+    id: &str,
+) -> Option<usize>
+    requires { length objects.now.entries + length prototypes.now.entries ≤ 512 }
+    ensures place { result ≡ place_named (λ p. p.id) (places_of objects.now.entries prototypes.now.entries) id.now }
+    ensures within { IfSome result (λ i. i < 512) }
+{
+    match position_of(objects, id) {
+        Some(place) => Some(place),
+        None => {
+            let number = prototype_of(prototypes, id)?;
+            Some(objects.len() + number)
+        }
+    }
+}
+
+// The object of a number, if there is one.
+fn object_entry(objects: &IndexMap<String, ObjectBody>, number: usize) -> Option<ObjectEntry<'_>>
+    ensures { option_map (λ o. bare_place o.id.now o.class o.is_prototype (place_number o.parent) (map given_property o.given.now) (map attached_view o.signals.now)) result ≡ slice_get (map plain_object objects.now.entries) number }
+{
+    let (id, body) = objects.get_index(number)?;
+    Some(ObjectEntry {
+        id: id.as_str(),
+        class: body.class,
+        is_prototype: false,
+        parent: body.parent,
+        given: body.given.as_slice(),
+        signals: body.signals.as_slice(),
+    })
+}
+
+// The prototype of a number, if there is one.
+fn prototype_entry(
+    prototypes: &IndexMap<String, PrototypeBody>,
+    number: usize,
+) -> Option<ObjectEntry<'_>>
+    ensures { option_map (λ o. bare_place o.id.now o.class o.is_prototype (place_number o.parent) (map given_property o.given.now) (map attached_view o.signals.now)) result ≡ slice_get (map plain_prototype prototypes.now.entries) number }
+{
+    let (id, body) = prototypes.get_index(number)?;
+    Some(ObjectEntry {
+        id: id.as_str(),
+        class: body.class,
+        is_prototype: true,
+        parent: None,
+        given: body.given.as_slice(),
+        signals: &[],
+    })
 }
 
 // The number that stands at a place, if one stands there.

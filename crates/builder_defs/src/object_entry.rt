@@ -46,12 +46,21 @@ pub(crate) struct ObjectBody {
     pub(crate) signals: Vec<Attached>,
 }
 
-/// An object of a definition: its id, its class, its parent, if it is a child, the given values in the given order, and its signals in
-/// document order.
+// What a prototype has under its id: its class, and the given values in the given order.
+#[derive(Drop)]
+pub(crate) struct PrototypeBody {
+    pub(crate) class: TypeId,
+    pub(crate) given: Vec<GivenValue>,
+}
+
+/// An object or a prototype of a definition: its id, its class, its parent, if it is a child, the given values in the given order, and its
+/// signals in document order. A prototype has neither a parent nor signals.
 #[derive(Clone, Copy)]
 pub struct ObjectEntry<'a> {
     pub id: &'a str,
     pub class: TypeId,
+    /// Whether it is a prototype, of which objects are made later.
+    pub is_prototype: bool,
     /// The place of the object whose child it is.
     pub parent: Option<Place>,
     pub given: &'a [GivenValue],

@@ -142,7 +142,6 @@ impl<'a, 'b> Scope<'a, 'b> {
             self.specs,
             class,
         )?;
-        part.check_nothing(&["signals"])?;
         let signals = read_attached(part, self.programs, self.names)?;
         let id = String::from_str(part.alloc, id)?;
         let body = ObjectBody {

@@ -162,7 +162,7 @@ fn read_draft(part: Part<'_>) -> Result<Draft, ReadError>
     Ok(draft)
 }
 
-// The programs of a definition whose types are these. A list of them is refused, unless it is empty, until there is something that runs them.
+// The programs of a definition whose types are these.
 #[tactic(auto, unfolding(crate::specs::Denoted::Programs::programs_in))]
 fn programs_of(part: Part<'_>, types: &TypeTree) -> Result<Programs, ReadError>
     requires { path_of part.path ≡ [] }
@@ -171,7 +171,6 @@ fn programs_of(part: Part<'_>, types: &TypeTree) -> Result<Programs, ReadError>
     ensures sound { IfOk result (λ programs. AllByRecursion (IsSoundProgram types.now) programs.entries) }
     ensures few { IfOk result (λ programs. length programs.entries ≤ 256) }
 {
-    part.check_nothing(&["programs"])?;
     let items = part.entries("programs")?;
     let list = Entries {
         alloc: part.alloc,
@@ -240,6 +239,7 @@ fn definition_of(alloc: Global, value: &Value) -> Result<Definition, ReadError>
         signals: draft.signals,
         constructed: Vec::new(alloc),
         programs,
+        prototypes: IndexMap::new(alloc),
         objects,
         limits,
     })

@@ -5,3 +5,4 @@ pub mod FrameView
 pub mod Shape
 pub mod Known
 pub mod Reading
+pub mod Later

@@ -11,7 +11,7 @@ use Rattle.handler_code.specs.declared.fault.ProgramFault.{ProgramFault}
 use Rattle.handler_code.specs.Reading.Outline.{Outline, outline_in}
 use Rattle.handler_code.specs.Reading.OutlineFaults.{OutlineFault}
 use Rattle.handler_code.specs.Reading.Programs.{program_of}
-use Rattle.builder_defs.specs.Document.{at_entry, entries_at, members_at, nothing_at, text_at, under}
+use Rattle.builder_defs.specs.Document.{at_entry, entries_at, members_at, text_at, under}
 use Rattle.builder_defs.specs.Denoted.Entries.{place_with_id}
 use Rattle.builder_defs.specs.Denoted.Programs.{code_names, new_program, or_bad_program, program_at, program_in, programs_in, read_ahead, room_for_program, unless_refused}
 use Rattle.builder_defs.proofs.Soundness.{OnRead, on_all, on_bind, on_each}
@@ -62,7 +62,6 @@ module _ (d : Definition) (members : (t : ℕ) → HasMembers (read no_type d.ty
   pub programs_read : OnRead (Each (ProgramRead d)) (programs_in d.types v)
   unfolding programs_in
   programs_read =
-      on_bind (λ u. Unit {0}) (Each (ProgramRead d)) (nothing_at [] v (codes "programs" ∷ [])) _ (on_all _) λ unset u.
       on_bind (λ u. Unit {0}) (Each (ProgramRead d)) (entries_at [] v (codes "programs")) _ (on_all _) λ list u.
       on_each (Each (ProgramRead d)) (at_entry (λ path. program_at path (code_names d.types v)) (under [] (codes "programs")))
       (λ i programs x old. one_more _ programs x old) 0 [] list tt

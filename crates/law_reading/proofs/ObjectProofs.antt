@@ -123,7 +123,6 @@ module _ (types : List GType) (few : (t : ℕ) → HaveFewBits (members_of types
       on_bind (λ x. Unit {0}) (One places) (absent_at path d (codes "peer" ∷ [])) _ (on_all _) λ peer u.
       on_bind (AreGiven types names (length places) (specs class)) (One places) (givens_at path types names (length places) (specs class) d) _
       (all_given types few names (length places) room (specs class) path d) λ given fit.
-      on_bind (λ x. Unit {0}) (One places) (nothing_at path d (codes "signals" ∷ [])) _ (on_all _) λ bare u.
       on_bind (Each (HasData names)) (One places) (all_attached path programs names d) _ (attached_read programs names path d) λ signals have.
       record {
         class = is.concrete;

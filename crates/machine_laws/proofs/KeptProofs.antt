@@ -127,7 +127,7 @@ not_new number (i ∷ hs) h other none = by (nat_eq i.number number) refl none (
     by true e none rest = absurd (cc none)
     by false e none rest = ap (λ c. cond c (Some i) (handler_of number (hs ++ h ∷ []))) e ∙ rest none
 
-connected_kept : (w : World) (c : Connection) → KeepsGone w (with_handler w c)
+pub connected_kept : (w : World) (c : Connection) → KeepsGone w (with_handler w c)
 connected_kept w c = record {
   at = λ number is.
       let parts = both_true (nat_le number w.last_handler) (not (is_some (handler_of number w.handlers))) is in

@@ -1,5 +1,5 @@
 -- What the step of each task leaves of what holds the objects, of the work and of the count.
-use Rattle.std.proofs.Common.{◌≡◌, ℕ, zero, suc, ◌+◌, ◌*◌, ◌<◌, ◌≤◌, Bool, true, false, cond, nat_lt, List, [], ◌∷◌, ◌++◌, length, map, Option, Some, None, Ok, Err, slice_get, refl, sym, ap, subst, arith}
+use Rattle.std.proofs.Common.{◌≡◌, ℕ, zero, suc, ◌+◌, ◌*◌, ◌<◌, ◌≤◌, Bool, true, false, cond, nat_lt, List, [], ◌∷◌, ◌++◌, length, map, drop, Option, Some, None, Ok, Err, slice_get, refl, sym, ap, subst, arith}
 use Rattle.std.specs.Prelude.{IfOk}
 use Rattle.std.proofs.lemmas.Bool.Decides.{nat_tests}
 use Rattle.ui_machine.specs.Definition.Properties.{is_writable}
@@ -13,7 +13,7 @@ use Rattle.ui_machine.specs.Output.Lines as lines
 use Rattle.ui_machine.specs.Definition.Lookups.{type_of, program_at, place_at, specs_of}
 use Rattle.ui_machine.specs.State.Tasks as config
 use Rattle.ui_machine.specs.State.Objects.{Object, Objects, changed, object_at}
-use Rattle.ui_machine.specs.State.Tasks.{Making, Item, makes, adopts, PlanEntry, class_handler, handler, transfer, Emission, Frame, Task, Setting, Notifying, Beginning, Emitting, Transferring, Unsetting, Thawing, Running, Answering, Calling, Constructing, Building, Carrying, Due}
+use Rattle.ui_machine.specs.State.Tasks.{Making, Item, makes, adopts, connects, PlanEntry, class_handler, handler, transfer, Emission, Frame, Task, Setting, Notifying, Beginning, Emitting, Transferring, Unsetting, Thawing, Running, Answering, Calling, Constructing, Building, Carrying, Due}
 use Rattle.ui_machine.specs.State.Config.{World, Config, built, Started, starts, said, held_at, is_unbuilt, with_held, sunk, Left}
 use Rattle.ui_machine.specs.Outcome.{After, Answer, known, only_if}
 use Rattle.ui_machine.specs.Rules.NotifyQueue.{frozen_less, thawing}
@@ -24,7 +24,8 @@ use Rattle.ui_machine.specs.Rules.Transfers.{transfer_for}
 use Rattle.ui_machine.specs.Rules.Construction.{not_forward, initially_unowned, making, with_object, new_object, thawing_made, constructed, making_set}
 use Rattle.ui_machine.specs.Rules.Sets.{setting, spec_at}
 use Rattle.ui_machine.specs.Steps.{most_steps, before, uncounted, left, act}
-use Rattle.ui_machine.specs.Rules.Build.{building, building_child, building_forward, held_object}
+use Rattle.ui_machine.specs.Rules.Build.{building, building_child, building_forward, building_handler, connected_items, connection, held_data, held_object}
+use Rattle.ui_machine.specs.Rules.Connections.{Connection, detail_at, is_too_late, signal_number, with_handler}
 use Rattle.ui_machine.specs.Rules.Children.{adopted}
 use Rattle.ui_machine.specs.Rules.Events.{carrying_set, carrying_get, carrying_emit, carrying_release}
 use Rattle.g_values.specs.View.{value_view}
@@ -35,7 +36,7 @@ use Rattle.ui_engine.specs.declared.task.Task.TheVariants as tasks
 use Rattle.ui_engine.specs.declared.task.Task as code
 use Rattle.ui_engine.specs.declared.task.Forward.{Forward}
 use Rattle.ui_engine.specs.GivenView.{detail_of}
-use Rattle.ui_engine.specs.TaskView.{task_of, new_of, emission_of, entries_to_come, item_of, build_from, build_behind}
+use Rattle.ui_engine.specs.TaskView.{task_of, new_of, emission_of, entries_to_come, item_of, build_from, build_end, build_behind, connects_from, signals_of}
 use Rattle.handler_code.specs.FrameView.{frame_view}
 use Rattle.ui_machine.specs.Instructions.{running}
 use Rattle.ui_machine.specs.Instructions.Registers.{with_register}
@@ -47,7 +48,7 @@ use Rattle.ui_engine.specs.EngineView.{is_counted}
 use Rattle.ui_engine.specs.Standing.{GoneStay, come_first}
 use Rattle.ui_machine.specs.Prefix.{IsPrefix}
 use Rattle.ui_machine.proofs.Prefixes.{prefix_same, prefix_one}
-use Rattle.machine_laws.proofs.KeptProofs.{KeepsGone, running_grows, running_kept}
+use Rattle.machine_laws.proofs.KeptProofs.{KeepsGone, connected_kept, running_grows, running_kept}
 use Rattle.ui_engine.specs.Measure.{sets_of_place, weight, waiting_in, waiting}
 use Rattle.ui_engine.specs.MakingView.{making_of_object}
 use Rattle.ui_engine.proofs.Lists.{total-append}
@@ -55,6 +56,7 @@ use Rattle.ui_engine.proofs.Floats.{Quietly, if_ok_at, bind_ok, one_floats, with
 use Rattle.ui_engine.proofs.Quiet.{Calm, notifying_calm, beginning_calm, carrying_emit_calm, setting_calm, building_forward_calm, carrying_set_calm, carrying_get_calm, carrying_release_calm, thawing_calm}
 use Rattle.ui_engine.proofs.Falls.{Falls, setting_falls, thawing_falls, thawing_made_falls, building_forward_falls, carrying_set_falls, carrying_get_falls, carrying_emit_falls, carrying_release_falls}
 use Rattle.ui_engine.proofs.Joining.{Joins, adopted_joins}
+use Rattle.ui_engine.proofs.Signals.{FirstConnects, connected_first, numbered_first}
 use Rattle.ui_engine.proofs.Building.{few_steps, few_early, only_forwards, builds_next, next_made, made_there, abstract_there}
 
 -- what the step of a task leads to
@@ -294,9 +296,13 @@ module _ (d : Definition) (w : World) (rest : List Task) (n : ℕ) where
 
   -- ** constructions
 
-  constructed_passes : (id : ℕ) → IfOk (uncounted rest n (constructed w id true)) (Passes d w (Constructing id [] true) rest n)
+  constructed_passes : (id : ℕ) (held : Bool) → IfOk (uncounted rest n (constructed w id held)) (Passes d w (Constructing id [] held) rest n)
   unfolding constructed
-  constructed_passes id = uncounted_if (Constructing id [] true) (constructed w id true) (bind_ok (object_at w.objects id) _ P (λ o _. by o.place (is_unbuilt (held_at w o.place)) refl))
+  constructed_passes id false =
+      steady (Constructing id [] false) refl (record { world = w; tasks = [] })
+      (record { floating = refl; handlers = refl; last = refl; grows = prefix_same w.transcript })
+      (record { less = omega arith })
+  constructed_passes id true = uncounted_if (Constructing id [] true) (constructed w id true) (bind_ok (object_at w.objects id) _ P (λ o _. by o.place (is_unbuilt (held_at w o.place)) refl))
     where
       P : Started → Type 0
       P = λ s. Passes d w (Constructing id [] true) rest n (before rest n s)
@@ -321,54 +327,54 @@ module _ (d : Definition) (w : World) (rest : List Task) (n : ℕ) where
     gone = same_stay w _ quiet.handlers quiet.last;
   }
 
-  sets_passes : (id slot : ℕ) (v : Value) (steps : List Making) → IfOk (uncounted rest n (making_set d w id slot v (Constructing id steps true ∷ []))) (Passes d w (Constructing id (config.sets slot v ∷ steps) true) rest n)
+  sets_passes : (id slot : ℕ) (v : Value) (steps : List Making) (held : Bool) → IfOk (uncounted rest n (making_set d w id slot v (Constructing id steps held ∷ []))) (Passes d w (Constructing id (config.sets slot v ∷ steps) held) rest n)
   unfolding making_set
-  sets_passes id slot v steps = uncounted_if whole (making_set d w id slot v (Constructing id steps true ∷ [])) (bind_ok (spec_at d w.objects id slot) _ P (λ s _. by (is_writable s)))
+  sets_passes id slot v steps held = uncounted_if whole (making_set d w id slot v (Constructing id steps held ∷ [])) (bind_ok (spec_at d w.objects id slot) _ P (λ s _. by (is_writable s)))
     where
       whole : Task
-      whole = Constructing id (config.sets slot v ∷ steps) true
+      whole = Constructing id (config.sets slot v ∷ steps) held
 
       P : Started → Type 0
       P = λ s. Passes d w whole rest n (before rest n s)
 
-      by : (b : Bool) → IfOk (only_if b arms.Flags (starts w (Setting id slot v ∷ Constructing id steps true ∷ []))) P
-      by true = handing whole refl (record { world = w; tasks = Setting id slot v ∷ Constructing id steps true ∷ [] })
+      by : (b : Bool) → IfOk (only_if b arms.Flags (starts w (Setting id slot v ∷ Constructing id steps held ∷ []))) P
+      by true = handing whole refl (record { world = w; tasks = Setting id slot v ∷ Constructing id steps held ∷ [] })
           (record { floating = refl; handlers = refl; last = refl; grows = prefix_same w.transcript })
           (record { less = omega arith })
       by false = tt
 
-  runs_passes : (id program : ℕ) (steps : List Making) → (args : List Value)
-      → IfOk (uncounted rest n (program_before d w program args (Constructing id steps true ∷ []))) (Passes d w (Constructing id (config.runs program ∷ steps) true) rest n)
+  runs_passes : (id program : ℕ) (steps : List Making) (held : Bool) → (args : List Value)
+      → IfOk (uncounted rest n (program_before d w program args (Constructing id steps held ∷ []))) (Passes d w (Constructing id (config.runs program ∷ steps) held) rest n)
   unfolding Begins
-  runs_passes id program steps args = uncounted_if whole (program_before d w program args (Constructing id steps true ∷ []))
-      (begins_before program args (Constructing id steps true ∷ []) (λ s. Passes d w whole rest n (before rest n s)) (λ s b.
-      handing whole refl (record { world = s.world; tasks = s.tasks ++ Constructing id steps true ∷ [] })
+  runs_passes id program steps held args = uncounted_if whole (program_before d w program args (Constructing id steps held ∷ []))
+      (begins_before program args (Constructing id steps held ∷ []) (λ s. Passes d w whole rest n (before rest n s)) (λ s b.
+      handing whole refl (record { world = s.world; tasks = s.tasks ++ Constructing id steps held ∷ [] })
       b.0
-      (record { less = let l = b.1 in let k = b.2 in omega (arith, l, k, total-append (weight d) s.tasks (Constructing id steps true ∷ [])) })))
+      (record { less = let l = b.1 in let k = b.2 in omega (arith, l, k, total-append (weight d) s.tasks (Constructing id steps held ∷ [])) })))
     where
       whole : Task
-      whole = Constructing id (config.runs program ∷ steps) true
+      whole = Constructing id (config.runs program ∷ steps) held
 
-  thaws_passes : (id : ℕ) (steps : List Making) → IfOk (uncounted rest n (thawing_made w id steps true)) (Passes d w (Constructing id (config.thaws ∷ steps) true) rest n)
+  thaws_passes : (id : ℕ) (steps : List Making) (held : Bool) → IfOk (uncounted rest n (thawing_made w id steps held)) (Passes d w (Constructing id (config.thaws ∷ steps) held) rest n)
   unfolding thawing_made
-  thaws_passes id steps = uncounted_if whole (thawing_made w id steps true)
-      (both Quiet (Falls d w (weight d whole)) (λ s. Passes d w whole rest n (before rest n s)) (thawing_made w id steps true) quiet (thawing_made_falls d w id steps true)
+  thaws_passes id steps held = uncounted_if whole (thawing_made w id steps held)
+      (both Quiet (Falls d w (weight d whole)) (λ s. Passes d w whole rest n (before rest n s)) (thawing_made w id steps held) quiet (thawing_made_falls d w id steps held)
       (λ s h falls. handing whole refl s h falls))
     where
       whole : Task
-      whole = Constructing id (config.thaws ∷ steps) true
+      whole = Constructing id (config.thaws ∷ steps) held
 
       Quiet : Started → Type 0
       Quiet = λ s. Quietly w s.world
 
-      quiet : IfOk (thawing_made w id steps true) Quiet
+      quiet : IfOk (thawing_made w id steps held) Quiet
       quiet = bind_ok (changed w.objects id frozen_less) _ Quiet (λ r e. record { floating = refl; handlers = refl; last = refl; grows = prefix_same w.transcript })
 
-  constructing_passes : (id : ℕ) (steps : List Making) → IfOk (act d w None (Constructing id steps true ∷ rest) n) (Passes d w (Constructing id steps true) rest n)
-  constructing_passes id [] = constructed_passes id
-  constructing_passes id (config.sets slot v ∷ steps) = sets_passes id slot v steps
-  constructing_passes id (config.runs program ∷ steps) = runs_passes id program steps _
-  constructing_passes id (config.thaws ∷ steps) = thaws_passes id steps
+  constructing_passes : (id : ℕ) (steps : List Making) (held : Bool) → IfOk (act d w None (Constructing id steps held ∷ rest) n) (Passes d w (Constructing id steps held) rest n)
+  constructing_passes id [] held = constructed_passes id held
+  constructing_passes id (config.sets slot v ∷ steps) held = sets_passes id slot v steps held
+  constructing_passes id (config.runs program ∷ steps) held = runs_passes id program steps held _
+  constructing_passes id (config.thaws ∷ steps) held = thaws_passes id steps held
 
   -- ** thaws and events
 
@@ -408,15 +414,48 @@ module _ (d : Definition) (w : World) (rest : List Task) (n : ℕ) where
     gone = same_stay w _ refl refl;
   }
 
-  -- a forward reference is set
-  forward_passes : (fs : List Forward) → IfOk (uncounted rest n (building d w (map item_of fs))) (Passes d w (Building (map item_of fs)) rest n)
-  forward_passes [] =
+  -- a signal is connected
+  handler_passes : (place number : ℕ) (items : List Item)
+      → IfOk (uncounted rest n (building_handler d w place number items)) (Passes d w (Building (connects place number ∷ items)) rest n)
+  unfolding building_handler
+  handler_passes place number items = uncounted_if whole (building_handler d w place number items)
+      (bind_ok (known arms.Code (place_at d place)) _ P (λ p _. bind_ok (known arms.Code (slice_get p.signals number)) _ P (λ a _. bind_ok (held_object w place) _ P (λ id _.
+      bind_ok (held_data w a.with) _ P (λ arg _. bind_ok (known arms.Code (signal_number d p.class a.signal)) _ P (λ signal _. bind_ok (detail_at d p.class signal a.detail) _ P (λ detail _.
+      by (connection id signal detail a arg) (is_too_late w.objects id arg))))))))
+    where
+      whole : Task
+      whole = Building (connects place number ∷ items)
+
+      P : Started → Type 0
+      P = λ s. Passes d w whole rest n (before rest n s)
+
+      by : (c : Connection) (late : Bool) → P (record { world = cond late w (with_handler w c); tasks = Building items ∷ [] })
+      by c true = record { falls = λ _. omega arith; stays = λ _. refl; counts = λ yes. cc yes; grows = prefix_same w.transcript; gone = same_stay w w refl refl }
+      by c false = record {
+        falls = λ _. omega arith;
+        stays = λ _. refl;
+        counts = λ yes. cc yes;
+        grows = prefix_same w.transcript;
+        gone = record { stay = (connected_kept w c).at };
+      }
+
+  signals_pass : (items : List Item) → FirstConnects items → IfOk (uncounted rest n (building d w items)) (Passes d w (Building items) rest n)
+  signals_pass [] first =
       steady (Building []) refl (record { world = w; tasks = [] })
       (record { floating = refl; handlers = refl; last = refl; grows = prefix_same w.transcript })
       (record { less = omega arith })
+  signals_pass (connects place number ∷ items) first = handler_passes place number items
+  signals_pass (makes place ∷ items) first = absurd first
+  signals_pass (adopts place ∷ items) first = absurd first
+  signals_pass (config.forwards place slot to ∷ items) first = absurd first
+  signals_pass (config.binds number ∷ items) first = absurd first
+
+  -- a forward reference is set, or else a signal is connected
+  forward_passes : (fs : List Forward) → IfOk (uncounted rest n (building d w (build_end d fs))) (Passes d w (Building (build_end d fs)) rest n)
+  forward_passes [] = signals_pass (connected_items 0 d.places) (connected_first 0 d.places)
   forward_passes (f ∷ fs) =
-      steadily (Building (item_of f ∷ map item_of fs)) refl (building_forward d w f.object f.slot f.to.0 (map item_of fs))
-      (building_forward_calm d w f.object f.slot f.to.0 (map item_of fs)) (building_forward_falls d w f.object f.slot f.to.0 (map item_of fs))
+      steadily (Building (item_of f ∷ build_end d fs)) refl (building_forward d w f.object f.slot f.to.0 (build_end d fs))
+      (building_forward_calm d w f.object f.slot f.to.0 (build_end d fs)) (building_forward_falls d w f.object f.slot f.to.0 (build_end d fs))
 
   -- an object becomes its parent's child, or does not
   adopting_passes : (place : ℕ) (items : List Item) → IfOk (uncounted rest n (building_child d w place items)) (Passes d w (Building (adopts place ∷ items)) rest n)
@@ -455,8 +494,8 @@ module _ (d : Definition) (w : World) (rest : List Task) (n : ℕ) where
         next = next_made d basic w place p at fs
 
         by : (b : Bool) → (type_of d p.class).is_abstract ≡ b → IfOk (uncounted (Building items ∷ rest) n (making d w place None true)) P
-        by true is = rw (abstract_there d basic w place p at is) tt
-        by false is = rw (made_there d basic w place p at is)
+        by true is = rw (abstract_there d basic w place p at true is) tt
+        by false is = rw (made_there d basic w place p at true is)
             (subst (λ (xs : List Item). Passes d w (Building xs) rest n (record {
               world = said d (with_object d w (new_object d place p None)) (lines.construct (suc (length w.objects)) (type_of d p.class).name);
               agenda = Constructing (suc (length w.objects)) (making_of_object w (specs_of d p.class) (not_forward place p.given)) true ∷ Building items ∷ rest;
@@ -493,7 +532,9 @@ module _ (d : Definition) (w : World) (rest : List Task) (n : ℕ) where
       weaker (Err arm) on p = tt
   acted basic hs own (tasks.Running frame) ts same = running_passes (frame_view frame)
   acted basic hs own (tasks.Thawing id slots) ts same = thawing_passes id.0 slots
-  acted basic hs own (tasks.Constructing id steps) ts same = constructing_passes id.0 steps
+  acted basic hs own (tasks.Constructing id steps held) ts same = constructing_passes id.0 steps held
   acted basic hs own (tasks.Building place forwards) ts same = building_passes basic place forwards
   acted basic hs own (tasks.Adopting place forwards) ts same = adopting_passes place (build_from d (suc place) forwards)
+  acted basic hs own (tasks.Connecting place number) ts same =
+      signals_pass (connects_from d place number) (numbered_first place number (drop number (signals_of (place_at d place))) _ (connected_first (suc place) (drop (suc place) d.places)))
   acted basic hs own (tasks.Carrying event) ts same = carrying_passes event

@@ -24,7 +24,7 @@ use Rattle.g_values.specs.declared.value.Value.{Value}
 use Rattle.g_values.specs.View.{value_view}
 use Rattle.builder_defs.specs.Meaning.{IsPlain, IsBasic}
 use Rattle.ui_engine.specs.declared.task.Forward.{Forward}
-use Rattle.ui_engine.specs.TaskView.{item_of, forwards_of_place, forwards_at, adopts_of, build_from, build_behind}
+use Rattle.ui_engine.specs.TaskView.{forwards_of_place, forwards_at, adopts_of, build_from, build_end, build_behind}
 use Rattle.ui_engine.specs.declared.task.Making as code
 use Rattle.ui_engine.specs.MakingView.{making_of_code, making_steps, later_steps, making_of_object}
 use Rattle.ui_engine.proofs.Notified.{none_given}
@@ -116,23 +116,23 @@ module _ (d : Definition) (basic : IsBasic d) where
     pub valid_defaults : list_all (has_valid_default d) (specs_of d p.class) ≡ true
     valid_defaults = each_valid d (specs_of d p.class) (λ i s has. basic.plain p.class i s has)
 
-    pub made_there : (type_of d p.class).is_abstract ≡ false
-        → making d w place None true ≡ starts (said d (with_object d w (new_object d place p None)) (lines.construct (suc (length w.objects)) (type_of d p.class).name)) (Constructing (suc (length w.objects)) (making_of_object w (specs_of d p.class) (not_forward place p.given)) true ∷ [])
+    pub made_there : (held : Bool) → (type_of d p.class).is_abstract ≡ false
+        → making d w place None held ≡ starts (said d (with_object d w (new_object d place p None)) (lines.construct (suc (length w.objects)) (type_of d p.class).name)) (Constructing (suc (length w.objects)) (making_of_object w (specs_of d p.class) (not_forward place p.given)) held ∷ [])
     unfolding making
-    made_there concrete =
+    made_there held concrete =
         rw (at, concrete, valid_defaults)
-        (ap (λ steps. starts (said d (with_object d w (new_object d place p None)) (lines.construct (suc (length w.objects)) (type_of d p.class).name)) (Constructing (suc (length w.objects)) steps true ∷ [])) only_sets)
+        (ap (λ steps. starts (said d (with_object d w (new_object d place p None)) (lines.construct (suc (length w.objects)) (type_of d p.class).name)) (Constructing (suc (length w.objects)) steps held ∷ [])) only_sets)
 
-    pub abstract_there : (type_of d p.class).is_abstract ≡ true → making d w place None true ≡ Err arms.Abstract
+    pub abstract_there : (held : Bool) → (type_of d p.class).is_abstract ≡ true → making d w place None held ≡ Err arms.Abstract
     unfolding making
-    abstract_there abstract = rw (at, abstract) refl
+    abstract_there held abstract = rw (at, abstract) refl
 
     pub next_made : (fs : List Forward) → build_from d place fs ≡ makes place ∷ build_behind d place fs
     next_made fs =
         let others = made_items (suc place) (drop (suc place) d.places) in
-        ap (λ ps. made_items place ps ++ map item_of fs) (drop_at d.places place p at)
-        ∙ ap (λ b. (cond b [] (makes place ∷ adopts_if place p.parent) ++ others) ++ map item_of fs) (basic.prototypes place p at)
-        ∙ ap (λ items. makes place ∷ items) (append_assoc (adopts_if place p.parent) others (map item_of fs))
+        ap (λ ps. made_items place ps ++ build_end d fs) (drop_at d.places place p at)
+        ∙ ap (λ b. (cond b [] (makes place ∷ adopts_if place p.parent) ++ others) ++ build_end d fs) (basic.only_objects place p at)
+        ∙ ap (λ items. makes place ∷ items) (append_assoc (adopts_if place p.parent) others (build_end d fs))
         ∙ ap (λ found. makes place ∷ adopts_of place found ++ build_from d (suc place) fs) (sym at)
 
     without_peer : peer_for d w p ≡ Ok None
@@ -155,9 +155,9 @@ module _ (d : Definition) (basic : IsBasic d) where
         ∙ ap (λ (taken : Answer (Option ℕ)). uncounted rest n (taken >>= λ peer. making d w place peer true >>= λ m. starts m.world (m.tasks ++ Building (build_behind d place fs) ∷ []))) without_peer
         ∙ sym (below rest n (build_behind d place fs) (making d w place None true))
 
-pub no_place : (d : Definition) (w : World) (place : ℕ) → slice_get d.places place ≡ None → making d w place None true ≡ Err arms.Code
+pub no_place : (d : Definition) (w : World) (place : ℕ) (held : Bool) → slice_get d.places place ≡ None → making d w place None held ≡ Err arms.Code
 unfolding making
-no_place d w place none = rw none refl
+no_place d w place held none = rw none refl
 
 -- the forward references of an object stand before those of the objects behind it
 pub forwards_before : (d : Definition) → IsBasic d → (place : ℕ) (p : Place) → slice_get d.places place ≡ Some p
@@ -165,12 +165,12 @@ pub forwards_before : (d : Definition) → IsBasic d → (place : ℕ) (p : Plac
 forwards_before d basic place p at =
     let others = forward_items (suc place) (drop (suc place) d.places) in
     ap (forward_items place) (drop_at d.places place p at)
-    ∙ ap (λ b. cond b [] (flat_map (forward_of place) p.given) ++ others) (basic.prototypes place p at)
+    ∙ ap (λ b. cond b [] (flat_map (forward_of place) p.given) ++ others) (basic.only_objects place p at)
     ∙ ap (λ (found : Option Place). forwards_of_place place found ++ others) (sym at)
 
 -- where all objects are made, the forward references are left
-pub only_forwards : (d : Definition) (place : ℕ) (fs : List Forward) → length d.places ≤ place → build_from d place fs ≡ map item_of fs
-only_forwards d place fs past = ap (λ ps. made_items place ps ++ map item_of fs) (drop_past d.places place past)
+pub only_forwards : (d : Definition) (place : ℕ) (fs : List Forward) → length d.places ≤ place → build_from d place fs ≡ build_end d fs
+only_forwards d place fs past = ap (λ ps. made_items place ps ++ build_end d fs) (drop_past d.places place past)
 
 pub no_more_forwards : (d : Definition) (place : ℕ) → length d.places ≤ place → forward_items place (drop place d.places) ≡ []
 no_more_forwards d place past = ap (forward_items place) (drop_past d.places place past)

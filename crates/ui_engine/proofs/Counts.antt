@@ -38,7 +38,9 @@ use Rattle.machine_laws.specs.GoneLaws.{pruned}
 use Rattle.machine_laws.proofs.GoneProofs.{hold_as}
 use Rattle.ui_engine.proofs.Left.{same_agenda}
 use Rattle.signal_core.specs.Connected.{Connected}
-use Rattle.ui_engine.specs.Counting.{OnlyCounts, Counts, KeepsCounts, in_emitted, in_subject, nothing}
+use Rattle.ui_machine.specs.State.Handlers.{Handler}
+use Rattle.ui_engine.specs.BegunView.{AllBegun, HasBegun}
+use Rattle.ui_engine.specs.Counting.{OnlyCounts, Connects, Counts, KeepsCounts, in_emitted, in_subject, nothing}
 use Rattle.ui_engine.proofs.Floats.{if_ok_at, bind_ok}
 
 -- two changes of counts alone
@@ -190,14 +192,44 @@ module _ (d : Definition) (m : Marks) (t n : Store) (id slot : ℕ) (v : Value) 
 
 -- ** the engine
 
+-- the same handlers and tasks, and what may be connected to them
+pub stays : (d : Definition) (e new : Engine) → new.world.handlers ≡ e.world.handlers → new.stack ≡ e.stack → Connects d e → Connects d new
+stays d e new handlers stack h = record {
+  most = ap (λ (c : Connected). c.most) handlers ∙ h.most;
+  to_come = ap (λ (c : Connected). c.to_come) handlers ∙ h.to_come;
+  begun =
+      subst (λ (c : Connected). AllBegun c.last new.stack) (sym handlers)
+      (subst (λ (s : Stack). AllBegun e.world.handlers.last s) (sym stack) h.begun);
+}
+
+-- nothing but the list of handlers differs
+pub only_list : (hs old : Connected) (l : List Handler) → hs ≡ record old { handlers = l } → hs ≡ record old { handlers = hs.handlers }
+only_list hs old l is = is ∙ ap (λ (k : List Handler). record old { handlers = k }) (sym (ap (λ (c : Connected). c.handlers) is))
+
+-- some of the handlers, as they stand or blocked, and what may be connected to them
+pub handled : (d : Definition) (e new : Engine) (hs : Connected) → new.world.handlers ≡ hs → hs ≡ record e.world.handlers { handlers = hs.handlers } → new.stack ≡ e.stack
+    → Connects d e → Connects d new
+handled d e new hs is only stack h = record {
+  most = ap (λ (c : Connected). c.most) (is ∙ only) ∙ h.most;
+  to_come = ap (λ (c : Connected). c.to_come) (is ∙ only) ∙ h.to_come;
+  begun =
+      subst (λ (last : ℕ). AllBegun last new.stack) (sym (ap (λ (c : Connected). c.last) (is ∙ only)))
+      (subst (λ (s : Stack). AllBegun e.world.handlers.last s) (sym stack) h.begun);
+}
+
+-- the same handlers with other tasks
+pub restacked : (d : Definition) (e : Engine) (s : Stack) → ((last : ℕ) → AllBegun last e.stack → AllBegun last s) → Connects d e → Connects d (record e { stack = s })
+restacked d e s begun h = record { most = h.most; to_come = h.to_come; begun = begun e.world.handlers.last h.begun }
+
 module _ (d : Definition) (e new : Engine) where
-  pub keeps_by : new.world.weak ≡ e.world.weak
+  pub keeps_by : new.world.weak ≡ e.world.weak → (Connects d e → Connects d new)
       → ((taken : ℕ → ℕ) → Knows d e.world.weak → Exact d taken e.world.table (map held_of e.world.builder.items) (agenda_of d e)
       → Exact d taken new.world.table (map held_of new.world.builder.items) (agenda_of d new))
       → KeepsCounts d e new
-  keeps_by weak moves = record {
+  keeps_by weak connects moves = record {
     at = λ taken h. record {
       knows = subst (λ (m : Marks). Knows d m) (sym weak) h.knows;
+      connects = connects h.connects;
       exact = moves taken h.knows h.exact;
     };
   }
@@ -208,7 +240,7 @@ keeps_on d e f new p q = record { at = λ taken h. q.at taken (p.at taken h) }
 -- a line more, another result or another count of steps moves nothing
 pub keeps_same : (d : Definition) (e new : Engine) → new.world.table ≡ e.world.table → new.world.weak ≡ e.world.weak
     → new.world.builder ≡ e.world.builder → new.stack ≡ e.stack → new.world.handlers ≡ e.world.handlers → KeepsCounts d e new
-keeps_same d e new table weak builder stack handlers = keeps_by d e new weak (λ taken _ h.
+keeps_same d e new table weak builder stack handlers = keeps_by d e new weak (stays d e new handlers stack) (λ taken _ h.
     subst (λ (t : Store). Exact d taken t (map held_of new.world.builder.items) (agenda_of d new)) (sym table)
     (subst (λ (ts : List Task). Exact d taken e.world.table (map held_of new.world.builder.items) ts) (sym (same_agenda d e new stack handlers))
     (subst (λ bs. Exact d taken e.world.table (map held_of bs.items) (agenda_of d e)) (sym builder) h)))
@@ -223,7 +255,7 @@ pub keeps_changed : (d : Definition) (e : Engine) (t : Store) → t ≡ with_obj
     → ((o : ℕ) → total (in_object d o) t.objects ≡ total (in_object d o) e.world.table.objects)
     → KeepsCounts d e (record e { world = record e.world { table = t } })
 keeps_changed d e t beside alike =
-    keeps_by d e (record e { world = record e.world { table = t } }) refl
+    keeps_by d e (record e { world = record e.world { table = t } }) refl (stays d e _ refl refl)
     (λ taken _ h. objects_alike d taken e.world.table t (map held_of e.world.builder.items) (agenda_of d e) beside alike h)
 
 -- the same of a change that answers
@@ -265,10 +297,11 @@ config_same d e t only =
     ∙ ap (λ floating. record (config_of d e) { world = record (world_of e.world) { floating = floating } }) only.floating
 
 -- a task that was taken off counts on
-pub taken_off : (d : Definition) (e : Engine) (s : Stack) (t : Task) → agenda_of d e ≡ t ∷ tasks_of d e.world.handlers.handlers s → Counts d nothing e
-    → Counts d (λ o. in_task o t) (record e { stack = s })
-taken_off d e s t first h = record {
+pub taken_off : (d : Definition) (e : Engine) (s : Stack) (t : Task) → agenda_of d e ≡ t ∷ tasks_of d e.world.handlers.handlers s
+    → ((last : ℕ) → AllBegun last e.stack → AllBegun last s) → Counts d nothing e → Counts d (λ o. in_task o t) (record e { stack = s })
+taken_off d e s t first begun h = record {
   knows = h.knows;
+  connects = restacked d e s begun h.connects;
   exact = λ o. omega (arith, h.exact o, ap (λ (ts : List Task). total (in_task o) ts) first);
 }
 
@@ -278,6 +311,7 @@ pub given_back : (d : Definition) (e : Engine) (t : Store) (gone : ℕ → ℕ) 
     → Counts d nothing (record e { world = record e.world { table = t } })
 given_back d e t gone only counts h = record {
   knows = h.knows;
+  connects = stays d e _ refl refl h.connects;
   exact = λ o.
       let objects : total (in_object d o) t.objects ≡ total (in_object d o) e.world.table.objects = ap (total (in_object d o)) only.objects in
       let floats : total (same o) t.floating ≡ total (same o) e.world.table.floating = ap (total (same o)) only.floating in
@@ -285,9 +319,11 @@ given_back d e t gone only counts h = record {
 }
 
 -- another stack of the same tasks
-pub same_tasks : (d : Definition) (e : Engine) (s : Stack) → tasks_of d e.world.handlers.handlers s ≡ agenda_of d e → Counts d nothing e → Counts d nothing (record e { stack = s })
-same_tasks d e s is h = record {
+pub same_tasks : (d : Definition) (e : Engine) (s : Stack) → tasks_of d e.world.handlers.handlers s ≡ agenda_of d e
+    → ((last : ℕ) → AllBegun last e.stack → AllBegun last s) → Counts d nothing e → Counts d nothing (record e { stack = s })
+same_tasks d e s is begun h = record {
   knows = h.knows;
+  connects = restacked d e s begun h.connects;
   exact = λ o. omega (arith, h.exact o, ap (λ (ts : List Task). total (in_task o) ts) is);
 }
 
@@ -296,10 +332,11 @@ none_of : (o : ℕ) → count_of [] o ≡ 0
 none_of zero = refl
 none_of (suc o) = refl
 
-pub none_counted : (d : Definition) (e : Engine) (m : Marks) → Knows d m → e.world.weak ≡ m → e.world.table.counts ≡ [] → world_of e.world ≡ said d (first_world d []) lines.build
+pub none_counted : (d : Definition) (e : Engine) (m : Marks) → Knows d m → Connects d e → e.world.weak ≡ m → e.world.table.counts ≡ [] → world_of e.world ≡ said d (first_world d []) lines.build
     → agenda_of d e ≡ [] → Counts d nothing e
-none_counted d e m knows marks counts world idle = record {
+none_counted d e m knows connects marks counts world idle = record {
   knows = subst (λ (w : Marks). Knows d w) (sym marks) knows;
+  connects = connects;
   exact = λ o.
       let none : count_of e.world.table.counts o ≡ 0 = ap (λ cs. count_of cs o) counts ∙ none_of o in
       let same : mentions d (config_of d e) o ≡ 0 =
@@ -318,10 +355,12 @@ finds_mentioned d e h =
 
 -- what is finalised held what it let go of; its handlers hold nothing
 pub keeps_finalised : (d : Definition) (e : Engine) (t : Store) (hs : Connected) (w : World) (gone : ℕ → Bool) (id n : ℕ) → (Knows d e.world.weak → Finalises d id e.world.table t)
+    → hs ≡ record e.world.handlers { handlers = hs.handlers }
     → w ≡ record (record e.world { table = t; handlers = hs }) { transcript = w.transcript } → tasks_of d hs.handlers e.stack ≡ map (pruned gone) (agenda_of d e)
     → KeepsCounts d e (record e { world = w; counted = n })
-keeps_finalised d e t hs w gone id n finalises is left =
-    keeps_by d e (record e { world = w; counted = n }) (ap (λ (v : World). v.weak) is) (λ taken knows h.
+keeps_finalised d e t hs w gone id n finalises only is left =
+    keeps_by d e (record e { world = w; counted = n }) (ap (λ (v : World). v.weak) is)
+    (λ h. handled d e (record e { world = w; counted = n }) hs (ap (λ (v : World). v.handlers) is) only refl h) (λ taken knows h.
     let b = map held_of e.world.builder.items in
     let a = agenda_of d e in
     let after = from_counted d taken t b a (finalise_exact d (beside_of taken b a) e.world.table t id (finalises knows) (to_counted d taken e.world.table b a h)) in
@@ -335,15 +374,16 @@ with_table e t = record e { world = record e.world { table = t } }
 
 -- as much is held beside
 pub taken_alike : (d : Definition) (e : Engine) (more less : ℕ → ℕ) → ((o : ℕ) → more o ≡ less o) → Counts d more e → Counts d less e
-taken_alike d e more less alike h = record { knows = h.knows; exact = λ o. omega (arith, h.exact o, alike o) }
+taken_alike d e more less alike h = record { knows = h.knows; connects = h.connects; exact = λ o. omega (arith, h.exact o, alike o) }
 
 -- the rest of an emission goes on with what it was given, and holds its object
 pub pushed_rest : (d : Definition) (e : Engine) (t : Store) (s : Stack) (taken : ℕ → ℕ) (m : Emission) (entries : List PlanEntry) → OnlyCounts e.world.table t
     → ((o : ℕ) → count_of t.counts o ≡ count_of e.world.table.counts o + same o m.object)
-    → tasks_of d e.world.handlers.handlers s ≡ Emitting m entries ∷ agenda_of d e
+    → tasks_of d e.world.handlers.handlers s ≡ Emitting m entries ∷ agenda_of d e → (AllBegun e.world.handlers.last e.stack → AllBegun e.world.handlers.last s)
     → Counts d (λ o. taken o + in_emitted o m) e → Counts d taken (record e { world = record e.world { table = t }; stack = s })
-pushed_rest d e t s taken m entries only counts first h = record {
+pushed_rest d e t s taken m entries only counts first begun h = record {
   knows = h.knows;
+  connects = record { most = h.connects.most; to_come = h.connects.to_come; begun = begun h.connects.begun };
   exact = λ o.
       let objects : total (in_object d o) t.objects ≡ total (in_object d o) e.world.table.objects = ap (total (in_object d o)) only.objects in
       let floats : total (same o) t.floating ≡ total (same o) e.world.table.floating = ap (total (same o)) only.floating in
@@ -356,6 +396,7 @@ pub less_held : (d : Definition) (e : Engine) (t : Store) (more left gone : ℕ 
     → Counts d more e → Counts d left (record e { world = record e.world { table = t } })
 less_held d e t more left gone only counts parts h = record {
   knows = h.knows;
+  connects = stays d e _ refl refl h.connects;
   exact = λ o.
       let objects : total (in_object d o) t.objects ≡ total (in_object d o) e.world.table.objects = ap (total (in_object d o)) only.objects in
       let floats : total (same o) t.floating ≡ total (same o) e.world.table.floating = ap (total (same o)) only.floating in

@@ -94,14 +94,17 @@ module _ (d : Definition) (w : World) (id n : ℕ) (detail : Option (List ℕ)) 
   pub detail_unheard : (arm : Arm) → asked w.objects id (λ o. Ok o.class) ≡ Err arm → detail_in d w id n detail ≡ Err arm
   detail_unheard arm h = detail_by (Err arm) h
 
-  module _ (class : ℕ) (of : asked w.objects id (λ o. Ok o.class) ≡ Ok class) where
-    pub detail_unknown : signal_of d class n ≡ None → detail_in d w id n detail ≡ Err arms.Code
-    unfolding detail_at signal_at
-    detail_unknown none = detail_by (Ok class) of ∙ ap (λ (s : Option Signal). known arms.Code s >>= λ s. standing d class n s detail) none
+  pub detail_heard : (class : ℕ) → asked w.objects id (λ o. Ok o.class) ≡ Ok class → detail_in d w id n detail ≡ detail_at d class n detail
+  detail_heard class of = detail_by (Ok class) of
 
-    pub detail_known : (s : Signal) → signal_of d class n ≡ Some s → detail_in d w id n detail ≡ standing d class n s detail
-    unfolding detail_at signal_at
-    detail_known s some = detail_by (Ok class) of ∙ ap (λ (s : Option Signal). known arms.Code s >>= λ s. standing d class n s detail) some
+module _ (d : Definition) (class n : ℕ) (detail : Option (List ℕ)) where
+  pub detail_unknown : signal_of d class n ≡ None → detail_at d class n detail ≡ Err arms.Code
+  unfolding detail_at signal_at
+  detail_unknown none = ap (λ (s : Option Signal). known arms.Code s >>= λ s. standing d class n s detail) none
+
+  pub detail_known : (s : Signal) → signal_of d class n ≡ Some s → detail_at d class n detail ≡ standing d class n s detail
+  unfolding detail_at signal_at
+  detail_known s some = ap (λ (s : Option Signal). known arms.Code s >>= λ s. standing d class n s detail) some
 
 -- where the property that a name names is not found, nothing stands
 pub finds_name : (halt : Halt) (a : Answer (List ℕ)) (b : Answer (Option (List ℕ))) → b ≡ (a >>= λ name. Ok (Some name)) → Stops halt a → Stops halt b

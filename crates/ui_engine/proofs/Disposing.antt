@@ -34,7 +34,7 @@ use Rattle.ui_engine.specs.TaskView.{agenda_of, tasks_of}
 use Rattle.ui_engine.specs.View.{held_of, world_of}
 use Rattle.ui_engine.specs.declared.engine.Engine.{Engine}
 use Rattle.ui_engine.specs.declared.world.World as code
-use Rattle.ui_engine.proofs.Counts.{Exact, beside_of, from_counted, keeps_by, to_counted}
+use Rattle.ui_engine.proofs.Counts.{Exact, beside_of, from_counted, handled, keeps_by, to_counted}
 use Rattle.ui_engine.proofs.ObjectSteps.{dispose_stuck, disposes}
 use Rattle.ui_engine.proofs.Pushed.{count_pushed, world_pushed}
 use Rattle.ui_engine.proofs.Starting.{started_left}
@@ -69,10 +69,12 @@ module _ (d : Definition) (v : code.World) (id : ℕ) where
 
 -- what is disposed held what it let go of; its handlers hold nothing
 pub keeps_disposed : (d : Definition) (e : Engine) (t : Store) (hs : Connected) (w : code.World) (gone : ℕ → Bool) (id : ℕ) → (Knows d e.world.weak → Disposes d id e.world.table t)
+    → hs ≡ record e.world.handlers { handlers = hs.handlers }
     → w ≡ record (record e.world { table = t; handlers = hs }) { transcript = w.transcript } → tasks_of d hs.handlers e.stack ≡ map (pruned gone) (agenda_of d e)
     → KeepsCounts d e (record e { world = w })
-keeps_disposed d e t hs w gone id disposes is left =
-    keeps_by d e (record e { world = w }) (ap (λ (v : code.World). v.weak) is) (λ taken knows h.
+keeps_disposed d e t hs w gone id disposes only is left =
+    keeps_by d e (record e { world = w }) (ap (λ (v : code.World). v.weak) is)
+    (λ h. handled d e (record e { world = w }) hs (ap (λ (v : code.World). v.handlers) is) only refl h) (λ taken knows h.
     let b = map held_of e.world.builder.items in
     let a = agenda_of d e in
     let after = from_counted d taken t b a (dispose_exact d (beside_of taken b a) e.world.table t id (disposes knows) (to_counted d taken e.world.table b a h)) in

@@ -219,9 +219,10 @@ module _ (gone : ℕ → Bool) (keeps : Handler → Bool) where
     task_alike (tasks.Emitting cursor args by_event) = ap (Emitting (emission_of cursor args.items by_event)) (entries_alike cursor hs left)
     task_alike (tasks.Running frame) = refl
     task_alike (tasks.Thawing id slots) = refl
-    task_alike (tasks.Constructing id steps) = refl
+    task_alike (tasks.Constructing id steps held) = refl
     task_alike (tasks.Building place forwards) = refl
     task_alike (tasks.Adopting place forwards) = refl
+    task_alike (tasks.Connecting place number) = refl
     task_alike (tasks.Carrying event) = refl
 
     all_alike : (ts : List code.Task) → map (pruned gone) (map (task_of d hs) ts) ≡ map (task_of d (filter keeps hs)) ts

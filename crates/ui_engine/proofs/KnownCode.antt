@@ -1,6 +1,6 @@
 -- The kinds that an instruction names are known, wherever a program takes it.
-use Rattle.std.proofs.Common.{◌≡◌, ℕ, zero, suc, List, [], ◌∷◌, Option, None, Some, option_map, option_and_then, slice_get, refl, sym, ap, subst, ◌∙◌, arith}
-use Rattle.std.specs.Prelude.{All}
+use Rattle.std.proofs.Common.{◌≡◌, ℕ, zero, suc, false, List, [], ◌∷◌, Option, None, Some, option_map, option_and_then, slice_get, refl, sym, ap, subst, ◌∙◌, arith}
+use Rattle.std.specs.Prelude.{All, IfSome}
 use Rattle.std.proofs.lemmas.Option.{slice_get-map}
 use Rattle.ui_machine.specs.Definition.Programs as words
 use Rattle.ui_machine.specs.Definition.Types.{GType}
@@ -17,7 +17,8 @@ use Rattle.handler_code.specs.declared.program.Block.{Block}
 use Rattle.handler_code.specs.declared.program.Program.{Program}
 use Rattle.handler_code.specs.Computing.{HasKnownKind, instruction_of}
 use Rattle.handler_code.specs.FrameView.{Taken, taken_in, taken_of}
-use Rattle.handler_code.specs.Known.{HasKnownBlocks, HasKnownCode, HasKnownKinds}
+use Rattle.handler_code.specs.Known.{HasKnownBlocks, HasKnownCode, HasKnownKinds, IsKnownInstruction}
+use Rattle.handler_code.specs.Later.{is_later}
 use Rattle.handler_code.specs.View.{block_view, instruction_view, program_view}
 use Rattle.builder_defs.specs.Meaning.{IsKnownKind}
 
@@ -31,6 +32,10 @@ all_get P (y ∷ ys) (suc i) x p h = all_get P ys i x (λ k d less. p (suc k) d 
 abbrev KnownWord : List GType → words.Instruction → Type 0
 KnownWord types (words.convert to from kind) = IsKnownKind types kind
 KnownWord types _ = Unit {0}
+
+-- and it is one that programs have
+abbrev IsKnownWord : List GType → words.Instruction → Type 0
+IsKnownWord types word = KnownWord types word × (is_later word ≡ false)
 
 module _ (types : List GType) where
   seen_kind : (kind : Kind) → IsKnown types kind → IsKnownKind types (kind_view kind)
@@ -89,39 +94,46 @@ module _ (types : List GType) where
   seen_instruction (instructions.Compute to c) h = seen_computation c to.0 h
   seen_instruction _ h = tt
 
+  -- the kind of a result
+  pub known_result : (result : Option Kind) → IfSome result (λ k. IsKnown types k) → IfSome (option_map kind_view result) (IsKnownKind types)
+  known_result None h = tt
+  known_result (Some kind) h = seen_kind kind h
+
   -- of the instruction at a place of a block
-  of_code : (b : Block) (at : ℕ) (word : words.Instruction) → HasKnownCode types b → slice_get (block_view b).code at ≡ Some word → KnownWord types word
+  of_code : (b : Block) (at : ℕ) (word : words.Instruction) → HasKnownCode types b → slice_get (block_view b).code at ≡ Some word → IsKnownWord types word
   of_code b at word known is = by (slice_get b.code.items at) refl (sym (slice_get-map instruction_view b.code.items at) ∙ is)
     where
-      by : (found : Option Instruction) → slice_get b.code.items at ≡ found → option_map instruction_view found ≡ Some word → KnownWord types word
+      by : (found : Option Instruction) → slice_get b.code.items at ≡ found → option_map instruction_view found ≡ Some word → IsKnownWord types word
       by None there e = absurd (cc e)
       by (Some i) there e =
           let same : instruction_view i ≡ word = cc e in
-          subst (KnownWord types) same (seen_instruction i (all_get (λ i. HasKnownKinds types i) b.code.items at i known there))
+          let of = all_get (λ i. IsKnownInstruction types i) b.code.items at i known there in
+          subst (IsKnownWord types) same (seen_instruction i of.0, of.1)
 
   of_block : (p : Program) (n at : ℕ) (block : words.Block) (word : words.Instruction) → HasKnownBlocks types p → slice_get (program_view p).blocks n ≡ Some block
-      → slice_get block.code at ≡ Some word → KnownWord types word
+      → slice_get block.code at ≡ Some word → IsKnownWord types word
   of_block p n at block word known there is = by (slice_get p.blocks.items n) refl (sym (slice_get-map block_view p.blocks.items n) ∙ there)
     where
-      by : (found : Option Block) → slice_get p.blocks.items n ≡ found → option_map block_view found ≡ Some block → KnownWord types word
+      by : (found : Option Block) → slice_get p.blocks.items n ≡ found → option_map block_view found ≡ Some block → IsKnownWord types word
       by None none e = absurd (cc e)
       by (Some b) some e =
           let same : block ≡ block_view b = cc e in
-          of_code b at word (all_get (λ b. HasKnownCode types b) p.blocks.items n b known some) (subst (λ (x : words.Block). slice_get x.code at ≡ Some word) same is)
+          of_code b at word (all_get (λ b. HasKnownCode types b) p.blocks.items n b known.0 some) (subst (λ (x : words.Block). slice_get x.code at ≡ Some word) same is)
 
   -- an instruction that a frame takes
   pub taken_known : (p : Program) (f g : config.Frame) (i : Instruction) → HasKnownBlocks types p
-      → taken_in (program_view p) f ≡ Some (record { instruction = instruction_view i; frame = g }) → HasKnownKinds types i
+      → taken_in (program_view p) f ≡ Some (record { instruction = instruction_view i; frame = g }) → IsKnownInstruction types i
   taken_known p f g i known is = by (slice_get (program_view p).blocks f.block) refl is
     where
       in_code : (block : words.Block) → slice_get (program_view p).blocks f.block ≡ Some block → (found : Option words.Instruction) → slice_get block.code (in_pass block f).at ≡ found
-          → ◌≡◌ {A = Option Taken} (option_map (λ w. record { instruction = w; frame = past (in_pass block f) }) found) (Some (record { instruction = instruction_view i; frame = g })) → HasKnownKinds types i
+          → ◌≡◌ {A = Option Taken} (option_map (λ w. record { instruction = w; frame = past (in_pass block f) }) found) (Some (record { instruction = instruction_view i; frame = g })) → IsKnownInstruction types i
       in_code block there None at e = absurd (cc e)
       in_code block there (Some word) at e =
           let taken : ◌≡◌ {A = Taken} (record { instruction = word; frame = past (in_pass block f) }) (record { instruction = instruction_view i; frame = g }) = cc e in
           let same : word ≡ instruction_view i = ap (λ (t : Taken). t.instruction) taken in
-          instruction_seen i (subst (KnownWord types) same (of_block p f.block (in_pass block f).at block word known there at))
+          let of = subst (IsKnownWord types) same (of_block p f.block (in_pass block f).at block word known there at) in
+          (instruction_seen i of.0, of.1)
 
-      by : (block : Option words.Block) → slice_get (program_view p).blocks f.block ≡ block → option_and_then (taken_of f) block ≡ Some (record { instruction = instruction_view i; frame = g }) → HasKnownKinds types i
+      by : (block : Option words.Block) → slice_get (program_view p).blocks f.block ≡ block → option_and_then (taken_of f) block ≡ Some (record { instruction = instruction_view i; frame = g }) → IsKnownInstruction types i
       by None none e = absurd (cc e)
       by (Some block) there e = in_code block there (slice_get block.code (in_pass block f).at) refl e

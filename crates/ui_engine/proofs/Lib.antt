@@ -15,11 +15,14 @@ pub mod Counts
 pub mod Notified
 pub mod Parts
 pub mod Turns
+pub mod TurnStages
+pub mod TurnTaking
 pub mod Details
 pub mod Values
 pub mod Emits
 pub mod Registers
 pub mod Programs
+pub mod ProgramStarts
 pub mod KnownCode
 pub mod Jumping
 pub mod Operands
@@ -35,6 +38,11 @@ pub mod Gone
 pub mod SameTurns
 pub mod Connections
 pub mod Stops
+pub mod Signals
+pub mod HandlerAdded
+pub mod ConnectSteps
+pub mod Collecting
+pub mod Returning
 pub mod Calling
 pub mod Whole
 pub mod Reaching
@@ -46,3 +54,4 @@ pub mod Stepping
 pub mod Beginning
 pub mod Serving
 pub mod Forwarded
+pub mod NoPrototypes

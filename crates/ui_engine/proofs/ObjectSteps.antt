@@ -76,23 +76,18 @@ module _ (d : Definition) (w : World) (f : Frame) (to : ℕ) (id : List ℕ) whe
         ap (λ (o : Option ℕ). known arms.Code o >>= λ place. known arms.Code (place_at d place) >>= names_at place) is
         ∙ ap (λ (o : Option Place). known arms.Code o >>= names_at place) at
 
-    -- what stands at the place, as code has it
-    module _ {A : Type 0} (view : A → Place) (found : Option A) (at : option_map view found ≡ place_at d place) where
-      pub name_nowhere : is_some found ≡ false → naming d w f to id ≡ Err arms.Code
-      name_nowhere none = by found none at
-        where
-          by : (o : Option A) → is_some o ≡ false → option_map view o ≡ place_at d place → naming d w f to id ≡ Err arms.Code
-          by None none at = names_of None (sym at)
-          by (Some x) none at = cc none
+    pub name_nowhere : place_at d place ≡ None → naming d w f to id ≡ Err arms.Code
+    name_nowhere none = names_of None none
 
-      pub names : is_some found ≡ true → ((x : A) → (view x).is_prototype ≡ false) → naming d w f to id ≡ gives w to (values.object (identity_held (held_at w place))) f
-      names some plain = by found some at
-        where
-          by : (o : Option A) → is_some o ≡ true → option_map view o ≡ place_at d place → naming d w f to id ≡ gives w to (values.object (identity_held (held_at w place))) f
-          by None some at = cc some
-          by (Some x) some at =
-              names_of (Some (view x)) (sym at) ∙ ap (λ b. only_if (not b) arms.Code (gives w to (or_null (object_held (held_at w place))) f)) (plain x)
-              ∙ ap (λ (v : Value). gives w to v f) (held_value (held_at w place))
+    module _ (p : Place) (at : place_at d place ≡ Some p) where
+      names_so : (b : Bool) → p.is_prototype ≡ b → naming d w f to id ≡ only_if (not b) arms.Code (gives w to (or_null (object_held (held_at w place))) f)
+      names_so b so = names_of (Some p) at ∙ ap (λ c. only_if (not c) arms.Code (gives w to (or_null (object_held (held_at w place))) f)) so
+
+      pub name_prototype : p.is_prototype ≡ true → naming d w f to id ≡ Err arms.Code
+      name_prototype so = names_so true so
+
+      pub names : p.is_prototype ≡ false → naming d w f to id ≡ gives w to (values.object (identity_held (held_at w place))) f
+      names so = names_so false so ∙ ap (λ (v : Value). gives w to v f) (held_value (held_at w place))
 
 -- ** what floats, and freezes
 

@@ -29,7 +29,7 @@ use Rattle.ui_engine.specs.TaskView.{agenda_of}
 use Rattle.ui_engine.specs.View.{held_of, world_of}
 use Rattle.ui_engine.specs.declared.engine.Engine.{Engine}
 use Rattle.ui_engine.proofs.Adopting.{adopt_stops, adopts, adopts_somewhere}
-use Rattle.ui_engine.proofs.Counts.{Alike, beside_of, from_counted, keeps_by, sunk_exact, taken_alike, to_counted, with_table}
+use Rattle.ui_engine.proofs.Counts.{Alike, beside_of, from_counted, keeps_by, sunk_exact, taken_alike, to_counted, with_table, stays}
 use Rattle.ui_engine.proofs.Left.{same_agenda}
 use Rattle.ui_engine.proofs.Registers.{stops_left}
 use Rattle.ui_engine.proofs.Starting.{goes_then, stops_as, stops_elsewhere, written_elsewhere}
@@ -63,7 +63,7 @@ pub sunk_world : (e : Engine) (t : Store) (id : ℕ) → Sinks id e.world.table 
 sunk_world e t id sinks = ap (λ (s : Store). record (world_of e.world) { objects = s.objects; floating = s.floating }) sinks.beside
 
 pub sunk_keeps : (d : Definition) (e : Engine) (t : Store) (id : ℕ) → Sinks id e.world.table t → KeepsCounts d e (with_table e t)
-sunk_keeps d e t id sinks = keeps_by d e (with_table e t) refl (λ taken _ h. sunk_exact d taken e.world.table t (map held_of e.world.builder.items) (agenda_of d e) id sinks h)
+sunk_keeps d e t id sinks = keeps_by d e (with_table e t) refl (stays d e (with_table e t) refl refl) (λ taken _ h. sunk_exact d taken e.world.table t (map held_of e.world.builder.items) (agenda_of d e) id sinks h)
 
 -- other objects
 pub objects_world : (e : Engine) (t : Store) → t ≡ with_objects e.world.table t.objects → world_of (with_table e t).world ≡ config.with_objects (world_of e.world) t.objects
@@ -95,7 +95,7 @@ module _ (e : Engine) (t : Store) (parent child : ℕ) (leaves : Leaves parent c
       ∙ ap (λ floating. record (world_of e.world) { objects = updated (with_parent None) child (updated (without_child child) parent e.world.table.objects); floating = floating }) leaves.floating
 
   pub left_keeps : (d : Definition) → KeepsCounts d e (with_table e t)
-  left_keeps d = keeps_by d e (with_table e t) refl (λ taken _ h.
+  left_keeps d = keeps_by d e (with_table e t) refl (stays d e (with_table e t) refl refl) (λ taken _ h.
       let b = map held_of e.world.builder.items in
       let a = agenda_of d e in
       from_counted d taken t b a (leave_exact d (beside_of taken b a) e.world.table t parent child leaves (to_counted d taken e.world.table b a h)))

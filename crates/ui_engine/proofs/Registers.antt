@@ -1,4 +1,6 @@
 -- What the registers of a program hold as one is written, and the results that programs take.
+use Rattle.ui_engine.specs.BegunView.{AllBegun}
+use Rattle.ui_engine.proofs.Counts.{stays, restacked}
 use Rattle.std.proofs.Common.{◌≡◌, ◌∙◌, refl, sym, ap, ℕ, ◌+◌, Bool, true, false, nat_lt, length, List, [], ◌∷◌, Option, None, Result, Ok, Err, zero, suc, arith}
 use Rattle.std.specs.Prelude.{OnOk}
 use Rattle.ui_machine.specs.declared.arm.Arm.TheVariants as arms
@@ -62,18 +64,20 @@ passes_by d hs (tasks.Notifying id slot) rest v other = refl
 passes_by d hs (tasks.Beginning emission) rest v other = refl
 passes_by d hs (tasks.Emitting cursor args by_event) rest v other = refl
 passes_by d hs (tasks.Thawing id slots) rest v other = refl
-passes_by d hs (tasks.Constructing id steps) rest v other = refl
+passes_by d hs (tasks.Constructing id steps held) rest v other = refl
 passes_by d hs (tasks.Building place forwards) rest v other = refl
 passes_by d hs (tasks.Adopting place forwards) rest v other = refl
+passes_by d hs (tasks.Connecting place number) rest v other = refl
 passes_by d hs (tasks.Carrying event) rest v other = refl
 
 -- ** counts
 
 -- the rest of a program goes on to hold what its registers name
 pub pushed_frame : (d : Definition) (e : Engine) (s : Stack) (taken : ℕ → ℕ) (f : Frame) → tasks_of d e.world.handlers.handlers s ≡ Running f ∷ agenda_of d e
-    → Counts d (λ o. taken o + in_frame o f) e → Counts d taken (record e { stack = s })
-pushed_frame d e s taken f first h = record {
+    → ((last : ℕ) → AllBegun last e.stack → AllBegun last s) → Counts d (λ o. taken o + in_frame o f) e → Counts d taken (record e { stack = s })
+pushed_frame d e s taken f first begun h = record {
   knows = h.knows;
+  connects = restacked d e s begun h.connects;
   exact = λ o. omega (arith, h.exact o, ap (λ (ts : List Task). total (in_task o) ts) first);
 }
 
@@ -90,6 +94,7 @@ pub register_moved : (d : Definition) (e : Engine) (t : Store) (taken before aft
     → Counts d (λ o. taken o + before o) e → Counts d (λ o. taken o + after o) (record e { world = record e.world { table = t } })
 register_moved d e t taken before after only counts h = record {
   knows = h.knows;
+  connects = stays d e _ refl refl h.connects;
   exact = λ o.
       let objects : total (in_object d o) t.objects ≡ total (in_object d o) e.world.table.objects = ap (total (in_object d o)) only.objects in
       let floats : total (same o) t.floating ≡ total (same o) e.world.table.floating = ap (total (same o)) only.floating in
@@ -102,19 +107,22 @@ unfolding received_by
 receive_stops f rest to v halt s = stops_on halt (with_register to v f.registers) (λ new. Ok (Running (record f { into = None; registers = new }) ∷ rest)) s
 
 -- other tasks that hold the same
-pub stack_same : (d : Definition) (e : Engine) (s : Stack) → tasks_of d e.world.handlers.handlers s ≡ agenda_of d e → KeepsCounts d e (record e { stack = s })
-stack_same d e s same_tasks = record {
+pub stack_same : (d : Definition) (e : Engine) (s : Stack) → tasks_of d e.world.handlers.handlers s ≡ agenda_of d e
+    → ((last : ℕ) → AllBegun last e.stack → AllBegun last s) → KeepsCounts d e (record e { stack = s })
+stack_same d e s same_tasks begun = record {
   at = λ taken h. record {
     knows = h.knows;
+    connects = restacked d e s begun h.connects;
     exact = λ o. omega (arith, h.exact o, ap (λ (ts : List Task). total (in_task o) ts) same_tasks);
   };
 }
 
 -- a program that was taken off
 pub popped_frame : (d : Definition) (e : Engine) (s : Stack) (taken : ℕ → ℕ) (f : Frame) → agenda_of d e ≡ Running f ∷ tasks_of d e.world.handlers.handlers s
-    → Counts d taken e → Counts d (λ o. taken o + in_frame o f) (record e { stack = s })
-popped_frame d e s taken f first h = record {
+    → ((last : ℕ) → AllBegun last e.stack → AllBegun last s) → Counts d taken e → Counts d (λ o. taken o + in_frame o f) (record e { stack = s })
+popped_frame d e s taken f first begun h = record {
   knows = h.knows;
+  connects = restacked d e s begun h.connects;
   exact = λ o. omega (arith, h.exact o, ap (λ (ts : List Task). total (in_task o) ts) first);
 }
 

@@ -1,5 +1,10 @@
 -- Handlers that change without another turn: they are blocked or free, or were connected after an emission began.
-use Rattle.std.proofs.Common.{◌≡◌, ◌∙◌, refl, sym, ap, append_assoc, ℕ, ◌++◌, Bool, true, false, cond, map, List, [], ◌∷◌, reverse}
+use Rattle.std.proofs.Common.{◌≡◌, ◌<◌, ◌≤◌, ◌∙◌, ◌&&◌, not, nat_le, nat_lt, refl, sym, ap, append_assoc, ℕ, ◌++◌, Bool, true, false, cond, map, List, [], ◌∷◌, reverse, arith}
+use Rattle.std.proofs.lemmas.Bool.Decides.{nat_tests}
+use Rattle.std.proofs.lemmas.List.Elements.{All-cons, All-head, All-nil, All-tail}
+use Rattle.std.specs.Prelude.{All}
+use Rattle.ui_machine.specs.Rules.EmissionPlan.{runs_for}
+use Rattle.ui_engine.specs.BegunView.{AllBegun, HasBegun}
 use Rattle.std.specs.List.{flat_map, filter}
 use Rattle.ui_machine.specs.Definition.{Definition}
 use Rattle.ui_machine.specs.Definition.Properties.{has_flags}
@@ -83,9 +88,10 @@ module _ (d : Definition) (hs ks : List Handler) where
   task_same (tasks.Emitting cursor args by_event) is = ap (Emitting (emission_of cursor args.items by_event)) is
   task_same (tasks.Running frame) is = refl
   task_same (tasks.Thawing id slots) is = refl
-  task_same (tasks.Constructing id steps) is = refl
+  task_same (tasks.Constructing id steps held) is = refl
   task_same (tasks.Building place forwards) is = refl
   task_same (tasks.Adopting place forwards) is = refl
+  task_same (tasks.Connecting place number) is = refl
   task_same (tasks.Carrying event) is = refl
 
   all_same : (ts : List code.Task) → OfEmissions Same ts → map (task_of d hs) ts ≡ map (task_of d ks) ts
@@ -141,10 +147,76 @@ module _ (d : Definition) (change : Handler → Handler) (only : OnlyBlocks chan
       by (tasks.Beginning e) = tt
       by (tasks.Running frame) = tt
       by (tasks.Thawing id slots) = tt
-      by (tasks.Constructing id steps) = tt
+      by (tasks.Constructing id steps held) = tt
       by (tasks.Building place forwards) = tt
       by (tasks.Adopting place forwards) = tt
+      by (tasks.Connecting place number) = tt
       by (tasks.Carrying event) = tt
 
   pub blocks_same : (s : Stack) → tasks_of d (map change hs) s ≡ tasks_of d hs s
   blocks_same s = tasks_same d (map change hs) hs s (all_turns s.tasks.items)
+
+-- ** a handler more
+
+-- one that is connected after an emission began has no turn in it
+module _ (w : Walk) (h : Handler) (later : w.greatest < h.number) (given : ℕ) (after : Bool) (stage : ℕ → Stage) where
+  not_ahead : is_ahead w given after h ≡ false
+  not_ahead = by (nat_lt given h.number)
+    where
+      too_great : nat_le h.number w.greatest ≡ false
+      too_great = grind (arith, nat_tests)
+
+      by : (b : Bool) → ((b && nat_le h.number w.greatest) && (runs_for w.object w.signal w.detail h && cond after h.after (not h.after))) ≡ false
+      by true = ap (λ x. x && (runs_for w.object w.signal w.detail h && cond after h.after (not h.after))) too_great
+      by false = refl
+
+  ahead_without : (hs : List Handler) → filter (is_ahead w given after) (hs ++ h ∷ []) ≡ filter (is_ahead w given after) hs
+  ahead_without [] = ap (λ b. cond b (h ∷ []) []) not_ahead
+  ahead_without (k ∷ hs) = ap (λ l. cond (is_ahead w given after k) (k ∷ l) l) (ahead_without hs)
+
+  later_same : (hs : List Handler) → entries (of_handlers w given after stage (hs ++ h ∷ [])) ≡ entries (of_handlers w given after stage hs)
+  later_same hs = ap (λ l. entries (map (of_handler stage) l)) (ahead_without hs)
+
+-- the tasks stay
+module _ (d : Definition) (h : Handler) (hs : List Handler) (last : ℕ) (later : last < h.number) where
+  begun_turns : (ts : List code.Task) → All (HasBegun last) ts → OfEmissions (Same d (hs ++ h ∷ []) hs) ts
+  begun_turns [] begun = tt
+  begun_turns (t ∷ ts) begun = (by t (All-head (HasBegun last) t ts begun), begun_turns ts (All-tail (HasBegun last) t ts begun))
+    where
+      by : (t : code.Task) → HasBegun last t → OfEmission (Same d (hs ++ h ∷ []) hs) t
+      by (tasks.Emitting cursor args by_event) begun =
+          entries_same cursor (hs ++ h ∷ []) hs (λ given after stage. later_same cursor h (omega (arith, later, begun)) given after stage hs)
+      by (tasks.Setting id slot v) begun = tt
+      by (tasks.Notifying id slot) begun = tt
+      by (tasks.Beginning e) begun = tt
+      by (tasks.Running frame) begun = tt
+      by (tasks.Thawing id slots) begun = tt
+      by (tasks.Constructing id steps held) begun = tt
+      by (tasks.Building place forwards) begun = tt
+      by (tasks.Adopting place forwards) begun = tt
+      by (tasks.Connecting place number) begun = tt
+      by (tasks.Carrying event) begun = tt
+
+  pub connected_same : (s : Stack) → AllBegun last s → tasks_of d (hs ++ h ∷ []) s ≡ tasks_of d hs s
+  connected_same s begun = tasks_same d (hs ++ h ∷ []) hs s (begun_turns s.tasks.items begun)
+
+-- what was begun with numbers up to one was so with numbers up to a greater one
+pub begun_more : (last more : ℕ) → last ≤ more → (s : Stack) → AllBegun last s → AllBegun more s
+begun_more last more few s begun = all_more s.tasks.items begun
+  where
+    one_more : (t : code.Task) → HasBegun last t → HasBegun more t
+    one_more (tasks.Emitting cursor args by_event) begun = let b : cursor.greatest ≤ last = begun in omega (arith, few, b)
+    one_more (tasks.Setting id slot v) begun = tt
+    one_more (tasks.Notifying id slot) begun = tt
+    one_more (tasks.Beginning e) begun = tt
+    one_more (tasks.Running frame) begun = tt
+    one_more (tasks.Thawing id slots) begun = tt
+    one_more (tasks.Constructing id steps held) begun = tt
+    one_more (tasks.Building place forwards) begun = tt
+    one_more (tasks.Adopting place forwards) begun = tt
+    one_more (tasks.Connecting place number) begun = tt
+    one_more (tasks.Carrying event) begun = tt
+
+    all_more : (ts : List code.Task) → All (HasBegun last) ts → All (HasBegun more) ts
+    all_more [] begun = All-nil (HasBegun more)
+    all_more (t ∷ ts) begun = All-cons (HasBegun more) t ts (one_more t (All-head (HasBegun last) t ts begun)) (all_more ts (All-tail (HasBegun last) t ts begun))

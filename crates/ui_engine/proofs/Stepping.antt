@@ -39,9 +39,10 @@ asks_none d hs w (tasks.Beginning emission) rest = refl
 asks_none d hs w (tasks.Emitting cursor args by_event) rest = refl
 asks_none d hs w (tasks.Running frame) rest = refl
 asks_none d hs w (tasks.Thawing id slots) rest = refl
-asks_none d hs w (tasks.Constructing id steps) rest = refl
+asks_none d hs w (tasks.Constructing id steps held) rest = refl
 asks_none d hs w (tasks.Building place forwards) rest = refl
 asks_none d hs w (tasks.Adopting place forwards) rest = refl
+asks_none d hs w (tasks.Connecting place number) rest = refl
 asks_none d hs w (tasks.Carrying event) rest = refl
 
 -- turns that are left out weigh nothing

@@ -1,4 +1,6 @@
 -- What a stop leaves of an emission, and of the tasks.
+use Rattle.ui_engine.specs.BegunView.{AllBegun}
+use Rattle.ui_engine.proofs.Counts.{restacked}
 use Rattle.std.proofs.Common.{◌≡◌, ◌∙◌, refl, sym, ap, subst, ℕ, ◌++◌, Bool, true, false, cond, map, nat_eq, List, [], ◌∷◌, Option, None, Some, arith}
 use Rattle.std.specs.List.{filter}
 use Rattle.std.proofs.lemmas.List.Elements.{filter-append}
@@ -95,7 +97,7 @@ module _ (w : Walk) (hs : List Handler) where
   stop_at stages.Over = refl
 
 -- where it stands and what it has accumulated make no difference to the turns from a stage on
-turns_alike : (w : Walk) (hs : List Handler) (at stage : Stage) (v : Option Value) → turns_from at (record w { stage = stage; value = v }) hs ≡ turns_from at w hs
+pub turns_alike : (w : Walk) (hs : List Handler) (at stage : Stage) (v : Option Value) → turns_from at (record w { stage = stage; value = v }) hs ≡ turns_from at w hs
 turns_alike w hs stages.First stage v = refl
 turns_alike w hs stages.Transfers stage v = refl
 turns_alike w hs (stages.Before given) stage v = refl
@@ -139,9 +141,10 @@ module _ (d : Definition) (hs : List Handler) where
   stops_none (tasks.Beginning e) rest other = refl
   stops_none (tasks.Running frame) rest other = refl
   stops_none (tasks.Thawing id slots) rest other = refl
-  stops_none (tasks.Constructing id steps) rest other = refl
+  stops_none (tasks.Constructing id steps held) rest other = refl
   stops_none (tasks.Building place forwards) rest other = refl
   stops_none (tasks.Adopting place forwards) rest other = refl
+  stops_none (tasks.Connecting place number) rest other = refl
   stops_none (tasks.Carrying event) rest other = refl
 
 -- a stop changes what no task holds
@@ -162,9 +165,11 @@ stopped_holds d o (config.Building items ∷ rest) = refl
 stopped_holds d o (config.Carrying request ∷ rest) = refl
 stopped_holds d o (config.Due source ∷ rest) = refl
 
-pub stop_counts : (d : Definition) (e mid : Engine) (taken : ℕ → ℕ) → mid ≡ record e { stack = mid.stack } → agenda_of d mid ≡ machine.stopped (agenda_of d e) → Counts d taken e → Counts d taken mid
-stop_counts d e mid taken beside is h = subst (λ (x : Engine). Counts d taken x) (sym beside) (record {
+pub stop_counts : (d : Definition) (e mid : Engine) (taken : ℕ → ℕ) → mid ≡ record e { stack = mid.stack } → agenda_of d mid ≡ machine.stopped (agenda_of d e)
+    → ((last : ℕ) → AllBegun last e.stack → AllBegun last mid.stack) → Counts d taken e → Counts d taken mid
+stop_counts d e mid taken beside is begun h = subst (λ (x : Engine). Counts d taken x) (sym beside) (record {
   knows = h.knows;
+  connects = restacked d e mid.stack begun h.connects;
   exact = λ o.
       let same_tasks : tasks_of d e.world.handlers.handlers mid.stack ≡ machine.stopped (agenda_of d e) = ap (λ (x : Engine). tasks_of d x.world.handlers.handlers mid.stack) (sym beside) ∙ is in
       omega (arith, h.exact o, ap (λ (ts : List Task). total (in_task o) ts) same_tasks, stopped_holds d o (agenda_of d e));

@@ -8,6 +8,7 @@ use Rattle.ui_engine.specs.declared.engine.Engine.{Engine}
 use Rattle.instances.specs.Weak.{Knows}
 use Rattle.ui_machine.specs.Seq.{total}
 use Rattle.ui_engine.specs.View.{world_of}
+use Rattle.ui_engine.specs.BegunView.{AllBegun}
 use Rattle.ui_engine.specs.EngineView.{config_of}
 use Rattle.ui_engine.specs.TaskView.{agenda_of}
 
@@ -16,10 +17,18 @@ pub record OnlyCounts (old new : Store) : Type 0 where
   pub objects : new.objects ≡ old.objects
   pub floating : new.floating ≡ old.floating
 
+-- Bytecode may connect as many handlers as the definition says, the builder's numbers are not kept apart, and the emissions that go on take
+-- no handler that is connected later.
+pub record Connects (d : Definition) (e : Engine) : Type 0 where
+  pub most : e.world.handlers.most ≡ d.most_handlers
+  pub to_come : e.world.handlers.to_come ≡ 0
+  pub begun : AllBegun e.world.handlers.last e.stack
+
 -- Each object is counted as often as it is mentioned, and so often more as is said: so much holds a task that was taken off and is not done yet.
--- It is known which properties are weak.
+-- It is known which properties are weak, and what may be connected.
 pub record Counts (d : Definition) (taken : ℕ → ℕ) (e : Engine) : Type 0 where
   pub knows : Knows d e.world.weak
+  pub connects : Connects d e
   pub exact : (o : ℕ) → count_of e.world.table.counts o ≡ mentions d (config_of d e) o + taken o
 
 -- what the builder holds is counted at least so often

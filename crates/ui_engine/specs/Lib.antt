@@ -1,3 +1,4 @@
+pub mod CollectView
 pub mod EmitView
 pub mod GivenView
 pub mod HandlersView
@@ -9,9 +10,13 @@ pub mod View
 pub mod MakingView
 pub mod LineView
 pub mod TaskView
+pub mod BegunView
+pub mod ConnectView
+pub mod TurnView
 pub mod Measure
 pub mod EngineView
 pub mod Standing
 pub mod Counting
 pub mod Stepping
 pub mod SessionView
+pub mod Groups

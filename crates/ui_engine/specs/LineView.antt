@@ -12,6 +12,7 @@ line_view (code.Set object property value) = lines.set object.0 property.now (va
 line_view (code.Refused object property value) = lines.refused object.0 property.now (value_view value.now)
 line_view (code.Notify object property) = lines.notify object.0 property.now
 line_view (code.Emit object signal detail args) = lines.emit object.0 signal.now (option_map (λ d. d.now) detail) (map value_view args.now)
+line_view (code.Run program) = lines.run program.now
 line_view (code.Get object property value) = lines.get object.0 property.now (value_view value.now)
 line_view (code.Limit word) = lines.limit word.now
 line_view (code.Adopt parent child) = lines.adopt parent.0 child.0

@@ -3,11 +3,11 @@ use Rattle.std.specs.Prelude.{ℕ, suc, Bool, true, List, [], ◌∷◌, ◌++�
 use Rattle.std.specs.List.{flat_map}
 use Rattle.ui_machine.specs.Definition as machine
 use Rattle.ui_machine.specs.Definition.Lookups.{place_at}
-use Rattle.ui_machine.specs.Definition.Places.{Place}
+use Rattle.ui_machine.specs.Definition.Places.{Attached, Place}
 use Rattle.ui_machine.specs.State.Tasks as config
 use Rattle.ui_machine.specs.Rules.EmissionPlan.{new_emission}
 use Rattle.ui_machine.specs.State.Handlers.{Handler}
-use Rattle.ui_machine.specs.Rules.Build.{made_items, adopts_if, forward_of}
+use Rattle.ui_machine.specs.Rules.Build.{made_items, adopts_if, connected_items, forward_of, numbered}
 use Rattle.g_values.specs.View.{value_view}
 use Rattle.g_values.specs.declared.value.Value.{Value}
 use Rattle.signal_core.specs.Emission.{Walk, is_over, to_come}
@@ -38,9 +38,23 @@ forwards_of_place place (Some p) = flat_map (forward_of place) p.given
 abbrev pub forwards_at : machine.Definition → ℕ → List config.Item
 forwards_at d place = forwards_of_place place (place_at d place)
 
--- the build of the objects from a place on, and of these forward references
+-- the signals of the object at a place
+abbrev pub signals_of : Option Place → List Attached
+signals_of None = []
+signals_of (Some p) = p.signals
+
+-- the items that connect the signals of an object from one on, and of all objects behind it
+abbrev pub connects_from : machine.Definition → (place number : ℕ) → List config.Item
+connects_from d place number =
+    numbered (config.connects place) number (drop number (signals_of (place_at d place))) ++ connected_items (suc place) (drop (suc place) d.places)
+
+-- what the build does once all objects stand: these forward references, and the signals of the objects
+abbrev pub build_end : machine.Definition → List Forward → List config.Item
+build_end d forwards = map item_of forwards ++ connected_items 0 d.places
+
+-- the build of the objects from a place on, and what comes behind them
 abbrev pub build_from : machine.Definition → ℕ → List Forward → List config.Item
-build_from d place forwards = made_items place (drop place d.places) ++ map item_of forwards
+build_from d place forwards = made_items place (drop place d.places) ++ build_end d forwards
 
 -- an object that was made becomes its parent's child, if it is one
 abbrev pub adopts_of : ℕ → Option Place → List config.Item
@@ -83,9 +97,10 @@ task_of d hs (tasks.Beginning e) = config.Beginning (new_of e)
 task_of d hs (tasks.Emitting cursor args by_event) = config.Emitting (emission_of cursor args.items by_event) (entries_to_come cursor hs)
 task_of d hs (tasks.Running frame) = config.Running (frame_view frame)
 task_of d hs (tasks.Thawing id slots) = config.Thawing id.0 slots
-task_of d hs (tasks.Constructing id steps) = config.Constructing id.0 steps true
+task_of d hs (tasks.Constructing id steps held) = config.Constructing id.0 steps held
 task_of d hs (tasks.Building place forwards) = config.Building (build_from d place forwards)
 task_of d hs (tasks.Adopting place forwards) = config.Building (config.adopts place ∷ build_from d (suc place) forwards)
+task_of d hs (tasks.Connecting place number) = config.Building (connects_from d place number)
 task_of d hs (tasks.Carrying event) = config.Carrying (request_of event)
 
 -- the tasks of a stack, the first task first

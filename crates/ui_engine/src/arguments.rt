@@ -4,7 +4,7 @@ ghost use Rattle.std.specs.Prelude.{◌≡◌, map, option_map, string_bytes};
 ghost use Rattle.std.specs.List.{AllByRecursion};
 ghost use Rattle.ui_machine.specs.Definition.Properties.{has_flags};
 ghost use Rattle.ui_machine.specs.Definition.Signals.{Signal};
-ghost use Rattle.ui_machine.specs.Rules.Connections.{detail_in};
+ghost use Rattle.ui_machine.specs.Rules.Connections.{detail_at, detail_in};
 ghost use Rattle.ui_machine.specs.Rules.Events.{given_values};
 ghost use Rattle.ui_machine.specs.Rules.Programs.{all_fit};
 ghost use Rattle.ui_machine.specs.Rules.Transform.{is_one, kind_fits};
@@ -24,8 +24,8 @@ use signal_core::SignalFlags;
 use type_tree::{TypeId, TypeTree};
 use ui_machine::{Arm, Halt, ObjectId};
 
-// Whether an object lives and its class is the type.
-fn is_of_type(table: &Table, types: &TypeTree, object: ObjectId, t: TypeId) -> bool
+/// Whether an object lives and its class is the type.
+pub(crate) fn is_of_type(table: &Table, types: &TypeTree, object: ObjectId, t: TypeId) -> bool
     ensures { result ≡ is_one types.now t (class_in table.now.objects object.0) }
 {
     match living_class(table, object) {
@@ -34,8 +34,8 @@ fn is_of_type(table: &Table, types: &TypeTree, object: ObjectId, t: TypeId) -> b
     }
 }
 
-// Whether a value is one of the kind: a member of the enum, or an object of the type.
-fn fits(table: &Table, types: &TypeTree, value: &Value, kind: Kind) -> bool
+/// Whether a value is one of the kind: a member of the enum, or an object of the type.
+pub(crate) fn fits(table: &Table, types: &TypeTree, value: &Value, kind: Kind) -> bool
     requires known { IsKnownKind types.now (kind_view kind) }
     ensures { result ≡ kind_fits (class_in table.now.objects) types.now (value_view value.now) (kind_view kind) }
 {
@@ -148,7 +148,23 @@ impl Engine {
         Ok(Some(name))
     }
 
-    /// A detail as it stands at a signal of an object, by the signal's number. The signal is detailed, and a detail of `notify` names a property.
+    /// A detail as it stands at a signal of a class, by the signal's number. The signal is detailed, and a detail of `notify` names a property.
+    pub(crate) fn detail_for(
+        &self,
+        definition: &Definition,
+        class: TypeId,
+        signal: u16,
+        detail: Option<&str>,
+    ) -> Result<Option<String>, Halt>
+        ensures { Finds detail_of result (detail_at definition.now class signal (option_map (λ text. text.now) detail.entry)) }
+    {
+        let Some(declared) = definition.signal(class, signal) else {
+            return Err(Halt::Stuck(Arm::Code));
+        };
+        self.detail_at(definition, class, signal, declared.flags, detail)
+    }
+
+    /// The same at a signal of an object.
     pub(crate) fn detail_in(
         &self,
         definition: &Definition,
@@ -159,9 +175,6 @@ impl Engine {
         ensures { Finds detail_of result (detail_in definition.now (world_of self.now.world) object.0 signal (option_map (λ text. text.now) detail.entry)) }
     {
         let class = self.world.table.class_of(object)?;
-        let Some(declared) = definition.signal(class, signal) else {
-            return Err(Halt::Stuck(Arm::Code));
-        };
-        self.detail_at(definition, class, signal, declared.flags, detail)
+        self.detail_for(definition, class, signal, detail)
     }
 }

@@ -4,6 +4,8 @@ ghost use Rattle.std.specs.Prelude.{◌≡◌, [], ◌∷◌, ◌++◌, codes, o
 ghost use Rattle.g_values.specs.View.{value_view};
 ghost use Rattle.ui_machine.specs.Definition as machine;
 ghost use Rattle.ui_machine.specs.Runs.{beginning, first_world};
+ghost use Rattle.ui_engine.specs.BegunView.{AllBegun, HasBegun};
+ghost use Rattle.signal_core.specs.Connected.{none_connected};
 ghost use Rattle.ui_engine.specs.View.{world_of};
 ghost use Rattle.ui_engine.specs.TaskView.{task_in, agenda_of};
 ghost use Rattle.ui_engine.specs.EngineView.{config_of};
@@ -39,6 +41,8 @@ impl Engine {
         ensures world { (d : machine.Definition) → world_of result.world ≡ first_world d [] }
         ensures counts { result.world.table.counts ≡ [] }
         ensures marks { result.world.weak ≡ weak }
+        ensures handlers { result.world.handlers ≡ none_connected limits.handlers 0 }
+        ensures begun { AllBegun 0 result.stack }
         ensures idle { (d : machine.Definition) → agenda_of d result ≡ [] }
     {
         Engine {
@@ -59,6 +63,7 @@ impl Engine {
     // The task is all there is to do, and nothing of its dispatch is counted yet.
     fn begin(&mut self, definition: &Definition, task: Task) -> Result<(), AllocError>
         requires idle { agenda_of definition.now self.now ≡ [] }
+        requires begun { HasBegun self.now.world.handlers.last task }
         ensures counted { OnOk result (KeepsCounts definition.now self.old self.new) }
         ensures ok { OnOk result (config_of definition.now self.new ≡ beginning (world_of self.old.world) (task_in definition.now self.old task)) }
         ensures err { OnErr result ((world_of self.new.world).transcript ≡ (world_of self.old.world).transcript) }
@@ -84,6 +89,7 @@ impl Engine {
     /// Carries out a task with all that it leads to, and tells of its end.
     pub(crate) fn dispatch(&mut self, definition: &Definition, task: Task) -> Result<Reply, Halt>
         requires rests { IsAtRest definition.now self.now }
+        requires begun { HasBegun self.now.world.handlers.last task }
         ensures rests { OnOk result (IsAtRest definition.now self.new) }
         ensures carried { Carried result definition.now (beginning (world_of self.old.world) (task_in definition.now self.old task)) (world_of self.new.world) }
         ensures grows { IsPrefix (world_of self.old.world).transcript (world_of self.new.world).transcript }

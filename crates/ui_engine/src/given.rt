@@ -24,8 +24,8 @@ use ui_machine::{Arm, ObjectId};
 // The type that every object is.
 const G_OBJECT: u16 = 0;
 
-// An object as a value.
-fn object_value(object: ObjectId) -> Value
+/// An object as a value.
+pub(crate) fn object_value(object: ObjectId) -> Value
     ensures { value_view result ≡ values.object (Some object.0) }
 {
     Value::Object(TypeId::new(G_OBJECT), Some(object))

@@ -12,9 +12,10 @@ ghost use Rattle.ui_machine.specs.State.References.{in_option, in_register, in_v
 ghost use Rattle.g_values.specs.View.{value_view};
 ghost use Rattle.handler_code.specs.Computing.{registers_of};
 ghost use Rattle.instances.specs.Store.{id_of, count_of, may_hold_any, named_by};
+ghost use Rattle.ui_engine.specs.BegunView.{HasBegun};
 ghost use Rattle.ui_engine.specs.View.{world_of};
 ghost use Rattle.ui_engine.specs.TaskView.{task_of, task_in, agenda_of};
-ghost use Rattle.ui_engine.specs.Counting.{OnlyCounts, KeepsCounts, in_given, in_subject};
+ghost use Rattle.ui_engine.specs.Counting.{Connects, OnlyCounts, KeepsCounts, in_given, in_subject};
 
 use crate::engine::Engine;
 use crate::task::Task;
@@ -118,6 +119,7 @@ impl Task {
             Task::Constructing { object, .. } => Some(*object),
             Task::Building { .. } => None,
             Task::Adopting { .. } => None,
+            Task::Connecting { .. } => None,
             Task::Carrying(_) => None,
         }
     }
@@ -144,6 +146,17 @@ fn hold_registers(table: &mut Table, registers: &[Option<Value>]) -> Result<(), 
     Ok(())
 }
 
+/// Lets each object go that one of these registers names.
+pub(crate) fn let_go_registers(table: &mut Table, registers: &[Option<Value>])
+    requires held { (o : ℕ) → total (in_register o) (registers_of registers.now) ≤ count_of table.now.counts o }
+    ensures only { OnlyCounts table.old table.new }
+    ensures counts { (o : ℕ) → count_of table.new.counts o + total (in_register o) (registers_of registers.now) ≡ count_of table.old.counts o }
+{
+    for register in registers {
+        let_go_any(table, register_named(register));
+    }
+}
+
 // Holds what an emission holds beside its object, and what the registers of a program name.
 fn hold_given(table: &mut Table, task: &Task) -> Result<(), AllocError>
     ensures only { OnlyCounts table.old table.new }
@@ -159,6 +172,7 @@ fn hold_given(table: &mut Table, task: &Task) -> Result<(), AllocError>
         Task::Constructing { .. } => Ok(()),
         Task::Building { .. } => Ok(()),
         Task::Adopting { .. } => Ok(()),
+        Task::Connecting { .. } => Ok(()),
         Task::Carrying(_) => Ok(()),
     }
 }
@@ -176,11 +190,13 @@ fn hold_emitted(table: &mut Table, cursor: &Cursor, args: &[Value]) -> Result<()
 impl Engine {
     /// Puts a task before the others, which holds its objects from then on.
     pub(crate) fn push(&mut self, task: Task) -> Result<(), AllocError>
+        requires { HasBegun self.now.world.handlers.last task }
         ensures agenda { OnOk result ((d : machine.Definition) → agenda_of d self.new ≡ task_in d self.old task ∷ agenda_of d self.old) }
         ensures world { world_of self.new.world ≡ world_of self.old.world }
         ensures same { self.new.counted ≡ self.old.counted }
         ensures handlers { self.new.world.handlers ≡ self.old.world.handlers }
         ensures counted { OnOk result ((d : machine.Definition) → KeepsCounts d self.old self.new) }
+        ensures connects { OnOk result ((d : machine.Definition) → Connects d self.old → Connects d self.new) }
     {
         hold_any(&mut self.world.table, task.object())?;
         hold_given(&mut self.world.table, &task)?;

@@ -1,19 +1,23 @@
 //! Instructions: what each of them does.
 
-ghost use Rattle.std.specs.Prelude.{◌≡◌, Some, OnOk, OnErr};
+ghost use Rattle.std.specs.Prelude.{◌≡◌, false, Some, IfSome, OnOk, OnErr};
 ghost use Rattle.ui_machine.specs.Definition.Lookups.{program_at};
 ghost use Rattle.ui_machine.specs.Instructions.{instructed};
 ghost use Rattle.ui_machine.specs.Outcome.{Goes};
 ghost use Rattle.ui_machine.specs.Steps.{left};
+ghost use Rattle.g_values.specs.View.{IsKnown};
 ghost use Rattle.handler_code.specs.FrameView.{frame_view};
-ghost use Rattle.handler_code.specs.Known.{HasKnownKinds};
+ghost use Rattle.handler_code.specs.Known.{IsKnownInstruction};
+ghost use Rattle.handler_code.specs.Later.{is_later};
 ghost use Rattle.handler_code.specs.View.{instruction_view, program_view};
 ghost use Rattle.ui_engine.specs.View.{world_of};
 ghost use Rattle.ui_engine.specs.TaskView.{agenda_of};
 ghost use Rattle.ui_engine.specs.Counting.{Counts, in_frame, nothing};
 ghost use Rattle.ui_engine.specs.EngineView.{config_of};
+ghost use Rattle.ui_engine.specs.Groups.{ActsOnObjects, ActsOnSignals, DisconnectsNone};
 ghost use Rattle.ui_engine.specs.Standing.{GoesPruned};
 
+mod connecting;
 mod connections;
 mod emits;
 mod jumps;
@@ -21,6 +25,7 @@ mod objects;
 mod operands;
 mod properties;
 mod registers;
+mod returns;
 mod stops;
 
 use crate::engine::Engine;
@@ -40,7 +45,8 @@ impl Engine {
         instruction: &Instruction,
     ) -> Result<(), Halt>
         requires program { program_at definition.now (frame_view frame).program ≡ Some (program_view program.now) }
-        requires known { HasKnownKinds definition.now.types instruction.now }
+        requires known { IsKnownInstruction definition.now.types instruction.now }
+        requires result { IfSome program.now.result (IsKnown definition.now.types) }
         requires counted { Counts definition.now (λ o. in_frame o (frame_view frame)) self.now }
         ensures step { GoesPruned result
             (left self.old.counted (instructed definition.now (world_of self.old.world) (agenda_of definition.now self.old) (frame_view frame) (instruction_view instruction.now)))
@@ -57,7 +63,8 @@ impl Engine {
         }
     }
 
-    // Does what an instruction says that disconnects no handler: here, what touches registers alone, and where the program goes on.
+    // Does what an instruction says that disconnects no handler: here, what touches registers alone, and where the program goes on or that it
+    // ends.
     fn instruct(
         &mut self,
         definition: &Definition,
@@ -66,7 +73,9 @@ impl Engine {
         instruction: &Instruction,
     ) -> Result<(), Halt>
         requires program { program_at definition.now (frame_view frame).program ≡ Some (program_view program.now) }
-        requires known { HasKnownKinds definition.now.types instruction.now }
+        requires acts { DisconnectsNone instruction.now }
+        requires known { IsKnownInstruction definition.now.types instruction.now }
+        requires result { IfSome program.now.result (IsKnown definition.now.types) }
         requires counted { Counts definition.now (λ o. in_frame o (frame_view frame)) self.now }
         ensures step { Goes result
             (left self.old.counted (instructed definition.now (world_of self.old.world) (agenda_of definition.now self.old) (frame_view frame) (instruction_view instruction.now)))
@@ -89,6 +98,7 @@ impl Engine {
                 then_to,
                 else_to,
             } => self.branching_null(definition, program, frame, *on, *then_to, *else_to),
+            Instruction::Return(from) => self.returning(definition, program, frame, *from),
             _ => self.instruct_on_objects(definition, program, frame, instruction),
         }
     }
@@ -102,6 +112,8 @@ impl Engine {
         instruction: &Instruction,
     ) -> Result<(), Halt>
         requires program { program_at definition.now (frame_view frame).program ≡ Some (program_view program.now) }
+        requires acts { ActsOnObjects instruction.now }
+        requires later { is_later (instruction_view instruction.now) ≡ false }
         requires counted { Counts definition.now (λ o. in_frame o (frame_view frame)) self.now }
         ensures step { Goes result
             (left self.old.counted (instructed definition.now (world_of self.old.world) (agenda_of definition.now self.old) (frame_view frame) (instruction_view instruction.now)))
@@ -135,7 +147,7 @@ impl Engine {
         }
     }
 
-    // The instructions on signals and handlers. No definition has programs so far: no other instruction is carried out.
+    // The instructions on signals and handlers. The last one left is `new`: no definition has prototypes so far, so it names none.
     fn instruct_on_signals(
         &mut self,
         definition: &Definition,
@@ -144,6 +156,8 @@ impl Engine {
         instruction: &Instruction,
     ) -> Result<(), Halt>
         requires program { program_at definition.now (frame_view frame).program ≡ Some (program_view program.now) }
+        requires acts { ActsOnSignals instruction.now }
+        requires later { is_later (instruction_view instruction.now) ≡ false }
         requires counted { Counts definition.now (λ o. in_frame o (frame_view frame)) self.now }
         ensures step { Goes result
             (left self.old.counted (instructed definition.now (world_of self.old.world) (agenda_of definition.now self.old) (frame_view frame) (instruction_view instruction.now)))
@@ -151,7 +165,7 @@ impl Engine {
         ensures quiet { OnErr result ((world_of self.new.world).transcript ≡ (world_of self.old.world).transcript) }
         ensures counted { OnOk result (Counts definition.now nothing self.new) }
     {
-        // For the proof: what is known of a definition's programs.
+        // For the proof: what is known of a definition's places.
         let _types = definition.types();
         match instruction {
             Instruction::Stop => self.stopping(definition, frame),
@@ -170,6 +184,11 @@ impl Engine {
                 };
                 self.emitting_by_code(definition, frame, *object, emit)
             }
+            Instruction::Connect {
+                to,
+                object,
+                connection,
+            } => self.connecting_by_code(definition, frame, *to, *object, connection),
             Instruction::Block { object, program } => {
                 self.blocking(definition, frame, *object, program.as_str())
             }

@@ -6,6 +6,7 @@
 
 mod arguments;
 mod builder;
+mod connecting;
 mod counting;
 mod dispatches;
 mod engine;

@@ -47,6 +47,10 @@ pub enum Line<'a> {
         detail: Option<&'a str>,
         args: &'a [Value],
     },
+    /// A program begins.
+    Run {
+        program: &'a str,
+    },
     /// A property is read.
     Get {
         object: ObjectId,
@@ -118,6 +122,7 @@ impl Line<'_> {
                 detail,
                 args,
             } => emit_line(alloc, types, object.0, signal, detail, args),
+            Line::Run { program } => named_line(alloc, "run ", program),
             Line::Get {
                 object,
                 property,

@@ -4,6 +4,7 @@ ghost use Rattle.std.specs.Prelude.{◌≡◌, [], map, string_bytes, IfOk, IfEr
 ghost use Rattle.ui_machine.specs.Runs.{beginning};
 ghost use Rattle.builder_defs.specs.Meaning.{event_of};
 ghost use Rattle.ui_machine.specs.Prefix.{IsPrefix};
+ghost use Rattle.ui_engine.specs.BegunView.{HasBegun};
 ghost use Rattle.ui_engine.specs.TaskView.{task_of};
 ghost use Rattle.ui_engine.specs.SessionView.{AnswersEvent, Comes, building, carrying_out, without_lines};
 
@@ -147,6 +148,7 @@ impl Session {
     // Carries out a task with all that it leads to. Where that halts the session stops.
     fn carry_out(&mut self, task: Task) -> Result<Reply, SessionFault>
         requires goes_on { self.now.stopped ≡ false }
+        requires begun { HasBegun self.now.world.last_handler task }
         ensures comes { Comes result (carrying_out self.old.definition (beginning self.old.world (task_of self.old.definition self.old.world.handlers task))) self.old.definition self.new }
         ensures grows { IsPrefix self.old.world.transcript self.new.world.transcript }
     {

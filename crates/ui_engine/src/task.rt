@@ -1,6 +1,6 @@
 //! Tasks, and the stack of those that are left.
 
-ghost use Rattle.std.specs.Prelude.{◌≡◌, List, [], ◌∷◌, reverse, map, MatchOption, OnOk};
+ghost use Rattle.std.specs.Prelude.{◌≡◌, ℕ, List, [], ◌∷◌, reverse, map, IfSome, MatchOption, OnOk};
 ghost use Rattle.ui_machine.specs.Definition as machine;
 ghost use Rattle.ui_machine.specs.State.Tasks as config;
 ghost use Rattle.ui_machine.specs.State.Handlers.{Handler};
@@ -166,10 +166,12 @@ pub enum Task {
         object: ObjectId,
         slots: Slots,
     },
-    /// The rest of a construction, whose object the builder will hold.
+    /// The rest of a construction.
     Constructing {
         object: ObjectId,
         steps: Makings,
+        /// Whether the builder holds the object at its end.
+        held: bool,
     },
     /// The rest of the build: the objects from a place on, and then the forward references.
     Building {
@@ -181,6 +183,11 @@ pub enum Task {
     Adopting {
         place: usize,
         forwards: Forwards,
+    },
+    /// The signals of an object are connected from one on, and then those of the objects behind it.
+    Connecting {
+        place: usize,
+        number: usize,
     },
     /// An event is to be carried out.
     Carrying(Event),
@@ -195,11 +202,13 @@ pub struct Stack {
 impl Stack {
     ghost use Rattle.ui_machine.specs.Definition as machine;
     ghost use Rattle.ui_machine.specs.State.Handlers.{Handler};
+    ghost use Rattle.ui_engine.specs.BegunView.{AllBegun, HasBegun};
     ghost use Rattle.ui_engine.specs.TaskView.{task_of, tasks_of};
 
     /// Nothing to do.
     pub fn new(alloc: Global) -> Self
-        ensures { (d : machine.Definition) (hs : List Handler) → tasks_of d hs result ≡ [] }
+        ensures tasks { (d : machine.Definition) (hs : List Handler) → tasks_of d hs result ≡ [] }
+        ensures begun { (last : ℕ) → AllBegun last result }
     {
         Stack {
             tasks: Vec::new(alloc),
@@ -208,7 +217,8 @@ impl Stack {
 
     /// Puts a task before the others.
     pub fn push(&mut self, task: Task) -> Result<(), AllocError>
-        ensures { OnOk result ((d : machine.Definition) (hs : List Handler) → tasks_of d hs self.new ≡ task_of d hs task ∷ tasks_of d hs self.old) }
+        ensures tasks { OnOk result ((d : machine.Definition) (hs : List Handler) → tasks_of d hs self.new ≡ task_of d hs task ∷ tasks_of d hs self.old) }
+        ensures begun { OnOk result ((last : ℕ) → HasBegun last task → AllBegun last self.old → AllBegun last self.new) }
     {
         self.tasks.push(task)?;
         Ok(())
@@ -216,16 +226,19 @@ impl Stack {
 
     /// Takes the first task.
     pub fn pop(&mut self) -> Option<Task>
-        ensures { (d : machine.Definition) (hs : List Handler) → MatchOption result
+        ensures tasks { (d : machine.Definition) (hs : List Handler) → MatchOption result
             ((tasks_of d hs self.old ≡ []) × (tasks_of d hs self.new ≡ []))
             (λ task. tasks_of d hs self.old ≡ task_of d hs task ∷ tasks_of d hs self.new) }
+        ensures begun { (last : ℕ) → AllBegun last self.old → AllBegun last self.new }
+        ensures first { IfSome result (λ task. (last : ℕ) → AllBegun last self.old → HasBegun last task) }
     {
         self.tasks.pop()
     }
 
     /// Leaves nothing to do.
     pub fn clear(&mut self)
-        ensures { (d : machine.Definition) (hs : List Handler) → tasks_of d hs self.new ≡ [] }
+        ensures tasks { (d : machine.Definition) (hs : List Handler) → tasks_of d hs self.new ≡ [] }
+        ensures begun { (last : ℕ) → AllBegun last self.new }
     {
         self.tasks.clear();
     }

@@ -3,6 +3,7 @@
 ghost use Rattle.std.specs.Prelude.{◌≡◌, ◌∷◌, OnOk, OnErr, IfOk};
 ghost use Rattle.ui_machine.specs.State.References.{in_task};
 ghost use Rattle.ui_machine.specs.Steps.{act};
+ghost use Rattle.ui_engine.specs.BegunView.{HasBegun};
 ghost use Rattle.ui_engine.specs.View.{world_of};
 ghost use Rattle.ui_engine.specs.TaskView.{task_in, agenda_of};
 ghost use Rattle.ui_engine.specs.Counting.{Counts, in_subject};
@@ -12,12 +13,16 @@ ghost use Rattle.ui_engine.specs.Standing.{GoesPruned, come_first};
 mod builds;
 mod carrying;
 mod children;
+pub(crate) mod collections;
 pub(crate) mod emission;
 mod finalisation;
 pub(crate) mod forwards;
 mod notifications;
+pub(crate) mod programs;
 mod running;
 pub(crate) mod sets;
+mod signals;
+pub(crate) mod turns;
 
 use crate::engine::{Engine, Made};
 use crate::task::Task;
@@ -27,6 +32,7 @@ use ui_machine::Halt;
 impl Engine {
     // Does what a task says, and answers whether that was counted. An emission passes over what is blocked.
     pub(crate) fn act(&mut self, definition: &Definition, task: Task) -> Result<Made, Halt>
+        requires begun { HasBegun self.now.world.handlers.last task }
         requires counted { Counts definition.now (λ o. in_task o (task_in definition.now self.now task)) self.now }
         ensures step { GoesPruned result
             (act definition.now (world_of self.old.world) None
@@ -69,8 +75,12 @@ impl Engine {
                 self.thawing(definition, object, slots)?;
                 return Ok(Made::Uncounted);
             }
-            Task::Constructing { object, steps } => {
-                self.constructing(definition, object, steps)?;
+            Task::Constructing {
+                object,
+                steps,
+                held,
+            } => {
+                self.constructing(definition, object, steps, held)?;
                 return Ok(Made::Uncounted);
             }
             Task::Building { place, forwards } => {
@@ -79,6 +89,10 @@ impl Engine {
             }
             Task::Adopting { place, forwards } => {
                 self.adopting(definition, place, forwards)?;
+                return Ok(Made::Uncounted);
+            }
+            Task::Connecting { place, number } => {
+                self.connecting(definition, place, number)?;
                 return Ok(Made::Uncounted);
             }
             Task::Carrying(event) => {

@@ -142,7 +142,7 @@ fn reads(alloc: Global, types: &TypeTree, text: &str) -> Result<bool, Fail> {
     }
 }
 
-/// An instruction has its word and just its operands. Registers and blocks are there.
+/// An instruction has its word and just its operands. Registers and blocks are there. What nothing carries out yet is refused.
 #[test]
 fn reads_instructions(rt: HostRuntime) -> Result<(), Fail> {
     let alloc = rt.alloc();
@@ -169,8 +169,10 @@ fn reads_instructions(rt: HostRuntime) -> Result<(), Fail> {
             "[\"connect\",0,1,\"s\",null,\"p\",[\"before\"],null]",
             false,
         ),
-        ("[\"timeout\",0,\"p\",-1,4294967295,null]", true),
+        ("[\"timeout\",0,\"p\",-1,4294967295,null]", false),
         ("[\"timeout\",0,\"p\",-1,4294967296,null]", false),
+        ("[\"unbind\",\"link\"]", false),
+        ("[\"new\",0,\"a\"]", true),
         ("[\"if\",0,1,2]", true),
         ("[\"jump\",3]", false),
         ("[\"stop\"]", true),

@@ -14,7 +14,7 @@ use Rattle.builder_defs.specs.Causes.{abstract_class}
 use Rattle.builder_defs.specs.declared.fault.DefinitionLimit.TheVariants.{Places, Objects}
 use Rattle.builder_defs.specs.Meaning.{plain_place}
 use Rattle.builder_defs.specs.Refusals.{Refusal, shape, unknown, duplicate, bad_type, limit, or_refused}
-use Rattle.builder_defs.specs.Document.{under, members_at, text_at, entries_at, absent_at, nothing_at, only_at, each, at_entry}
+use Rattle.builder_defs.specs.Document.{under, members_at, text_at, entries_at, absent_at, only_at, each, at_entry}
 use Rattle.builder_defs.specs.Denoted.Names.{is_name}
 use Rattle.builder_defs.specs.Denoted.Entries.{ObjectNames}
 use Rattle.builder_defs.specs.Denoted.Given.{givens_at}
@@ -51,8 +51,7 @@ pub record Scope : Type 0 where
   pub most : ℕ
   pub names : ObjectNames
 
--- The object that an entry gives beside these, the child of the object at a place, if it is a child. It has no peer so far. A list of signals is
--- refused, unless it is empty, until there is something that runs programs.
+-- The object that an entry gives beside these, the child of the object at a place, if it is a child. It has no peer so far.
 unfoldable pub place_at : List ℕ → Scope → Option ℕ → List machine.Place → Data → Result machine.Place Refusal
 place_at path scope parent places d = do
   room ← room_for_object scope.most places
@@ -61,7 +60,6 @@ place_at path scope parent places d = do
   class ← class_at_key path scope.types d
   peer ← absent_at path d (codes "peer" ∷ [])
   given ← givens_at path scope.types scope.names (length places) (scope.specs class) d
-  bare ← nothing_at path d (codes "signals" ∷ [])
   signals ← all_attached path scope.programs scope.names d
   Ok (plain_place id class parent given signals)
 

@@ -12,7 +12,7 @@ use Rattle.handler_code.specs.Reading.Programs.{program_of}
 use Rattle.handler_code.specs.Reading.RegisterKinds.{Names}
 use Rattle.builder_defs.specs.declared.fault.DefinitionLimit.TheVariants.{Programs}
 use Rattle.builder_defs.specs.Refusals.{Refusal, shape, unknown, duplicate, bad_program, limit}
-use Rattle.builder_defs.specs.Document.{under, nth, escaped, members_at, text_at, entries_at, nothing_at, each, at_entry}
+use Rattle.builder_defs.specs.Document.{under, nth, escaped, members_at, text_at, entries_at, each, at_entry}
 use Rattle.builder_defs.specs.Denoted.Names.{is_name}
 use Rattle.builder_defs.specs.Denoted.Entries.{place_with_id}
 
@@ -84,9 +84,8 @@ program_at path names programs d = do
   program ← program_in path names programs d
   Ok (programs ++ program ∷ [])
 
--- The programs of a document with these types. A list of them is refused, unless it is empty, until there is something that runs them.
+-- the programs of a document with these types
 unfoldable pub programs_in : List GType → Data → Result (List Program) Refusal
 programs_in types d = do
-  unset ← nothing_at [] d (codes "programs" ∷ [])
   list ← entries_at [] d (codes "programs")
   each (at_entry (λ path. program_at path (code_names types d)) (under [] (codes "programs"))) 0 [] list

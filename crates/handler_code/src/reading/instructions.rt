@@ -2,13 +2,14 @@
 //!
 //! An instruction is a JSON array: a word, then its operands. A contract has one row for each word, with its operands in their order.
 
-ghost use Rattle.std.specs.Prelude.{IfOk};
+ghost use Rattle.std.specs.Prelude.{◌≡◌, IfOk, false};
 ghost use Rattle.serde_json.specs.View.{view};
 ghost use Rattle.handler_code.specs.View.{instruction_view};
-ghost use Rattle.handler_code.specs.Known.{HasKnownKinds};
+ghost use Rattle.handler_code.specs.Known.{HasKnownKinds, IsKnownInstruction};
+ghost use Rattle.handler_code.specs.Later.{is_later};
 ghost use Rattle.handler_code.specs.Reading.Operands.{Gives};
 ghost use Rattle.handler_code.specs.Reading.Scopes.{scope_view};
-ghost use Rattle.handler_code.specs.Reading.Words.{register_word, object_word, signal_word, source_word, jump_word, instruction_at};
+ghost use Rattle.handler_code.specs.Reading.Words.{register_word, object_word, signal_word, source_word, jump_word, unless_later, instruction_at};
 
 use crate::computation::Arithmetic;
 use crate::error::InstructionError;
@@ -38,7 +39,7 @@ use std::alloc::Global;
 /// kinds, is not tested here.
 ///
 /// `BadInstruction` where the value is no array, its first entry is no word, or its operands are not those of the word: too few, too many, or
-/// of another sort. `OutOfMemory` where a name, a text or a list can't be made.
+/// of another sort. `unbind`, `idle`, `timeout`, `remove` and `call` are BadInstruction too, since no program has them so far. `OutOfMemory` where a name, a text or a list can't be made.
 #[tactic(auto, unfolding(crate::specs::Reading::Words::instruction_at))]
 pub fn read_instruction(
     alloc: Global,
@@ -46,10 +47,38 @@ pub fn read_instruction(
     json: &Value,
 ) -> Result<Instruction, InstructionError>
     ensures read { Gives instruction_view result (instruction_at (scope_view scope.now) (view json.now)) }
-    ensures known { IfOk result (λ i. HasKnownKinds scope.now.types.now i) }
+    ensures known { IfOk result (λ i. IsKnownInstruction scope.now.types.now i) }
 {
     let word = text_at(json, 0)?;
-    read_register_word(alloc, scope, word, json)
+    let instruction = read_register_word(alloc, scope, word, json)?;
+    let instruction = unless_later(instruction)?;
+    Ok(instruction)
+}
+
+// Whether an instruction ends a binding, makes or ends a source, or calls a method of a peer.
+fn is_later(instruction: &Instruction) -> bool
+    ensures { result ≡ is_later (instruction_view instruction.now) }
+{
+    matches!(
+        instruction,
+        Instruction::Unbind(_)
+            | Instruction::Idle { .. }
+            | Instruction::Timeout { .. }
+            | Instruction::Remove(_)
+            | Instruction::Call { .. }
+    )
+}
+
+// An instruction, unless no program has such a one so far.
+fn unless_later(instruction: Instruction) -> Result<Instruction, InstructionError>
+    ensures read { Gives instruction_view result (unless_later (instruction_view instruction)) }
+    ensures same { IfOk result (λ i. i ≡ instruction) }
+    ensures now { IfOk result (λ i. is_later (instruction_view i) ≡ false) }
+{
+    if is_later(&instruction) {
+        return Err(InstructionError::BadInstruction);
+    }
+    Ok(instruction)
 }
 
 // Instructions on registers alone.

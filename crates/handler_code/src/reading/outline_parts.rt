@@ -1,11 +1,12 @@
 //! The members of a program's value and of its blocks, as JSON gives them.
 
-ghost use Rattle.std.specs.Prelude.{◌≡◌, [], map, not, option_copied, option_map, string_bytes};
+ghost use Rattle.std.specs.Prelude.{◌≡◌, [], All, IfOk, map, not, option_copied, option_map, string_bytes};
 ghost use Rattle.std.specs.List.{find, list_any};
 ghost use Rattle.std.specs.Str.{bytes_eq};
 ghost use Rattle.std.specs.BTreeMap.{keys};
 ghost use Rattle.serde_json.specs.View.{view, members_view};
 ghost use Rattle.serde_json.specs.Find.{as_array, as_object, as_str};
+ghost use Rattle.handler_code.specs.Known.{IsKnownRegister};
 ghost use Rattle.handler_code.specs.View.{register_kind_view};
 ghost use Rattle.handler_code.specs.Reading.RegisterKinds.{kind_fault, names_view, register_kind_in};
 ghost use Rattle.handler_code.specs.Reading.Each.{entries_of, each};
@@ -92,7 +93,8 @@ fn kind_there<'a>(
     part: ProgramPart<'a>,
     json: &'a Value,
 ) -> Result<RegisterKind, OutlineError<'a>>
-    ensures { Gives register_kind_view result (kind_there (part_view part.entry) (register_kind_in (names_view names.now) may_be_unset (as_str (view json.now)))) }
+    ensures kind { Gives register_kind_view result (kind_there (part_view part.entry) (register_kind_in (names_view names.now) may_be_unset (as_str (view json.now)))) }
+    ensures known { IfOk result (λ k. IsKnownRegister names.now.types.now k) }
 {
     match register_kind_in(names, may_be_unset, json) {
         Ok(kind) => Ok(kind),
@@ -108,7 +110,8 @@ fn kinds_of<'a>(
     part: ProgramPart<'a>,
     items: &'a [Value],
 ) -> Result<Vec<RegisterKind>, OutlineError<'a>>
-    ensures { Gives (λ v. map register_kind_view v.items) result (each (kind_step (names_view names.now) may_be_unset (part_view part.entry)) 0 [] (map view items.now)) }
+    ensures kinds { Gives (λ v. map register_kind_view v.items) result (each (kind_step (names_view names.now) may_be_unset (part_view part.entry)) 0 [] (map view items.now)) }
+    ensures known { IfOk result (λ v. All (λ k. IsKnownRegister names.now.types.now k) v.items) }
 {
     let mut kinds = Vec::new(alloc);
     'items: for (index, item) in items.iter().enumerate() {
@@ -128,7 +131,8 @@ pub(crate) fn kinds_at<'a>(
     registers: Option<usize>,
     json: Option<&'a Value>,
 ) -> Result<Vec<RegisterKind>, OutlineError<'a>>
-    ensures { Gives (λ v. map register_kind_view v.items) result (kinds_at (names_view names.now) may_be_unset (part_view part.entry) registers (option_map (λ v. view v.now) json.entry)) }
+    ensures kinds { Gives (λ v. map register_kind_view v.items) result (kinds_at (names_view names.now) may_be_unset (part_view part.entry) registers (option_map (λ v. view v.now) json.entry)) }
+    ensures known { IfOk result (λ v. All (λ k. IsKnownRegister names.now.types.now k) v.items) }
 {
     let items = entries_or_none(part, json)?;
     check_room(part, registers, items)?;

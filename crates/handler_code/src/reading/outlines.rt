@@ -1,9 +1,10 @@
 //! Reading what a program's value says beside its instructions.
 
-ghost use Rattle.std.specs.Prelude.{◌≡◌, [], IfOk, codes, map, option_and_then, option_map};
+ghost use Rattle.std.specs.Prelude.{◌≡◌, [], All, IfOk, IfSome, codes, map, option_and_then, option_map};
 ghost use Rattle.serde_json.specs.View.{view};
 ghost use Rattle.serde_json.specs.Find.{as_array, as_str, get};
-ghost use Rattle.g_values.specs.View.{kind_view};
+ghost use Rattle.g_values.specs.View.{kind_view, IsKnown};
+ghost use Rattle.handler_code.specs.Known.{IsKnownRegister};
 ghost use Rattle.handler_code.specs.View.{register_kind_view};
 ghost use Rattle.handler_code.specs.Reading.Views.{seen};
 ghost use Rattle.handler_code.specs.Reading.Operands.{named};
@@ -63,7 +64,8 @@ fn registers_at<'a>(json: &'a Value) -> Result<usize, OutlineError<'a>>
 
 // The kind of a result, by its word.
 fn result_word<'a>(types: &TypeTree, word: &'a str) -> Result<Option<Kind>, KindFault<'a>>
-    ensures { seen (option_map kind_view) kind_fault result ≡ result_word types.now word.now }
+    ensures kind { seen (option_map kind_view) kind_fault result ≡ result_word types.now word.now }
+    ensures known { IfOk result (λ kind. IfSome kind (λ k. IsKnown types.now k)) }
 {
     if word == "none" {
         return Ok(None);
@@ -76,7 +78,8 @@ fn result_word<'a>(types: &TypeTree, word: &'a str) -> Result<Option<Kind>, Kind
 
 // The kind of a result, if it is given.
 fn result_of<'a>(types: &TypeTree, json: Option<&'a Value>) -> Result<Option<Kind>, KindFault<'a>>
-    ensures { seen (option_map kind_view) kind_fault result ≡ result_of types.now (option_map (λ v. view v.now) json.entry) }
+    ensures kind { seen (option_map kind_view) kind_fault result ≡ result_of types.now (option_map (λ v. view v.now) json.entry) }
+    ensures known { IfOk result (λ kind. IfSome kind (λ k. IsKnown types.now k)) }
 {
     let Some(value) = json else {
         return Ok(None);
@@ -89,7 +92,8 @@ fn result_of<'a>(types: &TypeTree, json: Option<&'a Value>) -> Result<Option<Kin
 
 // The kind of what the program returns.
 fn result_at<'a>(types: &TypeTree, json: &'a Value) -> Result<Option<Kind>, OutlineError<'a>>
-    ensures { Gives (option_map kind_view) result (result_at types.now (view json.now)) }
+    ensures kind { Gives (option_map kind_view) result (result_at types.now (view json.now)) }
+    ensures known { IfOk result (λ kind. IfSome kind (λ k. IsKnown types.now k)) }
 {
     let part = ProgramPart::member_of(None, "result");
     match result_of(types, json.get("result")) {
@@ -225,7 +229,9 @@ pub(crate) fn read_outline<'a>(
     json: &'a Value,
     names: &Names<'_>,
 ) -> Result<Outline<'a>, OutlineError<'a>>
-    ensures { Gives outline_view result (outline_in (names_view names.now) (view json.now)) }
+    ensures read { Gives outline_view result (outline_in (names_view names.now) (view json.now)) }
+    ensures params { IfOk result (λ o. All (λ k. IsKnownRegister names.now.types.now k) o.params.items) }
+    ensures result { IfOk result (λ o. IfSome o.result (λ k. IsKnown names.now.types.now k)) }
 {
     let members = members_of(None, json)?;
     let name = name_at(json)?;

@@ -1,9 +1,10 @@
 //! Reading a program.
 
-ghost use Rattle.std.specs.Prelude.{◌≡◌, IfOk, None};
+ghost use Rattle.std.specs.Prelude.{◌≡◌, All, IfOk, IfSome, None};
 ghost use Rattle.serde_json.specs.View.{view};
 ghost use Rattle.handler_code.specs.View.{program_view};
-ghost use Rattle.handler_code.specs.Known.{HasKnownBlocks};
+ghost use Rattle.g_values.specs.View.{IsKnown};
+ghost use Rattle.handler_code.specs.Known.{HasKnownBlocks, IsKnownRegister};
 ghost use Rattle.handler_code.specs.Reading.RegisterKinds.{names_view};
 ghost use Rattle.handler_code.specs.Reading.Outline.{IsWellFormed, outline_in};
 ghost use Rattle.handler_code.specs.Reading.Outline as outlines;
@@ -29,6 +30,8 @@ fn program_of(
     outline: Outline<'_>,
     names: &Names<'_>,
 ) -> Result<Program, ProgramError>
+    requires params { All (λ k. IsKnownRegister names.now.types.now k) outline.params.items }
+    requires result { IfSome outline.result (λ k. IsKnown names.now.types.now k) }
     ensures read { Gives program_view result (program_of (names_view names.now) (outline_view outline.entry)) }
     ensures known { IfOk result (λ p. HasKnownBlocks names.now.types.now p) }
     ensures shaped { IfOk result (λ p. shape_fault (program_view p) ≡ None) }

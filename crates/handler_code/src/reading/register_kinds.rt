@@ -1,8 +1,9 @@
 //! Kinds of registers, by their words.
 
-ghost use Rattle.std.specs.Prelude.{◌≡◌};
+ghost use Rattle.std.specs.Prelude.{◌≡◌, IfOk};
 ghost use Rattle.serde_json.specs.View.{view};
 ghost use Rattle.serde_json.specs.Find.{as_str};
+ghost use Rattle.handler_code.specs.Known.{IsKnownRegister};
 ghost use Rattle.handler_code.specs.Reading.KindWords.{parted};
 ghost use Rattle.handler_code.specs.Reading.RegisterKinds.{names_view, kind_fault, place_in, register_kind_of, register_kind_by, register_kind, register_kind_in};
 ghost use Rattle.handler_code.specs.View.{register_kind_view};
@@ -34,7 +35,8 @@ fn kind_of_parts<'a>(
     sort: &str,
     name: &'a str,
 ) -> Result<RegisterKind, KindFault<'a>>
-    ensures { seen register_kind_view kind_fault result ≡ register_kind_of (names_view names.now) sort.now name.now }
+    ensures kind { seen register_kind_view kind_fault result ≡ register_kind_of (names_view names.now) sort.now name.now }
+    ensures known { IfOk result (λ k. IsKnownRegister names.now.types.now k) }
 {
     if sort == "some" {
         return match names.types.find_required(name) {
@@ -62,7 +64,8 @@ fn kind_of_parts<'a>(
 
 // The kind of a word that is not `unset`.
 fn kind_of_word<'a>(names: &Names<'_>, word: &'a str) -> Result<RegisterKind, KindFault<'a>>
-    ensures { seen register_kind_view kind_fault result ≡ register_kind_by (names_view names.now) word.now (parted word.now) }
+    ensures kind { seen register_kind_view kind_fault result ≡ register_kind_by (names_view names.now) word.now (parted word.now) }
+    ensures known { IfOk result (λ k. IsKnownRegister names.now.types.now k) }
 {
     if let Some((sort, name)) = parted(word) {
         return kind_of_parts(names, sort, name);
@@ -79,7 +82,8 @@ fn kind_or_unset<'a>(
     may_be_unset: bool,
     word: &'a str,
 ) -> Result<RegisterKind, KindFault<'a>>
-    ensures { seen register_kind_view kind_fault result ≡ register_kind (names_view names.now) may_be_unset word.now }
+    ensures kind { seen register_kind_view kind_fault result ≡ register_kind (names_view names.now) may_be_unset word.now }
+    ensures known { IfOk result (λ k. IsKnownRegister names.now.types.now k) }
 {
     if may_be_unset && word == "unset" {
         return Ok(RegisterKind::Unset);
@@ -93,7 +97,8 @@ pub(crate) fn register_kind_in<'a>(
     may_be_unset: bool,
     json: &'a Value,
 ) -> Result<RegisterKind, KindFault<'a>>
-    ensures { seen register_kind_view kind_fault result ≡ register_kind_in (names_view names.now) may_be_unset (as_str (view json.now)) }
+    ensures kind { seen register_kind_view kind_fault result ≡ register_kind_in (names_view names.now) may_be_unset (as_str (view json.now)) }
+    ensures known { IfOk result (λ k. IsKnownRegister names.now.types.now k) }
 {
     match json.as_str() {
         Some(word) => kind_or_unset(names, may_be_unset, word),

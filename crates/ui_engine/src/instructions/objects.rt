@@ -49,7 +49,10 @@ impl Engine {
             return Err(Halt::Stuck(Arm::Code));
         };
         let place = usize::from(place.0);
-        if definition.object(place).is_none() {
+        let Some(entry) = definition.object(place) else {
+            return Err(Halt::Stuck(Arm::Code));
+        };
+        if entry.is_prototype {
             return Err(Halt::Stuck(Arm::Code));
         }
         let object = object_or_null(self.world.built(place));

@@ -24,8 +24,8 @@ use g_values::Value;
 use handler_code::{Frame, Register, value_at};
 use ui_machine::{Arm, Halt, ObjectId};
 
-// The value of a register that is set.
-fn value_in(frame: &Frame, from: Register) -> Result<Value, Halt>
+/// The value of a register that is set.
+pub(crate) fn value_in(frame: &Frame, from: Register) -> Result<Value, Halt>
     ensures { Finds value_view result (value_in (frame_view frame.now) from.0) }
 {
     let Some(value) = value_at(frame.registers.as_slice(), from) else {

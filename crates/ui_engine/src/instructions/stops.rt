@@ -1,6 +1,6 @@
 //! `stop`: a program stops the emission that runs it (GObject manual, Signals: `g_signal_stop_emission`).
 
-ghost use Rattle.std.specs.Prelude.{◌≡◌, OnOk, OnErr};
+ghost use Rattle.std.specs.Prelude.{◌≡◌, ℕ, OnOk, OnErr};
 ghost use Rattle.ui_machine.specs.Definition as machine;
 ghost use Rattle.ui_machine.specs.Definition.Programs as words;
 ghost use Rattle.ui_machine.specs.Instructions.{instructed};
@@ -8,6 +8,7 @@ ghost use Rattle.ui_machine.specs.Outcome.{Goes};
 ghost use Rattle.ui_machine.specs.Rules.Accumulation.{stopped};
 ghost use Rattle.ui_machine.specs.Steps.{left};
 ghost use Rattle.handler_code.specs.FrameView.{frame_view};
+ghost use Rattle.ui_engine.specs.BegunView.{AllBegun};
 ghost use Rattle.ui_engine.specs.Counting.{Counts, in_frame, nothing};
 ghost use Rattle.ui_engine.specs.EngineView.{config_of};
 ghost use Rattle.ui_engine.specs.TaskView.{agenda_of};
@@ -25,6 +26,7 @@ impl Engine {
     fn stop_emission(&mut self) -> Result<(), AllocError>
         ensures agenda { OnOk result ((d : machine.Definition) → agenda_of d self.new ≡ stopped (agenda_of d self.old)) }
         ensures beside { self.new ≡ record self.old { stack = self.new.stack } }
+        ensures begun { OnOk result ((last : ℕ) → AllBegun last self.old.stack → AllBegun last self.new.stack) }
     {
         let Some(task) = self.stack.pop() else {
             return Ok(());

@@ -1,8 +1,8 @@
 //! The build: how objects are made, and how their construction goes on and ends.
 
-ghost use Rattle.std.specs.Prelude.{◌≡◌, ◌<◌, List, true, suc, length, nat_eq, ℕ, not, ◌&&◌, None, Some, option_copied, option_map, cond, [], ◌∷◌, ◌++◌, map, OnOk, OnErr, IfOk};
+ghost use Rattle.std.specs.Prelude.{◌≡◌, ◌<◌, List, true, suc, length, nat_eq, ℕ, not, ◌&&◌, None, Some, option_copied, option_map, cond, [], ◌∷◌, ◌++◌, map, OnOk, OnErr, IfOk, IfErr, Bool, string_bytes};
 ghost use Rattle.std.specs.List.{find};
-ghost use Rattle.ui_machine.specs.Outcome.{Goes};
+ghost use Rattle.ui_machine.specs.Outcome.{Goes, Stops};
 ghost use Rattle.ui_machine.specs.Definition.Properties as machine;
 ghost use Rattle.ui_machine.specs.Definition.Lookups.{specs_of, spec_of};
 ghost use Rattle.instances.specs.Store.{made_object};
@@ -10,8 +10,10 @@ ghost use Rattle.instances.specs.Laws.{Counted};
 ghost use Rattle.ui_machine.specs.State.References.{in_values};
 ghost use Rattle.ui_machine.specs.Definition as definition;
 ghost use Rattle.ui_machine.specs.Seq.{read};
+ghost use Rattle.ui_engine.specs.BegunView.{HasBegun};
 ghost use Rattle.ui_engine.specs.MakingView.{making_steps, early, construct_set, later_set, early_set, making_of_object};
 ghost use Rattle.ui_machine.specs.Rules.Construction.{with_object, constructed, thawing_made, making, making_set, constructing, is_at_construction, is_forward, no_spec, given_at, set_of, or_default, construct_sets, given_sets};
+ghost use Rattle.ui_machine.specs.State.Config.{starts};
 ghost use Rattle.ui_machine.specs.State.Handlers.{Handler};
 ghost use Rattle.ui_machine.specs.State.Tasks.{Building, Constructing};
 ghost use Rattle.ui_machine.specs.Steps.{uncounted};
@@ -19,9 +21,9 @@ ghost use Rattle.ui_machine.specs.Rules.Build.{building};
 ghost use Rattle.g_values.specs.View.{value_view};
 ghost use Rattle.param_specs.specs.View.{spec_view};
 ghost use Rattle.builder_defs.specs.Meaning.{given_view, given_property};
-ghost use Rattle.ui_engine.specs.View.{world_of};
+ghost use Rattle.ui_engine.specs.View.{with_line, world_of};
 ghost use Rattle.ui_engine.specs.TaskView.{task_of, agenda_of, build_from, build_behind};
-ghost use Rattle.ui_engine.specs.Counting.{KeepsCounts};
+ghost use Rattle.ui_engine.specs.Counting.{Connects, KeepsCounts};
 ghost use Rattle.ui_engine.specs.EngineView.{config_of};
 
 use crate::builder::{Held, put_held};
@@ -41,10 +43,18 @@ use ui_machine::{Arm, Halt, ObjectId};
 // The type under which objects begin floating.
 const INITIALLY_UNOWNED: u16 = 1;
 
+/// An object that was made: what its construction has still to do, and the line that it begins with.
+#[derive(Drop)]
+pub(crate) struct NewObject {
+    pub(crate) object: ObjectId,
+    pub(crate) steps: Makings,
+    pub(crate) line: String,
+}
+
 impl Engine {
-    // A construction ends: the builder holds the object, which no longer floats.
+    // The builder holds an object that it has made, which no longer floats.
     #[tactic(auto, unfolding(ui_machine::specs::Rules::Construction::constructed))]
-    fn constructed(&mut self, definition: &Definition, object: ObjectId) -> Result<(), Halt>
+    fn hold_made(&mut self, definition: &Definition, object: ObjectId) -> Result<(), Halt>
         ensures step { Goes result
             (uncounted (agenda_of definition.now self.old) self.old.counted (constructed (world_of self.old.world) object.0 true))
             (config_of definition.now self.new) }
@@ -63,6 +73,26 @@ impl Engine {
         Ok(())
     }
 
+    // A construction ends: what the builder made is held by it from now on.
+    #[tactic(auto, unfolding(ui_machine::specs::Rules::Construction::constructed))]
+    fn constructed(
+        &mut self,
+        definition: &Definition,
+        object: ObjectId,
+        held: bool,
+    ) -> Result<(), Halt>
+        ensures step { Goes result
+            (uncounted (agenda_of definition.now self.old) self.old.counted (constructed (world_of self.old.world) object.0 held))
+            (config_of definition.now self.new) }
+        ensures quiet { OnErr result ((world_of self.new.world).transcript ≡ (world_of self.old.world).transcript) }
+        ensures counted { OnOk result (KeepsCounts definition.now self.old self.new) }
+    {
+        if held {
+            return self.hold_made(definition, object);
+        }
+        Ok(())
+    }
+
     // The thaw that ends a construction.
     #[tactic(auto, unfolding(ui_machine::specs::Rules::Construction::thawing_made))]
     fn thawing_made(
@@ -70,9 +100,10 @@ impl Engine {
         definition: &Definition,
         object: ObjectId,
         steps: Makings,
+        held: bool,
     ) -> Result<(), Halt>
         ensures step { Goes result
-            (uncounted (agenda_of definition.now self.old) self.old.counted (thawing_made (world_of self.old.world) object.0 steps true))
+            (uncounted (agenda_of definition.now self.old) self.old.counted (thawing_made (world_of self.old.world) object.0 steps held))
             (config_of definition.now self.new) }
         ensures quiet { OnErr result ((world_of self.new.world).transcript ≡ (world_of self.old.world).transcript) }
         ensures counted { OnOk result (KeepsCounts definition.now self.old self.new) }
@@ -80,7 +111,11 @@ impl Engine {
         // For the proof: the clauses speak of the definition.
         let _ = definition;
         let slots = self.world.table.thaw(object)?;
-        self.push(Task::Constructing { object, steps })?;
+        self.push(Task::Constructing {
+            object,
+            steps,
+            held,
+        })?;
         self.push(Task::Thawing {
             object,
             slots: Slots::new(slots),
@@ -97,9 +132,10 @@ impl Engine {
         slot: u16,
         value: Value,
         steps: Makings,
+        held: bool,
     ) -> Result<(), Halt>
         ensures step { Goes result
-            (uncounted (agenda_of definition.now self.old) self.old.counted (making_set definition.now (world_of self.old.world) object.0 slot (value_view value) (Constructing object.0 steps true ∷ [])))
+            (uncounted (agenda_of definition.now self.old) self.old.counted (making_set definition.now (world_of self.old.world) object.0 slot (value_view value) (Constructing object.0 steps held ∷ [])))
             (config_of definition.now self.new) }
         ensures quiet { OnErr result ((world_of self.new.world).transcript ≡ (world_of self.old.world).transcript) }
         ensures counted { OnOk result (KeepsCounts definition.now self.old self.new) }
@@ -108,7 +144,11 @@ impl Engine {
         if !spec.is_writable() {
             return Err(Halt::Stuck(Arm::Flags));
         }
-        self.push(Task::Constructing { object, steps })?;
+        self.push(Task::Constructing {
+            object,
+            steps,
+            held,
+        })?;
         self.push(Task::Setting {
             object,
             slot,
@@ -123,23 +163,24 @@ impl Engine {
         definition: &Definition,
         object: ObjectId,
         mut steps: Makings,
+        held: bool,
     ) -> Result<(), Halt>
         ensures step { Goes result
-            (uncounted (agenda_of definition.now self.old) self.old.counted (constructing definition.now (world_of self.old.world) object.0 steps true))
+            (uncounted (agenda_of definition.now self.old) self.old.counted (constructing definition.now (world_of self.old.world) object.0 steps held))
             (config_of definition.now self.new) }
         ensures quiet { OnErr result ((world_of self.new.world).transcript ≡ (world_of self.old.world).transcript) }
         ensures counted { OnOk result (KeepsCounts definition.now self.old self.new) }
     {
         let Some(step) = steps.take() else {
-            return self.constructed(definition, object);
+            return self.constructed(definition, object, held);
         };
         match step {
             Making::Set { slot, value } => {
-                self.making_set(definition, object, slot, value, steps)?;
+                self.making_set(definition, object, slot, value, steps, held)?;
                 return Ok(());
             }
             Making::Thaw => {
-                self.thawing_made(definition, object, steps)?;
+                self.thawing_made(definition, object, steps, held)?;
                 return Ok(());
             }
         }
@@ -172,14 +213,17 @@ impl Engine {
         Ok(id)
     }
 
-    // An object of the build is made. What its construction has to do goes on the stack.
+    /// The object of a place is made. Its line and its construction are still to come.
     #[tactic(auto, unfolding(ui_machine::specs::Rules::Construction::making))]
-    fn making(&mut self, definition: &Definition, place: usize) -> Result<(), Halt>
-        ensures step { Goes result
-            (uncounted (agenda_of definition.now self.old) self.old.counted (making definition.now (world_of self.old.world) place None true))
-            (config_of definition.now self.new) }
-        ensures quiet { OnErr result ((world_of self.new.world).transcript ≡ (world_of self.old.world).transcript) }
+    pub(crate) fn make(&mut self, definition: &Definition, place: usize) -> Result<NewObject, Halt>
+        ensures made { IfOk result (λ new. (held : Bool) → making definition.now (world_of self.old.world) place None held
+            ≡ starts (with_line (string_bytes new.line) (world_of self.new.world)) (Constructing new.object.0 new.steps held ∷ [])) }
+        ensures identity { IfOk result (λ new. new.object.0 ≡ suc (length (world_of self.old.world).objects)) }
+        ensures stops { IfErr result (λ halt. (held : Bool) → Stops halt (making definition.now (world_of self.old.world) place None held)) }
+        ensures quiet { (world_of self.new.world).transcript ≡ (world_of self.old.world).transcript }
         ensures counted { OnOk result (KeepsCounts definition.now self.old self.new) }
+        ensures same { (self.new.stack ≡ self.old.stack) × (self.new.counted ≡ self.old.counted) }
+        ensures handlers { self.new.world.handlers ≡ self.old.world.handlers }
     {
         let types = definition.types();
         let Some(entry) = definition.object(place) else {
@@ -202,8 +246,46 @@ impl Engine {
             class: definition.class_name(class),
         };
         let line = told.text(self.alloc, types)?;
-        self.push(Task::Constructing { object, steps })?;
+        Ok(NewObject {
+            object,
+            steps,
+            line,
+        })
+    }
+
+    /// The construction of a new object begins: its line is said, and what is to be done goes before the other tasks. At its end the builder
+    /// holds the object, if it is to be held.
+    pub(crate) fn construct(&mut self, new: NewObject, held: bool) -> Result<(), AllocError>
+        ensures agenda { OnOk result ((d : definition.Definition) → agenda_of d self.new ≡ Constructing new.object.0 new.steps held ∷ agenda_of d self.old) }
+        ensures world { OnOk result (world_of self.new.world ≡ with_line (string_bytes new.line) (world_of self.old.world)) }
+        ensures quiet { OnErr result ((world_of self.new.world).transcript ≡ (world_of self.old.world).transcript) }
+        ensures same { self.new.counted ≡ self.old.counted }
+        ensures counted { OnOk result ((d : definition.Definition) → KeepsCounts d self.old self.new) }
+    {
+        let NewObject {
+            object,
+            steps,
+            line,
+        } = new;
+        self.push(Task::Constructing {
+            object,
+            steps,
+            held,
+        })?;
         self.world.say(line)?;
+        Ok(())
+    }
+
+    // An object of the build is made. The builder holds it at the end of its construction.
+    fn making(&mut self, definition: &Definition, place: usize) -> Result<(), Halt>
+        ensures step { Goes result
+            (uncounted (agenda_of definition.now self.old) self.old.counted (making definition.now (world_of self.old.world) place None true))
+            (config_of definition.now self.new) }
+        ensures quiet { OnErr result ((world_of self.new.world).transcript ≡ (world_of self.old.world).transcript) }
+        ensures counted { OnOk result (KeepsCounts definition.now self.old self.new) }
+    {
+        let new = self.make(definition, place)?;
+        self.construct(new, true)?;
         Ok(())
     }
 
@@ -215,6 +297,7 @@ impl Engine {
         place: usize,
         forwards: Forwards,
     ) -> Result<(), Halt>
+        requires connects { Connects definition.now self.now }
         ensures step { Goes result
             (uncounted (agenda_of definition.now self.old) self.old.counted (building definition.now (world_of self.old.world) (build_from definition.now place forwards)))
             (config_of definition.now self.new) }
@@ -223,7 +306,7 @@ impl Engine {
     {
         // For the proof: what is known of a definition's types.
         let _types = definition.types();
-        if place >= definition.object_count() {
+        if place >= definition.place_count() {
             return self.forwarding(definition, place, forwards);
         }
         self.push(behind(definition, place, forwards))?;
@@ -234,7 +317,8 @@ impl Engine {
 // What the build does behind the making of an object: the object becomes its parent's child, if it is one, and then the next place comes.
 fn behind(definition: &Definition, place: usize, forwards: Forwards) -> Task
     requires room { place < usize.MAX }
-    ensures { (hs : List Handler) → task_of definition.now hs result ≡ Building (build_behind definition.now place forwards) }
+    ensures task { (hs : List Handler) → task_of definition.now hs result ≡ Building (build_behind definition.now place forwards) }
+    ensures begun { (last : ℕ) → HasBegun last result }
 {
     let next = place + 1;
     let Some(entry) = definition.object(place) else {

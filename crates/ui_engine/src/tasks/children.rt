@@ -131,7 +131,7 @@ impl Engine {
         ensures quiet { OnErr result ((world_of self.new.world).transcript ≡ (world_of self.old.world).transcript) }
         ensures counted { OnOk result (KeepsCounts definition.now self.old self.new) }
     {
-        if place >= definition.object_count() {
+        if place >= definition.place_count() {
             return Err(Halt::Stuck(Arm::Code));
         }
         let kin = self.kin(definition, place)?;

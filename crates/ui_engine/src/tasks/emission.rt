@@ -1,6 +1,6 @@
 //! Emissions: how one begins, takes its turns and ends (GObject manual, Signals: `g_signal_emit`).
 
-ghost use Rattle.std.specs.Prelude.{◌≡◌, ◌+◌, ◌∷◌, ℕ, None, map, option_map, string_bytes, true, IfSome, IfOk, OnOk, OnErr};
+ghost use Rattle.std.specs.Prelude.{◌≡◌, ◌≤◌, ◌+◌, ◌∷◌, ℕ, None, map, option_map, string_bytes, true, IfSome, IfOk, OnOk, OnErr};
 ghost use Rattle.ui_machine.specs.Definition as machine;
 ghost use Rattle.ui_machine.specs.Seq.{total};
 ghost use Rattle.ui_machine.specs.Outcome.{Goes};
@@ -8,9 +8,10 @@ ghost use Rattle.ui_machine.specs.Output.Lines as lines;
 ghost use Rattle.ui_machine.specs.Output.Text.{text_of_line};
 ghost use Rattle.ui_machine.specs.Rules.Accumulation.{ending, result_of, told};
 ghost use Rattle.ui_machine.specs.Rules.EmissionPlan.{beginning_emission};
+ghost use Rattle.ui_machine.specs.Rules.Programs.{beginning_program};
 ghost use Rattle.ui_machine.specs.State.References.{in_task, in_value, same};
 ghost use Rattle.ui_machine.specs.State.Tasks.{Beginning, Emitting};
-ghost use Rattle.ui_machine.specs.Steps.{act, counted, left};
+ghost use Rattle.ui_machine.specs.Steps.{act, counted, left, uncounted};
 ghost use Rattle.signal_core.specs.Emission.{after_program, begun, program_turn};
 ghost use Rattle.g_values.specs.View.{kind_view, value_view};
 ghost use Rattle.builder_defs.specs.Meaning.{IsKnownKind};
@@ -19,12 +20,14 @@ ghost use Rattle.ui_engine.specs.TaskView.{new_of, emission_of, entries_to_come,
 ghost use Rattle.ui_engine.specs.Counting.{Counts, KeepsCounts, in_emitted};
 ghost use Rattle.ui_engine.specs.EngineView.{config_of};
 ghost use Rattle.ui_engine.specs.Standing.{come_first};
+ghost use Rattle.ui_engine.specs.TurnView.{RunsProgram, given_by, program_of_turn};
 
 use crate::arguments::all_fit;
 use crate::engine::Engine;
 use crate::holding::{accumulated, hold_any, let_go_any, let_go_values};
 use crate::lines::Line;
 use crate::task::{NewEmission, Task};
+use crate::tasks::turns::Invocation;
 use builder_defs::Definition;
 use g_values::{Kind, Value, zero_of};
 use signal_core::{Cursor, Emission, Handlers, Turn};
@@ -94,6 +97,7 @@ impl Engine {
         args: Vec<Value>,
         by_event: bool,
     ) -> Result<(), AllocError>
+        requires { cursor.greatest ≤ self.now.world.handlers.last }
         ensures agenda { OnOk result ((d : machine.Definition) → agenda_of d self.new
             ≡ Emitting (emission_of cursor args.items by_event) (entries_to_come cursor self.old.world.handlers.handlers) ∷ agenda_of d self.old) }
         ensures world { world_of self.new.world ≡ world_of self.old.world }
@@ -244,6 +248,31 @@ impl Engine {
         Ok(())
     }
 
+    // The program of a turn begins, in front of the rest of the emission.
+    fn taking(
+        &mut self,
+        definition: &Definition,
+        turn: Turn,
+        cursor: Cursor,
+        args: Vec<Value>,
+        by_event: bool,
+    ) -> Result<(), Halt>
+        requires runs { RunsProgram turn }
+        requires begun { cursor.greatest ≤ self.now.world.handlers.last }
+        requires counted { Counts definition.now (λ o. same o cursor.object + in_emitted o (emission_of cursor args.items by_event)) self.now }
+        ensures step { Goes result
+            (uncounted (Emitting (emission_of cursor args.items by_event) (entries_to_come cursor self.old.world.handlers.handlers) ∷ agenda_of definition.now self.old) self.old.counted
+            (beginning_program definition.now (world_of self.old.world) (program_of_turn turn) (given_by (emission_of cursor args.items by_event) turn)))
+            (config_of definition.now self.new) }
+        ensures quiet { OnErr result ((world_of self.new.world).transcript ≡ (world_of self.old.world).transcript) }
+        ensures counted { OnOk result (Counts definition.now (λ o. same o cursor.object) self.new) }
+    {
+        let runs = Invocation::new(turn, cursor.object());
+        let given = runs.given(self.alloc, args.as_slice())?;
+        self.push_rest(cursor, args, by_event)?;
+        self.begin_program(definition, runs.program, given)
+    }
+
     /// An emission takes its next turn, or ends where there is none. What is blocked has none.
     pub(crate) fn emitting(
         &mut self,
@@ -252,6 +281,7 @@ impl Engine {
         args: Vec<Value>,
         by_event: bool,
     ) -> Result<(), Halt>
+        requires begun { cursor.greatest ≤ self.now.world.handlers.last }
         requires counted { Counts definition.now (λ o. same o cursor.object + in_emitted o (emission_of cursor args.items by_event)) self.now }
         ensures step { Goes result
             (act definition.now (world_of self.old.world) None
@@ -261,13 +291,11 @@ impl Engine {
         ensures quiet { OnErr result ((world_of self.new.world).transcript ≡ (world_of self.old.world).transcript) }
         ensures counted { OnOk result (Counts definition.now (λ o. same o cursor.object) self.new) }
     {
-        // For the proof: what is known of a definition's programs, and of the numbers of handlers.
-        let _types = definition.types();
+        // For the proof: what is known of the numbers of handlers.
         let _last = self.world.handlers.last();
-        if next_program(&self.world.handlers, &mut cursor).is_some() {
-            // No definition has programs so far.
-            return Err(Halt::Stuck(Arm::Code));
-        }
-        self.ending(definition, cursor, args, by_event)
+        let Some(turn) = next_program(&self.world.handlers, &mut cursor) else {
+            return self.ending(definition, cursor, args, by_event);
+        };
+        self.taking(definition, turn, cursor, args, by_event)
     }
 }

@@ -7,8 +7,8 @@ ghost use Rattle.ui_machine.specs.Rules.Build.{building, forward_of, forward_ite
 ghost use Rattle.ui_machine.specs.Steps.{uncounted};
 ghost use Rattle.builder_defs.specs.Meaning.{given_property};
 ghost use Rattle.ui_engine.specs.View.{world_of};
-ghost use Rattle.ui_engine.specs.TaskView.{agenda_of, item_of, items_of, forwards_at, build_from};
-ghost use Rattle.ui_engine.specs.Counting.{KeepsCounts};
+ghost use Rattle.ui_engine.specs.TaskView.{agenda_of, item_of, items_of, forwards_at, build_end};
+ghost use Rattle.ui_engine.specs.Counting.{Connects, KeepsCounts};
 ghost use Rattle.ui_engine.specs.EngineView.{config_of};
 
 use crate::engine::Engine;
@@ -76,7 +76,7 @@ pub(crate) fn forwards(alloc: Global, definition: &Definition) -> Result<Forward
     // For the proof: what is known of a definition's types.
     let _types = definition.types();
     let mut forwards = Vec::new(alloc);
-    let mut place = definition.object_count();
+    let mut place = definition.place_count();
     'places: while place > 0 {
         place -= 1;
         add_forwards_of(&mut forwards, definition, place)?;
@@ -85,7 +85,7 @@ pub(crate) fn forwards(alloc: Global, definition: &Definition) -> Result<Forward
 }
 
 impl Engine {
-    // The next forward reference is set, where all objects stand.
+    // The next forward reference is set, where all objects stand, or else the first signal is connected.
     #[tactic(auto, unfolding(ui_machine::specs::Rules::Build::building_forward, ui_machine::specs::Rules::Build::set_forward))]
     pub(crate) fn forwarding(
         &mut self,
@@ -94,14 +94,15 @@ impl Engine {
         mut forwards: Forwards,
     ) -> Result<(), Halt>
         requires past { length definition.now.places ≤ place }
+        requires connects { Connects definition.now self.now }
         ensures step { Goes result
-            (uncounted (agenda_of definition.now self.old) self.old.counted (building definition.now (world_of self.old.world) (map item_of forwards)))
+            (uncounted (agenda_of definition.now self.old) self.old.counted (building definition.now (world_of self.old.world) (build_end definition.now forwards)))
             (config_of definition.now self.new) }
         ensures quiet { OnErr result ((world_of self.new.world).transcript ≡ (world_of self.old.world).transcript) }
         ensures counted { OnOk result (KeepsCounts definition.now self.old self.new) }
     {
         let Some(forward) = forwards.take() else {
-            return Ok(());
+            return self.connecting(definition, 0, 0);
         };
         let object = self.settable(definition, forward.object, forward.slot)?;
         let value = self.held_value(usize::from(forward.to.0))?;

@@ -1,7 +1,7 @@
 use Rattle.std.proofs.Common.{◌≡◌, [], All, map, drop}
 use Rattle.serde_json.specs.View.{view}
 use Rattle.handler_code.specs.View.{instruction_view}
-use Rattle.handler_code.specs.Known.{HasKnownKinds}
+use Rattle.handler_code.specs.Known.{IsKnownInstruction}
 use Rattle.handler_code.specs.Reading.Each.{each}
 use Rattle.handler_code.specs.Reading.Scopes.{scope_view}
 use Rattle.handler_code.specs.Reading.Programs.{instruction_step}
@@ -11,5 +11,5 @@ abbrev pub invariant-items : goal.invariant-items
 invariant-items l = record {
   read : each (instruction_step (scope_view l.scope) l.block) l.at (map instruction_view l.code.items) (map view (drop l.at l.items))
       ≡ each (instruction_step (scope_view l.scope) l.block) 0 [] (map view l.items);
-  known : All (λ i. HasKnownKinds l.scope.types.now i) l.code.items;
+  known : All (λ i. IsKnownInstruction l.scope.types.now i) l.code.items;
 }

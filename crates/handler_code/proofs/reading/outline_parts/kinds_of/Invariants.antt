@@ -1,5 +1,6 @@
-use Rattle.std.proofs.Common.{◌≡◌, [], map, drop}
+use Rattle.std.proofs.Common.{◌≡◌, [], All, map, drop}
 use Rattle.serde_json.specs.View.{view}
+use Rattle.handler_code.specs.Known.{IsKnownRegister}
 use Rattle.handler_code.specs.View.{register_kind_view}
 use Rattle.handler_code.specs.Reading.RegisterKinds.{names_view}
 use Rattle.handler_code.specs.Reading.Each.{each}
@@ -8,6 +9,8 @@ use Rattle.handler_code.specs.Reading.Outline.{kind_step}
 use Rattle.handler_code.proofs.reading.outline_parts.kinds_of.Given as goal
 
 abbrev pub invariant-items : goal.invariant-items
-invariant-items l =
-    each (kind_step (names_view l.names) l.may_be_unset (part_view l.fn.part)) l.index (map register_kind_view l.kinds.items) (map view (drop l.index l.items))
-    ≡ each (kind_step (names_view l.names) l.may_be_unset (part_view l.fn.part)) 0 [] (map view l.items)
+invariant-items l = record {
+  read : each (kind_step (names_view l.names) l.may_be_unset (part_view l.fn.part)) l.index (map register_kind_view l.kinds.items) (map view (drop l.index l.items))
+      ≡ each (kind_step (names_view l.names) l.may_be_unset (part_view l.fn.part)) 0 [] (map view l.items);
+  known : All (λ k. IsKnownRegister l.names.types.now k) l.kinds.items;
+}

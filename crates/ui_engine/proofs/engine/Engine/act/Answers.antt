@@ -57,3 +57,10 @@ returns-in-Adopting-clause-step c = rw c.in-Adopting.is (goes_whole c.args.defin
 
 pub returns-in-Carrying-clause-step : goal.returns-in-Carrying-clause-step
 returns-in-Carrying-clause-step c = rw c.in-Carrying.is (goes_whole c.args.definition.now c.carrying.new.self (Ok (tt {0})) _ c.in_ok-carrying-in-Carrying.ensures.step)
+
+pub returns-in-Connecting-clause-counted : goal.returns-in-Connecting-clause-counted
+returns-in-Connecting-clause-counted c =
+    done_plain c.args.definition.now c.args.self.now c.connecting.new.self c.args.task _ c.in-Connecting.is (λ o. refl) c.in_ok-connecting-in-Connecting.ensures.counted c.requires.counted
+
+pub returns-in-Connecting-clause-step : goal.returns-in-Connecting-clause-step
+returns-in-Connecting-clause-step c = rw c.in-Connecting.is (goes_whole c.args.definition.now c.connecting.new.self (Ok (tt {0})) _ c.in_ok-connecting-in-Connecting.ensures.step)

@@ -9,13 +9,13 @@ use Rattle.ui_engine.proofs.engine.Engine.begin.Goals as goal
 pub returns-clause-ok : goal.returns-clause-ok
 returns-clause-ok c =
     let d = c.args.definition.now in
-    let first = c.in_ok-push.ensures.agenda d ∙ ap (λ (ts : List Task). task_in d c.args.self.now c.args.task ∷ ts) (c.clear.ensures d c.args.self.now.world.handlers.handlers) in
+    let first = c.in_ok-push.ensures.agenda d ∙ ap (λ (ts : List Task). task_in d c.args.self.now c.args.task ∷ ts) (c.clear.ensures.tasks d c.args.self.now.world.handlers.handlers) in
     rw (c.push.ensures.world, c.push.ensures.same, first) refl
 
 pub returns-clause-counted : goal.returns-clause-counted
 returns-clause-counted c =
     let d = c.args.definition.now in
     let e = c.args.self.now in
-    let idle = c.requires.idle ∙ sym (c.clear.ensures d e.world.handlers.handlers) in
-    keeps_on d _ _ _ (keeps_by d e _ refl (λ taken _ h. subst (λ (ts : List Task). Exact d taken e.world.table (map held_of e.world.builder.items) ts) idle h))
+    let idle = c.requires.idle ∙ sym (c.clear.ensures.tasks d e.world.handlers.handlers) in
+    keeps_on d _ _ _ (keeps_by d e _ refl (λ h. record { most = h.most; to_come = h.to_come; begun = c.clear.ensures.begun e.world.handlers.last }) (λ taken _ h. subst (λ (ts : List Task). Exact d taken e.world.table (map held_of e.world.builder.items) ts) idle h))
     (c.in_ok-push.ensures.counted d)

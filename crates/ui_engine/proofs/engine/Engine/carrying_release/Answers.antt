@@ -5,7 +5,7 @@ use Rattle.ui_machine.specs.State.References.{in_held, same}
 use Rattle.ui_engine.specs.declared.engine.Engine.{Engine}
 use Rattle.ui_engine.specs.View.{held_of, world_of}
 use Rattle.ui_engine.specs.TaskView.{agenda_of}
-use Rattle.ui_engine.proofs.Counts.{holder_less, keeps_by, keeps_on, keeps_said}
+use Rattle.ui_engine.proofs.Counts.{holder_less, keeps_by, keeps_on, keeps_said, stays}
 use Rattle.ui_engine.proofs.Floats.{holds_built}
 use Rattle.ui_engine.proofs.Lists.{read-within, total-exchanged}
 use Rattle.ui_engine.proofs.engine.Engine.carrying_release.Goals as goal
@@ -41,7 +41,7 @@ returns-clause-counted c =
       holds_built o (read unbuilt b place) id c.in_ok-object.ensures,
     ) in
     keeps_on d e f (record e { world = c.say.new.self })
-    (keeps_by d e f refl (λ taken _ h.
+    (keeps_by d e f refl (stays d e f refl refl) (λ taken _ h.
     holder_less d taken e.world.table c.let_go_any.new.table b n a a (λ o. same o id) c.let_go_any.ensures.only c.let_go_any.ensures.counts
     (λ o. omega (arith, less o)) h))
     (keeps_said d f c.say.new.self c.say.ensures.beside)

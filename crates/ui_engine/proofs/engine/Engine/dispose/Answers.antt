@@ -1,9 +1,10 @@
+use Rattle.ui_engine.proofs.Counts.{only_list}
 use Rattle.std.proofs.Common.{not, List, sym, ap, ◌∙◌}
 use Rattle.ui_machine.specs.Definition.Types.{GType}
 use Rattle.ui_machine.specs.Output.Lines as lines
 use Rattle.ui_machine.specs.Output.Text.{text_of_line}
 use Rattle.machine_laws.specs.GoneLaws.{gone_in}
-use Rattle.signal_core.specs.Connected.{Connected}
+use Rattle.signal_core.specs.Connected.{Connected, without_object}
 use Rattle.ui_engine.specs.TaskView.{tasks_of}
 use Rattle.ui_engine.specs.View.{world_of}
 use Rattle.ui_engine.proofs.Disposing.{disposed_now, keeps_disposed, no_peer_to_close}
@@ -33,5 +34,5 @@ returns-clause-counted c =
     let d = c.args.definition.now in
     let e = c.args.self.now in
     let left = finalised_agenda d e c.disconnect_object.new.self c.say.new.self c.args.object.0 c.disconnect_object.ensures.left c.say.ensures.handlers c.last-last.ensures.rises in
-    keeps_disposed d e c.dispose.new.self c.disconnect_object.new.self c.say.new.self (gone_in (world_of c.say.new.self)) c.args.object.0 (c.dispose.ensures.disposes d)
+    keeps_disposed d e c.dispose.new.self c.disconnect_object.new.self c.say.new.self (gone_in (world_of c.say.new.self)) c.args.object.0 (c.dispose.ensures.disposes d) (only_list c.disconnect_object.new.self e.world.handlers (without_object c.args.object.0 e.world.handlers.handlers) c.disconnect_object.ensures.left)
     c.say.ensures.beside (ap (λ (h : Connected). tasks_of d h.handlers e.stack) (sym c.say.ensures.handlers) ∙ left)

@@ -1,22 +1,36 @@
-use Rattle.std.proofs.Common.{sym, ◌∙◌}
+use Rattle.std.proofs.Common.{None, ◌≤◌, refl, subst, sym, ap, ◌∙◌}
+use Rattle.ui_machine.specs.Outcome.{Answer, Goes}
+use Rattle.ui_machine.specs.State.Config.{Config}
+use Rattle.signal_core.specs.Emission.{Walk}
 use Rattle.ui_engine.specs.View.{world_of}
 use Rattle.ui_engine.specs.TaskView.{agenda_of, emission_of}
 use Rattle.ui_engine.specs.EngineView.{config_of}
 use Rattle.ui_engine.proofs.Emitted.{onward}
-use Rattle.ui_engine.proofs.Turns.{turn_stuck}
+use Rattle.ui_engine.proofs.TurnTaking.{takes_so, turn_runs}
 use Rattle.ui_engine.proofs.engine.Engine.emitting.Goals as goal
 
-pub returns-then-is_some-clause-step : goal.returns-then-is_some-clause-step
-returns-then-is_some-clause-step c =
+pub returns-in_default-clause-step : goal.returns-in_default-clause-step
+returns-in_default-clause-step c =
     let d = c.args.definition.now in
     let e = c.args.self.now in
-    turn_stuck d c.types-types.ensures.basic.programs (world_of e.world) (agenda_of d e) e.counted (emission_of c.args.cursor c.args.args.items c.args.by_event) c.args.cursor
-    e.world.handlers.last c.last-last.ensures.rises c.next_program.result (sym c.next_program.ensures.turn) (sym c.is_some.ensures ∙ c.if-is_some.true)
+    onward d (world_of e.world) (agenda_of d e) e.counted c.args.cursor c.next_program.new.cursor e.world.handlers.last c.last-last.ensures.rises
+    c.args.args.items c.args.by_event None (sym c.next_program.ensures.turn ∙ c.in_default.is) refl c.next_program.ensures.goes_on
+    c.ending.result (config_of d c.ending.new.self) c.ending.ensures.step
+
+pub taking-requires-clause-runs : goal.taking-requires-clause-runs
+taking-requires-clause-runs c =
+    let d = c.args.definition.now in
+    let e = c.args.self.now in
+    turn_runs d (world_of e.world) (agenda_of d e) e.counted c.args.cursor c.args.args.items c.args.by_event e.world.handlers.last c.last-last.ensures.rises
+    c.in-Some.turn (sym c.next_program.ensures.turn ∙ c.in-Some.is)
+
+pub taking-requires-clause-begun : goal.taking-requires-clause-begun
+taking-requires-clause-begun c = subst (λ (u : Walk). u.greatest ≤ c.args.self.now.world.handlers.last) (sym c.next_program.ensures.goes_on) c.requires.begun
 
 pub returns-clause-step : goal.returns-clause-step
 returns-clause-step c =
     let d = c.args.definition.now in
     let e = c.args.self.now in
-    onward d (world_of e.world) (agenda_of d e) e.counted c.args.cursor c.next_program.new.cursor e.world.handlers.last c.last-last.ensures.rises
-    c.args.args.items c.args.by_event c.next_program.result (sym c.next_program.ensures.turn) (sym c.is_some.ensures ∙ c.if-is_some.false) c.next_program.ensures.goes_on
-    c.ending.result (config_of d c.ending.new.self) c.ending.ensures.step
+    takes_so d (world_of e.world) (agenda_of d e) e.counted c.args.cursor c.args.args.items c.args.by_event e.world.handlers.last c.last-last.ensures.rises
+    c.in-Some.turn (sym c.next_program.ensures.turn ∙ c.in-Some.is) c.next_program.new.cursor c.next_program.ensures.goes_on
+    c.taking.result (config_of d c.taking.new.self) c.taking.ensures.step

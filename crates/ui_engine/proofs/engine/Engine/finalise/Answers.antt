@@ -10,8 +10,8 @@ use Rattle.ui_engine.specs.declared.engine.Engine.{Engine}
 use Rattle.ui_engine.specs.declared.world.World.{World}
 use Rattle.ui_engine.specs.View.{world_of}
 use Rattle.ui_engine.specs.TaskView.{tasks_of, agenda_of}
-use Rattle.signal_core.specs.Connected.{Connected}
-use Rattle.ui_engine.proofs.Counts.{keeps_on, keeps_same, keeps_finalised}
+use Rattle.signal_core.specs.Connected.{Connected, without_object}
+use Rattle.ui_engine.proofs.Counts.{keeps_on, keeps_same, keeps_finalised, only_list}
 use Rattle.machine_laws.specs.GoneLaws.{gone_in, pruned}
 use Rattle.ui_engine.specs.Standing.{GoneStay}
 use Rattle.ui_engine.proofs.Finalising.{first_time, no_such_peer, no_peer_there, finalised_now, finalised_agenda, finalised_gone, last_config}
@@ -76,5 +76,5 @@ returns-clause-counted c =
     let same = keeps_same d e f (ap (λ (g : Engine). g.world.table) is) (ap (λ (g : Engine). g.world.weak) is) (ap (λ (g : Engine). g.world.builder) is) (ap (λ (g : Engine). g.stack) is) (ap (λ (g : Engine). g.world.handlers) is) in
     let left = finalised_agenda d f c.disconnect_object.new.self c.say_both.new.self c.args.object.0 c.disconnect_object.ensures.left c.say_both.ensures.handlers c.last-last.ensures.rises in
     keeps_on d _ _ _ same
-    (keeps_finalised d f c.finalise.new.self c.disconnect_object.new.self c.say_both.new.self (gone_in (world_of c.say_both.new.self)) c.args.object.0 f.counted (c.finalise.ensures.finalises d)
+    (keeps_finalised d f c.finalise.new.self c.disconnect_object.new.self c.say_both.new.self (gone_in (world_of c.say_both.new.self)) c.args.object.0 f.counted (c.finalise.ensures.finalises d) (only_list c.disconnect_object.new.self f.world.handlers (without_object c.args.object.0 f.world.handlers.handlers) c.disconnect_object.ensures.left)
     c.in_ok-say_both.ensures.beside (ap (λ (h : Connected). tasks_of d h.handlers f.stack) (sym c.say_both.ensures.handlers) ∙ left))

@@ -14,22 +14,22 @@ use Rattle.ui_engine.proofs.engine.Engine.first_task.Goals as goal
 pub settle-requires-clause-none : goal.settle-requires-clause-none
 settle-requires-clause-none c =
     let d = c.args.definition.now in
-    let none = c.in_default.ensures d c.args.self.now.world.handlers.handlers in
+    let none = c.in_default.ensures.tasks d c.args.self.now.world.handlers.handlers in
     subst (λ (ts : List Task). NoneUnheld d (record (config_of d c.args.self.now) { agenda = ts })) (none.0 ∙ sym none.1) c.requires.none
 
 pub settle-requires-clause-idle : goal.settle-requires-clause-idle
-settle-requires-clause-idle c = (c.in_default.ensures c.args.definition.now c.args.self.now.world.handlers.handlers).1
+settle-requires-clause-idle c = (c.in_default.ensures.tasks c.args.definition.now c.args.self.now.world.handlers.handlers).1
 
 pub settle-requires-clause-counted : goal.settle-requires-clause-counted
 settle-requires-clause-counted c =
     let d = c.args.definition.now in
-    let none = c.in_default.ensures d c.args.self.now.world.handlers.handlers in
-    same_tasks d c.args.self.now c.pop.new.self (none.1 ∙ sym none.0) c.requires.counted
+    let none = c.in_default.ensures.tasks d c.args.self.now.world.handlers.handlers in
+    same_tasks d c.args.self.now c.pop.new.self (none.1 ∙ sym none.0) c.in_default.ensures.begun c.requires.counted
 
 pub returns-in_default-clause-stepped : goal.returns-in_default-clause-stepped
 returns-in_default-clause-stepped c =
     let d = c.args.definition.now in
-    let none = c.in_default.ensures d c.args.self.now.world.handlers.handlers in
+    let none = c.in_default.ensures.tasks d c.args.self.now.world.handlers.handlers in
     subst (λ (ts : List Task). Stepped (Ok c.settle.result) d (record (config_of d c.args.self.now) { agenda = ts }) (config_of d c.settle.new.self)) (none.1 ∙ sym none.0)
     c.settle.ensures.stepped
 
@@ -38,15 +38,16 @@ returns-in_err-made-clause-stepped c =
     let p = err_from_is_err_and c.from_residual.result c.from_residual.ensures.1 in
     let d = c.args.definition.now in
     rw (p.1, p.2)
-    (first_stepped d c.types-types.ensures.basic c.args.self.now.world.handlers.handlers (config_of d c.args.self.now) (config_of d c.act.new.self) refl c.requires.none c.in-Some.task c.pop.new.self (c.in-Some.ensures d c.args.self.now.world.handlers.handlers)
+    (first_stepped d c.types-types.ensures.basic c.args.self.now.world.handlers.handlers (config_of d c.args.self.now) (config_of d c.act.new.self) refl c.requires.none c.in-Some.task c.pop.new.self (c.in-Some.ensures.tasks d c.args.self.now.world.handlers.handlers)
     (Err _) c.in_err-made.ensures.step tt c.in_err-made.ensures.quiet)
 
 pub act-requires : goal.act-requires
 act-requires c = record {
+  begun = c.in-Some.ensures.first c.args.self.now.world.handlers.last c.requires.counted.connects.begun;
   counted =
       let d = c.args.definition.now in
       let e = c.args.self.now in
-      taken_off d e c.pop.new.self (task_in d e c.in-Some.task) (c.in-Some.ensures d e.world.handlers.handlers) c.requires.counted;
+      taken_off d e c.pop.new.self (task_in d e c.in-Some.task) (c.in-Some.ensures.tasks d e.world.handlers.handlers) c.in-Some.ensures.begun c.requires.counted;
 }
 
 pub let_go_any-requires : goal.let_go_any-requires
@@ -67,11 +68,11 @@ pub returns-clause-stepped : goal.returns-clause-stepped
 returns-clause-stepped c =
     let d = c.args.definition.now in
     subst (λ (e : Config). Stepped (Ok c.in_ok-made.made) d (config_of d c.args.self.now) e) (sym (config_same d c.act.new.self c.let_go_any.new.table c.let_go_any.ensures.only))
-    (first_stepped d c.types-types.ensures.basic c.args.self.now.world.handlers.handlers (config_of d c.args.self.now) (config_of d c.act.new.self) refl c.requires.none c.in-Some.task c.pop.new.self (c.in-Some.ensures d c.args.self.now.world.handlers.handlers)
+    (first_stepped d c.types-types.ensures.basic c.args.self.now.world.handlers.handlers (config_of d c.args.self.now) (config_of d c.act.new.self) refl c.requires.none c.in-Some.task c.pop.new.self (c.in-Some.ensures.tasks d c.args.self.now.world.handlers.handlers)
     (Ok c.in_ok-made.made) c.in_ok-made.ensures.step c.in_ok-made.ensures.made tt)
 
 pub returns-clause-grows : goal.returns-clause-grows
 returns-clause-grows c =
     let d = c.args.definition.now in
-    first_grows d c.types-types.ensures.basic c.args.self.now.world.handlers.handlers (config_of d c.args.self.now) (config_of d c.act.new.self) refl c.requires.none c.in-Some.task c.pop.new.self (c.in-Some.ensures d c.args.self.now.world.handlers.handlers)
+    first_grows d c.types-types.ensures.basic c.args.self.now.world.handlers.handlers (config_of d c.args.self.now) (config_of d c.act.new.self) refl c.requires.none c.in-Some.task c.pop.new.self (c.in-Some.ensures.tasks d c.args.self.now.world.handlers.handlers)
     (Ok c.in_ok-made.made) c.in_ok-made.ensures.step tt

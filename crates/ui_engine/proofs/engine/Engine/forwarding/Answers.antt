@@ -1,8 +1,10 @@
-use Rattle.std.proofs.Common.{◌≡◌, ℕ, List, [], ◌∷◌, map, refl, sym, ap, ◌∙◌}
+use Rattle.std.proofs.Common.{◌≡◌, ℕ, List, [], ◌∷◌, refl, sym, ap, subst, ◌∙◌}
 use Rattle.ui_machine.specs.Definition.Values.{Value}
-use Rattle.ui_machine.specs.State.Tasks.{Task, Setting, Building}
+use Rattle.ui_machine.specs.State.Tasks.{Item, Task, Setting, Building}
 use Rattle.ui_machine.specs.State.Config.{starts}
-use Rattle.ui_machine.specs.Outcome.{Answer, ◌>>=◌}
+use Rattle.ui_machine.specs.Outcome.{Answer, Goes, ◌>>=◌}
+use Rattle.ui_engine.specs.EngineView.{config_of}
+use Rattle.ui_engine.proofs.Signals.{connects_all}
 use Rattle.ui_machine.specs.Rules.Build.{held_object, building, building_forward, set_forward}
 use Rattle.ui_machine.specs.Rules.Sets.{spec_at}
 use Rattle.ui_machine.specs.Steps.{uncounted}
@@ -10,11 +12,21 @@ use Rattle.g_values.specs.View.{value_view}
 use Rattle.ui_engine.specs.declared.task.Forward.{Forward}
 use Rattle.ui_engine.specs.View.{world_of}
 use Rattle.ui_engine.specs.GivenView.{held_value}
-use Rattle.ui_engine.specs.TaskView.{item_of, agenda_of}
+use Rattle.ui_engine.specs.TaskView.{agenda_of, build_end}
 use Rattle.ui_engine.proofs.Building.{only_forwards}
 use Rattle.ui_engine.proofs.Forwarded.{settable_then, held_then}
 use Rattle.ui_engine.proofs.Counts.{keeps_on}
 use Rattle.ui_engine.proofs.engine.Engine.forwarding.Goals as goal
+
+-- no reference is left: the signals come next
+pub returns-in_default-clause-step : goal.returns-in_default-clause-step
+returns-in_default-clause-step c =
+    let d = c.args.definition.now in
+    let w = world_of c.args.self.now.world in
+    let rest = agenda_of d c.args.self.now in
+    let n = c.args.self.now.counted in
+    let items = ap (λ (fs : List Forward). build_end d fs) c.in_default.ensures.0 ∙ connects_all d in
+    subst (λ (its : List Item). Goes c.connecting.result (uncounted rest n (building d w its)) (config_of d c.connecting.new.self)) (sym items) c.connecting.ensures.step
 
 pub returns-clause-step : goal.returns-clause-step
 unfolding building_forward set_forward
@@ -25,13 +37,13 @@ returns-clause-step c =
     let agenda = agenda_of d a.self.now in
     let n = a.self.now.counted in
     let f = c.in-Some.forward in
-    let items = map item_of c.take.new.self in
+    let items = build_end d c.take.new.self in
     let object = c.in_ok-object.object.0 in
     let v = value_view c.in_ok-value.value in
     let set = λ (id : ℕ). set_forward w id f.slot f.to.0 items in
     let to = ap (λ (p : ℕ). held_value w p) (sym c.from.ensures) ∙ c.in_ok-value.ensures in
-    let is : building d w (map item_of a.forwards) ≡ starts w (Setting object f.slot v ∷ Building items ∷ []) =
-    ap (λ (fs : List Forward). building d w (map item_of fs)) c.in-Some.ensures
+    let is : building d w (build_end d a.forwards) ≡ starts w (Setting object f.slot v ∷ Building items ∷ []) =
+    ap (λ (fs : List Forward). building d w (build_end d fs)) c.in-Some.ensures
     ∙ settable_then (held_object w f.object) (λ (id : ℕ). spec_at d w.objects id f.slot) set
     ∙ ap (λ (r : Answer ℕ). r >>= set) c.in_ok-object.ensures
     ∙ held_then (held_object w f.to.0) (λ (x : Value). starts w (Setting object f.slot x ∷ Building items ∷ [])) v to in

@@ -46,6 +46,7 @@ carry_out-requires c =
     let same = keeps_same d e b (ap (λ (g : Engine). g.world.table) is) (ap (λ (g : Engine). g.world.weak) is) (ap (λ (g : Engine). g.world.builder) is) (ap (λ (g : Engine). g.stack) is) (ap (λ (g : Engine). g.world.handlers) is) in
     record {
       program = ap (program_at d) kept.1 ∙ sym c.in-Some.ensures.program;
+      result = c.in-Some.ensures.known.2;
       known = taken_known d.types c.in-Some.program.now (frame_view c.args.frame) (frame_view c.take.new.self) c.in-Some-take.instruction.now
           c.in-Some.ensures.known c.in-Some-take.ensures;
       counted = taken_alike d b _ _ (λ o. ap (λ (rs : Registers). total (in_register o) rs) (sym kept.0)) (same.at _ c.requires.counted);

@@ -4,7 +4,7 @@ use Rattle.ui_engine.specs.View.{held_of}
 use Rattle.ui_engine.specs.TaskView.{agenda_of}
 use Rattle.ui_engine.specs.EngineView.{config_of}
 use Rattle.ui_engine.specs.Counting.{nothing}
-use Rattle.ui_engine.proofs.Counts.{keeps_by, sunk_exact, with_table}
+use Rattle.ui_engine.proofs.Counts.{keeps_by, sunk_exact, with_table, stays}
 use Rattle.ui_engine.proofs.Floats.{floats_first}
 use Rattle.ui_engine.proofs.Stepping.{settle_stepped}
 use Rattle.ui_engine.proofs.engine.Engine.settle.Goals as goal
@@ -13,7 +13,7 @@ pub returns-clause-counted : goal.returns-clause-counted
 returns-clause-counted c =
     let d = c.args.definition.now in
     let e = c.args.self.now in
-    (keeps_by d e (with_table e c.sink.new.self) refl (λ taken _ h.
+    (keeps_by d e (with_table e c.sink.new.self) refl (stays d e (with_table e c.sink.new.self) refl refl) (λ taken _ h.
     sunk_exact d taken e.world.table c.sink.new.self (map held_of e.world.builder.items) (agenda_of d e) c.in-Some.object.0 c.sink.ensures h)).at nothing c.requires.counted
 
 pub returns-clause-stepped : goal.returns-clause-stepped

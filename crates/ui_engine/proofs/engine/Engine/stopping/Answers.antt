@@ -26,4 +26,4 @@ returns-clause-counted c =
     let d = c.args.definition.now in
     let f = frame_view c.args.frame in
     frame_held d c.stop_emission.new.self c.push_frame.new.self f (c.in_ok-push_frame.ensures.counted d)
-    (stop_counts d c.args.self.now c.stop_emission.new.self (λ o. in_frame o f) c.stop_emission.ensures.beside (c.in_ok-stop_emission.ensures.agenda d) c.requires.counted)
+    (stop_counts d c.args.self.now c.stop_emission.new.self (λ o. in_frame o f) c.stop_emission.ensures.beside (c.in_ok-stop_emission.ensures.agenda d) c.in_ok-stop_emission.ensures.begun c.requires.counted)

@@ -1,3 +1,6 @@
+use Rattle.signal_core.specs.Connected.{Connected}
+use Rattle.ui_engine.specs.Counting.{Connects}
+use Rattle.ui_engine.specs.BegunView.{AllBegun}
 use Rattle.std.proofs.Common.{[], ap, subst, sym, ◌∙◌}
 use Rattle.ui_machine.specs.State.Config.{Config, said}
 use Rattle.ui_machine.specs.State.Tasks.{Building}
@@ -20,9 +23,17 @@ invariant_of-session c _ =
     let world = told ∙ ap (λ w. said d w lines.build) first in
     let idle = ap (λ (e : Engine). agenda_of d e) beside ∙ c.new-engine.ensures.idle d in
     let marks = ap (λ (e : Engine). e.world.weak) beside ∙ c.new-engine.ensures.marks in
+    let same = ap (λ (e : Engine). e.world.handlers) beside ∙ c.new-engine.ensures.handlers in
+    let connects : Connects d c.announce.new.self = record {
+      most = ap (λ (h : Connected). h.most) same ∙ c.limits.ensures.handlers;
+      to_come = ap (λ (h : Connected). h.to_come) same;
+      begun =
+          subst (λ (h : Connected). AllBegun h.last c.announce.new.self.stack) (sym same)
+          (subst (λ (e : Engine). AllBegun 0 e.stack) (sym beside) c.new-engine.ensures.begun);
+    } in
     let counts = ap (λ (e : Engine). e.world.table.counts) beside ∙ c.new-engine.ensures.counts in
     record {
-      counts = none_counted d c.announce.new.self c.in-Ok.weak c.in-Ok.ensures marks counts world idle;
+      counts = none_counted d c.announce.new.self c.in-Ok.weak c.in-Ok.ensures connects marks counts world idle;
       idle = idle;
     }
 

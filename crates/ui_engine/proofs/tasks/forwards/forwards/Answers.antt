@@ -7,7 +7,7 @@ use Rattle.ui_engine.proofs.tasks.forwards.forwards.Goals as goal
 pub places-init : goal.places-init
 places-init c =
     let d = c.args.definition.now in
-    record { within = omega (arith, c.object_count-place.ensures.count); items = ap items_of c.new-forwards.ensures.items ∙ sym (no_more_forwards d c.object_count-place.result (omega (arith, c.object_count-place.ensures.count))) }
+    record { within = omega (arith, c.place_count-place.ensures.count); items = ap items_of c.new-forwards.ensures.items ∙ sym (no_more_forwards d c.place_count-place.result (omega (arith, c.place_count-place.ensures.count))) }
 
 pub places-preserved : goal.places-preserved
 places-preserved c =
