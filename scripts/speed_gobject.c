@@ -1,9 +1,10 @@
-/* The work of scripts/speed on real GObject: a class with int properties, objects of it, and lines that set and read them.
+/* The work of scripts/speed on real GObject: a class with int properties and signals, objects of it, and lines that set, read and emit.
  *
  *     speed_gobject DEF EVENTS
  *
  * It reads the same two files as `ui run` and writes the same transcript, for definitions with one class at most whose properties are
- * of the kind int, and for the events set and get. Anything else ends it with status 1, so that nothing is compared that it can't do.
+ * of the kind int and whose signals have no arguments, for programs of one block with `const`, `set`, `add` and `return` over whole
+ * numbers, and for the events set, get and emit. Anything else ends it with status 1, so that nothing is compared that it can't do.
  */
 #include <glib-object.h>
 #include <json-glib/json-glib.h>
@@ -70,6 +71,105 @@ static void on_notify(GObject *object, GParamSpec *spec, gpointer data) {
   counted++;
 }
 
+/* An instruction, with what it names looked up. */
+typedef struct {
+  enum { CONST, SET, ADD } word;
+  gint a, b, c;
+  const char *name;
+} Instruction;
+
+typedef struct {
+  const char *name;
+  guint length;
+  Instruction *code;
+} Program;
+
+static Program *read_program(JsonObject *entry) {
+  JsonArray *blocks = json_object_get_array_member(entry, "blocks");
+  JsonArray *code = json_object_get_array_member(json_array_get_object_element(blocks, 0), "code");
+  Program *program = g_new0(Program, 1);
+  program->name = json_object_get_string_member(entry, "name");
+  program->code = g_new0(Instruction, json_array_get_length(code));
+  for (guint i = 0; i < json_array_get_length(code); i++) {
+    JsonArray *words = json_array_get_array_element(code, i);
+    const char *word = json_array_get_string_element(words, 0);
+    Instruction *instruction = &program->code[program->length];
+    if (strcmp(word, "return") == 0)
+      break;
+    instruction->a = json_array_get_int_element(words, 1);
+    if (strcmp(word, "const") == 0) {
+      instruction->word = CONST;
+      instruction->b = json_array_get_int_element(words, 3);
+    } else if (strcmp(word, "set") == 0) {
+      instruction->word = SET;
+      instruction->name = json_array_get_string_element(words, 2);
+      instruction->b = json_array_get_int_element(words, 3);
+    } else if (strcmp(word, "add") == 0) {
+      instruction->word = ADD;
+      instruction->b = json_array_get_int_element(words, 2);
+      instruction->c = json_array_get_int_element(words, 3);
+    } else {
+      give_up("an instruction is another than const, set, add and return");
+    }
+    program->length++;
+  }
+  return program;
+}
+
+static void run_program(GObject *object, gpointer data) {
+  const Program *program = data;
+  GValue registers[32] = {G_VALUE_INIT};
+  printf("run %s\n", program->name);
+  for (guint i = 0; i < program->length; i++) {
+    const Instruction *instruction = &program->code[i];
+    GValue *to = &registers[instruction->a];
+    counted++;
+    if (instruction->word == SET) {
+      g_object_set_property(object, instruction->name, &registers[instruction->b]);
+      continue;
+    }
+    if (!G_IS_VALUE(to))
+      g_value_init(to, G_TYPE_INT);
+    if (instruction->word == CONST)
+      g_value_set_int(to, instruction->b);
+    else
+      g_value_set_int(to, (gint)((guint)g_value_get_int(&registers[instruction->b]) + (guint)g_value_get_int(&registers[instruction->c])));
+  }
+  counted++;
+}
+
+static void connect_signals(Box *box, JsonObject *entry, GHashTable *programs) {
+  if (!json_object_has_member(entry, "signals"))
+    return;
+  JsonArray *signals = json_object_get_array_member(entry, "signals");
+  for (guint i = 0; i < json_array_get_length(signals); i++) {
+    JsonObject *signal = json_array_get_object_element(signals, i);
+    gpointer program = g_hash_table_lookup(programs, json_object_get_string_member(signal, "handler"));
+    g_signal_connect(box, json_object_get_string_member(signal, "name"), G_CALLBACK(run_program), program);
+  }
+}
+
+static GHashTable *read_programs(JsonObject *root) {
+  GHashTable *programs = g_hash_table_new(g_str_hash, g_str_equal);
+  if (!json_object_has_member(root, "programs"))
+    return programs;
+  JsonArray *entries = json_object_get_array_member(root, "programs");
+  for (guint i = 0; i < json_array_get_length(entries); i++) {
+    Program *program = read_program(json_array_get_object_element(entries, i));
+    g_hash_table_insert(programs, (gpointer)program->name, program);
+  }
+  return programs;
+}
+
+static void add_signals(GType type, JsonObject *class) {
+  if (!json_object_has_member(class, "signals"))
+    return;
+  JsonArray *signals = json_object_get_array_member(class, "signals");
+  for (guint i = 0; i < json_array_get_length(signals); i++)
+    g_signal_new(json_object_get_string_member(json_array_get_object_element(signals, i), "name"), type, G_SIGNAL_RUN_LAST, 0, NULL, NULL,
+                 NULL, G_TYPE_NONE, 0);
+}
+
 static GType register_class(JsonObject *class) {
   static const GTypeInfo info = {
       .class_size = sizeof(BoxClass), .class_init = box_class_init, .instance_size = sizeof(Box), .instance_init = box_init};
@@ -82,7 +182,10 @@ static GType register_class(JsonObject *class) {
       give_up("a property is of another kind than int");
     property_names[i] = json_object_get_string_member(property, "name");
   }
-  return g_type_register_static(G_TYPE_OBJECT, json_object_get_string_member(class, "name"), &info, 0);
+  GType type = g_type_register_static(G_TYPE_OBJECT, json_object_get_string_member(class, "name"), &info, 0);
+  g_type_class_ref(type);
+  add_signals(type, class);
+  return type;
 }
 
 static GHashTable *build(JsonObject *root) {
@@ -93,6 +196,7 @@ static GHashTable *build(JsonObject *root) {
     if (json_array_get_length(classes) != 1)
       give_up("there is not one class");
     GType type = register_class(json_array_get_object_element(classes, 0));
+    GHashTable *programs = read_programs(root);
     JsonArray *objects = json_object_get_array_member(root, "objects");
     for (guint i = 0; i < json_array_get_length(objects); i++) {
       JsonObject *entry = json_array_get_object_element(objects, i);
@@ -100,6 +204,7 @@ static GHashTable *build(JsonObject *root) {
       box->identity = i + 1;
       printf("construct #%u %s\n", box->identity, G_OBJECT_TYPE_NAME(box));
       g_signal_connect(box, "notify", G_CALLBACK(on_notify), NULL);
+      connect_signals(box, entry, programs);
       g_hash_table_insert(ids, (gpointer)json_object_get_string_member(entry, "id"), box);
     }
   }
@@ -107,12 +212,27 @@ static GHashTable *build(JsonObject *root) {
   return ids;
 }
 
+static void emit(GHashTable *ids, JsonArray *words) {
+  Box *box = g_hash_table_lookup(ids, json_array_get_string_element(words, 0));
+  const char *name = json_array_get_string_element(words, 1);
+  if (!box || json_array_get_length(json_array_get_array_element(words, 2)) != 0)
+    give_up("an emission is by no object, or has arguments");
+  counted = 1;
+  printf("emit #%u.%s()\n", box->identity, name);
+  g_signal_emit_by_name(box, name);
+  printf("end %u\n", counted);
+}
+
 static void serve(GHashTable *ids, JsonObject *event) {
+  if (json_object_has_member(event, "emit")) {
+    emit(ids, json_object_get_array_member(event, "emit"));
+    return;
+  }
   gboolean sets = json_object_has_member(event, "set");
   JsonArray *words = json_object_get_array_member(event, sets ? "set" : "get");
   Box *box = words ? g_hash_table_lookup(ids, json_array_get_string_element(words, 0)) : NULL;
   if (!box)
-    give_up("an event is no set or get of an object");
+    give_up("an event is no set, get or emission of an object");
   const char *name = json_array_get_string_element(words, 1);
   GValue value = G_VALUE_INIT;
   g_value_init(&value, G_TYPE_INT);
