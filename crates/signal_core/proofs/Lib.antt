@@ -11,3 +11,4 @@ pub mod Lists
 pub mod Naming
 pub mod Inherited
 pub mod Telling
+pub mod Dashed

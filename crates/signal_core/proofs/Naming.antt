@@ -1,6 +1,8 @@
 -- The class handlers of types, once one is named.
-use Rattle.std.proofs.Common.{◌≡◌, ◌∙◌, ℕ, zero, suc, ◌<◌, Bool, true, false, cond, nat_eq, if◌then◌else◌, List, [], ◌∷◌, ◌++◌, length, map, get_or, slice_set, is_some, refl, sym, ap, arith}
+use Rattle.std.proofs.Common.{◌≡◌, ◌∙◌, ℕ, zero, suc, ◌<◌, Bool, true, false, cond, nat_eq, if◌then◌else◌, List, [], ◌∷◌, ◌++◌, length, map, get_or, slice_set, is_some, Some, ◌||◌, refl, sym, ap, arith}
+use Rattle.std.specs.List.{list_any}
 use Rattle.std.proofs.lemmas.Bool.Decides.{nat_tests}
+use Rattle.ui_machine.specs.Definition.Names.{same_name}
 use Rattle.ui_machine.specs.Definition.Signals.{ClassHandler}
 use Rattle.ui_machine.specs.Rules.EmissionPlan.{handler_in}
 use Rattle.signal_core.specs.Growing.{items_of}
@@ -21,6 +23,16 @@ module _ {V T : Type 0} (items : V → List T) (f : T → T) where
   mapped-set (v ∷ xs) (suc i) w d h e (suc u) =
       let n : nat_eq u i ≡ nat_eq (suc u) (suc i) = grind (arith, nat_tests) in
       mapped-set xs i w d (omega arith) e u ∙ ap (λ b. if b then map f (items_of items xs u) else items_of items xs u) n
+
+-- whether one of these programs is for the signal of a name
+pub any_handled : (hs : List ClassHandler) (name : List ℕ) → list_any (λ h. same_name h.signal name) hs ≡ is_some (handler_in hs name)
+any_handled [] name = refl
+any_handled (h ∷ hs) name = by (same_name h.signal name) (any_handled hs name)
+  where
+    by : (b : Bool) → list_any (λ h. same_name h.signal name) hs ≡ is_some (handler_in hs name)
+        → (b || list_any (λ h. same_name h.signal name) hs) ≡ is_some (cond b (Some h.program) (handler_in hs name))
+    by true e = refl
+    by false e = e
 
 same_number : (u t : ℕ) → nat_eq u t ≡ true → u ≡ t
 same_number u t h = grind (arith, nat_tests)

@@ -94,6 +94,10 @@ Declares (Err (Refused cause)) fault t s old new = (fault ≡ Some cause) × Sam
 abbrev pub named_of : List (List ClassHandler) → ℕ → List ClassHandler
 named_of handlers t = read [] handlers t
 
+-- whether one of these programs is for the signal of a name, in either spelling
+abbrev pub is_handled : List ClassHandler → List ℕ → Bool
+is_handled hs name = is_some (handler_in hs (canonical name))
+
 -- the program that a class or else its nearest ancestor names for a signal
 abbrev pub class_handler_named : List GType → List (List ClassHandler) → ℕ → List ℕ → Option ℕ
 class_handler_named types handlers t name = first_given (λ c. handler_in (named_of handlers c) name) (lineage types t)

@@ -1,9 +1,10 @@
 //! The program that a class names for a signal.
 
 ghost use Rattle.std.specs.Prelude.{◌≡◌, string_bytes};
-ghost use Rattle.ui_machine.specs.Definition.Names.{same_name};
+ghost use Rattle.ui_machine.specs.Definition.Names.{canonical, same_name};
 
 use std::marker::Model;
+use type_tree::is_spelling;
 
 /// The program that a class names for a signal, by the signal's canonical name.
 #[derive(Drop)]
@@ -33,6 +34,13 @@ impl ClassHandler {
         ensures { result ≡ same_name self.now.signal name.now }
     {
         self.signal.as_str() == name
+    }
+
+    /// Whether it is for the signal that a name spells.
+    pub(crate) fn is_spelled(&self, name: &str) -> bool
+        ensures { result ≡ same_name self.now.signal (canonical name.now) }
+    {
+        is_spelling(self.signal.as_str(), name)
     }
 
     pub(crate) fn program(&self) -> u16

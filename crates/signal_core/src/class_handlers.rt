@@ -1,15 +1,16 @@
 //! The programs that classes run for signals.
 
 ghost use Rattle.std.specs.Prelude.{◌≡◌, ◌<◌, OnErr, OnOk, length, option_and_then, option_map, slice_get};
-ghost use Rattle.std.specs.List.{find};
-ghost use Rattle.ui_machine.specs.Definition.Names.{same_name};
+ghost use Rattle.std.specs.List.{find, list_any};
+ghost use Rattle.ui_machine.specs.Definition.Names.{canonical, same_name};
 ghost use Rattle.ui_machine.specs.Rules.EmissionPlan.{handler_in};
 ghost use Rattle.ui_machine.specs.Seq.{read};
 ghost use Rattle.ui_machine.specs.Words.{notify};
 ghost use Rattle.signal_core.specs.Sources.{signals_of};
-ghost use Rattle.signal_core.specs.Table.{Names, SameHandlers, class_handler_named, named_of};
+ghost use Rattle.signal_core.specs.Table.{AddsHandler, Names, SameHandlers, class_handler_named, is_handled, named_of};
 
 use crate::class_handler::ClassHandler;
+use crate::spelling::canonical_text;
 use crate::table::SignalTable;
 use std::alloc::AllocError;
 use type_tree::{TypeId, TypeTree};
@@ -39,6 +40,29 @@ impl SignalTable {
             return Ok(());
         }
         self.add_handler(t, ClassHandler::new(name, program))
+    }
+
+    /// Adds a class handler behind those that a class names itself. The signal goes by any spelling of its name, and need not be one of the
+    /// class's. An error changes nothing.
+    pub fn add_class_handler(
+        &mut self,
+        t: TypeId,
+        signal: &str,
+        program: u16,
+    ) -> Result<(), AllocError>
+        ensures ok { OnOk result (AddsHandler self.old.handlers self.new.handlers t (record { signal = canonical signal.now; program = program })) }
+        ensures err { OnErr result (SameHandlers self.old.handlers self.new.handlers) }
+        ensures signals { self.new.signals ≡ self.old.signals }
+    {
+        let name = canonical_text(self.allocator(), signal)?;
+        self.add_handler(t, ClassHandler::new(name, program))
+    }
+
+    /// Whether a class itself names a program for a signal, by any spelling of the signal's name.
+    pub fn has_class_handler(&self, t: TypeId, signal: &str) -> bool
+        ensures { result ≡ is_handled (named_of self.now.handlers t) signal.now }
+    {
+        any_for(self.own_handlers(t), signal)
     }
 
     /// The program that a class runs for the signal of a number: its own, or that of its nearest ancestor that names one.
@@ -79,4 +103,11 @@ fn first_for<'a>(handlers: &'a [ClassHandler], name: &str) -> Option<&'a ClassHa
     ensures { option_map (λ h. h.now) result ≡ find (λ h. same_name h.signal name.now) handlers.now }
 {
     handlers.iter().find(|handler| handler.is_for(name))
+}
+
+// Whether one of some class handlers is for the signal that a name spells.
+fn any_for(handlers: &[ClassHandler], signal: &str) -> bool
+    ensures { result ≡ list_any (λ h. same_name h.signal (canonical signal.now)) handlers.now }
+{
+    handlers.iter().any(|handler| handler.is_spelled(signal))
 }

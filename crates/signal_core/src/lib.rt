@@ -27,6 +27,7 @@ mod handlers;
 mod laws;
 mod signal;
 mod sources;
+mod spelling;
 mod stage;
 mod step;
 mod table;
