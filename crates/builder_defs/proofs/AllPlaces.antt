@@ -1,5 +1,5 @@
 -- The places of a definition: its objects, and behind them its prototypes.
-use Rattle.std.proofs.Common.{◌≡◌, ◌≤◌, ◌<◌, ◌+◌, ◌-◌, ℕ, zero, suc, Bool, true, false, cond, not, nat_le, List, [], ◌∷◌, ◌++◌, map, length, Option, None, Some, option_map, slice_get, refl, sym, ap, subst, ◌∙◌, arith}
+use Rattle.std.proofs.Common.{◌≡◌, ◌≤◌, ◌<◌, ◌+◌, ℕ, zero, suc, Bool, true, false, cond, not, nat_le, List, [], ◌∷◌, ◌++◌, map, length, if◌then◌else◌, Option, None, Some, is_some, option_map, option_and_then, slice_get, refl, sym, ap, subst, ◌∙◌, arith}
 use Rattle.std.specs.Prelude.{count_by}
 use Rattle.std.proofs.lemmas.Bool.Decides.{nat_tests}
 use Rattle.std.proofs.lemmas.List.{length-map, length-append}
@@ -7,7 +7,9 @@ use Rattle.std.proofs.lemmas.List.Sums.{sum_by-cons}
 use Rattle.std.proofs.lemmas.Option.{none-some}
 use Rattle.ui_machine.specs.Definition.Names.{same_name, place_from, place_named}
 use Rattle.ui_machine.specs.Definition.Places.{Place}
-use Rattle.builder_defs.specs.Meaning.{Entry, Prototype, plain_object, plain_prototype, places_of, is_object}
+use Rattle.ui_machine.specs.Definition.{Definition}
+use Rattle.ui_machine.specs.Definition.Lookups.{place_of}
+use Rattle.builder_defs.specs.Meaning.{Parts, Entry, Prototype, meaning, plain_object, plain_prototype, places_of, is_object, is_object_there, if_object, object_place}
 
 -- ** a list behind another
 
@@ -95,6 +97,59 @@ module _ (ps : List Prototype) where
   pub objects_first : (os : List Entry) (i : ℕ) (place : Place) → slice_get (places_of os ps) i ≡ Some place
       → place.is_prototype ≡ nat_le (count_by is_object (places_of os ps)) i
   objects_first os i place h = behind_objects os i place h ∙ ap (λ (n : ℕ). nat_le n i) (sym (counted os))
+
+-- ** objects by their ids
+
+-- an id that no place has, no object has
+pub named_nowhere : {A : Type 0} (name_of : A → List ℕ) (name : List ℕ) (xs ys : List A) → place_named name_of (xs ++ ys) name ≡ None → place_named name_of xs name ≡ None
+named_nowhere name_of name xs ys none = by (place_named name_of xs name) refl
+  where
+    by : (o : Option ℕ) → place_named name_of xs name ≡ o → o ≡ None
+    by None e = refl
+    by (Some n) e = absurd (none-some n (sym none ∙ sym (named_before name_of name n xs ys e)))
+
+pub not_taken : {A : Type 0} (name_of : A → List ℕ) (name : List ℕ) (xs ys : List A) (taken : Bool)
+    → taken ≡ is_some (place_named name_of (xs ++ ys) name) → taken ≡ false → place_named name_of xs name ≡ None
+not_taken name_of name xs ys taken is free = named_nowhere name_of name xs ys (by (place_named name_of (xs ++ ys) name) (sym is ∙ free))
+  where
+    by : (o : Option ℕ) → is_some o ≡ false → o ≡ None
+    by None e = refl
+    by (Some n) e = absurd (cc)
+
+module _ (ps : List Prototype) where
+  object_there : (os : List Entry) (n : ℕ) → n < length os → is_object_there (slice_get (places_of os ps) n) ≡ true
+  object_there [] n h = absurd (omega (arith, h))
+  object_there (o ∷ os) zero h = refl
+  object_there (o ∷ os) (suc n) h = object_there os n (omega (arith, h))
+
+  prototype_there : (os : List Entry) (n : ℕ) → length os ≤ n → is_object_there (slice_get (places_of os ps) n) ≡ false
+  prototype_there os n h = by (slice_get (places_of os ps) n) refl
+    where
+      by : (o : Option Place) → slice_get (places_of os ps) n ≡ o → is_object_there o ≡ false
+      by None e = refl
+      by (Some place) e = let past : nat_le (length os) n ≡ true = grind (arith, nat_tests) in ap not (behind_objects ps os n place e ∙ past)
+
+module _ (p : Parts) (d : Definition) (is : meaning p ≡ d) (id : List ℕ) where
+  pub object_found : (n : ℕ) → n < length p.objects → Some n ≡ place_named (λ (x : Place). x.id) (map plain_object p.objects) id → Some n ≡ object_place d id
+  object_found n within found =
+      ap (λ (b : Bool). if b then Some n else None) (sym (object_there p.prototypes p.objects n within))
+      ∙ ap (option_and_then (if_object (meaning p))) (named_before (λ (x : Place). x.id) id n (map plain_object p.objects) (map plain_prototype p.prototypes) (sym found))
+      ∙ ap (λ (e : Definition). object_place e id) is
+
+  pub no_object : None ≡ place_named (λ (x : Place). x.id) (map plain_object p.objects) id → None ≡ object_place d id
+  no_object none =
+      by (place_named (λ (x : Place). x.id) (map plain_prototype p.prototypes) id)
+      ∙ ap (option_and_then (if_object (meaning p))) behind
+      ∙ ap (λ (e : Definition). object_place e id) is
+    where
+      behind : option_map (λ (n : ℕ). length p.objects + n) (place_named (λ (x : Place). x.id) (map plain_prototype p.prototypes) id) ≡ place_of (meaning p) id
+      behind =
+          named_behind (λ (x : Place). x.id) id (length p.objects) (map plain_object p.objects) (map plain_prototype p.prototypes)
+          (place_named (λ (x : Place). x.id) (map plain_prototype p.prototypes) id) (sym (length-map p.objects plain_object)) (sym none) refl
+
+      by : (o : Option ℕ) → None ≡ option_and_then (if_object (meaning p)) (option_map (λ (n : ℕ). length p.objects + n) o)
+      by None = refl
+      by (Some n) = ap (λ (b : Bool). if b then Some (length p.objects + n) else None) (sym (prototype_there p.prototypes p.objects (length p.objects + n) (omega arith)))
 
 pub all_places : (os : List Entry) (ps : List Prototype) → length (places_of os ps) ≡ length os + length ps
 all_places os ps =

@@ -41,16 +41,16 @@ module _ (path : List ℕ) (types : List GType) (names : TypeNames) (t : ℕ) (t
   unfolding next
   property_with spec h = property_at_is path types names t table d ∙ ap (λ r. r >>= next) h
 
-module _ (path : List ℕ) (keys : List (List ℕ)) (declare : Result (List GType) Refusal) (behind : Result (Unit {0}) Refusal) (names : TypeNames) (types : List GType) (table : List (List Spec)) (declared_table : List (List Signal)) (d : Data)
+module _ {A : Type 0} (path : List ℕ) (keys : List (List ℕ)) (declare : Result (List GType) Refusal) (behind : Draft → Result A Refusal) (names : TypeNames) (types : List GType) (table : List (List Spec)) (declared_table : List (List Signal)) (d : Data)
     (ms : Members) (new : List GType) (t : ℕ) (members : members_at path d ≡ Ok ms) (declared : declare ≡ Ok new) (at_end : t ≡ length types) where
-  finish : Draft → Result Draft Refusal
-  finish given = behind >>= λ done. only_at path ms keys >>= λ only. Ok given
+  finish : Draft → Result A Refusal
+  finish given = behind given >>= λ whole. only_at path ms keys >>= λ only. Ok whole
 
   type_is : type_at path keys declare behind names (draft_of types table declared_table) d ≡ (given_at path new names t (own_of table) (tables.own_of declared_table) d >>= finish)
   unfolding type_at finish
   type_is =
-      ap (λ (r : Result Members Refusal). r >>= λ m. declare >>= λ gs. given_at path gs names (length types) (own_of table) (tables.own_of declared_table) d >>= λ given. behind >>= λ done. only_at path m keys >>= λ only. Ok given) members
-      ∙ ap (λ (r : Result (List GType) Refusal). r >>= λ gs. given_at path gs names (length types) (own_of table) (tables.own_of declared_table) d >>= λ given. behind >>= λ done. only_at path ms keys >>= λ only. Ok given) declared
+      ap (λ (r : Result Members Refusal). r >>= λ m. declare >>= λ gs. given_at path gs names (length types) (own_of table) (tables.own_of declared_table) d >>= λ given. behind given >>= λ whole. only_at path m keys >>= λ only. Ok whole) members
+      ∙ ap (λ (r : Result (List GType) Refusal). r >>= λ gs. given_at path gs names (length types) (own_of table) (tables.own_of declared_table) d >>= λ given. behind given >>= λ whole. only_at path ms keys >>= λ only. Ok whole) declared
       ∙ ap (λ n. given_at path new names n (own_of table) (tables.own_of declared_table) d >>= finish) (sym at_end)
 
   pub members_fail : (e : ReadError) → Fails e (given_at path new names t (own_of table) (tables.own_of declared_table) d) → Fails e (type_at path keys declare behind names (draft_of types table declared_table) d)
@@ -60,16 +60,17 @@ module _ (path : List ℕ) (keys : List (List ℕ)) (declare : Result (List GTyp
     type_given : type_at path keys declare behind names (draft_of types table declared_table) d ≡ finish given
     type_given = type_is ∙ ap (λ r. r >>= finish) are
 
-    pub unset_fails : (e : ReadError) → Fails e behind → Fails e (type_at path keys declare behind names (draft_of types table declared_table) d)
+    pub unset_fails : (e : ReadError) → Fails e (behind given) → Fails e (type_at path keys declare behind names (draft_of types table declared_table) d)
     unfolding finish
-    unset_fails e h = fails_as e _ _ type_given (fails_first e behind (λ done. only_at path ms keys >>= λ only. Ok given) h)
+    unset_fails e h = fails_as e _ _ type_given (fails_first e (behind given) (λ whole. only_at path ms keys >>= λ only. Ok whole) h)
 
-    type_unset : behind ≡ Ok tt → type_at path keys declare behind names (draft_of types table declared_table) d ≡ (only_at path ms keys >>= λ only. Ok given)
-    unfolding finish
-    type_unset h = type_given ∙ ap (λ (r : Result (Unit {0}) Refusal). r >>= λ done. only_at path ms keys >>= λ only. Ok given) h
+    module _ (whole : A) (set : behind given ≡ Ok whole) where
+      type_set : type_at path keys declare behind names (draft_of types table declared_table) d ≡ (only_at path ms keys >>= λ only. Ok whole)
+      unfolding finish
+      type_set = type_given ∙ ap (λ (r : Result A Refusal). r >>= λ whole. only_at path ms keys >>= λ only. Ok whole) set
 
-    pub only_fails : (e : ReadError) → behind ≡ Ok tt → Fails e (only_at path ms keys) → Fails e (type_at path keys declare behind names (draft_of types table declared_table) d)
-    only_fails e n h = fails_as e _ _ (type_unset n) (fails_first e (only_at path ms keys) (λ only. Ok given) h)
+      pub only_fails : (e : ReadError) → Fails e (only_at path ms keys) → Fails e (type_at path keys declare behind names (draft_of types table declared_table) d)
+      only_fails e h = fails_as e _ _ type_set (fails_first e (only_at path ms keys) (λ only. Ok whole) h)
 
-    pub type_done : behind ≡ Ok tt → only_at path ms keys ≡ Ok tt → type_at path keys declare behind names (draft_of types table declared_table) d ≡ Ok given
-    type_done n h = type_unset n ∙ ap (λ (r : Result (Unit {0}) Refusal). r >>= λ only. Ok given) h
+      pub type_done : only_at path ms keys ≡ Ok tt → type_at path keys declare behind names (draft_of types table declared_table) d ≡ Ok whole
+      type_done h = type_set ∙ ap (λ (r : Result (Unit {0}) Refusal). r >>= λ only. Ok whole) h

@@ -1,5 +1,5 @@
 -- The programs of a definition, read with the names of the document.
-use Rattle.std.proofs.Common.{◌≡◌, ℕ, List, [], ◌∷◌, codes, Option, Result, Ok, sym, ap, ◌∙◌}
+use Rattle.std.proofs.Common.{◌≡◌, ℕ, List, [], codes, Option, Result, Ok, sym, ap, ◌∙◌}
 use Rattle.std.proofs.Math.Path.{fun_ext}
 use Rattle.serde_json.specs.Data.{Data, Items}
 use Rattle.ui_machine.specs.Definition.Programs.{Program}

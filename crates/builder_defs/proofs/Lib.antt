@@ -19,6 +19,7 @@ pub mod Ids
 pub mod Elements
 pub mod Registers
 pub mod AddedPrograms
+pub mod AddedPrototypes
 pub mod CodeNames
 pub mod PlaceIds
 pub mod AllPlaces
@@ -31,3 +32,5 @@ pub mod Finding
 pub mod OwnAhead
 pub mod NamesAhead
 pub mod Implementing
+pub mod ByType
+pub mod Answering

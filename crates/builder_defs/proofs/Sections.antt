@@ -7,16 +7,17 @@ use Rattle.serde_json.specs.View.{items_view}
 use Rattle.ui_machine.specs.Outcome.{◌>>=◌}
 use Rattle.ui_machine.specs.Definition.Types.{GType, predeclared}
 use Rattle.ui_machine.specs.Definition.Properties.{Spec}
-use Rattle.ui_machine.specs.Definition.Signals.{Signal}
+use Rattle.ui_machine.specs.Definition.Signals.{ClassHandler, Signal}
 use Rattle.builder_defs.specs.declared.fault.ReadError.{ReadError}
 use Rattle.builder_defs.specs.Refusals.{Refusal, Fails, shape, or_refused}
 use Rattle.builder_defs.specs.Document.{under, nothing_at, listed_ahead, entries_at, each, at_entry}
 use Rattle.builder_defs.specs.Denoted.Enums.{three_in, some_items, some_entries_at, enum_at, flags_at}
-use Rattle.builder_defs.specs.Denoted.Entries.{TypeNames}
+use Rattle.builder_defs.specs.Denoted.Entries.{ProgramNames, TypeNames}
 use Rattle.builder_defs.specs.Denoted.Properties.{property_at}
 use Rattle.builder_defs.specs.Denoted.Signals.{param_at, params_at, signal_at, signals_at}
-use Rattle.builder_defs.specs.Denoted.Drafts.{Draft, bare_draft, properties_at}
+use Rattle.builder_defs.specs.Denoted.Drafts.{ClassDraft, bare_draft, properties_at}
 use Rattle.builder_defs.specs.Denoted.Interfaces.{interface_at}
+use Rattle.builder_defs.specs.Denoted.ClassHandlers.{two_in, class_handler_at, class_handlers_at}
 use Rattle.builder_defs.specs.Denoted.Classes.{class_at}
 use Rattle.builder_defs.specs.Denoted.{unset_before_classes, enums_in, flags_in, interfaces_in, classes_in}
 use Rattle.builder_defs.proofs.Chains.{fails_as}
@@ -27,6 +28,12 @@ not_three (v ∷ []) h = refl
 not_three (v ∷ w ∷ []) h = refl
 not_three (v ∷ w ∷ x ∷ []) h = absurd (h refl)
 not_three (v ∷ w ∷ x ∷ y ∷ vs) h = refl
+
+pub not_two : (vs : List Value) → (length vs ≡ 2 → ⊥) → None ≡ two_in (items_view vs)
+not_two [] h = refl
+not_two (v ∷ []) h = refl
+not_two (v ∷ w ∷ []) h = absurd (h refl)
+not_two (v ∷ w ∷ x ∷ vs) h = refl
 
 pub some_there : (path key : List ℕ) (d : Data) (vs : List Value) → Some (items_view vs) ≡ option_and_then as_array (get key d) → 1 ≤ length vs → some_entries_at path d key ≡ Ok (items_view vs)
 some_there path key d [] is h = absurd (omega arith)
@@ -53,13 +60,13 @@ interfaces_fail names types d list e read fails =
     fails_as e _ _
     (ap (λ (r : Result Items Refusal). r >>= λ list. each (at_entry (λ path. interface_at path (length types) list (listed_ahead (codes "classes") d) names) (codes "/interfaces")) 0 (bare_draft types) list) read) fails
 
-pub classes_fail : (names : TypeNames) (draft : Draft) (d : Data) (list : Items) (e : ReadError) → nothing_at [] d unset_before_classes ≡ Ok tt → entries_at [] d (codes "classes") ≡ Ok list
-    → Fails e (each (at_entry (λ path. class_at path (length draft.types) list names) (codes "/classes")) 0 draft list) → Fails e (classes_in names draft d)
+pub classes_fail : (names : TypeNames) (programs : ProgramNames) (draft : ClassDraft) (d : Data) (list : Items) (e : ReadError) → nothing_at [] d unset_before_classes ≡ Ok tt → entries_at [] d (codes "classes") ≡ Ok list
+    → Fails e (each (at_entry (λ path. class_at path (length draft.types) list names programs) (codes "/classes")) 0 draft list) → Fails e (classes_in names programs draft d)
 unfolding classes_in
-classes_fail names draft d list e unset read fails =
+classes_fail names programs draft d list e unset read fails =
     fails_as e _ _
-    (ap (λ (r : Result (Unit {0}) Refusal). r >>= λ u. entries_at [] d (codes "classes") >>= λ list. each (at_entry (λ path. class_at path (length draft.types) list names) (codes "/classes")) 0 draft list) unset
-    ∙ ap (λ (r : Result Items Refusal). r >>= λ list. each (at_entry (λ path. class_at path (length draft.types) list names) (codes "/classes")) 0 draft list) read) fails
+    (ap (λ (r : Result (Unit {0}) Refusal). r >>= λ u. entries_at [] d (codes "classes") >>= λ list. each (at_entry (λ path. class_at path (length draft.types) list names programs) (codes "/classes")) 0 draft list) unset
+    ∙ ap (λ (r : Result Items Refusal). r >>= λ list. each (at_entry (λ path. class_at path (length draft.types) list names programs) (codes "/classes")) 0 draft list) read) fails
 
 pub properties_read_fail : (path : List ℕ) (types : List GType) (names : TypeNames) (t : ℕ) (own : ℕ → List Spec) (d : Data) (list : Items) (e : ReadError)
     → entries_at path d (codes "properties") ≡ Ok list
@@ -76,6 +83,14 @@ pub signals_read_fail : (path : List ℕ) (types : List GType) (names : TypeName
 unfolding signals_at
 signals_read_fail path types names t own d list e read fails =
     fails_as e _ _ (ap (λ (r : Result Items Refusal). r >>= λ list. each (at_entry (λ entry. signal_at entry types names t) (under path (codes "signals"))) 0 own list) read) fails
+
+pub class_handlers_read_fail : (path : List ℕ) (programs : ProgramNames) (t : ℕ) (own : ℕ → List ClassHandler) (d : Data) (list : Items) (e : ReadError)
+    → entries_at path d (codes "class-handlers") ≡ Ok list
+    → Fails e (each (at_entry (λ entry. class_handler_at entry programs t) (under path (codes "class-handlers"))) 0 own list)
+    → Fails e (class_handlers_at path programs t own d)
+unfolding class_handlers_at
+class_handlers_read_fail path programs t own d list e read fails =
+    fails_as e _ _ (ap (λ (r : Result Items Refusal). r >>= λ list. each (at_entry (λ entry. class_handler_at entry programs t) (under path (codes "class-handlers"))) 0 own list) read) fails
 
 pub params_read_fail : (path : List ℕ) (types : List GType) (names : TypeNames) (d : Data) (list : Items) (e : ReadError)
     → entries_at path d (codes "params") ≡ Ok list

@@ -3,7 +3,7 @@ use Rattle.std.proofs.Common.{◌≡◌, ◌≤◌, ◌<◌, ℕ, codes, zero, s
 use Rattle.std.specs.List.{flat_map, AllByRecursion}
 use Rattle.std.proofs.lemmas.List.{length_push, length-map}
 use Rattle.std.proofs.lemmas.Bool.Decides.{nat_tests}
-use Rattle.ui_machine.specs.Definition.Places.{Attached, Place}
+use Rattle.ui_machine.specs.Definition.Places.{Place}
 use Rattle.ui_machine.specs.Definition.Programs.{Program}
 use Rattle.serde_json.specs.Data.{Data, Items, no_items, item}
 use Rattle.ui_machine.specs.Definition.Types.{GType}
@@ -18,12 +18,12 @@ use Rattle.ui_machine.specs.Definition.Signals.{ClassHandler, Signal}
 use Rattle.ui_machine.specs.Words.{notify}
 use Rattle.signal_core.specs.Sources.{declared_of, sources_of}
 use Rattle.signal_core.specs.Sources as declared
-use Rattle.signal_core.specs.Table.{canonical_signal, named_of}
+use Rattle.signal_core.specs.Table.{Declared, canonical_signal, named_of}
 use Rattle.std.specs.Str.{bytes_eq}
 use Rattle.ui_machine.specs.Definition.Kinds as kinds
 use Rattle.ui_machine.specs.Rules.Ancestry.{lineage}
 use Rattle.ui_machine.specs.Rules.Validation.{is_valid}
-use Rattle.serde_json.specs.Find.{get, as_array, as_str}
+use Rattle.serde_json.specs.Find.{get, as_str}
 use Rattle.g_values.specs.View.{is_whole_kind}
 use Rattle.g_values.specs.Reading.{whole_number, number_between}
 use Rattle.g_values.specs.declared.error.JsonFault.TheVariants.{OutOfRange}
@@ -31,12 +31,12 @@ use Rattle.std.proofs.lemmas.Int.{ints}
 use Rattle.param_specs.specs.declared.error.SpecFault.{SpecFault}
 use Rattle.param_specs.specs.declared.error.SpecFault.TheVariants.{DefaultInvalid}
 use Rattle.param_specs.specs.Table.{own_of, specs_of, install_fault, canonical_spec}
-use Rattle.builder_defs.specs.Meaning.{Parts, plain_object, plain_program, IsPlain, IsPlainKind, AreLimits, ArePlain, IsKnownKind, HasKnownKinds, HaveKnownKinds, HasOwnName, IsSound, IsSoundProgram}
-use Rattle.builder_defs.specs.Refusals.{Refusal, shape, unknown, not_installed, limit, or_refused, or_value_fault, refused_if}
+use Rattle.builder_defs.specs.Meaning.{Parts, Prototype, plain_object, plain_prototype, plain_program, IsPlain, IsPlainKind, AreLimits, ArePlain, IsKnownKind, HasKnownKinds, HaveKnownKinds, HasOwnName, IsSound, IsSoundProgram}
+use Rattle.builder_defs.specs.Refusals.{Refusal, shape, unknown, not_installed, limit, or_refused, or_value_fault}
 use Rattle.builder_defs.specs.declared.fault.DefinitionLimit.TheVariants.{Places, Objects}
 use Rattle.ui_machine.specs.Outcome.{◌>>=◌}
-use Rattle.builder_defs.specs.Document.{each, at_entry, under, nth, members_at, text_at, entries_at, listed_ahead, nothing_at, only_at}
-use Rattle.builder_defs.specs.Denoted.Entries.{ObjectNames, TypeNames, type_names, most_levels}
+use Rattle.builder_defs.specs.Document.{each, at_entry, under, nth, members_at, text_at, entries_at, listed_ahead, nothing_at, only_at, absent_at}
+use Rattle.builder_defs.specs.Denoted.Entries.{TypeNames, type_names, most_levels, ProgramNames, program_names}
 use Rattle.builder_defs.specs.Denoted.Kinds.{is_enum, is_flags, enum_named, flags_named, parted, object_type, kind_by, kind_at, lowest, highest}
 use Rattle.builder_defs.specs.Denoted.PropertyFlags.{flags_at}
 use Rattle.builder_defs.specs.Denoted.Ranges.{Range, whole_range, end_given, end_or, check_filled, range_at}
@@ -45,15 +45,16 @@ use Rattle.builder_defs.specs.Denoted.Properties.{specs_by, inherited_by, proper
 use Rattle.builder_defs.specs.Denoted.Types.{room_for_type, new_type_name}
 use Rattle.builder_defs.specs.Denoted.Signals.{signals_by, count_by, param_at, params_at, some_kind, result_called, result_or, result_at, accumulator_at, room_for_signal, new_signal, keys_of_signal, signal_of_entry, add_signal, signal_at, signals_at}
 use Rattle.builder_defs.specs.Denoted.Signals as signals
-use Rattle.builder_defs.specs.Denoted.Drafts.{Draft, draft_of, bare_draft, properties_at, given_at, type_at}
+use Rattle.builder_defs.specs.Denoted.Drafts.{Answers, ClassDraft, Draft, draft_of, class_draft_of, bare_draft, no_answers, with_answers, unanswered, properties_at, given_at, type_at}
+use Rattle.builder_defs.specs.Denoted.ClassHandlers.{class_handler_in, add_handler, class_handler_at, class_handlers_at}
+use Rattle.builder_defs.specs.Denoted.Constructed.{constructed_at}
 use Rattle.builder_defs.specs.Denoted.Implements.{implements_at}
 use Rattle.builder_defs.specs.Denoted.Interfaces.{requires_at, interface_type_at, keys_of_interface, interface_at}
-use Rattle.builder_defs.specs.Denoted.Classes.{parent_at, parent_ahead, check_depth, keys_of_class, declared_at, answering_at, class_at}
+use Rattle.builder_defs.specs.Denoted.Classes.{parent_at, parent_ahead, check_depth, keys_of_class, declared_at, answers_at, answering_at, class_at}
 use Rattle.builder_defs.specs.Denoted.Classes as classes
-use Rattle.builder_defs.specs.Denoted.Objects.{Scope, room_for_object, new_id, class_at_key, keys_of_object, place_at, added_at, object_at}
-use Rattle.builder_defs.specs.Denoted.Given.{givens_at}
-use Rattle.builder_defs.specs.Denoted.Attached.{all_attached, attached_at}
-use Rattle.builder_defs.specs.Denoted.{unset_before_classes, unset_before_objects, enums_in, flags_in, interfaces_in, classes_in, draft_in, scope_with, objects_in}
+use Rattle.builder_defs.specs.Denoted.Objects.{Scope, room_for_object, keys_of_object, place_at, added_at, object_at}
+use Rattle.builder_defs.specs.Denoted.Prototypes.{room_for_prototype, prototype_in, prototype_at, prototypes_in}
+use Rattle.builder_defs.specs.Denoted.{unset_before_classes, enums_in, flags_in, interfaces_in, classes_in, draft_in, scope_with, objects_in}
 use Rattle.builder_defs.proofs.Elements.{both_all, flat_all, all_get, all_map}
 use Rattle.builder_defs.proofs.Installing.{specs_of-is}
 use Rattle.builder_defs.proofs.LaterTypes.{plain_later, known_later}
@@ -443,34 +444,87 @@ pub record PlainDraft (draft : Draft) : Type 0 where
   pub plain : AllOwn draft.types draft.own
   pub known : AllSignals draft.types draft.signals
 
-given_plain : (path : List ℕ) (types : List GType) (names : TypeNames) (t : ℕ) (own : ℕ → List Spec) (signals : ℕ → List Signal) (d : Data)
-    → AllOwn types own → AllSignals types signals → OnRead PlainDraft (given_at path types names t own signals d)
-unfolding given_at
-given_plain path types names t own signals d plain known =
-    on_bind (AllOwn types) PlainDraft (properties_at path types names t own d) _ (properties_plain path types names t own d plain) λ properties p.
-    on_bind (AllSignals types) PlainDraft (signals_at path types names t signals d) _ (signals_known path types names t signals d known) λ all k.
-    record { plain = p; known = k }
+-- a plain draft of these types
+PlainOf : List GType → Draft → Type 0
+PlainOf types draft = PlainDraft draft × (draft.types ≡ types)
 
-type_plain : (path : List ℕ) (keys : List (List ℕ)) (declared : Result (List GType) Refusal) (behind : Result (Unit {0}) Refusal) (names : TypeNames) (draft : Draft) (d : Data)
-    → OnRead (IsOneMore draft.types) declared → PlainDraft draft → OnRead PlainDraft (type_at path keys declared behind names draft d)
-unfolding type_at
-type_plain path keys declared behind names draft d one_more all =
-    on_bind (λ x. Unit {0}) PlainDraft (members_at path d) _ (on_all _) λ ms u.
-    on_bind (IsOneMore draft.types) PlainDraft declared _ one_more λ types more.
-    on_bind PlainDraft PlainDraft (given_at path types names (length draft.types) draft.own draft.signals d) _
+given_plain : (path : List ℕ) (types : List GType) (names : TypeNames) (t : ℕ) (own : ℕ → List Spec) (signals : ℕ → List Signal) (d : Data)
+    → AllOwn types own → AllSignals types signals → OnRead (PlainOf types) (given_at path types names t own signals d)
+unfolding given_at PlainOf
+given_plain path types names t own signals d plain known =
+    on_bind (AllOwn types) (PlainOf types) (properties_at path types names t own d) _ (properties_plain path types names t own d plain) λ properties p.
+    on_bind (AllSignals types) (PlainOf types) (signals_at path types names t signals d) _ (signals_known path types names t signals d known) λ all k.
+    (record { plain = p; known = k }, refl)
+
+type_plain : {A : Type 0} (P : A → Type 0) (path : List ℕ) (keys : List (List ℕ)) (declared : Result (List GType) Refusal) (behind : Draft → Result A Refusal) (names : TypeNames) (draft : Draft) (d : Data)
+    → OnRead (IsOneMore draft.types) declared → PlainDraft draft → ((given : Draft) → PlainDraft given → IsOneMore draft.types given.types → OnRead P (behind given))
+    → OnRead P (type_at path keys declared behind names draft d)
+unfolding type_at PlainOf
+type_plain P path keys declared behind names draft d one_more all last =
+    on_bind (λ x. Unit {0}) P (members_at path d) _ (on_all _) λ ms u.
+    on_bind (IsOneMore draft.types) P declared _ one_more λ types more.
+    on_bind (PlainOf types) P (given_at path types names (length draft.types) draft.own draft.signals d) _
     (given_plain path types names (length draft.types) draft.own draft.signals d (λ t. plain_longer draft.types types more (draft.own t) (all.plain t))
     (λ t. all_map (HasKnownKinds draft.types) (HasKnownKinds types) (signal_later draft.types types more) (draft.signals t) (all.known t))) λ given plain.
-    on_bind (λ x. Unit {0}) PlainDraft behind _ (on_all _) λ done u.
-    on_bind (λ x. Unit {0}) PlainDraft (only_at path ms keys) _ (on_all _) λ only u. plain
+    on_bind P P (behind given) _ (last given plain.0 (more.0, plain.1 ∙ more.1)) λ whole p.
+    on_bind (λ x. Unit {0}) P (only_at path ms keys) _ (on_all _) λ only u. p
 
-class_plain : (path : List ℕ) (first : ℕ) (list : Items) (names : TypeNames) (draft : Draft) (d : Data) → PlainDraft draft → OnRead PlainDraft (class_at path first list names draft d)
-class_plain path first list names draft d all =
-    type_plain path keys_of_class (declared_at path first list names draft d) (answering_at path d) names draft d (one_more_declared path first list names draft d) all
+-- no class handlers are of types from this one on
+abbrev pub NoneFrom : ℕ → (ℕ → List ClassHandler) → Type 0
+NoneFrom n handlers = (t : ℕ) → n ≤ t → handlers t ≡ []
+
+-- a plain draft whose types alone have class handlers
+pub record PlainClasses (draft : ClassDraft) : Type 0 where
+  pub plain : PlainDraft (unanswered draft)
+  pub past : NoneFrom (length draft.types) draft.answers.handlers
+
+none_added : (n t : ℕ) (own : ℕ → List ClassHandler) (h : ClassHandler) → t < n → NoneFrom n own → NoneFrom n (add_handler own t h)
+none_added n t own h before none u past =
+    let other : nat_eq u t ≡ false = grind (arith, nat_tests) in
+    ap (λ b. if b then own u ++ h ∷ [] else own u) other ∙ none u past
+
+handler_past : (path : List ℕ) (programs : ProgramNames) (n t : ℕ) (own : ℕ → List ClassHandler) (d : Data) → t < n → NoneFrom n own
+    → OnRead (NoneFrom n) (class_handler_at path programs t own d)
+unfolding class_handler_at
+handler_past path programs n t own d before none =
+    on_bind (λ x. Unit {0}) (NoneFrom n) (class_handler_in path programs (own t) d) _ (on_all _) λ h u. none_added n t own h before none
+
+handlers_past : (path : List ℕ) (programs : ProgramNames) (n t : ℕ) (own : ℕ → List ClassHandler) (d : Data) → t < n → NoneFrom n own
+    → OnRead (NoneFrom n) (class_handlers_at path programs t own d)
+unfolding class_handlers_at
+handlers_past path programs n t own d before none =
+    on_bind (λ x. Unit {0}) (NoneFrom n) (entries_at path d (codes "class-handlers")) _ (on_all _) λ list u.
+    on_each (NoneFrom n) (at_entry (λ entry. class_handler_at entry programs t) (under path (codes "class-handlers")))
+    (λ i own e none. handler_past (nth (under path (codes "class-handlers")) i) programs n t own e before none) 0 own list none
+
+answers_past : (path : List ℕ) (programs : ProgramNames) (n t : ℕ) (answers : Answers) (d : Data) → t < n → NoneFrom n answers.handlers
+    → OnRead (λ (all : Answers). NoneFrom n all.handlers) (answers_at path programs t answers d)
+unfolding answers_at
+answers_past path programs n t answers d before none =
+    on_bind (NoneFrom n) (λ (all : Answers). NoneFrom n all.handlers) (class_handlers_at path programs t answers.handlers d) _
+    (handlers_past path programs n t answers.handlers d before none) λ handlers past.
+    on_bind (λ x. Unit {0}) (λ (all : Answers). NoneFrom n all.handlers) (constructed_at path programs t answers.constructed d) _ (on_all _) λ constructed u.
+    on_bind (λ x. Unit {0}) (λ (all : Answers). NoneFrom n all.handlers) (absent_at path d (codes "shape" ∷ [])) _ (on_all _) λ absent u. past
+
+answering_plain : (path : List ℕ) (programs : ProgramNames) (draft : ClassDraft) (d : Data) (given : Draft) → PlainDraft given → IsOneMore draft.types given.types
+    → NoneFrom (length draft.types) draft.answers.handlers → OnRead PlainClasses (answering_at path programs (length draft.types) draft.answers d given)
+unfolding answering_at
+answering_plain path programs draft d given plain more none =
+    let within = more_within draft.types given.types (length draft.types) more refl in
+    on_bind (λ (all : Answers). NoneFrom (length given.types) all.handlers) PlainClasses (answers_at path programs (length draft.types) draft.answers d) _
+    (answers_past path programs (length given.types) (length draft.types) draft.answers d within (λ t h. none t (omega (arith, within, h)))) λ all past.
+    record { plain = plain; past = past }
+
+class_plain : (path : List ℕ) (first : ℕ) (list : Items) (names : TypeNames) (programs : ProgramNames) (draft : ClassDraft) (d : Data) → PlainClasses draft
+    → OnRead PlainClasses (class_at path first list names programs draft d)
+class_plain path first list names programs draft d all =
+    type_plain PlainClasses path keys_of_class (declared_at path first list names (unanswered draft) d) (answering_at path programs (length draft.types) draft.answers d) names (unanswered draft) d
+    (one_more_declared path first list names (unanswered draft) d) all.plain (λ given plain more. answering_plain path programs draft d given plain more all.past)
 
 interface_plain : (path : List ℕ) (first : ℕ) (interfaces classes : Items) (names : TypeNames) (draft : Draft) (d : Data) → PlainDraft draft → OnRead PlainDraft (interface_at path first interfaces classes names draft d)
 interface_plain path first interfaces classes names draft d all =
-    type_plain path keys_of_interface (interface_type_at path first interfaces classes draft.types d) (Ok tt) names draft d
-    (one_more_interface path first interfaces classes draft.types d) all
+    type_plain PlainDraft path keys_of_interface (interface_type_at path first interfaces classes draft.types d) Ok names draft d
+    (one_more_interface path first interfaces classes draft.types d) all (λ given plain more. plain)
 
 interfaces_plain : (names : TypeNames) (types : List GType) (d : Data) → OnRead PlainDraft (interfaces_in names types d)
 unfolding interfaces_in
@@ -479,86 +533,132 @@ interfaces_plain names types d =
     on_each PlainDraft (at_entry (λ path. interface_at path (length types) list (listed_ahead (codes "classes") d) names) (under [] (codes "interfaces")))
     (λ i draft e all. interface_plain (nth (under [] (codes "interfaces")) i) (length types) list (listed_ahead (codes "classes") d) names draft e all) 0 (bare_draft types) list (record { plain = λ t. tt; known = λ t. tt })
 
-classes_plain : (names : TypeNames) (draft : Draft) (d : Data) → PlainDraft draft → OnRead PlainDraft (classes_in names draft d)
+classes_plain : (names : TypeNames) (programs : ProgramNames) (draft : ClassDraft) (d : Data) → PlainClasses draft → OnRead PlainClasses (classes_in names programs draft d)
 unfolding classes_in
-classes_plain names draft d all =
-    on_bind (λ x. Unit {0}) PlainDraft (nothing_at [] d unset_before_classes) _ (on_all _) λ unset u.
-    on_bind (λ x. Unit {0}) PlainDraft (entries_at [] d (codes "classes")) _ (on_all _) λ list u.
-    on_each PlainDraft (at_entry (λ path. class_at path (length draft.types) list names) (under [] (codes "classes"))) (λ i more e plain. class_plain (nth (under [] (codes "classes")) i) (length draft.types) list names more e plain) 0 draft list all
+classes_plain names programs draft d all =
+    on_bind (λ x. Unit {0}) PlainClasses (nothing_at [] d unset_before_classes) _ (on_all _) λ unset u.
+    on_bind (λ x. Unit {0}) PlainClasses (entries_at [] d (codes "classes")) _ (on_all _) λ list u.
+    on_each PlainClasses (at_entry (λ path. class_at path (length draft.types) list names programs) (under [] (codes "classes")))
+    (λ i more e plain. class_plain (nth (under [] (codes "classes")) i) (length draft.types) list names programs more e plain) 0 draft list all
 
-pub draft_plain : (d : Data) → OnRead PlainDraft (draft_in d)
+pub draft_plain : (d : Data) → OnRead PlainClasses (draft_in d)
 unfolding draft_in
 draft_plain d =
-    on_bind (λ x. Unit {0}) PlainDraft (enums_in d) _ (on_all _) λ enums u.
-    on_bind (λ x. Unit {0}) PlainDraft (flags_in enums d) _ (on_all _) λ types u.
-    on_bind PlainDraft PlainDraft (interfaces_in (type_names types d) types d) _ (interfaces_plain (type_names types d) types d) λ draft all.
-    classes_plain (type_names types d) draft d all
+    on_bind (λ x. Unit {0}) PlainClasses (enums_in d) _ (on_all _) λ enums u.
+    on_bind (λ x. Unit {0}) PlainClasses (flags_in enums d) _ (on_all _) λ types u.
+    on_bind PlainDraft PlainClasses (interfaces_in (type_names types d) types d) _ (interfaces_plain (type_names types d) types d) λ draft all.
+    classes_plain (type_names types d) (program_names d) (with_answers draft no_answers) d (record { plain = all; past = λ t past. refl })
+
+-- ** no more prototypes than there is room for
+
+room_left : (prototypes : List Place) → OnRead (λ u. length prototypes < 512) (room_for_prototype prototypes)
+room_left prototypes = by (nat_le 512 (length prototypes)) refl
+  where
+    by : (b : Bool) → nat_le 512 (length prototypes) ≡ b → OnRead {A = Unit {0}} (λ u. length prototypes < 512) (if b then Err (limit Places) else Ok tt)
+    by true e = tt
+    by false e = grind (arith, nat_tests)
+
+-- not more than there are places
+abbrev pub AreWithin : List Place → Type 0
+AreWithin prototypes = length prototypes ≤ 512
+
+prototype_room : (path : List ℕ) (types : List GType) (specs : ℕ → List Spec) (prototypes : List Place) (d : Data)
+    → OnRead (λ p. length prototypes < 512) (prototype_in path types specs prototypes d)
+unfolding prototype_in
+prototype_room path types specs prototypes d =
+    on_bind (λ x. Unit {0}) (λ p. length prototypes < 512) (members_at path d) _ (on_all _) λ ms u.
+    on_bind (λ x. length prototypes < 512) (λ p. length prototypes < 512) (room_for_prototype prototypes) _ (room_left prototypes) λ u room.
+    on_known (length prototypes < 512) room _
+
+prototype_within : (path : List ℕ) (types : List GType) (specs : ℕ → List Spec) (prototypes : List Place) (d : Data)
+    → OnRead AreWithin (prototype_at path types specs prototypes d)
+unfolding prototype_at
+prototype_within path types specs prototypes d =
+    on_bind (λ p. length prototypes < 512) AreWithin (prototype_in path types specs prototypes d) (λ p. Ok (prototypes ++ p ∷ []))
+    (prototype_room path types specs prototypes d) λ p room. let one = length_push prototypes p in omega (arith, one, room)
+
+pub prototypes_within : (types : List GType) (specs : ℕ → List Spec) (d : Data) → OnRead AreWithin (prototypes_in types specs d)
+unfolding prototypes_in
+prototypes_within types specs d =
+    on_bind (λ x. Unit {0}) AreWithin (entries_at [] d (codes "prototypes")) _ (on_all _) λ list u.
+    on_each AreWithin (at_entry (λ path. prototype_at path types specs) (under [] (codes "prototypes")))
+    (λ i ps entry few. prototype_within (nth (under [] (codes "prototypes")) i) types specs ps entry) 0 [] list (omega arith)
+
+pub few_prototypes : (types : List GType) (specs : ℕ → List Spec) (d : Data) (ps : List Prototype) → prototypes_in types specs d ≡ Ok (map plain_prototype ps) → length ps ≤ 512
+few_prototypes types specs d ps read =
+    let within : AreWithin (map plain_prototype ps) = subst (OnRead AreWithin) read (prototypes_within types specs d) in
+    omega (arith, within, length-map ps plain_prototype)
 
 -- ** no more objects than there is room for
 
--- not more than there are places, and not more than may live
-pub record AreFew (most : ℕ) (places : List Place) : Type 0 where
-  pub placed : length places ≤ 512
+-- not more than there are places beside these prototypes, and not more than may live
+pub record AreFew (most : ℕ) (prototypes places : List Place) : Type 0 where
+  pub placed : length places + length prototypes ≤ 512
   pub live : length places ≤ most
 
 -- there is room for one more
-record HasRoom (most : ℕ) (places : List Place) : Type 0 where
-  place : length places < 512
+record HasRoom (most : ℕ) (prototypes places : List Place) : Type 0 where
+  place : length places + length prototypes < 512
   life : length places < most
 
-room_below : (most : ℕ) (places : List Place) → OnRead (λ u. HasRoom most places) (room_for_object most places)
-room_below most places = by (nat_le 512 (length places)) (nat_le most (length places)) refl refl
+room_below : (most : ℕ) (prototypes places : List Place) → OnRead (λ u. HasRoom most prototypes places) (room_for_object most prototypes places)
+room_below most prototypes places = by (nat_le 512 (length places + length prototypes)) (nat_le most (length places)) refl refl
   where
-    by : (b c : Bool) → nat_le 512 (length places) ≡ b → nat_le most (length places) ≡ c
-        → OnRead {A = Unit {0}} (λ u. HasRoom most places) (if b then Err (limit Places) else (if c then Err (limit Objects) else Ok tt))
+    by : (b c : Bool) → nat_le 512 (length places + length prototypes) ≡ b → nat_le most (length places) ≡ c
+        → OnRead {A = Unit {0}} (λ u. HasRoom most prototypes places) (if b then Err (limit Places) else (if c then Err (limit Objects) else Ok tt))
     by true c e f = tt
     by false true e f = tt
     by false false e f = record { place = grind (arith, nat_tests); life = grind (arith, nat_tests) }
 
-place_few : (scope : Scope) (parent : Option ℕ) (path : List ℕ) (places : List Place) (d : Data)
-    → OnRead (λ place. HasRoom scope.most places) (place_at path scope parent places d)
-unfolding place_at
-place_few scope parent path places d =
-    on_bind (λ x. HasRoom scope.most places) (λ place. HasRoom scope.most places) (room_for_object scope.most places) _ (room_below scope.most places) λ u room.
-    on_known (HasRoom scope.most places) room _
+module _ (scope : Scope) where
+  abbrev Roomy : List Place → Type 0
+  Roomy places = HasRoom scope.most scope.prototypes places
 
-one_place_more : (most : ℕ) (places : List Place) (place : Place) → HasRoom most places → AreFew most (places ++ place ∷ [])
-one_place_more most places place room =
-    let one = length_push places place in
-    record { placed = omega (arith, one, room.place); live = omega (arith, one, room.life) }
+  abbrev Few : List Place → Type 0
+  Few places = AreFew scope.most scope.prototypes places
 
-added_few : (scope : Scope) (parent : Option ℕ) (path : List ℕ) (places : List Place) (d : Data) → OnRead (AreFew scope.most) (added_at path scope parent places d)
-unfolding added_at
-added_few scope parent path places d =
-    on_bind (λ place. HasRoom scope.most places) (AreFew scope.most) (place_at path scope parent places d) (λ place. Ok (places ++ place ∷ []))
-    (place_few scope parent path places d) λ place room. one_place_more scope.most places place room
+  place_few : (parent : Option ℕ) (path : List ℕ) (places : List Place) (d : Data) → OnRead (λ place. Roomy places) (place_at path scope parent places d)
+  unfolding place_at
+  place_few parent path places d =
+      on_bind (λ x. Roomy places) (λ place. Roomy places) (room_for_object scope.most scope.prototypes places) _ (room_below scope.most scope.prototypes places) λ u room.
+      on_known (Roomy places) room _
 
-object_few : (levels : ℕ) (scope : Scope) (parent : Option ℕ) (path : List ℕ) (places : List Place) (d : Data)
-    → OnRead (AreFew scope.most) (object_at levels scope parent path places d)
-unfolding object_at
-object_few zero scope parent path places d = tt
-object_few (suc levels) scope parent path places d =
-    on_bind (λ x. Unit {0}) (AreFew scope.most) (members_at path d) _ (on_all _) λ ms u.
-    on_bind (AreFew scope.most) (AreFew scope.most) (added_at path scope parent places d) _ (added_few scope parent path places d) λ more few.
-    on_bind (λ x. Unit {0}) (AreFew scope.most) (entries_at path d (codes "children")) _ (on_all _) λ list u.
-    on_bind (AreFew scope.most) (AreFew scope.most) (each (at_entry (object_at levels scope (Some (length places))) (under path (codes "children"))) 0 more list) _
-    (on_each (AreFew scope.most) (at_entry (object_at levels scope (Some (length places))) (under path (codes "children")))
-    (λ i others entry fewer. object_few levels scope (Some (length places)) (nth (under path (codes "children")) i) others entry) 0 more list few) λ all fewer.
-    on_bind (λ x. Unit {0}) (AreFew scope.most) (only_at path ms keys_of_object) _ (on_all _) λ only u. fewer
+  one_place_more : (places : List Place) (place : Place) → Roomy places → Few (places ++ place ∷ [])
+  one_place_more places place room =
+      let one = length_push places place in
+      record { placed = omega (arith, one, room.place); live = omega (arith, one, room.life) }
 
-pub objects_few : (types : List GType) (specs : ℕ → List Spec) (programs : List Program) (most : ℕ) (d : Data) → OnRead (AreFew most) (objects_in types specs programs most d)
+  added_few : (parent : Option ℕ) (path : List ℕ) (places : List Place) (d : Data) → OnRead Few (added_at path scope parent places d)
+  unfolding added_at
+  added_few parent path places d =
+      on_bind (λ place. Roomy places) Few (place_at path scope parent places d) (λ place. Ok (places ++ place ∷ []))
+      (place_few parent path places d) λ place room. one_place_more places place room
+
+  object_few : (levels : ℕ) (parent : Option ℕ) (path : List ℕ) (places : List Place) (d : Data) → OnRead Few (object_at levels scope parent path places d)
+  unfolding object_at
+  object_few zero parent path places d = tt
+  object_few (suc levels) parent path places d =
+      on_bind (λ x. Unit {0}) Few (members_at path d) _ (on_all _) λ ms u.
+      on_bind Few Few (added_at path scope parent places d) _ (added_few parent path places d) λ more few.
+      on_bind (λ x. Unit {0}) Few (entries_at path d (codes "children")) _ (on_all _) λ list u.
+      on_bind Few Few (each (at_entry (object_at levels scope (Some (length places))) (under path (codes "children"))) 0 more list) _
+      (on_each Few (at_entry (object_at levels scope (Some (length places))) (under path (codes "children")))
+      (λ i others entry fewer. object_few levels (Some (length places)) (nth (under path (codes "children")) i) others entry) 0 more list few) λ all fewer.
+      on_bind (λ x. Unit {0}) Few (only_at path ms keys_of_object) _ (on_all _) λ only u. fewer
+
+pub objects_few : (types : List GType) (specs : ℕ → List Spec) (programs : List Program) (prototypes : List Place) (most : ℕ) (d : Data) → AreWithin prototypes
+    → OnRead (AreFew most prototypes) (objects_in types specs programs prototypes most d)
 unfolding objects_in
-objects_few types specs programs most d =
-    on_bind (λ x. Unit {0}) (AreFew most) (nothing_at [] d unset_before_objects) _ (on_all _) λ unset u.
-    on_bind (λ x. Unit {0}) (AreFew most) (entries_at [] d (codes "objects")) _ (on_all _) λ list u.
-    on_each (AreFew most) (at_entry (object_at most_levels (scope_with types specs programs most list) None) (under [] (codes "objects")))
-    (λ i others entry fewer. object_few most_levels (scope_with types specs programs most list) None (nth (under [] (codes "objects")) i) others entry) 0 [] list
-    (record { placed = omega arith; live = omega arith })
+objects_few types specs programs prototypes most d within =
+    on_bind (λ x. Unit {0}) (AreFew most prototypes) (entries_at [] d (codes "objects")) _ (on_all _) λ list u.
+    on_each (AreFew most prototypes) (at_entry (object_at most_levels (scope_with types specs programs prototypes most list) None) (under [] (codes "objects")))
+    (λ i others entry fewer. object_few (scope_with types specs programs prototypes most list) most_levels None (nth (under [] (codes "objects")) i) others entry) 0 [] list
+    (record { placed = omega (arith, within); live = omega arith })
 
 -- the properties of types that were read are plain
-pub plain_read : (types : List GType) (table : List (List Spec)) (signals : List (List Signal)) (d : Data) → draft_in d ≡ Ok (draft_of types table signals) → ArePlain types table
-plain_read types table signals d read =
-    let all : PlainDraft (draft_of types table signals) = subst (OnRead PlainDraft) read (draft_plain d) in
+pub plain_read : (types : List GType) (table : List (List Spec)) (declared : Declared) (constructed : List (Option ℕ)) (d : Data) → draft_in d ≡ Ok (class_draft_of types table declared constructed) → ArePlain types table
+plain_read types table declared constructed d read =
+    let all : PlainDraft (draft_of types table declared.signals) = (subst (OnRead PlainClasses) read (draft_plain d)).plain in
     record {
       at = λ t slot s h.
           plain_get types (specs_of types table t) slot s
@@ -566,34 +666,41 @@ plain_read types table signals d read =
     }
 
 -- the signals of types that were read have known kinds
-pub kinds_read : (types : List GType) (table : List (List Spec)) (signals : List (List Signal)) (d : Data) → draft_in d ≡ Ok (draft_of types table signals) → HaveKnownKinds types signals
+pub kinds_read : (types : List GType) (table : List (List Spec)) (given : Declared) (constructed : List (Option ℕ)) (d : Data) → draft_in d ≡ Ok (class_draft_of types table given constructed) → HaveKnownKinds types given.signals
 unfolding declared_of
-kinds_read types table signals d read =
-    let all : PlainDraft (draft_of types table signals) = subst (OnRead PlainDraft) read (draft_plain d) in
+kinds_read types table given constructed d read =
+    let all : PlainDraft (draft_of types table given.signals) = (subst (OnRead PlainClasses) read (draft_plain d)).plain in
     record {
       at = λ t number s h.
-          all_get (HasKnownKinds types) (notify ∷ flat_map (declared.own_of signals) (sources_of types t)) number s
-          (record { params = tt; result = tt }, flat_all (HasKnownKinds types) (declared.own_of signals) all.known (sources_of types t)) h;
+          all_get (HasKnownKinds types) (notify ∷ flat_map (declared.own_of given.signals) (sources_of types t)) number s
+          (record { params = tt; result = tt }, flat_all (HasKnownKinds types) (declared.own_of given.signals) all.known (sources_of types t)) h;
     }
 
--- a definition of what was read, whose classes name no programs
-pub sound : (p : Parts) (d : Data) → draft_in d ≡ Ok (draft_of p.types p.specs p.declared.signals) → AreLimits p.limits
-    → objects_in p.types (specs_by p.types (own_of p.specs)) (map plain_program p.programs) p.limits.objects d ≡ Ok (map plain_object p.objects)
-    → p.declared.handlers ≡ [] → p.constructed ≡ [] → p.prototypes ≡ [] → AllByRecursion HasOwnName p.programs → AllByRecursion (IsSoundProgram p.types) p.programs
+-- types that were read alone have class handlers
+handlers_read : (types : List GType) (table : List (List Spec)) (declared : Declared) (constructed : List (Option ℕ)) (d : Data) → draft_in d ≡ Ok (class_draft_of types table declared constructed)
+    → NoneFrom (length types) (named_of declared.handlers)
+handlers_read types table declared constructed d read = (subst (OnRead PlainClasses) read (draft_plain d)).past
+
+-- a definition of what was read
+pub sound : (p : Parts) (d : Data) → draft_in d ≡ Ok (class_draft_of p.types p.specs p.declared p.constructed) → AreLimits p.limits
+    → prototypes_in p.types (specs_by p.types (own_of p.specs)) d ≡ Ok (map plain_prototype p.prototypes)
+    → objects_in p.types (specs_by p.types (own_of p.specs)) (map plain_program p.programs) (map plain_prototype p.prototypes) p.limits.objects d ≡ Ok (map plain_object p.objects)
+    → AllByRecursion HasOwnName p.programs → AllByRecursion (IsSoundProgram p.types) p.programs
     → length p.programs ≤ 256 → IsSound p
-sound p d read within objects unhandled unconstructed bare named programs fewer =
-    let few : AreFew p.limits.objects (map plain_object p.objects) = subst (OnRead (AreFew p.limits.objects)) objects (objects_few p.types (specs_by p.types (own_of p.specs)) (map plain_program p.programs) p.limits.objects d) in
+sound p d read within prototypes objects named programs fewer =
+    let specs = specs_by p.types (own_of p.specs) in
+    let made = map plain_prototype p.prototypes in
+    let most = p.limits.objects in
+    let fit : AreWithin made = subst (OnRead AreWithin) prototypes (prototypes_within p.types specs d) in
+    let few : AreFew most made (map plain_object p.objects) = subst (OnRead (AreFew most made)) objects (objects_few p.types specs (map plain_program p.programs) made most d fit) in
     record {
-      plain = plain_read p.types p.specs p.declared.signals d read;
-      kinds = kinds_read p.types p.specs p.declared.signals d read;
+      plain = plain_read p.types p.specs p.declared p.constructed d read;
+      kinds = kinds_read p.types p.specs p.declared p.constructed d read;
       limited = within;
       few = omega (arith, few.live, length-map p.objects plain_object);
-      places = omega (arith, few.placed, length-map p.objects plain_object, ap length bare);
+      places = omega (arith, few.placed, length-map p.objects plain_object, length-map p.prototypes plain_prototype);
       named = named;
       programs = programs;
       few_programs = fewer;
-      handlers = λ t past. ap (λ (hs : List (List ClassHandler)). named_of hs t) unhandled;
-      no_handlers = unhandled;
-      no_constructed = unconstructed;
-      no_prototypes = bare;
+      handlers = handlers_read p.types p.specs p.declared p.constructed d read;
     }

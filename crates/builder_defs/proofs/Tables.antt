@@ -1,5 +1,5 @@
 -- The specs, the signals and the name of a class of a definition, and the programs that it names.
-use Rattle.std.proofs.Common.{◌≡◌, ℕ, zero, suc, ◌<◌, ◌≤◌, true, false, Option, List, [], ◌∷◌, length, map, Some, None, option_map, slice_get, refl, sym, ap, subst, ◌∙◌, arith, inl, inr}
+use Rattle.std.proofs.Common.{◌≡◌, ℕ, zero, suc, ◌<◌, ◌≤◌, true, Option, List, [], ◌∷◌, length, map, Some, None, option_map, slice_get, refl, sym, ap, subst, ◌∙◌, arith, inl, inr}
 use Rattle.std.specs.List.{AllByRecursion}
 use Rattle.std.proofs.Math.Path.{fun_ext}
 use Rattle.std.proofs.lemmas.Bool.{cases_lt}
@@ -20,7 +20,7 @@ use Rattle.param_specs.specs.Table.{specs_of}
 use Rattle.signal_core.specs.Laws.{walk_for}
 use Rattle.signal_core.specs.Sources.{signals_of}
 use Rattle.signal_core.specs.Table.{named_of, planned_for}
-use Rattle.builder_defs.specs.Meaning.{Parts, Entry, Prototype, class_in, plain_object, plain_prototype, plain_program, places_of, meaning, IsPlain, HasKnownKinds, IsSound, IsSoundProgram, IsBasic, planned}
+use Rattle.builder_defs.specs.Meaning.{Parts, class_in, plain_program, meaning, IsPlain, HasKnownKinds, IsSound, IsSoundProgram, IsBasic, planned}
 use Rattle.ui_machine.proofs.Listed.{read-listed}
 use Rattle.builder_defs.proofs.AllPlaces.{objects_first, each_place}
 use Rattle.builder_defs.proofs.Registers.{few_registers}
@@ -122,28 +122,14 @@ module _ (p : Parts) (sound : IsSound p) where
     | inr past ↦ let e : signal_of (meaning p) t number ≡ None = ap (λ (xs : List Signal). slice_get xs number) (unknown_signals p t past) in absurd (cc)
   ]
 
-  no_constructed : (t : ℕ) → (lookups.class_of (meaning p) t).constructed ≡ None
-  no_constructed t = elim (cases_lt t (length p.types)) [
-    | inl known ↦ sym (known_constructed p t known) ∙ ap (λ (xs : List (Option ℕ)). read None xs t) sound.no_constructed
-    | inr past ↦ sym (unknown_constructed p t past)
-  ]
-
   well_shaped : (number : ℕ) (q : Program) → lookups.program_at (meaning p) number ≡ Some q → shape_fault q ≡ None
   well_shaped = each_seen (λ (q : Program). shape_fault q ≡ None) plain_program (IsSoundProgram p.types) (λ e fine. fine.shaped) p.programs sound.programs
 
-  plain_only : (es : List Entry) (n : ℕ) (place : Place) → slice_get (places_of es []) n ≡ Some place → place.is_prototype ≡ false
-  plain_only [] n place h = cc h
-  plain_only (e ∷ es) zero place h = let same : plain_object e ≡ place = cc h in subst (λ (x : Place). x.is_prototype ≡ false) same refl
-  plain_only (e ∷ es) (suc n) place h = plain_only es n place h
-
   pub basic : IsBasic (meaning p)
   basic = record {
-    handlers = λ t. sym (handlers_are p sound t) ∙ ap (λ (hs : List (List ClassHandler)). named_of hs t) sound.no_handlers;
-    constructed = no_constructed;
     shapes = λ t. each_class (λ (c : Class). c.shape ≡ None) lookups.no_class (class_in p) (length p.types) t refl (λ t. refl);
     plain = plain_spec;
     prototypes = objects_first p.prototypes p.objects;
-    only_objects = λ n place h. plain_only p.objects n place (subst (λ (qs : List Prototype). slice_get (places_of p.objects qs) n ≡ Some place) sound.no_prototypes h);
     no_parents = each_place p.prototypes (λ (place : Place). place.is_prototype ≡ true → place.parent ≡ None) (λ o h. absurd (cc)) (λ q h. refl) p.objects;
     silent = each_place p.prototypes (λ (place : Place). place.is_prototype ≡ true → place.signals ≡ []) (λ o h. absurd (cc)) (λ q h. refl) p.objects;
     peers = each_place p.prototypes (λ (place : Place). place.peers ≡ []) (λ o. refl) (λ q. refl) p.objects;

@@ -1,52 +1,77 @@
 -- A whole definition, of its parts.
-use Rattle.std.proofs.Common.{◌≡◌, ℕ, List, [], map, codes, Result, Ok, Option, option_and_then, sym, ap, ◌∙◌, refl}
-use Rattle.std.proofs.lemmas.List.{append-nil}
+use Rattle.std.proofs.Common.{◌≡◌, ℕ, List, [], ◌++◌, map, codes, Result, Ok, Option, option_and_then, sym, ap, ◌∙◌, refl}
 use Rattle.serde_json.specs.Data.{Data, Members}
 use Rattle.serde_json.specs.Find.{get, as_number, as_u64}
 use Rattle.ui_machine.specs.Definition.Types.{GType}
 use Rattle.ui_machine.specs.Definition.Properties.{Spec}
-use Rattle.ui_machine.specs.Definition.Signals.{ClassHandler, Signal}
+use Rattle.ui_machine.specs.Definition.Signals.{ClassHandler}
 use Rattle.ui_machine.specs.Definition.{Definition}
 use Rattle.ui_machine.specs.Definition.Places.{Place}
 use Rattle.ui_machine.specs.Definition.Programs.{Program}
 use Rattle.ui_machine.specs.declared.limits.Limits.{Limits}
 use Rattle.param_specs.specs.Table.{own_of, specs_of}
 use Rattle.signal_core.specs.Sources.{declared_of}
-use Rattle.builder_defs.specs.Meaning.{Parts, Entry, Prototype, NamedProgram, parts, meaning, plain_object, plain_program}
+use Rattle.builder_defs.specs.Meaning.{Parts, meaning, plain_object, plain_prototype, plain_program, places_of}
+use Rattle.signal_core.specs.Table.{Declared}
 use Rattle.ui_machine.specs.Outcome.{◌>>=◌}
 use Rattle.builder_defs.specs.declared.fault.ReadError.{ReadError}
 use Rattle.builder_defs.specs.Refusals.{Refusal, Fails}
 use Rattle.builder_defs.specs.Document.{members_at, only_at}
 use Rattle.builder_defs.specs.Denoted.Properties.{specs_by}
-use Rattle.builder_defs.specs.Denoted.Drafts.{Draft, draft_of}
+use Rattle.builder_defs.specs.Denoted.Entries.{ProgramNames, TypeNames, program_names, type_names}
+use Rattle.builder_defs.specs.Denoted.Drafts.{ClassDraft, Draft, answers_of, class_draft_of, draft_of, no_answers, with_answers}
 use Rattle.builder_defs.specs.Denoted.SessionLimits.{limits_in}
 use Rattle.builder_defs.specs.Denoted.Programs.{programs_in}
-use Rattle.builder_defs.specs.Denoted.{format_of, draft_in, objects_in, definition_in, definition_with, keys_of_definition}
+use Rattle.builder_defs.specs.Denoted.Prototypes.{prototypes_in}
+use Rattle.builder_defs.specs.Denoted.{format_of, enums_in, flags_in, interfaces_in, classes_in, draft_in, objects_in, definition_in, definition_with, keys_of_definition}
 use Rattle.builder_defs.proofs.Chains.{fails_as, fails_first}
 
--- a definition whose classes name no programs
-bare : (types : List GType) (table : List (List Spec)) (signals : List (List Signal)) (ps : List NamedProgram) (os : List Entry) (limits : Limits)
-    → definition_with (draft_of types table signals) (map plain_program ps) (map plain_object os) limits ≡ meaning (parts types table (record { signals = signals; handlers = [] }) [] ps [] os limits)
-unfolding specs_of declared_of
-bare types table signals ps os limits = ap (λ (places : List Place). definition_with (draft_of types table signals) (map plain_program ps) places limits) (sym (append-nil (map plain_object os)))
+-- ** its types
 
-meant : (p : Parts) → p.declared.handlers ≡ [] → p.constructed ≡ [] → p.prototypes ≡ []
-    → definition_with (draft_of p.types p.specs p.declared.signals) (map plain_program p.programs) (map plain_object p.objects) p.limits ≡ meaning p
-meant p unhandled unconstructed none =
-    bare p.types p.specs p.declared.signals p.programs p.objects p.limits
-    ∙ ap (λ (hs : List (List ClassHandler)). meaning (parts p.types p.specs (record { signals = p.declared.signals; handlers = hs }) [] p.programs [] p.objects p.limits)) (sym unhandled)
-    ∙ ap (λ (cs : List (Option ℕ)). meaning (parts p.types p.specs p.declared cs p.programs [] p.objects p.limits)) (sym unconstructed)
-    ∙ ap (λ (qs : List Prototype). meaning (parts p.types p.specs p.declared p.constructed p.programs qs p.objects p.limits)) (sym none)
+module _ (d : Data) (enums types more : List GType) (table : List (List Spec)) (declared : Declared) (constructed : List (Option ℕ)) (names : TypeNames) (programs : ProgramNames)
+    (named : names ≡ type_names types d) (known : programs ≡ program_names d) (first : enums_in d ≡ Ok enums) (second : flags_in enums d ≡ Ok types)
+    (third : interfaces_in names types d ≡ Ok (draft_of more table declared.signals)) (none : declared.handlers ≡ []) (bare : constructed ≡ []) where
+  draft_is : draft_in d ≡ classes_in names programs (class_draft_of more table declared constructed) d
+  unfolding draft_in
+  draft_is =
+      ap (λ (r : Result (List GType) Refusal). r >>= λ es. flags_in es d >>= λ ts. interfaces_in (type_names ts d) ts d >>= λ all. classes_in (type_names ts d) (program_names d) (with_answers all no_answers) d) first
+      ∙ ap (λ (r : Result (List GType) Refusal). r >>= λ ts. interfaces_in (type_names ts d) ts d >>= λ all. classes_in (type_names ts d) (program_names d) (with_answers all no_answers) d) second
+      ∙ ap (λ (ns : TypeNames). interfaces_in ns types d >>= λ all. classes_in ns (program_names d) (with_answers all no_answers) d) (sym named)
+      ∙ ap (λ (r : Result Draft Refusal). r >>= λ all. classes_in names (program_names d) (with_answers all no_answers) d) third
+      ∙ ap (λ (ps : ProgramNames). classes_in names ps (with_answers (draft_of more table declared.signals) no_answers) d) (sym known)
+      ∙ ap (λ (hs : List (List ClassHandler)). classes_in names programs (with_answers (draft_of more table declared.signals) (answers_of hs [])) d) (sym none)
+      ∙ ap (λ (cs : List (Option ℕ)). classes_in names programs (class_draft_of more table declared cs) d) (sym bare)
+
+  pub draft_fails : (e : ReadError) → Fails e (classes_in names programs (class_draft_of more table declared constructed) d) → Fails e (draft_in d)
+  draft_fails e h = fails_as e _ _ draft_is h
+
+  pub draft_with : (all : ClassDraft) → classes_in names programs (class_draft_of more table declared constructed) d ≡ Ok all → draft_in d ≡ Ok all
+  draft_with all h = draft_is ∙ h
+
+-- ** the whole
+
+-- the definition of parts, as they are read
+meant : (p : Parts)
+    → definition_with (class_draft_of p.types p.specs p.declared p.constructed) (map plain_program p.programs) (places_of p.objects p.prototypes) p.limits ≡ meaning p
+unfolding specs_of declared_of
+meant p = refl
 
 module _ (d : Data) where
   -- what is left to read behind each part
-  after_places : Members → Draft → Limits → List Program → List Place → Result Definition Refusal
+  after_places : Members → ClassDraft → Limits → List Program → List Place → Result Definition Refusal
   after_places ms draft limits programs places = only_at [] ms keys_of_definition >>= λ o. Ok (definition_with draft programs places limits)
 
-  after_programs : Members → Draft → Limits → List Program → Result Definition Refusal
-  after_programs ms draft limits programs = objects_in draft.types (specs_by draft.types draft.own) programs limits.objects d >>= after_places ms draft limits programs
+  after_objects : Members → ClassDraft → Limits → List Program → (prototypes objects : List Place) → Result Definition Refusal
+  after_objects ms draft limits programs prototypes objects = after_places ms draft limits programs (objects ++ prototypes)
 
-  after_draft : Members → Limits → Draft → Result Definition Refusal
+  after_prototypes : Members → ClassDraft → Limits → (programs : List Program) → List Place → Result Definition Refusal
+  after_prototypes ms draft limits programs prototypes =
+      objects_in draft.types (specs_by draft.types draft.own) programs prototypes limits.objects d >>= after_objects ms draft limits programs prototypes
+
+  after_programs : Members → ClassDraft → Limits → List Program → Result Definition Refusal
+  after_programs ms draft limits programs = prototypes_in draft.types (specs_by draft.types draft.own) d >>= after_prototypes ms draft limits programs
+
+  after_draft : Members → Limits → ClassDraft → Result Definition Refusal
   after_draft ms limits draft = programs_in draft.types d >>= after_programs ms draft limits
 
   after_limits : Members → Limits → Result Definition Refusal
@@ -55,34 +80,53 @@ module _ (d : Data) where
   after_format : Members → Unit {0} → Result Definition Refusal
   after_format ms u = limits_in d >>= after_limits ms
 
-  module _ (ms : Members) (format : Option ℕ) (limits : Limits) (draft : Draft) (programs : List Program) (places : List Place)
+  module _ (ms : Members) (format : Option ℕ) (limits : Limits) (draft : ClassDraft) (programs : List Program) (prototypes : List Place)
       (members : members_at [] d ≡ Ok ms) (is : format ≡ option_and_then as_u64 (option_and_then as_number (get (codes "format") d))) (one : format_of format ≡ Ok tt)
       (limited : limits_in d ≡ Ok limits) (drafted : draft_in d ≡ Ok draft) (read : programs_in draft.types d ≡ Ok programs)
-      (objects : objects_in draft.types (specs_by draft.types draft.own) programs limits.objects d ≡ Ok places) where
-    definition_is : definition_in d ≡ after_places ms draft limits programs places
-    unfolding definition_in after_places after_programs after_draft after_limits after_format
-    definition_is =
+      (made : prototypes_in draft.types (specs_by draft.types draft.own) d ≡ Ok prototypes) where
+    up_to_objects : definition_in d ≡ after_prototypes ms draft limits programs prototypes
+    unfolding definition_in after_places after_objects after_prototypes after_programs after_draft after_limits after_format
+    up_to_objects =
         ap (λ (r : Result Members Refusal). r >>= λ m. format_of (option_and_then as_u64 (option_and_then as_number (get (codes "format") d))) >>= after_format m) members
         ∙ ap (λ (n : Option ℕ). format_of n >>= after_format ms) (sym is)
         ∙ ap (λ (r : Result (Unit {0}) Refusal). r >>= after_format ms) one
         ∙ ap (λ (r : Result Limits Refusal). r >>= after_limits ms) limited
-        ∙ ap (λ (r : Result Draft Refusal). r >>= after_draft ms limits) drafted
+        ∙ ap (λ (r : Result ClassDraft Refusal). r >>= after_draft ms limits) drafted
         ∙ ap (λ (r : Result (List Program) Refusal). r >>= after_programs ms draft limits) read
-        ∙ ap (λ (r : Result (List Place) Refusal). r >>= after_places ms draft limits programs) objects
+        ∙ ap (λ (r : Result (List Place) Refusal). r >>= after_prototypes ms draft limits programs) made
+
+    pub objects_fail : (e : ReadError) → Fails e (objects_in draft.types (specs_by draft.types draft.own) programs prototypes limits.objects d) → Fails e (definition_in d)
+    unfolding after_prototypes
+    objects_fail e h =
+        fails_as e _ _ up_to_objects
+        (fails_first e (objects_in draft.types (specs_by draft.types draft.own) programs prototypes limits.objects d) (after_objects ms draft limits programs prototypes) h)
+
+  module _ (ms : Members) (format : Option ℕ) (limits : Limits) (draft : ClassDraft) (programs : List Program) (prototypes objects : List Place)
+      (members : members_at [] d ≡ Ok ms) (is : format ≡ option_and_then as_u64 (option_and_then as_number (get (codes "format") d))) (one : format_of format ≡ Ok tt)
+      (limited : limits_in d ≡ Ok limits) (drafted : draft_in d ≡ Ok draft) (read : programs_in draft.types d ≡ Ok programs)
+      (made : prototypes_in draft.types (specs_by draft.types draft.own) d ≡ Ok prototypes)
+      (placed : objects_in draft.types (specs_by draft.types draft.own) programs prototypes limits.objects d ≡ Ok objects) where
+    definition_is : definition_in d ≡ after_places ms draft limits programs (objects ++ prototypes)
+    unfolding after_prototypes after_objects
+    definition_is =
+        up_to_objects ms format limits draft programs prototypes members is one limited drafted read made
+        ∙ ap (λ (r : Result (List Place) Refusal). r >>= after_objects ms draft limits programs prototypes) placed
 
     pub definition_fails : (e : ReadError) → Fails e (only_at [] ms keys_of_definition) → Fails e (definition_in d)
     unfolding after_places
-    definition_fails e h = fails_as e _ _ definition_is (fails_first e (only_at [] ms keys_of_definition) (λ o. Ok (definition_with draft programs places limits)) h)
+    definition_fails e h = fails_as e _ _ definition_is (fails_first e (only_at [] ms keys_of_definition) (λ o. Ok (definition_with draft programs (objects ++ prototypes) limits)) h)
 
-    definition_whole : only_at [] ms keys_of_definition ≡ Ok tt → definition_in d ≡ Ok (definition_with draft programs places limits)
+    definition_whole : only_at [] ms keys_of_definition ≡ Ok tt → definition_in d ≡ Ok (definition_with draft programs (objects ++ prototypes) limits)
     unfolding after_places
-    definition_whole only = definition_is ∙ ap (λ (r : Result (Unit {0}) Refusal). r >>= λ o. Ok (definition_with draft programs places limits)) only
+    definition_whole only = definition_is ∙ ap (λ (r : Result (Unit {0}) Refusal). r >>= λ o. Ok (definition_with draft programs (objects ++ prototypes) limits)) only
 
   pub definition_done : (ms : Members) (format : Option ℕ) (p : Parts)
       → members_at [] d ≡ Ok ms → format ≡ option_and_then as_u64 (option_and_then as_number (get (codes "format") d)) → format_of format ≡ Ok tt
-      → limits_in d ≡ Ok p.limits → draft_in d ≡ Ok (draft_of p.types p.specs p.declared.signals) → programs_in p.types d ≡ Ok (map plain_program p.programs)
-      → objects_in p.types (specs_by p.types (own_of p.specs)) (map plain_program p.programs) p.limits.objects d ≡ Ok (map plain_object p.objects)
-      → only_at [] ms keys_of_definition ≡ Ok tt → p.declared.handlers ≡ [] → p.constructed ≡ [] → p.prototypes ≡ [] → definition_in d ≡ Ok (meaning p)
-  definition_done ms format p members is one limited classes programs objects only unhandled unconstructed none =
-      definition_whole ms format p.limits (draft_of p.types p.specs p.declared.signals) (map plain_program p.programs) (map plain_object p.objects) members is one limited classes programs objects only
-      ∙ ap (λ (m : Definition). Ok m) (meant p unhandled unconstructed none)
+      → limits_in d ≡ Ok p.limits → draft_in d ≡ Ok (class_draft_of p.types p.specs p.declared p.constructed) → programs_in p.types d ≡ Ok (map plain_program p.programs)
+      → prototypes_in p.types (specs_by p.types (own_of p.specs)) d ≡ Ok (map plain_prototype p.prototypes)
+      → objects_in p.types (specs_by p.types (own_of p.specs)) (map plain_program p.programs) (map plain_prototype p.prototypes) p.limits.objects d ≡ Ok (map plain_object p.objects)
+      → only_at [] ms keys_of_definition ≡ Ok tt → definition_in d ≡ Ok (meaning p)
+  definition_done ms format p members is one limited classes programs prototypes objects only =
+      definition_whole ms format p.limits (class_draft_of p.types p.specs p.declared p.constructed) (map plain_program p.programs) (map plain_prototype p.prototypes) (map plain_object p.objects)
+      members is one limited classes programs prototypes objects only
+      ∙ ap (λ (m : Definition). Ok m) (meant p)

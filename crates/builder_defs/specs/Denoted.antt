@@ -14,13 +14,16 @@ pub mod Drafts
 pub mod Overrides
 pub mod Brought
 pub mod Implements
+pub mod ClassHandlers
+pub mod Constructed
 pub mod Interfaces
 pub mod Classes
 pub mod Programs
 pub mod Given
 pub mod Attached
 pub mod Objects
-use Rattle.std.specs.Prelude.{ℕ, List, [], ◌∷◌, length, codes, ◌==◌, if◌then◌else◌, Option, None, Some, option_and_then, Result, Ok, Err}
+pub mod Prototypes
+use Rattle.std.specs.Prelude.{ℕ, List, [], ◌∷◌, ◌++◌, length, codes, ◌==◌, if◌then◌else◌, Option, None, Some, option_and_then, Result, Ok, Err}
 use Rattle.serde_json.specs.Data.{Data, Items}
 use Rattle.serde_json.specs.Find.{get, as_number, as_u64}
 use Rattle.ui_machine.specs.Outcome.{◌>>=◌}
@@ -31,19 +34,20 @@ use Rattle.ui_machine.specs.Definition.Programs.{Program}
 use Rattle.ui_machine.specs.Definition.Places as machine
 use Rattle.ui_machine.specs.Definition as definition
 use Rattle.ui_machine.specs.declared.limits.Limits.{Limits}
-use Rattle.builder_defs.specs.Meaning.{class_with}
+use Rattle.builder_defs.specs.Meaning.{type_with}
 use Rattle.builder_defs.specs.Refusals.{Refusal, shape}
 use Rattle.builder_defs.specs.Document.{under, members_at, entries_at, listed_ahead, nothing_at, only_at, each, at_entry, document}
-use Rattle.builder_defs.specs.Denoted.Entries.{TypeNames, type_names, most_levels, object_names}
+use Rattle.builder_defs.specs.Denoted.Entries.{ProgramNames, TypeNames, type_names, program_names, most_levels, object_names}
 use Rattle.builder_defs.specs.Denoted.Properties.{specs_by}
 use Rattle.builder_defs.specs.Denoted.Signals.{signals_by}
 use Rattle.builder_defs.specs.Denoted.SessionLimits.{limits_in}
 use Rattle.builder_defs.specs.Denoted.Enums.{enum_at, flags_at}
-use Rattle.builder_defs.specs.Denoted.Drafts.{Draft, bare_draft}
+use Rattle.builder_defs.specs.Denoted.Drafts.{ClassDraft, Draft, bare_draft, no_answers, with_answers}
 use Rattle.builder_defs.specs.Denoted.Interfaces.{interface_at}
 use Rattle.builder_defs.specs.Denoted.Classes.{class_at}
 use Rattle.builder_defs.specs.Denoted.Programs.{programs_in}
 use Rattle.builder_defs.specs.Denoted.Objects.{Scope, object_at}
+use Rattle.builder_defs.specs.Denoted.Prototypes.{prototypes_in}
 
 -- the member `format`, which is 1
 abbrev pub format_of : Option ℕ → Result (Unit {0}) Refusal
@@ -53,17 +57,14 @@ format_of (Some n) = if n == 1 then Ok tt else Err (shape (codes "/format"))
 abbrev pub unset_before_classes : List (List ℕ)
 unset_before_classes = codes "shapes" ∷ []
 
-abbrev pub unset_before_objects : List (List ℕ)
-unset_before_objects = codes "prototypes" ∷ []
-
 abbrev pub keys_of_definition : List (List ℕ)
 keys_of_definition = codes "format" ∷ codes "limits" ∷ codes "enums" ∷ codes "flags" ∷ codes "interfaces" ∷ codes "shapes" ∷ codes "classes" ∷ codes "programs" ∷ codes "prototypes" ∷ codes "objects" ∷ []
 
--- the definition of these classes, programs and objects, with these limits
-abbrev pub definition_with : Draft → List Program → List machine.Place → Limits → definition.Definition
+-- the definition of these classes, programs and places, with these limits
+abbrev pub definition_with : ClassDraft → List Program → List machine.Place → Limits → definition.Definition
 definition_with draft programs places limits = record {
   types = draft.types;
-  classes = listed (λ t. class_with (specs_by draft.types draft.own t) (signals_by draft.types draft.signals t)) (length draft.types);
+  classes = listed (λ t. type_with (specs_by draft.types draft.own t) (signals_by draft.types draft.signals t) (draft.answers.handlers t) (draft.answers.constructed t)) (length draft.types);
   shapes = [];
   programs = programs;
   places = places;
@@ -90,31 +91,31 @@ interfaces_in names types d = do
   list ← entries_at [] d (codes "interfaces")
   each (at_entry (λ path. interface_at path (length types) list (listed_ahead (codes "classes") d) names) (under [] (codes "interfaces"))) 0 (bare_draft types) list
 
--- these types with their properties, with the classes of a definition
-unfoldable pub classes_in : TypeNames → Draft → Data → Result Draft Refusal
-classes_in names draft d = do
+-- these types with all that they have, with the classes of a definition
+unfoldable pub classes_in : TypeNames → ProgramNames → ClassDraft → Data → Result ClassDraft Refusal
+classes_in names programs draft d = do
   unset ← nothing_at [] d unset_before_classes
   list ← entries_at [] d (codes "classes")
-  each (at_entry (λ path. class_at path (length draft.types) list names) (under [] (codes "classes"))) 0 draft list
+  each (at_entry (λ path. class_at path (length draft.types) list names programs) (under [] (codes "classes"))) 0 draft list
 
--- the types of a definition, with their properties
-unfoldable pub draft_in : Data → Result Draft Refusal
+-- the types of a definition, with all that they have
+unfoldable pub draft_in : Data → Result ClassDraft Refusal
 draft_in d = do
   enums ← enums_in d
   types ← flags_in enums d
   interfaces ← interfaces_in (type_names types d) types d
-  classes_in (type_names types d) interfaces d
+  classes_in (type_names types d) (program_names d) (with_answers interfaces no_answers) d
 
 -- what is known where the objects of a list are read
-abbrev pub scope_with : List GType → (ℕ → List Spec) → List Program → ℕ → Items → Scope
-scope_with types specs programs most list = record { types = types; specs = specs; programs = programs; most = most; names = object_names list }
+abbrev pub scope_with : List GType → (ℕ → List Spec) → List Program → List machine.Place → ℕ → Items → Scope
+scope_with types specs programs prototypes most list =
+    record { types = types; specs = specs; programs = programs; prototypes = prototypes; most = most; names = object_names list }
 
--- the objects of these types with their properties, which may run these programs, where so many may live
-unfoldable pub objects_in : List GType → (ℕ → List Spec) → List Program → ℕ → Data → Result (List machine.Place) Refusal
-objects_in types specs programs most d = do
-  unset ← nothing_at [] d unset_before_objects
+-- the objects of these types with their properties, which may run these programs, beside these prototypes, where so many may live
+unfoldable pub objects_in : List GType → (ℕ → List Spec) → List Program → List machine.Place → ℕ → Data → Result (List machine.Place) Refusal
+objects_in types specs programs prototypes most d = do
   list ← entries_at [] d (codes "objects")
-  each (at_entry (object_at most_levels (scope_with types specs programs most list) None) (under [] (codes "objects"))) 0 [] list
+  each (at_entry (object_at most_levels (scope_with types specs programs prototypes most list) None) (under [] (codes "objects"))) 0 [] list
 
 unfoldable pub definition_in : Data → Result definition.Definition Refusal
 definition_in d = do
@@ -123,9 +124,10 @@ definition_in d = do
   limits ← limits_in d
   draft ← draft_in d
   programs ← programs_in draft.types d
-  places ← objects_in draft.types (specs_by draft.types draft.own) programs limits.objects d
+  prototypes ← prototypes_in draft.types (specs_by draft.types draft.own) d
+  objects ← objects_in draft.types (specs_by draft.types draft.own) programs prototypes limits.objects d
   only ← only_at [] members keys_of_definition
-  Ok (definition_with draft programs places limits)
+  Ok (definition_with draft programs (objects ++ prototypes) limits)
 
 -- the definition that bytes denote
 unfoldable pub denoted : List ℕ → Result definition.Definition Refusal

@@ -14,11 +14,11 @@ use Rattle.ui_machine.specs.Rules.Connections.{signal_number}
 use Rattle.ui_machine.specs.Rules.EmissionPlan.{signal_of}
 use Rattle.ui_machine.specs.Definition as machine
 use Rattle.ui_machine.specs.Definition.Places as places
-use Rattle.ui_machine.specs.Definition.Lookups.{place_of, slot_of, spec_of}
+use Rattle.ui_machine.specs.Definition.Lookups.{slot_of, spec_of}
 use Rattle.ui_machine.specs.State.Tasks as config
 use Rattle.g_values.specs.Reading.{json_value}
 use Rattle.g_values.specs.declared.error.JsonFault.{JsonFault}
-use Rattle.builder_defs.specs.Meaning.{class_at}
+use Rattle.builder_defs.specs.Meaning.{class_at, object_place}
 use Rattle.builder_defs.specs.Denoted.Given.{reference}
 use Rattle.ui_machine.specs.Outcome.{◌>>=◌}
 use Rattle.ui_machine.specs.Limits.{most_line_bytes}
@@ -100,7 +100,7 @@ pub record Target : Type 0 where
 -- the property of an object that an id and a name name
 unfoldable pub target : machine.Definition → List ℕ → List ℕ → Result Target EventRefusal
 target d id name = do
-  place ← or_refused (unknown id) (place_of d id)
+  place ← or_refused (unknown id) (object_place d id)
   slot ← or_refused (unknown name) (slot_of d (class_at d place) name)
   spec ← or_refused (unknown name) (spec_of d (class_at d place) slot)
   Ok (record { place = place; slot = slot; spec = spec })
@@ -115,7 +115,7 @@ or_value_fault (Err cause) = Err value_fault
 -- the object of an id
 unfoldable pub object_of : machine.Definition → List ℕ → Result (Option ℕ) EventRefusal
 object_of d id = do
-  place ← or_refused (unknown id) (place_of d id)
+  place ← or_refused (unknown id) (object_place d id)
   Ok (Some place)
 
 -- the object that a value refers to, if it refers to one
@@ -163,7 +163,7 @@ pub record SignalTarget : Type 0 where
 -- the signal of an object that an id and a name name, if an event may emit it
 unfoldable pub signal_target : machine.Definition → List ℕ → List ℕ → Result SignalTarget EventRefusal
 signal_target d id name = do
-  place ← or_refused (unknown id) (place_of d id)
+  place ← or_refused (unknown id) (object_place d id)
   which ← or_refused (unknown name) (but_notify (signal_number d (class_at d place) name))
   s ← or_refused (unknown name) (signal_of d (class_at d place) which)
   Ok (record { place = place; which = which; signal = s })
@@ -230,7 +230,7 @@ get_event d words = do
 unfoldable pub release_event : machine.Definition → Data → Result config.Event EventRefusal
 release_event d word = do
   id ← or_refused shape (as_str word)
-  place ← or_refused (unknown id) (place_of d id)
+  place ← or_refused (unknown id) (object_place d id)
   Ok (config.request (config.release place))
 
 -- The signal must be there, and the values as many as it has parameters. Then all ids among them are known, and the detail may stand.

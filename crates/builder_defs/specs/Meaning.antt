@@ -1,5 +1,5 @@
 -- Which definition and event of the machine the code's stand for.
-use Rattle.std.specs.Prelude.{◌≡◌, ℕ, ◌<◌, ◌≤◌, ◌+◌, ◌≤ℤ◌, Bool, true, false, not, nat_le, List, [], ◌++◌, map, length, count_by, Option, None, Some, option_map, String, string_bytes, slice_get, IfSome}
+use Rattle.std.specs.Prelude.{◌≡◌, ℕ, ◌<◌, ◌≤◌, ◌+◌, ◌≤ℤ◌, Bool, true, false, not, nat_le, List, [], ◌++◌, map, length, count_by, if◌then◌else◌, Option, None, Some, option_map, option_and_then, String, string_bytes, slice_get, IfSome}
 use Rattle.std.specs.Global.{Global}
 use Rattle.std.specs.List.{AllByRecursion}
 use Rattle.ui_machine.specs.Seq.{listed, read}
@@ -40,10 +40,6 @@ use Rattle.builder_defs.specs.declared.event.Event.TheVariants as events
 -- a type with these properties and signals, and the programs that it names: for signals, and for its objects once they are constructed
 abbrev pub type_with : List Spec → List Signal → List ClassHandler → Option ℕ → definition.Class
 type_with specs signals handlers constructed = record { specs = specs; signals = signals; handlers = handlers; constructed = constructed; shape = None }
-
--- a type with these properties and signals, and nothing else
-abbrev pub class_with : List Spec → List Signal → definition.Class
-class_with specs signals = type_with specs signals [] None
 
 -- a value itself, or the object of a place
 abbrev pub given_view : Given → machine.Given
@@ -207,7 +203,7 @@ pub record IsSoundProgram (types : List GType) (entry : NamedProgram) : Type 0 w
   pub known : HasKnownBlocks types entry.1
   pub shaped : shape_fault (program_view entry.1) ≡ None
 
--- What is so of every definition. Its classes name no programs so far, and it has no prototypes.
+-- What is so of every definition.
 pub record IsSound (p : Parts) : Type 0 where
   pub plain : ArePlain p.types p.specs
   pub kinds : HaveKnownKinds p.types p.declared.signals
@@ -218,9 +214,6 @@ pub record IsSound (p : Parts) : Type 0 where
   pub programs : AllByRecursion (IsSoundProgram p.types) p.programs
   pub few_programs : length p.programs ≤ 256
   pub handlers : (t : ℕ) → length p.types ≤ t → named_of p.declared.handlers t ≡ []
-  pub no_handlers : p.declared.handlers ≡ []
-  pub no_constructed : p.constructed ≡ []
-  pub no_prototypes : p.prototypes ≡ []
 
 abbrev pub class_of_place : Option machine.Place → ℕ
 class_of_place None = 0
@@ -238,14 +231,23 @@ is_object place = not place.is_prototype
 abbrev pub object_count : definition.Definition → ℕ
 object_count d = count_by is_object d.places
 
--- What a definition does not have so far: class handlers, shapes, bindings, peers and prototypes. Its objects come first among its places.
+abbrev pub is_object_there : Option machine.Place → Bool
+is_object_there None = false
+is_object_there (Some place) = is_object place
+
+-- a place, if it is of an object
+abbrev pub if_object : definition.Definition → ℕ → Option ℕ
+if_object d place = if is_object_there (lookups.place_at d place) then Some place else None
+
+-- the place of the object of an id
+abbrev pub object_place : definition.Definition → List ℕ → Option ℕ
+object_place d id = option_and_then (if_object d) (lookups.place_of d id)
+
+-- What a definition does not have so far: shapes, bindings and peers. Its objects come first among its places.
 pub record IsBasic (d : definition.Definition) : Type 0 where
-  pub handlers : (t : ℕ) → (lookups.class_of d t).handlers ≡ []
-  pub constructed : (t : ℕ) → (lookups.class_of d t).constructed ≡ None
   pub shapes : (t : ℕ) → (lookups.class_of d t).shape ≡ None
   pub plain : (t slot : ℕ) (s : Spec) → lookups.spec_of d t slot ≡ Some s → IsPlain d.types s
   pub prototypes : (p : ℕ) (place : machine.Place) → slice_get d.places p ≡ Some place → place.is_prototype ≡ nat_le (object_count d) p
-  pub only_objects : (p : ℕ) (place : machine.Place) → slice_get d.places p ≡ Some place → place.is_prototype ≡ false
   pub no_parents : (p : ℕ) (place : machine.Place) → slice_get d.places p ≡ Some place → place.is_prototype ≡ true → place.parent ≡ None
   pub silent : (p : ℕ) (place : machine.Place) → slice_get d.places p ≡ Some place → place.is_prototype ≡ true → place.signals ≡ []
   pub peers : (p : ℕ) (place : machine.Place) → slice_get d.places p ≡ Some place → place.peers ≡ []

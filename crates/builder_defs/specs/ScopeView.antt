@@ -3,7 +3,7 @@ use Rattle.std.specs.Prelude.{◌≤◌, length, map}
 use Rattle.std.specs.List.{AllByRecursion}
 use Rattle.param_specs.specs.Table.{own_of}
 use Rattle.builder_defs.specs.declared.objects.Scope.{Scope}
-use Rattle.builder_defs.specs.Meaning.{ArePlain, HasOwnName, plain_program}
+use Rattle.builder_defs.specs.Meaning.{ArePlain, HasOwnName, plain_program, plain_prototype}
 use Rattle.builder_defs.specs.Denoted.Objects as pure
 use Rattle.builder_defs.specs.Denoted.Properties.{specs_by}
 
@@ -12,6 +12,7 @@ scope_of scope = record {
   types = scope.types.now;
   specs = specs_by scope.types.now (own_of scope.specs.now);
   programs = map plain_program scope.programs.now.entries;
+  prototypes = map plain_prototype scope.prototypes.now.entries;
   most = scope.most;
   names = scope.names.now;
 }
@@ -21,3 +22,4 @@ pub record IsReady (scope : Scope) : Type 0 where
   pub plain : ArePlain scope.types.now scope.specs.now
   pub named : AllByRecursion HasOwnName scope.programs.now.entries
   pub few : length scope.programs.now.entries ≤ 256
+  pub few_prototypes : length scope.prototypes.now.entries ≤ 512

@@ -6,12 +6,14 @@ ghost use Rattle.serde_json.specs.Find.{get};
 ghost use Rattle.builder_defs.specs.Causes.{cause_view};
 ghost use Rattle.builder_defs.specs.Refusals.{Gives, Leads, IsRefusal, bad_type};
 ghost use Rattle.builder_defs.specs.Document.{under, path_of, each, at_entry};
-ghost use Rattle.builder_defs.specs.Denoted.Drafts.{draft_of};
-ghost use Rattle.builder_defs.specs.Denoted.Classes.{parent_called, named_parent, parent_at, parent_ahead, check_depth, flags_at, declared_at, answering_at, class_at};
+ghost use Rattle.builder_defs.specs.Denoted.Drafts.{answers_of, class_draft_of, draft_of};
+ghost use Rattle.builder_defs.specs.Denoted.Classes.{parent_called, named_parent, parent_at, parent_ahead, check_depth, flags_at, declared_at, answers_at, class_at};
 
+use crate::class_handlers::give_class_handlers;
+use crate::constructed::give_constructed;
 use crate::document::{Entries, Part, bad_shape, path_under, unknown_name};
-use crate::drafts::{Draft, give_members};
-use crate::entries::TypeNames;
+use crate::drafts::{ClassDraft, give_members};
+use crate::entries::{ProgramNames, TypeNames};
 use crate::fault::{DefinitionFault, DefinitionLimit, ReadError, TypeCause};
 use crate::implements::read_implements;
 use crate::reads::{Reads, read_each};
@@ -157,34 +159,43 @@ fn declare(
     Ok(class)
 }
 
-// Tests that a class has nothing that programs or peers answer.
-#[tactic(auto, unfolding(crate::specs::Denoted::Classes::answering_at))]
-fn check_answering(part: Part<'_>) -> Result<(), ReadError>
-    ensures { Gives (λ _. tt) result (answering_at (path_of part.entry.path) (view part.entry.value.now)) }
+// Gives a class the programs of its entry.
+#[tactic(auto, unfolding(crate::specs::Denoted::Classes::answers_at))]
+fn give_answers(
+    part: Part<'_>,
+    programs: &ProgramNames<'_>,
+    signals: &mut SignalTable,
+    constructed: &mut Vec<Option<u16>>,
+    class: TypeId,
+) -> Result<(), ReadError>
+    ensures answers { Leads result (answers_at (path_of part.entry.path) programs.now class (answers_of signals.old.handlers constructed.old.items) (view part.entry.value.now)) (answers_of signals.new.handlers constructed.new.items) }
+    ensures signals { signals.new.signals ≡ signals.old.signals }
 {
-    part.check_nothing(&["class-handlers"])?;
-    part.check_absent(&["constructed", "shape"])?;
+    give_class_handlers(part, programs, signals, class)?;
+    give_constructed(part, programs, constructed, class)?;
+    part.check_absent(&["shape"])?;
     Ok(())
 }
 
-// Adds the class of an entry, with its properties and signals.
+// Adds the class of an entry, with its properties, its signals and the programs that it names.
 #[tactic(auto, unfolding(crate::specs::Denoted::Drafts::type_at))]
 fn read_class(
     part: Part<'_>,
     first: usize,
     list: &[Value],
     names: &TypeNames<'_>,
+    programs: &ProgramNames<'_>,
     types: &mut TypeTree,
     specs: &mut SpecTable,
     signals: &mut SignalTable,
+    constructed: &mut Vec<Option<u16>>,
 ) -> Result<(), ReadError>
-    ensures draft { Leads result (class_at (path_of part.entry.path) first (items_view list.now) names.now (draft_of types.old specs.old signals.old.signals) (view part.entry.value.now)) (draft_of types.new specs.new signals.new.signals) }
-    ensures handlers { signals.new.handlers ≡ signals.old.handlers }
+    ensures { Leads result (class_at (path_of part.entry.path) first (items_view list.now) names.now programs.now (class_draft_of types.old specs.old signals.old constructed.old.items) (view part.entry.value.now)) (class_draft_of types.new specs.new signals.new constructed.new.items) }
 {
     let members = part.members()?;
     let class = declare(part, first, list, names, types, specs, signals)?;
     give_members(part, types, names, specs, signals, class)?;
-    check_answering(part)?;
+    give_answers(part, programs, signals, constructed, class)?;
     part.check_only(members, &MEMBERS)?;
     Ok(())
 }
@@ -195,36 +206,37 @@ struct ClassEntries<'a> {
     first: usize,
     list: &'a [Value],
     names: &'a TypeNames<'a>,
+    programs: &'a ProgramNames<'a>,
 }
 
-impl<'a> Reads<Draft> for ClassEntries<'a> {
-    ghost use Rattle.std.specs.Prelude.{List};
-    ghost use Rattle.ui_machine.specs.Definition.Signals as machine;
+impl<'a> Reads<ClassDraft> for ClassEntries<'a> {
     ghost use Rattle.serde_json.specs.View.{items_view};
     ghost use Rattle.builder_defs.specs.Denoted.Classes as denoted;
     ghost use Rattle.builder_defs.specs.Denoted.Drafts as drafts;
 
-    ghost State = { drafts.Draft };
+    ghost State = { drafts.ClassDraft };
 
-    ghost seen = { λ draft. drafts.draft_of draft.types draft.specs draft.signals.signals };
+    ghost seen = { λ draft. drafts.class_draft_of draft.types draft.specs draft.signals draft.constructed.items };
 
-    ghost Unchanged = { List (List machine.ClassHandler) };
+    ghost Unchanged = { Unit {0} };
 
-    ghost kept = { λ draft. draft.signals.handlers };
+    ghost kept = { λ draft. tt };
 
     ghost known = { λ r. Unit {0} };
 
-    ghost step = { λ r path draft d. denoted.class_at path r.first (items_view r.list.now) r.names.now draft d };
+    ghost step = { λ r path draft d. denoted.class_at path r.first (items_view r.list.now) r.names.now r.programs.now draft d };
 
-    fn read(&self, part: Part<'_>, draft: &mut Draft) -> Result<(), ReadError> {
+    fn read(&self, part: Part<'_>, draft: &mut ClassDraft) -> Result<(), ReadError> {
         read_class(
             part,
             self.first,
             self.list,
             self.names,
+            self.programs,
             &mut draft.types,
             &mut draft.specs,
             &mut draft.signals,
+            &mut draft.constructed,
         )
     }
 }
@@ -233,15 +245,16 @@ impl<'a> Reads<Draft> for ClassEntries<'a> {
 pub(crate) fn read_classes(
     list: Entries<'_>,
     names: &TypeNames<'_>,
-    draft: &mut Draft,
+    programs: &ProgramNames<'_>,
+    draft: &mut ClassDraft,
 ) -> Result<(), ReadError>
-    ensures draft { Leads result (each (at_entry (λ path. class_at path (length draft.old.types) (items_view list.entry.items.now) names.now) list.entry.path.now) 0 (draft_of draft.old.types draft.old.specs draft.old.signals.signals) (items_view list.entry.items.now)) (draft_of draft.new.types draft.new.specs draft.new.signals.signals) }
-    ensures handlers { draft.new.signals.handlers ≡ draft.old.signals.handlers }
+    ensures { Leads result (each (at_entry (λ path. class_at path (length draft.old.types) (items_view list.entry.items.now) names.now programs.now) list.entry.path.now) 0 (class_draft_of draft.old.types draft.old.specs draft.old.signals draft.old.constructed.items) (items_view list.entry.items.now)) (class_draft_of draft.new.types draft.new.specs draft.new.signals draft.new.constructed.items) }
 {
     let reader = ClassEntries {
         first: draft.types.len(),
         list: list.items,
         names,
+        programs,
     };
     read_each(&reader, list, draft)
 }

@@ -12,7 +12,7 @@ ghost use Rattle.param_specs.specs.View.{spec_view};
 ghost use Rattle.signal_core.specs.Emission.{begun};
 ghost use Rattle.signal_core.specs.Laws.{walk_for};
 ghost use Rattle.signal_core.specs.SignalView.{declared_view};
-ghost use Rattle.builder_defs.specs.Meaning.{AreLimits, IsBasic, attached_view, bare_place, place_number, places_of, class_at, object_count, plain_object, plain_prototype, planned, given_property};
+ghost use Rattle.builder_defs.specs.Meaning.{AreLimits, IsBasic, attached_view, bare_place, place_number, places_of, class_at, object_count, object_place, plain_object, plain_prototype, planned, given_property};
 
 use crate::object_entry::{ObjectBody, ObjectEntry, PrototypeBody};
 use crate::programs::number_of;
@@ -106,6 +106,14 @@ impl Definition {
     {
         let place = place_in(&self.objects, &self.prototypes, id)?;
         Some(Place(place as u16))
+    }
+
+    /// The place of the object of an id.
+    pub fn object_place(&self, id: &str) -> Option<Place>
+        ensures { option_map (λ p. p.0) result ≡ object_place self.now id.now }
+    {
+        let number = position_of(&self.objects, id)?;
+        Some(Place(number as u16))
     }
 
     /// The class of the object or prototype at a place, and the first class where there is none.
@@ -227,7 +235,7 @@ impl Definition {
 }
 
 // Where the object of an id stands.
-pub(crate) fn position_of(objects: &IndexMap<String, ObjectBody>, id: &str) -> Option<usize>
+fn position_of(objects: &IndexMap<String, ObjectBody>, id: &str) -> Option<usize>
     ensures place { result ≡ place_named (λ p. p.id) (map plain_object objects.now.entries) id.now }
     ensures within { IfSome result (λ i. i < length objects.now.entries) }
 {
@@ -243,7 +251,7 @@ pub(crate) fn prototype_of(prototypes: &IndexMap<String, PrototypeBody>, id: &st
 }
 
 // Where the object or prototype of an id stands: prototypes stand behind the objects.
-fn place_in(
+pub(crate) fn place_in(
     objects: &IndexMap<String, ObjectBody>,
     prototypes: &IndexMap<String, PrototypeBody>,
     id: &str,

@@ -26,6 +26,15 @@ pub(crate) struct Draft {
     pub(crate) signals: SignalTable,
 }
 
+// The same, with the programs that classes name for their objects once they are constructed.
+#[derive(Drop)]
+pub(crate) struct ClassDraft {
+    pub(crate) types: TypeTree,
+    pub(crate) specs: SpecTable,
+    pub(crate) signals: SignalTable,
+    pub(crate) constructed: Vec<Option<u16>>,
+}
+
 // Gives a type the properties of its entry.
 #[tactic(auto, unfolding(crate::specs::Denoted::Drafts::properties_at))]
 fn give_properties(

@@ -219,7 +219,7 @@ fn target_of<'a>(
     ensures target { Gives (λ t. record { place = t.place.0; which = t.number; signal = declared_view t.signal }) result (signal_target definition.now id.now name.now) }
     ensures signal { IfOk result (λ t. signal_of definition.now (class_at definition.now t.place.0) t.number ≡ Some (declared_view t.signal)) }
 {
-    let Some(place) = definition.place(id) else {
+    let Some(place) = definition.object_place(id) else {
         return Err(EventError::Refused(EventFault::Unknown(String::from_str(alloc, id)?)));
     };
     let class = definition.class_at(place);

@@ -5,7 +5,7 @@ ghost use Rattle.std.specs.BTreeMap.{get_by_text};
 ghost use Rattle.serde_json.specs.View.{view, items_view};
 ghost use Rattle.ui_machine.specs.Seq.{read};
 ghost use Rattle.ui_machine.specs.Definition.Types.{GType};
-ghost use Rattle.builder_defs.specs.Denoted.Entries.{is_called, name_under, names_under, number_from, section, at_most, type_names, later_type, in_order, object_names};
+ghost use Rattle.builder_defs.specs.Denoted.Entries.{is_called, name_under, names_under, number_from, section, at_most, type_names, later_type, program_names, program_named, in_order, object_names};
 ghost use Rattle.builder_defs.specs.EntryViews.{views};
 
 use crate::objects::MOST_LEVELS;
@@ -178,6 +178,45 @@ impl<'a> TypeNames<'a> {
         let number = self.class_numbers.get(name)?;
         let first = sum_at_most(256, self.first, self.interfaces.len());
         Some(sum_at_most(256, usize::from(first), *number))
+    }
+}
+
+// The programs of a document, by what they are called.
+#[derive(Drop)]
+pub(crate) struct ProgramNames<'a> {
+    entries: &'a [Value],
+    numbers: BTreeMap<String, usize>,
+}
+
+impl<'a> Model for ProgramNames<'a> {
+    ghost use Rattle.std.specs.Prelude.{codes};
+    ghost use Rattle.std.specs.BTreeMap.{get_by_text};
+    ghost use Rattle.serde_json.specs.View.{items_view};
+    ghost use Rattle.builder_defs.specs.Denoted.Entries as denoted;
+
+    ghost Value = { denoted.ProgramNames };
+
+    ghost view = { λ n. denoted.names_under (codes "name") (items_view n.entries.now) };
+
+    ghost invariant = { λ n. denoted.AreNumbered (get_by_text n.numbers) (denoted.names_under (codes "name") (items_view n.entries.now)) };
+}
+
+impl<'a> ProgramNames<'a> {
+    // The names of a document.
+    pub(crate) fn new(alloc: Global, value: &'a Value) -> Result<Self, AllocError>
+        ensures { IfOk result (λ names. names ≡ program_names (view value.now)) }
+    {
+        let entries = section(value, "programs");
+        let numbers = numbers_in(alloc, entries, "name")?;
+        Ok(ProgramNames { entries, numbers })
+    }
+
+    // The number of the program of a name, or 256 where it is greater.
+    pub(crate) fn number(&self, name: &str) -> Option<u16>
+        ensures { result ≡ program_named self.now name.now }
+    {
+        let number = self.numbers.get(name)?;
+        Some(at_most(256, *number))
     }
 }
 

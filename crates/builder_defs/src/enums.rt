@@ -49,23 +49,27 @@ fn parts_of<'a>(part: Part<'a>) -> Result<(&'a Value, &'a Value, &'a Value), Rea
     Err(ReadError::Refused(DefinitionFault::Shape(path_text(part.alloc, part.path)?)))
 }
 
-// A fault of shape at a part of a member.
-fn bad_part(part: Part<'_>, index: usize) -> Result<ReadError, ReadError>
+// A fault of shape at a part of an entry.
+pub(crate) fn bad_part(part: Part<'_>, index: usize) -> Result<ReadError, ReadError>
     ensures { IsRefusal (shape (nth (path_of part.entry.path) index)) result }
 {
     Ok(ReadError::Refused(DefinitionFault::Shape(path_within(part.alloc, part.path, index)?)))
 }
 
 // A name, if the value is one.
-fn name_in(value: &Value) -> Option<&str>
+pub(crate) fn name_in(value: &Value) -> Option<&str>
     ensures { option_map (λ s. s.now) result ≡ name_if (as_str (view value.now)) }
 {
     let name = value.as_str()?;
     if is_name(name) { Some(name) } else { None }
 }
 
-// A name or a nick, the part of a member with this index.
-fn name_part<'a>(part: Part<'_>, index: usize, value: &'a Value) -> Result<&'a str, ReadError>
+// A name, the part of an entry with this index.
+pub(crate) fn name_part<'a>(
+    part: Part<'_>,
+    index: usize,
+    value: &'a Value,
+) -> Result<&'a str, ReadError>
     ensures { Gives (λ s. s.now) result (name_at (nth (path_of part.entry.path) index) (view value.now)) }
 {
     match name_in(value) {
@@ -113,8 +117,8 @@ fn any_named(members: &[EnumMember], name: &str) -> bool
     members.iter().any(|member| member.name.as_str() == name)
 }
 
-// Refuses a part of a member that an earlier member has.
-fn check_new(part: Part<'_>, index: usize, there: bool) -> Result<(), ReadError>
+// Refuses a part of an entry that an earlier entry has.
+pub(crate) fn check_new(part: Part<'_>, index: usize, there: bool) -> Result<(), ReadError>
     ensures { Gives (λ _. tt) result (unless_there (nth (path_of part.entry.path) index) there) }
 {
     if there {

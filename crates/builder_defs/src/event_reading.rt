@@ -170,7 +170,7 @@ fn release_in(alloc: Global, definition: &Definition, word: &Value) -> Result<Ev
     let Some(id) = word.as_str() else {
         return Err(EventError::Refused(EventFault::Shape));
     };
-    match definition.place(id) {
+    match definition.object_place(id) {
         Some(place) => Ok(Event::Release { place }),
         None => Err(EventError::Refused(EventFault::Unknown(String::from_str(alloc, id)?))),
     }
@@ -195,7 +195,7 @@ fn target_of<'a>(
     ensures target { Gives (λ t. record { place = t.place.0; slot = t.slot; spec = spec_view t.spec.now }) result (target definition.now id.now name.now) }
     ensures spec { IfOk result (λ t. spec_of definition.now (class_at definition.now t.place.0) t.slot ≡ Some (spec_view t.spec.now)) }
 {
-    let Some(place) = definition.place(id) else {
+    let Some(place) = definition.object_place(id) else {
         return Err(EventError::Refused(EventFault::Unknown(String::from_str(alloc, id)?)));
     };
     let class = definition.class_at(place);
@@ -244,7 +244,7 @@ pub(crate) fn object_named(
     let Some((_, id)) = reference(&kind, value) else {
         return Ok(None);
     };
-    match definition.place(id) {
+    match definition.object_place(id) {
         Some(place) => Ok(Some(place)),
         None => Err(EventError::Refused(EventFault::Unknown(String::from_str(alloc, id)?))),
     }

@@ -30,14 +30,14 @@ const MEMBERS: [&str; 3] = ["name", "value", "bind"];
 
 // A property of a class, by its slot.
 #[derive(Clone, Copy)]
-struct Property<'a> {
-    slot: u16,
-    spec: &'a Spec,
+pub(crate) struct Property<'a> {
+    pub(crate) slot: u16,
+    pub(crate) spec: &'a Spec,
 }
 
 // The property of a class that a name names.
 #[tactic(auto, unfolding(crate::specs::Denoted::Given::property_named))]
-fn property_named<'a>(
+pub(crate) fn property_named<'a>(
     part: Part<'_>,
     types: &TypeTree,
     specs: &'a SpecTable,
@@ -72,7 +72,7 @@ fn is_given(given: &[GivenValue], slot: u16) -> bool
 }
 
 // Tests that a property is named once.
-fn check_once(part: Part<'_>, given: &[GivenValue], slot: u16) -> Result<(), ReadError>
+pub(crate) fn check_once(part: Part<'_>, given: &[GivenValue], slot: u16) -> Result<(), ReadError>
     ensures { Gives (λ _. tt) result (named_once (under (path_of part.entry.path) (codes "name")) (map given_property given.now) slot) }
 {
     if is_given(given, slot) {

@@ -4,7 +4,9 @@
 #![tactic(auto)]
 
 mod attached;
+mod class_handlers;
 mod classes;
+mod constructed;
 mod defaults;
 mod definition;
 mod document;
@@ -32,6 +34,7 @@ mod places;
 mod programs;
 mod properties;
 mod property_flags;
+mod prototypes;
 mod ranges;
 mod reading;
 mod reads;

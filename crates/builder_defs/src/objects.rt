@@ -1,21 +1,21 @@
 //! The objects of a definition.
 
-ghost use Rattle.std.specs.Prelude.{◌≡◌, ◌<◌, ◌≤◌, [], codes, map, length, is_some, string_bytes, None, IfOk};
+ghost use Rattle.std.specs.Prelude.{◌≡◌, ◌+◌, ◌<◌, ◌≤◌, false, [], codes, map, length, is_some, string_bytes, None, IfOk};
 ghost use Rattle.serde_json.specs.View.{view, items_view};
 ghost use Rattle.ui_machine.specs.Definition.Names.{place_named};
 ghost use Rattle.std.specs.List.{AllByRecursion};
-ghost use Rattle.builder_defs.specs.Meaning.{ArePlain, HasOwnName, plain_object, plain_program, place_number};
+ghost use Rattle.builder_defs.specs.Meaning.{ArePlain, HasOwnName, plain_object, plain_program, plain_prototype, place_number, places_of};
 ghost use Rattle.param_specs.specs.Table.{own_of};
 ghost use Rattle.builder_defs.specs.Refusals.{Gives, Leads};
 ghost use Rattle.builder_defs.specs.Document.{under, path_of, each, at_entry};
-ghost use Rattle.builder_defs.specs.Denoted.Objects.{room_for_object, new_id, unless_abstract, class_at_key, place_at, added_at, object_at};
+ghost use Rattle.builder_defs.specs.Denoted.Objects.{room_for_object, unless_taken, unless_abstract, class_at_key, place_at, added_at, object_at};
 ghost use Rattle.builder_defs.specs.Denoted.{scope_with};
 ghost use Rattle.builder_defs.specs.ScopeView.{scope_of, IsReady};
 ghost use Rattle.builder_defs.specs.Denoted.Entries.{most_levels, object_names};
 ghost use Rattle.builder_defs.specs.Denoted.Properties.{specs_by};
 
 use crate::attached::read_attached;
-use crate::definition::{MOST_PLACES, position_of};
+use crate::definition::{MOST_PLACES, place_in};
 use crate::document::{Entries, Part, Path, bad_shape, path_text, path_under, unknown_name};
 use crate::entries::ObjectNames;
 use crate::fault::{DefinitionFault, DefinitionLimit, ReadError, TypeCause};
@@ -23,6 +23,7 @@ use crate::given::read_givens;
 use crate::names::is_name;
 use crate::object_entry::ObjectBody;
 use crate::programs::Programs;
+use crate::prototypes::Prototypes;
 use indexmap::IndexMap;
 use param_specs::SpecTable;
 use type_tree::{TypeId, TypeTree};
@@ -33,11 +34,17 @@ pub(crate) const MOST_LEVELS: usize = 64;
 
 const MEMBERS: [&str; 6] = ["id", "class", "peer", "properties", "signals", "children"];
 
-// Tests that there is room for a further object, where so many may live.
-fn check_room(objects: &IndexMap<String, ObjectBody>, most: usize) -> Result<(), ReadError>
-    ensures { Gives (λ _. tt) result (room_for_object most (map plain_object objects.now.entries)) }
+// Tests that there is room for a further object beside the prototypes, where so many may live.
+fn check_room(
+    objects: &IndexMap<String, ObjectBody>,
+    prototypes: &Prototypes,
+    most: usize,
+) -> Result<(), ReadError>
+    requires { length prototypes.now.entries ≤ 512 }
+    ensures room { Gives (λ _. tt) result (room_for_object most (map plain_prototype prototypes.now.entries) (map plain_object objects.now.entries)) }
+    ensures below { IfOk result (λ _. length objects.now.entries + length prototypes.now.entries < 512) }
 {
-    if objects.len() >= MOST_PLACES {
+    if objects.len() >= MOST_PLACES - prototypes.len() {
         return Err(ReadError::Refused(DefinitionFault::Limit(DefinitionLimit::Places)));
     }
     if objects.len() >= most {
@@ -46,26 +53,23 @@ fn check_room(objects: &IndexMap<String, ObjectBody>, most: usize) -> Result<(),
     Ok(())
 }
 
-// Whether an object has this id.
-fn has_object(objects: &IndexMap<String, ObjectBody>, id: &str) -> bool
-    ensures { result ≡ is_some (place_named (λ p. p.id) (map plain_object objects.now.entries) id.now) }
+// Whether an object or a prototype has this id.
+fn has_place(objects: &IndexMap<String, ObjectBody>, prototypes: &Prototypes, id: &str) -> bool
+    requires { length objects.now.entries + length prototypes.now.entries ≤ 512 }
+    ensures { result ≡ is_some (place_named (λ p. p.id) (places_of objects.now.entries prototypes.now.entries) id.now) }
 {
-    position_of(objects, id).is_some()
+    place_in(objects, prototypes, id).is_some()
 }
 
-// Tests an id beside those of the objects before.
-fn check_id(
-    part: Part<'_>,
-    objects: &IndexMap<String, ObjectBody>,
-    id: &str,
-) -> Result<(), ReadError>
-    ensures id { Gives (λ _. tt) result (new_id (under (path_of part.entry.path) (codes "id")) (map plain_object objects.now.entries) id.now) }
-    ensures new { IfOk result (λ _. place_named (λ p. p.id) (map plain_object objects.now.entries) id.now ≡ None) }
+// Tests that an id is a name, and is not taken.
+pub(crate) fn check_id(part: Part<'_>, id: &str, taken: bool) -> Result<(), ReadError>
+    ensures id { Gives (λ _. tt) result (unless_taken (under (path_of part.entry.path) (codes "id")) id.now taken) }
+    ensures new { IfOk result (λ _. taken ≡ false) }
 {
     if !is_name(id) {
         return Err(bad_shape(part.alloc, part.path, "id")?);
     }
-    if has_object(objects, id) {
+    if taken {
         return Err(ReadError::Refused(DefinitionFault::Duplicate(path_under(
             part.alloc, part.path, "id",
         )?)));
@@ -84,8 +88,8 @@ fn check_concrete(part: Part<'_>, types: &TypeTree, class: TypeId) -> Result<Typ
     Ok(class)
 }
 
-// The class of an object.
-fn class_of(part: Part<'_>, types: &TypeTree) -> Result<TypeId, ReadError>
+// The class of an object or a prototype.
+pub(crate) fn class_of(part: Part<'_>, types: &TypeTree) -> Result<TypeId, ReadError>
     ensures { Gives (λ t. t) result (class_at_key (path_of part.entry.path) types.now (view part.entry.value.now)) }
 {
     let name = part.text("class")?;
@@ -105,12 +109,14 @@ struct NewObject {
     body: ObjectBody,
 }
 
-// What is known where objects are read: the types with their properties, the programs, how many objects may live, and the names of all objects.
+// What is known where objects are read: the types with their properties, the programs, the prototypes, how many objects may live, and the names
+// of all objects.
 #[derive(Clone, Copy)]
 struct Scope<'a, 'b> {
     types: &'a TypeTree,
     specs: &'a SpecTable,
     programs: &'a Programs,
+    prototypes: &'a Prototypes,
     most: usize,
     names: &'b ObjectNames<'a>,
 }
@@ -129,9 +135,9 @@ impl<'a, 'b> Scope<'a, 'b> {
         ensures new { IfOk result (λ o. place_named (λ p. p.id) (map plain_object objects.now.entries) (string_bytes o.id) ≡ None) }
         ensures room { IfOk result (λ o. length objects.now.entries < 512) }
     {
-        check_room(objects, self.most)?;
+        check_room(objects, self.prototypes, self.most)?;
         let id = part.text("id")?;
-        check_id(part, objects, id)?;
+        check_id(part, id, has_place(objects, self.prototypes, id))?;
         let class = class_of(part, self.types)?;
         part.check_absent(&["peer"])?;
         let given = read_givens(
@@ -243,44 +249,49 @@ fn read_within(
     Ok(objects)
 }
 
-// The same, where so many may live and the names of all objects are known.
+// The same, beside these prototypes, where so many may live and the names of all objects are known.
 fn read_named<'a, 'b>(
     list: Entries<'_>,
     types: &'a TypeTree,
     specs: &'a SpecTable,
     programs: &'a Programs,
+    prototypes: &'a Prototypes,
     most: usize,
     names: &'b ObjectNames<'a>,
 ) -> Result<IndexMap<String, ObjectBody>, ReadError>
     requires plain { ArePlain types.now specs.now }
     requires named { AllByRecursion HasOwnName programs.now.entries }
     requires few { length programs.now.entries ≤ 256 }
+    requires few_prototypes { length prototypes.now.entries ≤ 512 }
     requires names { names.now ≡ object_names (items_view list.items.now) }
-    ensures { Gives (λ v. map plain_object v.entries) result (each (at_entry (object_at most_levels (scope_with types.now (specs_by types.now (own_of specs.now)) (map plain_program programs.now.entries) most (items_view list.entry.items.now)) None) list.entry.path.now) 0 [] (items_view list.entry.items.now)) }
+    ensures { Gives (λ v. map plain_object v.entries) result (each (at_entry (object_at most_levels (scope_with types.now (specs_by types.now (own_of specs.now)) (map plain_program programs.now.entries) (map plain_prototype prototypes.now.entries) most (items_view list.entry.items.now)) None) list.entry.path.now) 0 [] (items_view list.entry.items.now)) }
 {
     let scope = Scope {
         types,
         specs,
         programs,
+        prototypes,
         most,
         names,
     };
     read_within(list, &scope)
 }
 
-// The objects of a list, where so many may live.
+// The objects of a list beside these prototypes, where so many may live.
 pub(crate) fn read_objects<'a>(
     list: Entries<'a>,
     types: &'a TypeTree,
     specs: &'a SpecTable,
     programs: &'a Programs,
+    prototypes: &'a Prototypes,
     most: usize,
 ) -> Result<IndexMap<String, ObjectBody>, ReadError>
     requires plain { ArePlain types.now specs.now }
     requires named { AllByRecursion HasOwnName programs.now.entries }
     requires few { length programs.now.entries ≤ 256 }
-    ensures { Gives (λ v. map plain_object v.entries) result (each (at_entry (object_at most_levels (scope_with types.now (specs_by types.now (own_of specs.now)) (map plain_program programs.now.entries) most (items_view list.entry.items.now)) None) list.entry.path.now) 0 [] (items_view list.entry.items.now)) }
+    requires few_prototypes { length prototypes.now.entries ≤ 512 }
+    ensures { Gives (λ v. map plain_object v.entries) result (each (at_entry (object_at most_levels (scope_with types.now (specs_by types.now (own_of specs.now)) (map plain_program programs.now.entries) (map plain_prototype prototypes.now.entries) most (items_view list.entry.items.now)) None) list.entry.path.now) 0 [] (items_view list.entry.items.now)) }
 {
     let names = ObjectNames::new(list.alloc, list.items)?;
-    read_named(list, types, specs, programs, most, &names)
+    read_named(list, types, specs, programs, prototypes, most, &names)
 }

@@ -5,20 +5,21 @@ ghost use Rattle.serde_json.specs.Find.{get, as_number, as_u64};
 ghost use Rattle.std.specs.List.{AllByRecursion};
 ghost use Rattle.serde_json.specs.View.{view};
 ghost use Rattle.ui_machine.specs.Definition.Types.{predeclared};
-ghost use Rattle.builder_defs.specs.Meaning.{ArePlain, HasOwnName, IsSoundProgram, plain_object, plain_program};
+ghost use Rattle.builder_defs.specs.Meaning.{ArePlain, HasOwnName, IsSoundProgram, plain_object, plain_program, plain_prototype};
 ghost use Rattle.builder_defs.specs.Refusals.{Gives, Leads};
 ghost use Rattle.builder_defs.specs.Document.{path_of};
 ghost use Rattle.param_specs.specs.Table.{own_of};
 ghost use Rattle.builder_defs.specs.Denoted.Properties.{specs_by};
-ghost use Rattle.builder_defs.specs.Denoted.Drafts.{draft_of};
+ghost use Rattle.builder_defs.specs.Denoted.Drafts.{class_draft_of, draft_of};
 ghost use Rattle.builder_defs.specs.Denoted.Programs.{programs_in};
+ghost use Rattle.builder_defs.specs.Denoted.Prototypes.{prototypes_in};
 ghost use Rattle.builder_defs.specs.Denoted.{format_of, enums_in, flags_in, interfaces_in, classes_in, draft_in, objects_in, definition_in, denoted};
 
 use crate::classes::read_classes;
 use crate::definition::Definition;
 use crate::document::{Entries, Part, Path, listed_ahead, parsed};
-use crate::drafts::Draft;
-use crate::entries::TypeNames;
+use crate::drafts::{ClassDraft, Draft};
+use crate::entries::{ProgramNames, TypeNames};
 use crate::enums::{read_enums, read_flags_types};
 use crate::fault::{DefinitionFault, ReadError};
 use crate::interfaces::read_interfaces;
@@ -27,6 +28,7 @@ use crate::object_entry::ObjectBody;
 use crate::objects::read_objects;
 use crate::places::read_places;
 use crate::programs::{Programs, read_programs};
+use crate::prototypes::{Prototypes, read_prototypes};
 use handler_code::Names;
 use indexmap::IndexMap;
 use param_specs::SpecTable;
@@ -36,8 +38,6 @@ use std::alloc::Global;
 use type_tree::TypeTree;
 
 const UNSET_BEFORE_CLASSES: [&str; 1] = ["shapes"];
-
-const UNSET_BEFORE_OBJECTS: [&str; 1] = ["prototypes"];
 
 const MEMBERS: [&str; 10] = [
     "format",
@@ -123,10 +123,14 @@ fn interfaces_of(part: Part<'_>, names: &TypeNames<'_>, draft: &mut Draft) -> Re
 
 // Adds the classes of a definition.
 #[tactic(auto, unfolding(crate::specs::Denoted::classes_in))]
-fn classes_of(part: Part<'_>, names: &TypeNames<'_>, draft: &mut Draft) -> Result<(), ReadError>
+fn classes_of(
+    part: Part<'_>,
+    names: &TypeNames<'_>,
+    programs: &ProgramNames<'_>,
+    draft: &mut ClassDraft,
+) -> Result<(), ReadError>
     requires { path_of part.path ≡ [] }
-    ensures draft { Leads result (classes_in names.now (draft_of draft.old.types draft.old.specs draft.old.signals.signals) (view part.entry.value.now)) (draft_of draft.new.types draft.new.specs draft.new.signals.signals) }
-    ensures handlers { draft.new.signals.handlers ≡ draft.old.signals.handlers }
+    ensures { Leads result (classes_in names.now programs.now (class_draft_of draft.old.types draft.old.specs draft.old.signals draft.old.constructed.items) (view part.entry.value.now)) (class_draft_of draft.new.types draft.new.specs draft.new.signals draft.new.constructed.items) }
 {
     part.check_nothing(&UNSET_BEFORE_CLASSES)?;
     let items = part.entries("classes")?;
@@ -135,21 +139,21 @@ fn classes_of(part: Part<'_>, names: &TypeNames<'_>, draft: &mut Draft) -> Resul
         path: "/classes",
         items,
     };
-    read_classes(list, names, draft)?;
+    read_classes(list, names, programs, draft)?;
     Ok(())
 }
 
-// The types of a definition, with their properties and signals.
+// The types of a definition, with all that they have.
 #[tactic(auto, unfolding(crate::specs::Denoted::draft_in))]
-fn read_draft(part: Part<'_>) -> Result<Draft, ReadError>
+fn read_draft(part: Part<'_>) -> Result<ClassDraft, ReadError>
     requires { path_of part.path ≡ [] }
-    ensures draft { Gives (λ draft. draft_of draft.types draft.specs draft.signals.signals) result (draft_in (view part.entry.value.now)) }
-    ensures unhandled { IfOk result (λ draft. draft.signals.handlers ≡ []) }
+    ensures { Gives (λ draft. class_draft_of draft.types draft.specs draft.signals draft.constructed.items) result (draft_in (view part.entry.value.now)) }
 {
     let mut types = TypeTree::new(part.alloc)?;
     enums_of(part, &mut types)?;
     flags_of(part, &mut types)?;
     let names = TypeNames::new(part.alloc, part.value, types.len())?;
+    let programs = ProgramNames::new(part.alloc, part.value)?;
     let specs = SpecTable::new(part.alloc);
     let signals = SignalTable::new(part.alloc);
     let mut draft = Draft {
@@ -158,7 +162,13 @@ fn read_draft(part: Part<'_>) -> Result<Draft, ReadError>
         signals,
     };
     interfaces_of(part, &names, &mut draft)?;
-    classes_of(part, &names, &mut draft)?;
+    let mut draft = ClassDraft {
+        types: draft.types,
+        specs: draft.specs,
+        signals: draft.signals,
+        constructed: Vec::new(part.alloc),
+    };
+    classes_of(part, &names, &programs, &mut draft)?;
     Ok(draft)
 }
 
@@ -186,29 +196,51 @@ fn programs_of(part: Part<'_>, types: &TypeTree) -> Result<Programs, ReadError>
     Ok(programs)
 }
 
-// The objects of a definition, where so many may live.
+// The prototypes of a definition.
+#[tactic(auto, unfolding(crate::specs::Denoted::Prototypes::prototypes_in))]
+fn prototypes_of(
+    part: Part<'_>,
+    types: &TypeTree,
+    specs: &SpecTable,
+) -> Result<Prototypes, ReadError>
+    requires root { path_of part.path ≡ [] }
+    requires plain { ArePlain types.now specs.now }
+    ensures { Gives (λ v. map plain_prototype v.entries) result (prototypes_in types.now (specs_by types.now (own_of specs.now)) (view part.entry.value.now)) }
+{
+    let items = part.entries("prototypes")?;
+    let list = Entries {
+        alloc: part.alloc,
+        path: "/prototypes",
+        items,
+    };
+    let prototypes = read_prototypes(list, types, specs)?;
+    Ok(prototypes)
+}
+
+// The objects of a definition beside these prototypes, where so many may live.
 #[tactic(auto, unfolding(crate::specs::Denoted::objects_in))]
 fn objects_of<'a>(
     part: Part<'a>,
     types: &'a TypeTree,
     specs: &'a SpecTable,
     programs: &'a Programs,
+    prototypes: &'a Prototypes,
     most: usize,
 ) -> Result<IndexMap<String, ObjectBody>, ReadError>
     requires root { path_of part.path ≡ [] }
     requires plain { ArePlain types.now specs.now }
     requires named { AllByRecursion HasOwnName programs.now.entries }
     requires few { length programs.now.entries ≤ 256 }
-    ensures { Gives (λ v. map plain_object v.entries) result (objects_in types.now (specs_by types.now (own_of specs.now)) (map plain_program programs.now.entries) most (view part.entry.value.now)) }
+    requires few_prototypes { length prototypes.now.entries ≤ 512 }
+    ensures { Gives (λ v. map plain_object v.entries) result (objects_in types.now (specs_by types.now (own_of specs.now)) (map plain_program programs.now.entries) (map plain_prototype prototypes.now.entries) most (view part.entry.value.now)) }
 {
-    part.check_nothing(&UNSET_BEFORE_OBJECTS)?;
     let items = part.entries("objects")?;
     let list = Entries {
         alloc: part.alloc,
         path: "/objects",
         items,
     };
-    let objects = read_objects(list, types, specs, programs, most)?;
+    let objects = read_objects(list, types, specs, programs, prototypes, most)?;
     Ok(objects)
 }
 
@@ -230,16 +262,24 @@ fn definition_of(alloc: Global, value: &Value) -> Result<Definition, ReadError>
     let limits = limits_of(part)?;
     let draft = read_draft(part)?;
     let programs = programs_of(part, &draft.types)?;
+    let prototypes = prototypes_of(part, &draft.types, &draft.specs)?;
     let most = limits.objects as usize;
-    let objects = objects_of(part, &draft.types, &draft.specs, &programs, most)?;
+    let objects = objects_of(
+        part,
+        &draft.types,
+        &draft.specs,
+        &programs,
+        &prototypes,
+        most,
+    )?;
     part.check_only(members, &MEMBERS)?;
     Ok(Definition {
         types: draft.types,
         specs: draft.specs,
         signals: draft.signals,
-        constructed: Vec::new(alloc),
+        constructed: draft.constructed,
         programs,
-        prototypes: IndexMap::new(alloc),
+        prototypes,
         objects,
         limits,
     })

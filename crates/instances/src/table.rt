@@ -69,7 +69,14 @@ impl Table {
     pub fn has_room(&self, to_come: u32) -> bool
         ensures { result ≡ has_room to_come self.now }
     {
-        let Some(limit) = self.limit.checked_sub(to_come) else {
+        self.has_room_below(self.limit, to_come)
+    }
+
+    /// The same where so many may live.
+    pub fn has_room_below(&self, most: u32, to_come: u32) -> bool
+        ensures { result ≡ has_room to_come (record self.now { limit = most }) }
+    {
+        let Some(limit) = most.checked_sub(to_come) else {
             return false;
         };
         if self.instances.len() >= limit as usize {

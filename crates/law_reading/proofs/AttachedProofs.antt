@@ -1,5 +1,5 @@
 -- The signals of objects of a definition that was read: the data of each is an object of the document.
-use Rattle.std.proofs.Common.{◌≡◌, ℕ, ◌<◌, List, [], ◌∷◌, length, codes, Option, None, Some, Ok, Err, sym, subst, refl, arith}
+use Rattle.std.proofs.Common.{◌≡◌, ℕ, ◌<◌, List, [], ◌∷◌, length, codes, Option, None, Some, sym, arith}
 use Rattle.serde_json.specs.Data.{Data}
 use Rattle.serde_json.specs.Find.{get, as_str}
 use Rattle.ui_machine.specs.Definition.Places.{Attached}

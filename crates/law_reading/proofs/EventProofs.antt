@@ -1,5 +1,5 @@
 -- An event that a line denotes names what is there, and its values fit.
-use Rattle.std.proofs.Common.{◌≡◌, ℕ, zero, suc, ◌<◌, nat_eq, Bool, true, false, List, [], ◌∷◌, ◌++◌, length, Option, None, Some, option_and_then, option_map, Result, Ok, Err, refl, sym, ap, subst, ◌∙◌, arith}
+use Rattle.std.proofs.Common.{◌≡◌, ℕ, zero, suc, ◌<◌, nat_eq, Bool, true, false, not, List, [], ◌∷◌, ◌++◌, length, Option, None, Some, option_and_then, option_map, Result, Ok, Err, refl, sym, ap, subst, ◌∙◌, arith}
 use Rattle.std.specs.List.{AllZip}
 use Rattle.std.proofs.lemmas.Bool.{eqb-true}
 use Rattle.std.proofs.lemmas.Bool.Decides.{nat_tests}
@@ -24,6 +24,7 @@ use Rattle.ui_machine.specs.Output.Text.{members_of}
 use Rattle.ui_machine.specs.Rules.Ancestry.{is_a}
 use Rattle.ui_machine.specs.Rules.Transform.{kind_fits}
 use Rattle.builder_defs.specs.Meaning as code
+use Rattle.builder_defs.specs.Meaning.{is_object_there, if_object, object_place}
 use Rattle.builder_defs.specs.Denoted.Given.{reference}
 use Rattle.builder_defs.specs.EventMeaning.{EventRefusal, unknown, shape, not_readable, construct_only, not_writable, value_fault, or_refused, line_value, has_one_member, words_of_set, words_of_get, Target, target, object_of, object_named, is_of_kind, itself, given_by, or_value_fault, writable, readable, set_event, get_event, release_event, release_by, event_by, event_meant, event_denoted, words_of_emit, SignalTarget, but_notify, signal_target, count, check_count, check_detail, each_of, id_known, argument, emit_event, emit_by}
 use Rattle.law_typing.specs.Rules.RegisterKinds.{class_at}
@@ -31,7 +32,6 @@ use Rattle.law_typing.specs.Graph.Channels.{spec_at}
 use Rattle.law_typing.specs.Laws.WellRead.{no_class_of, GivenFits, IsObject}
 use Rattle.law_sessions.specs.Sessions.{EventRead}
 use Rattle.law_sessions.proofs.IfOkProofs.{after_each, after_such}
-use Rattle.law_reading.proofs.ListProofs.{named_entry}
 use Rattle.law_reading.proofs.ValueProofs.{HaveFewBits, value_fits}
 
 after_read : {A B E : Type 0} (r : Result A E) (f : A → Result B E) (P : B → Type 0) → ((x : A) → r ≡ Ok x → IfOk (f x) P)
@@ -43,28 +43,42 @@ taken : {A : Type 0} (refusal : EventRefusal) (found : Option A) (x : A) → or_
 taken refusal None x e = absurd (cc)
 taken refusal (Some y) x e = let same : y ≡ x = cc in ap Some same
 
-module _ (d : Definition) (few : (t : ℕ) → HaveFewBits (members_of d.types t))
-    (objects : (place : ℕ) (p : Place) → place_at d place ≡ Some p → p.is_prototype ≡ false) where
+module _ (d : Definition) (few : (t : ℕ) → HaveFewBits (members_of d.types t)) where
+  -- the object of an id is there
+  object_is : (id : List ℕ) (place : ℕ) → object_place d id ≡ Some place → IsObject d place
+  object_is id place e = by (place_of d id) e
+    where
+      of : (n : ℕ) (p : Place) → place_at d n ≡ Some p → (b : Bool) → p.is_prototype ≡ b → (if not b then Some n else None) ≡ Some place → IsObject d place
+      of n p there true is h = absurd (cc)
+      of n p there false is h = let same : n ≡ place = cc in subst (IsObject d) same (p, there, is)
+
+      here : (n : ℕ) (o : Option Place) → place_at d n ≡ o → (if is_object_there o then Some n else None) ≡ Some place → IsObject d place
+      here n None there h = absurd (cc)
+      here n (Some p) there h = of n p there p.is_prototype refl h
+
+      by : (o : Option ℕ) → option_and_then (if_object d) o ≡ Some place → IsObject d place
+      by None h = absurd (cc)
+      by (Some n) h = here n (place_at d n) refl h
+
   -- a property of an object of the document
   record IsTarget (t : Target) : Type 0 where
     object : IsObject d t.place
     spec : spec_at d t.place t.slot ≡ Some t.spec
 
-  target_of : (place slot : ℕ) (p : Place) (spec : Spec) → place_at d place ≡ Some p → spec_of d (code.class_at d place) slot ≡ Some spec
+  target_of : (place slot : ℕ) (spec : Spec) → IsObject d place → spec_of d (code.class_at d place) slot ≡ Some spec
       → IsTarget (record { place = place; slot = slot; spec = spec })
-  target_of place slot p spec there has = record { object = (p, there, objects place p there); spec = by there has }
+  target_of place slot spec o has = record { object = o; spec = by o.0 o.1 has }
     where
-      by : place_at d place ≡ Some p → spec_of d (code.class_at d place) slot ≡ Some spec → spec_at d place slot ≡ Some spec
-      by e f = let known : spec_of d p.class slot ≡ Some spec = rw e at f in rw e known
+      by : (p : Place) → place_at d place ≡ Some p → spec_of d (code.class_at d place) slot ≡ Some spec → spec_at d place slot ≡ Some spec
+      by p e f = let known : spec_of d p.class slot ≡ Some spec = rw e at f in rw e known
 
   is_target : (id name : List ℕ) → IfOk (target d id name) IsTarget
   unfolding target
   is_target id name =
-      after_read (or_refused (unknown id) (place_of d id)) _ IsTarget λ place found.
+      after_read (or_refused (unknown id) (object_place d id)) _ IsTarget λ place found.
       after_each (or_refused (unknown name) (slot_of d (code.class_at d place) name)) _ IsTarget λ slot.
       after_read (or_refused (unknown name) (spec_of d (code.class_at d place) slot)) _ IsTarget λ spec has.
-      let p = named_entry (λ (x : Place). x.id) d.places id place (taken (unknown id) (place_of d id) place found) in
-      target_of place slot p.0 spec p.1 (taken (unknown name) (spec_of d (code.class_at d place) slot) spec has)
+      target_of place slot spec (object_is id place (taken (unknown id) (object_place d id) place found)) (taken (unknown name) (spec_of d (code.class_at d place) slot) spec has)
 
   may_be_set : (s : Spec) → IfOk (writable s) (λ u. (is_writable s ≡ true) × (is_construct_only s ≡ false))
   may_be_set s = by (is_writable s) (is_construct_only s) refl refl
@@ -93,31 +107,27 @@ module _ (d : Definition) (few : (t : ℕ) → HaveFewBits (members_of d.types t
       by (Err cause) h = tt
 
   -- an object of the document
-  object_fits : (kind : Kind) (place : ℕ) (p : Place) → place_at d place ≡ Some p → is_of_kind d.types kind (code.class_at d place) ≡ true
-      → GivenFits d kind (named place)
-  object_fits (kinds.object t) place p there h =
-      let class : is_a d.types p.class t ≡ true = by there h in (p, t, there, objects place p there, refl, class)
+  object_fits : (kind : Kind) (place : ℕ) → IsObject d place → is_of_kind d.types kind (code.class_at d place) ≡ true → GivenFits d kind (named place)
+  object_fits (kinds.object t) place o h = (o.0, t, o.1, o.2, refl, by o.0 o.1 h)
     where
-      by : place_at d place ≡ Some p → is_a d.types (code.class_at d place) t ≡ true → is_a d.types p.class t ≡ true
-      by e h = let known : is_a d.types p.class t ≡ true = rw e at h in known
-  object_fits kinds.bool place p there h = absurd (cc)
-  object_fits (kinds.whole k) place p there h = absurd (cc)
-  object_fits kinds.text place p there h = absurd (cc)
-  object_fits (kinds.enum t) place p there h = absurd (cc)
-  object_fits (kinds.flags t) place p there h = absurd (cc)
+      by : (p : Place) → place_at d place ≡ Some p → is_a d.types (code.class_at d place) t ≡ true → is_a d.types p.class t ≡ true
+      by p e h = let known : is_a d.types p.class t ≡ true = rw e at h in known
+  object_fits kinds.bool place o h = absurd (cc)
+  object_fits (kinds.whole k) place o h = absurd (cc)
+  object_fits kinds.text place o h = absurd (cc)
+  object_fits (kinds.enum t) place o h = absurd (cc)
+  object_fits (kinds.flags t) place o h = absurd (cc)
 
   -- an object that is there, if there is one
   abbrev IsThere : Option ℕ → Type 0
-  IsThere o = (place : ℕ) → o ≡ Some place → (p : Place) × (place_at d place ≡ Some p)
+  IsThere o = (place : ℕ) → o ≡ Some place → IsObject d place
 
   object_there : (id : List ℕ) → IfOk (object_of d id) IsThere
   unfolding object_of
   object_there id =
-      after_read (or_refused (unknown id) (place_of d id)) _ IsThere λ place found.
+      after_read (or_refused (unknown id) (object_place d id)) _ IsThere λ place found.
       λ to e.
-      let same : place ≡ to = cc in
-      let there = named_entry (λ (x : Place). x.id) d.places id place (taken (unknown id) (place_of d id) place found) in
-      subst (λ n. (p : Place) × (place_at d n ≡ Some p)) same there
+      let same : place ≡ to = cc in subst (IsObject d) same (object_is id place (taken (unknown id) (object_place d id) place found))
 
   named_there : (o : Option (ℕ × List ℕ)) → IfOk (object_named d o) IsThere
   named_there None = λ place e. absurd (cc)
@@ -129,7 +139,7 @@ module _ (d : Definition) (few : (t : ℕ) → HaveFewBits (members_of d.types t
     where
       by : (b : Bool) → is_of_kind d.types kind (code.class_at d place) ≡ b
           → IfOk {T = Given} (if b then Ok (named place) else Err value_fault) (GivenFits d kind)
-      by true e = let found = there place refl in object_fits kind place found.0 found.1 e
+      by true e = object_fits kind place (there place refl) e
       by false e = tt
 
   set_read : (words : Data) → IfOk (set_event d words) (EventRead d)
@@ -156,9 +166,8 @@ module _ (d : Definition) (few : (t : ℕ) → HaveFewBits (members_of d.types t
   unfolding release_event
   release_read word =
       after_each (or_refused shape (as_str word)) _ (EventRead d) λ id.
-      after_read (or_refused (unknown id) (place_of d id)) _ (EventRead d) λ place found.
-      let p = named_entry (λ (x : Place). x.id) d.places id place (taken (unknown id) (place_of d id) place found) in
-      (p.0, p.1, objects place p.0 p.1)
+      after_read (or_refused (unknown id) (object_place d id)) _ (EventRead d) λ place found.
+      object_is id place (taken (unknown id) (object_place d id) place found)
 
   -- ** emissions
 
@@ -175,25 +184,24 @@ module _ (d : Definition) (few : (t : ℕ) → HaveFewBits (members_of d.types t
   above_notify (Some zero) number e = absurd (cc)
   above_notify (Some (suc n)) number e = let same : suc n ≡ number = cc in omega (arith, same)
 
-  emitted_by : (place number : ℕ) (p : Place) (s : Signal) → place_at d place ≡ Some p → signal_of d (code.class_at d place) number ≡ Some s → 0 < number
+  emitted_by : (place number : ℕ) (s : Signal) → IsObject d place → signal_of d (code.class_at d place) number ≡ Some s → 0 < number
       → IsEmitted (record { place = place; which = number; signal = s })
-  emitted_by place number p s there has above =
-      record { object = (p, there, objects place p there); class = p.class; placed = placed there; signal = by there has; number = above }
+  emitted_by place number s o has above =
+      record { object = o; class = o.0.class; placed = placed o.0 o.1; signal = by o.0 o.1 has; number = above }
     where
-      placed : place_at d place ≡ Some p → class_at d place ≡ Some p.class
-      placed e = ap (λ o. option_map (λ (x : Place). x.class) o) e
+      placed : (p : Place) → place_at d place ≡ Some p → class_at d place ≡ Some p.class
+      placed p e = ap (λ o. option_map (λ (x : Place). x.class) o) e
 
-      by : place_at d place ≡ Some p → signal_of d (code.class_at d place) number ≡ Some s → signal_of d p.class number ≡ Some s
-      by e f = let known : signal_of d p.class number ≡ Some s = rw e at f in known
+      by : (p : Place) → place_at d place ≡ Some p → signal_of d (code.class_at d place) number ≡ Some s → signal_of d p.class number ≡ Some s
+      by p e f = let known : signal_of d p.class number ≡ Some s = rw e at f in known
 
   is_emitted : (id name : List ℕ) → IfOk (signal_target d id name) IsEmitted
   unfolding signal_target
   is_emitted id name =
-      after_read (or_refused (unknown id) (place_of d id)) _ IsEmitted λ place is.
+      after_read (or_refused (unknown id) (object_place d id)) _ IsEmitted λ place is.
       after_read (or_refused (unknown name) (but_notify (signal_number d (code.class_at d place) name))) _ IsEmitted λ number named.
       after_read (or_refused (unknown name) (signal_of d (code.class_at d place) number)) _ IsEmitted λ s has.
-      let p = named_entry (λ (x : Place). x.id) d.places id place (taken (unknown id) (place_of d id) place is) in
-      emitted_by place number p.0 s p.1 (taken (unknown name) (signal_of d (code.class_at d place) number) s has)
+      emitted_by place number s (object_is id place (taken (unknown id) (object_place d id) place is)) (taken (unknown name) (signal_of d (code.class_at d place) number) s has)
       (above_notify (signal_number d (code.class_at d place) name) number (taken (unknown name) (but_notify (signal_number d (code.class_at d place) name)) number named))
 
   -- the arguments so far, with one more that fits

@@ -67,29 +67,28 @@ number_within i (own ∷ names) name n h = by (is_called own name) h (number_wit
     by true e rest = let same : i ≡ n = cc in omega (arith, same)
     by false e rest = let later = rest e in omega (arith, later)
 
+-- the property of a name
+pub record IsNamed (specs : List Spec) (name : List ℕ) (slot : ℕ) (spec : Spec) : Type 0 where
+  pub found : slot_named specs name ≡ Some slot
+  pub is : slice_get specs slot ≡ Some spec
+
+pub property_is : (specs : List Spec) (path name : List ℕ) → OnRead (λ p. IsNamed specs name p.slot p.spec) (property_named path specs name)
+unfolding property_named
+property_is specs path name =
+    on_read (λ p. IsNamed specs name p.slot p.spec) (or_refused (unknown path name) (slot_named specs name)) _ λ slot found.
+    on_read (λ p. IsNamed specs name p.slot p.spec) (or_refused (unknown path name) (slice_get specs slot)) _ λ spec is.
+    record { found = taken (unknown path name) (slot_named specs name) slot found; is = taken (unknown path name) (slice_get specs slot) spec is }
+
+pub first_time : (path : List ℕ) (given : List GivenProperty) (slot : ℕ) → OnRead (λ u. is_given given slot ≡ false) (named_once path given slot)
+first_time path given slot = by (is_given given slot) refl
+  where
+    by : (b : Bool) → is_given given slot ≡ b
+        → OnRead {A = Unit {0}} (λ u. is_given given slot ≡ false) (if b then Err (duplicate path) else Ok tt)
+    by true e = tt
+    by false e = e
+
 module _ (types : List GType) (few : (t : ℕ) → HaveFewBits (members_of types t)) (objects : ObjectNames) (place : ℕ) (small : place < 512)
     (specs : List Spec) where
-  -- the property of a name
-  record IsNamed (name : List ℕ) (slot : ℕ) (spec : Spec) : Type 0 where
-    found : slot_named specs name ≡ Some slot
-    is : slice_get specs slot ≡ Some spec
-
-  property_is : (path name : List ℕ) → OnRead (λ p. IsNamed name p.slot p.spec) (property_named path specs name)
-  unfolding property_named
-  property_is path name =
-      on_read (λ p. IsNamed name p.slot p.spec) (or_refused (unknown path name) (slot_named specs name)) _ λ slot found.
-      on_read (λ p. IsNamed name p.slot p.spec) (or_refused (unknown path name) (slice_get specs slot)) _ λ spec is.
-      record { found = taken (unknown path name) (slot_named specs name) slot found; is = taken (unknown path name) (slice_get specs slot) spec is }
-
-  first_time : (path : List ℕ) (given : List GivenProperty) (slot : ℕ)
-      → OnRead (λ u. is_given given slot ≡ false) (named_once path given slot)
-  first_time path given slot = by (is_given given slot) refl
-    where
-      by : (b : Bool) → is_given given slot ≡ b
-          → OnRead {A = Unit {0}} (λ u. is_given given slot ≡ false) (if b then Err (duplicate path) else Ok tt)
-      by true e = tt
-      by false e = e
-
   -- where a value is given, the property takes it
   takes : (path : List ℕ) (given : Option Data) (spec : Spec)
       → OnRead (λ u. (d : Data) → given ≡ Some d → is_writable spec ≡ true) (takes_value path given spec)
@@ -223,7 +222,7 @@ module _ (types : List GType) (few : (t : ℕ) → HaveFewBits (members_of types
       by false e = λ spec h. let same : s ≡ spec = cc in subst (λ x. is_too_late place objects d x ≡ false) same e
 
   -- the property of an entry, read ahead
-  ahead_is : (d : Data) (name : List ℕ) (slot : ℕ) (spec : Spec) → name_under (codes "name") d ≡ Some name → IsNamed name slot spec
+  ahead_is : (d : Data) (name : List ℕ) (slot : ℕ) (spec : Spec) → name_under (codes "name") d ≡ Some name → IsNamed specs name slot spec
       → spec_ahead specs d ≡ Some spec
   ahead_is d name slot spec e so =
       ap (option_and_then (λ n. option_and_then (slice_get specs) (slot_named specs n))) e
@@ -260,8 +259,8 @@ module _ (types : List GType) (few : (t : ℕ) → HaveFewBits (members_of types
       on_bind (λ x. (spec : Spec) → spec_ahead specs d ≡ Some spec → is_too_late place objects d spec ≡ false) Fits
       (in_time path place objects d (spec_ahead specs d)) _ (early path d (spec_ahead specs d)) λ x soon.
       on_read Fits (text_at path d (codes "name")) _ λ name said.
-      on_bind (λ p. IsNamed name p.slot p.spec) Fits (property_named (under path (codes "name")) specs name) _
-      (property_is (under path (codes "name")) name) λ property is.
+      on_bind (λ p. IsNamed specs name p.slot p.spec) Fits (property_named (under path (codes "name")) specs name) _
+      (property_is specs (under path (codes "name")) name) λ property is.
       on_bind (λ x. is_given given property.slot ≡ false) Fits
       (named_once (under path (codes "name")) given property.slot) _
       (first_time (under path (codes "name")) given property.slot) λ once new.

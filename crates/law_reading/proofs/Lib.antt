@@ -28,6 +28,7 @@ pub mod SpecProofs
 pub mod GivenProofs
 pub mod AttachedProofs
 pub mod ObjectProofs
+pub mod PrototypeProofs
 pub mod PlaceProofs
 pub mod EventProofs
 pub mod Whole

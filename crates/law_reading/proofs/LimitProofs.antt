@@ -1,5 +1,5 @@
 -- The limits of a definition that was read.
-use Rattle.std.proofs.Common.{◌≡◌, ℕ, suc, ◌+◌, ◌≤◌, ℤ, pos, negsuc, Bool, true, false, cond, not, ◌&&◌, List, [], ◌∷◌, length, Option, None, Some, Ok, Err, refl, arith}
+use Rattle.std.proofs.Common.{◌≡◌, ℕ, suc, ◌+◌, ◌≤◌, ℤ, pos, negsuc, Bool, true, false, cond, not, ◌&&◌, List, [], ◌∷◌, ◌++◌, length, Option, None, Some, Ok, Err, refl, ap, arith}
 use Rattle.std.specs.Prelude.{int_lt, unsigned_abs, if◌then◌else◌, codes}
 use Rattle.std.proofs.lemmas.Int.{ints}
 use Rattle.serde_json.specs.Data.{Data}
@@ -16,6 +16,7 @@ use Rattle.builder_defs.specs.Document.{under, members_at, only_at}
 use Rattle.builder_defs.specs.Denoted.SessionLimits.{limit_within, given_limit, limit_or, keys_of_limits, given_limits, limits_or, limits_in}
 use Rattle.builder_defs.proofs.Soundness.{OnRead, on_bind, on_all}
 use Rattle.law_typing.specs.Laws.WellRead.{is_object}
+use Rattle.law_typing.specs.Verdict.Accepted.{Each}
 
 pub record Small (limits : Limits) : Type 0 where
   pub objects : limits.objects ≤ 4096
@@ -65,11 +66,16 @@ small_or path (Some d) = given_small path d
 pub limits_small : (d : Data) → OnRead Small (limits_in d)
 limits_small d = small_or (under [] (codes "limits")) (get (codes "limits") d)
 
--- no more objects than places
-pub objects_few : (places : List Place) → total is_object places ≤ length places
-objects_few [] = omega arith
-objects_few (p ∷ ps) = by p.is_prototype (objects_few ps)
+-- prototypes are no objects
+no_objects : (ps : List Place) → Each (λ p. p.is_prototype ≡ true) ps → total is_object ps ≡ 0
+no_objects [] all = refl
+no_objects (p ∷ ps) all = let here : is_object p ≡ 0 = ap (λ b. cond b 0 1) all.0 in let rest = no_objects ps all.1 in omega (arith, here, rest)
+
+-- no more places are objects than stand before the prototypes
+pub objects_few : (objects prototypes : List Place) → Each (λ p. p.is_prototype ≡ true) prototypes → total is_object (objects ++ prototypes) ≤ length objects
+objects_few [] prototypes all = let none = no_objects prototypes all in omega (arith, none)
+objects_few (p ∷ ps) prototypes all = by p.is_prototype (objects_few ps prototypes all)
   where
-    by : (b : Bool) → total is_object ps ≤ length ps → cond b 0 1 + total is_object ps ≤ suc (length ps)
+    by : (b : Bool) → total is_object (ps ++ prototypes) ≤ length ps → cond b 0 1 + total is_object (ps ++ prototypes) ≤ suc (length ps)
     by true h = omega (arith, h)
     by false h = omega (arith, h)

@@ -48,6 +48,13 @@ get_push [] x (suc i) y h = absurd (cc)
 get_push (z ∷ xs) x zero y h = inl h
 get_push (z ∷ xs) x (suc i) y h = elim (get_push xs x i y h) [ inl e ↦ inl e | inr e ↦ inr (ap suc e.0, e.1) ]
 
+-- an entry of two lists, one behind the other, is one of either
+pub got_either : {A : Type 0} (xs ys : List A) (i : ℕ) (x : A) → slice_get (xs ++ ys) i ≡ Some x
+    → (slice_get xs i ≡ Some x) ⊎ ((length xs ≤ i) × ((j : ℕ) × (slice_get ys j ≡ Some x)))
+got_either [] ys i x h = inr (omega arith, (i, h))
+got_either (z ∷ xs) ys zero x h = inl h
+got_either (z ∷ xs) ys (suc i) x h = elim (got_either xs ys i x h) [ inl e ↦ inl e | inr e ↦ inr (let far = e.0 in omega (arith, far), e.1) ]
+
 -- within a list there is an entry
 pub got_within : {A : Type 0} (xs : List A) (i : ℕ) → i < length xs → (x : A) × (slice_get xs i ≡ Some x)
 got_within [] i h = absurd (omega arith)

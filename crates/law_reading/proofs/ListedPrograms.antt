@@ -1,5 +1,5 @@
 -- The programs of a definition that was read are as the laws of runs want them.
-use Rattle.std.proofs.Common.{◌≡◌, ℕ, List, [], ◌∷◌, ◌++◌, codes, Result, Ok, Err, refl}
+use Rattle.std.proofs.Common.{◌≡◌, ℕ, List, [], ◌∷◌, codes, Result, Ok, Err, refl}
 use Rattle.std.specs.Prelude.{IfOk}
 use Rattle.serde_json.specs.Data.{Data}
 use Rattle.ui_machine.specs.Outcome.{◌>>=◌}

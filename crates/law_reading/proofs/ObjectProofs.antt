@@ -15,12 +15,12 @@ use Rattle.ui_machine.specs.Output.Text.{no_type, members_of}
 use Rattle.builder_defs.specs.Causes.{abstract_class}
 use Rattle.builder_defs.specs.declared.fault.DefinitionLimit.TheVariants.{Places, Objects}
 use Rattle.builder_defs.specs.Refusals.{shape, unknown, bad_type, limit, or_refused}
-use Rattle.builder_defs.specs.Document.{each, at_entry, under, nth, members_at, text_at, entries_at, absent_at, nothing_at, only_at}
+use Rattle.builder_defs.specs.Document.{each, at_entry, under, nth, members_at, text_at, entries_at, absent_at, only_at}
 use Rattle.builder_defs.specs.Denoted.Attached.{all_attached}
 use Rattle.builder_defs.specs.Denoted.Objects.{Scope, room_for_object, new_id, unless_abstract, class_at_key, keys_of_object, place_at, added_at, object_at}
 use Rattle.builder_defs.specs.Denoted.Entries.{ObjectNames, names_of, name_under, section, with_all, in_order, most_levels}
 use Rattle.builder_defs.specs.Denoted.Given.{class_ahead, givens_at}
-use Rattle.builder_defs.specs.Denoted.{unset_before_objects, objects_in}
+use Rattle.builder_defs.specs.Denoted.{objects_in}
 use Rattle.builder_defs.proofs.Soundness.{OnRead, on_bind, on_all}
 use Rattle.law_typing.specs.Verdict.Accepted.{Each}
 use Rattle.law_reading.proofs.AttachedProofs.{HasData, attached_read}
@@ -58,11 +58,11 @@ pub record AreObjects (types : List GType) (specs : ℕ → List Spec) (places :
   pub all : AreRead types specs names places
 
 -- the class that an entry names
-record IsClassOf (types : List GType) (d : Data) (class : ℕ) : Type 0 where
-  concrete : IsConcrete types class
-  named : option_and_then (class_named types) (name_under (codes "class") d) ≡ Some class
+pub record IsClassOf (types : List GType) (d : Data) (class : ℕ) : Type 0 where
+  pub concrete : IsConcrete types class
+  pub named : option_and_then (class_named types) (name_under (codes "class") d) ≡ Some class
 
-class_read : (path : List ℕ) (types : List GType) (d : Data) → OnRead (IsClassOf types d) (class_at_key path types d)
+pub class_read : (path : List ℕ) (types : List GType) (d : Data) → OnRead (IsClassOf types d) (class_at_key path types d)
 class_read path types d =
     on_read (IsClassOf types d) (text_at path d (codes "class")) _ λ name said.
     on_read (IsClassOf types d) (or_refused (unknown (under path (codes "class")) name) (class_named types name)) _
@@ -81,26 +81,26 @@ class_read path types d =
         → OnRead (IsClassOf types d) (unless_abstract (under path (codes "class")) types class)
     of_class class is called = by class is called (read no_type types class).is_abstract refl
 
-place_left : (most : ℕ) (places : List Place) → OnRead (λ u. length places < 512) (room_for_object most places)
-place_left most places = by (nat_le 512 (length places)) refl
+place_left : (most : ℕ) (prototypes places : List Place) → OnRead (λ u. length places < 512) (room_for_object most prototypes places)
+place_left most prototypes places = by (nat_le 512 (length places + length prototypes)) refl
   where
     life : (b : Bool) → length places < 512 → OnRead {A = Unit {0}} (λ u. length places < 512) (if b then Err (limit Objects) else Ok tt)
     life true h = tt
     life false h = h
 
-    by : (b : Bool) → nat_le 512 (length places) ≡ b
+    by : (b : Bool) → nat_le 512 (length places + length prototypes) ≡ b
         → OnRead {A = Unit {0}} (λ u. length places < 512)
         (if b then Err (limit Places) else (if nat_le most (length places) then Err (limit Objects) else Ok tt))
     by true e = tt
     by false e = life (nat_le most (length places)) (grind (arith, nat_tests))
 
-module _ (types : List GType) (few : (t : ℕ) → HaveFewBits (members_of types t)) (specs : ℕ → List Spec) (programs : List Program) (most : ℕ)
+module _ (types : List GType) (few : (t : ℕ) → HaveFewBits (members_of types t)) (specs : ℕ → List Spec) (programs : List Program) (prototypes : List Place) (most : ℕ)
     (order : List Data) where
   abbrev names : ObjectNames
   names = names_of order
 
   abbrev scope : Scope
-  scope = record { types = types; specs = specs; programs = programs; most = most; names = names }
+  scope = record { types = types; specs = specs; programs = programs; prototypes = prototypes; most = most; names = names }
 
   -- the object that another is a child of, if it is one, is one of these
   abbrev IsAbove : Option ℕ → List Place → Type 0
@@ -116,9 +116,9 @@ module _ (types : List GType) (few : (t : ℕ) → HaveFewBits (members_of types
       → OnRead (One places) (place_at path scope parent places d)
   unfolding place_at
   one_object path parent places d higher ahead =
-      on_bind (λ x. length places < 512) (One places) (room_for_object most places) _ (place_left most places) λ u room.
+      on_bind (λ x. length places < 512) (One places) (room_for_object most prototypes places) _ (place_left most prototypes places) λ u room.
       on_bind (λ x. Unit {0}) (One places) (text_at path d (codes "id")) _ (on_all _) λ id u.
-      on_bind (λ x. Unit {0}) (One places) (new_id (under path (codes "id")) places id) _ (on_all _) λ new u.
+      on_bind (λ x. Unit {0}) (One places) (new_id (under path (codes "id")) (places ++ prototypes) id) _ (on_all _) λ new u.
       on_bind (IsClassOf types d) (One places) (class_at_key path types d) _ (class_read path types d) λ class is.
       on_bind (λ x. Unit {0}) (One places) (absent_at path d (codes "peer" ∷ [])) _ (on_all _) λ peer u.
       on_bind (AreGiven types names (length places) (specs class)) (One places) (givens_at path types names (length places) (specs class) d) _
@@ -254,10 +254,10 @@ module _ (types : List GType) (few : (t : ℕ) → HaveFewBits (members_of types
         so = λ i p h. absurd (cc);
       }
 
-module _ (types : List GType) (few : (t : ℕ) → HaveFewBits (members_of types t)) (specs : ℕ → List Spec) (programs : List Program) (most : ℕ) where
-  pub all_objects : (d : Data) → OnRead (AreObjects types specs) (objects_in types specs programs most d)
+module _ (types : List GType) (few : (t : ℕ) → HaveFewBits (members_of types t)) (specs : ℕ → List Spec) (programs : List Program) (prototypes : List Place)
+    (most : ℕ) where
+  pub all_objects : (d : Data) → OnRead (AreObjects types specs) (objects_in types specs programs prototypes most d)
   unfolding objects_in
   all_objects d =
-      on_bind (λ x. Unit {0}) (AreObjects types specs) (nothing_at [] d unset_before_objects) _ (on_all _) λ unset u.
       on_bind (λ x. Unit {0}) (AreObjects types specs) (entries_at [] d (codes "objects")) _ (on_all _) λ list u.
-      read_all types few specs programs most (in_order most_levels list) most_levels list refl
+      read_all types few specs programs prototypes most (in_order most_levels list) most_levels list refl

@@ -1,5 +1,5 @@
 -- The parts of a definition that was read.
-use Rattle.std.proofs.Common.{◌≡◌, ℕ, List, [], Option, None, Some, Result, Ok, Err, codes, option_and_then, refl, ap, subst}
+use Rattle.std.proofs.Common.{◌≡◌, ℕ, List, [], ◌++◌, Option, None, Some, Result, Ok, Err, codes, option_and_then, refl, ap, subst}
 use Rattle.serde_json.specs.Find.{get, as_array, as_number, as_u64}
 use Rattle.serde_json.specs.Data.{Data, Items}
 use Rattle.ui_machine.specs.Outcome.{◌>>=◌}
@@ -11,9 +11,10 @@ use Rattle.builder_defs.specs.Refusals.{Refusal, shape, or_refused}
 use Rattle.builder_defs.specs.Document.{document, under, members_at, entries, entries_at, only_at}
 use Rattle.builder_defs.specs.Denoted.Entries.{listed, section}
 use Rattle.builder_defs.specs.Denoted.Properties.{specs_by}
-use Rattle.builder_defs.specs.Denoted.Drafts.{Draft}
+use Rattle.builder_defs.specs.Denoted.Drafts.{ClassDraft}
 use Rattle.builder_defs.specs.Denoted.SessionLimits.{limits_in}
 use Rattle.builder_defs.specs.Denoted.Programs.{programs_in}
+use Rattle.builder_defs.specs.Denoted.Prototypes.{prototypes_in}
 use Rattle.builder_defs.specs.Denoted.{keys_of_definition, format_of, draft_in, objects_in, definition_in, definition_with, denoted}
 use Rattle.builder_defs.proofs.Soundness.{OnRead}
 
@@ -43,15 +44,17 @@ section_is path key d list = by (get key d)
 
 pub record IsRead (d : Definition) : Type 0 where
   pub value : Data
-  pub draft : Draft
+  pub draft : ClassDraft
   pub limits : Limits
   pub programs : List Program
-  pub places : List Place
+  pub prototypes : List Place
+  pub objects : List Place
   pub drafted : draft_in value ≡ Ok draft
   pub limited : limits_in value ≡ Ok limits
   pub programmed : programs_in draft.types value ≡ Ok programs
-  pub placed : objects_in draft.types (specs_by draft.types draft.own) programs limits.objects value ≡ Ok places
-  pub is : definition_with draft programs places limits ≡ d
+  pub made : prototypes_in draft.types (specs_by draft.types draft.own) value ≡ Ok prototypes
+  pub placed : objects_in draft.types (specs_by draft.types draft.own) programs prototypes limits.objects value ≡ Ok objects
+  pub is : definition_with draft programs (objects ++ prototypes) limits ≡ d
 
 of_value : (v : Data) → OnRead IsRead (definition_in v)
 unfolding definition_in
@@ -61,18 +64,21 @@ of_value v =
     on_read IsRead (limits_in v) _ λ limits l.
     on_read IsRead (draft_in v) _ λ draft c.
     on_read IsRead (programs_in draft.types v) _ λ programs p.
-    on_read IsRead (objects_in draft.types (specs_by draft.types draft.own) programs limits.objects v) _ λ places o.
+    on_read IsRead (prototypes_in draft.types (specs_by draft.types draft.own) v) _ λ prototypes q.
+    on_read IsRead (objects_in draft.types (specs_by draft.types draft.own) programs prototypes limits.objects v) _ λ objects o.
     on_read IsRead (only_at [] ms keys_of_definition) _ λ u k.
-    let read : IsRead (definition_with draft programs places limits) =
+    let read : IsRead (definition_with draft programs (objects ++ prototypes) limits) =
     record {
       value = v;
       draft = draft;
       limits = limits;
       programs = programs;
-      places = places;
+      prototypes = prototypes;
+      objects = objects;
       drafted = c;
       limited = l;
       programmed = p;
+      made = q;
       placed = o;
       is = refl;
     } in read

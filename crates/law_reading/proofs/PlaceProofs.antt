@@ -1,118 +1,193 @@
 -- The places of a definition that was read are as they should be.
-use Rattle.std.proofs.Common.{◌≡◌, ℕ, suc, ◌<◌, ◌≤◌, Bool, true, false, cond, nat_lt, List, [], ◌∷◌, ◌++◌, length, slice_get, is_some, Option, None, Some, refl, sym, ap, subst, ◌∙◌, arith}
+use Rattle.std.proofs.Common.{◌≡◌, ℕ, suc, ◌+◌, ◌<◌, ◌≤◌, ◌⊎◌, inl, inr, Bool, true, false, cond, nat_lt, List, [], ◌∷◌, ◌++◌, length, slice_get, is_some, Option, None, Some, refl, sym, ap, subst, ◌∙◌, arith}
 use Rattle.std.proofs.lemmas.Bool.Decides.{nat_tests}
-use Rattle.std.specs.Prelude.{if◌then◌else◌}
-use Rattle.std.specs.List.{flat_map}
+use Rattle.std.specs.Prelude.{◌&&◌, if◌then◌else◌}
+use Rattle.std.specs.List.{flat_map, list_all}
 use Rattle.std.proofs.lemmas.Option.{slice_get_within}
-use Rattle.ui_machine.specs.Definition.{Class}
+use Rattle.ui_machine.specs.Definition.{Class, Definition}
 use Rattle.ui_machine.specs.Definition.Lookups.{place_at}
 use Rattle.ui_machine.specs.Definition.Names.{same_name}
 use Rattle.ui_machine.specs.Definition.Programs.{Program}
 use Rattle.ui_machine.specs.Definition.Places.{Attached, Given, GivenProperty, Place, value, named}
-use Rattle.ui_machine.specs.Definition.Properties.{Spec}
+use Rattle.ui_machine.specs.Definition.Properties.{Spec, is_construct_only}
 use Rattle.ui_machine.specs.Definition.Types.{GType}
 use Rattle.ui_machine.specs.Definition.Kinds.{Kind}
+use Rattle.ui_machine.specs.Rules.Construction.{is_forward}
 use Rattle.ui_machine.specs.declared.limits.Limits.{Limits}
-use Rattle.builder_defs.specs.Denoted.Drafts.{Draft}
+use Rattle.builder_defs.specs.Denoted.Drafts.{ClassDraft}
 use Rattle.builder_defs.specs.Denoted.Entries.{at_most}
 use Rattle.builder_defs.specs.Denoted.Given.{may_be}
 use Rattle.builder_defs.specs.Denoted.Properties.{specs_by}
 use Rattle.builder_defs.specs.Denoted.{definition_with}
 use Rattle.law_typing.specs.Verdict.Accepted.{Each}
-use Rattle.law_typing.specs.Laws.WellRead.{no_two, GivenFits, GivenRead, IsObject, IsObjectIf, PlaceRead}
+use Rattle.law_typing.specs.Laws.WellRead.{no_two, is_plain, GivenFits, GivenRead, IsObject, IsObjectIf, PlaceRead}
 use Rattle.law_reading.proofs.AttachedProofs.{HasData, IsEntry}
 use Rattle.law_reading.proofs.GivenProofs.{Refers, IsOfKind, IsFit}
-use Rattle.law_reading.proofs.ListProofs.{each_more, got_within}
+use Rattle.law_reading.proofs.ListProofs.{each_more, each_get, get_front, got_either, got_within}
 use Rattle.law_reading.proofs.ObjectProofs.{IsObjectRead, AreObjects}
+use Rattle.law_reading.proofs.PrototypeProofs.{IsItself, IsPlainFit, IsPrototypeRead, ArePrototypes}
 use Rattle.law_reading.proofs.SignalProofs.{known, no_shape}
 
-module _ (draft : Draft) (programs : List Program) (places : List Place) (limits : Limits)
-    (objects : AreObjects draft.types (specs_by draft.types draft.own) places) (fit : length places ≤ 512) where
-  object_is : (place : ℕ) (p : Place) → place_at (definition_with draft programs places limits) place ≡ Some p
-      → IsObjectRead draft.types (specs_by draft.types draft.own) objects.names place p
-  object_is place p e = objects.all place p e
+-- what a value itself is given to names no object
+plain_given : (types : List GType) (kind : Kind) (g : GivenProperty) → IsItself types kind g.given → is_plain g ≡ true
+plain_given types kind g itself = by g.given itself.is
+  where
+    by : (x : Given) → x ≡ value itself.of → is_plain (record { slot = g.slot; given = x }) ≡ true
+    by (value v) e = refl
+    by (named to) e = absurd (cc)
+
+all_plain : (types : List GType) (specs : List Spec) (gs : List GivenProperty) → Each (IsPlainFit types specs) gs → list_all is_plain gs ≡ true
+all_plain types specs [] all = refl
+all_plain types specs (g ∷ gs) all =
+    ap (λ b. b && list_all is_plain gs) (plain_given types all.0.spec.kind g all.0.itself) ∙ all_plain types specs gs all.1
+
+module _ (draft : ClassDraft) (programs : List Program) (objects prototypes : List Place) (limits : Limits)
+    (read : AreObjects draft.types (specs_by draft.types draft.own) objects) (made : ArePrototypes draft.types (specs_by draft.types draft.own) prototypes)
+    (fit : length objects + length prototypes ≤ 512) where
+  abbrev whole : Definition
+  whole = definition_with draft programs (objects ++ prototypes) limits
+
+  abbrev Objectlike : ℕ → Place → Type 0
+  Objectlike place p = IsObjectRead draft.types (specs_by draft.types draft.own) read.names place p
+
+  abbrev Prototypal : Place → Type 0
+  Prototypal p = IsPrototypeRead draft.types (specs_by draft.types draft.own) p
+
+  -- a place is of an object, or it is a prototype behind all objects
+  either : (place : ℕ) (p : Place) → place_at whole place ≡ Some p
+      → ((place < length objects) × Objectlike place p) ⊎ ((length objects ≤ place) × Prototypal p)
+  either place p e = by (got_either objects prototypes place p e)
+    where
+      by : (slice_get objects place ≡ Some p) ⊎ ((length objects ≤ place) × ((j : ℕ) × (slice_get prototypes j ≡ Some p)))
+          → ((place < length objects) × Objectlike place p) ⊎ ((length objects ≤ place) × Prototypal p)
+      by (inl there) = inl (slice_get_within objects place p there, read.all place p there)
+      by (inr behind) = inr (behind.0, each_get (IsPrototypeRead draft.types (specs_by draft.types draft.own)) prototypes behind.1.0 p made behind.1.1)
+
+  -- each object has a place
+  object_at : (place : ℕ) → place < length objects → (p : Place) × (place_at whole place ≡ Some p) × Objectlike place p
+  object_at place h =
+      let found = got_within objects place h in
+      (found.0, get_front objects prototypes place found.0 found.1, read.all place found.0 found.1)
 
   -- a number that stands for a place is the place's
-  number_is : (n : ℕ) → n < length places → at_most 512 n ≡ n
+  number_is : (n : ℕ) → n < length objects → at_most 512 n ≡ n
   number_is n h = by (nat_lt n 512) refl
     where
       by : (b : Bool) → nat_lt n 512 ≡ b → (if b then n else 512) ≡ n
       by true e = refl
       by false e = absurd (grind (arith, nat_tests))
 
-  named_fits : (kind : Kind) (to : ℕ) → Refers draft.types objects.names kind to
-      → GivenFits (definition_with draft programs places limits) kind (named to)
+  named_fits : (kind : Kind) (to : ℕ) → Refers draft.types read.names kind to → GivenFits whole kind (named to)
   named_fits kind to r =
-      let within : r.place < length places = let n = objects.many in let m = r.there in omega (arith, n, m) in
-      let found = got_within places r.place within in
-      let same : r.place ≡ to = sym (number_is r.place within) ∙ sym r.number in
-      let o = object_is r.place found.0 found.1 in (
-        found.0,
+      let within : r.place < length objects = let n = read.many in let m = r.there in omega (arith, n, m) in
+      let o = object_at r.place within in
+      let same : r.place ≡ to = sym (number_is r.place within) ∙ sym r.number in (
+        o.0,
         r.type,
-        subst (λ n. slice_get places n ≡ Some found.0) same found.1,
-        o.object,
+        subst (λ n. place_at whole n ≡ Some o.0) same o.1,
+        o.2.object,
         r.is,
-        sym (ap (may_be draft.types r.type) o.named) ∙ r.fits,
+        sym (ap (may_be draft.types r.type) o.2.named) ∙ r.fits,
       )
 
-  given_fits : (kind : Kind) (g : Given) → IsOfKind draft.types objects.names kind g → GivenFits (definition_with draft programs places limits) kind g
+  given_fits : (kind : Kind) (g : Given) → IsOfKind draft.types read.names kind g → GivenFits whole kind g
   given_fits kind (value v) fits = fits
   given_fits kind (named to) fits = named_fits kind to fits
 
   given_read : (place : ℕ) (p : Place) → p.class < length draft.types → (g : GivenProperty)
-      → IsFit draft.types objects.names place (specs_by draft.types draft.own p.class) g
-      → GivenRead (definition_with draft programs places limits) place p g
+      → IsFit draft.types read.names place (specs_by draft.types draft.own p.class) g → GivenRead whole place p g
   given_read place p there g fit = record {
     spec = fit.spec;
-    is = ap (λ (c : Class). slice_get c.specs g.slot) (known draft programs places limits p.class there) ∙ fit.is;
+    is = ap (λ (c : Class). slice_get c.specs g.slot) (known draft programs (objects ++ prototypes) limits p.class there) ∙ fit.is;
     writable = fit.writable;
     fits = given_fits fit.spec.kind g.given fit.fits;
     forward = fit.forward;
   }
 
-  -- within the places each is of an object
-  object_there : (place : ℕ) → place < length places → IsObject (definition_with draft programs places limits) place
-  object_there place h = let found = got_within places place h in (found.0, found.1, (object_is place found.0 found.1).object)
+  -- a value itself is of its kind, and comes in time
+  itself_fits : (kind : Kind) (g : Given) → IsItself draft.types kind g → GivenFits whole kind g
+  itself_fits kind g i = subst (GivenFits whole kind) (sym i.is) i.fits
+
+  itself_in_time : (place : ℕ) (spec : Spec) (g : Given) → IsItself draft.types spec.kind g → is_forward place g ≡ true → is_construct_only spec ≡ false
+  itself_in_time place spec g i h = let early : is_forward place (value i.of) ≡ true = subst (λ x. is_forward place x ≡ true) i.is h in absurd (cc)
+
+  plain_read : (place : ℕ) (p : Place) → p.class < length draft.types → (g : GivenProperty)
+      → IsPlainFit draft.types (specs_by draft.types draft.own p.class) g → GivenRead whole place p g
+  plain_read place p there g fit = record {
+    spec = fit.spec;
+    is = ap (λ (c : Class). slice_get c.specs g.slot) (known draft programs (objects ++ prototypes) limits p.class there) ∙ fit.is;
+    writable = fit.writable;
+    fits = itself_fits fit.spec.kind g.given fit.itself;
+    forward = itself_in_time place fit.spec g.given fit.itself;
+  }
+
+  -- among the objects each place is of an object
+  object_there : (place : ℕ) → place < length objects → IsObject whole place
+  object_there place h = let o = object_at place h in (o.0, o.1, o.2.object)
 
   -- the data of a signal is an object
-  data_there : (with : Option ℕ) → ((to : ℕ) → with ≡ Some to → IsEntry objects.names to) → IsObjectIf (definition_with draft programs places limits) with
+  data_there : (with : Option ℕ) → ((to : ℕ) → with ≡ Some to → IsEntry read.names to) → IsObjectIf whole with
   data_there None is = tt
   data_there (Some to) is =
       let r = is to refl in
-      let within : r.place < length places = let n = objects.many in let m = r.there in omega (arith, n, m) in
-      subst (IsObject (definition_with draft programs places limits)) (sym (number_is r.place within) ∙ sym r.number) (object_there r.place within)
+      let within : r.place < length objects = let n = read.many in let m = r.there in omega (arith, n, m) in
+      subst (IsObject whole) (sym (number_is r.place within) ∙ sym r.number) (object_there r.place within)
 
-  pub place_read : (place : ℕ) (p : Place) → place_at (definition_with draft programs places limits) place ≡ Some p
-      → PlaceRead (definition_with draft programs places limits) place p
-  place_read place p e =
-      let o = object_is place p e in
-      let here : place < length places = slice_get_within places place p e in
-      record {
-        known = o.class.known;
-        class = o.class.sort;
-        concrete = o.class.concrete;
-        parent = λ above h. let before = o.parent above h in (before, object_there above (omega (arith, before, here)));
-        given = each_more (IsFit draft.types objects.names place (specs_by draft.types draft.own p.class))
-            (GivenRead (definition_with draft programs places limits) place p) p.given
-            (given_read place p o.class.known) o.given.fit;
-        slots = o.given.apart;
-        plain = λ h. absurd (let no = o.object in cc);
-        silent = λ h. absurd (let no = o.object in cc);
-        peers = λ h. ap length o.peers ∙ sym (ap (λ shape. cond (is_some shape) 1 0) (no_shape draft programs places limits p.class));
-        signals = each_more (HasData objects.names) (λ (a : Attached). IsObjectIf (definition_with draft programs places limits) a.with) p.signals
-            (λ a has. data_there a.with has.entry) o.signals;
-      }
+  object_read : (place : ℕ) (p : Place) → place < length objects → Objectlike place p → PlaceRead whole place p
+  object_read place p here o = record {
+    known = o.class.known;
+    class = o.class.sort;
+    concrete = o.class.concrete;
+    parent = λ above h. let before = o.parent above h in (before, object_there above (omega (arith, before, here)));
+    given = each_more (IsFit draft.types read.names place (specs_by draft.types draft.own p.class)) (GivenRead whole place p) p.given
+        (given_read place p o.class.known) o.given.fit;
+    slots = o.given.apart;
+    plain = λ h. absurd (let no = o.object in cc);
+    silent = λ h. absurd (let no = o.object in cc);
+    peers = λ h. ap length o.peers ∙ sym (ap (λ shape. cond (is_some shape) 1 0) (no_shape draft programs (objects ++ prototypes) limits p.class));
+    signals = each_more (HasData read.names) (λ (a : Attached). IsObjectIf whole a.with) p.signals (λ a has. data_there a.with has.entry) o.signals;
+  }
 
-  pub place_order : (a b : ℕ) (p q : Place) → place_at (definition_with draft programs places limits) a ≡ Some p
-      → place_at (definition_with draft programs places limits) b ≡ Some q → p.is_prototype ≡ true → q.is_prototype ≡ false → b < a
-  place_order a b p q e f h g = absurd (let no = (object_is a p e).object in cc)
+  prototype_read : (place : ℕ) (p : Place) → Prototypal p → PlaceRead whole place p
+  prototype_read place p q = record {
+    known = q.class.known;
+    class = q.class.sort;
+    concrete = q.class.concrete;
+    parent = λ above h. absurd (let none = q.parent in cc);
+    given = each_more (IsPlainFit draft.types (specs_by draft.types draft.own p.class)) (GivenRead whole place p) p.given
+        (plain_read place p q.class.known) q.given.fit;
+    slots = q.given.apart;
+    plain = λ h. all_plain draft.types (specs_by draft.types draft.own p.class) p.given q.given.fit;
+    silent = λ h. q.signals;
+    peers = λ h. absurd (let is = q.prototype in cc);
+    signals = subst (Each (λ (a : Attached). IsObjectIf whole a.with)) (sym q.signals) tt;
+  }
 
-no_peers : (places : List Place) → ((i : ℕ) (p : Place) → slice_get places i ≡ Some p → p.peers ≡ [])
-    → flat_map (λ (p : Place). p.peers) places ≡ []
-no_peers [] all = refl
-no_peers (p ∷ ps) all =
-    ap (λ l. l ++ flat_map (λ (p : Place). p.peers) ps) (all 0 p refl) ∙ no_peers ps (λ i q e. all (suc i) q e)
+  pub place_read : (place : ℕ) (p : Place) → place_at whole place ≡ Some p → PlaceRead whole place p
+  place_read place p e = by (either place p e)
+    where
+      by : ((place < length objects) × Objectlike place p) ⊎ ((length objects ≤ place) × Prototypal p) → PlaceRead whole place p
+      by (inl o) = object_read place p o.0 o.1
+      by (inr q) = prototype_read place p q.1
 
-pub peers_apart : (types : List GType) (specs : ℕ → List Spec) (places : List Place) → AreObjects types specs places
-    → no_two same_name (flat_map (λ (p : Place). p.peers) places) ≡ true
-peers_apart types specs places objects = ap (no_two same_name) (no_peers places (λ i p e. (objects.all i p e).peers))
+  pub place_order : (a b : ℕ) (p q : Place) → place_at whole a ≡ Some p → place_at whole b ≡ Some q → p.is_prototype ≡ true → q.is_prototype ≡ false → b < a
+  place_order a b p q e f g h = by (either a p e) (either b q f)
+    where
+      by : ((a < length objects) × Objectlike a p) ⊎ ((length objects ≤ a) × Prototypal p)
+          → ((b < length objects) × Objectlike b q) ⊎ ((length objects ≤ b) × Prototypal q) → b < a
+      by (inl o) other = absurd (let no = o.1.object in cc)
+      by (inr x) (inl o) = let first = o.0 in let behind = x.0 in omega (arith, first, behind)
+      by (inr x) (inr y) = absurd (let is = y.1.prototype in cc)
+
+  no_peers : (places : List Place) → ((i : ℕ) (p : Place) → slice_get places i ≡ Some p → p.peers ≡ [])
+      → flat_map (λ (p : Place). p.peers) places ≡ []
+  no_peers [] all = refl
+  no_peers (p ∷ ps) all =
+      ap (λ l. l ++ flat_map (λ (p : Place). p.peers) ps) (all 0 p refl) ∙ no_peers ps (λ i q e. all (suc i) q e)
+
+  pub peers_apart : no_two same_name (flat_map (λ (p : Place). p.peers) (objects ++ prototypes)) ≡ true
+  peers_apart = ap (no_two same_name) (no_peers (objects ++ prototypes) (λ i p e. bare i p (either i p e)))
+    where
+      bare : (i : ℕ) (p : Place) → ((i < length objects) × Objectlike i p) ⊎ ((length objects ≤ i) × Prototypal p) → p.peers ≡ []
+      bare i p (inl o) = o.1.peers
+      bare i p (inr q) = q.1.peers

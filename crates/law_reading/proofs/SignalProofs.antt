@@ -22,10 +22,10 @@ use Rattle.ui_machine.specs.declared.limits.Limits.{Limits}
 use Rattle.ui_machine.proofs.Listed.{read-listed, length-listed}
 use Rattle.ui_machine.specs.Words.{notify}
 use Rattle.signal_core.specs.Sources.{sources_of}
-use Rattle.builder_defs.specs.Meaning.{class_with, IsKnownKind, HasKnownKinds}
+use Rattle.builder_defs.specs.Meaning.{type_with, IsKnownKind, HasKnownKinds}
 use Rattle.builder_defs.specs.Denoted.Signals.{signals_by}
 use Rattle.builder_defs.specs.Denoted.Properties.{specs_by}
-use Rattle.builder_defs.specs.Denoted.Drafts.{Draft}
+use Rattle.builder_defs.specs.Denoted.Drafts.{ClassDraft}
 use Rattle.builder_defs.specs.Denoted.{definition_with}
 use Rattle.builder_defs.proofs.Soundness.{AllSignals}
 use Rattle.law_typing.specs.Laws.WellRead.{HasNotify, has_values, result_has_values}
@@ -136,9 +136,9 @@ result_filled d members s (Some k) known = known_filled d members k known
 
 -- ** classes
 
-module _ (draft : Draft) (programs : List Program) (places : List Place) (limits : Limits) where
+module _ (draft : ClassDraft) (programs : List Program) (places : List Place) (limits : Limits) where
   abbrev class : ℕ → Class
-  class t = class_with (specs_by draft.types draft.own t) (signals_by draft.types draft.signals t)
+  class t = type_with (specs_by draft.types draft.own t) (signals_by draft.types draft.signals t) (draft.answers.handlers t) (draft.answers.constructed t)
 
   pub known : (t : ℕ) → t < length draft.types → class_of (definition_with draft programs places limits) t ≡ class t
   known t h = read-listed no_class class (length draft.types) t (λ past. absurd (omega arith))

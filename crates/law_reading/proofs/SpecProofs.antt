@@ -18,10 +18,10 @@ use Rattle.ui_machine.specs.Rules.Ancestry.{lineage, is_a}
 use Rattle.ui_machine.specs.Output.Text.{no_type}
 use Rattle.ui_machine.specs.Seq.{read}
 use Rattle.ui_machine.specs.declared.limits.Limits.{Limits}
-use Rattle.builder_defs.specs.Meaning.{class_with, IsPlain, IsPlainKind}
+use Rattle.builder_defs.specs.Meaning.{type_with, IsPlain, IsPlainKind}
 use Rattle.builder_defs.specs.Denoted.Properties.{specs_by}
 use Rattle.builder_defs.specs.Denoted.Signals.{signals_by}
-use Rattle.builder_defs.specs.Denoted.Drafts.{Draft}
+use Rattle.builder_defs.specs.Denoted.Drafts.{ClassDraft, unanswered}
 use Rattle.builder_defs.specs.Denoted.{definition_with}
 use Rattle.builder_defs.proofs.Soundness.{PlainDraft, plain_flat, plain_get}
 use Rattle.law_typing.specs.Laws.WellRead.{no_two, is_range, has_values, SpecRead}
@@ -33,7 +33,7 @@ use Rattle.law_reading.proofs.MemberProofs.{HasMembers}
 use Rattle.law_reading.proofs.NameProofs.{names_of, AreNamed}
 use Rattle.law_reading.proofs.PropertyProofs.{IsKept}
 use Rattle.law_reading.proofs.ProvidedProofs.{has_each}
-use Rattle.law_reading.proofs.TreeProofs.{GrownDraft}
+use Rattle.law_reading.proofs.TreeProofs.{GrownClasses}
 use Rattle.law_reading.proofs.SignalProofs.{known, past, signals_apart, inherited_signal}
 
 not_less : (a b : ℤ) → b ≤ℤ a → int_lt a b ≡ false
@@ -62,7 +62,7 @@ values_of d members (kinds.enum t) s p = (members t).filled p
 values_of d members (kinds.flags t) s p = refl
 values_of d members (kinds.object t) s p = refl
 
-module _ (draft : Draft) (programs : List Program) (places : List Place) (limits : Limits) (grown : GrownDraft draft) (plain : PlainDraft draft) where
+module _ (draft : ClassDraft) (programs : List Program) (places : List Place) (limits : Limits) (grown : GrownClasses draft) (plain : PlainDraft (unanswered draft)) where
   there : (class slot : ℕ) (s : Spec) → spec_of (definition_with draft programs places limits) class slot ≡ Some s
       → slice_get (specs_by draft.types draft.own class) slot ≡ Some s
   there class slot s e = by (cases_lt class (length draft.types))
@@ -98,7 +98,7 @@ module _ (draft : Draft) (programs : List Program) (places : List Place) (limits
   pub names_apart : list_all (λ (c : Class). no_two same_name (names_of c.specs)) (definition_with draft programs places limits).classes ≡ true
   names_apart =
       all_listed (λ (c : Class). no_two same_name (names_of c.specs))
-      (λ t. class_with (specs_by draft.types draft.own t) (signals_by draft.types draft.signals t))
+      (λ t. type_with (specs_by draft.types draft.own t) (signals_by draft.types draft.signals t) (draft.answers.handlers t) (draft.answers.constructed t))
       (length draft.types)
       (λ t h. grown.1.named t)
 

@@ -27,12 +27,12 @@ use Rattle.builder_defs.specs.declared.fault.DefinitionLimit.TheVariants.{Types}
 use Rattle.builder_defs.specs.Document.{each, at_entry, under, nth, members_at, text_at, entries_at, listed_ahead, nothing_at, only_at}
 use Rattle.builder_defs.specs.Denoted.Types.{is_declared, is_from, room_for_type, new_type_name}
 use Rattle.builder_defs.specs.Denoted.Enums.{enum_at, flags_at, enum_member_at, flags_member_at, members_with, keys_of_members}
-use Rattle.builder_defs.specs.Denoted.Entries.{TypeNames, type_names, name_under, names_under, number_from, section}
-use Rattle.builder_defs.specs.Denoted.Drafts.{Draft, bare_draft, properties_at, given_at, type_at}
+use Rattle.builder_defs.specs.Denoted.Entries.{ProgramNames, TypeNames, program_names, type_names, name_under, names_under, number_from, section}
+use Rattle.builder_defs.specs.Denoted.Drafts.{Answers, ClassDraft, Draft, bare_draft, no_answers, properties_at, given_at, type_at, unanswered, with_answers}
 use Rattle.builder_defs.specs.Denoted.Signals.{signals_at}
 use Rattle.builder_defs.specs.Denoted.Implements.{implements_at}
 use Rattle.builder_defs.specs.Denoted.Interfaces.{requires_at, interface_type_at, keys_of_interface, interface_at}
-use Rattle.builder_defs.specs.Denoted.Classes.{parent_found, parent_called, named_parent, parent_or, parent_at, parent_ahead, check_depth, keys_of_class, declared_at, answering_at, class_at}
+use Rattle.builder_defs.specs.Denoted.Classes.{parent_found, parent_called, named_parent, parent_or, parent_at, parent_ahead, check_depth, keys_of_class, declared_at, answers_at, answering_at, class_at}
 use Rattle.builder_defs.specs.Denoted.Classes as classes
 use Rattle.builder_defs.specs.Denoted.{unset_before_classes, enums_in, flags_in, interfaces_in, classes_in, draft_in}
 use Rattle.builder_defs.proofs.Soundness.{OnRead, on_bind, on_all, on_each}
@@ -317,19 +317,19 @@ given_read path types names t own signals d =
     on_read (IsGiven path types names t own signals d) (properties_at path types names t own d) _ λ properties e.
     on_read (IsGiven path types names t own signals d) (signals_at path types names t signals d) _ λ all f. (properties, all, refl, e, f)
 
-type_grown : (Q : List GType → Type 0) (path : List ℕ) (keys : List (List ℕ)) (declared : Result (List GType) Refusal) (behind : Result (Unit {0}) Refusal) (names : TypeNames)
-    (draft : Draft) (d : Data) → OnRead (Declared path names draft d) declared → GrownDraft draft
-    → ((g : GType) → name_under (codes "name") d ≡ Some g.name → Q (draft.types ++ g ∷ [])) → OnRead (With Q) (type_at path keys declared behind names draft d)
+type_grown : {A : Type 0} (P : A → Type 0) (Q : List GType → Type 0) (path : List ℕ) (keys : List (List ℕ)) (declared : Result (List GType) Refusal)
+    (behind : Draft → Result A Refusal) (names : TypeNames) (draft : Draft) (d : Data) → OnRead (Declared path names draft d) declared → GrownDraft draft
+    → ((g : GType) → name_under (codes "name") d ≡ Some g.name → Q (draft.types ++ g ∷ [])) → ((given : Draft) → With Q given → OnRead P (behind given))
+    → OnRead P (type_at path keys declared behind names draft d)
 unfolding type_at IsGiven
-type_grown Q path keys declared behind names draft d grown old left =
-    on_bind (λ x. Unit {0}) (With Q) (members_at path d) _ (on_all _) λ ms u.
-    on_bind (Declared path names draft d) (With Q) declared _ grown λ types more.
-    on_bind (IsGiven path types names (length draft.types) draft.own draft.signals d) (With Q) (given_at path types names (length draft.types) draft.own draft.signals d) _
+type_grown P Q path keys declared behind names draft d grown old left last =
+    on_bind (λ x. Unit {0}) P (members_at path d) _ (on_all _) λ ms u.
+    on_bind (Declared path names draft d) P declared _ grown λ types more.
+    on_bind (IsGiven path types names (length draft.types) draft.own draft.signals d) P (given_at path types names (length draft.types) draft.own draft.signals d) _
     (given_read path types names (length draft.types) draft.own draft.signals d) λ given is.
     let own = is.0 in
     let e = is.3 in
-    on_bind (λ x. Unit {0}) (With Q) behind _ (on_all _) λ done u.
-    on_bind (λ x. Unit {0}) (With Q) (only_at path ms keys) _ (on_all _) λ only u. subst (With Q) (sym is.2) (
+    on_bind P P (behind given) _ (last given (subst (With Q) (sym is.2) (
       (
         more.0.0,
         subst (OnRead (OwnRead types)) e (properties_read types more.0.0.tree (length draft.types) (one_longer draft.types types more.0) names path draft.own d
@@ -339,7 +339,8 @@ type_grown Q path keys declared behind names draft d grown old left =
         more.3 is.1 is.4,
       ),
       subst Q (sym more.2.1) (left more.2.0 more.2.2),
-    )
+    ))) λ whole p.
+    on_bind (λ x. Unit {0}) P (only_at path ms keys) _ (on_all _) λ only u. p
 
 nothing_flat : {A : Type 0} (own : ℕ → List A) → ((t : ℕ) → own t ≡ []) → (ts : List ℕ) → flat_map own ts ≡ []
 nothing_flat own none [] = refl
@@ -373,29 +374,44 @@ interfaces_grown names types d old begin =
     on_read (With (λ ts. InterfacesLeft names ts no_items)) (entries_at [] d (codes "interfaces")) _ λ list listed.
     on_rest (λ draft ds. With (λ ts. InterfacesLeft names ts ds) draft)
     (at_entry (λ path. interface_at path (length types) list (listed_ahead (codes "classes") d) names) (under [] (codes "interfaces")))
-    (λ i draft e ds all. type_grown (λ ts. InterfacesLeft names ts ds) (nth (under [] (codes "interfaces")) i) keys_of_interface
+    (λ i draft e ds all. type_grown (With (λ ts. InterfacesLeft names ts ds)) (λ ts. InterfacesLeft names ts ds) (nth (under [] (codes "interfaces")) i) keys_of_interface
     (interface_type_at (nth (under [] (codes "interfaces")) i) (length types) list (listed_ahead (codes "classes") d) draft.types e)
-    (Ok tt) names draft e
+    Ok names draft e
     (interface_grown (nth (under [] (codes "interfaces")) i) (length types) list (listed_ahead (codes "classes") d) names draft e
     all.0.0 all.0.3) all.0
-    (λ g called. interface_left names draft.types e ds g called all.1))
+    (λ g called. interface_left names draft.types e ds g called all.1) (λ given all. all))
     0 (bare_draft types) list ((old, bare_read types, λ t i named slot s at. absurd (cc), silent_read types), begin list listed)
 
-classes_grown : (names : TypeNames) (draft : Draft) (d : Data) → GrownDraft draft
-    → ((list : Items) → entries_at [] d (codes "classes") ≡ Ok list → ClassesLeft names draft.types list) → OnRead GrownDraft (classes_in names draft d)
+-- with what classes answer
+abbrev pub GrownClasses : ClassDraft → Type 0
+GrownClasses draft = GrownDraft (unanswered draft)
+
+abbrev WithClasses : (List GType → Type 0) → ClassDraft → Type 0
+WithClasses Q draft = With Q (unanswered draft)
+
+answering_grown : (Q : List GType → Type 0) (path : List ℕ) (programs : ProgramNames) (t : ℕ) (answers : Answers) (d : Data) (given : Draft) → With Q given
+    → OnRead (WithClasses Q) (answering_at path programs t answers d given)
+unfolding answering_at
+answering_grown Q path programs t answers d given all =
+    on_bind (λ x. Unit {0}) (WithClasses Q) (answers_at path programs t answers d) _ (on_all _) λ whole u. all
+
+classes_grown : (names : TypeNames) (programs : ProgramNames) (draft : ClassDraft) (d : Data) → GrownClasses draft
+    → ((list : Items) → entries_at [] d (codes "classes") ≡ Ok list → ClassesLeft names draft.types list) → OnRead GrownClasses (classes_in names programs draft d)
 unfolding classes_in
-classes_grown names draft d old begin =
-    on_bind (λ x. Unit {0}) GrownDraft (nothing_at [] d unset_before_classes) _ (on_all _) λ unset u.
-    on_read GrownDraft (entries_at [] d (codes "classes")) _ λ list listed.
-    more_on (With (λ ts. ClassesLeft names ts no_items)) GrownDraft
-    (each (at_entry (λ path. class_at path (length draft.types) list names) (under [] (codes "classes"))) 0 draft list) (λ x all. all.0)
-    (on_rest (λ more ds. With (λ ts. ClassesLeft names ts ds) more)
-    (at_entry (λ path. class_at path (length draft.types) list names) (under [] (codes "classes")))
-    (λ i more e ds all. type_grown (λ ts. ClassesLeft names ts ds) (nth (under [] (codes "classes")) i) keys_of_class
-    (declared_at (nth (under [] (codes "classes")) i) (length draft.types) list names more e) (answering_at (nth (under [] (codes "classes")) i) e) names more e
-    (declared_grown (nth (under [] (codes "classes")) i) (length draft.types) list names more e
+classes_grown names programs draft d old begin =
+    on_bind (λ x. Unit {0}) GrownClasses (nothing_at [] d unset_before_classes) _ (on_all _) λ unset u.
+    on_read GrownClasses (entries_at [] d (codes "classes")) _ λ list listed.
+    more_on (WithClasses (λ ts. ClassesLeft names ts no_items)) GrownClasses
+    (each (at_entry (λ path. class_at path (length draft.types) list names programs) (under [] (codes "classes"))) 0 draft list) (λ x all. all.0)
+    (on_rest (λ more ds. WithClasses (λ ts. ClassesLeft names ts ds) more)
+    (at_entry (λ path. class_at path (length draft.types) list names programs) (under [] (codes "classes")))
+    (λ i more e ds all. type_grown (WithClasses (λ ts. ClassesLeft names ts ds)) (λ ts. ClassesLeft names ts ds) (nth (under [] (codes "classes")) i) keys_of_class
+    (declared_at (nth (under [] (codes "classes")) i) (length draft.types) list names (unanswered more) e)
+    (answering_at (nth (under [] (codes "classes")) i) programs (length more.types) more.answers e) names (unanswered more) e
+    (declared_grown (nth (under [] (codes "classes")) i) (length draft.types) list names (unanswered more) e
     all.0.0 all.0.1 all.0.3 (is_next names more.types e ds all.1)) all.0
-    (λ g called. class_left names more.types e ds g called all.1)) 0 draft list (old, begin list listed))
+    (λ g called. class_left names more.types e ds g called all.1)
+    (answering_grown (λ ts. ClassesLeft names ts ds) (nth (under [] (codes "classes")) i) programs (length more.types) more.answers e)) 0 draft list (old, begin list listed))
 
 first_parents : (t p : ℕ) → parent_of predeclared t ≡ Some p → p < t
 first_parents zero p h = absurd (cc)
@@ -438,14 +454,14 @@ all_flags_grown types d old =
     on_each Grown (at_entry (λ path. flags_at path (length types)) (under [] (codes "flags")))
     (λ i more d all. flags_grown (nth (under [] (codes "flags")) i) (length types) more d all) 0 types list old
 
-pub draft_grown : (d : Data) → OnRead GrownDraft (draft_in d)
+pub draft_grown : (d : Data) → OnRead GrownClasses (draft_in d)
 unfolding draft_in
 draft_grown d =
-    on_bind Grown GrownDraft (enums_in d) _ (enums_grown d) λ enums old.
-    on_bind Grown GrownDraft (flags_in enums d) _ (all_flags_grown enums d old) λ types more.
-    on_bind (With (λ ts. InterfacesLeft (type_names types d) ts no_items)) GrownDraft (interfaces_in (type_names types d) types d) _
+    on_bind Grown GrownClasses (enums_in d) _ (enums_grown d) λ enums old.
+    on_bind Grown GrownClasses (flags_in enums d) _ (all_flags_grown enums d old) λ types more.
+    on_bind (With (λ ts. InterfacesLeft (type_names types d) ts no_items)) GrownClasses (interfaces_in (type_names types d) types d) _
     (interfaces_grown (type_names types d) types d more (λ list e. begin types list (section_is [] (codes "interfaces") d list e)))
-    λ draft all. classes_grown (type_names types d) draft d all.0 (λ list e. no_interface_left (type_names types d) draft.types list
+    λ draft all. classes_grown (type_names types d) (program_names d) (with_answers draft no_answers) d all.0 (λ list e. no_interface_left (type_names types d) draft.types list
     (ap (names_under (codes "name")) (section_is [] (codes "classes") d list e)) all.1)
   where
     begin : (types : List GType) (list : Items) → section (codes "interfaces") d ≡ list → InterfacesLeft (type_names types d) types list

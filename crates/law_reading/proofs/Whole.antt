@@ -1,17 +1,16 @@
 -- Each definition that bytes denote is well read, and each event that a line denotes for it names what is there and fits.
-use Rattle.std.proofs.Common.{◌≡◌, ℕ, false, List, Some, slice_get, refl, sym, ap, subst, ◌∙◌, arith, IfOk}
+use Rattle.std.proofs.Common.{◌≡◌, ℕ, true, List, ◌++◌, refl, sym, subst, ◌∙◌, arith, IfOk}
 use Rattle.std.proofs.lemmas.Option.{none-some}
 use Rattle.ui_machine.specs.Definition.{Definition}
 use Rattle.ui_machine.specs.Definition.Programs.{Program}
 use Rattle.ui_machine.specs.Definition.Places.{Place}
 use Rattle.ui_machine.specs.Output.Text.{no_type, members_of}
-use Rattle.ui_machine.specs.Definition.Lookups.{place_at}
 use Rattle.ui_machine.specs.declared.limits.Limits.{Limits}
 use Rattle.builder_defs.specs.Denoted.{definition_with}
-use Rattle.builder_defs.specs.Denoted.Drafts.{Draft}
+use Rattle.builder_defs.specs.Denoted.Drafts.{ClassDraft, unanswered}
 use Rattle.builder_defs.specs.Denoted.Properties.{specs_by}
 use Rattle.builder_defs.proofs.Soundness as soundness
-use Rattle.builder_defs.proofs.Soundness.{OnRead, AreFew, PlainDraft, draft_plain}
+use Rattle.builder_defs.proofs.Soundness.{OnRead, AreFew, AreWithin, PlainDraft, draft_plain, prototypes_within, PlainClasses}
 use Rattle.law_typing.specs.Laws.WellRead.{ProgramRead, TypesRead, WellRead}
 use Rattle.law_typing.specs.Verdict.Accepted.{Each}
 use Rattle.law_reading.specs.Reading.{ReadingIsWell, EventsAreRead}
@@ -21,17 +20,22 @@ use Rattle.law_sessions.specs.Sessions.{EventRead}
 use Rattle.law_reading.proofs.Parts.{IsRead, parts}
 use Rattle.law_reading.proofs.Ancestors.{transitive}
 use Rattle.law_reading.proofs.LimitProofs.{Small, limits_small, objects_few}
-use Rattle.law_reading.proofs.ListProofs.{all_read, each_get}
+use Rattle.law_reading.proofs.ListProofs.{all_read, each_more, each_get}
 use Rattle.law_reading.proofs.ListedPrograms.{programs_read}
 use Rattle.law_reading.proofs.ObjectProofs.{AreObjects, all_objects}
+use Rattle.law_reading.proofs.PrototypeProofs.{IsPrototypeRead, ArePrototypes, all_prototypes}
 use Rattle.law_reading.proofs.PlaceProofs.{place_read, place_order, peers_apart}
 use Rattle.law_reading.proofs.SignalProofs.{as_many, has_notify, some_signal, found, results_filled, no_shape}
 use Rattle.law_reading.proofs.SpecProofs.{spec_read, names_apart, specs_inherited}
-use Rattle.law_reading.proofs.TreeProofs.{GrownDraft, draft_grown}
+use Rattle.law_reading.proofs.TreeProofs.{GrownClasses, draft_grown}
 
-module _ (draft : Draft) (programs : List Program) (places : List Place) (limits : Limits) (grown : GrownDraft draft) (plain : PlainDraft draft)
-    (objects : AreObjects draft.types (specs_by draft.types draft.own) places) (small : Small limits)
-    (few : AreFew limits.objects places) (read : Each (ProgramRead (definition_with draft programs places limits)) programs) where
+module _ (draft : ClassDraft) (programs : List Program) (objects prototypes : List Place) (limits : Limits) (grown : GrownClasses draft) (plain : PlainDraft (unanswered draft))
+    (placed : AreObjects draft.types (specs_by draft.types draft.own) objects) (made : ArePrototypes draft.types (specs_by draft.types draft.own) prototypes)
+    (small : Small limits) (few : AreFew limits.objects prototypes objects)
+    (read : Each (ProgramRead (definition_with draft programs (objects ++ prototypes) limits)) programs) where
+  abbrev places : List Place
+  places = objects ++ prototypes
+
   types_read : TypesRead (definition_with draft programs places limits)
   types_read = record {
     classes = as_many draft programs places limits;
@@ -51,15 +55,17 @@ module _ (draft : Draft) (programs : List Program) (places : List Place) (limits
 
   well : WellRead (definition_with draft programs places limits)
   well =
-      let all = objects_few places in
+      let live =
+      objects_few objects prototypes
+      (each_more (IsPrototypeRead draft.types (specs_by draft.types draft.own)) (λ p. p.is_prototype ≡ true) prototypes (λ p q. q.prototype) made) in
       record {
         types = types_read;
         programs = λ number p e. each_get (ProgramRead (definition_with draft programs places limits)) programs number p read e;
-        places = place_read draft programs places limits objects few.placed;
-        order = place_order draft programs places limits objects few.placed;
-        peers = peers_apart draft.types (specs_by draft.types draft.own) places objects;
+        places = place_read draft programs objects prototypes limits placed made few.placed;
+        order = place_order draft programs objects prototypes limits placed made few.placed;
+        peers = peers_apart draft programs objects prototypes limits placed made few.placed;
         bindings = tt;
-        objects = omega (arith, all, few.live);
+        objects = omega (arith, live, few.live);
         most_objects = small.objects;
         most_handlers = small.handlers;
       }
@@ -67,35 +73,33 @@ module _ (draft : Draft) (programs : List Program) (places : List Place) (limits
 -- what is so of the parts of a definition that was read
 pub record Facts (d : Definition) : Type 0 where
   pub read : IsRead d
-  pub grown : GrownDraft read.draft
-  pub plain : PlainDraft read.draft
-  pub objects : AreObjects read.draft.types (specs_by read.draft.types read.draft.own) read.places
+  pub grown : GrownClasses read.draft
+  pub plain : PlainDraft (unanswered read.draft)
+  pub objects : AreObjects read.draft.types (specs_by read.draft.types read.draft.own) read.objects
+  pub prototypes : ArePrototypes read.draft.types (specs_by read.draft.types read.draft.own) read.prototypes
   pub small : Small read.limits
-  pub few : AreFew read.limits.objects read.places
+  pub few : AreFew read.limits.objects read.prototypes read.objects
   pub programs : Each (ProgramRead d) read.programs
 
 pub facts : (d : Definition) → IsRead d → Facts d
 facts d r =
     let specs = specs_by r.draft.types r.draft.own in
-    let grown : GrownDraft r.draft = subst (OnRead GrownDraft) r.drafted (draft_grown r.value) in
+    let grown : GrownClasses r.draft = subst (OnRead GrownClasses) r.drafted (draft_grown r.value) in
+    let within : AreWithin r.prototypes = subst (OnRead AreWithin) r.made (prototypes_within r.draft.types specs r.value) in
     record {
       read = r;
       grown = grown;
-      plain = subst (OnRead PlainDraft) r.drafted (draft_plain r.value);
+      plain = (subst (OnRead PlainClasses) r.drafted (draft_plain r.value)).plain;
       objects = subst (OnRead (AreObjects r.draft.types specs)) r.placed
-          (all_objects r.draft.types (λ t. (grown.0.members t).few) specs r.programs r.limits.objects r.value);
+          (all_objects r.draft.types (λ t. (grown.0.members t).few) specs r.programs r.prototypes r.limits.objects r.value);
+      prototypes = subst (OnRead (ArePrototypes r.draft.types specs)) r.made (all_prototypes r.draft.types (λ t. (grown.0.members t).few) specs r.value);
       small = subst (OnRead Small) r.limited (limits_small r.value);
-      few = subst (OnRead (AreFew r.limits.objects)) r.placed (soundness.objects_few r.draft.types specs r.programs r.limits.objects r.value);
+      few = subst (OnRead (AreFew r.limits.objects r.prototypes)) r.placed
+          (soundness.objects_few r.draft.types specs r.programs r.prototypes r.limits.objects r.value within);
       programs = subst (λ (x : Definition). Each (ProgramRead x) r.programs) r.is
-          (subst (OnRead (Each (ProgramRead (definition_with r.draft r.programs r.places r.limits)))) r.programmed
-          (programs_read (definition_with r.draft r.programs r.places r.limits) (λ t. grown.0.members t) r.value));
+          (subst (OnRead (Each (ProgramRead (definition_with r.draft r.programs (r.objects ++ r.prototypes) r.limits)))) r.programmed
+          (programs_read (definition_with r.draft r.programs (r.objects ++ r.prototypes) r.limits) (λ t. grown.0.members t) r.value));
     }
-
--- no prototype is a place of it
-no_prototype : (d : Definition) → Facts d → (place : ℕ) (p : Place) → place_at d place ≡ Some p → p.is_prototype ≡ false
-no_prototype d f place p e =
-    let there : slice_get f.read.places place ≡ Some p = ap (λ (x : Definition). slice_get x.places place) f.read.is ∙ e in
-    (f.objects.all place p there).object
 
 few_bits : (d : Definition) → Facts d → (t : ℕ) → HaveFewBits (members_of d.types t)
 few_bits d f t = subst (λ (x : Definition). HaveFewBits (members_of x.types t)) f.read.is (f.grown.0.members t).few
@@ -103,10 +107,10 @@ few_bits d f t = subst (λ (x : Definition). HaveFewBits (members_of x.types t))
 pub events_read : EventsAreRead
 events_read bytes d h line event e =
     let f = facts d (parts bytes d h) in
-    subst (λ r. IfOk r (EventRead d)) e (event_read d (few_bits d f) (no_prototype d f) line)
+    subst (λ r. IfOk r (EventRead d)) e (event_read d (few_bits d f) line)
 
 pub well_read : ReadingIsWell
 well_read bytes d h =
     let f = facts d (parts bytes d h) in
     let programs = subst (λ (x : Definition). Each (ProgramRead x) f.read.programs) (sym f.read.is) f.programs in
-    subst WellRead f.read.is (well f.read.draft f.read.programs f.read.places f.read.limits f.grown f.plain f.objects f.small f.few programs)
+    subst WellRead f.read.is (well f.read.draft f.read.programs f.read.objects f.read.prototypes f.read.limits f.grown f.plain f.objects f.prototypes f.small f.few programs)

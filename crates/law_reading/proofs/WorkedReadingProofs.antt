@@ -7,7 +7,9 @@ use Rattle.serde_json.proofs.OnLiterals.{serde_json_on_literals}
 use Rattle.ui_machine.specs.Definition.Places.{Place}
 use Rattle.builder_defs.specs.Document.{each, document}
 use Rattle.builder_defs.specs.Denoted.{enums_in, flags_in, interfaces_in, classes_in, draft_in, objects_in, definition_in, denoted}
-use Rattle.builder_defs.specs.Denoted.Classes.{named_parent, flags_at, declared_at, answering_at}
+use Rattle.builder_defs.specs.Denoted.Classes.{named_parent, flags_at, declared_at, answers_at, answering_at}
+use Rattle.builder_defs.specs.Denoted.ClassHandlers.{class_handlers_at}
+use Rattle.builder_defs.specs.Denoted.Constructed.{constructed_at}
 use Rattle.builder_defs.specs.Denoted.Drafts.{properties_at, type_at}
 use Rattle.builder_defs.specs.Denoted.Drafts as drafts
 use Rattle.builder_defs.specs.Denoted.Signals.{param_at, params_at, signal_of_entry, signal_at, signals_at}
@@ -15,6 +17,7 @@ use Rattle.signal_core.specs.Sources.{sources_of}
 use Rattle.builder_defs.specs.Denoted.Implements.{implements_at}
 use Rattle.builder_defs.specs.Denoted.Attached.{all_attached}
 use Rattle.builder_defs.specs.Denoted.Programs.{programs_in}
+use Rattle.builder_defs.specs.Denoted.Prototypes.{plain_at, all_plain_at, prototype_in, prototype_at, prototypes_in}
 use Rattle.builder_defs.specs.Denoted.Given.{property_named, given_at, givens_at}
 use Rattle.builder_defs.specs.Denoted.Objects.{place_at, added_at, object_at}
 use Rattle.builder_defs.specs.Denoted.Properties.{valued_at, spec_at, property_at}
@@ -32,7 +35,7 @@ unfolding is_utf8 chars serde_json_on_literals document each
 text_on_literals = tt
 
 unfoldable types_on_literals : ⊤
-unfolding enums_in flags_in interfaces_in classes_in draft_in type_at declared_at flags_at named_parent implements_at properties_at answering_at drafts.given_at
+unfolding enums_in flags_in interfaces_in classes_in draft_in type_at declared_at flags_at named_parent implements_at properties_at answers_at answering_at class_handlers_at constructed_at drafts.given_at
 types_on_literals = tt
 
 unfoldable signals_on_literals : ⊤
@@ -44,7 +47,7 @@ unfolding property_at spec_at valued_at range_at
 properties_on_literals = tt
 
 unfoldable objects_on_literals : ⊤
-unfolding programs_in objects_in object_at added_at place_at givens_at given_at property_named all_attached
+unfolding programs_in prototypes_in prototype_at prototype_in all_plain_at plain_at objects_in object_at added_at place_at givens_at given_at property_named all_attached
 objects_on_literals = tt
 
 unfoldable lines_on_literals : ⊤
@@ -59,7 +62,8 @@ AreReady (Some p) = Each (PeerReady definition [] p) p.peers
 ready : PoolReady definition []
 ready zero p e = subst AreReady e tt
 ready (suc zero) p e = subst AreReady e tt
-ready (suc (suc n)) p e = absurd (cc)
+ready (suc (suc zero)) p e = subst AreReady e tt
+ready (suc (suc (suc n))) p e = absurd (cc)
 
 is_judged : verdict definition ≡ accepted told
 unfolding digits

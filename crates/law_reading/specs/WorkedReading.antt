@@ -1,5 +1,5 @@
--- What the promise asks of bytes is met: by the definition of the first run with a signal and a child, and lines that set, emit, read and let
--- go.
+-- What the promise asks of bytes is met: by the definition of the first run with a signal, a child and a prototype, and lines that set, emit,
+-- read and let go.
 use Rattle.std.specs.Prelude.{◌≡◌, ℕ, pos, negsuc, false, List, [], ◌∷◌, ◌++◌, codes, None, Some, Ok}
 use Rattle.ui_machine.specs.Definition.{Definition}
 use Rattle.ui_machine.specs.Definition.Kinds.{int}
@@ -8,7 +8,7 @@ use Rattle.ui_machine.specs.Definition.Places.{value}
 use Rattle.ui_machine.specs.Definition.Signals.{Signal}
 use Rattle.ui_machine.specs.Definition.Values.{whole}
 use Rattle.ui_machine.specs.State.Tasks.{request, set, emit, get, release}
-use Rattle.ui_machine.specs.Words.{bare, class_with, notify, object, property, signal}
+use Rattle.ui_machine.specs.Words.{bare, class_with, notify, object, property, prototype, signal}
 use Rattle.builder_defs.specs.Denoted.{denoted}
 use Rattle.law_typing.specs.Examples.FirstRun as first_run
 use Rattle.law_typing.specs.Laws.StepsKeepGood.{PoolReady}
@@ -16,18 +16,19 @@ use Rattle.law_typing.specs.Verdict.{verdict, accepted}
 use Rattle.law_typing.specs.Verdict.Accepted.{Accepted}
 use Rattle.law_reading.specs.ReadRuns.{events_in}
 
--- a class with a property and a signal, an object of it, and another that is its child
+-- a class with a property and a signal, a prototype of it, an object of it, and another that is its child
 abbrev pub bytes : List ℕ
 bytes =
     codes "{\"format\":1,\"classes\":[{\"name\":\"Box\",\"properties\":[{\"name\":\"n\",\"kind\":\"int\"}],"
     ++ codes "\"signals\":[{\"name\":\"turned_on\",\"params\":[\"int\"]}]}],"
+    ++ codes "\"prototypes\":[{\"id\":\"p\",\"class\":\"Box\",\"properties\":[{\"name\":\"n\",\"value\":7}]}],"
     ++ codes "\"objects\":[{\"id\":\"b\",\"class\":\"Box\",\"children\":[{\"id\":\"c\",\"class\":\"Box\"}]}]}\n"
 
 -- the signal, as it is kept
 abbrev pub turned_on : Signal
 turned_on = signal (codes "turned-on") (kinds.whole int ∷ []) None 2 None
 
--- the definition of the first run, with the signal, and with the child behind its object
+-- the definition of the first run, with the signal, with the child behind its object, and behind both with the prototype
 abbrev pub definition : Definition
 definition = record first_run.definition {
   classes =
@@ -36,28 +37,35 @@ definition = record first_run.definition {
       ∷ class_with (property (codes "n") (kinds.whole int) 3 (whole int (pos 0)) (negsuc 2147483647) (pos 2147483647) false ∷ [])
       (notify ∷ turned_on ∷ []) [] None None
       ∷ [];
-  places = object (codes "b") 2 None [] [] [] ∷ object (codes "c") 2 (Some 0) [] [] [] ∷ [];
+  places =
+      object (codes "b") 2 None [] [] []
+      ∷ object (codes "c") 2 (Some 0) [] [] []
+      ∷ prototype (codes "p") 2 (record { slot = 0; given = value (whole int (pos 7)) } ∷ []) []
+      ∷ [];
 }
 
 -- what its report tells
 abbrev pub told : List (List ℕ)
 told =
-    codes "depth 1"
+    codes "depth 2"
     ∷ codes "build bound 64"
     ∷ codes "property b.n rank 0 bound 65"
     ∷ codes "signal b.turned-on rank 0 bound 65"
     ∷ codes "property c.n rank 0 bound 65"
     ∷ codes "signal c.turned-on rank 0 bound 65"
+    ∷ codes "property p.n rank 0 bound 65"
+    ∷ codes "signal p.turned-on rank 0 bound 65"
     ∷ []
 
--- the property of the object is set, the signal emitted, the property of the child is read, and the child is let go; between the first two
--- stands a line that denotes no event
+-- the property of the object is set, the signal emitted, the property of the child is read, and the child is let go; two lines between denote
+-- no event: an object has no such property, and a prototype is no object
 abbrev pub lines : List (List ℕ)
 lines =
     codes "{\"set\":[\"b\",\"n\",5]}"
     ∷ codes "{\"get\":[\"b\",\"m\"]}"
     ∷ codes "{\"emit\":[\"b\",\"turned_on\",[3]]}"
     ∷ codes "{\"get\":[\"c\",\"n\"]}"
+    ∷ codes "{\"get\":[\"p\",\"n\"]}"
     ∷ codes "{\"release\":\"c\"}"
     ∷ []
 

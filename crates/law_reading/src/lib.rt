@@ -22,7 +22,7 @@ pub fn runs()
     ensures halting { ReadHaltsForMemory }
 {}
 
-/// The bytes of a definition with a signal and a child, and lines that set, emit, read and let go, meet what this asks.
+/// The bytes of a definition with a signal, a child and a prototype, and lines that set, emit, read and let go, meet what this asks.
 pub fn premises()
     ensures { PremisesMet }
 {}

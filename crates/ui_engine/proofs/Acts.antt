@@ -2,6 +2,7 @@
 use Rattle.std.proofs.Common.{◌≡◌, ℕ, zero, suc, ◌+◌, ◌*◌, ◌<◌, ◌≤◌, Bool, true, false, cond, nat_lt, List, [], ◌∷◌, ◌++◌, length, map, drop, Option, Some, None, Ok, Err, slice_get, refl, sym, ap, subst, arith}
 use Rattle.std.specs.Prelude.{IfOk}
 use Rattle.std.proofs.lemmas.Bool.Decides.{nat_tests}
+use Rattle.std.proofs.lemmas.List.Sums.{count_by-le-length}
 use Rattle.ui_machine.specs.Definition.Properties.{is_writable}
 use Rattle.ui_machine.specs.declared.arm.Arm.TheVariants as arms
 use Rattle.ui_machine.specs.Seq.{total}
@@ -21,7 +22,7 @@ use Rattle.ui_machine.specs.Rules.Programs.{first_frame, all_fit, fits_register,
 use Rattle.ui_machine.specs.Rules.EmissionPlan.{notifying, beginning_emission}
 use Rattle.ui_machine.specs.Rules.Accumulation.{resulting, passed_down, received_by, taken, told, ending, given_to, in_stage, instance_of, running_handler, taking_entry}
 use Rattle.ui_machine.specs.Rules.Transfers.{transfer_for}
-use Rattle.ui_machine.specs.Rules.Construction.{not_forward, initially_unowned, making, with_object, new_object, thawing_made, constructed, making_set}
+use Rattle.ui_machine.specs.Rules.Construction.{not_forward, initially_unowned, making, with_object, new_object, thawing_made, constructed, making_set, constructed_runs}
 use Rattle.ui_machine.specs.Rules.Sets.{setting, spec_at}
 use Rattle.ui_machine.specs.Steps.{most_steps, before, uncounted, left, act}
 use Rattle.ui_machine.specs.Rules.Build.{building, building_child, building_forward, building_handler, connected_items, connection, held_data, held_object}
@@ -31,7 +32,7 @@ use Rattle.ui_machine.specs.Rules.Events.{carrying_set, carrying_get, carrying_e
 use Rattle.g_values.specs.View.{value_view}
 use Rattle.builder_defs.specs.declared.event.Event.{Event}
 use Rattle.builder_defs.specs.declared.event.Event.TheVariants as events
-use Rattle.builder_defs.specs.Meaning.{IsBasic, given_view, request_of}
+use Rattle.builder_defs.specs.Meaning.{IsBasic, given_view, is_object, object_count, request_of}
 use Rattle.ui_engine.specs.declared.task.Task.TheVariants as tasks
 use Rattle.ui_engine.specs.declared.task.Task as code
 use Rattle.ui_engine.specs.declared.task.Forward.{Forward}
@@ -57,6 +58,7 @@ use Rattle.ui_engine.proofs.Quiet.{Calm, notifying_calm, beginning_calm, carryin
 use Rattle.ui_engine.proofs.Falls.{Falls, setting_falls, thawing_falls, thawing_made_falls, building_forward_falls, carrying_set_falls, carrying_get_falls, carrying_emit_falls, carrying_release_falls}
 use Rattle.ui_engine.proofs.Joining.{Joins, adopted_joins}
 use Rattle.ui_engine.proofs.Signals.{FirstConnects, connected_first, numbered_first}
+use Rattle.ui_engine.proofs.Prototypes.{past_objects}
 use Rattle.ui_engine.proofs.Building.{few_steps, few_early, only_forwards, builds_next, next_made, made_there, abstract_there}
 
 -- what the step of a task leads to
@@ -398,14 +400,14 @@ module _ (d : Definition) (w : World) (rest : List Task) (n : ℕ) where
   -- an object is made, and its construction begins
   made : (place : ℕ) (p : Place) (items : List Item) → slice_get d.places place ≡ Some p → Passes d w (Building (makes place ∷ items)) rest n (record {
     world = said d (with_object d w (new_object d place p None)) (lines.construct (suc (length w.objects)) (type_of d p.class).name);
-    agenda = Constructing (suc (length w.objects)) (making_of_object w (specs_of d p.class) (not_forward place p.given)) true ∷ Building items ∷ rest;
+    agenda = Constructing (suc (length w.objects)) (making_of_object d w p.class (not_forward place p.given)) true ∷ Building items ∷ rest;
     counted = n;
   })
   made place p items at = record {
     falls = λ _.
-        let few = few_steps w (specs_of d p.class) (not_forward place p.given) in
+        let few = few_steps d w p.class (not_forward place p.given) in
         let early = few_early place p.given in
-        let slots : sets_of_place d (place_at d place) ≡ length (specs_of d p.class) + length p.given = ap (sets_of_place d) at in
+        let slots : sets_of_place d (place_at d place) ≡ length (specs_of d p.class) + length (constructed_runs d p.class) + length p.given = ap (sets_of_place d) at in
         let one = one_floats (is_a d.types p.class initially_unowned) (suc (length w.objects)) w.floating in
         omega (arith, few, early, slots, one, waiting_more w.objects (new_object d place p None) refl);
     stays = λ _. refl;
@@ -484,27 +486,27 @@ module _ (d : Definition) (w : World) (rest : List Task) (n : ℕ) where
     abbrev P : Config → Type 0
     P = Passes d w (Building (build_from d place fs)) rest n
 
-    built_there : (p : Place) → slice_get d.places place ≡ Some p → IfOk (uncounted rest n (building d w (build_from d place fs))) P
-    built_there p at = subst (λ (a : Answer Config). IfOk a P) (sym (builds_next d basic w place p at fs rest n)) (by (type_of d p.class).is_abstract refl)
+    built_there : (p : Place) → slice_get d.places place ≡ Some p → p.is_prototype ≡ false → IfOk (uncounted rest n (building d w (build_from d place fs))) P
+    built_there p at object = subst (λ (a : Answer Config). IfOk a P) (sym (builds_next d basic w place p at object fs rest n)) (by (type_of d p.class).is_abstract refl)
       where
         items : List Item
         items = build_behind d place fs
 
         next : build_from d place fs ≡ makes place ∷ items
-        next = next_made d basic w place p at fs
+        next = next_made d basic w place p at object fs
 
         by : (b : Bool) → (type_of d p.class).is_abstract ≡ b → IfOk (uncounted (Building items ∷ rest) n (making d w place None true)) P
         by true is = rw (abstract_there d basic w place p at true is) tt
         by false is = rw (made_there d basic w place p at true is)
             (subst (λ (xs : List Item). Passes d w (Building xs) rest n (record {
               world = said d (with_object d w (new_object d place p None)) (lines.construct (suc (length w.objects)) (type_of d p.class).name);
-              agenda = Constructing (suc (length w.objects)) (making_of_object w (specs_of d p.class) (not_forward place p.given)) true ∷ Building items ∷ rest;
+              agenda = Constructing (suc (length w.objects)) (making_of_object d w p.class (not_forward place p.given)) true ∷ Building items ∷ rest;
               counted = n;
             })) (sym next) (made place p items at))
 
-    built_past : length d.places ≤ place → IfOk (uncounted rest n (building d w (build_from d place fs))) P
+    built_past : object_count d ≤ place → IfOk (uncounted rest n (building d w (build_from d place fs))) P
     built_past past =
-        let left = only_forwards d place fs past in
+        let left = only_forwards d basic place fs past in
         subst (λ (xs : List Item). IfOk (uncounted rest n (building d w xs)) (Passes d w (Building xs) rest n)) (sym left)
         (forward_passes fs)
 
@@ -512,8 +514,12 @@ module _ (d : Definition) (w : World) (rest : List Task) (n : ℕ) where
     building_passes = by (slice_get d.places place) refl
       where
         by : (o : Option Place) → slice_get d.places place ≡ o → IfOk (uncounted rest n (building d w (build_from d place fs))) P
-        by (Some p) at = built_there p at
-        by None at = built_past (within_none d.places place at)
+        by None at = built_past (let l = within_none d.places place at in omega (arith, l, count_by-le-length is_object d.places))
+        by (Some p) at = so p.is_prototype refl
+          where
+            so : (b : Bool) → p.is_prototype ≡ b → IfOk (uncounted rest n (building d w (build_from d place fs))) P
+            so true is = built_past (past_objects d basic place p at is)
+            so false is = built_there p at is
 
   -- what the step of each task of the engine leads to
   pub acted : IsBasic d → (hs : List Handler) → hs ≡ w.handlers → (t : code.Task) (ts : List code.Task) → map (task_of d hs) ts ≡ rest

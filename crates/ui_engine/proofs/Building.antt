@@ -3,6 +3,7 @@ use Rattle.std.proofs.Common.{◌≡◌, ℕ, zero, suc, ◌+◌, ◌<◌, ◌�
 use Rattle.std.specs.List.{flat_map, list_all}
 use Rattle.std.proofs.lemmas.Option.{slice_get_within, get_or_from_slice_get}
 use Rattle.std.proofs.lemmas.List.{reverse-append}
+use Rattle.std.proofs.lemmas.List.Sums.{count_by-le-length}
 use Rattle.std.proofs.Math.Seq.{drop-cons}
 use Rattle.ui_machine.specs.declared.arm.Arm.TheVariants as arms
 use Rattle.ui_machine.specs.Definition.Properties.{Spec}
@@ -15,19 +16,20 @@ use Rattle.ui_machine.specs.Output.Lines as lines
 use Rattle.ui_machine.specs.State.Tasks.{Making, sets, thaws, Item, makes, Task, Constructing, Building}
 use Rattle.ui_machine.specs.State.Config.{World, Started, starts, said}
 use Rattle.ui_machine.specs.Outcome.{Answer, ◌>>=◌, known, only_if}
-use Rattle.ui_machine.specs.Rules.Construction.{is_forward, not_forward, or_default, given_at, given_value, set_of, no_spec, is_at_construction, construct_sets, constructed_runs, run_of, given_sets, construction, new_object, with_object, making, has_valid_default, has_shape}
+use Rattle.ui_machine.specs.Rules.Construction.{is_forward, not_forward, or_default, given_at, given_value, set_of, no_spec, is_at_construction, construct_sets, constructed_runs, given_sets, new_object, with_object, making, has_valid_default, has_shape}
 use Rattle.ui_machine.specs.Rules.Build.{made_items, adopts_if, forward_of, forward_items, first_peer, peer_for, building, building_object}
 use Rattle.ui_machine.specs.Rules.Ancestry.{lineage}
 use Rattle.ui_machine.specs.Rules.Transform.{same_bool}
 use Rattle.ui_machine.specs.Steps.{uncounted}
 use Rattle.g_values.specs.declared.value.Value.{Value}
 use Rattle.g_values.specs.View.{value_view}
-use Rattle.builder_defs.specs.Meaning.{IsPlain, IsBasic}
+use Rattle.builder_defs.specs.Meaning.{IsPlain, IsBasic, is_object, object_count}
 use Rattle.ui_engine.specs.declared.task.Forward.{Forward}
 use Rattle.ui_engine.specs.TaskView.{forwards_of_place, forwards_at, adopts_of, build_from, build_end, build_behind}
 use Rattle.ui_engine.specs.declared.task.Making as code
 use Rattle.ui_engine.specs.MakingView.{making_of_code, making_steps, later_steps, making_of_object}
 use Rattle.ui_engine.proofs.Notified.{none_given}
+use Rattle.ui_engine.proofs.Prototypes.{made_past, object_there}
 
 -- ** lists
 
@@ -37,12 +39,6 @@ one_more (z ∷ xs) x ys = ap (λ zs. z ∷ zs) (one_more xs x ys)
 
 pub drop_at : {A : Type 0} (xs : List A) (i : ℕ) (x : A) → slice_get xs i ≡ Some x → drop i xs ≡ x ∷ drop (suc i) xs
 drop_at xs i x at = drop-cons xs i x (slice_get_within xs i x at) ∙ ap (λ y. y ∷ drop (suc i) xs) (get_or_from_slice_get xs i x x at)
-
-drop_past : {A : Type 0} (xs : List A) (i : ℕ) → length xs ≤ i → drop i xs ≡ []
-drop_past [] zero past = refl
-drop_past [] (suc i) past = refl
-drop_past (x ∷ xs) zero past = absurd (omega arith)
-drop_past (x ∷ xs) (suc i) past = drop_past xs i (omega arith)
 
 -- ** constructions
 
@@ -82,56 +78,42 @@ few_given w specs (g ∷ gs) =
     let more = few_given w specs gs in
     omega (arith, one, more)
 
--- no more than one for each property and each given value, and the thaw
-pub few_steps : (w : World) (specs : List Spec) (given : List GivenProperty)
-    → length (making_of_object w specs given) ≤ suc (length specs + length given)
-few_steps w specs given =
-    let first = length-append (construct_sets w given 0 specs) (later_steps w specs given) in
+-- no more than one for each property and each given value, the programs, and the thaw
+pub few_steps : (d : Definition) (w : World) (class : ℕ) (given : List GivenProperty)
+    → length (making_of_object d w class given) ≤ suc (length (specs_of d class) + length (constructed_runs d class) + length given)
+few_steps d w class given =
+    let specs = specs_of d class in
+    let first = length-append (construct_sets w given 0 specs) (constructed_runs d class ++ later_steps w specs given) in
+    let next = length-append (constructed_runs d class) (later_steps w specs given) in
     let last = length-append (given_sets w specs given) (thaws ∷ []) in
-    omega (arith, first, last, few_construct w given 0 specs, few_given w specs given)
+    omega (arith, first, next, last, few_construct w given 0 specs, few_given w specs given)
 
 each_valid : (d : Definition) (specs : List Spec) → ((i : ℕ) (s : Spec) → slice_get specs i ≡ Some s → IsPlain d.types s) → list_all (has_valid_default d) specs ≡ true
 each_valid d [] plain = refl
 each_valid d (s ∷ specs) plain = rw (let e = (plain 0 s refl).default in e) (each_valid d specs (λ i t at. plain (suc i) t at))
 
-no_shape : (d : Definition) → IsBasic d → (class : ℕ) → has_shape d class ≡ false
+pub no_shape : (d : Definition) → IsBasic d → (class : ℕ) → has_shape d class ≡ false
 no_shape d basic class = ap is_some (none_given (λ c. (class_of d c).shape) basic.shapes (lineage d.types class))
 
 module _ (d : Definition) (basic : IsBasic d) where
-  no_runs_in : (classes : List ℕ) → flat_map (λ (c : ℕ). run_of (class_of d c).constructed) classes ≡ []
-  no_runs_in [] = refl
-  no_runs_in (c ∷ cs) =
-      ap (λ (o : Option ℕ). run_of o ++ flat_map (λ (a : ℕ). run_of (class_of d a).constructed) cs) (basic.constructed c) ∙ no_runs_in cs
-
-  no_runs : (class : ℕ) → constructed_runs d class ≡ []
-  no_runs class = no_runs_in (reverse (lineage d.types class))
-
   module _ (w : World) (place : ℕ) (p : Place) (at : slice_get d.places place ≡ Some p) where
-    only_sets : construction d w place p ≡ making_of_object w (specs_of d p.class) (not_forward place p.given)
-    only_sets =
-        let specs = specs_of d p.class in
-        let given = not_forward place p.given in
-        ap (λ runs. construct_sets w given 0 specs ++ (runs ++ later_steps w specs given)) (no_runs p.class)
-
     pub valid_defaults : list_all (has_valid_default d) (specs_of d p.class) ≡ true
     valid_defaults = each_valid d (specs_of d p.class) (λ i s has. basic.plain p.class i s has)
 
     pub made_there : (held : Bool) → (type_of d p.class).is_abstract ≡ false
-        → making d w place None held ≡ starts (said d (with_object d w (new_object d place p None)) (lines.construct (suc (length w.objects)) (type_of d p.class).name)) (Constructing (suc (length w.objects)) (making_of_object w (specs_of d p.class) (not_forward place p.given)) held ∷ [])
+        → making d w place None held ≡ starts (said d (with_object d w (new_object d place p None)) (lines.construct (suc (length w.objects)) (type_of d p.class).name)) (Constructing (suc (length w.objects)) (making_of_object d w p.class (not_forward place p.given)) held ∷ [])
     unfolding making
-    made_there held concrete =
-        rw (at, concrete, valid_defaults)
-        (ap (λ steps. starts (said d (with_object d w (new_object d place p None)) (lines.construct (suc (length w.objects)) (type_of d p.class).name)) (Constructing (suc (length w.objects)) steps held ∷ [])) only_sets)
+    made_there held concrete = rw (at, concrete, valid_defaults) refl
 
     pub abstract_there : (held : Bool) → (type_of d p.class).is_abstract ≡ true → making d w place None held ≡ Err arms.Abstract
     unfolding making
     abstract_there held abstract = rw (at, abstract) refl
 
-    pub next_made : (fs : List Forward) → build_from d place fs ≡ makes place ∷ build_behind d place fs
-    next_made fs =
+    pub next_made : p.is_prototype ≡ false → (fs : List Forward) → build_from d place fs ≡ makes place ∷ build_behind d place fs
+    next_made object fs =
         let others = made_items (suc place) (drop (suc place) d.places) in
         ap (λ ps. made_items place ps ++ build_end d fs) (drop_at d.places place p at)
-        ∙ ap (λ b. (cond b [] (makes place ∷ adopts_if place p.parent) ++ others) ++ build_end d fs) (basic.only_objects place p at)
+        ∙ ap (λ b. (cond b [] (makes place ∷ adopts_if place p.parent) ++ others) ++ build_end d fs) object
         ∙ ap (λ items. makes place ∷ items) (append_assoc (adopts_if place p.parent) others (build_end d fs))
         ∙ ap (λ found. makes place ∷ adopts_of place found ++ build_from d (suc place) fs) (sym at)
 
@@ -146,11 +128,11 @@ module _ (d : Definition) (basic : IsBasic d) where
     below rest n items (Ok s) = ap (λ tasks. Ok (record { world = s.world; agenda = tasks; counted = n })) (one_more s.tasks (Building items) rest)
     below rest n items (Err arm) = refl
 
-    pub builds_next : (fs : List Forward) (rest : List Task) (n : ℕ)
+    pub builds_next : p.is_prototype ≡ false → (fs : List Forward) (rest : List Task) (n : ℕ)
         → uncounted rest n (building d w (build_from d place fs)) ≡ uncounted (Building (build_behind d place fs) ∷ rest) n (making d w place None true)
     unfolding building_object
-    builds_next fs rest n =
-        ap (λ items. uncounted rest n (building d w items)) (next_made fs)
+    builds_next object fs rest n =
+        ap (λ items. uncounted rest n (building d w items)) (next_made object fs)
         ∙ ap (λ (found : Option Place). uncounted rest n (known arms.Code found >>= λ q. peer_for d w q >>= λ peer. making d w place peer true >>= λ m. starts m.world (m.tasks ++ Building (build_behind d place fs) ∷ []))) at
         ∙ ap (λ (taken : Answer (Option ℕ)). uncounted rest n (taken >>= λ peer. making d w place peer true >>= λ m. starts m.world (m.tasks ++ Building (build_behind d place fs) ∷ []))) without_peer
         ∙ sym (below rest n (build_behind d place fs) (making d w place None true))
@@ -160,20 +142,17 @@ unfolding making
 no_place d w place held none = rw none refl
 
 -- the forward references of an object stand before those of the objects behind it
-pub forwards_before : (d : Definition) → IsBasic d → (place : ℕ) (p : Place) → slice_get d.places place ≡ Some p
+pub forwards_before : (d : Definition) (place : ℕ) (p : Place) → slice_get d.places place ≡ Some p → p.is_prototype ≡ false
     → forward_items place (drop place d.places) ≡ forwards_at d place ++ forward_items (suc place) (drop (suc place) d.places)
-forwards_before d basic place p at =
+forwards_before d place p at object =
     let others = forward_items (suc place) (drop (suc place) d.places) in
     ap (forward_items place) (drop_at d.places place p at)
-    ∙ ap (λ b. cond b [] (flat_map (forward_of place) p.given) ++ others) (basic.only_objects place p at)
+    ∙ ap (λ b. cond b [] (flat_map (forward_of place) p.given) ++ others) object
     ∙ ap (λ (found : Option Place). forwards_of_place place found ++ others) (sym at)
 
 -- where all objects are made, the forward references are left
-pub only_forwards : (d : Definition) (place : ℕ) (fs : List Forward) → length d.places ≤ place → build_from d place fs ≡ build_end d fs
-only_forwards d place fs past = ap (λ ps. made_items place ps ++ build_end d fs) (drop_past d.places place past)
-
-pub no_more_forwards : (d : Definition) (place : ℕ) → length d.places ≤ place → forward_items place (drop place d.places) ≡ []
-no_more_forwards d place past = ap (forward_items place) (drop_past d.places place past)
+pub only_forwards : (d : Definition) → IsBasic d → (place : ℕ) (fs : List Forward) → object_count d ≤ place → build_from d place fs ≡ build_end d fs
+only_forwards d basic place fs past = ap (λ items. items ++ build_end d fs) (made_past d basic place past)
 
 -- ** the steps of a construction
 
@@ -208,8 +187,13 @@ one_default_more specs slot s values v at default before =
 
 -- ** the objects of a definition, by place
 
--- a place within the objects
-pub place_within : (places : List Place) (i : ℕ) → i < length places → (p : Place) × (slice_get places i ≡ Some p)
+place_within : (places : List Place) (i : ℕ) → i < length places → (p : Place) × (slice_get places i ≡ Some p)
 place_within [] i small = absurd (omega arith)
 place_within (p ∷ places) zero small = (p, refl)
 place_within (p ∷ places) (suc i) small = place_within places i (omega arith)
+
+-- an object stands at each place before the prototypes
+pub object_within : (d : Definition) → IsBasic d → (place : ℕ) → place < object_count d → (p : Place) × (slice_get d.places place ≡ Some p) × (p.is_prototype ≡ false)
+object_within d basic place small =
+    let there = place_within d.places place (omega (arith, small, count_by-le-length is_object d.places)) in
+    (there.0, there.1, object_there d basic place there.0 there.1 small)

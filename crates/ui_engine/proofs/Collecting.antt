@@ -4,11 +4,10 @@ use Rattle.std.specs.Prelude.{OnOk}
 use Rattle.ui_machine.specs.declared.arm.Arm.{Arm}
 use Rattle.ui_machine.specs.declared.arm.Arm.TheVariants as arms
 use Rattle.ui_machine.specs.declared.arm.Halt.{Halt}
-use Rattle.ui_machine.specs.declared.arm.Halt.TheVariants as halts
 use Rattle.ui_machine.specs.Definition.{Definition}
 use Rattle.ui_machine.specs.Definition.Signals.{Accumulator, Signal}
 use Rattle.ui_machine.specs.Definition.Values.{Value}
-use Rattle.ui_machine.specs.Outcome.{Answer, Goes, Stops, known, only_if, ◌>>=◌}
+use Rattle.ui_machine.specs.Outcome.{Answer, Goes, known, only_if, ◌>>=◌}
 use Rattle.ui_machine.specs.Rules.Accumulation.{accumulated, collecting, down_to_emission, entries_after, given_down, is_last, left_by_stop, suits}
 use Rattle.ui_machine.specs.Rules.Accumulation as machine
 use Rattle.ui_machine.specs.Rules.EmissionPlan.{signal_at, signal_of}
@@ -21,7 +20,7 @@ use Rattle.ui_machine.specs.State.References.{in_emission, in_object, in_registe
 use Rattle.ui_machine.specs.State.Tasks.{Emission, Emitting, PlanEntry, Task}
 use Rattle.g_values.specs.declared.value.Value as values
 use Rattle.instances.specs.Store.{Store, count_of}
-use Rattle.signal_core.specs.Emission.{Walk, collected, is_over, stopped}
+use Rattle.signal_core.specs.Emission.{Walk, is_over, stopped}
 use Rattle.ui_engine.specs.BegunView.{AllBegun}
 use Rattle.ui_engine.specs.CollectView.{TestsNone, collects, gives_none}
 use Rattle.ui_engine.specs.Counting.{Counts, OnlyCounts}

@@ -1,8 +1,7 @@
 -- What the instruction `connect` leads to.
-use Rattle.std.proofs.Common.{◌≡◌, ◌∙◌, refl, sym, ap, subst, ℕ, Bool, true, false, List, Option, Some, Ok, Err}
+use Rattle.std.proofs.Common.{◌≡◌, ◌∙◌, refl, sym, ap, ℕ, Bool, true, false, List, Some, Ok}
 use Rattle.ui_machine.specs.declared.arm.Arm.TheVariants as arms
 use Rattle.ui_machine.specs.declared.arm.Halt.{Halt}
-use Rattle.ui_machine.specs.declared.arm.Halt.TheVariants as halts
 use Rattle.ui_machine.specs.Definition.{Definition}
 use Rattle.ui_machine.specs.Definition.Lookups.{program_of}
 use Rattle.ui_machine.specs.Definition.Programs.{Connect}
@@ -26,7 +25,6 @@ use Rattle.ui_engine.specs.declared.connecting.Outcome.{Outcome}
 use Rattle.ui_engine.specs.declared.connecting.Outcome.TheVariants as outcomes
 use Rattle.ui_engine.specs.declared.engine.Engine.{Engine}
 use Rattle.ui_engine.proofs.Emits.{stops_on}
-use Rattle.ui_engine.proofs.Registers.{stops_left}
 use Rattle.ui_engine.proofs.Signals.{bind_same}
 use Rattle.ui_engine.proofs.Starting.{stops_as, stops_elsewhere, written_elsewhere}
 

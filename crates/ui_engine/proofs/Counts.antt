@@ -39,7 +39,7 @@ use Rattle.machine_laws.proofs.GoneProofs.{hold_as}
 use Rattle.ui_engine.proofs.Left.{same_agenda}
 use Rattle.signal_core.specs.Connected.{Connected}
 use Rattle.ui_machine.specs.State.Handlers.{Handler}
-use Rattle.ui_engine.specs.BegunView.{AllBegun, HasBegun}
+use Rattle.ui_engine.specs.BegunView.{AllBegun}
 use Rattle.ui_engine.specs.Counting.{OnlyCounts, Connects, Counts, KeepsCounts, in_emitted, in_subject, nothing}
 use Rattle.ui_engine.proofs.Floats.{if_ok_at, bind_ok}
 

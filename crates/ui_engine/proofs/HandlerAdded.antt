@@ -1,6 +1,5 @@
 -- A handler more, and what comes of a connection by a program.
-use Rattle.std.proofs.Common.{◌≡◌, ◌∙◌, refl, sym, ap, subst, ℕ, suc, ◌+◌, ◌-◌, ◌<◌, Bool, true, false, cond, nat_lt, ◌&&◌, not, List, [], ◌∷◌, ◌++◌, length, Result, Ok, Err, arith}
-use Rattle.std.specs.List.{filter}
+use Rattle.std.proofs.Common.{◌≡◌, ◌∙◌, refl, sym, ap, subst, ℕ, suc, ◌+◌, ◌-◌, Bool, true, false, cond, nat_lt, ◌&&◌, List, Result, Ok, Err, arith}
 use Rattle.std.specs.Prelude.{count_by, ◌↔◌}
 use Rattle.std.proofs.lemmas.Bool.Decides.{nat_tests}
 use Rattle.std.proofs.lemmas.List.Sums.{length-filter}
@@ -8,7 +7,6 @@ use Rattle.ui_machine.specs.Definition.{Definition}
 use Rattle.ui_machine.specs.Rules.Connections.{Connection, by_code_to, connected, greatest_handler, has_room_for_handler, is_too_late, new_handler, with_handler}
 use Rattle.ui_machine.specs.Seq.{total}
 use Rattle.ui_machine.specs.State.Config.{World}
-use Rattle.ui_machine.specs.State.Handlers.{Handler}
 use Rattle.ui_machine.specs.State.References.{in_task}
 use Rattle.ui_machine.specs.State.Tasks.{Task}
 use Rattle.signal_core.specs.Connected.{Connected, has_room, with_connection}

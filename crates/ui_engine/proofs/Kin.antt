@@ -1,5 +1,5 @@
 -- How an object of the build becomes its parent's child, by what the table says of both.
-use Rattle.std.proofs.Common.{◌≡◌, ℕ, zero, suc, ◌≤◌, Bool, true, false, cond, nat_eq, ◌||◌, ◌∷◌, [], List, length, Option, Some, None, IsSome, is_some, Result, Ok, Err, slice_get, refl, sym, ap, subst, ◌∙◌, arith}
+use Rattle.std.proofs.Common.{◌≡◌, ℕ, ◌≤◌, Bool, true, false, cond, nat_eq, ◌||◌, ◌∷◌, [], List, Option, Some, None, IsSome, is_some, Result, Ok, Err, refl, sym, ap, subst, ◌∙◌}
 use Rattle.std.specs.Prelude.{codes}
 use Rattle.ui_machine.specs.declared.arm.Arm.{Arm}
 use Rattle.ui_machine.specs.declared.arm.Arm.TheVariants as arms
@@ -19,7 +19,9 @@ use Rattle.ui_machine.specs.Steps.{uncounted}
 use Rattle.instances.specs.declared.error.AdoptError.{AdoptError}
 use Rattle.instances.specs.declared.error.AdoptError.TheVariants.{NotLiving, HasParent, ChildLimit}
 use Rattle.instances.specs.Family.{refusal}
+use Rattle.builder_defs.specs.Meaning.{IsBasic, object_count}
 use Rattle.ui_engine.specs.KinView.{Kin, kin_at, joined}
+use Rattle.ui_engine.proofs.Prototypes.{parentless}
 
 -- ** what the table says of both
 
@@ -87,11 +89,6 @@ pub parent_lives : (parent child : ℕ) (p c : Option Object) → refusal parent
 parent_lives parent child None c none = cc none
 parent_lives parent child (Some p) c none = refl
 
-past_all : {A : Type 0} (xs : List A) (i : ℕ) → length xs ≤ i → slice_get xs i ≡ None
-past_all [] i past = refl
-past_all (x ∷ xs) zero past = absurd (omega arith)
-past_all (x ∷ xs) (suc i) past = past_all xs i (omega arith)
-
 -- ** the step of the build
 
 module _ (d : Definition) (w : World) (place : ℕ) (items : List Item) where
@@ -125,10 +122,17 @@ module _ (d : Definition) (w : World) (place : ℕ) (items : List Item) where
   pub no_kin : (arm : Arm) → kin_at d w place ≡ Err arm → building_child d w place items ≡ Err arm
   no_kin arm is = by_kin ∙ ap (λ (kin : Answer Kin). kin >>= goes_on) is
 
-  pub no_place_there : length d.places ≤ place → building_child d w place items ≡ Err arms.Code
-  no_place_there past = no_kin arms.Code (ap (λ (found : Option Place).
-      known arms.Code found >>= λ p. known arms.Code p.parent >>= λ a. held_object w a >>= λ x. held_object w place >>= λ y. Ok (record { parent = x; child = y }))
-      (past_all d.places place past))
+  with_kin : Option ℕ → Answer Kin
+  with_kin above = known arms.Code above >>= λ a. held_object w a >>= λ x. held_object w place >>= λ y. Ok (record { parent = x; child = y })
+
+  -- no object stands there
+  pub no_object_there : IsBasic d → object_count d ≤ place → building_child d w place items ≡ Err arms.Code
+  unfolding with_kin
+  no_object_there basic past = no_kin arms.Code (by (place_at d place) refl)
+    where
+      by : (found : Option Place) → place_at d place ≡ found → kin_at d w place ≡ Err arms.Code
+      by None at = ap (λ (o : Option Place). known arms.Code o >>= λ p. with_kin p.parent) at
+      by (Some p) at = ap (λ (o : Option Place). known arms.Code o >>= λ p. with_kin p.parent) at ∙ ap with_kin (parentless d basic place past p at)
 
   module _ (rest : List Task) (n : ℕ) where
     then_on : {X : Type 0} (result : Result X Halt) (family : Answer (After World Bool)) (new : World)

@@ -48,10 +48,12 @@ pub mod Whole
 pub mod Reaching
 pub mod Standing
 pub mod Acts
+pub mod Prototypes
 pub mod Building
 pub mod MakingSteps
+pub mod ConstructedRuns
 pub mod Stepping
 pub mod Beginning
 pub mod Serving
 pub mod Forwarded
-pub mod NoPrototypes
+pub mod Creating

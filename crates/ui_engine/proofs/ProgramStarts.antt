@@ -1,5 +1,5 @@
 -- How programs begin, by what fits their parameters.
-use Rattle.std.proofs.Common.{◌≡◌, ◌∙◌, refl, sym, ap, ℕ, Bool, true, false, List, [], ◌∷◌, ◌++◌, append_assoc, Option, None, Some, Result, Ok, Err}
+use Rattle.std.proofs.Common.{◌≡◌, ◌∙◌, refl, ap, ℕ, Bool, true, false, List, [], ◌∷◌, ◌++◌, append_assoc, Option, None, Some, Ok, Err}
 use Rattle.std.specs.List.{All, AllByRecursion}
 use Rattle.std.proofs.lemmas.List.Elements.{All-head, All-tail}
 use Rattle.ui_machine.specs.declared.arm.Arm.{Arm}
@@ -11,7 +11,7 @@ use Rattle.ui_machine.specs.Definition.Values.{Value}
 use Rattle.ui_machine.specs.Outcome.{Answer, known, only_if, ◌>>=◌}
 use Rattle.ui_machine.specs.Output.Lines as lines
 use Rattle.ui_machine.specs.Rules.Programs.{all_fit, beginning_program, first_frame, fits_register, place_in, program_before}
-use Rattle.ui_machine.specs.State.Config.{Config, Started, World, said, starts}
+use Rattle.ui_machine.specs.State.Config.{Started, World, said, starts}
 use Rattle.ui_machine.specs.State.Objects.{Object, Objects, asked, living}
 use Rattle.ui_machine.specs.State.Tasks.{Running, Task}
 use Rattle.ui_machine.specs.Steps.{uncounted}

@@ -1,9 +1,7 @@
 -- How a program ends.
-use Rattle.std.proofs.Common.{◌≡◌, ◌∙◌, refl, ap, ℕ, Bool, true, false, Option, None, Some, Result, Ok, Err, List}
-use Rattle.ui_machine.specs.declared.arm.Arm.{Arm}
+use Rattle.std.proofs.Common.{◌≡◌, ◌∙◌, refl, ap, ℕ, true, false, Option, None, Some, Ok, Err, List}
 use Rattle.ui_machine.specs.declared.arm.Arm.TheVariants as arms
 use Rattle.ui_machine.specs.declared.arm.Halt.{Halt}
-use Rattle.ui_machine.specs.declared.arm.Halt.TheVariants as halts
 use Rattle.ui_machine.specs.Definition.{Definition}
 use Rattle.ui_machine.specs.Definition.Lookups.{program_at}
 use Rattle.ui_machine.specs.Definition.Programs.{Program}
@@ -13,7 +11,7 @@ use Rattle.ui_machine.specs.Instructions.Registers.{value_in}
 use Rattle.ui_machine.specs.Outcome.{Answer, Stops, known, only_if, ◌>>=◌}
 use Rattle.ui_machine.specs.Rules.Accumulation.{given_down, suits}
 use Rattle.ui_machine.specs.Rules.Transform.{kind_fits}
-use Rattle.ui_machine.specs.State.Config.{Left, World}
+use Rattle.ui_machine.specs.State.Config.{World}
 use Rattle.ui_machine.specs.State.Objects.{class_in}
 use Rattle.ui_machine.specs.State.Tasks.{Frame, Task}
 use Rattle.ui_engine.proofs.Emits.{stops_on}

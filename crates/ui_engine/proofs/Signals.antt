@@ -10,7 +10,7 @@ use Rattle.ui_engine.proofs.Lists.{total-append}
 use Rattle.ui_machine.specs.Definition.{Definition}
 use Rattle.ui_machine.specs.Definition.Lookups.{place_at}
 use Rattle.ui_machine.specs.Definition.Places.{Attached, Place}
-use Rattle.ui_machine.specs.Rules.Build.{adopts_if, building, building_handler, connected_items, held_data, held_object, is_connecting, made_items, numbered, of_items, to_connect, with_signal}
+use Rattle.ui_machine.specs.Rules.Build.{adopts_if, building, building_handler, connected_items, held_data, held_object, is_connecting, made_items, numbered, of_items, with_signal}
 use Rattle.ui_machine.specs.Seq.{total}
 use Rattle.ui_machine.specs.declared.arm.Arm.TheVariants as arms
 use Rattle.ui_machine.specs.declared.arm.Halt.{Halt}
@@ -21,17 +21,14 @@ use Rattle.ui_machine.specs.State.Tasks.{Building, Item, Task, connects}
 use Rattle.ui_machine.specs.State.Tasks as tasks
 use Rattle.ui_engine.specs.TaskView.{build_end, build_from, connects_from, item_of, signals_of}
 use Rattle.ui_engine.specs.declared.task.Forward.{Forward}
+use Rattle.builder_defs.specs.Meaning.{IsBasic, object_count}
+use Rattle.ui_engine.proofs.Prototypes.{connected_past, signals_past}
 
 drop_past : {A : Type 0} (xs : List A) (i : ℕ) → length xs ≤ i → drop i xs ≡ []
 drop_past [] zero past = refl
 drop_past [] (suc i) past = refl
 drop_past (x ∷ xs) zero past = absurd (omega arith)
 drop_past (x ∷ xs) (suc i) past = drop_past xs i (omega arith)
-
-none_there : {A : Type 0} (xs : List A) (i : ℕ) → length xs ≤ i → slice_get xs i ≡ None
-none_there [] i past = refl
-none_there (x ∷ xs) zero past = absurd (omega arith)
-none_there (x ∷ xs) (suc i) past = none_there xs i (omega arith)
 
 -- the signals from an object on are its own, and then those of the objects behind it
 from_place : (k : ℕ) (ps : List Place)
@@ -79,11 +76,11 @@ module _ (d : Definition) where
       by (x ∷ xs) less = ap (λ ys. numbered (connects k) first ys ++ connected_items (suc k) (drop (suc k) d.places)) (drop-cons (x ∷ xs) first x less)
 
   -- behind the last object come none
-  pub none_left : (k first : ℕ) → length d.places ≤ k → connects_from d k first ≡ []
-  none_left k first past =
-      ap (λ (p : Option Place). numbered (connects k) first (drop first (signals_of p)) ++ connected_items (suc k) (drop (suc k) d.places)) (none_there d.places k past)
+  pub none_left : IsBasic d → (k first : ℕ) → object_count d ≤ k → connects_from d k first ≡ []
+  none_left basic k first past =
+      ap (λ (xs : List Attached). numbered (connects k) first (drop first xs) ++ connected_items (suc k) (drop (suc k) d.places)) (signals_past d basic k past)
       ∙ ap (λ xs. numbered (connects k) first xs ++ connected_items (suc k) (drop (suc k) d.places)) (drop_past [] first (omega arith))
-      ∙ ap (connected_items (suc k)) (drop_past d.places (suc k) (omega arith))
+      ∙ connected_past d basic (suc k) (omega (arith, past))
 
 -- ** the first item
 
@@ -174,20 +171,20 @@ pub adopt_count : (d : Definition) (at place : ℕ) (fs : List Forward)
 adopt_count d at place fs = omega (arith, build_count d place fs)
 
 -- one task after the other
-pub tasks_left : {A : Type 0} (f : A → Task) (xs : List A) (i : ℕ) (x : A) → i < length xs → x ≡ get_or xs i x
-    → to_connect (map f (drop i xs)) ≡ of_items is_connecting (f x) + to_connect (map f (drop (i + 1) xs))
-tasks_left f xs i x within is =
-    ap (λ ys. to_connect (map f ys)) (drop-cons xs i x within)
-    ∙ ap (λ y. of_items is_connecting (f y) + to_connect (map f (drop (suc i) xs))) (sym is)
-    ∙ ap (λ k. of_items is_connecting (f x) + to_connect (map f (drop k xs))) (let e : suc i ≡ i + 1 = omega arith in e)
+pub tasks_left : {A : Type 0} (g : Item → ℕ) (f : A → Task) (xs : List A) (i : ℕ) (x : A) → i < length xs → x ≡ get_or xs i x
+    → total (of_items g) (map f (drop i xs)) ≡ of_items g (f x) + total (of_items g) (map f (drop (i + 1) xs))
+tasks_left g f xs i x within is =
+    ap (λ ys. total (of_items g) (map f ys)) (drop-cons xs i x within)
+    ∙ ap (λ y. of_items g (f y) + total (of_items g) (map f (drop (suc i) xs))) (sym is)
+    ∙ ap (λ k. of_items g (f x) + total (of_items g) (map f (drop k xs))) (let e : suc i ≡ i + 1 = omega arith in e)
 
 -- and so in any order
-pub reversed_count : (ts : List Task) → to_connect (reverse ts) ≡ to_connect ts
-reversed_count [] = refl
-reversed_count (t ∷ ts) =
-    ap to_connect (reverse-append (t ∷ []) ts)
-    ∙ total-append (of_items is_connecting) (reverse ts) (t ∷ [])
-    ∙ let rest = reversed_count ts in omega (arith, rest)
+pub reversed_count : (g : Item → ℕ) (ts : List Task) → total (of_items g) (reverse ts) ≡ total (of_items g) ts
+reversed_count g [] = refl
+reversed_count g (t ∷ ts) =
+    ap (total (of_items g)) (reverse-append (t ∷ []) ts)
+    ∙ total-append (of_items g) (reverse ts) (t ∷ [])
+    ∙ let rest = reversed_count g ts in omega (arith, rest)
 
 -- ** a signal that is connected
 

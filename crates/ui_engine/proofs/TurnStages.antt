@@ -3,7 +3,7 @@ use Rattle.std.proofs.Common.{◌≡◌, ◌∙◌, refl, sym, ap, subst, ℕ, �
 use Rattle.std.specs.List.{filter, find}
 use Rattle.ui_machine.specs.Definition.Properties.{has_flags}
 use Rattle.ui_machine.specs.State.Handlers.{Handler}
-use Rattle.signal_core.specs.Emission.{Due, Walk, after_program, due, first_step, from_after, from_before, from_cleanup, from_last, from_transfers, is_ahead, is_over, next_step, of_bindings, of_class, of_handler, of_handlers, past, past_transfers, program_turn, stage_after, turns_from}
+use Rattle.signal_core.specs.Emission.{Due, Walk, after_program, due, first_step, from_after, from_before, from_cleanup, from_last, from_transfers, is_ahead, is_over, of_class, of_handler, of_handlers, past_transfers, program_turn, turns_from}
 use Rattle.signal_core.specs.declared.stage.Stage.{Stage}
 use Rattle.signal_core.specs.declared.stage.Stage.TheVariants as stages
 use Rattle.signal_core.specs.declared.turn.Turn.{Turn}

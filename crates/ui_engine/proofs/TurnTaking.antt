@@ -1,5 +1,5 @@
 -- What the program of a turn is given, and how it begins in front of the rest of its emission.
-use Rattle.std.proofs.Common.{◌≡◌, ◌∙◌, refl, sym, ap, subst, append_assoc, ℕ, suc, ◌+◌, ◌<◌, ◌≤◌, ◌++◌, ◌||◌, Bool, true, false, cond, nat_lt, List, [], ◌∷◌, length, map, drop, get_or, Option, None, Some, option_map, Result, arith, add-one}
+use Rattle.std.proofs.Common.{◌≡◌, ◌∙◌, refl, sym, ap, subst, append_assoc, ℕ, suc, ◌+◌, ◌<◌, ◌≤◌, ◌++◌, ◌||◌, Bool, cond, List, [], ◌∷◌, length, map, drop, get_or, Option, None, Some, Result, arith, add-one}
 use Rattle.std.specs.List.{flat_map}
 use Rattle.std.proofs.Math.Seq.{drop-cons}
 use Rattle.std.proofs.lemmas.List.{append-nil, length-drop, map-append, nil_from_length}
@@ -9,7 +9,7 @@ use Rattle.ui_machine.specs.Rules.Accumulation.{given_to, in_stage, instance_of,
 use Rattle.ui_machine.specs.Rules.Programs.{beginning_program, program_before}
 use Rattle.ui_machine.specs.State.Config.{Config, World, starts}
 use Rattle.ui_machine.specs.State.Handlers.{Handler}
-use Rattle.ui_machine.specs.State.Tasks.{Emission, Emitting, PlanEntry, Task, class_handler}
+use Rattle.ui_machine.specs.State.Tasks.{Emission, Emitting, PlanEntry, Task}
 use Rattle.ui_machine.specs.declared.arm.Halt.{Halt}
 use Rattle.ui_machine.specs.Outcome.{Answer, Goes}
 use Rattle.ui_machine.specs.Steps.{act, uncounted}
@@ -17,12 +17,12 @@ use Rattle.g_values.specs.View.{value_view}
 use Rattle.g_values.specs.declared.value.Value.{Value}
 use Rattle.signal_core.specs.Connected.{Numbered}
 use Rattle.signal_core.specs.Emission.{Walk, after_program, is_over, of_handler, program_turn, to_come}
-use Rattle.signal_core.specs.Laws.{IsEntry, OfHandler, entries_left, entries_of}
+use Rattle.signal_core.specs.Laws.{IsEntry, entries_left, entries_of}
 use Rattle.signal_core.specs.declared.stage.Stage.TheVariants as stages
 use Rattle.signal_core.specs.declared.turn.Turn.{Turn}
 use Rattle.signal_core.specs.declared.turn.Turn.TheVariants as turns
 use Rattle.ui_engine.specs.TaskView.{emission_of, entries_to_come}
-use Rattle.ui_engine.specs.TurnView.{RunsProgram, given_by, program_of_turn, value_of}
+use Rattle.ui_engine.specs.TurnView.{RunsProgram, given_by, program_of_turn}
 use Rattle.ui_engine.proofs.ProgramStarts.{begins_before}
 use Rattle.ui_engine.proofs.TurnStages.{turn_before_end, turn_goes_on}
 use Rattle.ui_engine.proofs.Turns.{told}

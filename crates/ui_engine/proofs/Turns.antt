@@ -1,23 +1,15 @@
 -- The turns of emissions.
-use Rattle.std.proofs.Common.{◌≡◌, ℕ, Bool, true, false, cond, is_some, List, [], ◌∷◌, Option, Some, None, Err, refl, sym, ap, subst, ◌∙◌}
+use Rattle.std.proofs.Common.{◌≡◌, ℕ, false, is_some, List, [], Option, Some, None, sym, ap, subst, ◌∙◌}
 use Rattle.std.specs.List.{flat_map}
-use Rattle.ui_machine.specs.declared.arm.Arm.TheVariants as arms
-use Rattle.ui_machine.specs.Definition.{Definition}
 use Rattle.ui_machine.specs.Definition.Signals.{Accumulator}
-use Rattle.ui_machine.specs.Definition.Values.{Value}
-use Rattle.ui_machine.specs.Rules.Accumulation.{given_to, running_handler}
 use Rattle.ui_machine.specs.Rules.EmissionPlan.{Planned, plan}
-use Rattle.ui_machine.specs.Rules.Programs.{beginning_program, program_before}
-use Rattle.ui_machine.specs.State.Config.{World, starts}
+use Rattle.ui_machine.specs.State.Config.{World}
 use Rattle.ui_machine.specs.State.Handlers.{Handler}
-use Rattle.ui_machine.specs.State.Tasks.{Emission, Emitting, PlanEntry, Task}
-use Rattle.ui_machine.specs.Steps.{act, uncounted}
+use Rattle.ui_machine.specs.State.Tasks.{PlanEntry}
 use Rattle.signal_core.specs.Connected.{Numbered}
 use Rattle.signal_core.specs.Emission.{Walk, after_program, program_turn, to_come}
-use Rattle.signal_core.specs.Laws.{IsEntry, IsToldBy, entries_left, entries_of, walk_for}
-use Rattle.signal_core.specs.declared.stage.Stage.{Stage}
+use Rattle.signal_core.specs.Laws.{IsToldBy, entries_left, entries_of, walk_for}
 use Rattle.signal_core.specs.declared.turn.Turn.{Turn}
-use Rattle.signal_core.specs.declared.turn.Turn.TheVariants as turns
 use Rattle.signal_core.proofs.PlanProofs.{plan_is_walked}
 use Rattle.signal_core.proofs.Telling.{turns_tell}
 use Rattle.ui_engine.specs.TaskView.{entries_to_come}

@@ -23,6 +23,7 @@ ActsOnSignals (instructions.Get to object property) = ⊥
 ActsOnSignals (instructions.Set object property from) = ⊥
 ActsOnSignals (instructions.Notify object property) = ⊥
 ActsOnSignals (instructions.Object to id) = ⊥
+ActsOnSignals (instructions.New to id) = ⊥
 ActsOnSignals (instructions.Sink object) = ⊥
 ActsOnSignals (instructions.Orphan object) = ⊥
 ActsOnSignals (instructions.Adopt to parent child) = ⊥

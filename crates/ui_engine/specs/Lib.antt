@@ -20,3 +20,4 @@ pub mod Counting
 pub mod Stepping
 pub mod SessionView
 pub mod Groups
+pub mod CreateView

@@ -1,11 +1,13 @@
--- What a step of a construction stands for in the machine, and what a construction does where there are no programs.
+-- What a step of a construction stands for in the machine, and what a construction does.
 use Rattle.std.specs.Prelude.{ℕ, cond, List, [], ◌∷◌, ◌++◌, map, reverse}
 use Rattle.ui_machine.specs.Seq.{read}
+use Rattle.ui_machine.specs.Definition.{Definition}
+use Rattle.ui_machine.specs.Definition.Lookups.{specs_of}
 use Rattle.ui_machine.specs.Definition.Places.{GivenProperty}
 use Rattle.ui_machine.specs.Definition.Properties.{Spec}
 use Rattle.ui_machine.specs.State.Tasks as config
 use Rattle.ui_machine.specs.State.Config.{World}
-use Rattle.ui_machine.specs.Rules.Construction.{is_forward, not_forward, is_at_construction, given_value, given_at, or_default, set_of, no_spec, construct_sets, given_sets}
+use Rattle.ui_machine.specs.Rules.Construction.{is_forward, not_forward, is_at_construction, given_value, given_at, or_default, set_of, no_spec, construct_sets, constructed_runs, given_sets}
 use Rattle.g_values.specs.View.{value_view}
 use Rattle.builder_defs.specs.declared.object_entry.GivenValue.{GivenValue}
 use Rattle.builder_defs.specs.Meaning.{given_property}
@@ -14,6 +16,7 @@ use Rattle.ui_engine.specs.declared.task.Making.TheVariants as makings
 
 abbrev pub making_of_code : Making → config.Making
 making_of_code (makings.Set slot v) = config.sets slot (value_view v)
+making_of_code (makings.Run program) = config.runs program
 making_of_code makings.Thaw = config.thaws
 
 -- the steps of a list, the last of which is the first
@@ -40,6 +43,6 @@ early place given = not_forward place (map given_property given)
 abbrev pub later_steps : World → List Spec → List GivenProperty → List config.Making
 later_steps w specs given = given_sets w specs given ++ config.thaws ∷ []
 
--- what the construction of an object does whose class has no programs
-abbrev pub making_of_object : World → List Spec → List GivenProperty → List config.Making
-making_of_object w specs given = construct_sets w given 0 specs ++ later_steps w specs given
+-- what the construction of an object of a class does
+abbrev pub making_of_object : Definition → World → ℕ → List GivenProperty → List config.Making
+making_of_object d w class given = construct_sets w given 0 (specs_of d class) ++ (constructed_runs d class ++ later_steps w (specs_of d class) given)

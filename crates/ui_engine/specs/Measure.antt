@@ -4,14 +4,15 @@ use Rattle.ui_machine.specs.Seq.{total}
 use Rattle.ui_machine.specs.Definition.{Definition}
 use Rattle.ui_machine.specs.Definition.Places.{Place}
 use Rattle.ui_machine.specs.Definition.Lookups.{place_at, specs_of}
+use Rattle.ui_machine.specs.Rules.Construction.{constructed_runs}
 use Rattle.ui_machine.specs.State.Objects.{Object, Objects}
 use Rattle.ui_machine.specs.State.Tasks.{Item, makes, adopts, forwards, binds, connects, Task, Setting, Notifying, Beginning, Emitting, Transferring, Unsetting, Thawing, Running, Answering, Calling, Constructing, Building, Carrying, Due}
 use Rattle.ui_machine.specs.State.Config.{Config}
 
--- the properties of an object of the build, and the values that it is given
+-- the properties of an object of the build, the programs of its construction, and the values that it is given
 abbrev pub sets_of_place : Definition → Option Place → ℕ
 sets_of_place d None = 0
-sets_of_place d (Some p) = length (specs_of d p.class) + length p.given
+sets_of_place d (Some p) = length (specs_of d p.class) + length (constructed_runs d p.class) + length p.given
 
 abbrev pub item_weight : Definition → Item → ℕ
 item_weight d (makes place) = 4 * suc (sets_of_place d (place_at d place)) + 3

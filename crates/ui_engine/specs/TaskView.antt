@@ -1,5 +1,5 @@
 -- What a task of the engine stands for in the machine.
-use Rattle.std.specs.Prelude.{ℕ, suc, Bool, true, List, [], ◌∷◌, ◌++◌, map, reverse, drop, Option, Some, None, option_map, string_bytes}
+use Rattle.std.specs.Prelude.{ℕ, suc, Bool, List, [], ◌∷◌, ◌++◌, map, reverse, drop, Option, Some, None, option_map, string_bytes}
 use Rattle.std.specs.List.{flat_map}
 use Rattle.ui_machine.specs.Definition as machine
 use Rattle.ui_machine.specs.Definition.Lookups.{place_at}

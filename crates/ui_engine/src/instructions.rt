@@ -19,6 +19,7 @@ ghost use Rattle.ui_engine.specs.Standing.{GoesPruned};
 
 mod connecting;
 mod connections;
+mod creating;
 mod emits;
 mod jumps;
 mod objects;
@@ -136,6 +137,7 @@ impl Engine {
                 self.telling(definition, frame, *object, property.as_str())
             }
             Instruction::Object { to, id } => self.naming(definition, frame, *to, id.as_str()),
+            Instruction::New { to, id } => self.creating(definition, frame, *to, id.as_str()),
             Instruction::Sink(object) => self.sinking(definition, frame, *object),
             Instruction::Orphan(object) => self.orphaning(definition, frame, *object),
             Instruction::Adopt { to, parent, child } => {
@@ -147,7 +149,7 @@ impl Engine {
         }
     }
 
-    // The instructions on signals and handlers. The last one left is `new`: no definition has prototypes so far, so it names none.
+    // The instructions on signals and handlers. They are the last ones of those that are known so far.
     fn instruct_on_signals(
         &mut self,
         definition: &Definition,
@@ -165,8 +167,6 @@ impl Engine {
         ensures quiet { OnErr result ((world_of self.new.world).transcript ≡ (world_of self.old.world).transcript) }
         ensures counted { OnOk result (Counts definition.now nothing self.new) }
     {
-        // For the proof: what is known of a definition's places.
-        let _types = definition.types();
         match instruction {
             Instruction::Stop => self.stopping(definition, frame),
             Instruction::Emit {

@@ -48,6 +48,8 @@ impl Slots {
 #[derive(Drop)]
 pub enum Making {
     Set { slot: u16, value: Value },
+    /// A program runs that a class names for its objects.
+    Run { program: u16 },
     Thaw,
 }
 

@@ -17,6 +17,7 @@ pub(crate) mod collections;
 pub(crate) mod emission;
 mod finalisation;
 pub(crate) mod forwards;
+mod makings;
 mod notifications;
 pub(crate) mod programs;
 mod running;

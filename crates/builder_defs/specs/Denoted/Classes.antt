@@ -1,5 +1,5 @@
 -- The classes of a definition.
-use Rattle.std.specs.Prelude.{ℕ, List, [], ◌∷◌, ◌++◌, codes, nat_le, if◌then◌else◌, Option, None, Some, option_and_then, Result, Ok, Err}
+use Rattle.std.specs.Prelude.{ℕ, List, [], ◌∷◌, ◌++◌, length, codes, nat_le, if◌then◌else◌, Option, None, Some, option_and_then, Result, Ok, Err}
 use Rattle.serde_json.specs.Data.{Data, Items}
 use Rattle.serde_json.specs.Find.{get, as_str}
 use Rattle.ui_machine.specs.Outcome.{◌>>=◌}
@@ -13,10 +13,12 @@ use Rattle.type_tree.specs.declared.entry.TypeFlags.{TypeFlags}
 use Rattle.builder_defs.specs.declared.fault.DefinitionLimit.TheVariants.{Depth}
 use Rattle.builder_defs.specs.Causes.{unknown_parent, final_parent}
 use Rattle.builder_defs.specs.Refusals.{Refusal, shape, unknown, bad_type, limit, or_refused}
-use Rattle.builder_defs.specs.Document.{under, text_at, truth_at, absent_at, nothing_at}
-use Rattle.builder_defs.specs.Denoted.Entries.{TypeNames}
+use Rattle.builder_defs.specs.Document.{under, text_at, truth_at, absent_at}
+use Rattle.builder_defs.specs.Denoted.Entries.{ProgramNames, TypeNames}
 use Rattle.builder_defs.specs.Denoted.Types.{is_declared, room_for_type, new_type_name}
-use Rattle.builder_defs.specs.Denoted.Drafts.{Draft, type_at}
+use Rattle.builder_defs.specs.Denoted.Drafts.{Answers, ClassDraft, Draft, type_at, unanswered, with_answers}
+use Rattle.builder_defs.specs.Denoted.ClassHandlers.{class_handlers_at}
+use Rattle.builder_defs.specs.Denoted.Constructed.{constructed_at}
 use Rattle.builder_defs.specs.Denoted.Implements.{implements_at}
 
 -- ** parents
@@ -79,12 +81,22 @@ declared_at path first list names draft d = do
   interfaces ← implements_at path names draft parent d
   Ok (draft.types ++ class_type name parent flags interfaces ∷ [])
 
--- a class has no class handlers, programs and shape
-unfoldable pub answering_at : List ℕ → Data → Result (Unit {0}) Refusal
-answering_at path d = do
-  handlers ← nothing_at path d (codes "class-handlers" ∷ [])
-  absent_at path d (codes "constructed" ∷ codes "shape" ∷ [])
+-- what types answer, with what an entry gives to a type; a class has no shape so far
+unfoldable pub answers_at : List ℕ → ProgramNames → ℕ → Answers → Data → Result Answers Refusal
+answers_at path programs t answers d = do
+  handlers ← class_handlers_at path programs t answers.handlers d
+  constructed ← constructed_at path programs t answers.constructed d
+  absent ← absent_at path d (codes "shape" ∷ [])
+  Ok (record { handlers = handlers; constructed = constructed })
 
--- the types with a class, its properties and its signals
-abbrev pub class_at : List ℕ → ℕ → Items → TypeNames → Draft → Data → Result Draft Refusal
-class_at path first list names draft d = type_at path keys_of_class (declared_at path first list names draft d) (answering_at path d) names draft d
+-- a draft with that
+unfoldable pub answering_at : List ℕ → ProgramNames → ℕ → Answers → Data → Draft → Result ClassDraft Refusal
+answering_at path programs t answers d given = do
+  all ← answers_at path programs t answers d
+  Ok (with_answers given all)
+
+-- the types with a class, its properties, its signals and the programs that it names
+abbrev pub class_at : List ℕ → ℕ → Items → TypeNames → ProgramNames → ClassDraft → Data → Result ClassDraft Refusal
+class_at path first list names programs draft d =
+    type_at path keys_of_class (declared_at path first list names (unanswered draft) d)
+    (answering_at path programs (length draft.types) draft.answers d) names (unanswered draft) d

@@ -65,6 +65,19 @@ later_type names name =
     option_or (number_from names.first names.interfaces name)
     (number_from (names.first + length names.interfaces) names.classes name)
 
+-- ** programs by name
+
+-- what the programs of a document are called
+abbrev pub ProgramNames : Type 0
+ProgramNames = List (Option (List ℕ))
+
+abbrev pub program_names : Data → ProgramNames
+program_names d = names_under (codes "name") (section (codes "programs") d)
+
+-- the number of the program that is called so; one past the 256 programs that there may be stands for those behind
+abbrev pub program_named : ProgramNames → List ℕ → Option ℕ
+program_named names name = option_map (at_most 256) (number_from 0 names name)
+
 -- ** objects by id
 
 -- the entries of a list, and behind each what it has

@@ -47,4 +47,4 @@ keys_of_interface = codes "name" ∷ codes "requires" ∷ codes "properties" ∷
 -- the types with an interface, its properties and its signals
 abbrev pub interface_at : List ℕ → ℕ → Items → Items → TypeNames → Draft → Data → Result Draft Refusal
 interface_at path first interfaces classes names draft d =
-    type_at path keys_of_interface (interface_type_at path first interfaces classes draft.types d) (Ok tt) names draft d
+    type_at path keys_of_interface (interface_type_at path first interfaces classes draft.types d) Ok names draft d

@@ -1,5 +1,5 @@
 -- The objects of a definition.
-use Rattle.std.specs.Prelude.{ℕ, zero, suc, List, [], ◌∷◌, ◌++◌, length, codes, nat_le, if◌then◌else◌, Option, Some, is_some, Result, Ok, Err}
+use Rattle.std.specs.Prelude.{ℕ, zero, suc, ◌+◌, List, [], ◌∷◌, ◌++◌, length, codes, Bool, nat_le, if◌then◌else◌, Option, Some, is_some, Result, Ok, Err}
 use Rattle.serde_json.specs.Data.{Data}
 use Rattle.ui_machine.specs.Outcome.{◌>>=◌}
 use Rattle.ui_machine.specs.Definition.Types.{GType}
@@ -20,15 +20,18 @@ use Rattle.builder_defs.specs.Denoted.Entries.{ObjectNames}
 use Rattle.builder_defs.specs.Denoted.Given.{givens_at}
 use Rattle.builder_defs.specs.Denoted.Attached.{all_attached}
 
--- there is a place for one more, and it may live
-abbrev pub room_for_object : ℕ → List machine.Place → Result (Unit {0}) Refusal
-room_for_object most places =
-    if nat_le 512 (length places) then Err (limit Places) else (if nat_le most (length places) then Err (limit Objects) else Ok tt)
+-- there is a place for one more beside these prototypes and objects, and it may live
+abbrev pub room_for_object : ℕ → List machine.Place → List machine.Place → Result (Unit {0}) Refusal
+room_for_object most prototypes places =
+    if nat_le 512 (length places + length prototypes) then Err (limit Places) else (if nat_le most (length places) then Err (limit Objects) else Ok tt)
 
--- an id beside those of these objects
+-- a name that is not taken
+abbrev pub unless_taken : List ℕ → List ℕ → Bool → Result (Unit {0}) Refusal
+unless_taken path id taken = if is_name id then (if taken then Err (duplicate path) else Ok tt) else Err (shape path)
+
+-- an id beside those of these places
 abbrev pub new_id : List ℕ → List machine.Place → List ℕ → Result (Unit {0}) Refusal
-new_id path places id =
-    if is_name id then (if is_some (place_named (λ (p : machine.Place). p.id) places id) then Err (duplicate path) else Ok tt) else Err (shape path)
+new_id path places id = unless_taken path id (is_some (place_named (λ (p : machine.Place). p.id) places id))
 
 -- a class that has objects
 abbrev pub unless_abstract : List ℕ → List GType → ℕ → Result ℕ Refusal
@@ -43,20 +46,22 @@ class_at_key path types d = do
 abbrev pub keys_of_object : List (List ℕ)
 keys_of_object = codes "id" ∷ codes "class" ∷ codes "peer" ∷ codes "properties" ∷ codes "signals" ∷ codes "children" ∷ []
 
--- what is known where objects are read: the types with their properties, the programs, how many objects may live, and the names of all objects
+-- what is known where objects are read: the types with their properties, the programs, the prototypes, how many objects may live, and the names
+-- of all objects
 pub record Scope : Type 0 where
   pub types : List GType
   pub specs : ℕ → List Spec
   pub programs : List Program
+  pub prototypes : List machine.Place
   pub most : ℕ
   pub names : ObjectNames
 
 -- The object that an entry gives beside these, the child of the object at a place, if it is a child. It has no peer so far.
 unfoldable pub place_at : List ℕ → Scope → Option ℕ → List machine.Place → Data → Result machine.Place Refusal
 place_at path scope parent places d = do
-  room ← room_for_object scope.most places
+  room ← room_for_object scope.most scope.prototypes places
   id ← text_at path d (codes "id")
-  new ← new_id (under path (codes "id")) places id
+  new ← new_id (under path (codes "id")) (places ++ scope.prototypes) id
   class ← class_at_key path scope.types d
   peer ← absent_at path d (codes "peer" ∷ [])
   given ← givens_at path scope.types scope.names (length places) (scope.specs class) d

@@ -1,9 +1,8 @@
 //! Instructions that touch registers alone.
 
-ghost use Rattle.std.specs.Prelude.{◌≡◌, Some, codes, option_map, OnOk, OnErr};
+ghost use Rattle.std.specs.Prelude.{◌≡◌, Some, option_map, OnOk, OnErr};
 ghost use Rattle.ui_machine.specs.Instructions.{in_front, instructed};
 ghost use Rattle.ui_machine.specs.Instructions.Registers.{written_to};
-ghost use Rattle.ui_machine.specs.Definition.Values as values;
 ghost use Rattle.ui_machine.specs.Outcome.{Goes};
 ghost use Rattle.ui_machine.specs.Output.Lines as lines;
 ghost use Rattle.ui_machine.specs.State.Config.{said};
@@ -46,29 +45,26 @@ impl Engine {
         Ok(())
     }
 
-    // The joined text would be too long: a line says so, and the register gets the null text.
-    fn too_long(
+    /// A limit was reached, of what the word says: a line says so, and a register gets a value all the same.
+    pub(crate) fn writing_at_limit(
         &mut self,
         definition: &Definition,
         mut frame: Frame,
         to: Register,
+        value: Value,
+        word: &str,
     ) -> Result<(), Halt>
         requires counted { Counts definition.now (λ o. in_frame o (frame_view frame)) self.now }
         ensures step { Goes result
             (left self.old.counted (in_front (agenda_of definition.now self.old)
-            (written_to (said definition.now (world_of self.old.world) (lines.limit (codes "join"))) to.0 (Some (values.text None)) (frame_view frame))))
+            (written_to (said definition.now (world_of self.old.world) (lines.limit word.now)) to.0 (Some (value_view value)) (frame_view frame))))
             (config_of definition.now self.new) }
         ensures quiet { OnErr result ((world_of self.new.world).transcript ≡ (world_of self.old.world).transcript) }
         ensures counted { OnOk result (Counts definition.now nothing self.new) }
     {
-        put(
-            &mut self.world.table,
-            &mut frame,
-            to,
-            Some(Value::Text(None)),
-        )?;
+        put(&mut self.world.table, &mut frame, to, Some(value))?;
         self.push_frame(frame)?;
-        self.tell_limit(definition, "join")?;
+        self.tell_limit(definition, word)?;
         Ok(())
     }
 
@@ -93,7 +89,9 @@ impl Engine {
         match computed {
             Computed::Value(value) => self.writing(definition, frame, to, Some(value)),
             Computed::Unset => self.writing(definition, frame, to, None),
-            Computed::TooLong => self.too_long(definition, frame, to),
+            Computed::TooLong => {
+                self.writing_at_limit(definition, frame, to, Value::Text(None), "join")
+            }
         }
     }
 }

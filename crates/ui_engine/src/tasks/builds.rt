@@ -1,26 +1,23 @@
 //! The build: how objects are made, and how their construction goes on and ends.
 
-ghost use Rattle.std.specs.Prelude.{◌≡◌, ◌<◌, List, true, suc, length, nat_eq, ℕ, not, ◌&&◌, None, Some, option_copied, option_map, cond, [], ◌∷◌, ◌++◌, map, OnOk, OnErr, IfOk, IfErr, Bool, string_bytes};
-ghost use Rattle.std.specs.List.{find};
+ghost use Rattle.std.specs.Prelude.{◌≡◌, ◌<◌, List, true, suc, length, ℕ, None, Some, cond, [], ◌∷◌, ◌++◌, map, OnOk, OnErr, IfOk, IfErr, Bool, string_bytes};
 ghost use Rattle.ui_machine.specs.Outcome.{Goes, Stops};
 ghost use Rattle.ui_machine.specs.Definition.Properties as machine;
 ghost use Rattle.ui_machine.specs.Definition.Lookups.{specs_of, spec_of};
+ghost use Rattle.ui_machine.specs.Definition.Values as machine_values;
+ghost use Rattle.ui_machine.specs.Rules.Programs.{program_before};
 ghost use Rattle.instances.specs.Store.{made_object};
 ghost use Rattle.instances.specs.Laws.{Counted};
 ghost use Rattle.ui_machine.specs.State.References.{in_values};
 ghost use Rattle.ui_machine.specs.Definition as definition;
-ghost use Rattle.ui_machine.specs.Seq.{read};
 ghost use Rattle.ui_engine.specs.BegunView.{HasBegun};
-ghost use Rattle.ui_engine.specs.MakingView.{making_steps, early, construct_set, later_set, early_set, making_of_object};
-ghost use Rattle.ui_machine.specs.Rules.Construction.{with_object, constructed, thawing_made, making, making_set, constructing, is_at_construction, is_forward, no_spec, given_at, set_of, or_default, construct_sets, given_sets};
+ghost use Rattle.ui_machine.specs.Rules.Construction.{with_object, constructed, thawing_made, making, making_set, constructing};
 ghost use Rattle.ui_machine.specs.State.Config.{starts};
 ghost use Rattle.ui_machine.specs.State.Handlers.{Handler};
 ghost use Rattle.ui_machine.specs.State.Tasks.{Building, Constructing};
 ghost use Rattle.ui_machine.specs.Steps.{uncounted};
 ghost use Rattle.ui_machine.specs.Rules.Build.{building};
 ghost use Rattle.g_values.specs.View.{value_view};
-ghost use Rattle.param_specs.specs.View.{spec_view};
-ghost use Rattle.builder_defs.specs.Meaning.{given_view, given_property};
 ghost use Rattle.ui_engine.specs.View.{with_line, world_of};
 ghost use Rattle.ui_engine.specs.TaskView.{task_of, agenda_of, build_from, build_behind};
 ghost use Rattle.ui_engine.specs.Counting.{Connects, KeepsCounts};
@@ -28,14 +25,14 @@ ghost use Rattle.ui_engine.specs.EngineView.{config_of};
 
 use crate::builder::{Held, put_held};
 use crate::engine::Engine;
+use crate::given::object_value;
 use crate::holding::hold_any;
 use crate::lines::Line;
 use crate::task::{Forwards, Making, Makings, Slots, Task};
-use crate::world::World;
-use builder_defs::{Definition, Given, GivenValue};
+use crate::tasks::makings::{GivenAt, construction};
+use builder_defs::Definition;
 use g_values::Value;
 use instances::{Object, Table};
-use param_specs::Spec;
 use std::alloc::{AllocError, Global};
 use type_tree::TypeId;
 use ui_machine::{Arm, Halt, ObjectId};
@@ -157,6 +154,31 @@ impl Engine {
         Ok(())
     }
 
+    // A program of a construction begins, which is given the object alone.
+    fn making_run(
+        &mut self,
+        definition: &Definition,
+        object: ObjectId,
+        program: u16,
+        steps: Makings,
+        held: bool,
+    ) -> Result<(), Halt>
+        ensures step { Goes result
+            (uncounted (agenda_of definition.now self.old) self.old.counted (program_before definition.now (world_of self.old.world) program (machine_values.object (Some object.0) ∷ []) (Constructing object.0 steps held ∷ [])))
+            (config_of definition.now self.new) }
+        ensures quiet { OnErr result ((world_of self.new.world).transcript ≡ (world_of self.old.world).transcript) }
+        ensures counted { OnOk result (KeepsCounts definition.now self.old self.new) }
+    {
+        let mut args = Vec::new(self.alloc);
+        args.push(object_value(object))?;
+        self.push(Task::Constructing {
+            object,
+            steps,
+            held,
+        })?;
+        self.begin_program(definition, program, args)
+    }
+
     // The next step of a construction.
     pub(crate) fn constructing(
         &mut self,
@@ -177,6 +199,10 @@ impl Engine {
         match step {
             Making::Set { slot, value } => {
                 self.making_set(definition, object, slot, value, steps, held)?;
+                return Ok(());
+            }
+            Making::Run { program } => {
+                self.making_run(definition, object, program, steps, held)?;
                 return Ok(());
             }
             Making::Thaw => {
@@ -205,7 +231,7 @@ impl Engine {
             .types()
             .is_a(class, TypeId::new(INITIALLY_UNOWNED));
         let object = Object::new(self.alloc, class, place, values, None);
-        // A definition has no more objects than may live, so that what wants is memory.
+        // A definition has no more objects than may live, and a program looks for room first, so that what wants is memory.
         let Ok(id) = self.world.table.create(object) else {
             return Err(AllocError);
         };
@@ -306,7 +332,7 @@ impl Engine {
     {
         // For the proof: what is known of a definition's types.
         let _types = definition.types();
-        if place >= definition.place_count() {
+        if place >= definition.object_count() {
             return self.forwarding(definition, place, forwards);
         }
         self.push(behind(definition, place, forwards))?;
@@ -367,178 +393,4 @@ fn defaults(alloc: Global, definition: &Definition, class: TypeId) -> Result<Vec
         values.push(spec.default.copied()?)?;
         slot += 1;
     }
-}
-
-// What the object at a place is given, as the builder comes to it.
-#[derive(Clone, Copy)]
-struct GivenAt<'a> {
-    world: &'a World,
-    place: usize,
-    entries: &'a [GivenValue],
-}
-
-// Whether an object is given that is not there before this place.
-fn is_forward(place: usize, given: &Given) -> bool
-    ensures { result ≡ is_forward place (given_view given.now) }
-{
-    match given {
-        Given::Value(_) => false,
-        Given::Object(to) => place <= usize::from(to.0),
-    }
-}
-
-// What is given to a slot, if something is, and not a forward reference.
-fn entry_for(place: usize, entries: &[GivenValue], slot: u16) -> Option<&GivenValue>
-    ensures { option_copied result ≡ find (λ g. not (is_forward place (given_view g.given)) && nat_eq g.slot slot) entries.now }
-{
-    entries.iter().find(|entry| !is_forward(place, &entry.given) && entry.slot == slot)
-}
-
-// The value that is given to a slot, if one is.
-fn value_given(given: GivenAt<'_>, slot: u16) -> Result<Option<Value>, AllocError>
-    ensures { IfOk result (λ v. option_map value_view v ≡ given_at (world_of given.entry.world.now) (early given.entry.place given.entry.entries.now) slot) }
-{
-    match entry_for(given.place, given.entries, slot) {
-        Some(entry) => given.world.given(&entry.given),
-        None => Ok(None),
-    }
-}
-
-// The value that is given to a slot, or else the default.
-fn value_for(given: GivenAt<'_>, spec: &Spec, slot: u16) -> Result<Value, AllocError>
-    ensures { IfOk result (λ v. value_view v ≡ or_default (given_at (world_of given.entry.world.now) (early given.entry.place given.entry.entries.now) slot) (spec_view spec.now).default) }
-{
-    match value_given(given, slot)? {
-        Some(value) => Ok(value),
-        None => spec.default.copied(),
-    }
-}
-
-// Puts the set of a construct property before what a construction does.
-fn add_construct_set(
-    steps: &mut Vec<Making>,
-    definition: &Definition,
-    class: TypeId,
-    given: GivenAt<'_>,
-    slot: u16,
-) -> Result<(), AllocError>
-    ensures { (s : machine.Spec) → spec_of definition.now class slot ≡ Some s → OnOk result (making_steps steps.new.items
-        ≡ construct_set (world_of given.entry.world.now) (early given.entry.place given.entry.entries.now) slot s ++ making_steps steps.old.items) }
-{
-    let Some(spec) = definition.spec(class, slot) else {
-        return Ok(());
-    };
-    if spec.is_at_construction() {
-        let value = value_for(given, spec, slot)?;
-        steps.push(Making::Set { slot, value })?;
-    }
-    Ok(())
-}
-
-// Puts the sets of the construct properties before what a construction does, in the order of their slots.
-fn add_construct_sets(
-    steps: &mut Vec<Making>,
-    definition: &Definition,
-    class: TypeId,
-    given: GivenAt<'_>,
-) -> Result<(), AllocError>
-    ensures { OnOk result (making_steps steps.new.items
-        ≡ construct_sets (world_of given.entry.world.now) (early given.entry.place given.entry.entries.now) 0 (specs_of definition.now class) ++ making_steps steps.old.items) }
-{
-    let mut slot = definition.slots(class);
-    'slots: while slot > 0 {
-        slot -= 1;
-        add_construct_set(steps, definition, class, given, slot as u16)?;
-    }
-    Ok(())
-}
-
-// Whether a construction sets the property of a slot in any case.
-fn is_at_construction(definition: &Definition, class: TypeId, slot: u16) -> bool
-    ensures { result ≡ is_at_construction (read no_spec (specs_of definition.now class) slot) }
-{
-    match definition.spec(class, slot) {
-        Some(spec) => spec.is_at_construction(),
-        None => false,
-    }
-}
-
-// Puts the set of a value before what a construction does, if there is one.
-fn add_set(steps: &mut Vec<Making>, slot: u16, value: Option<Value>) -> Result<(), AllocError>
-    ensures { OnOk result (making_steps steps.new.items ≡ set_of (option_map value_view value) slot ++ making_steps steps.old.items) }
-{
-    let Some(value) = value else {
-        return Ok(());
-    };
-    steps.push(Making::Set { slot, value })?;
-    Ok(())
-}
-
-// Puts the set of what is given to a property before what a construction does, where the property is not set in any case.
-fn add_later_set(
-    steps: &mut Vec<Making>,
-    definition: &Definition,
-    class: TypeId,
-    world: &World,
-    entry: &GivenValue,
-) -> Result<(), AllocError>
-    ensures { OnOk result (making_steps steps.new.items ≡ later_set (world_of world.now) (specs_of definition.now class) (given_property entry.now) ++ making_steps steps.old.items) }
-{
-    if is_at_construction(definition, class, entry.slot) {
-        return Ok(());
-    }
-    add_set(steps, entry.slot, world.given(&entry.given)?)
-}
-
-// The same of an entry that may be a forward reference, which a construction leaves out.
-fn add_early_set(
-    steps: &mut Vec<Making>,
-    definition: &Definition,
-    class: TypeId,
-    given: GivenAt<'_>,
-    entry: &GivenValue,
-) -> Result<(), AllocError>
-    ensures { OnOk result (making_steps steps.new.items
-        ≡ early_set (world_of given.entry.world.now) (specs_of definition.now class) given.entry.place (given_property entry.now) ++ making_steps steps.old.items) }
-{
-    if is_forward(given.place, &entry.given) {
-        return Ok(());
-    }
-    add_later_set(steps, definition, class, given.world, entry)
-}
-
-// Puts the sets of what is given before what a construction does, in the given order.
-fn add_later_sets(
-    steps: &mut Vec<Making>,
-    definition: &Definition,
-    class: TypeId,
-    given: GivenAt<'_>,
-) -> Result<(), AllocError>
-    ensures { OnOk result (making_steps steps.new.items
-        ≡ given_sets (world_of given.entry.world.now) (specs_of definition.now class) (early given.entry.place given.entry.entries.now) ++ making_steps steps.old.items) }
-{
-    let mut left = given.entries.len();
-    'entries: while left > 0 {
-        left -= 1;
-        add_early_set(steps, definition, class, given, &given.entries[left])?;
-    }
-    Ok(())
-}
-
-// What a construction does: the sets of the construct properties by slot, each to what is given or its default, then the other given values
-// in the given order, then the thaw. Forward references are left out. The steps are put together from the last one on.
-fn construction(
-    alloc: Global,
-    definition: &Definition,
-    class: TypeId,
-    given: GivenAt<'_>,
-) -> Result<Makings, AllocError>
-    ensures { IfOk result (λ steps. steps
-        ≡ making_of_object (world_of given.entry.world.now) (specs_of definition.now class) (early given.entry.place given.entry.entries.now)) }
-{
-    let mut steps = Vec::new(alloc);
-    steps.push(Making::Thaw)?;
-    add_later_sets(&mut steps, definition, class, given)?;
-    add_construct_sets(&mut steps, definition, class, given)?;
-    Ok(Makings::new(steps))
 }

@@ -131,7 +131,9 @@ impl Engine {
         ensures quiet { OnErr result ((world_of self.new.world).transcript ≡ (world_of self.old.world).transcript) }
         ensures counted { OnOk result (KeepsCounts definition.now self.old self.new) }
     {
-        if place >= definition.place_count() {
+        // For the proof: what is known of a definition's places.
+        let _types = definition.types();
+        if place >= definition.object_count() {
             return Err(Halt::Stuck(Arm::Code));
         }
         let kin = self.kin(definition, place)?;

@@ -1,11 +1,11 @@
 //! Forward references: objects that are given to properties before they are built. They are set once all objects stand.
 
-ghost use Rattle.std.specs.Prelude.{◌≡◌, ◌≤◌, ◌++◌, length, map, OnOk, OnErr, IfOk};
+ghost use Rattle.std.specs.Prelude.{◌≡◌, ◌≤◌, ◌++◌, map, OnOk, OnErr, IfOk};
 ghost use Rattle.std.specs.List.{flat_map};
 ghost use Rattle.ui_machine.specs.Outcome.{Goes};
 ghost use Rattle.ui_machine.specs.Rules.Build.{building, forward_of, forward_items};
 ghost use Rattle.ui_machine.specs.Steps.{uncounted};
-ghost use Rattle.builder_defs.specs.Meaning.{given_property};
+ghost use Rattle.builder_defs.specs.Meaning.{given_property, object_count};
 ghost use Rattle.ui_engine.specs.View.{world_of};
 ghost use Rattle.ui_engine.specs.TaskView.{agenda_of, item_of, items_of, forwards_at, build_end};
 ghost use Rattle.ui_engine.specs.Counting.{Connects, KeepsCounts};
@@ -69,14 +69,14 @@ fn add_forwards_of(
     add_forwards(forwards, place, entry.given)
 }
 
-/// The forward references of a definition, in document order.
+/// The forward references of a definition's objects, in document order.
 pub(crate) fn forwards(alloc: Global, definition: &Definition) -> Result<Forwards, AllocError>
     ensures { IfOk result (λ forwards. map item_of forwards ≡ forward_items 0 definition.now.places) }
 {
     // For the proof: what is known of a definition's types.
     let _types = definition.types();
     let mut forwards = Vec::new(alloc);
-    let mut place = definition.place_count();
+    let mut place = definition.object_count();
     'places: while place > 0 {
         place -= 1;
         add_forwards_of(&mut forwards, definition, place)?;
@@ -93,7 +93,7 @@ impl Engine {
         place: usize,
         mut forwards: Forwards,
     ) -> Result<(), Halt>
-        requires past { length definition.now.places ≤ place }
+        requires past { object_count definition.now ≤ place }
         requires connects { Connects definition.now self.now }
         ensures step { Goes result
             (uncounted (agenda_of definition.now self.old) self.old.counted (building definition.now (world_of self.old.world) (build_end definition.now forwards)))
@@ -101,6 +101,8 @@ impl Engine {
         ensures quiet { OnErr result ((world_of self.new.world).transcript ≡ (world_of self.old.world).transcript) }
         ensures counted { OnOk result (KeepsCounts definition.now self.old self.new) }
     {
+        // For the proof: what is known of a definition's places.
+        let _types = definition.types();
         let Some(forward) = forwards.take() else {
             return self.connecting(definition, 0, 0);
         };

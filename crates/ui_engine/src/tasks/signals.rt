@@ -53,7 +53,7 @@ fn next_signal(definition: &Definition, place: usize, number: usize) -> Option<P
     // For the proof: what is known of a definition's types.
     let _types = definition.types();
     let mut first = number;
-    for at in place..definition.place_count() {
+    for at in place..definition.object_count() {
         if first < signal_count(definition, at) {
             return Some(Position {
                 place: at,
@@ -74,7 +74,7 @@ fn taken_from(definition: &Definition, last: u64, place: usize, number: usize) -
     let _types = definition.types();
     let mut taken = last;
     let mut first = number;
-    for at in place..definition.place_count() {
+    for at in place..definition.object_count() {
         let count = signal_count(definition, at).saturating_sub(first);
         taken = taken.saturating_add(count as u64);
         first = 0;

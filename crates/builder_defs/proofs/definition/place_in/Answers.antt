@@ -1,4 +1,4 @@
-use Rattle.std.proofs.Common.{◌∙◌, ◌+◌, ℕ, None, Some, map, option_map, ap, sym}
+use Rattle.std.proofs.Common.{◌∙◌, ◌+◌, ℕ, None, Some, map, ap, sym}
 use Rattle.std.proofs.lemmas.List.{length-map}
 use Rattle.ui_machine.specs.Definition.Places.{Place}
 use Rattle.builder_defs.specs.Meaning.{plain_object, plain_prototype}

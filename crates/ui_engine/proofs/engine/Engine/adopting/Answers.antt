@@ -13,16 +13,16 @@ use Rattle.ui_engine.specs.View.{world_of}
 use Rattle.ui_engine.specs.TaskView.{agenda_of, build_from}
 use Rattle.ui_engine.proofs.Counts.{keeps_on}
 use Rattle.ui_engine.proofs.Left.{same_agenda}
-use Rattle.ui_engine.proofs.Kin.{no_kin, no_place_there, joins_then}
+use Rattle.ui_engine.proofs.Kin.{no_kin, no_object_there, joins_then}
 use Rattle.ui_engine.proofs.engine.Engine.adopting.Goals as goal
 
-pub returns-then-place-place_count-clause-step : goal.returns-then-place-place_count-clause-step
-returns-then-place-place_count-clause-step c =
+pub returns-then-place-object_count-clause-step : goal.returns-then-place-object_count-clause-step
+returns-then-place-object_count-clause-step c =
     let d = c.args.definition.now in
     let e = c.args.self.now in
     ap (uncounted (agenda_of d e) e.counted)
-    (no_place_there d (world_of e.world) c.args.place (build_from d (suc c.args.place) c.args.forwards)
-    (omega (arith, c.place_count.ensures.count, c.if-place-place_count.true)))
+    (no_object_there d (world_of e.world) c.args.place (build_from d (suc c.args.place) c.args.forwards) c.types-types.ensures.basic
+    (omega (arith, c.object_count.ensures.count, c.if-place-object_count.true)))
 
 pub returns-in_err-kin-clause-step : goal.returns-in_err-kin-clause-step
 returns-in_err-kin-clause-step c =

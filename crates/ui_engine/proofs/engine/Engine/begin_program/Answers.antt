@@ -2,8 +2,7 @@ use Rattle.std.proofs.Common.{ℕ, List, ◌∷◌, ap, sym, ◌∙◌, map}
 use Rattle.ui_machine.specs.Definition.Types.{GType}
 use Rattle.ui_machine.specs.Output.Lines as lines
 use Rattle.ui_machine.specs.Output.Text.{text_of_line}
-use Rattle.ui_machine.specs.Rules.Programs.{all_fit, beginning_program, fits_register}
-use Rattle.ui_machine.specs.State.Tasks.{Frame, Running, Task}
+use Rattle.ui_machine.specs.State.Tasks.{Frame, Running}
 use Rattle.ui_machine.specs.Steps.{uncounted}
 use Rattle.g_values.specs.View.{value_view}
 use Rattle.handler_code.specs.Known.{IsKnownRegister}

@@ -1,11 +1,10 @@
-use Rattle.std.proofs.Common.{List, ◌∷◌, Ok, option_map, refl, sym, ap, ◌∙◌}
+use Rattle.std.proofs.Common.{◌∷◌, option_map, refl, sym, ap, ◌∙◌}
 use Rattle.std.proofs.lemmas.Result.{err_from_is_err_and}
-use Rattle.ui_machine.specs.State.Config.{World}
 use Rattle.ui_machine.specs.State.Tasks.{Emitting, Task}
 use Rattle.g_values.specs.View.{value_view}
 use Rattle.signal_core.specs.Emission.{Walk, accumulator_of}
 use Rattle.signal_core.specs.SignalView.{declared_view}
-use Rattle.ui_engine.specs.TaskView.{agenda_of, emission_of, entries_to_come, tasks_of}
+use Rattle.ui_engine.specs.TaskView.{agenda_of, emission_of, entries_to_come}
 use Rattle.ui_engine.specs.View.{world_of}
 use Rattle.ui_engine.proofs.Collecting.{collect_suited, collect_unheard, collect_unknown, collect_unsuited, collected_as, collected_counts, still_begun, collects_object, leaves_as}
 use Rattle.ui_engine.proofs.Registers.{table_world}

@@ -4,7 +4,7 @@ use Rattle.ui_machine.specs.Rules.Build.{to_connect}
 use Rattle.signal_core.specs.Connected.{connection_of, has_room}
 use Rattle.ui_engine.specs.TaskView.{agenda_of}
 use Rattle.ui_engine.specs.View.{world_of}
-use Rattle.ui_engine.proofs.HandlerAdded.{finds_none, finds_room, has_it, no_number, same_room}
+use Rattle.ui_engine.proofs.HandlerAdded.{finds_none, finds_room, has_it, same_room}
 use Rattle.ui_engine.proofs.engine.Engine.connect.Goals as goal
 
 pub returns-in-Ok-clause-outcome : goal.returns-in-Ok-clause-outcome

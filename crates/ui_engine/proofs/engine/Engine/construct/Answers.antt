@@ -1,4 +1,4 @@
-use Rattle.std.proofs.Common.{◌≡◌, ◌∷◌, List, ap, string_bytes, ◌∙◌}
+use Rattle.std.proofs.Common.{ap, string_bytes, ◌∙◌}
 use Rattle.ui_machine.specs.State.Config.{World}
 use Rattle.signal_core.specs.Connected.{Connected}
 use Rattle.ui_engine.specs.TaskView.{tasks_of}

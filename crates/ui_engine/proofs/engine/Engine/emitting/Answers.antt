@@ -1,9 +1,7 @@
-use Rattle.std.proofs.Common.{None, ◌≤◌, refl, subst, sym, ap, ◌∙◌}
-use Rattle.ui_machine.specs.Outcome.{Answer, Goes}
-use Rattle.ui_machine.specs.State.Config.{Config}
+use Rattle.std.proofs.Common.{None, ◌≤◌, refl, subst, sym, ◌∙◌}
 use Rattle.signal_core.specs.Emission.{Walk}
 use Rattle.ui_engine.specs.View.{world_of}
-use Rattle.ui_engine.specs.TaskView.{agenda_of, emission_of}
+use Rattle.ui_engine.specs.TaskView.{agenda_of}
 use Rattle.ui_engine.specs.EngineView.{config_of}
 use Rattle.ui_engine.proofs.Emitted.{onward}
 use Rattle.ui_engine.proofs.TurnTaking.{takes_so, turn_runs}

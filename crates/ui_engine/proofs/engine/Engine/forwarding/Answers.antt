@@ -49,7 +49,7 @@ returns-clause-step c =
     ∙ held_then (held_object w f.to.0) (λ (x : Value). starts w (Setting object f.slot x ∷ Building items ∷ [])) v to in
     let left = c.in_ok-push-2.ensures.agenda d
     ∙ ap (λ (rest : List Task). Setting object f.slot v ∷ rest) (c.in_ok-push.ensures.agenda d
-    ∙ ap (λ its. Building its ∷ agenda) (only_forwards d a.place c.take.new.self c.requires.past)) in
+    ∙ ap (λ its. Building its ∷ agenda) (only_forwards d c.types-types.ensures.basic a.place c.take.new.self c.requires.past)) in
     ap (uncounted agenda n) is
     ∙ rw (c.push-2.ensures.world, c.push.ensures.world, c.push-2.ensures.same, c.push.ensures.same, left) refl
 

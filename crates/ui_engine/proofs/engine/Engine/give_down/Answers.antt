@@ -1,14 +1,11 @@
-use Rattle.std.proofs.Common.{◌≡◌, List, [], ◌∷◌, Option, option_map, Result, refl, sym, subst, ap, ◌∙◌, arith}
-use Rattle.ui_machine.specs.declared.arm.Halt.{Halt}
-use Rattle.ui_machine.specs.Outcome.{Answer, Goes}
+use Rattle.std.proofs.Common.{◌≡◌, List, [], ◌∷◌, option_map, refl, sym, subst, ap, ◌∙◌, arith}
+use Rattle.ui_machine.specs.Outcome.{Goes}
 use Rattle.ui_machine.specs.Rules.Accumulation.{given_down}
 use Rattle.ui_machine.specs.Seq.{total}
-use Rattle.ui_machine.specs.State.Config.{Left, World}
 use Rattle.ui_machine.specs.State.References.{in_task}
-use Rattle.ui_machine.specs.State.Tasks.{Emitting, Task}
+use Rattle.ui_machine.specs.State.Tasks.{Task}
 use Rattle.g_values.specs.View.{value_view}
 use Rattle.ui_engine.specs.BegunView.{HasBegun}
-use Rattle.ui_engine.specs.CollectView.{gives_none}
 use Rattle.ui_engine.specs.TaskView.{agenda_of, emission_of, entries_to_come, task_of, tasks_of}
 use Rattle.ui_engine.specs.View.{world_of}
 use Rattle.ui_engine.specs.declared.task.Task as code

@@ -21,7 +21,7 @@ loop-task-preserved c more =
     ap (λ k. nat_lt k greatest_handler) (let e : c.taken_by-taken.result + rest + more ≡ c.taken_by-taken.result + (rest + more) = omega arith in e)
     ∙ c.taken_by-taken.ensures hs (rest + more)
     ∙ ap (λ k. nat_lt k greatest_handler) (let e : c.loop-task.taken + n + (rest + more) ≡ c.loop-task.taken + (n + rest) + more = omega arith in e)
-    ∙ ap (λ k. nat_lt (c.loop-task.taken + k + more) greatest_handler) (sym (tasks_left f ts i x within is))
+    ∙ ap (λ k. nat_lt (c.loop-task.taken + k + more) greatest_handler) (sym (tasks_left is_connecting f ts i x within is))
     ∙ c.loop-task.invariant more
 
 pub returns : goal.returns
@@ -35,4 +35,4 @@ returns c =
     let end : c.loop-task.taken ≡ c.loop-task.taken + to_connect (map f (drop i ts)) + 0 = omega (arith, ap (λ l. to_connect (map f l)) none) in
     let all : last + to_connect (map f ts) + 0 ≡ last + to_connect (map f ts) = omega arith in
     ap (λ k. nat_lt k greatest_handler) end ∙ c.loop-task.invariant 0 ∙ ap (λ k. nat_lt k greatest_handler) all
-    ∙ ap (λ k. nat_lt (last + k) greatest_handler) (sym (reversed_count (map f ts)))
+    ∙ ap (λ k. nat_lt (last + k) greatest_handler) (sym (reversed_count is_connecting (map f ts)))

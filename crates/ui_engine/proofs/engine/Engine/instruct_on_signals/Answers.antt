@@ -1,7 +1,6 @@
-use Rattle.std.proofs.Common.{◌≡◌, false, string_bytes, refl, Err}
+use Rattle.std.proofs.Common.{◌≡◌, false, refl, Err}
 use Rattle.ui_machine.specs.declared.arm.Arm.TheVariants as arms
 use Rattle.ui_machine.specs.Instructions.{instructed}
-use Rattle.ui_machine.specs.Instructions.Objects.{creating}
 use Rattle.ui_machine.specs.Steps.{left}
 use Rattle.handler_code.specs.FrameView.{frame_view}
 use Rattle.handler_code.specs.Later.{is_later}
@@ -11,8 +10,6 @@ use Rattle.handler_code.specs.declared.instruction.Instruction.TheVariants as in
 use Rattle.ui_engine.specs.Groups.{ActsOnSignals}
 use Rattle.ui_engine.specs.TaskView.{agenda_of}
 use Rattle.ui_engine.specs.View.{world_of}
-use Rattle.ui_engine.proofs.Jumping.{stuck_left}
-use Rattle.ui_engine.proofs.NoPrototypes.{creates_none}
 use Rattle.ui_engine.proofs.engine.Engine.instruct_on_signals.Goals as goal
 
 pub returns-in_default-clause-step : goal.returns-in_default-clause-step
@@ -25,12 +22,7 @@ returns-in_default-clause-step c = by c.args.instruction.now refl c.requires.act
     by (instructions.Connect to object connection) is acts later = absurd (c.in_default.not-Connect to object connection is)
     by (instructions.Block object program) is acts later = absurd (c.in_default.not-Block object program is)
     by (instructions.Unblock object program) is acts later = absurd (c.in_default.not-Unblock object program is)
-    by (instructions.New to id) is acts later =
-        let d = c.args.definition.now in
-        let e = c.args.self.now in
-        let w = world_of e.world in
-        let f = frame_view c.args.frame in
-        stuck_left d e (creating d w (agenda_of d e) f to.0 (string_bytes id)) _ (creates_none d c.types-types.ensures.basic w (agenda_of d e) f to.0 (string_bytes id))
+    by (instructions.New to id) is acts later = absurd acts
     by (instructions.Unbind name) is acts later = cc later
     by (instructions.Idle to program priority with) is acts later = cc later
     by (instructions.Timeout to program priority interval with) is acts later = cc later

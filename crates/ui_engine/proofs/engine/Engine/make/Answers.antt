@@ -1,14 +1,13 @@
-use Rattle.std.proofs.Common.{◌≡◌, suc, false, Bool, None, Some, List, [], ◌∷◌, slice_get, length, map, string_bytes, rules, refl, sym, ap, ℕ, arith, ◌∙◌}
+use Rattle.std.proofs.Common.{◌≡◌, suc, false, None, Some, List, [], ◌∷◌, slice_get, length, map, string_bytes, rules, refl, sym, ap, arith, ◌∙◌}
 use Rattle.ui_machine.specs.Definition.Lookups.{type_of, specs_of}
 use Rattle.ui_machine.specs.Output.Lines as lines
 use Rattle.ui_machine.specs.Output.Text.{text_of_line}
 use Rattle.ui_machine.specs.Definition.Values.{Value}
-use Rattle.ui_machine.specs.State.Config.{World, starts}
+use Rattle.ui_machine.specs.State.Config.{starts}
 use Rattle.ui_machine.specs.State.References.{in_values}
-use Rattle.ui_machine.specs.State.Tasks.{Constructing, Making}
+use Rattle.ui_machine.specs.State.Tasks.{Constructing}
 use Rattle.ui_machine.specs.Rules.Construction.{with_object, new_object}
 use Rattle.builder_defs.specs.Meaning.{attached_view, bare_place, place_number, given_property}
-use Rattle.g_values.specs.View.{value_view}
 use Rattle.instances.specs.Store.{made_object}
 use Rattle.instances.proofs.Created.{made_holds}
 use Rattle.ui_engine.specs.View.{with_line, world_of}

@@ -1,11 +1,9 @@
-use Rattle.std.proofs.Common.{◌≡◌, Ok, Option, option_map, refl, sym, ap, ◌∙◌, arith}
+use Rattle.std.proofs.Common.{Ok, option_map, refl, sym, ap, ◌∙◌, arith}
 use Rattle.std.proofs.lemmas.Result.{err_from_is_err_and}
 use Rattle.ui_machine.specs.Instructions.Jumps.{returning}
-use Rattle.ui_machine.specs.State.Config.{Config, World}
-use Rattle.ui_machine.specs.Steps.{left}
+use Rattle.ui_machine.specs.State.Config.{World}
 use Rattle.ui_machine.specs.Seq.{total}
 use Rattle.ui_machine.specs.State.References.{in_register}
-use Rattle.g_values.specs.View.{value_view}
 use Rattle.handler_code.specs.Computing.{registers_of}
 use Rattle.handler_code.specs.FrameView.{frame_view}
 use Rattle.handler_code.specs.View.{number_of}

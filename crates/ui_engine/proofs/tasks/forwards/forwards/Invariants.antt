@@ -1,11 +1,12 @@
-use Rattle.std.proofs.Common.{◌≡◌, ◌≤◌, drop, length}
+use Rattle.std.proofs.Common.{◌≡◌, ◌≤◌, drop}
 use Rattle.ui_machine.specs.Rules.Build.{forward_items}
+use Rattle.builder_defs.specs.Meaning.{object_count}
 use Rattle.ui_engine.specs.TaskView.{items_of}
 use Rattle.ui_engine.proofs.tasks.forwards.forwards.Given as goal
 
 abbrev pub invariant-places : goal.invariant-places
 invariant-places l = record {
-  within : l.place ≤ length l.definition.places;
+  within : l.place ≤ object_count l.definition;
   items : items_of l.forwards.items ≡ forward_items l.place (drop l.place l.definition.places);
 }
 

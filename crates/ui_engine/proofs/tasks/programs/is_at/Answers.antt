@@ -1,5 +1,4 @@
-use Rattle.std.proofs.Common.{ap, rules}
-use Rattle.ui_machine.specs.Rules.Programs.{is_number}
+use Rattle.std.proofs.Common.{rules}
 use Rattle.ui_engine.proofs.ProgramStarts.{place_absent, place_shown}
 use Rattle.ui_engine.proofs.tasks.programs.is_at.Goals as goal
 

@@ -1,4 +1,4 @@
-use Rattle.std.proofs.Common.{◌≡◌, ◌≤◌, suc, ◌+◌, length, ap, sym, ◌∙◌, arith}
+use Rattle.std.proofs.Common.{◌≡◌, ◌≤◌, suc, ◌+◌, length, ap, ◌∙◌, arith}
 use Rattle.ui_machine.specs.Definition.Lookups.{place_at}
 use Rattle.ui_engine.specs.TaskView.{connects_from, signals_of}
 use Rattle.ui_engine.proofs.Signals.{next_place, next_there, none_left}
@@ -19,4 +19,4 @@ returns-then-first-signal_count-clause-next c =
 pub returns-clause-next : goal.returns-clause-next
 returns-clause-next c =
     c.loop-at.invariant
-    ∙ none_left c.args.definition.now c.loop-at.at c.loop-at.first (omega (arith, c.place_count-at-end.ensures.count, c.loop-at-test.false))
+    ∙ none_left c.args.definition.now c.types-types.ensures.basic c.loop-at.at c.loop-at.first (omega (arith, c.object_count-at-end.ensures.count, c.loop-at-test.false))

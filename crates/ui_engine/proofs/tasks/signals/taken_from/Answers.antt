@@ -1,4 +1,4 @@
-use Rattle.std.proofs.Common.{◌≡◌, ℕ, suc, ◌+◌, ◌-◌, nat_lt, length, ap, sym, subst, ◌∙◌, arith}
+use Rattle.std.proofs.Common.{◌≡◌, suc, ◌+◌, ◌-◌, nat_lt, length, ap, sym, ◌∙◌, arith}
 use Rattle.ui_machine.specs.Definition.Lookups.{place_at}
 use Rattle.ui_machine.specs.Rules.Build.{is_connecting}
 use Rattle.ui_machine.specs.Rules.Connections.{greatest_handler}
@@ -27,6 +27,6 @@ pub returns : goal.returns
 returns c more =
     let d = c.args.definition.now in
     let none : total is_connecting (connects_from d c.loop-at.at c.loop-at.first) ≡ 0 =
-    ap (total is_connecting) (none_left d c.loop-at.at c.loop-at.first (omega (arith, c.place_count-at-end.ensures.count, c.loop-at-test.false))) in
+    ap (total is_connecting) (none_left d c.types-types.ensures.basic c.loop-at.at c.loop-at.first (omega (arith, c.object_count-at-end.ensures.count, c.loop-at-test.false))) in
     ap (λ n. nat_lt n greatest_handler) (let e : c.loop-at.taken + more ≡ c.loop-at.taken + total is_connecting (connects_from d c.loop-at.at c.loop-at.first) + more = omega (arith, none) in e)
     ∙ c.loop-at.invariant more
