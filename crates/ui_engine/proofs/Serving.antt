@@ -9,7 +9,7 @@ use Rattle.ui_machine.specs.State.Tasks as config
 use Rattle.ui_machine.specs.State.Tasks.{Carrying, Request}
 use Rattle.builder_defs.specs.declared.event.Event as code
 use Rattle.builder_defs.specs.Meaning.{request_of, event_of}
-use Rattle.ui_engine.specs.declared.dispatches.Reply.{Reply}
+use Rattle.ui_engine.specs.declared.dispatch.Reply.{Reply}
 use Rattle.ui_engine.specs.declared.session.SessionFault.{SessionFault}
 use Rattle.ui_engine.specs.declared.session.SessionFault.TheVariants as faults
 use Rattle.ui_engine.specs.SessionView.{SessionState, tally_of, serving, carrying_out, Comes, AnswersBy, AnswersEvent}

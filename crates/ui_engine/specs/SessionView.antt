@@ -8,7 +8,7 @@ use Rattle.ui_machine.specs.State.Config.{World, Config}
 use Rattle.ui_machine.specs.Rules.Events.{Refusal, gone, clock_back, refusal}
 use Rattle.ui_machine.specs.Runs.{Tally, Carries, Halts, Serves, HaltsIn, of_build}
 use Rattle.g_values.specs.View.{value_view}
-use Rattle.ui_engine.specs.declared.dispatches.Reply.{Reply}
+use Rattle.ui_engine.specs.declared.dispatch.Reply.{Reply}
 use Rattle.ui_engine.specs.declared.session.SessionFault.{SessionFault}
 use Rattle.ui_engine.specs.declared.session.SessionFault.TheVariants as faults
 

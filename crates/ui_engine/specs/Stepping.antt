@@ -7,7 +7,7 @@ use Rattle.ui_machine.specs.State.References.{mentions, next_unheld}
 use Rattle.ui_machine.specs.Steps.{most_steps}
 use Rattle.ui_machine.specs.Runs.{HasEnded, Dispatches, Halts}
 use Rattle.g_values.specs.View.{value_view}
-use Rattle.ui_engine.specs.declared.dispatches.Reply.{Reply}
+use Rattle.ui_engine.specs.declared.dispatch.Reply.{Reply}
 use Rattle.ui_engine.specs.declared.engine.Engine.{Engine}
 use Rattle.ui_engine.specs.TaskView.{agenda_of}
 use Rattle.ui_engine.specs.Counting.{Counts, nothing}

@@ -7,8 +7,7 @@
 mod arguments;
 mod builder;
 mod connecting;
-mod counting;
-mod dispatches;
+mod dispatch;
 mod engine;
 mod frames;
 mod given;
@@ -16,12 +15,11 @@ mod holding;
 mod instructions;
 mod lines;
 mod refusals;
-mod runs;
 mod session;
 mod task;
 mod tasks;
 mod weak_slots;
 mod world;
 
-pub use dispatches::Reply;
+pub use dispatch::Reply;
 pub use session::{Finished, Refused, Session, SessionFault, StartFault, Started};

@@ -8,7 +8,7 @@ ghost use Rattle.ui_engine.specs.BegunView.{HasBegun};
 ghost use Rattle.ui_engine.specs.TaskView.{task_of};
 ghost use Rattle.ui_engine.specs.SessionView.{AnswersEvent, Comes, building, carrying_out, without_lines};
 
-use crate::dispatches::Reply;
+use crate::dispatch::Reply;
 use crate::engine::Engine;
 use crate::task::Task;
 use crate::tasks::forwards::forwards;

@@ -11,10 +11,10 @@ ghost use Rattle.ui_engine.specs.EngineView.{config_of, IsMade};
 ghost use Rattle.ui_engine.specs.Standing.{GoesPruned, come_first};
 
 mod builds;
-mod carrying;
 mod children;
 pub(crate) mod collections;
 pub(crate) mod emission;
+mod events;
 mod finalisation;
 pub(crate) mod forwards;
 mod makings;

@@ -19,7 +19,7 @@ use ui_machine::ObjectId;
 pub struct World {
     pub table: Table,
     pub weak: WeakSlots,
-    /// What is connected to the objects' signals. Nothing connects handlers so far.
+    /// What is connected to the objects' signals.
     pub handlers: Handlers,
     /// What the builder has of each place, as far as it has built.
     pub builder: Vec<Held>,

@@ -6,7 +6,7 @@ use Rattle.builder_defs.specs.EventMeaning.{event_refusal, event_denoted, Fails}
 use Rattle.builder_defs.specs.declared.event_fault.EventError.{EventError}
 use Rattle.builder_defs.specs.declared.event_fault.EventError.TheVariants as errors
 use Rattle.ui_machine.specs.Prefix.{IsPrefix}
-use Rattle.ui_engine.specs.declared.dispatches.Reply.{Reply}
+use Rattle.ui_engine.specs.declared.dispatch.Reply.{Reply}
 use Rattle.ui_engine.specs.declared.session.SessionFault.{SessionFault}
 use Rattle.ui_engine.specs.declared.session.SessionFault.TheVariants as ends
 use Rattle.ui_engine.specs.SessionView.{SessionState, tally_of, AnswersBy, AnswersEvent}

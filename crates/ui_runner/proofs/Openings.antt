@@ -7,7 +7,7 @@ use Rattle.ui_machine.specs.declared.arm.Halt.TheVariants as halts
 use Rattle.ui_machine.specs.Definition.{Definition}
 use Rattle.ui_machine.specs.Runs.{of_build, Carries, Halts}
 use Rattle.builder_defs.specs.Denoted.{denoted}
-use Rattle.ui_engine.specs.declared.dispatches.Reply.{Reply}
+use Rattle.ui_engine.specs.declared.dispatch.Reply.{Reply}
 use Rattle.ui_engine.specs.declared.session.SessionFault.{SessionFault}
 use Rattle.ui_engine.specs.declared.session.SessionFault.TheVariants as faults
 use Rattle.ui_engine.specs.SessionView.{SessionState, without_lines, building, tally_of, Comes, Breaks}

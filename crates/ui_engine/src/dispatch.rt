@@ -13,6 +13,9 @@ ghost use Rattle.ui_machine.specs.Prefix.{IsPrefix};
 ghost use Rattle.ui_engine.specs.Counting.{KeepsCounts};
 ghost use Rattle.ui_engine.specs.Stepping.{Carried, IsAtRest};
 
+mod counting;
+mod runs;
+
 use crate::engine::Engine;
 use crate::lines::Line;
 use crate::task::{Stack, Task};
