@@ -16,7 +16,7 @@ use Rattle.instances.specs.Store.{Store, count_of}
 use Rattle.instances.specs.View.{AreHeldBelow, InRange, Lookup, first_unheld, object_in, store_of}
 use Rattle.instances.specs.declared.instance.Instance.{Instance}
 use Rattle.instances.proofs.Scan.{above, look, look_other, look_self}
-use Rattle.instances.proofs.Shown.{count_is, found_in}
+use Rattle.instances.proofs.Shown.{count_is, found_in, not_absent}
 
 -- what lives below the first one found is held, and all are where none is
 held_until : (m : ℕ → ℕ) (i : ℕ) (os : Objects) (r : Option ℕ) → unheld_from m i os ≡ r → (k : ℕ) → IsSome (read None os k)
@@ -112,3 +112,22 @@ next_ready m os id e =
     let found = found_lives m 1 os id e in
     let is : suc found.0 ≡ id = omega (arith, found.1) in
     (subst (λ k. IsSome (living os k)) is found.2, found.3)
+
+-- where all that were made are held, none is found
+pub none_unheld : (at : Lookup) (made limit : ℕ) (floats : List ObjectId) (old : Store) → InRange at made
+    → store_of at made limit floats ≡ old → (below : ℕ) → AreHeldBelow at below → made < below
+    → next_unheld (count_of old.counts) old.objects ≡ None
+none_unheld at made limit floats old range is below held all = by (next_unheld (count_of old.counts) old.objects) refl
+  where
+    no_such : (id : ℕ) → IsSome (living old.objects id) → count_of old.counts id ≡ 0 → (o : Option Instance) → at id ≡ o → ⊥
+    no_such id some none None e = not_absent at made limit floats old range is id e some
+    no_such id some none (Some x) e =
+        let most : (0 < id) × (id ≤ made) = range id (ap is_some e) in
+        let count : count_of old.counts id ≡ x.mentions = count_is at made limit floats old range is id x e in
+        omega (arith, held id x e (omega (arith, most.1, all)), count, none)
+
+    by : (r : Option ℕ) → next_unheld (count_of old.counts) old.objects ≡ r → r ≡ None
+    by None e = refl
+    by (Some id) e =
+        let ready : IsSome (living old.objects id) × (count_of old.counts id ≡ 0) = next_ready (count_of old.counts) old.objects id e in
+        absurd (no_such id ready.0 ready.1 (at id) refl)

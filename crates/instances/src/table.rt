@@ -263,7 +263,7 @@ impl Table {
     }
 
     /// The lowest identity of an object that nothing holds. It looks through the objects from the lowest on that was made, or is held no
-    /// more, since it last looked; those below it are held. What does not live is not held.
+    /// more, since it last looked; those below it are held. Where there was none it looks at nothing. What does not live is not held.
     pub fn next_unheld(&mut self) -> Option<ObjectId>
         ensures found { option_map (λ (i : ObjectId). i.0) result ≡ next_unheld (count_of self.old.counts) self.old.objects }
         ensures dead { (o : ℕ) → living self.old.objects o ≡ None → count_of self.old.counts o ≡ 0 }
@@ -272,7 +272,7 @@ impl Table {
         ensures same { self.new ≡ self.old }
     {
         let found = self.first_unheld();
-        self.held_below = found.unwrap_or(self.made);
+        self.held_below = found.unwrap_or(self.made.saturating_add(1));
         Some(ObjectId(found?))
     }
 
@@ -280,6 +280,10 @@ impl Table {
     fn first_unheld(&self) -> Option<u64>
         ensures { result ≡ next_unheld (count_of self.now.counts) self.now.objects }
     {
+        // All that were made are held.
+        if self.held_below > self.made {
+            return None;
+        }
         for (id, instance) in self.instances.range(self.held_below..) {
             if instance.mentions == 0 {
                 return Some(*id);

@@ -24,6 +24,7 @@ use std::alloc::AllocError;
 use ui_machine::{Arm, Halt};
 
 /// Writes a register, or unsets it. What it names then is held, and what it named is let go.
+#[inline(always)]
 pub(crate) fn put(
     table: &mut Table,
     frame: &mut Frame,
@@ -44,6 +45,7 @@ pub(crate) fn put(
 
 impl Engine {
     /// Puts the rest of a program before the other tasks. It goes on to hold what its registers name.
+    #[inline(always)]
     pub(crate) fn push_frame(&mut self, frame: Frame) -> Result<(), AllocError>
         ensures agenda { OnOk result ((d : machine.Definition) → agenda_of d self.new ≡ Running (frame_view frame) ∷ agenda_of d self.old) }
         ensures beside { self.new ≡ record self.old { stack = self.new.stack } }

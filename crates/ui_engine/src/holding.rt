@@ -26,6 +26,7 @@ use std::alloc::AllocError;
 use ui_machine::ObjectId;
 
 /// Holds an object, if there is one, once more. It refuses one that does not live, or that is held as often as may be.
+#[inline(always)]
 pub(crate) fn hold_any(table: &mut Table, id: Option<ObjectId>) -> Result<(), AllocError>
     ensures only { OnlyCounts table.old table.new }
     ensures counts { OnOk result ((o : ℕ) → count_of table.new.counts o ≡ count_of table.old.counts o + in_option o (id_of id)) }
@@ -41,6 +42,7 @@ pub(crate) fn hold_any(table: &mut Table, id: Option<ObjectId>) -> Result<(), Al
 }
 
 /// Lets an object go, if there is one.
+#[inline(always)]
 pub(crate) fn let_go_any(table: &mut Table, id: Option<ObjectId>)
     requires held { (o : ℕ) → in_option o (id_of id) ≤ count_of table.now.counts o }
     ensures only { OnlyCounts table.old table.new }

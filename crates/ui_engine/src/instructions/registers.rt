@@ -24,6 +24,7 @@ use ui_machine::Halt;
 
 impl Engine {
     /// A register is written, or unset, and the program goes on.
+    #[inline(always)]
     pub(crate) fn writing(
         &mut self,
         definition: &Definition,
