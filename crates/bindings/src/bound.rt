@@ -7,7 +7,7 @@ use crate::binding::{Binding, Transfer};
 use crate::flags::BindingFlags;
 use bitflags::Flags;
 use std::marker::Model;
-use ui_machine::ObjectId;
+use ui_machine::{ObjectId, Slot};
 
 /// A binding that was made.
 #[derive(Debug, Drop)]
@@ -65,14 +65,14 @@ impl Bound {
         self.setting = setting;
     }
 
-    fn is_source(&self, object: ObjectId, slot: u16) -> bool
+    fn is_source(&self, object: ObjectId, slot: Slot) -> bool
         ensures { result ≡ is_source object.0 slot self.now }
     {
         self.binding.source == object && self.binding.source_slot == slot
     }
 
     /// Whether a notification of the property is the binding's.
-    pub(crate) fn listens(&self, object: ObjectId, slot: u16) -> bool
+    pub(crate) fn listens(&self, object: ObjectId, slot: Slot) -> bool
         ensures { result ≡ listens object.0 slot self.now }
     {
         let is_target = self.binding.target == object && self.binding.target_slot == slot;
@@ -96,7 +96,7 @@ impl Bound {
     }
 
     /// What it does when the property, one of its ends, was notified.
-    pub(crate) fn transfer(&self, object: ObjectId, slot: u16) -> Transfer
+    pub(crate) fn transfer(&self, object: ObjectId, slot: Slot) -> Transfer
         ensures { result ≡ transfer_of object.0 slot self.now }
     {
         let binding = &self.binding;

@@ -9,7 +9,7 @@ use crate::bound::Bound;
 use crate::fault::BindError;
 use std::alloc::Global;
 use std::marker::Model;
-use ui_machine::ObjectId;
+use ui_machine::{ObjectId, Slot};
 
 /// Bindings in document order, by numbers from 0 that are never used again.
 #[derive(Debug, Drop)]
@@ -99,7 +99,7 @@ impl Bindings {
 
     /// What is to be done next about a notification: the transfer of the first binding numbered `from` or above that listens
     /// at the property and is not setting. A bidirectional one listens at both ends.
-    pub fn on_notify(&self, object: ObjectId, slot: u16, from: u64) -> Option<Transfer>
+    pub fn on_notify(&self, object: ObjectId, slot: Slot, from: u64) -> Option<Transfer>
         ensures next { result
             ≡ option_map (transfer_of object.0 slot) (find (is_next object.0 slot from) self.now.bindings) }
 

@@ -17,7 +17,7 @@ use crate::object_entry::Attached;
 use crate::programs::{Programs, number_of};
 use crate::reads::{Reads, read_each};
 use serde_json::Value;
-use ui_machine::Place;
+use ui_machine::{Place, ProgramId};
 
 const MEMBERS: [&str; 6] = ["name", "handler", "detail", "after", "swapped", "object"];
 
@@ -36,7 +36,7 @@ fn name_of<'a>(part: Part<'_>, key: &str, text: Option<&'a str>) -> Result<&'a s
 
 // The program that a member names.
 #[tactic(auto, unfolding(crate::specs::Denoted::Attached::program_under))]
-fn program_under(part: Part<'_>, key: &str, programs: &Programs) -> Result<u16, ReadError>
+fn program_under(part: Part<'_>, key: &str, programs: &Programs) -> Result<ProgramId, ReadError>
     requires named { AllByRecursion HasOwnName programs.now.entries }
     requires few { length programs.now.entries ≤ 256 }
     ensures { Gives (λ n. n) result (program_under (path_of part.entry.path) (map plain_program programs.now.entries) key.now (view part.entry.value.now)) }

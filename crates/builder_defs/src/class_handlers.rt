@@ -16,6 +16,7 @@ use crate::reads::{Reads, read_each};
 use serde_json::Value;
 use signal_core::SignalTable;
 use type_tree::TypeId;
+use ui_machine::ProgramId;
 
 // A signal and a program, of just two values.
 fn two_in(items: &[Value]) -> Option<(&Value, &Value)>
@@ -66,7 +67,7 @@ fn program_part(
     part: Part<'_>,
     programs: &ProgramNames<'_>,
     value: &Value,
-) -> Result<u16, ReadError>
+) -> Result<ProgramId, ReadError>
     ensures { Gives (λ n. n) result (program_at (nth (path_of part.entry.path) 1) programs.now (view value.now)) }
 {
     let name = name_part(part, 1, value)?;
@@ -83,7 +84,7 @@ fn class_handler_in<'a>(
     programs: &ProgramNames<'_>,
     signals: &SignalTable,
     t: TypeId,
-) -> Result<(&'a str, u16), ReadError>
+) -> Result<(&'a str, ProgramId), ReadError>
     ensures { Gives (λ h. handler_for h.0.now h.1) result (class_handler_in (path_of part.entry.path) programs.now (named_of signals.now.handlers t) (view part.entry.value.now)) }
 {
     let (signal, program) = parts_of(part)?;
@@ -94,7 +95,12 @@ fn class_handler_in<'a>(
 }
 
 // Adds a class handler to those of a class.
-fn add(signals: &mut SignalTable, t: TypeId, signal: &str, program: u16) -> Result<(), ReadError>
+fn add(
+    signals: &mut SignalTable,
+    t: TypeId,
+    signal: &str,
+    program: ProgramId,
+) -> Result<(), ReadError>
     ensures handlers { Leads result (Ok (add_handler (named_of signals.old.handlers) t (handler_for signal.now program))) (named_of signals.new.handlers) }
     ensures signals { signals.new.signals ≡ signals.old.signals }
 {

@@ -22,6 +22,7 @@ use param_specs::SpecTable;
 use serde_json::Value;
 use signal_core::SignalTable;
 use type_tree::{MOST_DEPTH, TypeFlags, TypeId, TypeTree};
+use ui_machine::ProgramId;
 
 const MEMBERS: [&str; 10] = [
     "name",
@@ -165,7 +166,7 @@ fn give_answers(
     part: Part<'_>,
     programs: &ProgramNames<'_>,
     signals: &mut SignalTable,
-    constructed: &mut Vec<Option<u16>>,
+    constructed: &mut Vec<Option<ProgramId>>,
     class: TypeId,
 ) -> Result<(), ReadError>
     ensures answers { Leads result (answers_at (path_of part.entry.path) programs.now class (answers_of signals.old.handlers constructed.old.items) (view part.entry.value.now)) (answers_of signals.new.handlers constructed.new.items) }
@@ -188,7 +189,7 @@ fn read_class(
     types: &mut TypeTree,
     specs: &mut SpecTable,
     signals: &mut SignalTable,
-    constructed: &mut Vec<Option<u16>>,
+    constructed: &mut Vec<Option<ProgramId>>,
 ) -> Result<(), ReadError>
     ensures { Leads result (class_at (path_of part.entry.path) first (items_view list.now) names.now programs.now (class_draft_of types.old specs.old signals.old constructed.old.items) (view part.entry.value.now)) (class_draft_of types.new specs.new signals.new constructed.new.items) }
 {

@@ -17,6 +17,7 @@ use crate::fault::ReadError;
 use serde_json::Value;
 use std::alloc::AllocError;
 use type_tree::TypeId;
+use ui_machine::ProgramId;
 
 const MEMBER: &str = "constructed";
 
@@ -32,7 +33,11 @@ fn name_of<'a>(part: Part<'_>, value: &'a Value) -> Result<&'a str, ReadError>
 
 // The program that is named.
 #[tactic(auto, unfolding(crate::specs::Denoted::ClassHandlers::program_at))]
-fn program_in(part: Part<'_>, programs: &ProgramNames<'_>, value: &Value) -> Result<u16, ReadError>
+fn program_in(
+    part: Part<'_>,
+    programs: &ProgramNames<'_>,
+    value: &Value,
+) -> Result<ProgramId, ReadError>
     ensures { Gives (λ n. n) result (program_at (under (path_of part.entry.path) (codes "constructed")) programs.now (view value.now)) }
 {
     let name = name_of(part, value)?;
@@ -44,7 +49,7 @@ fn program_in(part: Part<'_>, programs: &ProgramNames<'_>, value: &Value) -> Res
 
 // The program that the entry of a class names, if it names one.
 #[tactic(auto, unfolding(crate::specs::Denoted::Constructed::some_program))]
-fn program_of(part: Part<'_>, programs: &ProgramNames<'_>) -> Result<Option<u16>, ReadError>
+fn program_of(part: Part<'_>, programs: &ProgramNames<'_>) -> Result<Option<ProgramId>, ReadError>
     ensures { Gives (λ p. p) result (program_or (under (path_of part.entry.path) (codes "constructed")) programs.now (get (codes "constructed") (view part.entry.value.now))) }
 {
     let Some(value) = part.value.get(MEMBER) else {
@@ -55,7 +60,7 @@ fn program_of(part: Part<'_>, programs: &ProgramNames<'_>) -> Result<Option<u16>
 }
 
 // Goes on with types that name no program until there are so many.
-fn grow(constructed: &mut Vec<Option<u16>>, len: usize) -> Result<(), AllocError>
+fn grow(constructed: &mut Vec<Option<ProgramId>>, len: usize) -> Result<(), AllocError>
     requires { len ≤ 65536 }
     ensures same { (u : ℕ) → read None constructed.new.items u ≡ read None constructed.old.items u }
     ensures ok { OnOk result (len ≤ vec_len constructed.new) }
@@ -68,9 +73,9 @@ fn grow(constructed: &mut Vec<Option<u16>>, len: usize) -> Result<(), AllocError
 
 // Gives a type a program.
 fn set_program(
-    constructed: &mut Vec<Option<u16>>,
+    constructed: &mut Vec<Option<ProgramId>>,
     t: TypeId,
-    program: u16,
+    program: ProgramId,
 ) -> Result<(), AllocError>
     ensures { (u : ℕ) → OnOk result (read None constructed.new.items u ≡ set_program (read None constructed.old.items) t program u) }
 {
@@ -82,9 +87,9 @@ fn set_program(
 
 // The same, if there is one.
 fn add_program(
-    constructed: &mut Vec<Option<u16>>,
+    constructed: &mut Vec<Option<ProgramId>>,
     t: TypeId,
-    program: Option<u16>,
+    program: Option<ProgramId>,
 ) -> Result<(), ReadError>
     ensures { Leads result (Ok (add_program (read None constructed.old.items) t program)) (read None constructed.new.items) }
 {
@@ -99,7 +104,7 @@ fn add_program(
 pub(crate) fn give_constructed(
     part: Part<'_>,
     programs: &ProgramNames<'_>,
-    constructed: &mut Vec<Option<u16>>,
+    constructed: &mut Vec<Option<ProgramId>>,
     t: TypeId,
 ) -> Result<(), ReadError>
     ensures { Leads result (constructed_at (path_of part.entry.path) programs.now t (read None constructed.old.items) (view part.entry.value.now)) (read None constructed.new.items) }

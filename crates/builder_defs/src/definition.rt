@@ -23,7 +23,7 @@ use param_specs::{Spec, SpecTable};
 use signal_core::{DeclaredSignal, Emission, SignalTable};
 use std::marker::Model;
 use type_tree::{TypeId, TypeTree};
-use ui_machine::{Limits, ObjectId, Place};
+use ui_machine::{Limits, ObjectId, Place, ProgramId, SignalId, Slot};
 
 /// The most places of a definition.
 pub const MOST_PLACES: usize = 512;
@@ -36,7 +36,7 @@ pub struct Definition {
     pub(crate) specs: SpecTable,
     pub(crate) signals: SignalTable,
     // The programs that classes name for their objects once they are constructed, by class.
-    pub(crate) constructed: Vec<Option<u16>>,
+    pub(crate) constructed: Vec<Option<ProgramId>>,
     pub(crate) programs: IndexMap<String, Program>,
     pub(crate) prototypes: IndexMap<String, PrototypeBody>,
     pub(crate) objects: IndexMap<String, ObjectBody>,
@@ -127,7 +127,7 @@ impl Definition {
     }
 
     /// The spec of a property of a class by its slot, if there is one.
-    pub fn spec(&self, class: TypeId, slot: u16) -> Option<&Spec>
+    pub fn spec(&self, class: TypeId, slot: Slot) -> Option<&Spec>
         ensures { option_map (λ s. spec_view s.now) result ≡ spec_of self.now class slot }
     {
         if usize::from(slot) >= self.slots(class) {
@@ -149,7 +149,7 @@ impl Definition {
     }
 
     /// The slot of the property of a class that a name names, in either spelling.
-    pub fn slot(&self, class: TypeId, name: &str) -> Option<u16>
+    pub fn slot(&self, class: TypeId, name: &str) -> Option<Slot>
         ensures { result ≡ slot_of self.now class name.now }
     {
         if class.index() >= self.types.len() {
@@ -159,7 +159,7 @@ impl Definition {
     }
 
     /// The number of the signal of a class that a name names, in either spelling.
-    pub fn signal_number(&self, class: TypeId, name: &str) -> Option<u16>
+    pub fn signal_number(&self, class: TypeId, name: &str) -> Option<SignalId>
         ensures { result ≡ signal_number self.now class name.now }
     {
         if class.index() >= self.types.len() {
@@ -169,7 +169,7 @@ impl Definition {
     }
 
     /// The signal of a class by its number, if it has so many. Number 0 is `notify`.
-    pub fn signal(&self, class: TypeId, number: u16) -> Option<DeclaredSignal<'_>>
+    pub fn signal(&self, class: TypeId, number: SignalId) -> Option<DeclaredSignal<'_>>
         ensures { option_map declared_view result ≡ signal_of self.now class number }
     {
         if class.index() >= self.types.len() {
@@ -184,7 +184,7 @@ impl Definition {
         &self,
         class: TypeId,
         object: ObjectId,
-        number: u16,
+        number: SignalId,
         detail: Option<String>,
     ) -> Option<Emission>
         ensures { (greatest : ℕ) → option_map (λ e. begun e greatest) result
@@ -200,7 +200,7 @@ impl Definition {
     }
 
     /// The program that a class itself names for its objects once they are constructed.
-    pub fn constructed(&self, class: TypeId) -> Option<u16>
+    pub fn constructed(&self, class: TypeId) -> Option<ProgramId>
         ensures { result ≡ (class_of self.now class).constructed }
     {
         if class.index() >= self.types.len() {
@@ -210,7 +210,7 @@ impl Definition {
     }
 
     /// The program of a number, if there is one. The kinds in its code are known, and it has at most 32 registers.
-    pub fn program(&self, number: u16) -> Option<&Program>
+    pub fn program(&self, number: ProgramId) -> Option<&Program>
         ensures program { option_map (λ p. program_view p.now) result ≡ program_at self.now number }
         ensures known { IfSome result (λ p. HasKnownBlocks self.now.types p.now) }
         ensures few { IfSome result (λ p. p.now.registers ≤ 32) }
@@ -220,7 +220,7 @@ impl Definition {
     }
 
     /// The number of the program of a name.
-    pub fn program_number(&self, name: &str) -> Option<u16>
+    pub fn program_number(&self, name: &str) -> Option<ProgramId>
         ensures { result ≡ program_of self.now name.now }
     {
         number_of(&self.programs, name)
@@ -303,7 +303,7 @@ fn prototype_entry(
 }
 
 // The number that stands at a place, if one stands there.
-fn number_at(numbers: &[Option<u16>], place: usize) -> Option<u16>
+fn number_at(numbers: &[Option<ProgramId>], place: usize) -> Option<ProgramId>
     ensures { result ≡ read None numbers.now place }
 {
     if place < numbers.len() {

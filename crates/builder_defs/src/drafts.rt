@@ -17,6 +17,7 @@ use crate::signals::read_signals;
 use param_specs::SpecTable;
 use signal_core::SignalTable;
 use type_tree::{TypeId, TypeTree};
+use ui_machine::ProgramId;
 
 // Types with their properties and signals, while they are read.
 #[derive(Drop)]
@@ -32,7 +33,7 @@ pub(crate) struct ClassDraft {
     pub(crate) types: TypeTree,
     pub(crate) specs: SpecTable,
     pub(crate) signals: SignalTable,
-    pub(crate) constructed: Vec<Option<u16>>,
+    pub(crate) constructed: Vec<Option<ProgramId>>,
 }
 
 // Gives a type the properties of its entry.

@@ -23,7 +23,7 @@ use serde_json::Value;
 use signal_core::{DeclaredSignal, SignalFlags};
 use std::alloc::{AllocError, Global};
 use type_tree::TypeId;
-use ui_machine::Place;
+use ui_machine::{Place, SignalId};
 
 // The words of an emission: an id, a signal's name, the arguments, and a detail, if there is one.
 #[derive(Clone, Copy)]
@@ -88,7 +88,7 @@ fn words_of_emit(items: &[Value]) -> Option<Emitted<'_>>
 }
 
 // The number of the signal of a class that a name names, unless it is `notify`.
-fn emitted_number(definition: &Definition, class: TypeId, name: &str) -> Option<u16>
+fn emitted_number(definition: &Definition, class: TypeId, name: &str) -> Option<SignalId>
     ensures { result ≡ but_notify (signal_number definition.now class name.now) }
 {
     match definition.signal_number(class, name) {
@@ -204,7 +204,7 @@ fn copied(alloc: Global, detail: Option<&str>) -> Result<Option<String>, AllocEr
 #[derive(Clone, Copy)]
 struct Target<'a> {
     place: Place,
-    number: u16,
+    number: SignalId,
     signal: DeclaredSignal<'a>,
 }
 

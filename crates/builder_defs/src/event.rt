@@ -1,7 +1,7 @@
 //! What an event line asks for.
 
 use crate::object_entry::Given;
-use ui_machine::Place;
+use ui_machine::{Place, SignalId, Slot};
 
 /// What a line of the event file asks for.
 #[derive(Debug, Drop)]
@@ -9,13 +9,13 @@ pub enum Event {
     /// A property of an object is set.
     Set {
         place: Place,
-        slot: u16,
+        slot: Slot,
         given: Given,
     },
     /// A property of an object is read.
     Get {
         place: Place,
-        slot: u16,
+        slot: Slot,
     },
     /// The builder lets go of an object.
     Release {
@@ -25,7 +25,7 @@ pub enum Event {
     Emit {
         place: Place,
         /// Its number in the list of the object's class, where 0 is `notify`.
-        signal: u16,
+        signal: SignalId,
         /// As many as the signal has parameters, in their order.
         args: Vec<Given>,
         /// As it is written. Only a signal that takes details has one.

@@ -23,7 +23,7 @@ use param_specs::{PropertyFlags, Spec};
 use serde_json::Value;
 use std::alloc::Global;
 use type_tree::{TypeId, TypeTree};
-use ui_machine::Place;
+use ui_machine::{Place, Slot};
 
 /// The most bytes of a line.
 pub const MAX_LINE_BYTES: usize = 65_536;
@@ -180,7 +180,7 @@ fn release_in(alloc: Global, definition: &Definition, word: &Value) -> Result<Ev
 #[derive(Clone, Copy)]
 struct Target<'a> {
     place: Place,
-    slot: u16,
+    slot: Slot,
     spec: &'a Spec,
 }
 

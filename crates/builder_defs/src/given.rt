@@ -24,14 +24,14 @@ use crate::reads::{Reads, read_each};
 use g_values::{JsonFault, Kind};
 use param_specs::{Spec, SpecTable};
 use type_tree::{TypeId, TypeTree};
-use ui_machine::Place;
+use ui_machine::{Place, Slot};
 
 const MEMBERS: [&str; 3] = ["name", "value", "bind"];
 
 // A property of a class, by its slot.
 #[derive(Clone, Copy)]
 pub(crate) struct Property<'a> {
-    pub(crate) slot: u16,
+    pub(crate) slot: Slot,
     pub(crate) spec: &'a Spec,
 }
 
@@ -58,21 +58,21 @@ pub(crate) fn property_named<'a>(
 }
 
 // Whether one of these values is for a slot.
-fn has_value(given: &[GivenValue], slot: u16) -> bool
+fn has_value(given: &[GivenValue], slot: Slot) -> bool
     ensures { result ≡ list_any (λ g. nat_eq g.slot slot) given.now }
 {
     given.iter().any(|other| other.slot == slot)
 }
 
 // Whether a property is among the given ones.
-fn is_given(given: &[GivenValue], slot: u16) -> bool
+fn is_given(given: &[GivenValue], slot: Slot) -> bool
     ensures { result ≡ is_given (map given_property given.now) slot }
 {
     has_value(given, slot)
 }
 
 // Tests that a property is named once.
-pub(crate) fn check_once(part: Part<'_>, given: &[GivenValue], slot: u16) -> Result<(), ReadError>
+pub(crate) fn check_once(part: Part<'_>, given: &[GivenValue], slot: Slot) -> Result<(), ReadError>
     ensures { Gives (λ _. tt) result (named_once (under (path_of part.entry.path) (codes "name")) (map given_property given.now) slot) }
 {
     if is_given(given, slot) {

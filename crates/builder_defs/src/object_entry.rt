@@ -2,7 +2,7 @@
 
 use g_values::Value;
 use type_tree::TypeId;
-use ui_machine::Place;
+use ui_machine::{Place, ProgramId, Slot};
 
 /// What a definition or an event gives: a value itself, or an object of the definition.
 #[derive(Debug, Drop)]
@@ -16,7 +16,7 @@ pub enum Given {
 #[derive(Debug, Drop)]
 pub struct GivenValue {
     /// The property, by its slot in the object's class.
-    pub slot: u16,
+    pub slot: Slot,
     pub given: Given,
 }
 
@@ -28,7 +28,7 @@ pub struct Attached {
     /// The detail for which it runs. Without one it runs for all.
     pub detail: Option<String>,
     /// The program, by its number.
-    pub program: u16,
+    pub program: ProgramId,
     /// Whether it runs behind the class handler.
     pub after: bool,
     /// Whether the data comes first among what the program is given, and the object last.

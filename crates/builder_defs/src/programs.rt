@@ -29,6 +29,7 @@ use handler_code::{
 };
 use indexmap::IndexMap;
 use std::alloc::AllocError;
+use ui_machine::ProgramId;
 
 /// The most programs of a definition.
 pub(crate) const MOST_PROGRAMS: usize = 256;
@@ -157,13 +158,13 @@ fn check_room(programs: &Programs) -> Result<(), ReadError>
 }
 
 // The number of the program of a name.
-pub(crate) fn number_of(programs: &Programs, name: &str) -> Option<u16>
+pub(crate) fn number_of(programs: &Programs, name: &str) -> Option<ProgramId>
     requires named { AllByRecursion HasOwnName programs.now.entries }
     requires few { length programs.now.entries ≤ 256 }
     ensures { result ≡ place_named (λ p. p.name) (map plain_program programs.now.entries) name.now }
 {
     let number = programs.get_index_of(name)?;
-    Some(number as u16)
+    Some(number as ProgramId)
 }
 
 // Whether there is a program of this name.

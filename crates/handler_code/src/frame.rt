@@ -20,13 +20,13 @@ use crate::program::{Block, Program};
 use g_values::Value;
 use std::alloc::{AllocError, Global};
 use std::mem;
-use ui_machine::Arm;
+use ui_machine::{Arm, ProgramId};
 
 /// A program that runs.
 #[derive(Debug, Drop)]
 pub struct Frame {
     /// The program, by its number.
-    pub program: u16,
+    pub program: ProgramId,
     pub block: BlockNumber,
     /// The number of the instruction of the block that comes next.
     pub at: usize,
@@ -69,7 +69,7 @@ impl Frame {
     /// A program at its first instruction. Its parameters are given these values.
     pub fn new(
         alloc: Global,
-        number: u16,
+        number: ProgramId,
         program: &Program,
         args: Vec<Value>,
     ) -> Result<Frame, AllocError>

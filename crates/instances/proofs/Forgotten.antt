@@ -1,5 +1,5 @@
 -- Objects that forget one.
-use Rattle.std.proofs.Common.{◌≡◌, ℕ, zero, suc, ◌<◌, List, [], ◌∷◌, map, Bool, true, false, cond, Option, Some, None, is_some, refl, sym, ap, subst, ◌∙◌, arith}
+use Rattle.std.proofs.Common.{◌≡◌, ℕ, zero, suc, ◌<◌, List, [], ◌∷◌, map, Bool, true, false, cond, Option, Some, None, is_some, refl, sym, ap, subst, ◌∙◌}
 use Rattle.std.specs.Option.{option_map}
 use Rattle.std.specs.List.{list_any}
 use Rattle.ui_machine.specs.Seq.{listed, read, total}
@@ -14,9 +14,10 @@ use Rattle.ui_machine.proofs.Listed.{listed-same}
 use Rattle.ui_machine.specs.declared.ids.ObjectId.{ObjectId}
 use Rattle.instances.specs.Store.{Store, ids_of, with_objects}
 use Rattle.instances.specs.Family.{parent_in, KeepsKin}
-use Rattle.instances.specs.View.{Lookup, object_in, count_in, objects_of, counts_of, store_of, AreHeldBelow, InRange, KinInRange}
+use Rattle.instances.specs.View.{Lookup, object_in, count_in, objects_of, counts_of, held_in, store_of, InRange, IsLowestUnheld, KinInRange}
 use Rattle.instances.specs.Weak.{Marks, Knows, has_weak, masked, forgotten_value, forgetting}
 use Rattle.instances.specs.declared.instance.Instance.{Instance}
+use Rattle.instances.proofs.Lowest.{lowest_same}
 
 -- each object changed, and each count as it was
 pub all_changed : (at new : Lookup) (made limit : ℕ) (floats : List ObjectId) (old : Store) (change : Option Object → Option Object)
@@ -48,11 +49,10 @@ was_there : (g : Instance → Instance) (o : Option Instance) → is_some (optio
 was_there g None = refl
 was_there g (Some x) = refl
 
-was_more : (g : Instance → Instance) (same : (x : Instance) → (g x).mentions ≡ x.mentions) (o : Option Instance) (y : Instance)
-    → ((x : Instance) → o ≡ Some x → 0 < x.mentions) → option_map g o ≡ Some y → 0 < y.mentions
-was_more g same None y all e = absurd (cc)
-was_more g same (Some x) y all e = let is : y ≡ g x = cc in let n : y.mentions ≡ x.mentions = ap (λ (z : Instance). z.mentions) is
-    ∙ same x in omega (arith, n, all x refl)
+held_so : (g : Instance → Instance) → ((x : Instance) → (g x).mentions ≡ x.mentions) → (o : Option Instance)
+    → option_map (λ (x : Instance). x.mentions) (option_map g o) ≡ option_map (λ (x : Instance). x.mentions) o
+held_so g same None = refl
+held_so g same (Some x) = ap Some (same x)
 
 children_kept : (g : Instance → Instance) → ((x : Instance) → KeepsKin x.object (g x).object) → (o : Option Instance)
     → children_of (object_in (option_map g o)) ≡ children_of (object_in o)
@@ -65,13 +65,14 @@ parent_kept g keeps None = refl
 parent_kept g keeps (Some x) = (keeps x).parent
 
 -- a change of each instance that keeps its count and its kin
-pub still_known : (at new : Lookup) (made below : ℕ) (g : Instance → Instance)
+pub still_known : (at new : Lookup) (made : ℕ) (low : Option ℕ) (g : Instance → Instance)
     → ((x : Instance) → (g x).mentions ≡ x.mentions) → ((x : Instance) → KeepsKin x.object (g x).object)
-    → ((q : ℕ) → new q ≡ option_map g (at q)) → InRange at made × AreHeldBelow at below × KinInRange at made
-    → InRange new made × AreHeldBelow new below × KinInRange new made
-still_known at new made below g same keeps is well = (
+    → ((q : ℕ) → new q ≡ option_map g (at q)) → InRange at made × IsLowestUnheld (held_in at) low × KinInRange at made
+    → InRange new made × IsLowestUnheld (held_in new) low × KinInRange new made
+still_known at new made low g same keeps is well = (
   λ id some. well.0 id (sym (ap is_some (is id) ∙ was_there g (at id)) ∙ some),
-  λ id y here small. was_more g same (at id) y (λ x e. well.1 id x e small) (sym (is id) ∙ here),
+  lowest_same (held_in at) (held_in new) low
+      (λ q. ap (option_map (λ (x : Instance). x.mentions)) (is q) ∙ held_so g same (at q)) well.1,
   (
     λ id child some.
         well.2.0 id child

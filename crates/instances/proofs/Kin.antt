@@ -1,8 +1,9 @@
--- What a change of one instance keeps of all: that each was given, that each is held once it is so known, and that children and
+-- What a change of one instance keeps of all: that each was given, which is the lowest that nothing holds, and that children and
 -- parents were given.
-use Rattle.std.proofs.Common.{◌≡◌, ℕ, ◌<◌, ◌≤◌, List, [], ◌∷◌, ◌++◌, length, cond, nat_eq, refl, Bool, true, false, Option, Some, is_some, IsSome, inl, inr, sym, ap, subst, ◌∙◌, arith}
+use Rattle.std.proofs.Common.{◌≡◌, ◌≢◌, ℕ, ◌<◌, ◌≤◌, List, [], ◌∷◌, ◌++◌, length, cond, nat_eq, refl, Bool, true, false, Option, None, Some, is_some, IsSome, inl, inr, sym, ap, subst, ◌∙◌, arith}
 use Rattle.std.proofs.lemmas.Bool.{cases_eq}
 use Rattle.std.proofs.lemmas.Bool.Decides.{nat_tests}
+use Rattle.std.specs.Option.{option_map}
 use Rattle.std.specs.Ordering.{nat_cmp}
 use Rattle.std.specs.BTreeMap.{BTreeMap, get, WritesThrough}
 use Rattle.ui_machine.specs.Seq.{total}
@@ -14,15 +15,16 @@ use Rattle.ui_machine.specs.Rules.Disposal.{children_of}
 use Rattle.instances.specs.Family.{parent_in, KeepsKin}
 use Rattle.ui_machine.specs.declared.ids.ObjectId.{ObjectId}
 use Rattle.instances.specs.Store.{Store}
-use Rattle.instances.specs.View.{Lookup, object_in, store_of, AreHeldBelow, InRange, KinInRange, Replaces}
+use Rattle.instances.specs.View.{Lookup, held_in, lower_of, object_in, store_of, InRange, IsHeldOrGone, IsLowestUnheld, KinInRange, Replaces}
 use Rattle.instances.specs.declared.instance.Instance.{Instance}
 use Rattle.instances.proofs.Exact.{one_more, split}
+use Rattle.instances.proofs.Lowest.{lowest_kept, lowest_let_go, lowest_same}
 use Rattle.instances.proofs.Maps.{written}
 use Rattle.instances.proofs.Shown.{found_in, given_out}
 
 -- what holds of all instances
-abbrev pub Well : Lookup → ℕ → ℕ → Type 0
-Well at made below = InRange at made × AreHeldBelow at below × KinInRange at made
+abbrev pub Well : Lookup → ℕ → Option ℕ → Type 0
+Well at made low = InRange at made × IsLowestUnheld (held_in at) low × KinInRange at made
 
 -- the children and the parent of one object were given
 abbrev pub KinGiven : ℕ → Option Object → Type 0
@@ -37,14 +39,42 @@ module _ (at new : Lookup) (made id : ℕ) (was y : Instance) (here : at id ≡ 
         | inr ne ↦ range q (subst IsSome (replaces.others q ne) some)
       ]
 
-  still_held : (s t : ℕ) → AreHeldBelow at s → t ≤ s → (id < t → 0 < y.mentions) → AreHeldBelow new t
-  still_held s t held lower more q x found small =
-      elim (cases_eq q id) [
-        | inl is ↦
-            let e : Some y ≡ Some x = sym replaces.changed ∙ ap new (sym is) ∙ found in
-            let one : y ≡ x = cc in
-            subst (λ (z : Instance). 0 < z.mentions) one (more (omega (arith, is, small)))
-        | inr ne ↦ held q x (sym (replaces.others q ne) ∙ found) (omega (arith, small, lower))
+  held_others : (q : ℕ) → q ≢ id → held_in new q ≡ held_in at q
+  held_others q ne = ap (option_map (λ (x : Instance). x.mentions)) (replaces.others q ne)
+
+  held_here : held_in new id ≡ Some y.mentions
+  held_here = ap (option_map (λ (x : Instance). x.mentions)) replaces.changed
+
+  held_was : held_in at id ≡ Some was.mentions
+  held_was = ap (option_map (λ (x : Instance). x.mentions)) here
+
+  more_held : 0 < y.mentions → held_in new id ≡ Some 0 → ⊥
+  more_held more e = let same : Some y.mentions ≡ Some 0 = sym held_here ∙ e in let zero : y.mentions ≡ 0 = cc in omega (arith, more, zero)
+
+  still_lowest : (low : Option ℕ) → IsLowestUnheld (held_in at) low → y.mentions ≡ was.mentions → IsLowestUnheld (held_in new) low
+  still_lowest low noted same =
+      lowest_same (held_in at) (held_in new) low
+      (λ q. elim (cases_eq q id) [
+        | inl is ↦ ap (held_in new) is ∙ held_here ∙ ap Some same ∙ sym held_was ∙ ap (held_in at) (sym is)
+        | inr ne ↦ held_others q ne
+      ]) noted
+
+  -- one that is held less often
+  less_lowest : (low t : Option ℕ) → IsLowestUnheld (held_in at) low → y.mentions ≤ was.mentions → (0 < y.mentions → t ≡ low)
+      → (y.mentions ≡ 0 → t ≡ Some (lower_of low id)) → IsLowestUnheld (held_in new) t
+  less_lowest low t noted less held unheld =
+      elim (cases_eq y.mentions 0) [
+        | inl zero ↦
+            subst (IsLowestUnheld (held_in new)) (sym (unheld zero))
+            (lowest_let_go (held_in at) (held_in new) low id held_others noted (held_here ∙ ap Some zero))
+        | inr ne ↦
+            let more : 0 < y.mentions = omega (arith, ne) in
+            subst (IsLowestUnheld (held_in new)) (sym (held more))
+            (lowest_kept (held_in at) (held_in new) low id held_others noted (more_held more)
+            (λ e.
+            let none : Some was.mentions ≡ Some 0 = sym held_was ∙ noted.unheld id e in
+            let zero : was.mentions ≡ 0 = cc in
+            omega (arith, more, less, zero)))
       ]
 
   still_kin : KinInRange at made → KinGiven made (Some y.object) → KinInRange new made
@@ -82,35 +112,91 @@ kin_kept at made id was o kin here keeps = (
 same_kin : (o p : Object) → p ≡ o → KeepsKin o p
 same_kin o p e = record { children = ap (λ (x : Object). x.children) e; parent = ap (λ (x : Object). x.parent) e }
 
-module _ (m n : BTreeMap ℕ Instance) (made s id : ℕ) (was y : Instance) (here : get nat_cmp m id ≡ Some was)
-    (h : WritesThrough nat_cmp (nat_cmp id) m y n) (well : Well (get nat_cmp m) made s) where
-  replaced_well : (t : ℕ) → KinGiven made (Some y.object) → t ≤ s → (id < t → 0 < y.mentions) → Well (get nat_cmp n) made t
-  replaced_well t given lower more =
+module _ (m n : BTreeMap ℕ Instance) (made : ℕ) (low : Option ℕ) (id : ℕ) (was y : Instance) (here : get nat_cmp m id ≡ Some was)
+    (h : WritesThrough nat_cmp (nat_cmp id) m y n) (well : Well (get nat_cmp m) made low) where
+  replaced_well : (t : Option ℕ) → KinGiven made (Some y.object) → IsLowestUnheld (held_in (get nat_cmp n)) t → Well (get nat_cmp n) made t
+  replaced_well t given noted =
       let replaces = written m n id was y here h in (
         still_range (get nat_cmp m) (get nat_cmp n) made id was y here replaces well.0,
-        still_held (get nat_cmp m) (get nat_cmp n) made id was y here replaces s t well.1 lower more,
+        noted,
         still_kin (get nat_cmp m) (get nat_cmp n) made id was y here replaces well.2 given,
       )
 
   -- an object with other kin, as often held
-  pub kin_well : KinGiven made (Some y.object) → y.mentions ≡ was.mentions → Well (get nat_cmp n) made s
+  pub kin_well : KinGiven made (Some y.object) → y.mentions ≡ was.mentions → Well (get nat_cmp n) made low
   kin_well given same =
-      replaced_well s given (omega arith) (λ small. let more : 0 < was.mentions = well.1 id was here small in omega (arith, more, same))
+      replaced_well low given
+      (still_lowest (get nat_cmp m) (get nat_cmp n) made id was y here (written m n id was y here h) low well.1 same)
 
   -- another object with the same kin, as often held
-  pub same_well : KeepsKin was.object y.object → y.mentions ≡ was.mentions → Well (get nat_cmp n) made s
+  pub same_well : KeepsKin was.object y.object → y.mentions ≡ was.mentions → Well (get nat_cmp n) made low
   same_well keeps = kin_well (kin_kept (get nat_cmp m) made id was y.object well.2 here keeps)
 
-  -- the same object, held more often
-  pub held_well : y.object ≡ was.object → 0 < y.mentions → Well (get nat_cmp n) made s
-  held_well same more =
-      replaced_well s (kin_kept (get nat_cmp m) made id was y.object well.2 here (same_kin was.object y.object same)) (omega arith)
-      (λ small. more)
+  same_object : y.object ≡ was.object → KinGiven made (Some y.object)
+  same_object same = kin_kept (get nat_cmp m) made id was y.object well.2 here (same_kin was.object y.object same)
 
-  -- the same object, which is held where it is below
-  pub still_well : (after : ℕ) → y.object ≡ was.object → after ≤ s → (id < after → 0 < y.mentions) → Well (get nat_cmp n) made after
-  still_well after same lower held =
-      replaced_well after (kin_kept (get nat_cmp m) made id was y.object well.2 here (same_kin was.object y.object same)) lower held
+  -- the same object, held more often
+  pub held_well : (t : Option ℕ) → y.object ≡ was.object → 0 < y.mentions
+      → ((held : ℕ → Option ℕ) → IsLowestUnheld held low → IsHeldOrGone held (held_in (get nat_cmp n)) id
+      → IsLowestUnheld (held_in (get nat_cmp n)) t)
+      → Well (get nat_cmp n) made t
+  held_well t same more found =
+      let replaces = written m n id was y here h in
+      replaced_well t (same_object same)
+      (found (held_in (get nat_cmp m)) well.1 (record {
+        gone = more_held (get nat_cmp m) (get nat_cmp n) made id was y here replaces more;
+        others = held_others (get nat_cmp m) (get nat_cmp n) made id was y here replaces;
+      }))
+
+  -- the same object, held less often
+  pub less_well : (t : Option ℕ) → y.object ≡ was.object → y.mentions ≤ was.mentions → (0 < y.mentions → t ≡ low)
+      → (y.mentions ≡ 0 → t ≡ Some (lower_of low id)) → Well (get nat_cmp n) made t
+  less_well t same less held unheld =
+      replaced_well t (same_object same)
+      (less_lowest (get nat_cmp m) (get nat_cmp n) made id was y here (written m n id was y here h) low t well.1 less held unheld)
+
+-- one that is taken out
+module _ (at new : Lookup) (made : ℕ) (low : Option ℕ) (id : ℕ) (replaces : Replaces at new id None) (well : Well at made low) where
+  none_there : (q : ℕ) → q ≡ id → object_in (new q) ≡ None
+  none_there q is = ap object_in (ap new is ∙ replaces.changed)
+
+  gone_range : InRange new made
+  gone_range q some =
+      elim (cases_eq q id) [
+        | inl is ↦ let no : is_some (new q) ≡ false = ap is_some (ap new is ∙ replaces.changed) in absurd (cc)
+        | inr ne ↦ well.0 q (subst IsSome (replaces.others q ne) some)
+      ]
+
+  gone_kin : KinInRange new made
+  gone_kin = (
+    λ q child some.
+        elim (cases_eq q id) [
+          | inl is ↦
+              let no : total (same child) (children_of (object_in (new q))) ≡ 0 =
+              ap (λ (o : Option Object). total (same child) (children_of o)) (none_there q is) in
+              absurd (omega (arith, some, no))
+          | inr ne ↦ well.2.0 q child (subst (λ (o : Option Instance). 0 < total (same child) (children_of (object_in o))) (replaces.others q ne) some)
+        ],
+    λ q parent e.
+        elim (cases_eq q id) [
+          | inl is ↦ let no : parent_in (object_in (new q)) ≡ None = ap parent_in (none_there q is) in absurd (cc)
+          | inr ne ↦ well.2.1 q parent (ap (λ (o : Option Instance). parent_in (object_in o)) (sym (replaces.others q ne)) ∙ e)
+        ],
+  )
+
+  pub gone_well : (t : Option ℕ)
+      → ((held : ℕ → Option ℕ) → IsLowestUnheld held low → IsHeldOrGone held (held_in new) id → IsLowestUnheld (held_in new) t)
+      → Well new made t
+  gone_well t found = (
+    gone_range,
+    found (held_in at) well.1 (record {
+      gone = λ e.
+          let no : held_in new id ≡ None = ap (option_map (λ (x : Instance). x.mentions)) replaces.changed in
+          absurd (cc);
+      others = λ q ne. ap (option_map (λ (x : Instance). x.mentions)) (replaces.others q ne);
+    }),
+    gone_kin,
+  )
 
 -- ** other kin
 

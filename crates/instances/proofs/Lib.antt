@@ -9,11 +9,13 @@ pub mod Exact
 pub mod WriteExact
 pub mod Shown
 pub mod Scan
+pub mod Lowest
 pub mod Counts
 pub mod Maps
-pub mod Unheld
+pub mod Found
 pub mod Kin
 pub mod Values
 pub mod Created
 pub mod Released
 pub mod Disposed
+pub mod Few

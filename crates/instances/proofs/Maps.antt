@@ -7,15 +7,14 @@ use Rattle.ui_machine.specs.declared.arm.Arm.{Arm}
 use Rattle.ui_machine.specs.declared.arm.Halt.{Halt}
 use Rattle.ui_machine.specs.Outcome.{After, Answer, Gives, Follows}
 use Rattle.ui_machine.specs.State.Objects.{Object, changed, live, most_identities}
-use Rattle.ui_machine.specs.State.References.{next_unheld}
 use Rattle.ui_machine.specs.declared.ids.ObjectId.{ObjectId}
-use Rattle.instances.specs.Store.{Store, count_of, with_objects, with_count, with_object, has_room}
+use Rattle.instances.specs.Store.{Store, with_objects, with_count, with_object, has_room}
 use Rattle.ui_machine.specs.Rules.Children.{updated}
-use Rattle.instances.specs.View.{object_in, objects_of, store_of, InRange, Replaces, first_unheld}
+use Rattle.instances.specs.View.{object_in, objects_of, store_of, InRange, Replaces}
 use Rattle.instances.specs.declared.instance.Instance.{Instance}
 use Rattle.instances.proofs.Scan.{sorted_scanned}
-use Rattle.instances.proofs.Counts.{live_entries, unheld_entries}
-use Rattle.instances.proofs.Shown.{some_object, counted_in, at_limit, at_end, by_identities, created_next, changes, updates, follows, beside, kept, recounted}
+use Rattle.instances.proofs.Counts.{live_entries}
+use Rattle.instances.proofs.Shown.{some_object, at_limit, at_end, by_identities, created_next, changes, updates, follows, beside, kept, recounted}
 
 not_at : (a q : ℕ) → q ≢ a → is_at (nat_cmp a) q ≡ false
 not_at a q ne = grind (arith, nat_tests)
@@ -68,20 +67,12 @@ module _ (m n : BTreeMap ℕ Instance) (made limit : ℕ) (floats : List ObjectI
 
 module _ (m : BTreeMap ℕ Instance) (made limit : ℕ) (floats : List ObjectId) (old : Store) (range : InRange (get nat_cmp m) made)
     (is : store_of (get nat_cmp m) made limit floats ≡ old) (ordered : IsOrdered nat_cmp m) where
-  live_len : live old.objects ≡ btree_map_len m
+  pub live_len : live old.objects ≡ btree_map_len m
   live_len =
       ap (λ (s : Store). live s.objects) (sym is)
       ∙ live_entries (λ j. object_in (get nat_cmp m (suc j))) (λ j. get nat_cmp m (suc j)) made 1
       (λ j. some_object (get nat_cmp m (suc j)))
       ∙ ap length (sorted_scanned m.entries made ordered range)
-
-  pub lowest : next_unheld (count_of old.counts) old.objects ≡ first_unheld m.entries
-  lowest =
-      ap (λ (s : Store). next_unheld (count_of old.counts) s.objects) (sym is)
-      ∙ unheld_entries (count_of old.counts) (λ j. get nat_cmp m (suc j)) made 1
-      (λ j. let next : 1 + j ≡ suc j = omega arith in
-      ap (count_of old.counts) next ∙ counted_in (get nat_cmp m) made limit floats old range is (suc j))
-      ∙ ap first_unheld (sorted_scanned m.entries made ordered range)
 
   pub full : (n : ℕ) → limit ≤ btree_map_len m + n → has_room n old ≡ false
   full n h = at_limit (get nat_cmp m) made limit floats old is n (omega (arith, live_len))

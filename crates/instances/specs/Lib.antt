@@ -4,3 +4,4 @@ pub mod Weak
 pub mod Release
 pub mod Laws
 pub mod View
+pub mod Bounds

@@ -1,5 +1,6 @@
 -- Instances under their identities, seen as a store.
-use Rattle.std.specs.Prelude.{◌≡◌, ◌≢◌, ℕ, suc, ◌<◌, ◌≤◌, cond, nat_eq, List, [], ◌∷◌, Option, Some, None, IsSome}
+use Rattle.std.specs.Prelude.{◌≡◌, ◌≢◌, ℕ, suc, ◌<◌, ◌≤◌, cond, min, nat_eq, List, [], ◌∷◌, Option, Some, None, IsSome}
+use Rattle.std.specs.Option.{option_map}
 use Rattle.ui_machine.specs.State.Objects.{Object, Objects}
 use Rattle.ui_machine.specs.State.References.{same}
 use Rattle.ui_machine.specs.Rules.Disposal.{children_of}
@@ -40,9 +41,28 @@ store_of at made limit floats = record {
 abbrev pub InRange : Lookup → ℕ → Type 0
 InRange at made = (id : ℕ) → IsSome (at id) → (0 < id) × (id ≤ made)
 
--- each instance of a lower identity is held
-abbrev pub AreHeldBelow : Lookup → ℕ → Type 0
-AreHeldBelow at below = (id : ℕ) (x : Instance) → at id ≡ Some x → id < below → 0 < x.mentions
+-- how often each identity that lives is held
+abbrev pub held_in : Lookup → ℕ → Option ℕ
+held_in at q = option_map (λ (x : Instance). x.mentions) (at q)
+
+-- each one of a lower identity is held
+abbrev pub AreHeldBelow : (ℕ → Option ℕ) → ℕ → Type 0
+AreHeldBelow held from = (id : ℕ) → id < from → held id ≡ Some 0 → ⊥
+
+-- it is the lowest one that lives and that nothing holds, or there is none
+pub record IsLowestUnheld (held : ℕ → Option ℕ) (lowest : Option ℕ) : Type 0 where
+  pub unheld : (i : ℕ) → lowest ≡ Some i → held i ≡ Some 0
+  pub least : (id : ℕ) → held id ≡ Some 0 → (i : ℕ) × (lowest ≡ Some i) × (i ≤ id)
+
+-- one is held now or does not live any more, and each other is held as often as before
+pub record IsHeldOrGone (old new : ℕ → Option ℕ) (id : ℕ) : Type 0 where
+  pub gone : new id ≡ Some 0 → ⊥
+  pub others : (q : ℕ) → q ≢ id → new q ≡ old q
+
+-- the lower one of an identity, if there is one, and another
+abbrev pub lower_of : Option ℕ → ℕ → ℕ
+lower_of None id = id
+lower_of (Some i) id = min i id
 
 -- each child and each parent was given
 abbrev pub KinInRange : Lookup → ℕ → Type 0

@@ -6,6 +6,7 @@
 //! list of counts, how many objects may live, and what floats. The laws say that counts which are exact stay so.
 #![tactic(auto)]
 
+mod bounds;
 mod error;
 mod family;
 mod ids;
@@ -16,6 +17,7 @@ mod object;
 mod object_values;
 mod release;
 mod table;
+mod unheld;
 mod weak;
 
 pub use error::{AdoptError, CreateError};

@@ -14,7 +14,7 @@ use crate::object_values::named;
 use crate::table::Table;
 use crate::weak::WeakSlots;
 use g_values::Value;
-use ui_machine::{Arm, ObjectId};
+use ui_machine::{Arm, ObjectId, Slot};
 
 impl Table {
     /// Writes a property, and answers what it was. Where the property is strong, the old value's object is let go, and the new
@@ -23,7 +23,7 @@ impl Table {
         &mut self,
         weak: &WeakSlots,
         id: ObjectId,
-        slot: u16,
+        slot: Slot,
         value: Value,
     ) -> Result<Value, Arm>
         ensures changes { Gives value_view result (changed self.old.objects id.0 (with_value slot (value_view value))) self.new.objects }
@@ -46,7 +46,7 @@ impl Table {
     }
 
     // Whether a slot of an object is strong.
-    fn is_strong(&self, weak: &WeakSlots, id: ObjectId, slot: u16) -> bool
+    fn is_strong(&self, weak: &WeakSlots, id: ObjectId, slot: Slot) -> bool
         ensures { result ≡ strong_in weak.now slot (living self.now.objects id.0) }
     {
         let Some(instance) = self.instances.get(&id.0) else {

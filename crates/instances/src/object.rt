@@ -9,6 +9,7 @@ ghost use Rattle.ui_machine.specs.Outcome.{Gives, Follows};
 ghost use Rattle.ui_machine.specs.declared.ids.ObjectId.{ObjectId};
 ghost use Rattle.g_values.specs.View.{value_view};
 ghost use Rattle.instances.specs.Weak.{forgetting};
+ghost use Rattle.instances.specs.Bounds.{HoldsFew};
 ghost use Rattle.instances.specs.Family.{KeepsKin};
 ghost use Rattle.instances.specs.Release.{emptied, name_in};
 ghost use Rattle.instances.specs.Store.{id_of, ids_of, made_object, Shows};
@@ -22,7 +23,7 @@ use std::alloc::{AllocError, Global};
 use std::marker::Model;
 use std::mem;
 use type_tree::TypeId;
-use ui_machine::{Arm, Halt, ObjectId};
+use ui_machine::{Arm, Halt, ObjectId, Place, Slot};
 
 // The most children that an object has.
 const MOST_CHILDREN: usize = 1024;
@@ -32,7 +33,7 @@ const MOST_CHILDREN: usize = 1024;
 #[derive(Drop)]
 pub struct Object {
     class: TypeId,
-    place: usize,
+    place: Place,
     values: Vec<Value>,
     queue: NotifyQueue,
     children: Vec<ObjectId>,
@@ -52,7 +53,7 @@ impl Model for Object {
 
     ghost view = { λ o. record {
       class = o.class;
-      place = o.place;
+      place = o.place.0;
       values = map value_view o.values.items;
       freezes = o.queue.freezes;
       queue = o.queue.queue;
@@ -68,11 +69,11 @@ impl Object {
     pub fn new(
         alloc: Global,
         class: TypeId,
-        place: usize,
+        place: Place,
         values: Vec<Value>,
         peer: Option<usize>,
     ) -> Self
-        ensures { result ≡ made_object class place (map value_view values.items) peer }
+        ensures { result ≡ made_object class place.0 (map value_view values.items) peer }
     {
         let mut queue = NotifyQueue::new(alloc);
         queue.freeze();
@@ -96,8 +97,8 @@ impl Object {
     }
 
     /// Its place.
-    pub fn place(&self) -> usize
-        ensures { result ≡ self.now.place }
+    pub fn place(&self) -> Place
+        ensures { result.0 ≡ self.now.place }
     {
         self.place
     }
@@ -128,6 +129,15 @@ impl Object {
         ensures { result ≡ nat_le most_children (length self.now.children) }
     {
         self.children.len() >= MOST_CHILDREN
+    }
+
+    // What it has stands in lists, which are never longer than memory.
+    pub(crate) fn holds_few(&self)
+        ensures { HoldsFew self.now }
+    {
+        // For the proof: how long the lists are.
+        let _values = self.values.len();
+        let _children = self.children.len();
     }
 
     // Gives it a parent, or none.
@@ -181,7 +191,7 @@ impl Object {
     }
 
     /// The value of a property.
-    pub fn read(&self, slot: u16) -> Result<&Value, Arm>
+    pub fn read(&self, slot: Slot) -> Result<&Value, Arm>
         ensures { Shows (λ v. value_view v.now) result (value_at slot self.now) }
     {
         self.values.get(usize::from(slot)).ok_or(Arm::Code)
@@ -189,7 +199,7 @@ impl Object {
 
     /// Writes a property, and answers what it was.
     #[tactic(auto, unfolding(ui_machine::specs::State::Objects::with_value))]
-    pub fn write(&mut self, slot: u16, value: Value) -> Result<Value, Arm>
+    pub fn write(&mut self, slot: Slot, value: Value) -> Result<Value, Arm>
         ensures changes { Gives value_view result (with_value slot (value_view value) self.old) self.new }
         ensures kin { KeepsKin self.old self.new }
         ensures refused { OnErr result (self.new ≡ self.old) }
@@ -216,7 +226,7 @@ impl Object {
     }
 
     /// Takes one freeze off, and answers the notifications that are then made, the last first.
-    pub fn thaw(&mut self, alloc: Global) -> Result<Vec<u16>, Arm>
+    pub fn thaw(&mut self, alloc: Global) -> Result<Vec<Slot>, Arm>
         ensures changes { Gives (λ slots. reverse slots.items) result (frozen_less self.old) self.new }
         ensures kin { KeepsKin self.old self.new }
         ensures refused { OnErr result (self.new ≡ self.old) }
@@ -231,7 +241,7 @@ impl Object {
     }
 
     /// Queues a notification while frozen, and else answers that it is to be made at once.
-    pub fn add(&mut self, slot: u16) -> Result<bool, Halt>
+    pub fn add(&mut self, slot: Slot) -> Result<bool, Halt>
         ensures changes { Follows (λ now. now) result (raised slot self.old) self.new }
         ensures kin { KeepsKin self.old self.new }
         ensures refused { OnErr result (self.new ≡ self.old) }

@@ -12,6 +12,7 @@ ghost use Rattle.instances.specs.Weak.{Knows};
 ghost use Rattle.instances.specs.Release.{emptied, in_strong, marks_in, name_at, values_in, Disposes, Finalises};
 
 use crate::table::Table;
+use crate::unheld::lowest_beside;
 use crate::weak::WeakSlots;
 use ui_machine::ObjectId;
 
@@ -129,5 +130,6 @@ impl Table {
         ensures { self.new ≡ with_objects self.old (put self.old.objects id.0 None) }
     {
         self.instances.remove(&id.0);
+        self.unheld = lowest_beside(&self.instances, self.unheld, id);
     }
 }

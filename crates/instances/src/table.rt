@@ -1,7 +1,6 @@
 //! The objects by their identities.
 
 ghost use Rattle.std.specs.Prelude.{◌≡◌, ℕ, ◌+◌, ◌-◌, ◌<◌, ◌≤◌, ◌^◌, [], IfSome, IsSome, is_some, None, Ok, map, reverse, OnOk, OnErr};
-ghost use Rattle.std.specs.Option.{option_map};
 ghost use Rattle.ui_machine.specs.State.Objects.{asked, changed, living, value_at, with_value};
 ghost use Rattle.ui_machine.specs.State.References.{next_unheld};
 ghost use Rattle.ui_machine.specs.Rules.NotifyQueue.{raised, frozen_more, frozen_less};
@@ -10,17 +9,19 @@ ghost use Rattle.ui_machine.specs.Rules.Disposal.{peer_of};
 ghost use Rattle.ui_machine.specs.Outcome.{Gives, Follows};
 ghost use Rattle.g_values.specs.View.{value_view};
 ghost use Rattle.ui_machine.specs.declared.ids.ObjectId.{ObjectId};
-ghost use Rattle.instances.specs.Store.{Shows, count_of, with_count, with_objects, has_room, may_hold, so_often, Creates};
+ghost use Rattle.ui_machine.specs.declared.ids.Place.{Place};
+ghost use Rattle.instances.specs.Store.{Shows, count_of, id_of, with_count, with_objects, has_room, may_hold, so_often, Creates};
 
 use crate::error::CreateError;
 use crate::instance::Instance;
 use crate::object::Object;
+use crate::unheld::{lower, lowest_beside, lowest_with};
 use g_values::Value;
 use std::alloc::Global;
 use std::collections::BTreeMap;
 use std::marker::Model;
 use type_tree::TypeId;
-use ui_machine::{Arm, Halt, ObjectId};
+use ui_machine::{Arm, Halt, ObjectId, Place, Slot};
 
 /// The objects that live, and how often each is held.
 #[derive(Drop)]
@@ -29,8 +30,8 @@ pub struct Table {
     made: u64,
     limit: u32,
     pub(crate) floating: Vec<ObjectId>,
-    // Each object of a lower identity is held.
-    pub(crate) held_below: u64,
+    // The lowest one that nothing holds.
+    pub(crate) unheld: Option<ObjectId>,
     pub(crate) alloc: Global,
 }
 
@@ -41,12 +42,13 @@ impl Model for Table {
 
     ghost use Rattle.std.specs.Ordering.{nat_cmp};
     ghost use Rattle.std.specs.BTreeMap.{get};
-    ghost use Rattle.instances.specs.View.{store_of, AreHeldBelow, InRange, KinInRange};
+    ghost use Rattle.instances.specs.Store.{id_of};
+    ghost use Rattle.instances.specs.View.{store_of, held_in, InRange, IsLowestUnheld, KinInRange};
 
     ghost view = { λ t. store_of (get nat_cmp t.instances) t.made t.limit t.floating.items };
 
     ghost invariant = { λ t. InRange (get nat_cmp t.instances) t.made
-        × AreHeldBelow (get nat_cmp t.instances) t.held_below
+        × IsLowestUnheld (held_in (get nat_cmp t.instances)) (id_of t.unheld)
         × KinInRange (get nat_cmp t.instances) t.made };
 }
 
@@ -60,7 +62,7 @@ impl Table {
             made: 0,
             limit,
             floating: Vec::new(alloc),
-            held_below: 0,
+            unheld: None,
             alloc,
         }
     }
@@ -105,7 +107,7 @@ impl Table {
             return Err(CreateError::OutOfMemory);
         };
         self.made = id;
-        self.held_below = self.held_below.min(id);
+        self.unheld = Some(lower(self.unheld, ObjectId(id)));
         Ok(ObjectId(id))
     }
 
@@ -128,8 +130,8 @@ impl Table {
     }
 
     /// The place of an object.
-    pub fn place_of(&self, id: ObjectId) -> Result<usize, Arm>
-        ensures { Shows (λ place. place) result (asked self.now.objects id.0 (λ o. Ok o.place)) }
+    pub fn place_of(&self, id: ObjectId) -> Result<Place, Arm>
+        ensures { Shows (λ (place : Place). place.0) result (asked self.now.objects id.0 (λ o. Ok o.place)) }
     {
         let Some(instance) = self.instances.get(&id.0) else {
             return Err(Arm::Operand);
@@ -158,7 +160,7 @@ impl Table {
     }
 
     /// The value of a property.
-    pub fn read(&self, id: ObjectId, slot: u16) -> Result<&Value, Arm>
+    pub fn read(&self, id: ObjectId, slot: Slot) -> Result<&Value, Arm>
         ensures { Shows (λ v. value_view v.now) result (asked self.now.objects id.0 (value_at slot)) }
     {
         let Some(instance) = self.instances.get(&id.0) else {
@@ -168,7 +170,7 @@ impl Table {
     }
 
     // Writes a property, and answers what it was. Who holds what is the caller's to count.
-    pub(crate) fn replace(&mut self, id: ObjectId, slot: u16, value: Value) -> Result<Value, Arm>
+    pub(crate) fn replace(&mut self, id: ObjectId, slot: Slot, value: Value) -> Result<Value, Arm>
         ensures changes { Gives value_view result (changed self.old.objects id.0 (with_value slot (value_view value))) self.new.objects }
         ensures beside { self.new ≡ with_objects self.old self.new.objects }
         ensures refused { OnErr result (self.new ≡ self.old) }
@@ -192,7 +194,7 @@ impl Table {
     }
 
     /// Takes one freeze off an object, and answers the notifications that are then made, the last first.
-    pub fn thaw(&mut self, id: ObjectId) -> Result<Vec<u16>, Arm>
+    pub fn thaw(&mut self, id: ObjectId) -> Result<Vec<Slot>, Arm>
         ensures changes { Gives (λ slots. reverse slots.items) result (changed self.old.objects id.0 frozen_less) self.new.objects }
         ensures beside { self.new ≡ with_objects self.old self.new.objects }
         ensures refused { OnErr result (self.new ≡ self.old) }
@@ -205,7 +207,7 @@ impl Table {
     }
 
     /// Queues a notification while the object is frozen, and else answers that it is to be made at once.
-    pub fn add(&mut self, id: ObjectId, slot: u16) -> Result<bool, Halt>
+    pub fn add(&mut self, id: ObjectId, slot: Slot) -> Result<bool, Halt>
         ensures changes { Follows (λ now. now) result (changed self.old.objects id.0 (raised slot)) self.new.objects }
         ensures beside { self.new ≡ with_objects self.old self.new.objects }
         ensures refused { OnErr result (self.new ≡ self.old) }
@@ -235,7 +237,7 @@ impl Table {
             return;
         };
         instance.mentions = instance.mentions.saturating_sub(times);
-        self.held_below = lowest_unknown(self.held_below, id, instance.mentions);
+        self.unheld = lowest_with(self.unheld, id, instance.mentions);
     }
 
     /// Holds an object once more.
@@ -248,6 +250,7 @@ impl Table {
             return;
         };
         instance.mentions += 1;
+        self.unheld = lowest_beside(&self.instances, self.unheld, id);
     }
 
     /// Holds an object once less.
@@ -259,47 +262,17 @@ impl Table {
             return;
         };
         instance.mentions -= 1;
-        self.held_below = lowest_unknown(self.held_below, id, instance.mentions);
+        self.unheld = lowest_with(self.unheld, id, instance.mentions);
     }
 
-    /// The lowest identity of an object that nothing holds. It looks through the objects from the lowest on that was made, or is held no
-    /// more, since it last looked; those below it are held. Where there was none it looks at nothing. What does not live is not held.
-    pub fn next_unheld(&mut self) -> Option<ObjectId>
-        ensures found { option_map (λ (i : ObjectId). i.0) result ≡ next_unheld (count_of self.old.counts) self.old.objects }
-        ensures dead { (o : ℕ) → living self.old.objects o ≡ None → count_of self.old.counts o ≡ 0 }
-        ensures live { IfSome result (λ id. IsSome (living self.old.objects id.0)) }
-        ensures unheld { IfSome result (λ id. count_of self.old.counts id.0 ≡ 0) }
-        ensures same { self.new ≡ self.old }
+    /// The lowest identity of an object that nothing holds. It looks at no object: which one it is was noted as objects were made, held, let
+    /// go and taken out. What does not live is not held.
+    pub fn next_unheld(&self) -> Option<ObjectId>
+        ensures found { id_of result ≡ next_unheld (count_of self.now.counts) self.now.objects }
+        ensures dead { (o : ℕ) → living self.now.objects o ≡ None → count_of self.now.counts o ≡ 0 }
+        ensures live { IfSome result (λ id. IsSome (living self.now.objects id.0)) }
+        ensures unheld { IfSome result (λ id. count_of self.now.counts id.0 ≡ 0) }
     {
-        let found = self.first_unheld();
-        self.held_below = found.unwrap_or(self.made.saturating_add(1));
-        Some(ObjectId(found?))
+        self.unheld
     }
-
-    // The lowest identity of an object that nothing holds.
-    fn first_unheld(&self) -> Option<u64>
-        ensures { result ≡ next_unheld (count_of self.now.counts) self.now.objects }
-    {
-        // All that were made are held.
-        if self.held_below > self.made {
-            return None;
-        }
-        for (id, instance) in self.instances.range(self.held_below..) {
-            if instance.mentions == 0 {
-                return Some(*id);
-            }
-        }
-        None
-    }
-}
-
-// Up to where each object is held, once one of them is held so often.
-fn lowest_unknown(held_below: u64, id: ObjectId, mentions: u128) -> u64
-    ensures below { result ≤ held_below }
-    ensures held { id.0 < result → 0 < mentions }
-{
-    if mentions > 0 {
-        return held_below;
-    }
-    held_below.min(id.0)
 }

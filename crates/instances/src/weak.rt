@@ -8,6 +8,7 @@ ghost use Rattle.instances.specs.Weak.{has_weak, is_strong};
 use std::alloc::{AllocError, Global};
 use std::marker::Model;
 use type_tree::TypeId;
+use ui_machine::Slot;
 
 /// For each class, which of its slots are weak: such a property does not hold its object.
 #[derive(Drop)]
@@ -57,7 +58,7 @@ impl WeakSlots {
     }
 
     /// Whether a slot of a class is there and is not weak.
-    pub fn is_strong(&self, class: TypeId, slot: u16) -> bool
+    pub fn is_strong(&self, class: TypeId, slot: Slot) -> bool
         ensures { result ≡ is_strong self.now class slot }
     {
         let slots = self.of(class);

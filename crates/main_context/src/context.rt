@@ -11,7 +11,7 @@ use crate::source::{Due, Source};
 use crate::sources;
 use std::alloc::Global;
 use std::marker::Model;
-use ui_machine::ObjectId;
+use ui_machine::{ObjectId, ProgramId};
 
 /// How many sources may be attached at a time. One whose program runs is among them until it is removed.
 pub const MAX_SOURCES: usize = 256;
@@ -53,7 +53,7 @@ impl Context {
     /// that. An error changes nothing.
     pub fn idle(
         &mut self,
-        program: u16,
+        program: ProgramId,
         priority: i32,
         arg: Option<ObjectId>,
     ) -> Result<(), AttachError>
@@ -69,7 +69,7 @@ impl Context {
     /// It is refused as `idle` is. An error changes nothing.
     pub fn timeout(
         &mut self,
-        program: u16,
+        program: ProgramId,
         priority: i32,
         interval: u32,
         arg: Option<ObjectId>,
@@ -83,7 +83,7 @@ impl Context {
 
     fn attach(
         &mut self,
-        program: u16,
+        program: ProgramId,
         priority: i32,
         interval: Option<u32>,
         arg: Option<ObjectId>,
@@ -105,7 +105,7 @@ impl Context {
     }
 
     /// Takes out the first source of a program, and gives it.
-    pub fn remove(&mut self, program: u16) -> Option<Due>
+    pub fn remove(&mut self, program: ProgramId) -> Option<Due>
         ensures given { result ≡ option_map due_of (find (runs_program program) self.old.sources) }
         ensures left { self.new
             ≡ record self.old { sources = without_first (runs_program program) self.old.sources } }

@@ -5,13 +5,13 @@ ghost use Rattle.ui_machine.specs.Rules.MainLoop.{is_ready};
 ghost use Rattle.ui_machine.specs.State.Sources.{is_numbered, runs_program, due_after, new_source};
 
 use std::marker::Model;
-use ui_machine::ObjectId;
+use ui_machine::{ObjectId, ProgramId};
 
 /// A source that is to run: its number, the program and the data object.
 #[derive(Clone, Copy, Debug, PartialEq, Eq)]
 pub struct Due {
     pub source: u64,
-    pub program: u16,
+    pub program: ProgramId,
     pub arg: Option<ObjectId>,
 }
 
@@ -19,7 +19,7 @@ pub struct Due {
 #[derive(Debug, Drop)]
 pub(crate) struct Source {
     number: u64,
-    program: u16,
+    program: ProgramId,
     priority: i32,
     interval: Option<u32>,
     since: u64,
@@ -49,7 +49,7 @@ impl Source {
     /// A source of this number that is attached at a moment. An idle has no interval.
     pub fn new(
         number: u64,
-        program: u16,
+        program: ProgramId,
         priority: i32,
         interval: Option<u32>,
         moment: u64,
@@ -85,7 +85,7 @@ impl Source {
         self.number == number
     }
 
-    pub fn runs(&self, program: u16) -> bool
+    pub fn runs(&self, program: ProgramId) -> bool
         ensures { result ≡ runs_program program self.now }
     {
         self.program == program

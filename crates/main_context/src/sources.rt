@@ -7,6 +7,7 @@ ghost use Rattle.ui_machine.specs.Rules.MainLoop.{rescheduled};
 ghost use Rattle.main_context.specs.Dues.{due_of};
 
 use crate::source::{Due, Source};
+use ui_machine::ProgramId;
 
 /// What is to run for the source of a number.
 pub(crate) fn find_due(sources: &[Source], number: u64) -> Option<Due>
@@ -26,7 +27,7 @@ pub(crate) fn take(sources: &mut Vec<Source>, number: u64) -> Option<Source>
 }
 
 /// Takes out the first source of a program.
-pub(crate) fn take_first(sources: &mut Vec<Source>, program: u16) -> Option<Source>
+pub(crate) fn take_first(sources: &mut Vec<Source>, program: ProgramId) -> Option<Source>
     ensures given { result ≡ find (runs_program program) sources.old.items }
     ensures left { sources.new.items ≡ without_first (runs_program program) sources.old.items }
 {
@@ -53,7 +54,7 @@ fn index_of(sources: &[Source], number: u64) -> Option<usize>
 }
 
 // Where the first source of the program stands.
-fn index_of_program(sources: &[Source], program: u16) -> Option<usize>
+fn index_of_program(sources: &[Source], program: ProgramId) -> Option<usize>
     ensures { result ≡ position (runs_program program) sources.now }
 {
     sources.iter().position(|source| source.runs(program))

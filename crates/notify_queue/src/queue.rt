@@ -6,12 +6,13 @@ ghost use Rattle.ui_machine.specs.Rules.NotifyQueue.{queued, thawed};
 use std::alloc::{AllocError, Global};
 use std::marker::Model;
 use std::mem;
+use ui_machine::Slot;
 
 /// How often an object is frozen, and the slots whose notification waits.
 #[derive(Debug, Drop)]
 pub struct NotifyQueue {
     freezes: u64,
-    slots: Vec<u16>,
+    slots: Vec<Slot>,
 }
 
 impl Model for NotifyQueue {
@@ -57,7 +58,7 @@ impl NotifyQueue {
 
     /// Takes one off the count. At zero it gives the whole queue, in order of first queueing and so to be notified from its
     /// end, and leaves an empty one. Above zero it gives nothing, and what waits stays.
-    pub fn thaw(&mut self) -> Option<Vec<u16>>
+    pub fn thaw(&mut self) -> Option<Vec<Slot>>
         requires { 0 < self.old.freezes }
         ensures count { self.new.freezes + 1 ≡ self.old.freezes }
         ensures last { IsSome result ↔ (self.new.freezes ≡ 0) }
@@ -75,7 +76,7 @@ impl NotifyQueue {
     }
 
     /// Queues the notification of a slot, unless it waits already.
-    pub fn add(&mut self, slot: u16) -> Result<(), AllocError>
+    pub fn add(&mut self, slot: Slot) -> Result<(), AllocError>
         ensures ok { OnOk result (self.new ≡ record self.old { queue = queued self.old.queue slot }) }
         ensures err { OnErr result (self.new ≡ self.old) }
     {

@@ -4,6 +4,7 @@ ghost use Rattle.std.specs.Prelude.{◌≡◌};
 ghost use Rattle.param_specs.specs.declared.error.SpecError.TheVariants.{OutOfMemory};
 
 use std::alloc::{AllocError, AllocFailed};
+use ui_machine::Slot;
 
 /// Why a property is not installed, in the order in which the tests are made.
 #[derive(Clone, Copy, Debug, PartialEq, Eq)]
@@ -35,9 +36,9 @@ pub enum SpecError {
 #[derive(Clone, Copy, Debug, PartialEq, Eq)]
 pub enum OverrideFault {
     /// The class has no property of the name of this one.
-    Missing(u16),
+    Missing(Slot),
     /// The class has this property with another kind, range, default, weakness or other flags.
-    Differs(u16),
+    Differs(Slot),
 }
 
 impl From<AllocError> for SpecError {

@@ -10,6 +10,7 @@ use crate::spec::Spec;
 use crate::table::SpecTable;
 use g_values::is_same;
 use type_tree::{TypeId, TypeTree};
+use ui_machine::Slot;
 
 impl SpecTable {
     /// Tests that a type has each property of an interface, its own or inherited, with the same kind, range, default, weakness and flags.
@@ -27,10 +28,10 @@ impl SpecTable {
         ensures { result ≡ fine_or (override_fault (specs_of tree.now self.now t) (specs_of tree.now self.now interface)) }
     {
         if let Some(slot) = self.first_missing(tree, t, interface) {
-            return Err(OverrideFault::Missing(slot as u16));
+            return Err(OverrideFault::Missing(slot as Slot));
         }
         if let Some(slot) = self.first_different(tree, t, interface) {
-            return Err(OverrideFault::Differs(slot as u16));
+            return Err(OverrideFault::Differs(slot as Slot));
         }
         Ok(())
     }

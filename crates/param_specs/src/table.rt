@@ -18,6 +18,7 @@ use std::marker::Model;
 use type_tree::{
     TypeId, TypeTree, canonical_name, has_canonical_bytes, is_property_name, is_spelling,
 };
+use ui_machine::Slot;
 
 /// The most properties of a type, with the inherited ones.
 pub const MOST_PROPERTIES: usize = 64;
@@ -195,7 +196,7 @@ impl SpecTable {
 
     /// Adds a property to a type, under its canonical name, and answers its slot. The name is tested first, then whether the type has it already, its
     /// own or inherited, the flags, the range, the default, and room.
-    pub fn install(&mut self, tree: &TypeTree, t: TypeId, spec: Spec) -> Result<u16, SpecError>
+    pub fn install(&mut self, tree: &TypeTree, t: TypeId, spec: Spec) -> Result<Slot, SpecError>
         requires { IsKnown tree.now spec.kind }
         ensures { let specs = specs_of tree.now self.old t in
             Installs result (install_fault tree.now specs (spec_view spec)) specs t (spec_view spec) self.old self.new }
@@ -208,19 +209,19 @@ impl SpecTable {
         let key = name.clone()?;
         let spec = renamed(spec, name);
         self.add_own(t, key, spec)?;
-        Ok(slot as u16)
+        Ok(slot as Slot)
     }
 
     /// The slot of a property of a type, its own or inherited, by any spelling of its name.
-    pub fn find(&self, tree: &TypeTree, t: TypeId, name: &str) -> Option<u16>
+    pub fn find(&self, tree: &TypeTree, t: TypeId, name: &str) -> Option<Slot>
         ensures { result ≡ slot_named (specs_of tree.now self.now t) name.now }
     {
         let slot = self.slot(tree, t, name)?;
-        Some(slot as u16)
+        Some(slot as Slot)
     }
 
     /// The property of a slot of a type.
-    pub fn spec(&self, tree: &TypeTree, t: TypeId, slot: u16) -> &Spec
+    pub fn spec(&self, tree: &TypeTree, t: TypeId, slot: Slot) -> &Spec
         requires { slot < length (specs_of tree.now self.now t) }
         ensures { slice_get (specs_of tree.now self.now t) slot ≡ Some (spec_view result.now) }
     {

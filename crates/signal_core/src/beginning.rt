@@ -9,7 +9,7 @@ ghost use Rattle.signal_core.specs.Table.{planned_for};
 use crate::emission::Emission;
 use crate::table::SignalTable;
 use type_tree::{TypeId, TypeTree};
-use ui_machine::ObjectId;
+use ui_machine::{ObjectId, SignalId};
 
 impl SignalTable {
     /// What an emission by an object begins with: of the signal of a number, with a detail. The type is the object's own class. `None` where it
@@ -19,7 +19,7 @@ impl SignalTable {
         tree: &TypeTree,
         t: TypeId,
         object: ObjectId,
-        number: u16,
+        number: SignalId,
         detail: Option<String>,
     ) -> Option<Emission>
         ensures { (greatest : ℕ) → option_map (λ e. begun e greatest) result

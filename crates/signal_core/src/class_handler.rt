@@ -5,12 +5,13 @@ ghost use Rattle.ui_machine.specs.Definition.Names.{canonical, same_name};
 
 use std::marker::Model;
 use type_tree::is_spelling;
+use ui_machine::ProgramId;
 
 /// The program that a class names for a signal, by the signal's canonical name.
 #[derive(Drop)]
 pub(crate) struct ClassHandler {
     signal: String,
-    program: u16,
+    program: ProgramId,
 }
 
 impl Model for ClassHandler {
@@ -23,7 +24,7 @@ impl Model for ClassHandler {
 }
 
 impl ClassHandler {
-    pub(crate) fn new(signal: String, program: u16) -> Self
+    pub(crate) fn new(signal: String, program: ProgramId) -> Self
         ensures { result ≡ record { signal = string_bytes signal; program = program } }
     {
         ClassHandler { signal, program }
@@ -43,13 +44,13 @@ impl ClassHandler {
         is_spelling(self.signal.as_str(), name)
     }
 
-    pub(crate) fn program(&self) -> u16
+    pub(crate) fn program(&self) -> ProgramId
         ensures { result ≡ self.now.program }
     {
         self.program
     }
 
-    pub(crate) fn set_program(&mut self, program: u16)
+    pub(crate) fn set_program(&mut self, program: ProgramId)
         ensures { self.new ≡ record self.old { program = program } }
     {
         self.program = program;

@@ -14,6 +14,7 @@ use crate::spelling::canonical_text;
 use crate::table::SignalTable;
 use std::alloc::AllocError;
 use type_tree::{TypeId, TypeTree};
+use ui_machine::{ProgramId, SignalId};
 
 impl SignalTable {
     /// Names the program that a class runs for a signal of a number, in place of the one that it named before (GObject manual, Signals:
@@ -22,8 +23,8 @@ impl SignalTable {
         &mut self,
         tree: &TypeTree,
         t: TypeId,
-        number: u16,
-        program: u16,
+        number: SignalId,
+        program: ProgramId,
     ) -> Result<(), AllocError>
         requires { number < length (signals_of tree.now self.old.signals t) }
         ensures ok { let signal = read notify (signals_of tree.now self.old.signals t) number in
@@ -48,7 +49,7 @@ impl SignalTable {
         &mut self,
         t: TypeId,
         signal: &str,
-        program: u16,
+        program: ProgramId,
     ) -> Result<(), AllocError>
         ensures ok { OnOk result (AddsHandler self.old.handlers self.new.handlers t (record { signal = canonical signal.now; program = program })) }
         ensures err { OnErr result (SameHandlers self.old.handlers self.new.handlers) }
@@ -66,7 +67,7 @@ impl SignalTable {
     }
 
     /// The program that a class runs for the signal of a number: its own, or that of its nearest ancestor that names one.
-    pub fn class_handler(&self, tree: &TypeTree, t: TypeId, number: u16) -> Option<u16>
+    pub fn class_handler(&self, tree: &TypeTree, t: TypeId, number: SignalId) -> Option<ProgramId>
         ensures { result ≡ option_and_then (λ s. class_handler_named tree.now self.now.handlers t s.name)
             (slice_get (signals_of tree.now self.now.signals t) number) }
     {
@@ -77,7 +78,7 @@ impl SignalTable {
     }
 
     /// The same, by the signal's canonical name.
-    pub(crate) fn handler_named(&self, tree: &TypeTree, t: TypeId, name: &str) -> Option<u16>
+    pub(crate) fn handler_named(&self, tree: &TypeTree, t: TypeId, name: &str) -> Option<ProgramId>
         ensures { result ≡ class_handler_named tree.now self.now.handlers t name.now }
     {
         if let Some(program) = self.own_handler(t, name) {
@@ -90,7 +91,7 @@ impl SignalTable {
     }
 
     // The program that a class itself names.
-    fn own_handler(&self, t: TypeId, name: &str) -> Option<u16>
+    fn own_handler(&self, t: TypeId, name: &str) -> Option<ProgramId>
         ensures { result ≡ handler_in (named_of self.now.handlers t) name.now }
     {
         let handler = first_for(self.own_handlers(t), name)?;

@@ -10,7 +10,7 @@ use crate::stage::Stage;
 use crate::step::Step;
 use crate::turn::Turn;
 use std::marker::Model;
-use ui_machine::ObjectId;
+use ui_machine::{ObjectId, ProgramId, SignalId};
 
 /// A connection under its number, and how often it is blocked.
 #[derive(Debug, Drop)]
@@ -47,7 +47,7 @@ impl Handler {
     }
 
     /// Whether bytecode connected it to this signal of the object.
-    pub(crate) fn is_by_code_to(&self, object: ObjectId, signal: u16) -> bool
+    pub(crate) fn is_by_code_to(&self, object: ObjectId, signal: SignalId) -> bool
         ensures { result ≡ by_code_to object.0 signal self.now }
     {
         let to = &self.connection;
@@ -55,7 +55,7 @@ impl Handler {
     }
 
     /// Whether it is on the object and runs the program.
-    pub(crate) fn is_on(&self, object: ObjectId, program: u16) -> bool
+    pub(crate) fn is_on(&self, object: ObjectId, program: ProgramId) -> bool
         ensures { result ≡ is_on object.0 program self.now }
     {
         self.connection.object == object && self.connection.program == program

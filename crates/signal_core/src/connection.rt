@@ -1,6 +1,6 @@
 //! What a handler is to be connected with.
 
-use ui_machine::ObjectId;
+use ui_machine::{ObjectId, ProgramId, SignalId};
 
 /// A handler that is to be connected (GObject manual, Signals: `g_signal_connect_data`).
 #[derive(Debug, Drop)]
@@ -8,11 +8,11 @@ pub struct Connection {
     /// The object whose signal it is connected to.
     pub object: ObjectId,
     /// The signal, by its number in the list of the object's class; 0 is `notify`.
-    pub signal: u16,
+    pub signal: SignalId,
     /// The detail as it stands at the signal. At `notify` it is a property's canonical name.
     pub detail: Option<String>,
     /// The program that it runs.
-    pub program: u16,
+    pub program: ProgramId,
     /// Whether it runs after the class handler (`G_CONNECT_AFTER`).
     pub after: bool,
     /// Whether the program is given the data first and the instance last (`G_CONNECT_SWAPPED`).

@@ -13,7 +13,7 @@ use crate::turn::Turn;
 use bitflags::Flags;
 use g_values::Value;
 use std::marker::Model;
-use ui_machine::ObjectId;
+use ui_machine::{ObjectId, SignalId};
 
 /// Where an emission is, and the value that it has accumulated. It has no list of its turns, and takes no memory.
 ///
@@ -64,7 +64,7 @@ impl Cursor {
     }
 
     /// Whether it is an emission of this signal of the object.
-    pub(crate) fn is_of(&self, object: ObjectId, signal: u16) -> bool
+    pub(crate) fn is_of(&self, object: ObjectId, signal: SignalId) -> bool
         ensures { result ≡ (nat_eq object.0 self.now.object && nat_eq signal self.now.signal) }
     {
         self.emission.object == object && self.emission.signal == signal
@@ -169,7 +169,7 @@ impl Cursor {
     }
 
     /// The signal, by its number in the list of the object's class; 0 is `notify`.
-    pub fn signal(&self) -> u16
+    pub fn signal(&self) -> SignalId
         ensures { result ≡ self.now.signal }
     {
         self.emission.signal

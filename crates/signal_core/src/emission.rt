@@ -7,7 +7,7 @@ ghost use Rattle.signal_core.specs.Emission.{accumulator_of};
 
 use crate::flags::SignalFlags;
 use g_values::Value;
-use ui_machine::ObjectId;
+use ui_machine::{ObjectId, ProgramId, SignalId};
 
 /// How the results of an emission's programs are put together (GObject manual, Signals: GSignalAccumulator). Without an accumulator the last
 /// one stands.
@@ -36,7 +36,7 @@ pub struct Emission {
     /// The object that emits.
     pub object: ObjectId,
     /// The signal, by its number in the list of the object's class; 0 is `notify`.
-    pub signal: u16,
+    pub signal: SignalId,
     /// The detail. Of `notify` it is the canonical name of a property.
     pub detail: Option<String>,
     /// The flags of the signal.
@@ -44,5 +44,5 @@ pub struct Emission {
     /// The accumulator of the signal.
     pub accumulator: Option<Accumulator>,
     /// The program that the object's class runs for the signal.
-    pub class_program: Option<u16>,
+    pub class_program: Option<ProgramId>,
 }

@@ -11,7 +11,7 @@ use crate::cursor::Cursor;
 use crate::fault::ConnectError;
 use std::alloc::Global;
 use std::marker::Model;
-use ui_machine::ObjectId;
+use ui_machine::{ObjectId, ProgramId, SignalId};
 
 /// Handlers in order of connection, by numbers from 1 that are never used again.
 ///
@@ -103,7 +103,7 @@ impl Handlers {
     }
 
     // Whether bytecode may connect one more to a signal of an object.
-    fn has_room_for_code(&self, object: ObjectId, signal: u16) -> bool
+    fn has_room_for_code(&self, object: ObjectId, signal: SignalId) -> bool
         ensures { result ≡ has_room_for_code self.now object.0 signal }
     {
         self.count_by_code(object, signal) < self.most as usize
@@ -111,7 +111,7 @@ impl Handlers {
     }
 
     // How many bytecode has connected to a signal of an object.
-    fn count_by_code(&self, object: ObjectId, signal: u16) -> usize
+    fn count_by_code(&self, object: ObjectId, signal: SignalId) -> usize
         ensures { result ≡ count_by (by_code_to object.0 signal) self.now.handlers }
     {
         self.connected
@@ -121,7 +121,7 @@ impl Handlers {
     }
 
     /// Disconnects all handlers of a program on an object, and counts them (GObject manual, Signals: `g_signal_handlers_disconnect_matched`).
-    pub fn disconnect_matched(&mut self, object: ObjectId, program: u16) -> usize
+    pub fn disconnect_matched(&mut self, object: ObjectId, program: ProgramId) -> usize
         ensures count { result ≡ count_by (is_on object.0 program) self.old.handlers }
         ensures left { self.new
             ≡ record self.old { handlers = without_matched object.0 program self.old.handlers } }
@@ -132,7 +132,7 @@ impl Handlers {
     }
 
     /// Blocks all handlers of a program on an object once more, and counts them (`g_signal_handlers_block_matched`).
-    pub fn block_matched(&mut self, object: ObjectId, program: u16) -> usize
+    pub fn block_matched(&mut self, object: ObjectId, program: ProgramId) -> usize
         ensures count { result ≡ count_by (is_on object.0 program) self.old.handlers }
         ensures blocked { self.new
             ≡ record self.old { handlers = with_blocked object.0 program self.old.handlers } }
@@ -144,7 +144,7 @@ impl Handlers {
 
     /// Blocks all handlers of a program on an object once less, and counts them (`g_signal_handlers_unblock_matched`). What is not blocked
     /// stays so.
-    pub fn unblock_matched(&mut self, object: ObjectId, program: u16) -> usize
+    pub fn unblock_matched(&mut self, object: ObjectId, program: ProgramId) -> usize
         ensures count { result ≡ count_by (is_on object.0 program) self.old.handlers }
         ensures unblocked { self.new
             ≡ record self.old { handlers = with_unblocked object.0 program self.old.handlers } }
@@ -169,7 +169,7 @@ impl Handlers {
         count
     }
 
-    fn count_on(&self, object: ObjectId, program: u16) -> usize
+    fn count_on(&self, object: ObjectId, program: ProgramId) -> usize
         ensures { result ≡ count_by (is_on object.0 program) self.now.handlers }
     {
         self.connected
@@ -182,7 +182,7 @@ impl Handlers {
 ghost use Rattle.signal_core.specs.Connected.{without_matched, with_blocked, with_unblocked, without_object};
 
 // The handlers of the program on the object go.
-fn disconnect(connected: &mut Vec<Handler>, object: ObjectId, program: u16)
+fn disconnect(connected: &mut Vec<Handler>, object: ObjectId, program: ProgramId)
     ensures { connected.new.items ≡ without_matched object.0 program connected.old.items }
 {
     connected.retain(|handler| !handler.is_on(object, program));
@@ -196,7 +196,7 @@ fn disconnect_of(connected: &mut Vec<Handler>, object: ObjectId)
 }
 
 // The handlers of the program on the object are blocked once more.
-fn block(connected: &mut [Handler], object: ObjectId, program: u16)
+fn block(connected: &mut [Handler], object: ObjectId, program: ProgramId)
     ensures { connected.new ≡ with_blocked object.0 program connected.old }
 {
     for one in connected.iter_mut() {
@@ -207,7 +207,7 @@ fn block(connected: &mut [Handler], object: ObjectId, program: u16)
 }
 
 // The handlers of the program on the object are blocked once less.
-fn unblock(connected: &mut [Handler], object: ObjectId, program: u16)
+fn unblock(connected: &mut [Handler], object: ObjectId, program: ProgramId)
     ensures { connected.new ≡ with_unblocked object.0 program connected.old }
 {
     for one in connected.iter_mut() {

@@ -16,6 +16,7 @@ use crate::sources::{came_before, source_at, source_count};
 use std::alloc::{AllocError, Global};
 use std::marker::Model;
 use type_tree::{TypeId, TypeTree, is_spelling};
+use ui_machine::{ProgramId, SignalId};
 
 /// The most signals of a type and its ancestors. `notify` and the signals of interfaces do not count.
 pub const MOST_SIGNALS: usize = 64;
@@ -93,7 +94,7 @@ impl SignalTable {
     }
 
     /// Gives a program to the class handlers of a name that a type names itself.
-    pub(crate) fn replace_program(&mut self, t: TypeId, name: &str, program: u16)
+    pub(crate) fn replace_program(&mut self, t: TypeId, name: &str, program: ProgramId)
         ensures handlers { RenamesHandlers self.old.handlers self.new.handlers t name.now program }
         ensures signals { self.new.signals ≡ self.old.signals }
     {
@@ -224,7 +225,7 @@ impl SignalTable {
     }
 
     /// The number of a type's signal, by any spelling of its name.
-    pub fn find(&self, tree: &TypeTree, t: TypeId, name: &str) -> Option<u16>
+    pub fn find(&self, tree: &TypeTree, t: TypeId, name: &str) -> Option<SignalId>
         ensures number { result ≡ number_named (signals_of tree.now self.now.signals t) name.now }
         ensures within { IfSome result (λ number. number < length (signals_of tree.now self.now.signals t)) }
     {
@@ -233,13 +234,13 @@ impl SignalTable {
             return Some(0);
         }
         match self.place(tree, t, name) {
-            Ok(place) => Some((place + 1) as u16),
+            Ok(place) => Some((place + 1) as SignalId),
             Err(_) => None,
         }
     }
 
     /// The signal of a number, if the type has so many.
-    pub fn signal(&self, tree: &TypeTree, t: TypeId, number: u16) -> Option<DeclaredSignal<'_>>
+    pub fn signal(&self, tree: &TypeTree, t: TypeId, number: SignalId) -> Option<DeclaredSignal<'_>>
         ensures { option_map declared_view result ≡ slice_get (signals_of tree.now self.now.signals t) number }
     {
         if number == 0 {
@@ -253,7 +254,7 @@ impl SignalTable {
 }
 
 // The class handlers of a name get a program.
-fn give_program(handlers: &mut [ClassHandler], name: &str, program: u16)
+fn give_program(handlers: &mut [ClassHandler], name: &str, program: ProgramId)
     ensures { handlers.new ≡ map (with_program name.now program) handlers.old }
 {
     for handler in handlers.iter_mut() {

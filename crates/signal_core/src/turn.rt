@@ -1,16 +1,16 @@
 //! What runs in an emission.
 
-use ui_machine::ObjectId;
+use ui_machine::{ObjectId, ProgramId};
 
 /// A turn of an emission.
 #[derive(Clone, Copy, Debug, PartialEq, Eq)]
 pub enum Turn {
     /// The class handler, a program.
-    Class(u16),
+    Class(ProgramId),
     /// A handler.
     Handler {
         /// The program that it runs.
-        program: u16,
+        program: ProgramId,
         /// Whether the program is given the data first and the instance last.
         swapped: bool,
         /// The data, if there is some.

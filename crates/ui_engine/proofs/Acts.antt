@@ -456,8 +456,8 @@ module _ (d : Definition) (w : World) (rest : List Task) (n : ℕ) where
   forward_passes : (fs : List Forward) → IfOk (uncounted rest n (building d w (build_end d fs))) (Passes d w (Building (build_end d fs)) rest n)
   forward_passes [] = signals_pass (connected_items 0 d.places) (connected_first 0 d.places)
   forward_passes (f ∷ fs) =
-      steadily (Building (item_of f ∷ build_end d fs)) refl (building_forward d w f.object f.slot f.to.0 (build_end d fs))
-      (building_forward_calm d w f.object f.slot f.to.0 (build_end d fs)) (building_forward_falls d w f.object f.slot f.to.0 (build_end d fs))
+      steadily (Building (item_of f ∷ build_end d fs)) refl (building_forward d w f.object.0 f.slot f.to.0 (build_end d fs))
+      (building_forward_calm d w f.object.0 f.slot f.to.0 (build_end d fs)) (building_forward_falls d w f.object.0 f.slot f.to.0 (build_end d fs))
 
   -- an object becomes its parent's child, or does not
   adopting_passes : (place : ℕ) (items : List Item) → IfOk (uncounted rest n (building_child d w place items)) (Passes d w (Building (adopts place ∷ items)) rest n)
@@ -539,8 +539,8 @@ module _ (d : Definition) (w : World) (rest : List Task) (n : ℕ) where
   acted basic hs own (tasks.Running frame) ts same = running_passes (frame_view frame)
   acted basic hs own (tasks.Thawing id slots) ts same = thawing_passes id.0 slots
   acted basic hs own (tasks.Constructing id steps held) ts same = constructing_passes id.0 steps held
-  acted basic hs own (tasks.Building place forwards) ts same = building_passes basic place forwards
-  acted basic hs own (tasks.Adopting place forwards) ts same = adopting_passes place (build_from d (suc place) forwards)
+  acted basic hs own (tasks.Building place forwards) ts same = building_passes basic place.0 forwards
+  acted basic hs own (tasks.Adopting place forwards) ts same = adopting_passes place.0 (build_from d (suc place.0) forwards)
   acted basic hs own (tasks.Connecting place number) ts same =
-      signals_pass (connects_from d place number) (numbered_first place number (drop number (signals_of (place_at d place))) _ (connected_first (suc place) (drop (suc place) d.places)))
+      signals_pass (connects_from d place.0 number) (numbered_first place.0 number (drop number (signals_of (place_at d place.0))) _ (connected_first (suc place.0) (drop (suc place.0) d.places)))
   acted basic hs own (tasks.Carrying event) ts same = carrying_passes event

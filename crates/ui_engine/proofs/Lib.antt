@@ -39,6 +39,7 @@ pub mod SameTurns
 pub mod Connections
 pub mod Stops
 pub mod Signals
+pub mod Rooms
 pub mod HandlerAdded
 pub mod ConnectSteps
 pub mod Collecting

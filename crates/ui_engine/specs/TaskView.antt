@@ -24,7 +24,7 @@ pub use Rattle.ui_engine.specs.MakingView.{making_of_code}
 
 -- the item of the build that sets a forward reference
 abbrev pub item_of : Forward → config.Item
-item_of f = config.forwards f.object f.slot f.to.0
+item_of f = config.forwards f.object.0 f.slot f.to.0
 
 -- the items of forward references that are listed from the last one on
 abbrev pub items_of : List Forward → List config.Item
@@ -98,9 +98,9 @@ task_of d hs (tasks.Emitting cursor args by_event) = config.Emitting (emission_o
 task_of d hs (tasks.Running frame) = config.Running (frame_view frame)
 task_of d hs (tasks.Thawing id slots) = config.Thawing id.0 slots
 task_of d hs (tasks.Constructing id steps held) = config.Constructing id.0 steps held
-task_of d hs (tasks.Building place forwards) = config.Building (build_from d place forwards)
-task_of d hs (tasks.Adopting place forwards) = config.Building (config.adopts place ∷ build_from d (suc place) forwards)
-task_of d hs (tasks.Connecting place number) = config.Building (connects_from d place number)
+task_of d hs (tasks.Building place forwards) = config.Building (build_from d place.0 forwards)
+task_of d hs (tasks.Adopting place forwards) = config.Building (config.adopts place.0 ∷ build_from d (suc place.0) forwards)
+task_of d hs (tasks.Connecting place number) = config.Building (connects_from d place.0 number)
 task_of d hs (tasks.Carrying event) = config.Carrying (request_of event)
 
 -- the tasks of a stack, the first task first

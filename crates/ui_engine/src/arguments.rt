@@ -22,7 +22,7 @@ use g_values::{Kind, Value, has_number};
 use instances::Table;
 use signal_core::SignalFlags;
 use type_tree::{TypeId, TypeTree};
-use ui_machine::{Arm, Halt, ObjectId};
+use ui_machine::{Arm, Halt, ObjectId, SignalId};
 
 /// Whether an object lives and its class is the type.
 pub(crate) fn is_of_type(table: &Table, types: &TypeTree, object: ObjectId, t: TypeId) -> bool
@@ -129,7 +129,7 @@ impl Engine {
         &self,
         definition: &Definition,
         class: TypeId,
-        signal: u16,
+        signal: SignalId,
         flags: SignalFlags,
         detail: Option<&str>,
     ) -> Result<Option<String>, Halt>
@@ -153,7 +153,7 @@ impl Engine {
         &self,
         definition: &Definition,
         class: TypeId,
-        signal: u16,
+        signal: SignalId,
         detail: Option<&str>,
     ) -> Result<Option<String>, Halt>
         ensures { Finds detail_of result (detail_at definition.now class signal (option_map (λ text. text.now) detail.entry)) }
@@ -169,7 +169,7 @@ impl Engine {
         &self,
         definition: &Definition,
         object: ObjectId,
-        signal: u16,
+        signal: SignalId,
         detail: Option<&str>,
     ) -> Result<Option<String>, Halt>
         ensures { Finds detail_of result (detail_in definition.now (world_of self.now.world) object.0 signal (option_map (λ text. text.now) detail.entry)) }

@@ -9,7 +9,7 @@ ghost use Rattle.instances.specs.Store.{id_of};
 ghost use Rattle.ui_engine.specs.View.{held_of};
 
 use std::alloc::AllocError;
-use ui_machine::ObjectId;
+use ui_machine::{ObjectId, Place};
 
 /// What the builder has of a place.
 #[derive(Clone, Copy, Debug, PartialEq, Eq)]
@@ -55,7 +55,14 @@ impl Held {
 }
 
 /// The builder has this of a place from now on. A place that it has not come to yet has nothing.
-pub fn put_held(builder: &mut Vec<Held>, place: usize, held: Held) -> Result<(), AllocError>
+pub fn put_held(builder: &mut Vec<Held>, place: Place, held: Held) -> Result<(), AllocError>
+    ensures { OnOk result (map held_of builder.new.items ≡ write unbuilt (map held_of builder.old.items) place.0 (held_of held)) }
+{
+    put_at(builder, usize::from(place.0), held)
+}
+
+// The same by the place's number.
+fn put_at(builder: &mut Vec<Held>, place: usize, held: Held) -> Result<(), AllocError>
     ensures { OnOk result (map held_of builder.new.items ≡ write unbuilt (map held_of builder.old.items) place (held_of held)) }
 {
     'growing: while builder.len() <= place {

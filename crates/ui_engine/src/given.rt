@@ -19,7 +19,7 @@ use builder_defs::{Definition, Given};
 use g_values::Value;
 use std::alloc::AllocError;
 use type_tree::TypeId;
-use ui_machine::{Arm, ObjectId};
+use ui_machine::{Arm, ObjectId, Place, Slot};
 
 // The type that every object is.
 const G_OBJECT: u16 = 0;
@@ -38,22 +38,22 @@ impl World {
     {
         match given {
             Given::Value(value) => Ok(Some(value.copied()?)),
-            Given::Object(place) => Ok(self.built(usize::from(place.0)).map(object_value)),
+            Given::Object(place) => Ok(self.built(*place).map(object_value)),
         }
     }
 }
 
 impl Engine {
     // The object that the builder has of a place.
-    pub(crate) fn held(&self, place: usize) -> Result<ObjectId, Arm>
-        ensures { Shows (λ (id : ObjectId). id.0) result (held_object (world_of self.now.world) place) }
+    pub(crate) fn held(&self, place: Place) -> Result<ObjectId, Arm>
+        ensures { Shows (λ (id : ObjectId). id.0) result (held_object (world_of self.now.world) place.0) }
     {
         self.world.built(place).ok_or(Arm::Operand)
     }
 
     // The same as a value.
-    pub(crate) fn held_value(&self, place: usize) -> Result<Value, Arm>
-        ensures { Shows value_view result (held_value (world_of self.now.world) place) }
+    pub(crate) fn held_value(&self, place: Place) -> Result<Value, Arm>
+        ensures { Shows value_view result (held_value (world_of self.now.world) place.0) }
     {
         let object = self.held(place)?;
         Ok(object_value(object))
@@ -65,7 +65,7 @@ impl Engine {
     {
         match given {
             Given::Value(value) => Ok(value),
-            Given::Object(place) => self.held_value(usize::from(place.0)),
+            Given::Object(place) => self.held_value(place),
         }
     }
 
@@ -73,10 +73,10 @@ impl Engine {
     pub(crate) fn settable(
         &self,
         definition: &Definition,
-        place: usize,
-        slot: u16,
+        place: Place,
+        slot: Slot,
     ) -> Result<ObjectId, Arm>
-        ensures { Shows (λ (id : ObjectId). id.0) result (settable_at definition.now (world_of self.now.world) place slot) }
+        ensures { Shows (λ (id : ObjectId). id.0) result (settable_at definition.now (world_of self.now.world) place.0 slot) }
     {
         let object = self.held(place)?;
         let spec = self.spec_of(definition, object, slot)?;

@@ -4,18 +4,19 @@
 //! built, and a task holds its object from when it comes before the others until it is done. An emission holds its arguments, and the value
 //! that it has accumulated, from its beginning to its end, and a program what its registers name.
 
-ghost use Rattle.std.specs.Prelude.{◌≡◌, ℕ, ◌+◌, ◌≤◌, List, ◌∷◌, map, option_map, OnOk};
+ghost use Rattle.std.specs.Prelude.{◌≡◌, ℕ, ◌+◌, ◌≤◌, ◌^◌, List, ◌∷◌, map, option_map, true, IsSome, OnOk};
 ghost use Rattle.ui_machine.specs.Definition as machine;
 ghost use Rattle.ui_machine.specs.Seq.{total};
 ghost use Rattle.ui_machine.specs.State.Handlers.{Handler};
+ghost use Rattle.ui_machine.specs.State.Objects.{living};
 ghost use Rattle.ui_machine.specs.State.References.{in_option, in_register, in_value};
 ghost use Rattle.g_values.specs.View.{value_view};
 ghost use Rattle.handler_code.specs.Computing.{registers_of};
-ghost use Rattle.instances.specs.Store.{id_of, count_of, may_hold_any, named_by};
+ghost use Rattle.instances.specs.Store.{id_of, count_of, may_hold, may_hold_any, named_by};
 ghost use Rattle.ui_engine.specs.BegunView.{HasBegun};
 ghost use Rattle.ui_engine.specs.View.{world_of};
 ghost use Rattle.ui_engine.specs.TaskView.{task_of, task_in, agenda_of};
-ghost use Rattle.ui_engine.specs.Counting.{Connects, OnlyCounts, KeepsCounts, in_given, in_subject};
+ghost use Rattle.ui_engine.specs.Counting.{Connects, Counts, OnlyCounts, KeepsCounts, in_given, in_subject};
 
 use crate::engine::Engine;
 use crate::task::Task;
@@ -190,6 +191,15 @@ fn hold_emitted(table: &mut Table, cursor: &Cursor, args: &[Value]) -> Result<()
 }
 
 impl Engine {
+    /// A law: where each object is counted as often as it is mentioned, no count is at its end, so that what lives may be held once more. What is
+    /// counted stands in lists, and no list is longer than memory. It looks at each object; no program calls it.
+    pub(crate) fn never_full(&self)
+        ensures { (d : machine.Definition) (taken : ℕ → ℕ) → Counts d taken self.now → (o : ℕ) → taken o ≤ 2 ^ 64
+            → IsSome (living self.now.world.table.objects o) → may_hold self.now.world.table o ≡ true }
+    {
+        self.world.table.hold_few();
+    }
+
     /// Puts a task before the others, which holds its objects from then on.
     pub(crate) fn push(&mut self, task: Task) -> Result<(), AllocError>
         requires { HasBegun self.now.world.handlers.last task }

@@ -14,6 +14,7 @@ mod given;
 mod holding;
 mod instructions;
 mod lines;
+mod places;
 mod refusals;
 mod session;
 mod task;

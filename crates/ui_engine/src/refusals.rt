@@ -16,7 +16,7 @@ impl World {
     fn is_released(&self, place: Place) -> bool
         ensures { result ≡ is_released (held_at (world_of self.now) place.0) }
     {
-        self.held(usize::from(place.0)).is_released()
+        self.held(place).is_released()
     }
 
     // Whether what is given names such an object.

@@ -10,6 +10,7 @@ ghost use Rattle.ui_engine.specs.SessionView.{AnswersEvent, Comes, building, car
 
 use crate::dispatch::Reply;
 use crate::engine::Engine;
+use crate::places::FIRST_PLACE;
 use crate::task::Task;
 use crate::tasks::forwards::forwards;
 use crate::weak_slots::weak_slots;
@@ -126,7 +127,10 @@ impl Session {
             engine,
             stopped: false,
         };
-        let build = session.carry_out(Task::Building { place: 0, forwards });
+        let build = session.carry_out(Task::Building {
+            place: FIRST_PLACE,
+            forwards,
+        });
         Ok(Started { session, build })
     }
 

@@ -12,12 +12,12 @@ use handler_code::Frame;
 use signal_core::Cursor;
 use std::alloc::{AllocError, Global};
 use std::marker::Model;
-use ui_machine::{ObjectId, Place};
+use ui_machine::{ObjectId, Place, ProgramId, SignalId, Slot};
 
 /// The notifications that are left of a thaw. They are kept the other way round: the last is made first.
 #[derive(Drop)]
 pub struct Slots {
-    queue: Vec<u16>,
+    queue: Vec<Slot>,
 }
 
 impl Model for Slots {
@@ -30,14 +30,14 @@ impl Model for Slots {
 
 impl Slots {
     /// The notifications of a queue, from its end.
-    pub fn new(queue: Vec<u16>) -> Self
+    pub fn new(queue: Vec<Slot>) -> Self
         ensures { result ≡ reverse queue.items }
     {
         Slots { queue }
     }
 
     /// Takes the next one.
-    pub fn take(&mut self) -> Option<u16>
+    pub fn take(&mut self) -> Option<Slot>
         ensures { MatchOption result ((self.old ≡ []) × (self.new ≡ [])) (λ slot. self.old ≡ slot ∷ self.new) }
     {
         self.queue.pop()
@@ -47,9 +47,9 @@ impl Slots {
 /// A step of a construction that is to come.
 #[derive(Drop)]
 pub enum Making {
-    Set { slot: u16, value: Value },
+    Set { slot: Slot, value: Value },
     /// A program runs that a class names for its objects.
-    Run { program: u16 },
+    Run { program: ProgramId },
     Thaw,
 }
 
@@ -89,8 +89,8 @@ impl Makings {
 #[derive(Clone, Copy, Debug)]
 pub struct Forward {
     /// The place of the object whose property it is.
-    pub object: usize,
-    pub slot: u16,
+    pub object: Place,
+    pub slot: Slot,
     pub to: Place,
 }
 
@@ -131,7 +131,7 @@ pub struct NewEmission {
     /// The object that emits.
     pub object: ObjectId,
     /// The signal, by its number in the list of the object's class.
-    pub signal: u16,
+    pub signal: SignalId,
     /// The detail, as it stands at the signal.
     pub detail: Option<String>,
     pub args: Vec<Value>,
@@ -145,13 +145,13 @@ pub enum Task {
     /// A set is due.
     Setting {
         object: ObjectId,
-        slot: u16,
+        slot: Slot,
         value: Value,
     },
     /// A notification is to begin.
     Notifying {
         object: ObjectId,
-        slot: u16,
+        slot: Slot,
     },
     /// An emission is to begin.
     Beginning(NewEmission),
@@ -177,18 +177,18 @@ pub enum Task {
     },
     /// The rest of the build: the objects from a place on, and then the forward references.
     Building {
-        place: usize,
+        place: Place,
         forwards: Forwards,
     },
     /// The object at a place becomes its parent's child, and then comes the rest of the build: the objects behind it, and the forward
     /// references.
     Adopting {
-        place: usize,
+        place: Place,
         forwards: Forwards,
     },
     /// The signals of an object are connected from one on, and then those of the objects behind it.
     Connecting {
-        place: usize,
+        place: Place,
         number: usize,
     },
     /// An event is to be carried out.

@@ -10,6 +10,7 @@ use builder_defs::Definition;
 use instances::WeakSlots;
 use std::alloc::{AllocError, Global};
 use type_tree::TypeId;
+use ui_machine::Slot;
 
 // Of each slot of a class, whether it is weak.
 fn weak_of(alloc: Global, definition: &Definition, class: TypeId) -> Result<Vec<bool>, AllocError>
@@ -18,7 +19,7 @@ fn weak_of(alloc: Global, definition: &Definition, class: TypeId) -> Result<Vec<
     let mut marks = Vec::new(alloc);
     // For the proof: how many properties a class has at most.
     let _slots = definition.slots(class);
-    let mut slot: u16 = 0;
+    let mut slot: Slot = 0;
     loop {
         let Some(spec) = definition.spec(class, slot) else {
             return Ok(marks);

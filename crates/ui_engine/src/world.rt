@@ -11,7 +11,7 @@ use g_values::Value;
 use instances::{Table, WeakSlots};
 use signal_core::Handlers;
 use std::alloc::AllocError;
-use ui_machine::ObjectId;
+use ui_machine::{ObjectId, Place};
 
 /// The objects, which of their properties are weak, the handlers, what the builder holds of the objects, the transcript, and what the event
 /// answered.
@@ -66,15 +66,15 @@ impl World {
     }
 
     // What stands at a place of the builder.
-    fn entry(&self, place: usize) -> Option<Held>
-        ensures { result ≡ slice_get self.now.builder.items place }
+    fn entry(&self, place: Place) -> Option<Held>
+        ensures { result ≡ slice_get self.now.builder.items place.0 }
     {
-        self.builder.get(place).copied()
+        self.builder.get(usize::from(place.0)).copied()
     }
 
     /// What the builder has of a place.
-    pub fn held(&self, place: usize) -> Held
-        ensures { held_of result ≡ held_at (world_of self.now) place }
+    pub fn held(&self, place: Place) -> Held
+        ensures { held_of result ≡ held_at (world_of self.now) place.0 }
     {
         match self.entry(place) {
             Some(held) => held,
@@ -83,8 +83,8 @@ impl World {
     }
 
     /// The identity of what the builder holds of a place.
-    pub fn built(&self, place: usize) -> Option<ObjectId>
-        ensures { id_of result ≡ identity_held (held_at (world_of self.now) place) }
+    pub fn built(&self, place: Place) -> Option<ObjectId>
+        ensures { id_of result ≡ identity_held (held_at (world_of self.now) place.0) }
     {
         self.held(place).object()
     }

@@ -5,7 +5,8 @@ ghost use Rattle.ui_machine.specs.declared.arm.Halt.TheVariants.{OutOfMemory, St
 
 use std::alloc::{AllocError, AllocFailed};
 
-/// Why the first task of the machine can't act. That no run of an accepted definition meets one is not proved yet.
+/// Why the first task of the machine can't act. No run of an accepted definition meets one (proved in `law_sessions`); a definition that
+/// nobody has judged may.
 #[derive(Clone, Copy, Debug, PartialEq, Eq)]
 pub enum Arm {
     /// A register is unset or of another kind.

@@ -8,13 +8,21 @@ pub struct ObjectId(pub u64);
 #[derive(Clone, Copy, Debug, PartialEq, Eq, PartialOrd, Ord, Hash)]
 pub struct Place(pub u16);
 
+/// A property of a class, by its number among those that the class has: inherited ones first, in the order of installation.
+pub type Slot = u16;
+
+/// A program of a definition, by its number in document order.
+pub type ProgramId = u16;
+
+/// A signal of a class, by its number among those that the class has; the first is `notify`.
+pub type SignalId = u16;
+
 /// What of an object may be raised: a property's notification, a signal, or the end of its construction.
 #[derive(Clone, Copy, Debug, PartialEq, Eq)]
 pub enum Member {
-    /// The property of this slot.
-    Property(u16),
-    /// The signal of this number in the list of the class.
-    Signal(u16),
+    /// The notification of this property.
+    Property(Slot),
+    Signal(SignalId),
     Constructed,
 }
 
@@ -30,8 +38,8 @@ pub struct Channel {
 pub enum Entry {
     Build,
     At(Channel),
-    /// A source that runs the program of this number.
-    Source(u16),
+    /// A source that runs this program.
+    Source(ProgramId),
     /// What runs no program: a read, or a release.
     Plain,
 }

@@ -12,5 +12,5 @@ mod limits;
 
 pub use arm::{Arm, Halt};
 pub use device::{Device, DeviceFault, Feed, Sink};
-pub use ids::{Channel, Entry, Member, ObjectId, Place};
+pub use ids::{Channel, Entry, Member, ObjectId, Place, ProgramId, SignalId, Slot};
 pub use limits::{LEAST_OBJECTS, LimitField, Limits, LimitsError, MOST_HANDLERS, MOST_OBJECTS};

@@ -3,13 +3,13 @@
 use bindings::{Binding, BindingFlags, Bindings, Transfer};
 use bitflags::Flags;
 use std::test::Fail;
-use ui_machine::ObjectId;
+use ui_machine::{ObjectId, Slot};
 
 const FIRST: ObjectId = ObjectId(1);
 
 const SECOND: ObjectId = ObjectId(2);
 
-const ON: u16 = 0;
+const ON: Slot = 0;
 
 fn switch(name: Option<String>, flags: BindingFlags) -> Binding {
     Binding {

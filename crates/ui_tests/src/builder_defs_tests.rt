@@ -9,7 +9,7 @@ use param_specs::SpecFault;
 use std::alloc::Global;
 use std::test::Fail;
 use type_tree::TypeLimit;
-use ui_machine::{ObjectId, Place};
+use ui_machine::{ObjectId, Place, SignalId};
 
 // A definition of two classes and three objects.
 const BOXES: &str =
@@ -175,7 +175,7 @@ const SIGNALS: &str =
     r#"{"format":1,"interfaces":[{"name":"Goes","signals":[{"name":"go"}]}],"classes":[{"name":"Box","implements":["Goes"],"signals":[{"name":"turned_on","params":["int","text"],"result":"int","flags":["detailed"],"accumulator":"first-wins"}]}],"objects":[{"id":"b","class":"Box"}]}"#;
 
 // What a definition says of a signal: its name, how many parameters it has, and the flags of its emissions.
-fn told_signal(alloc: Global, definition: &Definition, number: u16) -> Result<String, Fail> {
+fn told_signal(alloc: Global, definition: &Definition, number: SignalId) -> Result<String, Fail> {
     let class = definition.class_at(Place(0));
     let Some(signal) = definition.signal(class, number) else {
         return Ok(String::new(alloc));

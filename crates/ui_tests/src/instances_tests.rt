@@ -8,13 +8,13 @@ use instances::{AdoptError, CreateError, Object, Table, WeakSlots};
 use std::alloc::{AllocError, Global};
 use std::test::Fail;
 use type_tree::TypeId;
-use ui_machine::{Arm, Halt, ObjectId};
+use ui_machine::{Arm, Halt, ObjectId, Place};
 
 fn object(alloc: Global) -> Object
     ensures childless { result.children ≡ [] }
     ensures parentless { result.parent ≡ None }
 {
-    Object::new(alloc, TypeId::new(0), 3, Vec::new(alloc), None)
+    Object::new(alloc, TypeId::new(0), Place(3), Vec::new(alloc), None)
 }
 
 /// Two objects may live. Identities rise from 1, and of two that nothing holds the lower one is found.
@@ -30,7 +30,7 @@ fn makes_as_many_as_may_live(rt: HostRuntime) -> Result<(), Fail> {
         Err(CreateError::ObjectLimit)
     );
     assert_eq!(rt; table.next_unheld(), Some(ObjectId(1)));
-    assert_eq!(rt; table.place_of(ObjectId(2)), Ok(3));
+    assert_eq!(rt; table.place_of(ObjectId(2)), Ok(Place(3)));
     assert_eq!(rt; table.place_of(ObjectId(3)), Err(Arm::Operand));
     Ok(())
 }
@@ -84,7 +84,7 @@ fn object_with_two_properties(alloc: Global) -> Result<Object, AllocError>
     let mut values = Vec::new(alloc);
     values.push(Value::Object(TypeId::new(0), None))?;
     values.push(Value::Object(TypeId::new(0), None))?;
-    Ok(Object::new(alloc, TypeId::new(0), 0, values, None))
+    Ok(Object::new(alloc, TypeId::new(0), Place(0), values, None))
 }
 
 fn naming(id: ObjectId) -> Value {

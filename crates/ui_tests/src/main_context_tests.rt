@@ -2,11 +2,11 @@
 
 use main_context::{AttachError, Context, Due, MAX_SOURCES, TurnError};
 use std::test::Fail;
-use ui_machine::ObjectId;
+use ui_machine::{ObjectId, ProgramId};
 
-const TICK: u16 = 0;
+const TICK: ProgramId = 0;
 
-const REST: u16 = 1;
+const REST: ProgramId = 1;
 
 /// A timeout that goes on and an idle that runs once, by turns: what each turn runs.
 #[test]

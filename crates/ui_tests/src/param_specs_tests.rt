@@ -8,7 +8,7 @@ use param_specs::{
 use std::alloc::Global;
 use std::test::Fail;
 use type_tree::{TypeFlags, TypeId, TypeTree};
-use ui_machine::ObjectId;
+use ui_machine::{ObjectId, Slot};
 
 // A property that is readable and writable, with this default and range.
 fn spec_of(
@@ -40,7 +40,7 @@ fn install(
     tree: &TypeTree,
     t: TypeId,
     spec: Spec,
-) -> Result<u16, SpecError> {
+) -> Result<Slot, SpecError> {
     if !is_known(tree, spec.kind) {
         return Err(SpecError::OutOfMemory);
     }
@@ -53,7 +53,7 @@ fn refused(_fault: SpecFault) -> Fail {
 }
 
 // The slot of the property that was installed.
-fn slot_of(outcome: Result<u16, SpecError>) -> Result<u16, Fail> {
+fn slot_of(outcome: Result<Slot, SpecError>) -> Result<Slot, Fail> {
     match outcome {
         Ok(slot) => Ok(slot),
         Err(SpecError::OutOfMemory) => Err(Fail::from("no memory for a property")),

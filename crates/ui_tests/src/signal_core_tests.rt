@@ -9,11 +9,16 @@ use signal_core::{
 use std::alloc::Global;
 use std::test::Fail;
 use type_tree::{TypeFlags, TypeId, TypeTree};
-use ui_machine::ObjectId;
+use ui_machine::{ObjectId, ProgramId, SignalId};
 
-const CLICKED: u16 = 1;
+const CLICKED: SignalId = 1;
 
-fn connection(object: u64, program: u16, data: Option<ObjectId>, by_code: bool) -> Connection {
+fn connection(
+    object: u64,
+    program: ProgramId,
+    data: Option<ObjectId>,
+    by_code: bool,
+) -> Connection {
     Connection {
         object: ObjectId(object),
         signal: CLICKED,
@@ -67,7 +72,7 @@ fn counts_the_handlers_that_are_meant(rt: HostRuntime) -> Result<(), Fail> {
     Ok(())
 }
 
-const CLASS: u16 = 9;
+const CLASS: ProgramId = 9;
 
 // An emission of the signal by object 1.
 fn emission(bits: u32, accumulator: Option<Accumulator>) -> Emission {
@@ -82,7 +87,7 @@ fn emission(bits: u32, accumulator: Option<Accumulator>) -> Emission {
 }
 
 // The programs of an emission, one digit each. The program `last` stops it.
-fn turns(handlers: &Handlers, cursor: &mut Cursor, last: u16) -> u64 {
+fn turns(handlers: &Handlers, cursor: &mut Cursor, last: ProgramId) -> u64 {
     let mut digits: u64 = 0;
     for _ in 0..9 {
         let program = match handlers.next(cursor) {
@@ -326,7 +331,13 @@ fn declares_up_to_the_most(rt: HostRuntime) -> Result<(), Fail> {
 }
 
 // Whether the signal of a number has this very name.
-fn is_called(table: &SignalTable, tree: &TypeTree, t: TypeId, number: u16, name: &str) -> bool {
+fn is_called(
+    table: &SignalTable,
+    tree: &TypeTree,
+    t: TypeId,
+    number: SignalId,
+    name: &str,
+) -> bool {
     match table.signal(tree, t, number) {
         Some(signal) => signal.name == name,
         None => false,

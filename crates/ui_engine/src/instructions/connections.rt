@@ -21,13 +21,13 @@ use crate::engine::Engine;
 use crate::instructions::operands::program_named;
 use builder_defs::Definition;
 use handler_code::{Frame, Register};
-use ui_machine::{Halt, ObjectId};
+use ui_machine::{Halt, ObjectId, ProgramId};
 
 /// The handlers of a program on an object.
 #[derive(Clone, Copy, Debug)]
 struct Matched {
     object: ObjectId,
-    program: u16,
+    program: ProgramId,
 }
 
 impl Engine {

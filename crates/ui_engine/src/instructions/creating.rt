@@ -18,20 +18,20 @@ ghost use Rattle.ui_engine.specs.View.{world_of};
 
 use crate::engine::Engine;
 use crate::given::{object_or_null, object_value};
+use crate::places::entry_at;
 use crate::task::Task;
 use builder_defs::Definition;
 use handler_code::{Frame, Register};
-use ui_machine::{Arm, Halt};
+use ui_machine::{Arm, Halt, Place};
 
 // The place of the prototype of an id.
-fn prototype_named(definition: &Definition, id: &str) -> Result<usize, Arm>
-    ensures { Shows (λ place. place) result (prototype_named definition.now id.now) }
+fn prototype_named(definition: &Definition, id: &str) -> Result<Place, Arm>
+    ensures { Shows (λ (place : Place). place.0) result (prototype_named definition.now id.now) }
 {
     let Some(place) = definition.place(id) else {
         return Err(Arm::Code);
     };
-    let place = usize::from(place.0);
-    let Some(entry) = definition.object(place) else {
+    let Some(entry) = entry_at(definition, place) else {
         return Err(Arm::Code);
     };
     if !entry.is_prototype {
@@ -41,12 +41,13 @@ fn prototype_named(definition: &Definition, id: &str) -> Result<usize, Arm>
 }
 
 // How many objects of a definition stand from a place on.
-fn objects_from(definition: &Definition, place: usize) -> u32
-    ensures { result ≡ object_count definition.now - place }
+fn objects_from(definition: &Definition, place: Place) -> u32
+    ensures { result ≡ object_count definition.now - place.0 }
 {
     // For the proof: how many objects a definition has at most.
     let _limits = definition.limits();
-    definition.object_count().saturating_sub(place) as u32
+    let first = usize::from(place.0);
+    definition.object_count().saturating_sub(first) as u32
 }
 
 impl Task {
@@ -92,11 +93,11 @@ impl Engine {
         definition: &Definition,
         frame: Frame,
         to: Register,
-        place: usize,
+        place: Place,
     ) -> Result<(), Halt>
         requires counted { Counts definition.now (λ o. in_frame o (frame_view frame)) self.now }
         ensures step { Goes result
-            (left self.old.counted (in_front (agenda_of definition.now self.old) (created definition.now (world_of self.old.world) (frame_view frame) to.0 place)))
+            (left self.old.counted (in_front (agenda_of definition.now self.old) (created definition.now (world_of self.old.world) (frame_view frame) to.0 place.0)))
             (config_of definition.now self.new) }
         ensures quiet { OnErr result ((world_of self.new.world).transcript ≡ (world_of self.old.world).transcript) }
         ensures counted { OnOk result (Counts definition.now nothing self.new) }

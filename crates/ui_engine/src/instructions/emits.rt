@@ -17,7 +17,7 @@ use crate::engine::Engine;
 use crate::task::{NewEmission, Task};
 use builder_defs::Definition;
 use handler_code::{Frame, Register, values_at};
-use ui_machine::{Arm, Halt, ObjectId};
+use ui_machine::{Arm, Halt, ObjectId, SignalId};
 
 /// What `emit` says beside the object.
 #[derive(Clone, Copy, Debug)]
@@ -36,7 +36,7 @@ impl Engine {
         definition: &Definition,
         object: ObjectId,
         name: &str,
-    ) -> Result<u16, Halt>
+    ) -> Result<SignalId, Halt>
         ensures { Finds (λ n. n) result (signal_in definition.now (world_of self.now.world) object.0 name.now) }
     {
         let class = self.world.table.class_of(object)?;
@@ -52,7 +52,7 @@ impl Engine {
         definition: &Definition,
         object: ObjectId,
         name: &str,
-    ) -> Result<u16, Halt>
+    ) -> Result<SignalId, Halt>
         ensures { Finds (λ n. n) result (signal_to_emit definition.now (world_of self.now.world) object.0 name.now) }
     {
         let signal = self.signal_in(definition, object, name)?;

@@ -22,6 +22,7 @@ ghost use Rattle.ui_engine.specs.Standing.{GoesPruned};
 use crate::engine::Engine;
 use crate::given::object_or_null;
 use crate::lines::Line;
+use crate::places::entry_at;
 use crate::task::{Slots, Task};
 use builder_defs::Definition;
 use g_values::Value;
@@ -48,8 +49,7 @@ impl Engine {
         let Some(place) = definition.place(id) else {
             return Err(Halt::Stuck(Arm::Code));
         };
-        let place = usize::from(place.0);
-        let Some(entry) = definition.object(place) else {
+        let Some(entry) = entry_at(definition, place) else {
             return Err(Halt::Stuck(Arm::Code));
         };
         if entry.is_prototype {

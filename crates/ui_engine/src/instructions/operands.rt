@@ -12,7 +12,7 @@ ghost use Rattle.ui_engine.specs.GivenView.{Finds};
 use crate::engine::Engine;
 use builder_defs::Definition;
 use handler_code::{Frame, Register, identity_at};
-use ui_machine::{Arm, Halt, ObjectId};
+use ui_machine::{Arm, Halt, ObjectId, ProgramId};
 
 impl Engine {
     /// The living object that a register names.
@@ -28,7 +28,7 @@ impl Engine {
 }
 
 /// The number of the program of a name.
-pub(crate) fn program_named(definition: &Definition, name: &str) -> Result<u16, Halt>
+pub(crate) fn program_named(definition: &Definition, name: &str) -> Result<ProgramId, Halt>
     ensures { Finds (λ n. n) result (known arms.Code (program_of definition.now name.now)) }
 {
     match definition.program_number(name) {

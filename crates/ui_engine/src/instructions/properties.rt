@@ -22,7 +22,7 @@ use crate::task::Task;
 use builder_defs::Definition;
 use g_values::Value;
 use handler_code::{Frame, Register, value_at};
-use ui_machine::{Arm, Halt, ObjectId};
+use ui_machine::{Arm, Halt, ObjectId, Slot};
 
 /// The value of a register that is set.
 pub(crate) fn value_in(frame: &Frame, from: Register) -> Result<Value, Halt>
@@ -36,7 +36,12 @@ pub(crate) fn value_in(frame: &Frame, from: Register) -> Result<Value, Halt>
 
 impl Engine {
     // The slot of an object's property by its name.
-    fn slot_at(&self, definition: &Definition, object: ObjectId, property: &str) -> Result<u16, Arm>
+    fn slot_at(
+        &self,
+        definition: &Definition,
+        object: ObjectId,
+        property: &str,
+    ) -> Result<Slot, Arm>
         ensures { Shows (λ slot. slot) result (slot_at definition.now (world_of self.now.world) object.0 property.now) }
     {
         let class = self.world.table.class_of(object)?;
@@ -70,7 +75,7 @@ impl Engine {
         definition: &Definition,
         object: ObjectId,
         property: &str,
-    ) -> Result<u16, Arm>
+    ) -> Result<Slot, Arm>
         ensures { Shows (λ slot. slot) result (settable_slot definition.now (world_of self.now.world) object.0 property.now) }
     {
         let slot = self.slot_at(definition, object, property)?;
@@ -135,7 +140,7 @@ impl Engine {
 
     // The notification of a property is raised: it waits on a frozen object, and comes first on any other.
     #[tactic(auto, unfolding(ui_machine::specs::Rules::Sets::raising))]
-    fn raise(&mut self, definition: &Definition, object: ObjectId, slot: u16) -> Result<(), Halt>
+    fn raise(&mut self, definition: &Definition, object: ObjectId, slot: Slot) -> Result<(), Halt>
         ensures step { Goes result
             (uncounted (agenda_of definition.now self.old) self.old.counted (raising (world_of self.old.world) object.0 slot))
             (config_of definition.now self.new) }

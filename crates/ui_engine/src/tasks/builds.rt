@@ -18,6 +18,7 @@ ghost use Rattle.ui_machine.specs.State.Tasks.{Building, Constructing};
 ghost use Rattle.ui_machine.specs.Steps.{uncounted};
 ghost use Rattle.ui_machine.specs.Rules.Build.{building};
 ghost use Rattle.g_values.specs.View.{value_view};
+ghost use Rattle.builder_defs.specs.Meaning.{object_count};
 ghost use Rattle.ui_engine.specs.View.{with_line, world_of};
 ghost use Rattle.ui_engine.specs.TaskView.{task_of, agenda_of, build_from, build_behind};
 ghost use Rattle.ui_engine.specs.Counting.{Connects, KeepsCounts};
@@ -28,6 +29,7 @@ use crate::engine::Engine;
 use crate::given::object_value;
 use crate::holding::hold_any;
 use crate::lines::Line;
+use crate::places::{entry_at, is_object, next_place};
 use crate::task::{Forwards, Making, Makings, Slots, Task};
 use crate::tasks::makings::{GivenAt, construction};
 use builder_defs::Definition;
@@ -35,7 +37,7 @@ use g_values::Value;
 use instances::{Object, Table};
 use std::alloc::{AllocError, Global};
 use type_tree::TypeId;
-use ui_machine::{Arm, Halt, ObjectId};
+use ui_machine::{Arm, Halt, ObjectId, Place, ProgramId, Slot};
 
 // The type under which objects begin floating.
 const INITIALLY_UNOWNED: u16 = 1;
@@ -126,7 +128,7 @@ impl Engine {
         &mut self,
         definition: &Definition,
         object: ObjectId,
-        slot: u16,
+        slot: Slot,
         value: Value,
         steps: Makings,
         held: bool,
@@ -159,7 +161,7 @@ impl Engine {
         &mut self,
         definition: &Definition,
         object: ObjectId,
-        program: u16,
+        program: ProgramId,
         steps: Makings,
         held: bool,
     ) -> Result<(), Halt>
@@ -217,10 +219,10 @@ impl Engine {
         &mut self,
         definition: &Definition,
         class: TypeId,
-        place: usize,
+        place: Place,
         values: Vec<Value>,
     ) -> Result<ObjectId, AllocError>
-        ensures world { OnOk result (world_of self.new.world ≡ with_object definition.now (world_of self.old.world) (made_object class place (map value_view values.items) None)) }
+        ensures world { OnOk result (world_of self.new.world ≡ with_object definition.now (world_of self.old.world) (made_object class place.0 (map value_view values.items) None)) }
         ensures identity { IfOk result (λ id. id.0 ≡ suc (length (world_of self.old.world).objects)) }
         ensures quiet { (world_of self.new.world).transcript ≡ (world_of self.old.world).transcript }
         ensures counted { ((o : ℕ) → in_values o (specs_of definition.now class) (map value_view values.items) ≡ 0) → OnOk result (KeepsCounts definition.now self.old self.new) }
@@ -241,18 +243,18 @@ impl Engine {
 
     /// The object of a place is made. Its line and its construction are still to come.
     #[tactic(auto, unfolding(ui_machine::specs::Rules::Construction::making))]
-    pub(crate) fn make(&mut self, definition: &Definition, place: usize) -> Result<NewObject, Halt>
-        ensures made { IfOk result (λ new. (held : Bool) → making definition.now (world_of self.old.world) place None held
+    pub(crate) fn make(&mut self, definition: &Definition, place: Place) -> Result<NewObject, Halt>
+        ensures made { IfOk result (λ new. (held : Bool) → making definition.now (world_of self.old.world) place.0 None held
             ≡ starts (with_line (string_bytes new.line) (world_of self.new.world)) (Constructing new.object.0 new.steps held ∷ [])) }
         ensures identity { IfOk result (λ new. new.object.0 ≡ suc (length (world_of self.old.world).objects)) }
-        ensures stops { IfErr result (λ halt. (held : Bool) → Stops halt (making definition.now (world_of self.old.world) place None held)) }
+        ensures stops { IfErr result (λ halt. (held : Bool) → Stops halt (making definition.now (world_of self.old.world) place.0 None held)) }
         ensures quiet { (world_of self.new.world).transcript ≡ (world_of self.old.world).transcript }
         ensures counted { OnOk result (KeepsCounts definition.now self.old self.new) }
         ensures same { (self.new.stack ≡ self.old.stack) × (self.new.counted ≡ self.old.counted) }
         ensures handlers { self.new.world.handlers ≡ self.old.world.handlers }
     {
         let types = definition.types();
-        let Some(entry) = definition.object(place) else {
+        let Some(entry) = entry_at(definition, place) else {
             return Err(Halt::Stuck(Arm::Code));
         };
         let class = entry.class;
@@ -303,9 +305,9 @@ impl Engine {
     }
 
     // An object of the build is made. The builder holds it at the end of its construction.
-    fn making(&mut self, definition: &Definition, place: usize) -> Result<(), Halt>
+    fn making(&mut self, definition: &Definition, place: Place) -> Result<(), Halt>
         ensures step { Goes result
-            (uncounted (agenda_of definition.now self.old) self.old.counted (making definition.now (world_of self.old.world) place None true))
+            (uncounted (agenda_of definition.now self.old) self.old.counted (making definition.now (world_of self.old.world) place.0 None true))
             (config_of definition.now self.new) }
         ensures quiet { OnErr result ((world_of self.new.world).transcript ≡ (world_of self.old.world).transcript) }
         ensures counted { OnOk result (KeepsCounts definition.now self.old self.new) }
@@ -320,19 +322,19 @@ impl Engine {
     pub(crate) fn building(
         &mut self,
         definition: &Definition,
-        place: usize,
+        place: Place,
         forwards: Forwards,
     ) -> Result<(), Halt>
         requires connects { Connects definition.now self.now }
         ensures step { Goes result
-            (uncounted (agenda_of definition.now self.old) self.old.counted (building definition.now (world_of self.old.world) (build_from definition.now place forwards)))
+            (uncounted (agenda_of definition.now self.old) self.old.counted (building definition.now (world_of self.old.world) (build_from definition.now place.0 forwards)))
             (config_of definition.now self.new) }
         ensures quiet { OnErr result ((world_of self.new.world).transcript ≡ (world_of self.old.world).transcript) }
         ensures counted { OnOk result (KeepsCounts definition.now self.old self.new) }
     {
         // For the proof: what is known of a definition's types.
         let _types = definition.types();
-        if place >= definition.object_count() {
+        if !is_object(definition, place) {
             return self.forwarding(definition, place, forwards);
         }
         self.push(behind(definition, place, forwards))?;
@@ -341,13 +343,13 @@ impl Engine {
 }
 
 // What the build does behind the making of an object: the object becomes its parent's child, if it is one, and then the next place comes.
-fn behind(definition: &Definition, place: usize, forwards: Forwards) -> Task
-    requires room { place < usize.MAX }
-    ensures task { (hs : List Handler) → task_of definition.now hs result ≡ Building (build_behind definition.now place forwards) }
+fn behind(definition: &Definition, place: Place, forwards: Forwards) -> Task
+    requires within { place.0 < object_count definition.now }
+    ensures task { (hs : List Handler) → task_of definition.now hs result ≡ Building (build_behind definition.now place.0 forwards) }
     ensures begun { (last : ℕ) → HasBegun last result }
 {
-    let next = place + 1;
-    let Some(entry) = definition.object(place) else {
+    let next = next_place(definition, place);
+    let Some(entry) = entry_at(definition, place) else {
         return Task::Building {
             place: next,
             forwards,
@@ -385,7 +387,7 @@ fn defaults(alloc: Global, definition: &Definition, class: TypeId) -> Result<Vec
     let mut values = Vec::new(alloc);
     // For the proof: how many properties a class has at most.
     let _slots = definition.slots(class);
-    let mut slot: u16 = 0;
+    let mut slot: Slot = 0;
     loop {
         let Some(spec) = definition.spec(class, slot) else {
             return Ok(values);

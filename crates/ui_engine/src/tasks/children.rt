@@ -17,11 +17,12 @@ ghost use Rattle.ui_engine.specs.EngineView.{config_of};
 
 use crate::engine::Engine;
 use crate::lines::Line;
+use crate::places::{entry_at, is_object, next_place};
 use crate::task::{Forwards, Task};
 use builder_defs::Definition;
 use instances::AdoptError;
 use std::alloc::AllocError;
-use ui_machine::{Arm, Halt, ObjectId};
+use ui_machine::{Arm, Halt, ObjectId, Place};
 
 /// An object, and the one whose child it is to be.
 #[derive(Clone, Copy)]
@@ -32,16 +33,16 @@ struct Kin {
 
 impl Engine {
     // What the builder holds of a place and of its parent's.
-    fn kin(&self, definition: &Definition, place: usize) -> Result<Kin, Arm>
-        ensures { Shows kin_of result (kin_at definition.now (world_of self.now.world) place) }
+    fn kin(&self, definition: &Definition, place: Place) -> Result<Kin, Arm>
+        ensures { Shows kin_of result (kin_at definition.now (world_of self.now.world) place.0) }
     {
-        let Some(entry) = definition.object(place) else {
+        let Some(entry) = entry_at(definition, place) else {
             return Err(Arm::Code);
         };
         let Some(above) = entry.parent else {
             return Err(Arm::Code);
         };
-        let parent = self.held(usize::from(above.0))?;
+        let parent = self.held(above)?;
         let child = self.held(place)?;
         Ok(Kin { parent, child })
     }
@@ -122,23 +123,23 @@ impl Engine {
     pub(crate) fn adopting(
         &mut self,
         definition: &Definition,
-        place: usize,
+        place: Place,
         forwards: Forwards,
     ) -> Result<(), Halt>
         ensures step { Goes result
-            (uncounted (agenda_of definition.now self.old) self.old.counted (building_child definition.now (world_of self.old.world) place (build_from definition.now (suc place) forwards)))
+            (uncounted (agenda_of definition.now self.old) self.old.counted (building_child definition.now (world_of self.old.world) place.0 (build_from definition.now (suc place.0) forwards)))
             (config_of definition.now self.new) }
         ensures quiet { OnErr result ((world_of self.new.world).transcript ≡ (world_of self.old.world).transcript) }
         ensures counted { OnOk result (KeepsCounts definition.now self.old self.new) }
     {
         // For the proof: what is known of a definition's places.
         let _types = definition.types();
-        if place >= definition.object_count() {
+        if !is_object(definition, place) {
             return Err(Halt::Stuck(Arm::Code));
         }
         let kin = self.kin(definition, place)?;
         self.push(Task::Building {
-            place: place + 1,
+            place: next_place(definition, place),
             forwards,
         })?;
         self.join(definition, kin)

@@ -14,10 +14,11 @@ use crate::builder::{Held, put_held};
 use crate::engine::Engine;
 use crate::holding::let_go_any;
 use crate::lines::Line;
+use crate::places::entry_at;
 use crate::task::{NewEmission, Task};
 use crate::tasks::emission::text_of;
 use builder_defs::{Definition, Event, Given};
-use ui_machine::{Arm, Halt, Place};
+use ui_machine::{Arm, Halt, Place, SignalId, Slot};
 
 impl Engine {
     // A set by an event.
@@ -26,7 +27,7 @@ impl Engine {
         &mut self,
         definition: &Definition,
         place: Place,
-        slot: u16,
+        slot: Slot,
         given: Given,
     ) -> Result<(), Halt>
         ensures step { Goes result
@@ -35,7 +36,7 @@ impl Engine {
         ensures quiet { OnErr result ((world_of self.new.world).transcript ≡ (world_of self.old.world).transcript) }
         ensures counted { OnOk result (KeepsCounts definition.now self.old self.new) }
     {
-        let object = self.settable(definition, usize::from(place.0), slot)?;
+        let object = self.settable(definition, place, slot)?;
         let value = self.operand(given)?;
         self.push(Task::Setting {
             object,
@@ -47,14 +48,19 @@ impl Engine {
 
     // A get by an event.
     #[tactic(auto, unfolding(ui_machine::specs::Rules::Events::carrying_get))]
-    fn carrying_get(&mut self, definition: &Definition, place: Place, slot: u16) -> Result<(), Halt>
+    fn carrying_get(
+        &mut self,
+        definition: &Definition,
+        place: Place,
+        slot: Slot,
+    ) -> Result<(), Halt>
         ensures step { Goes result
             (uncounted (agenda_of definition.now self.old) self.old.counted (carrying_get definition.now (world_of self.old.world) place.0 slot))
             (config_of definition.now self.new) }
         ensures quiet { OnErr result ((world_of self.new.world).transcript ≡ (world_of self.old.world).transcript) }
         ensures counted { OnOk result (KeepsCounts definition.now self.old self.new) }
     {
-        let object = self.held(usize::from(place.0))?;
+        let object = self.held(place)?;
         let spec = self.spec_of(definition, object, slot)?;
         let value = self.world.table.read(object, slot)?;
         if !spec.is_readable() {
@@ -78,7 +84,7 @@ impl Engine {
         &mut self,
         definition: &Definition,
         place: Place,
-        signal: u16,
+        signal: SignalId,
         args: &[Given],
         detail: Option<&str>,
     ) -> Result<(), Halt>
@@ -88,7 +94,7 @@ impl Engine {
         ensures quiet { OnErr result ((world_of self.new.world).transcript ≡ (world_of self.old.world).transcript) }
         ensures counted { OnOk result (KeepsCounts definition.now self.old self.new) }
     {
-        let object = self.held(usize::from(place.0))?;
+        let object = self.held(place)?;
         let detail = self.detail_in(definition, object, signal, detail)?;
         let args = self.operands(args)?;
         self.push(Task::Beginning(NewEmission {
@@ -111,8 +117,7 @@ impl Engine {
         ensures quiet { OnErr result ((world_of self.new.world).transcript ≡ (world_of self.old.world).transcript) }
         ensures counted { OnOk result (KeepsCounts definition.now self.old self.new) }
     {
-        let place = usize::from(place.0);
-        let Some(entry) = definition.object(place) else {
+        let Some(entry) = entry_at(definition, place) else {
             return Err(Halt::Stuck(Arm::Code));
         };
         let object = self.held(place)?;

@@ -12,23 +12,24 @@ ghost use Rattle.ui_engine.specs.Counting.{Connects, KeepsCounts};
 ghost use Rattle.ui_engine.specs.EngineView.{config_of};
 
 use crate::engine::Engine;
+use crate::places::{FIRST_PLACE, entry_at, place_numbered};
 use crate::task::{Forward, Forwards, Task};
 use builder_defs::{Definition, Given, GivenValue};
 use std::alloc::{AllocError, Global};
-use ui_machine::Halt;
+use ui_machine::{Halt, Place};
 
 // Puts what an entry gives before these, where it is a forward reference.
 fn add_forward(
     forwards: &mut Vec<Forward>,
-    object: usize,
+    object: Place,
     entry: &GivenValue,
 ) -> Result<(), AllocError>
-    ensures { OnOk result (items_of forwards.new.items ≡ forward_of object (given_property entry.now) ++ items_of forwards.old.items) }
+    ensures { OnOk result (items_of forwards.new.items ≡ forward_of object.0 (given_property entry.now) ++ items_of forwards.old.items) }
 {
     let Given::Object(to) = &entry.given else {
         return Ok(());
     };
-    if object > usize::from(to.0) {
+    if object.0 > to.0 {
         return Ok(());
     }
     forwards.push(Forward {
@@ -42,10 +43,10 @@ fn add_forward(
 // Puts the forward references of an object before these, in the given order.
 fn add_forwards(
     forwards: &mut Vec<Forward>,
-    object: usize,
+    object: Place,
     given: &[GivenValue],
 ) -> Result<(), AllocError>
-    ensures { OnOk result (items_of forwards.new.items ≡ flat_map (forward_of object) (map given_property given.now) ++ items_of forwards.old.items) }
+    ensures { OnOk result (items_of forwards.new.items ≡ flat_map (forward_of object.0) (map given_property given.now) ++ items_of forwards.old.items) }
 {
     let mut left = given.len();
     'entries: while left > 0 {
@@ -59,11 +60,11 @@ fn add_forwards(
 fn add_forwards_of(
     forwards: &mut Vec<Forward>,
     definition: &Definition,
-    place: usize,
+    place: Place,
 ) -> Result<(), AllocError>
-    ensures { OnOk result (items_of forwards.new.items ≡ forwards_at definition.now place ++ items_of forwards.old.items) }
+    ensures { OnOk result (items_of forwards.new.items ≡ forwards_at definition.now place.0 ++ items_of forwards.old.items) }
 {
-    let Some(entry) = definition.object(place) else {
+    let Some(entry) = entry_at(definition, place) else {
         return Ok(());
     };
     add_forwards(forwards, place, entry.given)
@@ -76,10 +77,10 @@ pub(crate) fn forwards(alloc: Global, definition: &Definition) -> Result<Forward
     // For the proof: what is known of a definition's types.
     let _types = definition.types();
     let mut forwards = Vec::new(alloc);
-    let mut place = definition.object_count();
-    'places: while place > 0 {
-        place -= 1;
-        add_forwards_of(&mut forwards, definition, place)?;
+    let mut left = definition.object_count();
+    'places: while left > 0 {
+        left -= 1;
+        add_forwards_of(&mut forwards, definition, place_numbered(definition, left))?;
     }
     Ok(Forwards::new(forwards))
 }
@@ -90,10 +91,10 @@ impl Engine {
     pub(crate) fn forwarding(
         &mut self,
         definition: &Definition,
-        place: usize,
+        place: Place,
         mut forwards: Forwards,
     ) -> Result<(), Halt>
-        requires past { object_count definition.now ≤ place }
+        requires past { object_count definition.now ≤ place.0 }
         requires connects { Connects definition.now self.now }
         ensures step { Goes result
             (uncounted (agenda_of definition.now self.old) self.old.counted (building definition.now (world_of self.old.world) (build_end definition.now forwards)))
@@ -104,10 +105,10 @@ impl Engine {
         // For the proof: what is known of a definition's places.
         let _types = definition.types();
         let Some(forward) = forwards.take() else {
-            return self.connecting(definition, 0, 0);
+            return self.connecting(definition, FIRST_PLACE, 0);
         };
         let object = self.settable(definition, forward.object, forward.slot)?;
-        let value = self.held_value(usize::from(forward.to.0))?;
+        let value = self.held_value(forward.to)?;
         self.push(Task::Building { place, forwards })?;
         self.push(Task::Setting {
             object,

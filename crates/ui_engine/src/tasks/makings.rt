@@ -19,35 +19,36 @@ use g_values::Value;
 use param_specs::Spec;
 use std::alloc::{AllocError, Global};
 use type_tree::TypeId;
+use ui_machine::{Place, Slot};
 
 /// What the object at a place is given, as the builder comes to it.
 #[derive(Clone, Copy)]
 pub(crate) struct GivenAt<'a> {
     pub(crate) world: &'a World,
-    pub(crate) place: usize,
+    pub(crate) place: Place,
     pub(crate) entries: &'a [GivenValue],
 }
 
 // Whether an object is given that is not there before this place.
-fn is_forward(place: usize, given: &Given) -> bool
-    ensures { result ≡ is_forward place (given_view given.now) }
+fn is_forward(place: Place, given: &Given) -> bool
+    ensures { result ≡ is_forward place.0 (given_view given.now) }
 {
     match given {
         Given::Value(_) => false,
-        Given::Object(to) => place <= usize::from(to.0),
+        Given::Object(to) => place.0 <= to.0,
     }
 }
 
 // What is given to a slot, if something is, and not a forward reference.
-fn entry_for(place: usize, entries: &[GivenValue], slot: u16) -> Option<&GivenValue>
-    ensures { option_copied result ≡ find (λ g. not (is_forward place (given_view g.given)) && nat_eq g.slot slot) entries.now }
+fn entry_for(place: Place, entries: &[GivenValue], slot: Slot) -> Option<&GivenValue>
+    ensures { option_copied result ≡ find (λ g. not (is_forward place.0 (given_view g.given)) && nat_eq g.slot slot) entries.now }
 {
     entries.iter().find(|entry| !is_forward(place, &entry.given) && entry.slot == slot)
 }
 
 // The value that is given to a slot, if one is.
-fn value_given(given: GivenAt<'_>, slot: u16) -> Result<Option<Value>, AllocError>
-    ensures { IfOk result (λ v. option_map value_view v ≡ given_at (world_of given.entry.world.now) (early given.entry.place given.entry.entries.now) slot) }
+fn value_given(given: GivenAt<'_>, slot: Slot) -> Result<Option<Value>, AllocError>
+    ensures { IfOk result (λ v. option_map value_view v ≡ given_at (world_of given.entry.world.now) (early given.entry.place.0 given.entry.entries.now) slot) }
 {
     match entry_for(given.place, given.entries, slot) {
         Some(entry) => given.world.given(&entry.given),
@@ -56,8 +57,8 @@ fn value_given(given: GivenAt<'_>, slot: u16) -> Result<Option<Value>, AllocErro
 }
 
 // The value that is given to a slot, or else the default.
-fn value_for(given: GivenAt<'_>, spec: &Spec, slot: u16) -> Result<Value, AllocError>
-    ensures { IfOk result (λ v. value_view v ≡ or_default (given_at (world_of given.entry.world.now) (early given.entry.place given.entry.entries.now) slot) (spec_view spec.now).default) }
+fn value_for(given: GivenAt<'_>, spec: &Spec, slot: Slot) -> Result<Value, AllocError>
+    ensures { IfOk result (λ v. value_view v ≡ or_default (given_at (world_of given.entry.world.now) (early given.entry.place.0 given.entry.entries.now) slot) (spec_view spec.now).default) }
 {
     match value_given(given, slot)? {
         Some(value) => Ok(value),
@@ -71,10 +72,10 @@ fn add_construct_set(
     definition: &Definition,
     class: TypeId,
     given: GivenAt<'_>,
-    slot: u16,
+    slot: Slot,
 ) -> Result<(), AllocError>
     ensures { (s : machine.Spec) → spec_of definition.now class slot ≡ Some s → OnOk result (making_steps steps.new.items
-        ≡ construct_set (world_of given.entry.world.now) (early given.entry.place given.entry.entries.now) slot s ++ making_steps steps.old.items) }
+        ≡ construct_set (world_of given.entry.world.now) (early given.entry.place.0 given.entry.entries.now) slot s ++ making_steps steps.old.items) }
 {
     let Some(spec) = definition.spec(class, slot) else {
         return Ok(());
@@ -94,18 +95,18 @@ fn add_construct_sets(
     given: GivenAt<'_>,
 ) -> Result<(), AllocError>
     ensures { OnOk result (making_steps steps.new.items
-        ≡ construct_sets (world_of given.entry.world.now) (early given.entry.place given.entry.entries.now) 0 (specs_of definition.now class) ++ making_steps steps.old.items) }
+        ≡ construct_sets (world_of given.entry.world.now) (early given.entry.place.0 given.entry.entries.now) 0 (specs_of definition.now class) ++ making_steps steps.old.items) }
 {
     let mut slot = definition.slots(class);
     'slots: while slot > 0 {
         slot -= 1;
-        add_construct_set(steps, definition, class, given, slot as u16)?;
+        add_construct_set(steps, definition, class, given, slot as Slot)?;
     }
     Ok(())
 }
 
 // Whether a construction sets the property of a slot in any case.
-fn is_at_construction(definition: &Definition, class: TypeId, slot: u16) -> bool
+fn is_at_construction(definition: &Definition, class: TypeId, slot: Slot) -> bool
     ensures { result ≡ is_at_construction (read no_spec (specs_of definition.now class) slot) }
 {
     match definition.spec(class, slot) {
@@ -115,7 +116,7 @@ fn is_at_construction(definition: &Definition, class: TypeId, slot: u16) -> bool
 }
 
 // Puts the set of a value before what a construction does, if there is one.
-fn add_set(steps: &mut Vec<Making>, slot: u16, value: Option<Value>) -> Result<(), AllocError>
+fn add_set(steps: &mut Vec<Making>, slot: Slot, value: Option<Value>) -> Result<(), AllocError>
     ensures { OnOk result (making_steps steps.new.items ≡ set_of (option_map value_view value) slot ++ making_steps steps.old.items) }
 {
     let Some(value) = value else {
@@ -150,7 +151,7 @@ fn add_early_set(
     entry: &GivenValue,
 ) -> Result<(), AllocError>
     ensures { OnOk result (making_steps steps.new.items
-        ≡ early_set (world_of given.entry.world.now) (specs_of definition.now class) given.entry.place (given_property entry.now) ++ making_steps steps.old.items) }
+        ≡ early_set (world_of given.entry.world.now) (specs_of definition.now class) given.entry.place.0 (given_property entry.now) ++ making_steps steps.old.items) }
 {
     if is_forward(given.place, &entry.given) {
         return Ok(());
@@ -166,7 +167,7 @@ fn add_later_sets(
     given: GivenAt<'_>,
 ) -> Result<(), AllocError>
     ensures { OnOk result (making_steps steps.new.items
-        ≡ given_sets (world_of given.entry.world.now) (specs_of definition.now class) (early given.entry.place given.entry.entries.now) ++ making_steps steps.old.items) }
+        ≡ given_sets (world_of given.entry.world.now) (specs_of definition.now class) (early given.entry.place.0 given.entry.entries.now) ++ making_steps steps.old.items) }
 {
     let mut left = given.entries.len();
     'entries: while left > 0 {
@@ -217,7 +218,7 @@ pub(crate) fn construction(
     given: GivenAt<'_>,
 ) -> Result<Makings, AllocError>
     ensures { IfOk result (λ steps. steps
-        ≡ making_of_object definition.now (world_of given.entry.world.now) class (early given.entry.place given.entry.entries.now)) }
+        ≡ making_of_object definition.now (world_of given.entry.world.now) class (early given.entry.place.0 given.entry.entries.now)) }
 {
     let mut steps = Vec::new(alloc);
     steps.push(Making::Thaw)?;

@@ -14,10 +14,10 @@ use crate::engine::Engine;
 use crate::lines::Line;
 use crate::task::{Slots, Task};
 use builder_defs::Definition;
-use ui_machine::{Arm, Halt, ObjectId};
+use ui_machine::{Arm, Halt, ObjectId, SignalId, Slot};
 
 // The number of the signal `notify`.
-const NOTIFY: u16 = 0;
+const NOTIFY: SignalId = 0;
 
 impl Engine {
     // A due notification begins. It is counted and told of.
@@ -26,7 +26,7 @@ impl Engine {
         &mut self,
         definition: &Definition,
         object: ObjectId,
-        slot: u16,
+        slot: Slot,
     ) -> Result<(), Halt>
         ensures step { Goes result
             (counted (agenda_of definition.now self.old) self.old.counted (notifying definition.now (world_of self.old.world) object.0 slot))

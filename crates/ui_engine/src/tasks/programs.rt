@@ -24,14 +24,14 @@ use g_values::Value;
 use handler_code::{Frame, RegisterKind};
 use instances::Table;
 use type_tree::{TypeId, TypeTree};
-use ui_machine::{Arm, Halt, ObjectId, Place};
+use ui_machine::{Arm, Halt, ObjectId, Place, ProgramId};
 
 // Whether an object lives and was made from the place.
 fn is_at(table: &Table, object: ObjectId, place: Place) -> bool
     ensures { result ≡ is_number place.0 (place_in table.now.objects object.0) }
 {
     match table.place_of(object) {
-        Ok(found) => found == usize::from(place.0),
+        Ok(found) => found.0 == place.0,
         Err(_) => false,
     }
 }
@@ -91,7 +91,7 @@ impl Engine {
     pub(crate) fn begin_program(
         &mut self,
         definition: &Definition,
-        number: u16,
+        number: ProgramId,
         args: Vec<Value>,
     ) -> Result<(), Halt>
         ensures step { Goes result

@@ -29,7 +29,7 @@ use instances::Table;
 use param_specs::{Spec, validate};
 use std::alloc::AllocError;
 use type_tree::TypeId;
-use ui_machine::{Arm, Halt, ObjectId};
+use ui_machine::{Arm, Halt, ObjectId, Slot};
 
 // Whether a value is one of the kind, its members, range and class left aside.
 fn has_kind(value: &Value, kind: Kind) -> bool
@@ -118,7 +118,7 @@ impl Engine {
         &self,
         definition: &'a Definition,
         object: ObjectId,
-        slot: u16,
+        slot: Slot,
     ) -> Result<&'a Spec, Arm>
         ensures spec { Shows (λ s. spec_view s.now) result (spec_at definition.now (world_of self.now.world).objects object.0 slot) }
         ensures plain { IfOk result (λ s. IsPlain definition.now.types (spec_view s.now)) }
@@ -138,7 +138,7 @@ impl Engine {
         &mut self,
         definition: &Definition,
         object: ObjectId,
-        slot: u16,
+        slot: Slot,
         line: String,
         is_told: bool,
     ) -> Result<(), Halt>
@@ -168,7 +168,7 @@ impl Engine {
         &mut self,
         definition: &Definition,
         object: ObjectId,
-        slot: u16,
+        slot: Slot,
         value: Value,
     ) -> Result<Value, Halt>
         ensures changes { Follows value_view result (changed (world_of self.old.world).objects object.0 (with_value slot (value_view value))) (world_of self.new.world).objects }
@@ -195,7 +195,7 @@ impl Engine {
         &mut self,
         definition: &Definition,
         object: ObjectId,
-        slot: u16,
+        slot: Slot,
         spec: &Spec,
         value: Value,
     ) -> Result<(), Halt>
@@ -245,7 +245,7 @@ impl Engine {
         &mut self,
         definition: &Definition,
         object: ObjectId,
-        slot: u16,
+        slot: Slot,
         value: Value,
     ) -> Result<(), Halt>
         ensures step { Goes result

@@ -21,6 +21,7 @@ ghost use Rattle.ui_engine.specs.TaskView.{agenda_of, connects_from, signals_of,
 ghost use Rattle.ui_engine.specs.View.{world_of};
 
 use crate::engine::Engine;
+use crate::places::{FIRST_PLACE, entry_at, place_numbered};
 use crate::task::Task;
 use crate::tasks::emission::text_of;
 use builder_defs::Definition;
@@ -30,7 +31,7 @@ use ui_machine::{Arm, Halt, ObjectId, Place};
 /// A signal of an object of the definition: the object's place, and the signal's number there.
 #[derive(Clone, Copy, Debug)]
 struct Position {
-    place: usize,
+    place: Place,
     number: usize,
 }
 
@@ -45,18 +46,18 @@ fn signal_count(definition: &Definition, place: usize) -> usize
 }
 
 // The first signal of an object from one on, or else of the objects behind it.
-fn next_signal(definition: &Definition, place: usize, number: usize) -> Option<Position>
-    ensures next { MatchOption result (connects_from definition.now place number ≡ [])
-        (λ at. connects_from definition.now place number ≡ connects at.place at.number ∷ connects_from definition.now at.place (suc at.number)) }
+fn next_signal(definition: &Definition, place: Place, number: usize) -> Option<Position>
+    ensures next { MatchOption result (connects_from definition.now place.0 number ≡ [])
+        (λ at. connects_from definition.now place.0 number ≡ connects at.place.0 at.number ∷ connects_from definition.now at.place.0 (suc at.number)) }
     ensures room { IfSome result (λ at. at.number < usize.MAX) }
 {
     // For the proof: what is known of a definition's types.
     let _types = definition.types();
     let mut first = number;
-    for at in place..definition.object_count() {
+    for at in usize::from(place.0)..definition.object_count() {
         if first < signal_count(definition, at) {
             return Some(Position {
-                place: at,
+                place: place_numbered(definition, at),
                 number: first,
             });
         }
@@ -67,14 +68,14 @@ fn next_signal(definition: &Definition, place: usize, number: usize) -> Option<P
 
 // The number of the last handler with so many more as the builder is to connect from a signal of an object on: at most the greatest that there
 // is.
-fn taken_from(definition: &Definition, last: u64, place: usize, number: usize) -> u64
-    ensures { Takes last (total is_connecting (connects_from definition.now place number)) result }
+fn taken_from(definition: &Definition, last: u64, place: Place, number: usize) -> u64
+    ensures { Takes last (total is_connecting (connects_from definition.now place.0 number)) result }
 {
     // For the proof: what is known of a definition's types.
     let _types = definition.types();
     let mut taken = last;
     let mut first = number;
-    for at in place..definition.object_count() {
+    for at in usize::from(place.0)..definition.object_count() {
         let count = signal_count(definition, at).saturating_sub(first);
         taken = taken.saturating_add(count as u64);
         first = 0;
@@ -88,8 +89,8 @@ impl Task {
         ensures { (hs : List Handler) → Takes last (of_items is_connecting (task_of definition.now hs self.now)) result }
     {
         match self {
-            Task::Building { .. } => taken_from(definition, last, 0, 0),
-            Task::Adopting { .. } => taken_from(definition, last, 0, 0),
+            Task::Building { .. } => taken_from(definition, last, FIRST_PLACE, 0),
+            Task::Adopting { .. } => taken_from(definition, last, FIRST_PLACE, 0),
             Task::Connecting { place, number } => taken_from(definition, last, *place, *number),
             _ => last,
         }
@@ -104,7 +105,7 @@ fn data_of(engine: &Engine, with: Option<Place>) -> Result<Option<ObjectId>, Arm
     let Some(place) = with else {
         return Ok(None);
     };
-    let object = engine.held(usize::from(place.0))?;
+    let object = engine.held(place)?;
     Ok(Some(object))
 }
 
@@ -122,9 +123,9 @@ impl Engine {
 
     // What a signal of the definition is connected with.
     fn attached(&self, definition: &Definition, at: Position) -> Result<Connection, Halt>
-        ensures { Finds connection_of result (attached_at definition.now (world_of self.now.world) at.place at.number) }
+        ensures { Finds connection_of result (attached_at definition.now (world_of self.now.world) at.place.0 at.number) }
     {
-        let Some(entry) = definition.object(at.place) else {
+        let Some(entry) = entry_at(definition, at.place) else {
             return Err(Halt::Stuck(Arm::Code));
         };
         let Some(attached) = entry.signals.get(at.number) else {
@@ -152,12 +153,12 @@ impl Engine {
     pub(crate) fn connecting(
         &mut self,
         definition: &Definition,
-        place: usize,
+        place: Place,
         number: usize,
     ) -> Result<(), Halt>
         requires connects { Connects definition.now self.now }
         ensures step { Goes result
-            (uncounted (agenda_of definition.now self.old) self.old.counted (building definition.now (world_of self.old.world) (connects_from definition.now place number)))
+            (uncounted (agenda_of definition.now self.old) self.old.counted (building definition.now (world_of self.old.world) (connects_from definition.now place.0 number)))
             (config_of definition.now self.new) }
         ensures quiet { OnErr result ((world_of self.new.world).transcript ≡ (world_of self.old.world).transcript) }
         ensures counted { OnOk result (KeepsCounts definition.now self.old self.new) }

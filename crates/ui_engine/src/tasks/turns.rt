@@ -11,12 +11,12 @@ use crate::given::object_value;
 use g_values::Value;
 use signal_core::Turn;
 use std::alloc::{AllocError, Global};
-use ui_machine::ObjectId;
+use ui_machine::{ObjectId, ProgramId};
 
 /// A program that a turn runs, and the objects that it is given beside the arguments.
 #[derive(Clone, Copy, Debug)]
 pub(crate) struct Invocation {
-    pub(crate) program: u16,
+    pub(crate) program: ProgramId,
     /// What stands before the arguments.
     pub(crate) before: Option<ObjectId>,
     /// What stands behind them.
@@ -46,7 +46,12 @@ fn add_object(given: &mut Vec<Value>, object: Option<ObjectId>) -> Result<(), Al
 
 impl Invocation {
     // What a handler runs: with `swapped` the data comes first and the object last.
-    fn of_handler(program: u16, swapped: bool, arg: Option<ObjectId>, instance: ObjectId) -> Self
+    fn of_handler(
+        program: ProgramId,
+        swapped: bool,
+        arg: Option<ObjectId>,
+        instance: ObjectId,
+    ) -> Self
         ensures program { result.program ≡ program }
         ensures given { (e : config.Emission) → e.object ≡ instance.0 → given_around result e.args ≡ given_by e (turns.Handler program swapped arg) }
     {

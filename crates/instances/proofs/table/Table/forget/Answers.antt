@@ -3,7 +3,7 @@ use Rattle.std.specs.Option.{option_map}
 use Rattle.std.specs.Ordering.{nat_cmp}
 use Rattle.std.specs.BTreeMap.{get, is_at}
 use Rattle.std.proofs.lemmas.Map.Made.{map_same_pairs, lookup-map_values}
-use Rattle.instances.specs.Store.{with_objects}
+use Rattle.instances.specs.Store.{id_of, with_objects}
 use Rattle.instances.specs.Weak.{forgetting}
 use Rattle.instances.specs.declared.instance.Instance.{Instance}
 use Rattle.instances.specs.View.{object_in, count_in}
@@ -33,5 +33,5 @@ invariant_of-self c =
     let e = map_same_pairs _ g _ (λ k v b w f' t. search rules) _ _ c.retain.ensures.filtered in
     let at : (q : ℕ) → get nat_cmp c.retain.new.self q ≡ option_map g (get nat_cmp c.self.inside.instances q) =
     λ q. rw e (lookup-map_values g (is_at (nat_cmp q)) c.self.inside.instances.entries) in
-    still_known (get nat_cmp c.self.inside.instances) (get nat_cmp c.retain.new.self) c.self.inside.made c.self.inside.held_below g
+    still_known (get nat_cmp c.self.inside.instances) (get nat_cmp c.retain.new.self) c.self.inside.made (id_of c.self.inside.unheld) g
     (λ x. refl) (λ x. record { children = refl; parent = refl }) at c.self.invariant

@@ -1,9 +1,10 @@
 use Rattle.std.proofs.Common.{ℕ, ◌-◌, refl, sym, ap, ◌∙◌, arith}
 use Rattle.std.specs.Option.{option_copied_mut}
+use Rattle.instances.specs.Store.{id_of}
 use Rattle.instances.specs.declared.instance.Instance.{Instance}
 use Rattle.instances.proofs.Shown.{not_held, count_is}
 use Rattle.instances.proofs.Maps.{written_recounted}
-use Rattle.instances.proofs.Kin.{still_well}
+use Rattle.instances.proofs.Kin.{less_well}
 use Rattle.instances.proofs.table.Table.let_go.Goals as goal
 
 pub returns-in_default : goal.returns-in_default
@@ -29,5 +30,5 @@ pub invariant_of-self-2 : goal.invariant_of-self-2
 invariant_of-self-2 c =
     let here = sym c.get_mut.ensures.value ∙ ap option_copied_mut c.in-Some.is in
     let y : Instance = record { object = c.in-Some.instance.now.object; mentions = c.in-Some.instance.now.mentions - 1 } in
-    still_well c.self.inside.instances (c.get_mut.follows.lender y) _ _ _ _ y here (c.get_mut.follows.holds y) c.self.invariant c.lowest_unknown-self-inside.result refl
-    c.lowest_unknown-self-inside.ensures.below c.lowest_unknown-self-inside.ensures.held
+    less_well c.self.inside.instances (c.get_mut.follows.lender y) _ _ _ _ y here (c.get_mut.follows.holds y) c.self.invariant (id_of c.lowest_with-self-inside.result) refl
+    (omega arith) (λ more. ap id_of (c.lowest_with-self-inside.ensures.held more)) c.lowest_with-self-inside.ensures.unheld

@@ -1,14 +1,14 @@
-use Rattle.std.proofs.Common.{◌≡◌, ℕ, ◌-◌, List, is_some, refl, sym, ap, ◌∙◌}
+use Rattle.std.proofs.Common.{◌≡◌, ℕ, ◌-◌, List, is_some, refl, sym, ap, ◌∙◌, arith}
 use Rattle.std.specs.Ordering.{nat_cmp}
 use Rattle.std.specs.BTreeMap.{BTreeMap, get}
 use Rattle.std.specs.Option.{option_copied_mut}
-use Rattle.instances.specs.Store.{Store, count_of}
+use Rattle.instances.specs.Store.{Store, count_of, id_of}
 use Rattle.instances.specs.View.{count_in, counts_of}
 use Rattle.instances.specs.declared.instance.Instance.{Instance}
 use Rattle.instances.proofs.Shown.{counted_in, count_is}
 use Rattle.instances.proofs.Moves.{less_at, none_less}
 use Rattle.instances.proofs.Maps.{written_recounted}
-use Rattle.instances.proofs.Kin.{still_well}
+use Rattle.instances.proofs.Kin.{less_well}
 use Rattle.instances.proofs.table.Table.release.Goals as goal
 
 pub returns-in_default-clause-counts : goal.returns-in_default-clause-counts
@@ -42,5 +42,5 @@ pub invariant_of-self-2 : goal.invariant_of-self-2
 invariant_of-self-2 c =
     let here = sym c.get_mut.ensures.value ∙ ap option_copied_mut c.in-Some.is in
     let y : Instance = record { object = c.in-Some.instance.now.object; mentions = c.saturating_sub-instance.result } in
-    still_well c.self.inside.instances (c.get_mut.follows.lender y) _ _ _ _ y here (c.get_mut.follows.holds y) c.self.invariant c.lowest_unknown-self-inside.result refl
-    c.lowest_unknown-self-inside.ensures.below c.lowest_unknown-self-inside.ensures.held
+    less_well c.self.inside.instances (c.get_mut.follows.lender y) _ _ _ _ y here (c.get_mut.follows.holds y) c.self.invariant (id_of c.lowest_with-self-inside.result) refl
+    (omega (arith, c.saturating_sub-instance.ensures)) (λ more. ap id_of (c.lowest_with-self-inside.ensures.held more)) c.lowest_with-self-inside.ensures.unheld

@@ -1,4 +1,4 @@
-use Rattle.std.proofs.Common.{◌≡◌, suc, ◌+◌, List, ◌∷◌, sym, ap, subst, ◌∙◌, arith}
+use Rattle.std.proofs.Common.{◌≡◌, suc, List, ◌∷◌, sym, ap, subst, ◌∙◌}
 use Rattle.std.specs.Prelude.{OnOk, Result, Ok, Err}
 use Rattle.std.proofs.lemmas.Result.{err_from_is_err_and}
 use Rattle.ui_machine.specs.declared.arm.Halt.{Halt}
@@ -16,13 +16,13 @@ use Rattle.ui_engine.proofs.Left.{same_agenda}
 use Rattle.ui_engine.proofs.Kin.{no_kin, no_object_there, joins_then}
 use Rattle.ui_engine.proofs.engine.Engine.adopting.Goals as goal
 
-pub returns-then-place-object_count-clause-step : goal.returns-then-place-object_count-clause-step
-returns-then-place-object_count-clause-step c =
+pub returns-then-not-is_object-clause-step : goal.returns-then-not-is_object-clause-step
+returns-then-not-is_object-clause-step c =
     let d = c.args.definition.now in
     let e = c.args.self.now in
     ap (uncounted (agenda_of d e) e.counted)
-    (no_object_there d (world_of e.world) c.args.place (build_from d (suc c.args.place) c.args.forwards) c.types-types.ensures.basic
-    (omega (arith, c.object_count.ensures.count, c.if-place-object_count.true)))
+    (no_object_there d (world_of e.world) c.args.place.0 (build_from d (suc c.args.place.0) c.args.forwards) c.types-types.ensures.basic
+    (c.is_object.ensures.past c.if-not-is_object.true))
 
 pub returns-in_err-kin-clause-step : goal.returns-in_err-kin-clause-step
 returns-in_err-kin-clause-step c =
@@ -31,7 +31,7 @@ returns-in_err-kin-clause-step c =
     let p = err_from_is_err_and c.from_residual.result c.from_residual.ensures.1 in
     rw (p.1, p.2)
     (ap (uncounted (agenda_of d e) e.counted)
-    (no_kin d (world_of e.world) c.args.place (build_from d (suc c.args.place) c.args.forwards) _ c.in_err-kin.ensures))
+    (no_kin d (world_of e.world) c.args.place.0 (build_from d (suc c.args.place.0) c.args.forwards) _ c.in_err-kin.ensures))
 
 pub returns-clause-step : goal.returns-clause-step
 returns-clause-step c =
@@ -42,16 +42,16 @@ returns-clause-step c =
     let n = e.counted in
     let new = world_of c.join.new.self.world in
     let kin = kin_of c.in_ok-kin.kin in
-    let items = build_from d (suc c.args.place) c.args.forwards in
-    let one : c.args.place + 1 ≡ suc c.args.place = omega arith in
+    let items = build_from d (suc c.args.place.0) c.args.forwards in
+    let one : c.next_place.result.0 ≡ suc c.args.place.0 = c.next_place.ensures in
     let pushed = c.in_ok-push.ensures.agenda d ∙ ap (λ place. Building (build_from d place c.args.forwards) ∷ rest) one in
     let agenda = same_agenda d c.push.new.self c.join.new.self c.join.ensures.same.0 c.join.ensures.handlers ∙ pushed in
     let counted = c.join.ensures.same.1 ∙ c.push.ensures.same in
     let goes = subst (λ (v : World). Goes c.join.result (joined d v kin.parent kin.child) new) c.push.ensures.world c.join.ensures.joins in
-    let a = uncounted rest n (building_child d w c.args.place items) in
+    let a = uncounted rest n (building_child d w c.args.place.0 items) in
     subst (λ (ts : List Task). Goes c.join.result a (record { world = new; agenda = ts; counted = c.join.new.self.counted })) (sym agenda)
     (subst (λ k. Goes c.join.result a (record { world = new; agenda = Building items ∷ rest; counted = k })) (sym counted)
-    (joins_then d w c.args.place items rest n kin c.join.result new c.in_ok-kin.ensures goes))
+    (joins_then d w c.args.place.0 items rest n kin c.join.result new c.in_ok-kin.ensures goes))
 
 pub returns-clause-counted : goal.returns-clause-counted
 returns-clause-counted c = on c.join.result c.join.ensures.counted

@@ -14,7 +14,7 @@ pub let_go_any-requires : goal.let_go_any-requires
 let_go_any-requires c = record {
   held = λ o.
       let w = world_of c.args.self.now.world in
-      let place = c.from-place.result in
+      let place = c.args.place.0 in
       omega (
         arith,
         c.requires.holds.at o,
@@ -28,7 +28,7 @@ returns-clause-counted c =
     let d = c.args.definition.now in
     let e = c.args.self.now in
     let id = c.in_ok-object.object.0 in
-    let place = c.from-place.result in
+    let place = c.args.place.0 in
     let b = map held_of e.world.builder.items in
     let n = map held_of c.put_held.new.builder.items in
     let a = agenda_of d e in

@@ -1,4 +1,4 @@
-use Rattle.std.proofs.Common.{ℕ, [], ◌∷◌, sym, ap, ◌∙◌}
+use Rattle.std.proofs.Common.{ℕ, [], ◌∷◌, ap, ◌∙◌}
 use Rattle.ui_machine.specs.Definition.Values.{Value}
 use Rattle.ui_machine.specs.State.Tasks.{Setting}
 use Rattle.ui_machine.specs.State.Config.{starts}
@@ -9,7 +9,6 @@ use Rattle.ui_machine.specs.Rules.Sets.{spec_at}
 use Rattle.g_values.specs.View.{value_view}
 use Rattle.builder_defs.specs.Meaning.{given_view}
 use Rattle.ui_engine.specs.View.{world_of}
-use Rattle.ui_engine.specs.GivenView.{settable_at}
 use Rattle.ui_engine.specs.TaskView.{agenda_of}
 use Rattle.ui_engine.proofs.Forwarded.{settable_then}
 use Rattle.ui_engine.proofs.Left.{left_with}
@@ -23,7 +22,7 @@ returns-clause-step c =
     let w = world_of a.self.now.world in
     let given = given_view a.given in
     let set = λ (id : ℕ). set_given w id a.slot given in
-    let object = ap (λ (p : ℕ). settable_at d w p a.slot) (sym c.from.ensures) ∙ c.in_ok-object.ensures in
+    let object = c.in_ok-object.ensures in
     let is = settable_then (held_object w a.place.0) (λ (id : ℕ). spec_at d w.objects id a.slot) set
     ∙ ap (λ (r : Answer ℕ). r >>= set) object
     ∙ ap (λ (r : Answer Value). r >>= λ v. starts w (Setting c.in_ok-object.object.0 a.slot v ∷ [])) c.in_ok-value.ensures in

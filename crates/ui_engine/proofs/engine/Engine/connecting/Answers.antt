@@ -19,7 +19,7 @@ returns-in_err-connection-clause-step c =
     let d = c.args.definition.now in
     let at = c.in-Some.at in
     rw (p.1, p.2)
-    (attached_stops d (world_of c.args.self.now.world) at.place at.number _ (connects_from d at.place (suc at.number)) (agenda_of d c.args.self.now) c.args.self.now.counted
+    (attached_stops d (world_of c.args.self.now.world) at.place.0 at.number _ (connects_from d at.place.0 (suc at.number)) (agenda_of d c.args.self.now) c.args.self.now.counted
     c.in-Some.ensures.next _ c.in_err-connection.ensures)
 
 pub returns-clause-step : goal.returns-clause-step
@@ -29,13 +29,13 @@ returns-clause-step c =
     let rest = agenda_of d c.args.self.now in
     let n = c.args.self.now.counted in
     let at = c.in-Some.at in
-    let items = connects_from d at.place (suc at.number) in
+    let items = connects_from d at.place.0 (suc at.number) in
     let meant = connection_of c.in_ok-connection.connection in
     let start : Connection → Answer Started = λ (x : Connection). starts (with_signal w x) (Building items ∷ []) in
-    let is : building d w (connects_from d c.args.place c.args.number) ≡ starts (with_signal w meant) (Building items ∷ []) =
-    ap (building d w) c.in-Some.ensures.next ∙ connects_attached d w at.place at.number items
+    let is : building d w (connects_from d c.args.place.0 c.args.number) ≡ starts (with_signal w meant) (Building items ∷ []) =
+    ap (building d w) c.in-Some.ensures.next ∙ connects_attached d w at.place.0 at.number items
     ∙ ap (λ (a : Answer Connection). a >>= start) c.in_ok-connection.ensures in
-    let pushed = c.in_ok-push.ensures.agenda d ∙ ap (λ k. Building (connects_from d at.place k) ∷ rest) (let e : at.number + 1 ≡ suc at.number = omega arith in e) in
+    let pushed = c.in_ok-push.ensures.agenda d ∙ ap (λ k. Building (connects_from d at.place.0 k) ∷ rest) (let e : at.number + 1 ≡ suc at.number = omega arith in e) in
     let world = c.in_ok-connect_signal.ensures.world ∙ ap (λ (v : World). with_signal v meant) c.push.ensures.world in
     let agenda = c.in_ok-connect_signal.ensures.agenda ∙ pushed in
     let count = c.connect_signal.ensures.same ∙ c.push.ensures.same in

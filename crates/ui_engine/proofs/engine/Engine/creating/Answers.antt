@@ -33,7 +33,7 @@ returns-then-not-has_room-clause-step c =
     let w = world_of e.world in
     let f = frame_view c.args.frame in
     let full : has_room d w (to_make (agenda_of d e)) ≡ false = sym c.if-not-has_room.ensures in
-    let refused = creates d c.types-types.ensures.basic w (agenda_of d e) f c.args.to.0 c.args.id.now c.in_ok-place.place false c.in_ok-place.ensures full
+    let refused = creates d c.types-types.ensures.basic w (agenda_of d e) f c.args.to.0 c.args.id.now c.in_ok-place.place.0 false c.in_ok-place.ensures full
     ∙ ap (λ (v : Value). gives (said d w (lines.limit (codes "new"))) c.args.to.0 v f) (sym c.object_or_null.ensures) in
     rw refused c.writing_at_limit.ensures.step
 
@@ -44,4 +44,4 @@ returns-clause-step c =
     let w = world_of e.world in
     let f = frame_view c.args.frame in
     let room : has_room d w (to_make (agenda_of d e)) ≡ true = sym c.if-not-has_room.ensures in
-    rw (creates d c.types-types.ensures.basic w (agenda_of d e) f c.args.to.0 c.args.id.now c.in_ok-place.place true c.in_ok-place.ensures room) c.creating_at.ensures.step
+    rw (creates d c.types-types.ensures.basic w (agenda_of d e) f c.args.to.0 c.args.id.now c.in_ok-place.place.0 true c.in_ok-place.ensures room) c.creating_at.ensures.step

@@ -11,7 +11,6 @@ use Rattle.ui_machine.specs.Steps.{uncounted}
 use Rattle.g_values.specs.View.{value_view}
 use Rattle.ui_engine.specs.declared.task.Forward.{Forward}
 use Rattle.ui_engine.specs.View.{world_of}
-use Rattle.ui_engine.specs.GivenView.{held_value}
 use Rattle.ui_engine.specs.TaskView.{agenda_of, build_end}
 use Rattle.ui_engine.proofs.Building.{only_forwards}
 use Rattle.ui_engine.proofs.Forwarded.{settable_then, held_then}
@@ -41,15 +40,15 @@ returns-clause-step c =
     let object = c.in_ok-object.object.0 in
     let v = value_view c.in_ok-value.value in
     let set = λ (id : ℕ). set_forward w id f.slot f.to.0 items in
-    let to = ap (λ (p : ℕ). held_value w p) (sym c.from.ensures) ∙ c.in_ok-value.ensures in
+    let to = c.in_ok-value.ensures in
     let is : building d w (build_end d a.forwards) ≡ starts w (Setting object f.slot v ∷ Building items ∷ []) =
     ap (λ (fs : List Forward). building d w (build_end d fs)) c.in-Some.ensures
-    ∙ settable_then (held_object w f.object) (λ (id : ℕ). spec_at d w.objects id f.slot) set
+    ∙ settable_then (held_object w f.object.0) (λ (id : ℕ). spec_at d w.objects id f.slot) set
     ∙ ap (λ (r : Answer ℕ). r >>= set) c.in_ok-object.ensures
     ∙ held_then (held_object w f.to.0) (λ (x : Value). starts w (Setting object f.slot x ∷ Building items ∷ [])) v to in
     let left = c.in_ok-push-2.ensures.agenda d
     ∙ ap (λ (rest : List Task). Setting object f.slot v ∷ rest) (c.in_ok-push.ensures.agenda d
-    ∙ ap (λ its. Building its ∷ agenda) (only_forwards d c.types-types.ensures.basic a.place c.take.new.self c.requires.past)) in
+    ∙ ap (λ its. Building its ∷ agenda) (only_forwards d c.types-types.ensures.basic a.place.0 c.take.new.self c.requires.past)) in
     ap (uncounted agenda n) is
     ∙ rw (c.push-2.ensures.world, c.push.ensures.world, c.push-2.ensures.same, c.push.ensures.same, left) refl
 

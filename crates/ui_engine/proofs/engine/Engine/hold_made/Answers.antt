@@ -26,18 +26,18 @@ pub returns-then-not-is_unbuilt-clause-step : goal.returns-then-not-is_unbuilt-c
 returns-then-not-is_unbuilt-clause-step c =
     let w = world_of c.args.self.now.world in
     let rest = agenda_of c.args.definition.now c.args.self.now in
-    let there : is_unbuilt (held_at w c.in_ok-place.place) ≡ false = ap is_unbuilt (sym c.held.ensures) ∙ sym c.is_unbuilt.ensures ∙ c.if-not-is_unbuilt.true in
-    ap (uncounted rest c.args.self.now.counted) (held_before w c.args.object.0 c.in_ok-place.place c.in_ok-place.ensures there)
+    let there : is_unbuilt (held_at w c.in_ok-place.place.0) ≡ false = ap is_unbuilt (sym c.held.ensures) ∙ sym c.is_unbuilt.ensures ∙ c.if-not-is_unbuilt.true in
+    ap (uncounted rest c.args.self.now.counted) (held_before w c.args.object.0 c.in_ok-place.place.0 c.in_ok-place.ensures there)
 
 pub returns-clause-step : goal.returns-clause-step
 returns-clause-step c =
     let w = world_of c.args.self.now.world in
     let rest = agenda_of c.args.definition.now c.args.self.now in
-    let there : is_unbuilt (held_at w c.in_ok-place.place) ≡ true =
+    let there : is_unbuilt (held_at w c.in_ok-place.place.0) ≡ true =
     ap is_unbuilt (sym c.held.ensures) ∙ sym c.is_unbuilt.ensures ∙ c.if-not-is_unbuilt.false in
     let floats = ap (λ (s : Store). s.floating) c.sink.ensures.beside in
     let objects = ap (λ (s : Store). s.objects) c.sink.ensures.beside in
-    ap (uncounted rest c.args.self.now.counted) (held_now w c.args.object.0 c.in_ok-place.place c.in_ok-place.ensures there)
+    ap (uncounted rest c.args.self.now.counted) (held_now w c.args.object.0 c.in_ok-place.place.0 c.in_ok-place.ensures there)
     ∙ rw (floats, objects, c.hold_any.ensures.only.floating, c.hold_any.ensures.only.objects, c.in_ok-put_held.ensures) refl
 
 pub returns-clause-counted : goal.returns-clause-counted
@@ -46,7 +46,7 @@ returns-clause-counted c =
     let e = c.args.self.now in
     let w = world_of e.world in
     let id = c.args.object.0 in
-    let place = c.in_ok-place.place in
+    let place = c.in_ok-place.place.0 in
     let b = map held_of e.world.builder.items in
     let n = map held_of c.put_held.new.builder.items in
     let a = agenda_of d e in

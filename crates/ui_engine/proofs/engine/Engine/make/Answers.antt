@@ -20,15 +20,15 @@ returns-clause-made c held =
     let w = world_of c.args.self.now.world in
     let class = c.in-Some.entry.class in
     let place = bare_place c.in-Some.entry.id.now class c.in-Some.entry.is_prototype (place_number c.in-Some.entry.parent) (map given_property c.in-Some.entry.given.now) (map attached_view c.in-Some.entry.signals.now) in
-    let at : slice_get d.places c.args.place ≡ Some place = sym c.in-Some.ensures in
+    let at : slice_get d.places c.args.place.0 ≡ Some place = sym c.in-Some.ensures in
     let concrete : (type_of d class).is_abstract ≡ false = search rules in
     let id = c.in_ok-object.object.0 in
-    let object : world_of c.add.new.self.world ≡ with_object d w (new_object d c.args.place place None) =
-    c.in_ok-object.ensures.world ∙ ap (λ (vs : List Value). with_object d w (made_object class c.args.place vs None)) c.in_ok-values.ensures in
+    let object : world_of c.add.new.self.world ≡ with_object d w (new_object d c.args.place.0 place None) =
+    c.in_ok-object.ensures.world ∙ ap (λ (vs : List Value). with_object d w (made_object class c.args.place.0 vs None)) c.in_ok-values.ensures in
     let line : string_bytes c.in_ok-line.line ≡ text_of_line d.types (lines.construct (suc (length w.objects)) (type_of d class).name) = rw (c.class_name.ensures, c.in_ok-object.ensures.identity) at c.in_ok-line.ensures in
-    made_there d c.types-types.ensures.basic w c.args.place place at held concrete
+    made_there d c.types-types.ensures.basic w c.args.place.0 place at held concrete
     ∙ sym (ap (λ v. starts (with_line (string_bytes c.in_ok-line.line) v) (Constructing id c.in_ok-steps.steps held ∷ [])) object
-    ∙ ap (λ text. starts (with_line text (with_object d w (new_object d c.args.place place None))) (Constructing id c.in_ok-steps.steps held ∷ [])) line
+    ∙ ap (λ text. starts (with_line text (with_object d w (new_object d c.args.place.0 place None))) (Constructing id c.in_ok-steps.steps held ∷ [])) line
     ∙ rw (c.in_ok-object.ensures.identity, c.in_ok-steps.ensures) refl)
 
 pub returns-clause-counted : goal.returns-clause-counted
@@ -36,7 +36,7 @@ returns-clause-counted c =
     let d = c.args.definition.now in
     let class = c.in-Some.entry.class in
     let place = bare_place c.in-Some.entry.id.now class c.in-Some.entry.is_prototype (place_number c.in-Some.entry.parent) (map given_property c.in-Some.entry.given.now) (map attached_view c.in-Some.entry.signals.now) in
-    let at : slice_get d.places c.args.place ≡ Some place = sym c.in-Some.ensures in
-    let valid = valid_defaults d c.types-types.ensures.basic (world_of c.args.self.now.world) c.args.place place at in
+    let at : slice_get d.places c.args.place.0 ≡ Some place = sym c.in-Some.ensures in
+    let valid = valid_defaults d c.types-types.ensures.basic (world_of c.args.self.now.world) c.args.place.0 place at in
     c.in_ok-object.ensures.counted
-    (λ o. omega (arith, ap (in_values o (specs_of d class)) c.in_ok-values.ensures, made_holds d c.args.place place None o valid))
+    (λ o. omega (arith, ap (in_values o (specs_of d class)) c.in_ok-values.ensures, made_holds d c.args.place.0 place None o valid))

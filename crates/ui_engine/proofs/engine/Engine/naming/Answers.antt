@@ -18,15 +18,15 @@ returns-in_default-clause-step c =
     let f = frame_view c.args.frame in
     stuck_left d e (naming d w f c.args.to.0 c.args.id.now) _ (name_unknown d w f c.args.to.0 c.args.id.now (sym c.in_default.ensures))
 
-pub returns-in_default-object-clause-step : goal.returns-in_default-object-clause-step
-returns-in_default-object-clause-step c =
+pub returns-in_default-entry_at-clause-step : goal.returns-in_default-entry_at-clause-step
+returns-in_default-entry_at-clause-step c =
     let d = c.args.definition.now in
     let e = c.args.self.now in
     let w = world_of e.world in
     let f = frame_view c.args.frame in
-    let found : place_of d c.args.id.now ≡ Some c.from-place.result = sym c.in-Some.ensures ∙ ap Some (sym c.from-place.ensures) in
+    let found : place_of d c.args.id.now ≡ Some c.in-Some.place.0 = sym c.in-Some.ensures in
     stuck_left d e (naming d w f c.args.to.0 c.args.id.now) _
-    (name_nowhere d w f c.args.to.0 c.args.id.now c.from-place.result found (sym c.in_default-object.ensures))
+    (name_nowhere d w f c.args.to.0 c.args.id.now c.in-Some.place.0 found (sym c.in_default-entry_at.ensures))
 
 pub returns-then-entry-clause-step : goal.returns-then-entry-clause-step
 returns-then-entry-clause-step c =
@@ -34,9 +34,9 @@ returns-then-entry-clause-step c =
     let e = c.args.self.now in
     let w = world_of e.world in
     let f = frame_view c.args.frame in
-    let found : place_of d c.args.id.now ≡ Some c.from-place.result = sym c.in-Some.ensures ∙ ap Some (sym c.from-place.ensures) in
+    let found : place_of d c.args.id.now ≡ Some c.in-Some.place.0 = sym c.in-Some.ensures in
     stuck_left d e (naming d w f c.args.to.0 c.args.id.now) _
-    (name_prototype d w f c.args.to.0 c.args.id.now c.from-place.result found _ (sym c.in-Some-object.ensures) c.if-entry.true)
+    (name_prototype d w f c.args.to.0 c.args.id.now c.in-Some.place.0 found _ (sym c.in-Some-entry_at.ensures) c.if-entry.true)
 
 pub returns-clause-step : goal.returns-clause-step
 returns-clause-step c =
@@ -44,8 +44,8 @@ returns-clause-step c =
     let e = c.args.self.now in
     let w = world_of e.world in
     let f = frame_view c.args.frame in
-    let found : place_of d c.args.id.now ≡ Some c.from-place.result = sym c.in-Some.ensures ∙ ap Some (sym c.from-place.ensures) in
+    let found : place_of d c.args.id.now ≡ Some c.in-Some.place.0 = sym c.in-Some.ensures in
     let held = c.object_or_null-object.ensures ∙ ap values.object c.built.ensures in
-    let named = names d w f c.args.to.0 c.args.id.now c.from-place.result found _ (sym c.in-Some-object.ensures) c.if-entry.false
+    let named = names d w f c.args.to.0 c.args.id.now c.in-Some.place.0 found _ (sym c.in-Some-entry_at.ensures) c.if-entry.false
     ∙ ap (λ (v : Value). gives w c.args.to.0 v f) (sym held) in
     rw named c.writing.ensures.step

@@ -8,13 +8,13 @@ use Rattle.ui_engine.proofs.task.Task.to_make.Goals as goal
 
 pub returns-in-Building : goal.returns-in-Building
 returns-in-Building c hs =
-    rw c.in-Building.is (c.objects_from.ensures ∙ sym (making_from c.args.definition.now c.types-types.ensures.basic c.in-Building.place c.in-Building.forwards))
+    rw c.in-Building.is (c.objects_from.ensures ∙ sym (making_from c.args.definition.now c.types-types.ensures.basic c.in-Building.place.0 c.in-Building.forwards))
 
 pub returns-in-Adopting : goal.returns-in-Adopting
 returns-in-Adopting c hs =
     rw c.in-Adopting.is
     (c.saturating_sub.ensures ∙ ap (λ n. n - 1) c.objects_from-in-Adopting.ensures
-    ∙ sym (making_behind c.args.definition.now c.types-types.ensures.basic c.in-Adopting.place c.in-Adopting.forwards))
+    ∙ sym (making_behind c.args.definition.now c.types-types.ensures.basic c.in-Adopting.place.0 c.in-Adopting.forwards))
 
 pub returns-in_default : goal.returns-in_default
 returns-in_default c hs = by c.args.self.now refl
@@ -22,7 +22,7 @@ returns-in_default c hs = by c.args.self.now refl
     by : (t : Task) → c.args.self.now ≡ t → 0 ≡ of_items is_making (task_of c.args.definition.now hs t)
     by (tasks.Building place fs) is = absurd (c.in_default.not-Building place fs is)
     by (tasks.Adopting place fs) is = absurd (c.in_default.not-Adopting place fs is)
-    by (tasks.Connecting place number) is = sym (making_none c.args.definition.now place number)
+    by (tasks.Connecting place number) is = sym (making_none c.args.definition.now place.0 number)
     by (tasks.Setting object slot value) is = refl
     by (tasks.Notifying object slot) is = refl
     by (tasks.Beginning e) is = refl

@@ -16,7 +16,7 @@ returns c =
     let to = c.in-Object.to in
     let f : Forward = record { object = object; slot = slot; to = to } in
     let before = items_of c.args.forwards.now.items in
-    let late : nat_le object to.0 ≡ true = grind (arith, nat_tests, c.from.ensures, c.if-object-from.false) in
+    let late : nat_le object.0 to.0 ≡ true = grind (arith, nat_tests, c.if-object-to.false) in
     ap items_of c.in_ok-push.ensures.items ∙ one_forward_more c.args.forwards.now.items f
-    ∙ sym (ap (λ (g : Given). forward_given object slot (given_view g) ++ before) c.in-Object.is
-    ∙ ap (λ b. cond b (forwards object slot to.0 ∷ []) [] ++ before) late)
+    ∙ sym (ap (λ (g : Given). forward_given object.0 slot (given_view g) ++ before) c.in-Object.is
+    ∙ ap (λ b. cond b (forwards object.0 slot to.0 ∷ []) [] ++ before) late)

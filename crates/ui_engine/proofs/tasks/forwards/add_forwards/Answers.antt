@@ -11,6 +11,6 @@ entries-preserved c =
     slice_got given (c.entries.left - 1) c.index-given-left.result (omega (arith, c.entries-test.true, i.within)) c.index-given-left.is in
     record {
       within = omega (arith, i.within);
-      items = entry_less c.args.object given c.entries.left (c.entries.left - 1) c.index-given-left.result _ _ _
+      items = entry_less c.args.object.0 given c.entries.left (c.entries.left - 1) c.index-given-left.result _ _ _
           (omega (arith, c.entries-test.true)) at i.items c.in_ok-add_forward.ensures;
     }

@@ -8,7 +8,7 @@ use Rattle.ui_engine.proofs.tasks.forwards.add_forwards.Given as goal
 abbrev pub invariant-entries : goal.invariant-entries
 invariant-entries l = record {
   within : l.left ≤ length l.given;
-  items : items_of l.forwards.items ≡ flat_map (forward_of l.object) (map given_property (drop l.left l.given)) ++ items_of l.fn.forwards.items;
+  items : items_of l.forwards.items ≡ flat_map (forward_of l.object.0) (map given_property (drop l.left l.given)) ++ items_of l.fn.forwards.items;
 }
 
 abbrev pub decreases-entries : goal.decreases-entries

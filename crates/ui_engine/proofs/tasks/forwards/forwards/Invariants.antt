@@ -6,9 +6,9 @@ use Rattle.ui_engine.proofs.tasks.forwards.forwards.Given as goal
 
 abbrev pub invariant-places : goal.invariant-places
 invariant-places l = record {
-  within : l.place ≤ object_count l.definition;
-  items : items_of l.forwards.items ≡ forward_items l.place (drop l.place l.definition.places);
+  within : l.left ≤ object_count l.definition;
+  items : items_of l.forwards.items ≡ forward_items l.left (drop l.left l.definition.places);
 }
 
 abbrev pub decreases-places : goal.decreases-places
-decreases-places l = l.place
+decreases-places l = l.left

@@ -13,7 +13,7 @@ slots-preserved c =
       within = omega (arith, i.within);
       few = omega (arith, i.few);
       steps =
-          slot_before (world_of given.world.now) (early given.place given.entries.now) (specs_of c.args.definition.now c.args.class)
+          slot_before (world_of given.world.now) (early given.place.0 given.entries.now) (specs_of c.args.definition.now c.args.class)
           c.slots.slot (c.slots.slot - 1) _ _ _
           (omega (arith, c.slots-test.true)) i.within i.steps (λ s at. c.in_ok-add_construct_set.ensures s at);
     }

@@ -10,7 +10,7 @@ invariant-slots l = record {
   within : l.slot ≤ length (specs_of l.definition l.class);
   few : l.slot ≤ 16448;
   steps : making_steps l.steps.items
-      ≡ construct_sets (world_of l.given.world.now) (early l.given.place l.given.entries.now) l.slot (drop l.slot (specs_of l.definition l.class)) ++ making_steps l.fn.steps.items;
+      ≡ construct_sets (world_of l.given.world.now) (early l.given.place.0 l.given.entries.now) l.slot (drop l.slot (specs_of l.definition l.class)) ++ making_steps l.fn.steps.items;
 }
 
 abbrev pub decreases-slots : goal.decreases-slots

@@ -15,7 +15,7 @@ entries-preserved c =
     record {
       within = omega (arith, i.within);
       steps =
-          entry_before (world_of given.world.now) (specs_of c.args.definition.now c.args.class) given.place entries
+          entry_before (world_of given.world.now) (specs_of c.args.definition.now c.args.class) given.place.0 entries
           c.entries.left (c.entries.left - 1) entry _ _ _
           (omega (arith, c.entries-test.true)) at i.steps c.in_ok-add_early_set.ensures;
     }

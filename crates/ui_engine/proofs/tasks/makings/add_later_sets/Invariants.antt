@@ -9,7 +9,7 @@ abbrev pub invariant-entries : goal.invariant-entries
 invariant-entries l = record {
   within : l.left ≤ length l.given.entries.now;
   steps : making_steps l.steps.items
-      ≡ given_sets (world_of l.given.world.now) (specs_of l.definition l.class) (early l.given.place (drop l.left l.given.entries.now)) ++ making_steps l.fn.steps.items;
+      ≡ given_sets (world_of l.given.world.now) (specs_of l.definition l.class) (early l.given.place.0 (drop l.left l.given.entries.now)) ++ making_steps l.fn.steps.items;
 }
 
 abbrev pub decreases-entries : goal.decreases-entries

@@ -13,8 +13,9 @@ loop-at-preserved c =
 
 pub returns-then-first-signal_count-clause-next : goal.returns-then-first-signal_count-clause-next
 returns-then-first-signal_count-clause-next c =
+    rw c.place_numbered.ensures (
     c.loop-at.invariant
-    ∙ next_there c.args.definition.now c.loop-at.at c.loop-at.first (omega (arith, c.signal_count.ensures, c.if-first-signal_count.true))
+    ∙ next_there c.args.definition.now c.loop-at.at c.loop-at.first (omega (arith, c.signal_count.ensures, c.if-first-signal_count.true)))
 
 pub returns-clause-next : goal.returns-clause-next
 returns-clause-next c =

@@ -8,4 +8,4 @@ use Rattle.ui_engine.proofs.tasks.signals.taken_from.Given as goal
 abbrev pub invariant-loop-at : goal.invariant-loop-at
 invariant-loop-at l =
     (more : ℕ) → nat_lt (l.taken + total is_connecting (connects_from l.definition l.at l.first) + more) greatest_handler
-    ≡ nat_lt (l.last + total is_connecting (connects_from l.definition l.place l.number) + more) greatest_handler
+    ≡ nat_lt (l.last + total is_connecting (connects_from l.definition l.fn.place.0 l.number) + more) greatest_handler

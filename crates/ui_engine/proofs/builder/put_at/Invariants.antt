@@ -2,7 +2,7 @@ use Rattle.std.proofs.Common.{◌≡◌, ◌-◌, suc, map, vec_len}
 use Rattle.ui_machine.specs.Seq.{write}
 use Rattle.ui_machine.specs.State.Config.{unbuilt}
 use Rattle.ui_engine.specs.View.{held_of}
-use Rattle.ui_engine.proofs.builder.put_held.Given as goal
+use Rattle.ui_engine.proofs.builder.put_at.Given as goal
 
 abbrev pub invariant-growing : goal.invariant-growing
 invariant-growing l = write unbuilt (map held_of l.builder.items) l.place (held_of l.held) ≡ write unbuilt (map held_of l.initial.builder.items) l.place (held_of l.held)

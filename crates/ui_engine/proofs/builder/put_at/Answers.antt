@@ -5,7 +5,7 @@ use Rattle.ui_machine.specs.State.Config.{unbuilt}
 use Rattle.ui_engine.specs.declared.builder.Held.TheVariants as held
 use Rattle.ui_engine.specs.View.{held_of}
 use Rattle.ui_engine.proofs.Built.{filled, held_more, held_set}
-use Rattle.ui_engine.proofs.builder.put_held.Goals as goal
+use Rattle.ui_engine.proofs.builder.put_at.Goals as goal
 
 pub growing-preserved : goal.growing-preserved
 growing-preserved c =
