@@ -6,7 +6,7 @@ use Rattle.ui_machine.specs.Definition.Lookups.{program_at}
 use Rattle.ui_machine.specs.Definition.Programs.{Block, Instruction, Program}
 use Rattle.ui_machine.specs.State.Config.{Left, World}
 use Rattle.ui_machine.specs.State.Tasks.{Frame, Task}
-use Rattle.ui_machine.specs.Instructions.{instructed, running}
+use Rattle.ui_machine.specs.Instructions.{instruction_step, running}
 use Rattle.ui_machine.specs.Instructions.Jumps.{block_in, in_pass, jumping, past}
 use Rattle.ui_machine.specs.Instructions.Registers.{goes_on}
 use Rattle.ui_machine.specs.Outcome.{Answer, known, ◌>>=◌}
@@ -14,24 +14,24 @@ use Rattle.handler_code.specs.FrameView.{Taken, at_block, taken_in, taken_of}
 
 module _ (d : Definition) (w : World) (f : Frame) (p : Program) (is : program_at d f.program ≡ Some p) where
   -- a program takes the instruction that the frame takes
-  pub running_taken : (rest : List Task) → running d w rest f ≡ (known arms.Code (taken_in p f) >>= λ t. instructed d w rest t.frame t.instruction)
+  pub running_taken : (rest : List Task) → running d w rest f ≡ (known arms.Code (taken_in p f) >>= λ t. instruction_step d w rest t.frame t.instruction)
   unfolding running block_in
   running_taken rest = in_program is ∙ in_block (slice_get p.blocks f.block)
     where
       of_block : Block → Answer Left
-      of_block b = known arms.Code (slice_get b.code (in_pass b f).at) >>= λ i. instructed d w rest (past (in_pass b f)) i
+      of_block b = known arms.Code (slice_get b.code (in_pass b f).at) >>= λ i. instruction_step d w rest (past (in_pass b f)) i
 
       in_program : program_at d f.program ≡ Some p → (block_in d f >>= of_block) ≡ (known arms.Code (slice_get p.blocks f.block) >>= of_block)
       in_program e = ap (λ (o : Option Program). (known arms.Code o >>= λ p. known arms.Code (slice_get p.blocks f.block)) >>= of_block) e
 
       in_code : (b : Block) (i : Option Instruction)
-          → (known arms.Code i >>= λ i. instructed d w rest (past (in_pass b f)) i)
-          ≡ (known arms.Code (option_map (λ i. record { instruction = i; frame = past (in_pass b f) }) i) >>= λ (t : Taken). instructed d w rest t.frame t.instruction)
+          → (known arms.Code i >>= λ i. instruction_step d w rest (past (in_pass b f)) i)
+          ≡ (known arms.Code (option_map (λ i. record { instruction = i; frame = past (in_pass b f) }) i) >>= λ (t : Taken). instruction_step d w rest t.frame t.instruction)
       in_code b None = refl
       in_code b (Some i) = refl
 
       in_block : (b : Option Block) → (known arms.Code b >>= of_block)
-          ≡ (known arms.Code (option_and_then (taken_of f) b) >>= λ (t : Taken). instructed d w rest t.frame t.instruction)
+          ≡ (known arms.Code (option_and_then (taken_of f) b) >>= λ (t : Taken). instruction_step d w rest t.frame t.instruction)
       in_block None = refl
       in_block (Some b) = in_code b (slice_get b.code (in_pass b f).at)
 

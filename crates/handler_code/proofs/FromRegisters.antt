@@ -16,7 +16,7 @@ use Rattle.ui_machine.specs.Definition.Values as values
 use Rattle.ui_machine.specs.Output.Lines as lines
 use Rattle.ui_machine.specs.State.Config.{Started, World, said}
 use Rattle.ui_machine.specs.State.Tasks.{Frame, Registers, Task}
-use Rattle.ui_machine.specs.Instructions.{in_front, instructed}
+use Rattle.ui_machine.specs.Instructions.{in_front, instruction_step}
 use Rattle.ui_machine.specs.Instructions.Arithmetic.{gives_from, within_bytes}
 use Rattle.ui_machine.specs.Instructions.Registers.{gives}
 use Rattle.g_values.specs.declared.value.Value.{Value}
@@ -31,7 +31,7 @@ module _ (types : List GType) (registers : Registers) where
   pub from_value : (instruction : ℕ → Instruction) (answer : Registers → Option values.Value) (r : Result Computed Halt) (o : Option Value)
       → MatchOption o (r ≡ Err (halts.Stuck arms.Register)) (λ v. r ≡ Ok (computed.Value v)) → option_map value_view o ≡ answer registers
       → ((d : Definition) (w : World) (rest : List Task) (f : Frame) (to : ℕ)
-      → instructed d w rest f (instruction to) ≡ in_front rest (given (λ v. gives w to v f) (answer f.registers)))
+      → instruction_step d w rest f (instruction to) ≡ in_front rest (given (λ v. gives w to v f) (answer f.registers)))
       → Computes r types registers instruction
   unfolding in_front
   from_value instruction answer r None is h machine =
@@ -44,7 +44,7 @@ module _ (types : List GType) (registers : Registers) where
   -- ** `move`
 
   moved : (d : Definition) (w : World) (rest : List Task) (f : Frame) (from to : ℕ) (x : Option values.Value) → f.registers ≡ registers
-      → read None registers from ≡ x → instructed d w rest f (words.move to from) ≡ in_front rest (given (λ v. gives w to v f) x)
+      → read None registers from ≡ x → instruction_step d w rest f (words.move to from) ≡ in_front rest (given (λ v. gives w to v f) x)
   moved d w rest f from to x same h = ap (in_front rest) (moves w f to from ∙ ap (given (λ v. gives w to v f)) (ap (λ rs. read None rs from) same ∙ h))
 
   pub from_copy : (from : ℕ) (r : Result Computed Halt) → Copies r (read None registers from) → Computes r types registers (λ to. words.move to from)
@@ -63,7 +63,7 @@ module _ (types : List GType) (registers : Registers) where
 
   joined : (d : Definition) (w : World) (rest : List Task) (f : Frame) (a b to : ℕ) (x : Option (List ℕ)) → f.registers ≡ registers
       → of_two (λ s t. Some (s ++ t)) (text_in registers a) (text_in registers b) ≡ x
-      → instructed d w rest f (words.join to a b) ≡ in_front rest (given (λ s. gives_from (within_bytes d w s) to f) x)
+      → instruction_step d w rest f (words.join to a b) ≡ in_front rest (given (λ s. gives_from (within_bytes d w s) to f) x)
   joined d w rest f a b to x same h =
       ap (in_front rest) (joins w f to d a b ∙ ap (given (λ s. gives_from (within_bytes d w s) to f))
       (ap (λ rs. of_two (λ s t. Some (s ++ t)) (text_in rs a) (text_in rs b)) same ∙ h))
@@ -99,7 +99,7 @@ module _ (types : List GType) (registers : Registers) where
 
   converted : (d : Definition) (w : World) (rest : List Task) (f : Frame) (a to : ℕ) (kind : Kind) (x : Option values.Value) → d.types ≡ types
       → f.registers ≡ registers → convertible_in types kind (read None registers a) ≡ x
-      → instructed d w rest f (words.convert to a kind) ≡ in_front rest (given (λ v. gives w to v f) x)
+      → instruction_step d w rest f (words.convert to a kind) ≡ in_front rest (given (λ v. gives w to v f) x)
   converted d w rest f a to kind x same_types same h =
       ap (in_front rest) (converts w f to d a kind ∙ ap (given (λ v. gives w to v f))
       (ap (λ ts. convertible_in ts kind (read None f.registers a)) same_types ∙ ap (λ rs. convertible_in types kind (read None rs a)) same ∙ h))

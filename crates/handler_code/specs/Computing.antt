@@ -15,7 +15,7 @@ use Rattle.ui_machine.specs.State.Config.{Started, World, said}
 use Rattle.ui_machine.specs.State.Tasks.{Frame, Registers, Task}
 use Rattle.ui_machine.specs.Rules.Sets.{has_kind}
 use Rattle.ui_machine.specs.Rules.Transform.{is_transformable, same_value, transformed, zero_value}
-use Rattle.ui_machine.specs.Instructions.{in_front, instructed}
+use Rattle.ui_machine.specs.Instructions.{in_front, instruction_step}
 use Rattle.ui_machine.specs.Instructions.Arithmetic.{bytes_of, is_object_kind, kind_of}
 use Rattle.ui_machine.specs.Instructions.Registers.{gives, written_to}
 use Rattle.g_values.specs.declared.value.Value.{Value}
@@ -124,9 +124,9 @@ writes d w f to computed.TooLong = gives (said d w (lines.limit (codes "join")))
 -- The instruction leads to just what was computed, wherever a program has these types and registers, or the machine stops as the code does.
 abbrev pub Computes : Result Computed Halt → List GType → Registers → (ℕ → Instruction) → Type 0
 Computes (Ok c) types registers instruction = (d : Definition) (w : World) (rest : List Task) (f : Frame) (to : ℕ) → d.types ≡ types →
-    f.registers ≡ registers → instructed d w rest f (instruction to) ≡ in_front rest (writes d w f to c)
+    f.registers ≡ registers → instruction_step d w rest f (instruction to) ≡ in_front rest (writes d w f to c)
 Computes (Err halt) types registers instruction = (d : Definition) (w : World) (rest : List Task) (f : Frame) (to : ℕ) → d.types ≡ types →
-    f.registers ≡ registers → Stops halt (instructed d w rest f (instruction to))
+    f.registers ≡ registers → Stops halt (instruction_step d w rest f (instruction to))
 
 -- two texts as one, unless it is too long
 abbrev pub Joins : Computed → List ℕ → List ℕ → Type 0

@@ -1,5 +1,6 @@
 -- Programs that run, as the machine has them, and how they go on.
 use Rattle.std.specs.Prelude.{◌≡◌, ℕ, List, [], map, Option, None, Some, option_map, option_and_then, slice_get, Result, Ok, Err}
+use Rattle.ui_machine.specs.Definition.Programs.{passes_in}
 use Rattle.ui_machine.specs.declared.arm.Arm.{Arm}
 use Rattle.ui_machine.specs.declared.arm.Halt.{Halt}
 use Rattle.ui_machine.specs.Definition.Programs as words
@@ -44,7 +45,7 @@ Takes (Some i) taken new = taken ≡ Some (record { instruction = i; frame = new
 
 -- the frame at the first instruction of a block
 abbrev pub at_block : ℕ → config.Frame → words.Block → config.Frame
-at_block to f b = record f { block = to; at = 0; passes = b.passes }
+at_block to f b = record f { block = to; at = 0; passes = passes_in b }
 
 -- What a register held before it was written, and the frame with the registers then. Where there is no such register, the frame stays.
 abbrev pub Puts : Result (Option Value) Arm → Answer config.Registers → Option values.Value → (old new : config.Frame) → Type 0

@@ -65,7 +65,7 @@ instruction_view (instructions.BranchNull on then_to else_to) = words.branch_nul
 instruction_view (instructions.Return from) = words.return (option_map number_of from)
 
 abbrev pub block_view : Block → words.Block
-block_view b = record { entry = map register_kind_view b.entry.items; passes = b.passes; code = map instruction_view b.code.items }
+block_view b = record { entry = map register_kind_view b.entry.items; repeat = b.repeat; code = map instruction_view b.code.items }
 
 abbrev pub program_view : Program → words.Program
 program_view p = record {

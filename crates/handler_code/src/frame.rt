@@ -119,7 +119,7 @@ impl Frame {
         };
         self.block = to;
         self.at = 0;
-        self.passes = block.passes;
+        self.passes = block.passes();
         Ok(())
     }
 

@@ -1,6 +1,7 @@
 //! Where a program stands: its blocks, and the instructions in them.
 
 ghost use Rattle.std.specs.Prelude.{◌≡◌, length, nat_eq, option_map, slice_get, suc};
+ghost use Rattle.ui_machine.specs.Definition.Programs.{passes_in};
 ghost use Rattle.ui_machine.specs.Rules.Programs.{passes_of};
 ghost use Rattle.handler_code.specs.View.{block_view, instruction_view, program_view};
 
@@ -21,13 +22,23 @@ impl Program {
         ensures { result ≡ passes_of (slice_get (program_view self.now).blocks 0) }
     {
         match self.block(BlockNumber(0)) {
-            Some(block) => block.passes,
+            Some(block) => block.passes(),
             None => 1,
         }
     }
 }
 
 impl Block {
+    /// How often the block's instructions before the last are carried out.
+    pub fn passes(&self) -> u32
+        ensures { result ≡ passes_in (block_view self.now) }
+    {
+        match self.repeat {
+            Some(passes) => passes,
+            None => 1,
+        }
+    }
+
     /// The instruction of a number, if there is one.
     #[tactic(auto, using(crate::proofs::Positions::viewed_at))]
     pub fn instruction(&self, at: usize) -> Option<&Instruction>

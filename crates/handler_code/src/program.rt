@@ -27,8 +27,8 @@ pub enum RegisterKind {
 pub struct Block {
     /// What each register holds as the block begins.
     pub entry: Vec<RegisterKind>,
-    /// How often the instructions before the last are carried out.
-    pub passes: u32,
+    /// How often the instructions before the last are carried out, where the block says so. Once where it does not.
+    pub repeat: Option<u32>,
     pub code: Vec<Instruction>,
 }
 

@@ -10,7 +10,7 @@ use Rattle.ui_machine.specs.State.Objects.{live}
 use Rattle.ui_machine.specs.State.Tasks.{Registers, Frame, Running, Task}
 use Rattle.ui_machine.specs.State.Config.{World, Config}
 use Rattle.ui_machine.specs.Outcome.{only_if}
-use Rattle.ui_machine.specs.Instructions.{instructed, running}
+use Rattle.ui_machine.specs.Instructions.{instruction_step, running}
 use Rattle.ui_machine.specs.Instructions.Jumps.{block_in, is_past_first, has_pass, is_at_last, in_pass, past}
 use Rattle.ui_machine.specs.Rules.Build.{to_make}
 use Rattle.ui_machine.specs.Steps.{most_steps, left, counted_left}
@@ -95,7 +95,7 @@ module _ {d : Definition} {i : Instruction} (t : Due d i) where
   pub none_into : f.into ≡ None
   none_into = no_register f.into r.comes
 
-  pub running_is : running d w rest f ≡ instructed d w rest (past f) i
+  pub running_is : running d w rest f ≡ instruction_step d w rest (past f) i
   unfolding running block_in
   running_is = rw (r.is, r.in_block, one_pass r.b f r.once, here) refl
 
@@ -175,7 +175,7 @@ module _ {d : Definition} {i : Instruction} (t : Due d i) where
     pub queued : suc (steps + total (carried d costs) v.objects) ≤ g.agenda.0 + total (carried d costs) w.objects
 
   pub alike : (next : Frame) → Alike (Running f ∷ rest) (Running next ∷ rest)
-  alike next = record { items = λ f. refl; unset = λ number. refl; carrying = refl; makes = refl; constructs = λ id. refl }
+  alike next = record { items = λ f. refl; unset = λ number. refl; request_step = refl; makes = refl; constructs = λ id. refl }
 
   pub goes_to : (v : World) (next : Frame) (steps : ℕ) → Around v next steps → IsGood d a most_counted (at_top v next rest (suc n))
   goes_to v next steps e =
@@ -208,7 +208,7 @@ module _ {d : Definition} {i : Instruction} (t : Due d i) where
   steps_left = (let cheap = taken.cheap in omega (arith, cheap))
 
   -- the step is fine where what the instruction leaves is good
-  pub fine_where : most_counted ≤ most_steps → (c : Config) → left (suc n) (instructed d w rest (past f) i) ≡ Ok c → IsGood d a most_counted c →
+  pub fine_where : most_counted ≤ most_steps → (c : Config) → left (suc n) (instruction_step d w rest (past f) i) ≡ Ok c → IsGood d a most_counted c →
       Fine d a.weighed.costs a.weighed.depths most_counted (depth (graph d) a.weighed.depths) (counted_left n (running d w rest f))
   fine_where within c leads good =
       subst (λ b. Fine d costs depths most_counted most (only_if b arms.Steps (left (suc n) (running d w rest f)))) (sym (lt-ltb n most_steps (room within)))

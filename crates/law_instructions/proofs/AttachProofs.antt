@@ -13,7 +13,7 @@ use Rattle.ui_machine.specs.State.Tasks.{Frame, Task}
 use Rattle.ui_machine.specs.State.Config.{World, said}
 use Rattle.ui_machine.specs.Output.Lines as lines
 use Rattle.ui_machine.specs.Output.Text.{text_of_line}
-use Rattle.ui_machine.specs.Instructions.{instructed, in_front}
+use Rattle.ui_machine.specs.Instructions.{instruction_step, in_front}
 use Rattle.ui_machine.specs.Instructions.Registers.{data_in, tells}
 use Rattle.ui_machine.specs.Instructions.Sources.{Attach, with_source, attached_to, attaching}
 use Rattle.ui_machine.specs.Instructions.Jumps.{past}
@@ -76,7 +76,7 @@ module _ {d : Definition} {i : Instruction} (t : Due d i) (plain : is_bracket i 
       })
 
   attach_fine : (to : ℕ) (x : Attach) → ends i ≡ false → written i ≡ Some to → ((number : ℕ) → program_of d x.program ≡ Some number → source_named d i ≡ Some number) →
-      Attaches d (r t).ks to x.program x.with (after d (r t).p (r t).ks i) → instructed d w rest (past f) i ≡ in_front rest (attaching d w (past f) to x) → StepIsFine t
+      Attaches d (r t).ks to x.program x.with (after d (r t).p (r t).ks i) → instruction_step d w rest (past f) i ≡ in_front rest (attaching d w (past f) to x) → StepIsFine t
   attach_fine to x more writes names k does =
       go (sources.has_room w.sources w.last_source) (does ∙ attach_writes d w rest (past f) to x k.number datum.arg k.is datum.is)
     where
@@ -98,7 +98,7 @@ module _ {d : Definition} {i : Instruction} (t : Due d i) (plain : is_bracket i 
         told = told;
       }
 
-      go : (room : Bool) → instructed d w rest (past f) i
+      go : (room : Bool) → instruction_step d w rest (past f) i
           ≡ in_front rest (tells (cond room (record { state = with_source w x k.number datum.arg; answer = true }) (record { state = said d w (lines.limit x.word); answer = false })) to (past f)) →
           StepIsFine t
       go true does = moved_written t plain (with_source w x k.number datum.arg) (source_moved x k.number datum.arg good) to (kinds.plain kinds.bool) (Some (values.bool true)) more writes k.kinds_are refl does

@@ -11,7 +11,7 @@ use Rattle.ui_machine.specs.State.Objects.{living, one_if}
 use Rattle.ui_machine.specs.State.Handlers.{handler_of}
 use Rattle.ui_machine.specs.State.Bindings.{binding_of, is_end}
 use Rattle.ui_machine.specs.State.Tasks.{Frame, Running, Task}
-use Rattle.ui_machine.specs.State.Config.{Held, World}
+use Rattle.ui_machine.specs.State.Config.{BuilderEntry, World}
 use Rattle.ui_machine.specs.Rules.Disposal.{is_of_object, disposed}
 use Rattle.ui_machine.specs.Rules.Sets.{is_disposed}
 use Rattle.ui_machine.specs.Instructions.{in_front}
@@ -94,7 +94,7 @@ module _ {d : Definition} {i : Instruction} (t : Due d i) (plain : is_bracket i 
 
   pool : PeersGood d v.peers (length v.builder + total is_for_builder agenda)
   pool =
-      subst (λ (b : List Held). PeersGood d v.peers (length b + total is_for_builder agenda)) (sym k.builder)
+      subst (λ (b : List BuilderEntry). PeersGood d v.peers (length b + total is_for_builder agenda)) (sym k.builder)
       (λ place p is. each_to _ _ p.peers (λ name old. peer_there place p name old) (g.peers place p is))
     where
       peer_there : (place : ℕ) (p : Place) (name : List ℕ) → PoolGood d w.peers (length w.builder + total is_for_builder agenda) place p name →

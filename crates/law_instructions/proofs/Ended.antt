@@ -5,7 +5,7 @@ use Rattle.ui_machine.specs.Seq.{total}
 use Rattle.ui_machine.specs.Definition.{Definition}
 use Rattle.ui_machine.specs.Definition.Programs.{Instruction}
 use Rattle.ui_machine.specs.State.Tasks.{Running, Task}
-use Rattle.ui_machine.specs.State.Config.{Held}
+use Rattle.ui_machine.specs.State.Config.{BuilderEntry}
 use Rattle.ui_machine.specs.Rules.Build.{is_making}
 use Rattle.law_typing.specs.Graph.{graph}
 use Rattle.law_typing.specs.Graph.Depths.{depth}
@@ -48,7 +48,7 @@ alike_both : (a b c : List Task) → Alike a b → Alike b c → Alike a c
 alike_both a b c p q = record {
   items = λ f. q.items f ∙ p.items f;
   unset = λ number. q.unset number ∙ p.unset number;
-  carrying = q.carrying ∙ p.carrying;
+  request_step = q.request_step ∙ p.request_step;
   makes = q.makes ∙ p.makes;
   constructs = λ id. q.constructs id ∙ p.constructs id;
 }
@@ -64,7 +64,7 @@ module _ {d : Definition} {i : Instruction} (t : Due d i) (plain : is_bracket i 
     pub lowest : (id : ℕ) → below_lowest d id agenda ≤ below_lowest d id rest
     pub no_set : total is_due_set agenda ≡ 0
     pub no_source : total is_due_source agenda ≡ 0
-    pub build : (builder : List Held) → BuildGood d builder agenda rest → BuildGood d builder agenda agenda
+    pub build : (builder : List BuilderEntry) → BuildGood d builder agenda rest → BuildGood d builder agenda agenda
     pub budget : ℕ
     pub less : budget ≤ g.agenda.2
     pub good : AgendaGood d a.weighed.costs a.weighed.depths (view (with_lists w l)) (depth (graph d) a.weighed.depths) none agenda budget
@@ -73,7 +73,7 @@ module _ {d : Definition} {i : Instruction} (t : Due d i) (plain : is_bracket i 
   first_gone = record {
     items = λ f. omega arith;
     unset = λ number. omega arith;
-    carrying = omega arith;
+    request_step = omega arith;
     makes = omega arith;
     constructs = λ id. omega arith;
   }

@@ -9,12 +9,12 @@ use Rattle.ui_machine.specs.Definition.Values.{Value}
 use Rattle.ui_machine.specs.Definition.Values as values
 use Rattle.ui_machine.specs.Definition.{Definition}
 use Rattle.ui_machine.specs.Definition.Lookups.{program_at}
-use Rattle.ui_machine.specs.Definition.Programs.{Block, Program, Instruction}
+use Rattle.ui_machine.specs.Definition.Programs.{Block, Program, Instruction, passes_in}
 use Rattle.ui_machine.specs.Definition.Programs as words
 use Rattle.ui_machine.specs.State.Tasks.{Registers, Frame, Task}
 use Rattle.ui_machine.specs.State.Config.{World}
 use Rattle.ui_machine.specs.Rules.Transform.{is_one}
-use Rattle.ui_machine.specs.Instructions.{in_front, instructed}
+use Rattle.ui_machine.specs.Instructions.{in_front, instruction_step}
 use Rattle.ui_machine.specs.Instructions.Registers.{truth_in}
 use Rattle.ui_machine.specs.Instructions.Jumps.{jumping, branching, branching_null, null_of, past}
 use Rattle.ui_machine.specs.Steps.{left}
@@ -36,7 +36,7 @@ use Rattle.law_instructions.proofs.Landing.{fit_entry, lands, landed}
 -- ** what the machine does
 
 jump_leads : (d : Definition) (w : World) (rest : List Task) (f : Frame) (n to : ℕ) (p : Program) (b : Block) → program_at d f.program ≡ Some p → slice_get p.blocks to ≡ Some b →
-    left n (in_front rest (jumping d w f to)) ≡ Ok (at_top w (record f { block = to; at = 0; passes = b.passes }) rest n)
+    left n (in_front rest (jumping d w f to)) ≡ Ok (at_top w (record f { block = to; at = 0; passes = passes_in b }) rest n)
 unfolding jumping in_front left
 jump_leads d w rest f n to p b is has = rw (is, has) refl
 
@@ -130,9 +130,9 @@ module _ (d : Definition) (s : Standing) where
 
 module _ {d : Definition} where
   jump_to : {i : Instruction} (t : Due d i) → ends i ≡ true → (ks : Kinds) (to : ℕ) → Enters d (r t).p ks to → RegistersFit d (standing t.w.objects) ks t.f.registers → IsIn to (next_of i) →
-      instructed d t.w t.rest (past t.f) i ≡ in_front t.rest (jumping d t.w (past t.f) to) → StepIsFine t
+      instruction_step d t.w t.rest (past t.f) i ≡ in_front t.rest (jumping d t.w (past t.f) to) → StepIsFine t
   jump_to t last ks to enters fit next does within =
-      fine_where t within (at_top t.w (record (past t.f) { block = to; at = 0; passes = enters.b.passes }) t.rest (suc t.n))
+      fine_where t within (at_top t.w (record (past t.f) { block = to; at = 0; passes = passes_in enters.b }) t.rest (suc t.n))
       (ap (left (suc t.n)) does ∙ jump_leads d t.w t.rest (past t.f) (suc t.n) to (r t).p enters.b (r t).is enters.is)
       (waits_not t t.w (landed t last to enters.b)
       (lands t last to enters.b enters.is (fit_entry d t.well.types (standing t.w.objects) ks enters.b.entry t.f.registers enters.fit fit) next))
@@ -148,7 +148,7 @@ module _ {d : Definition} where
       go k.1 k.2 b.0 (branch_leads d t.w t.rest (past t.f) on then_to else_to b.0 (truth_is (past t.f) on b.0 b.1))
     where
       go : Enters d (r t).p (r t).ks then_to → Enters d (r t).p (r t).ks else_to → (b : Bool) →
-          instructed d t.w t.rest (past t.f) (words.branch on then_to else_to) ≡ in_front t.rest (jumping d t.w (past t.f) (cond b then_to else_to)) → StepIsFine t
+          instruction_step d t.w t.rest (past t.f) (words.branch on then_to else_to) ≡ in_front t.rest (jumping d t.w (past t.f) (cond b then_to else_to)) → StepIsFine t
       go first second true does = jump_to t refl (r t).ks then_to first (r t).fit (inl refl) does
       go first second false does = jump_to t refl (r t).ks else_to second (r t).fit (inr (inl refl)) does
 
@@ -161,7 +161,7 @@ module _ {d : Definition} where
     where
       go : Enters d (r t).p (r t).ks then_to → Enters d (r t).p (with_kind (r t).ks on (never_null (kind_in (r t).ks on))) else_to → (null : Bool) →
           (null ≡ false → holds d (standing t.w.objects) (never_null (kind_in (r t).ks on)) (read None t.f.registers on) ≡ true) →
-          instructed d t.w t.rest (past t.f) (words.branch_null on then_to else_to) ≡ in_front t.rest (jumping d t.w (past t.f) (cond null then_to else_to)) → StepIsFine t
+          instruction_step d t.w t.rest (past t.f) (words.branch_null on then_to else_to) ≡ in_front t.rest (jumping d t.w (past t.f) (cond null then_to else_to)) → StepIsFine t
       go first second true not does = jump_to t refl (r t).ks then_to first (r t).fit (inl refl) does
       go first second false not does =
           jump_to t refl (with_kind (r t).ks on (never_null (kind_in (r t).ks on))) else_to second

@@ -6,7 +6,7 @@ use Rattle.ui_machine.specs.Definition.Kinds.{RegisterKind}
 use Rattle.ui_machine.specs.Definition.Kinds as kinds
 use Rattle.ui_machine.specs.Definition.{Definition}
 use Rattle.ui_machine.specs.Definition.Lookups.{program_at}
-use Rattle.ui_machine.specs.Definition.Programs.{Instruction, Block}
+use Rattle.ui_machine.specs.Definition.Programs.{Instruction, Block, passes_in}
 use Rattle.ui_machine.specs.Definition.Programs as words
 use Rattle.ui_machine.specs.State.Tasks.{Registers, Frame, Running}
 use Rattle.law_typing.specs.Rules.RegisterKinds.{Kinds, kind_in, fits, kinds_fit}
@@ -76,7 +76,7 @@ module _ {d : Definition} {i : Instruction} (t : Due d i) (last : ends i ≡ tru
 
   -- the frame at the beginning of a block
   abbrev pub landed : ℕ → Block → Frame
-  landed to b = record f { block = to; at = 0; passes = b.passes; into = None }
+  landed to b = record f { block = to; at = 0; passes = passes_in b; into = None }
 
   -- what is left of the steps pays for the block
   pays : (to : ℕ) → IsIn to (next_of i) → suc (block_cost (graph d) a.weighed.costs (stretches_of d (r t).p) to) ≤ g.agenda.0

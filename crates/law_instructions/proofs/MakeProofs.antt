@@ -15,7 +15,7 @@ use Rattle.ui_machine.specs.Definition.Programs as words
 use Rattle.ui_machine.specs.Output.Lines as lines
 use Rattle.ui_machine.specs.Output.Text.{text_of_line}
 use Rattle.ui_machine.specs.State.Objects.{Object, living, live, most_identities}
-use Rattle.ui_machine.specs.State.Tasks.{Registers, Frame, Task, Making, Item, makes, adopts, forwards, binds, connects, Constructing, Building, Running}
+use Rattle.ui_machine.specs.State.Tasks.{Registers, Frame, Task, ConstructStep, Item, makes, adopts, forwards, binds, connects, Constructing, Building, Running}
 use Rattle.ui_machine.specs.State.Config.{World, Config, said}
 use Rattle.ui_machine.specs.Rules.Build.{of_items, to_make}
 use Rattle.ui_machine.specs.Rules.Construction.{has_valid_default, has_shape, new_object, with_object, peer_left, peer_to_take, construction, making}
@@ -168,7 +168,7 @@ module _ {d : Definition} (to : ℕ) (id : List ℕ) (t : Due d (words.new to id
   abbrev v : World
   v = said d made (lines.construct new (type_of d k.p.class).name)
 
-  abbrev todo : List Making
+  abbrev todo : List ConstructStep
   todo = construction d w k.place k.p
 
   abbrev registers : Registers
@@ -222,7 +222,7 @@ module _ {d : Definition} (to : ℕ) (id : List ℕ) (t : Due d (words.new to id
   pool = peers_lent d well.peers w k.place (length w.builder + total is_for_builder (Running f ∷ rest)) (length w.builder + total is_for_builder agenda) new k.p k.has (inl k.allowed) (omega arith) g.peers
 
   alike : Alike (Running f ∷ rest) agenda
-  alike = record { items = λ f. omega arith; unset = λ number. omega arith; carrying = omega arith; makes = omega arith; constructs = λ id. omega arith }
+  alike = record { items = λ f. omega arith; unset = λ number. omega arith; request_step = omega arith; makes = omega arith; constructs = λ id. omega arith }
 
   -- ** the registers
 

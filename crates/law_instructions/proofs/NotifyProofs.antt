@@ -16,7 +16,7 @@ use Rattle.ui_machine.specs.Rules.NotifyQueue.{queued}
 use Rattle.ui_machine.specs.Rules.Sets.{spec_at, raising}
 use Rattle.ui_machine.specs.Instructions.{in_front}
 use Rattle.ui_machine.specs.Instructions.Registers.{operand_in, goes_on}
-use Rattle.ui_machine.specs.Instructions.Properties.{slot_at, then_goes_on, telling}
+use Rattle.ui_machine.specs.Instructions.Properties.{slot_at, then_goes_on, notify_from_program}
 use Rattle.ui_machine.specs.Instructions.Jumps.{past}
 use Rattle.ui_machine.specs.Steps.{left}
 use Rattle.law_typing.specs.Rules.RegisterKinds.{class_at}
@@ -90,19 +90,19 @@ lowest_within d id x (y ∷ tasks) = go (nat_eq (total (frozen_by d id) (y ∷ t
 
 made_at_once : (d : Definition) (w : World) (rest : List Task) (f : Frame) (object : ℕ) (name : List ℕ) (id slot : ℕ) (s : Spec) (o : Object) → operand_in w f object ≡ Ok id → slot_at d w id name ≡ Ok slot →
     spec_at d w.objects id slot ≡ Ok s → is_readable s ≡ true → living w.objects id ≡ Some o → nat_eq o.freezes 0 ≡ true →
-    in_front rest (telling d w f object name) ≡ in_front rest (goes_on (with_objects w (put w.objects id (Some o))) (Notifying id slot ∷ []) f)
-unfolding telling then_goes_on raising changed
+    in_front rest (notify_from_program d w f object name) ≡ in_front rest (goes_on (with_objects w (put w.objects id (Some o))) (Notifying id slot ∷ []) f)
+unfolding notify_from_program then_goes_on raising changed
 made_at_once d w rest f object name id slot s o a b c readable is thawed = rw (a, b, c, readable, is, thawed) refl
 
 queued_first : (d : Definition) (w : World) (rest : List Task) (f : Frame) (object : ℕ) (name : List ℕ) (id slot : ℕ) (s : Spec) (o : Object) → operand_in w f object ≡ Ok id → slot_at d w id name ≡ Ok slot →
     spec_at d w.objects id slot ≡ Ok s → is_readable s ≡ true → living w.objects id ≡ Some o → nat_eq o.freezes 0 ≡ false →
-    in_front rest (telling d w f object name) ≡ in_front rest (goes_on (with_objects w (put w.objects id (Some (record o { queue = queued o.queue slot })))) [] f)
-unfolding telling then_goes_on raising changed
+    in_front rest (notify_from_program d w f object name) ≡ in_front rest (goes_on (with_objects w (put w.objects id (Some (record o { queue = queued o.queue slot })))) [] f)
+unfolding notify_from_program then_goes_on raising changed
 queued_first d w rest f object name id slot s o a b c readable is frozen = rw (a, b, c, readable, is, frozen) refl
 
 not_told : (d : Definition) (w : World) (rest : List Task) (f : Frame) (object : ℕ) (name : List ℕ) (id slot : ℕ) (s : Spec) → operand_in w f object ≡ Ok id → slot_at d w id name ≡ Ok slot →
-    spec_at d w.objects id slot ≡ Ok s → is_readable s ≡ false → in_front rest (telling d w f object name) ≡ in_front rest (goes_on w [] f)
-unfolding telling
+    spec_at d w.objects id slot ≡ Ok s → is_readable s ≡ false → in_front rest (notify_from_program d w f object name) ≡ in_front rest (goes_on w [] f)
+unfolding notify_from_program
 not_told d w rest f object name id slot s a b c secret = rw (a, b, c, secret) refl
 
 goes_leads : (v : World) (rest : List Task) (f : Frame) (n : ℕ) → left n (in_front rest (goes_on v [] f)) ≡ Ok (at_top v f rest n)

@@ -13,14 +13,14 @@ use Rattle.ui_machine.specs.Definition.Programs.{Instruction}
 use Rattle.ui_machine.specs.Definition.Programs as words
 use Rattle.ui_machine.specs.State.Objects.{Object, living, asked, value_at}
 use Rattle.ui_machine.specs.State.Tasks.{Frame, Task}
-use Rattle.ui_machine.specs.State.Config.{Held, unbuilt, built, released, World, held_at}
+use Rattle.ui_machine.specs.State.Config.{BuilderEntry, unbuilt, built, released, World, builder_entry}
 use Rattle.ui_machine.specs.Rules.Sets.{spec_at}
 use Rattle.ui_machine.specs.Rules.Construction.{object_held}
 use Rattle.ui_machine.specs.Rules.Transform.{kind_fits}
 use Rattle.ui_machine.specs.Instructions.{in_front}
 use Rattle.ui_machine.specs.Instructions.Registers.{operand_in, written_to}
-use Rattle.ui_machine.specs.Instructions.Properties.{slot_at, getting}
-use Rattle.ui_machine.specs.Instructions.Objects.{naming, or_null}
+use Rattle.ui_machine.specs.Instructions.Properties.{slot_at, get_property}
+use Rattle.ui_machine.specs.Instructions.Objects.{look_up_object, or_null}
 use Rattle.ui_machine.specs.Instructions.Jumps.{past}
 use Rattle.law_typing.specs.Good.Standing.{standing, class_by, covers_if, holds}
 use Rattle.law_typing.proofs.Lists.{both_parts}
@@ -45,13 +45,13 @@ value_is w id slot o v e is = rw (e, is) refl
 
 get_writes : (d : Definition) (w : World) (rest : List Task) (f : Frame) (to object : ℕ) (name : List ℕ) (id slot : ℕ) (s : Spec) (v : Value) → operand_in w f object ≡ Ok id →
     slot_at d w id name ≡ Ok slot → spec_at d w.objects id slot ≡ Ok s → asked w.objects id (value_at slot) ≡ Ok v → is_readable s ≡ true →
-    in_front rest (getting d w f to object name) ≡ in_front rest (written_to w to (Some v) f)
-unfolding getting
+    in_front rest (get_property d w f to object name) ≡ in_front rest (written_to w to (Some v) f)
+unfolding get_property
 get_writes d w rest f to object name id slot s v a b c e readable = rw (a, b, c, e, readable) refl
 
 object_writes : (d : Definition) (w : World) (rest : List Task) (f : Frame) (to : ℕ) (id : List ℕ) (place : ℕ) (p : Place) → place_of d id ≡ Some place → place_at d place ≡ Some p →
-    not p.is_prototype ≡ true → in_front rest (naming d w f to id) ≡ in_front rest (written_to w to (Some (or_null (object_held (held_at w place)))) f)
-unfolding naming
+    not p.is_prototype ≡ true → in_front rest (look_up_object d w f to id) ≡ in_front rest (written_to w to (Some (or_null (object_held (builder_entry w place)))) f)
+unfolding look_up_object
 object_writes d w rest f to id place p a b c = rw (a, b, c) refl
 
 module _ {d : Definition} where
@@ -68,10 +68,10 @@ module _ {d : Definition} where
       (value_is w o.id own.0 o.o v.value o.lives v.is) k.readable)
 
   -- what the builder holds of a place, or null
-  held_holds : {i : Instruction} (t : Due d i) (place : ℕ) → holds d (standing t.w.objects) (kinds.at_or_null place) (Some (or_null (object_held (held_at t.w place)))) ≡ true
-  held_holds t place = go (held_at t.w place) refl
+  held_holds : {i : Instruction} (t : Due d i) (place : ℕ) → holds d (standing t.w.objects) (kinds.at_or_null place) (Some (or_null (object_held (builder_entry t.w place)))) ≡ true
+  held_holds t place = go (builder_entry t.w place) refl
     where
-      go : (h : Held) → held_at t.w place ≡ h → holds d (standing t.w.objects) (kinds.at_or_null place) (Some (or_null (object_held h))) ≡ true
+      go : (h : BuilderEntry) → builder_entry t.w place ≡ h → holds d (standing t.w.objects) (kinds.at_or_null place) (Some (or_null (object_held h))) ≡ true
       go unbuilt e = refl
       go released e = refl
       go (built id) e = ap (covers_if d (kinds.at place)) (t.g.held place id e) ∙ eq-eqb place place refl
@@ -79,7 +79,7 @@ module _ {d : Definition} where
   object_fine : (to : ℕ) (id : List ℕ) (t : Due d (words.object to id)) → StepIsFine t
   object_fine to id t =
       let k = naming_is d (r t).ks to id false _ (taken t).typed in
-      written_fine t refl t.w.transcript to (kinds.at_or_null k.place) (Some (or_null (object_held (held_at t.w k.place)))) refl refl k.kinds_are (held_holds t k.place)
+      written_fine t refl t.w.transcript to (kinds.at_or_null k.place) (Some (or_null (object_held (builder_entry t.w k.place)))) refl refl k.kinds_are (held_holds t k.place)
       (object_writes d t.w t.rest (past t.f) to id k.place k.p k.is k.has k.allowed)
 
 pub reads_are_fine : ReadsAreFine

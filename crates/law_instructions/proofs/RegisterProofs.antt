@@ -17,7 +17,7 @@ use Rattle.ui_machine.specs.Output.Text.{text_of_line}
 use Rattle.ui_machine.specs.Rules.Sets.{has_kind}
 use Rattle.ui_machine.specs.Rules.Transform.{kind_fits, is_transformable, transformed, same_value, same_whole, wrapped}
 use Rattle.ui_machine.specs.Rules.Accumulation.{or_zero}
-use Rattle.ui_machine.specs.Instructions.{instructed, in_front}
+use Rattle.ui_machine.specs.Instructions.{instruction_step, in_front}
 use Rattle.ui_machine.specs.Instructions.Registers.{truth_in, text_in, whole_in, written_to, moving}
 use Rattle.ui_machine.specs.Instructions.Arithmetic.{comparing, reckoning, converting, is_convertible, is_object_kind, sameness, negating, conjunction, disjunction, joining, of_one_kind, kind_of, bytes_of, most_bytes, within_bytes, gives_from}
 use Rattle.ui_machine.specs.Instructions.Arithmetic as arithmetic
@@ -217,7 +217,7 @@ module _ {d : Definition} where
       (either_writes t.w t.rest (past t.f) to a b p.0 q.0 (truth_is (past t.f) a p.0 p.1) (truth_is (past t.f) b q.0 q.1))
 
   join_by : (to a b : ℕ) (t : Due d (words.join to a b)) (s : List ℕ) → after d (r t).p (r t).ks (words.join to a b) ≡ write kinds.unset (r t).ks to (kinds.plain kinds.text) →
-      (long : Bool) → instructed d t.w t.rest (past t.f) (words.join to a b)
+      (long : Bool) → instruction_step d t.w t.rest (past t.f) (words.join to a b)
       ≡ in_front t.rest (gives_from (cond long (record { state = said d t.w (lines.limit (codes "join")); answer = values.text None }) (record { state = t.w; answer = values.text (Some s) })) to (past t.f)) →
       StepIsFine t
   join_by to a b t s k true does =

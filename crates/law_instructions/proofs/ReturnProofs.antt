@@ -11,8 +11,8 @@ use Rattle.ui_machine.specs.Definition.Lookups.{program_at}
 use Rattle.ui_machine.specs.Definition.Programs.{Instruction, Program}
 use Rattle.ui_machine.specs.Definition.Programs as words
 use Rattle.ui_machine.specs.State.Objects.{class_in}
-use Rattle.ui_machine.specs.State.Tasks.{PlanEntry, Emission, Frame, Task, Setting, Notifying, Beginning, Emitting, Transferring, Unsetting, Thawing, Running, Answering, Calling, Constructing, Building, Carrying, Due}
-use Rattle.ui_machine.specs.State.Config.{Held, World, leaves}
+use Rattle.ui_machine.specs.State.Tasks.{PlanEntry, Emission, Frame, Task, Setting, Notifying, Beginning, Emitting, Transferring, Unsetting, Thawing, Running, Answering, Calling, Constructing, Building, Handling, Due}
+use Rattle.ui_machine.specs.State.Config.{BuilderEntry, World, leaves}
 use Rattle.ui_machine.specs.Rules.Accumulation.{suits, given_down, down_to_emission, down_to_source, collecting}
 use Rattle.ui_machine.specs.Rules.MainLoop.{answered}
 use Rattle.ui_machine.specs.Rules.Transform.{kind_fits}
@@ -60,7 +60,7 @@ pub record Lands (d : Definition) (costs depths : Tables) (most : ℕ) (w : Worl
   pub lowest : (id : ℕ) → below_lowest d id agenda ≤ below_lowest d id rest
   pub no_set : total is_due_set agenda ≡ 0
   pub no_source : total is_due_source agenda ≡ 0
-  pub build : (builder : List Held) → BuildGood d builder agenda rest → BuildGood d builder agenda agenda
+  pub build : (builder : List BuilderEntry) → BuildGood d builder agenda rest → BuildGood d builder agenda agenda
   pub left : ℕ
   pub less : left ≤ budget
   pub good : AgendaGood d costs depths (view (record w { sources = sources })) most none agenda left
@@ -87,13 +87,13 @@ module _ (d : Definition) (types : TypesRead d) (costs depths : Tables) (most : 
 
   -- what takes no result stays as it is
   same : (rest : List Task) (left : ℕ) → own ≡ None → given_down d w rest None ≡ leaves w rest → AgendaGood d costs depths (view w) most none rest left →
-      ((builder : List Held) → BuildGood d builder rest rest → BuildGood d builder rest rest) → total is_due_set rest ≡ 0 → total is_due_source rest ≡ 0 → Lands d costs depths most w rest left v
+      ((builder : List BuilderEntry) → BuildGood d builder rest rest → BuildGood d builder rest rest) → total is_due_set rest ≡ 0 → total is_due_source rest ≡ 0 → Lands d costs depths most w rest left v
   same rest left no_own is good build no_set no_source = record {
     agenda = rest;
     sources = w.sources;
     is = ap (given_down d w rest) (none_given no_own) ∙ is;
     good_sources = sources;
-    alike = record { items = λ f. refl; unset = λ number. refl; carrying = refl; makes = refl; constructs = λ id. refl };
+    alike = record { items = λ f. refl; unset = λ number. refl; request_step = refl; makes = refl; constructs = λ id. refl };
     frozen = λ id. refl;
     lowest = λ id. omega arith;
     no_set = no_set;
@@ -114,7 +114,7 @@ module _ (d : Definition) (types : TypesRead d) (costs depths : Tables) (most : 
         sources = w.sources;
         is = emission_goes d w e turns tasks v c.emission c.left c.is;
         good_sources = sources;
-        alike = record { items = λ f. refl; unset = λ number. refl; carrying = refl; makes = refl; constructs = λ id. refl };
+        alike = record { items = λ f. refl; unset = λ number. refl; request_step = refl; makes = refl; constructs = λ id. refl };
         frozen = λ id. refl;
         lowest = λ id. omega arith;
         no_set = omega (arith, no_set);
@@ -139,7 +139,7 @@ module _ (d : Definition) (types : TypesRead d) (costs depths : Tables) (most : 
         sources = next;
         is = source_goes d w source tasks v b.0 b.1;
         good_sources = sources_answered d (standing w.objects) w.sources w.moment source b.0 sources;
-        alike = record { items = λ f. omega arith; unset = λ number. omega arith; carrying = omega arith; makes = omega arith; constructs = λ id. omega arith };
+        alike = record { items = λ f. omega arith; unset = λ number. omega arith; request_step = omega arith; makes = omega arith; constructs = λ id. omega arith };
         frozen = λ id. omega arith;
         lowest = λ id. lowest_falls d id (Answering source) tasks;
         no_set = no_set;
@@ -183,7 +183,7 @@ module _ (d : Definition) (types : TypesRead d) (costs depths : Tables) (most : 
   lands (Calling call ∷ tasks) left g s q = same (Calling call ∷ tasks) left g.3.0 refl (g.0, g.1, g.2, (tt, g.3.1), g.4, g.5, g.6) (λ builder b. b) s q
   lands (Constructing id todo held ∷ tasks) left g s q = same (Constructing id todo held ∷ tasks) left g.3.0 refl (g.0, g.1, g.2, (tt, g.3.1, g.3.2), g.4, g.5, g.6) (λ builder b. b) s q
   lands (Building items ∷ tasks) left g s q = same (Building items ∷ tasks) left g.3.0 refl (g.0, g.1, g.2, (tt, g.3.1, g.3.2, g.3.3), g.4, g.5, g.6) (λ builder b. b) s q
-  lands (Carrying request ∷ tasks) left g s q = same (Carrying request ∷ tasks) left g.3.0 refl (g.0, g.1, g.2, (tt, g.3.1, g.3.2), g.4, g.5, g.6) (λ builder b. b) s q
+  lands (Handling request ∷ tasks) left g s q = same (Handling request ∷ tasks) left g.3.0 refl (g.0, g.1, g.2, (tt, g.3.1, g.3.2), g.4, g.5, g.6) (λ builder b. b) s q
   lands (Due source ∷ tasks) left g s q = absurd (omega (arith, q))
 
 -- ** what is given

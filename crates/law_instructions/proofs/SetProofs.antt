@@ -19,7 +19,7 @@ use Rattle.ui_machine.specs.Outcome.{known}
 use Rattle.ui_machine.specs.Rules.Sets.{spec_at}
 use Rattle.ui_machine.specs.Instructions.{in_front}
 use Rattle.ui_machine.specs.Instructions.Registers.{operand_in, value_in, goes_on}
-use Rattle.ui_machine.specs.Instructions.Properties.{slot_at, set_from, assigning}
+use Rattle.ui_machine.specs.Instructions.Properties.{slot_at, set_from, set_property}
 use Rattle.ui_machine.specs.Instructions.Jumps.{past}
 use Rattle.law_typing.specs.Rules.Answers as rules
 use Rattle.law_typing.specs.Rules.RegisterKinds.{Kinds, kind_in, class_at, fits}
@@ -66,8 +66,8 @@ pub record Assigns (d : Definition) (ks : Kinds) (object : ℕ) (name : List ℕ
   pub fit : fits d (kind_in ks from) (kinds.plain spec.kind) ≡ true
   pub kinds_are : next ≡ ks
 
-assigning_is : (d : Definition) (ks : Kinds) (object : ℕ) (name : List ℕ) (from : ℕ) (next : Kinds) → typing.assigning d ks object name from ≡ Ok next → Assigns d ks object name from next
-unfolding typing.assigning
+assigning_is : (d : Definition) (ks : Kinds) (object : ℕ) (name : List ℕ) (from : ℕ) (next : Kinds) → typing.set_property d ks object name from ≡ Ok next → Assigns d ks object name from next
+unfolding typing.set_property
 assigning_is d ks object name from next e =
     let x = bound (property_of d ks object name) _ next e in
     let p = only (is_writable x.0) rules.flags _ next x.2 in
@@ -88,8 +88,8 @@ assigning_is d ks object name from next e =
 
 set_starts : (d : Definition) (w : World) (rest : List Task) (f : Frame) (object : ℕ) (name : List ℕ) (from id slot : ℕ) (s : Spec) (v : Value) → operand_in w f object ≡ Ok id →
     slot_at d w id name ≡ Ok slot → spec_at d w.objects id slot ≡ Ok s → is_writable s ≡ true → not (is_construct_only s) ≡ true → value_in f from ≡ Ok v →
-    in_front rest (assigning d w f object name from) ≡ in_front rest (goes_on w (Setting id slot v ∷ []) f)
-unfolding assigning set_from
+    in_front rest (set_property d w f object name from) ≡ in_front rest (goes_on w (Setting id slot v ∷ []) f)
+unfolding set_property set_from
 set_starts d w rest f object name from id slot s v a b c writable free value = rw (a, b, c, writable, free, value) refl
 
 module _ {d : Definition} (object : ℕ) (name : List ℕ) (from : ℕ) (t : Due d (words.set object name from)) where

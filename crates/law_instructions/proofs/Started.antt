@@ -7,8 +7,8 @@ use Rattle.ui_machine.specs.Definition.{Definition}
 use Rattle.ui_machine.specs.Definition.Programs.{Instruction}
 use Rattle.ui_machine.specs.State.References.{next_unheld, mentions}
 use Rattle.ui_machine.specs.State.Tasks.{Frame, Task, Setting, Notifying, Beginning, Calling, Thawing, Running}
-use Rattle.ui_machine.specs.State.Config.{Held, World, Config}
-use Rattle.ui_machine.specs.Instructions.{instructed, in_front}
+use Rattle.ui_machine.specs.State.Config.{BuilderEntry, World, Config}
+use Rattle.ui_machine.specs.Instructions.{instruction_step, in_front}
 use Rattle.ui_machine.specs.Instructions.Jumps.{past}
 use Rattle.ui_machine.specs.Instructions.Registers as machine
 use Rattle.ui_machine.specs.Rules.Build.{is_making}
@@ -50,31 +50,31 @@ is_started task = false
 pub record Unseen (d : Definition) (task : Task) (f next : Frame) (rest : List Task) : Type 0 where
   pub alike : Alike (Running f ∷ rest) (task ∷ Running next ∷ rest)
   pub unfrozen : (id : ℕ) → frozen_by d id task ≡ 0
-  pub build : (builder : List Held) (agenda : List Task) → BuildGood d builder agenda rest → BuildGood d builder agenda (task ∷ Running next ∷ rest)
+  pub build : (builder : List BuilderEntry) (agenda : List Task) → BuildGood d builder agenda rest → BuildGood d builder agenda (task ∷ Running next ∷ rest)
 
 pub unseen : (d : Definition) (task : Task) (f next : Frame) (rest : List Task) → is_started task ≡ true → Unseen d task f next rest
 unseen d (Setting id slot v) f next rest is = record {
-  alike = record { items = λ f. omega arith; unset = λ number. omega arith; carrying = omega arith; makes = omega arith; constructs = λ id. omega arith };
+  alike = record { items = λ f. omega arith; unset = λ number. omega arith; request_step = omega arith; makes = omega arith; constructs = λ id. omega arith };
   unfrozen = λ id. refl;
   build = λ builder agenda b. b;
 }
 unseen d (Notifying id slot) f next rest is = record {
-  alike = record { items = λ f. omega arith; unset = λ number. omega arith; carrying = omega arith; makes = omega arith; constructs = λ id. omega arith };
+  alike = record { items = λ f. omega arith; unset = λ number. omega arith; request_step = omega arith; makes = omega arith; constructs = λ id. omega arith };
   unfrozen = λ id. refl;
   build = λ builder agenda b. b;
 }
 unseen d (Beginning e) f next rest is = record {
-  alike = record { items = λ f. omega arith; unset = λ number. omega arith; carrying = omega arith; makes = omega arith; constructs = λ id. omega arith };
+  alike = record { items = λ f. omega arith; unset = λ number. omega arith; request_step = omega arith; makes = omega arith; constructs = λ id. omega arith };
   unfrozen = λ id. refl;
   build = λ builder agenda b. b;
 }
 unseen d (Calling call) f next rest is = record {
-  alike = record { items = λ f. omega arith; unset = λ number. omega arith; carrying = omega arith; makes = omega arith; constructs = λ id. omega arith };
+  alike = record { items = λ f. omega arith; unset = λ number. omega arith; request_step = omega arith; makes = omega arith; constructs = λ id. omega arith };
   unfrozen = λ id. refl;
   build = λ builder agenda b. b;
 }
 unseen d (Thawing id slots) f next rest is = record {
-  alike = record { items = λ f. omega arith; unset = λ number. omega arith; carrying = omega arith; makes = omega arith; constructs = λ id. omega arith };
+  alike = record { items = λ f. omega arith; unset = λ number. omega arith; request_step = omega arith; makes = omega arith; constructs = λ id. omega arith };
   unfrozen = λ id. refl;
   build = λ builder agenda b. b;
 }
@@ -180,7 +180,7 @@ module _ {d : Definition} {i : Instruction} (t : Due d i) (plain : is_bracket i 
   -- ** the step
 
   pub starts_fine : (task : Task) (into : Option ℕ) (cost deep : ℕ) → Starts task into cost deep →
-      instructed d w rest (past f) i ≡ in_front rest (machine.goes_on w (task ∷ []) (record (past f) { into = into })) → StepIsFine t
+      instruction_step d w rest (past f) i ≡ in_front rest (machine.goes_on w (task ∷ []) (record (past f) { into = into })) → StepIsFine t
   starts_fine task into cost deep e does within =
       fine_where t within (led_to task into) (ap (left (suc n)) does ∙ starts_leads w task rest (waiting into) (suc n)) (starts_good task into cost deep e)
 
@@ -198,7 +198,7 @@ module _ {d : Definition} {i : Instruction} (t : Due d i) (plain : is_bracket i 
   awaits_none : (ks : Kinds) (into : Option ℕ) → into ≡ None → (up : Down) → up ≡ none → Comes into up × TakesNone up × (awaited ks into up ≡ ks)
   awaits_none ks into e up is = subst (λ up. Comes into up × TakesNone up × (awaited ks into up ≡ ks)) (sym is) (subst (λ into. Comes into none × TakesNone none × (awaited ks into none ≡ ks)) (sym e) (tt, tt, refl))
 
-  pub sends_fine : (task : Task) (cost deep : ℕ) → Sends task cost deep → instructed d w rest (past f) i ≡ in_front rest (machine.goes_on w (task ∷ []) (past f)) → StepIsFine t
+  pub sends_fine : (task : Task) (cost deep : ℕ) → Sends task cost deep → instruction_step d w rest (past f) i ≡ in_front rest (machine.goes_on w (task ∷ []) (past f)) → StepIsFine t
   sends_fine task cost deep e does =
       let x = awaits_none (r t).ks f.into (none_into t) (down d (view w) task) e.none_down in
       starts_fine task f.into cost deep

@@ -3,7 +3,7 @@ use Rattle.std.proofs.Common.{◌≡◌, inl, inr, ◌⊎◌, refl, sym, ap, sub
 use Rattle.ui_machine.specs.Seq.{total}
 use Rattle.ui_machine.specs.Definition.{Definition}
 use Rattle.ui_machine.specs.Definition.Programs as words
-use Rattle.ui_machine.specs.State.Tasks.{PlanEntry, Emission, Frame, Task, Setting, Notifying, Beginning, Emitting, Transferring, Unsetting, Thawing, Running, Answering, Calling, Constructing, Building, Carrying, Due}
+use Rattle.ui_machine.specs.State.Tasks.{PlanEntry, Emission, Frame, Task, Setting, Notifying, Beginning, Emitting, Transferring, Unsetting, Thawing, Running, Answering, Calling, Constructing, Building, Handling, Due}
 use Rattle.ui_machine.specs.State.Config.{World, leaves}
 use Rattle.ui_machine.specs.Rules.Accumulation.{stopped, left_by_stop}
 use Rattle.ui_machine.specs.Rules.Build.{of_items, is_making}
@@ -57,7 +57,7 @@ reaches (Answering source ∷ rest) = inl refl
 reaches (Calling call ∷ rest) = inl refl
 reaches (Constructing id todo held ∷ rest) = inl refl
 reaches (Building items ∷ rest) = inl refl
-reaches (Carrying request ∷ rest) = inl refl
+reaches (Handling request ∷ rest) = inl refl
 reaches (Due source ∷ rest) = inl refl
 
 nothing_stops : (w : World) (rest : List Task) (f : Frame) → stopped rest ≡ rest → leaves w (Running f ∷ stopped rest) ≡ in_front rest (goes_on w [] f)
@@ -100,7 +100,7 @@ module _ {d : Definition} (t : around.Due d words.stop) (x : Emits t.rest) where
   all_alike = record {
     items = λ c. (let s = sums (of_items c) (λ turns. refl) in omega (arith, s));
     unset = λ number. (let s = sums (unsets number) (λ turns. refl) in omega (arith, s));
-    carrying = (let s = sums is_carrying_over (λ turns. refl) in omega (arith, s));
+    request_step = (let s = sums is_carrying_over (λ turns. refl) in omega (arith, s));
     makes = (let s = sums is_for_builder (λ turns. refl) in omega (arith, s));
     constructs = λ id. (let s = sums (constructs_held id) (λ turns. refl) in omega (arith, s));
   }

@@ -18,7 +18,7 @@ use Rattle.ui_machine.specs.Rules.NotifyQueue.{less_frozen, frozen_less}
 use Rattle.ui_machine.specs.Rules.Build.{is_making}
 use Rattle.ui_machine.specs.Instructions.{in_front}
 use Rattle.ui_machine.specs.Instructions.Registers.{operand_in}
-use Rattle.ui_machine.specs.Instructions.Objects.{unfreezing}
+use Rattle.ui_machine.specs.Instructions.Objects.{thaw_notify}
 use Rattle.ui_machine.specs.Instructions.Jumps.{past}
 use Rattle.ui_machine.specs.Steps.{left}
 use Rattle.law_typing.specs.Rules.RegisterKinds.{class_at}
@@ -128,13 +128,13 @@ less_is o less count =
     ∙ ap (λ (n : ℕ). Ok (less_frozen n o)) (let e : o.freezes - 1 ≡ less = omega (arith, count) in e)
 
 thaw_leads : (w : World) (rest : List Task) (f : Frame) (n object id : ℕ) (o : Object) (less : ℕ) → operand_in w f object ≡ Ok id → living w.objects id ≡ Some o → o.freezes ≡ suc less →
-    left n (in_front rest (unfreezing w f object))
+    left n (in_front rest (thaw_notify w f object))
     ≡ Ok (record {
       world = with_objects w (put w.objects id (Some (less_frozen less o).state));
       agenda = Thawing id (less_frozen less o).answer ∷ Running f ∷ rest;
       counted = n;
     })
-unfolding unfreezing changed in_front left
+unfolding thaw_notify changed in_front left
 thaw_leads w rest f n object id o less e is count = rw (e, is, less_is o less count) refl
 
 module _ {d : Definition} (object : ℕ) (t : Due d (words.thaw object)) (x : (class : ℕ) × Named t object class) where

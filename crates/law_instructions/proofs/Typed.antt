@@ -13,7 +13,7 @@ use Rattle.ui_machine.specs.Outcome.{known}
 use Rattle.law_typing.specs.Rules.Answers.{Typing}
 use Rattle.law_typing.specs.Rules.Answers as rules
 use Rattle.law_typing.specs.Rules.RegisterKinds.{Kinds, kind_in, never_null, kinds_fit}
-use Rattle.law_typing.specs.Rules.Typing.{set_in, passing, two_numbers, two_passing, is_bool, is_text, is_whole, is_same, is_comparable, moving, comparing, reckoning, sameness, negating, combining, joining, converting, converts_to, entering, branching, branching_null, may_be_null, property_of, getting, changing_none, place_for, naming, program_named, on_handlers, attaching, data_in, returning, is_result}
+use Rattle.law_typing.specs.Rules.Typing.{set_in, passing, two_numbers, two_passing, is_bool, is_text, is_whole, is_same, is_comparable, moving, comparing, reckoning, sameness, negating, combining, joining, converting, converts_to, entering, branching, branching_null, may_be_null, property_of, get_property, changing_none, place_for, look_up_object, program_named, on_handlers, attaching, data_in, returning, is_result}
 use Rattle.law_typing.specs.Rules.Typing as typing
 use Rattle.law_typing.specs.Rules.Signatures.{takes, data_kinds}
 use Rattle.law_typing.specs.Laws.WellRead.{is_set}
@@ -160,8 +160,8 @@ pub record Got (d : Definition) (ks : Kinds) (to object : ℕ) (name : List ℕ)
   pub readable : is_readable spec ≡ true
   pub kinds_are : next ≡ with_kind ks to (kinds.plain spec.kind)
 
-pub getting_is : (d : Definition) (ks : Kinds) (to object : ℕ) (name : List ℕ) (next : Kinds) → getting d ks to object name ≡ Ok next → Got d ks to object name next
-unfolding getting
+pub getting_is : (d : Definition) (ks : Kinds) (to object : ℕ) (name : List ℕ) (next : Kinds) → get_property d ks to object name ≡ Ok next → Got d ks to object name next
+unfolding get_property
 getting_is d ks to object name next e =
     let x = bound (property_of d ks object name) _ next e in
     let o = only (is_readable x.0) rules.flags (Ok (with_kind ks to (kinds.plain x.0.kind))) next x.2 in
@@ -187,8 +187,8 @@ pub record Placed (d : Definition) (ks : Kinds) (to : ℕ) (id : List ℕ) (of_p
   pub allowed : cond of_prototype p.is_prototype (not p.is_prototype) ≡ true
   pub kinds_are : next ≡ with_kind ks to (kinds.at_or_null place)
 
-pub naming_is : (d : Definition) (ks : Kinds) (to : ℕ) (id : List ℕ) (of_prototype : Bool) (next : Kinds) → naming d ks to id of_prototype ≡ Ok next → Placed d ks to id of_prototype next
-unfolding naming place_for
+pub naming_is : (d : Definition) (ks : Kinds) (to : ℕ) (id : List ℕ) (of_prototype : Bool) (next : Kinds) → look_up_object d ks to id of_prototype ≡ Ok next → Placed d ks to id of_prototype next
+unfolding look_up_object place_for
 naming_is d ks to id of_prototype next e =
     let x = bound (place_for d id of_prototype) _ next e in
     let y = bound (known rules.unknown (place_of d id)) _ x.0 x.1 in

@@ -12,7 +12,7 @@ use Rattle.ui_machine.specs.Definition.Programs as words
 use Rattle.ui_machine.specs.State.Objects.{Object, living, live}
 use Rattle.ui_machine.specs.State.Tasks.{Registers, Frame, Running, Task}
 use Rattle.ui_machine.specs.State.Config.{World}
-use Rattle.ui_machine.specs.Instructions.{in_front, instructed}
+use Rattle.ui_machine.specs.Instructions.{in_front, instruction_step}
 use Rattle.ui_machine.specs.Instructions.Registers.{written_to}
 use Rattle.ui_machine.specs.Instructions.Registers as machine
 use Rattle.ui_machine.specs.Instructions.Jumps.{past}
@@ -167,7 +167,7 @@ module _ {d : Definition} {i : Instruction} (t : Due d i) (plain : is_bracket i 
 
   -- no register is written
   pub moved_fine : (v : World) → Moved v → ends i ≡ false → after d (r t).p (r t).ks i ≡ (r t).ks →
-      instructed d w rest (past f) i ≡ in_front rest (machine.goes_on v [] (past f)) → StepIsFine t
+      instruction_step d w rest (past f) i ≡ in_front rest (machine.goes_on v [] (past f)) → StepIsFine t
   moved_fine v moved more kinds_are does within =
       fine_where t within (at_top v (past f) rest (suc n)) (ap (left (suc n)) does ∙ stays v rest (past f) (suc n))
       (waits_not t v (gone_on f f.registers)
@@ -176,7 +176,7 @@ module _ {d : Definition} {i : Instruction} (t : Due d i) (plain : is_bracket i 
   -- one register is written
   pub moved_written : (v : World) → Moved v → (to : ℕ) (k : RegisterKind) (x : Option Value) → ends i ≡ false → written i ≡ Some to →
       after d (r t).p (r t).ks i ≡ write kinds.unset (r t).ks to k → holds d (standing w.objects) k x ≡ true →
-      instructed d w rest (past f) i ≡ in_front rest (written_to v to x (past f)) → StepIsFine t
+      instruction_step d w rest (past f) i ≡ in_front rest (written_to v to x (past f)) → StepIsFine t
   moved_written v moved to k x more e kinds_are h does within =
       fine_where t within (at_top v (record (past f) { registers = write None f.registers to x }) rest (suc n))
       (ap (left (suc n)) does ∙ writes v rest (past f) (suc n) to x (low to e))
@@ -208,5 +208,5 @@ module _ {d : Definition} {i : Instruction} (t : Due d i) (plain : is_bracket i 
 
   pub written_fine : (lines : List (List ℕ)) (to : ℕ) (k : RegisterKind) (x : Option Value) → ends i ≡ false → written i ≡ Some to →
       after d (r t).p (r t).ks i ≡ write kinds.unset (r t).ks to k → holds d (standing w.objects) k x ≡ true →
-      instructed d w rest (past f) i ≡ in_front rest (written_to (record w { transcript = lines }) to x (past f)) → StepIsFine t
+      instruction_step d w rest (past f) i ≡ in_front rest (written_to (record w { transcript = lines }) to x (past f)) → StepIsFine t
   written_fine lines to k x more e kinds_are h does = moved_written (record w { transcript = lines }) (said_moved lines) to k x more e kinds_are h does

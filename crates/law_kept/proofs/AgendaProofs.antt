@@ -10,9 +10,9 @@ use Rattle.ui_machine.specs.State.Handlers.{Handler, handler_of}
 use Rattle.ui_machine.specs.State.Bindings.{Binding, binding_of}
 use Rattle.ui_machine.specs.State.Sources.{source_of}
 use Rattle.ui_machine.specs.State.Peers.{Peer}
-use Rattle.ui_machine.specs.State.Config.{Held, unbuilt, built}
+use Rattle.ui_machine.specs.State.Config.{BuilderEntry, unbuilt, built}
 use Rattle.ui_machine.specs.State.References.{in_value, in_emission}
-use Rattle.ui_machine.specs.State.Tasks.{PlanEntry, class_handler, handler, Emission, Making, sets, runs, thaws, Frame, Call, Task, Setting, Notifying, Beginning, Emitting, Transferring, Unsetting, Thawing, Running, Answering, Calling, Constructing, Building, Carrying, Due}
+use Rattle.ui_machine.specs.State.Tasks.{PlanEntry, class_handler, handler, Emission, ConstructStep, sets, runs, thaws, Frame, Call, Task, Setting, Notifying, Beginning, Emitting, Transferring, Unsetting, Thawing, Running, Answering, Calling, Constructing, Building, Handling, Due}
 use Rattle.ui_machine.specs.State.Tasks as config
 use Rattle.law_typing.specs.Graph.Tables.{Tables, of_program}
 use Rattle.law_typing.specs.Verdict.Accepted.{Each}
@@ -133,7 +133,7 @@ module _ (d : Definition) (costs depths : Tables) (v z : View) where
 
   -- ** constructions
 
-  given_lives : (v' : Value) (builder : List Held) → ((place id : ℕ) → read unbuilt builder place ≡ built id → Stays v.stands z.stands id) → HeldIf builder v' →
+  given_lives : (v' : Value) (builder : List BuilderEntry) → ((place id : ℕ) → read unbuilt builder place ≡ built id → Stays v.stands z.stands id) → HeldIf builder v' →
       lives_by v.stands v' ≡ true → lives_by z.stands v' ≡ true
   given_lives (values.object (Some id)) builder held h lives = stays_at v.stands z.stands (λ (o : Option ℕ). is_some o) refl id (held h.0 id h.1) lives
   given_lives (values.object None) builder held h lives = refl
@@ -143,13 +143,13 @@ module _ (d : Definition) (costs depths : Tables) (v z : View) where
   given_lives (values.enum t n) builder held h lives = refl
   given_lives (values.flags t n) builder held h lives = refl
 
-  making_kept : (builder : List Held) → ((place id : ℕ) → read unbuilt builder place ≡ built id → Stays v.stands z.stands id) → (place : ℕ) (m : Making) →
+  making_kept : (builder : List BuilderEntry) → ((place id : ℕ) → read unbuilt builder place ≡ built id → Stays v.stands z.stands id) → (place : ℕ) (m : ConstructStep) →
       MakingGood d v.stands builder place m → MakingGood d z.stands builder place m
   making_kept builder held place (sets slot x) g = (g.0, g.1, g.2, given_lives x builder held g.4 g.3, g.4, g.5)
   making_kept builder held place (runs program) g = g
   making_kept builder held place thaws g = tt
 
-  makings_kept : (builder : List Held) → ((place id : ℕ) → read unbuilt builder place ≡ built id → Stays v.stands z.stands id) → (place : ℕ) (ms : List Making) →
+  makings_kept : (builder : List BuilderEntry) → ((place id : ℕ) → read unbuilt builder place ≡ built id → Stays v.stands z.stands id) → (place : ℕ) (ms : List ConstructStep) →
       Each (MakingGood d v.stands builder place) ms → Each (MakingGood d z.stands builder place) ms
   makings_kept builder held place [] all = tt
   makings_kept builder held place (m ∷ ms) all = (making_kept builder held place m all.0, makings_kept builder held place ms all.1)
@@ -232,7 +232,7 @@ module _ (d : Definition) (costs depths : Tables) (v z : View) where
     record {
       place = g.1.place;
       is = w.stands id (let k = same_itself id in omega (arith, k)) g.1.place g.1.is;
-      for_builder = λ h. g.1.for_builder h ∙ sym (ap (λ (b : List Held). length b) w.builder);
+      for_builder = λ h. g.1.for_builder h ∙ sym (ap (λ (b : List BuilderEntry). length b) w.builder);
       fits = subst (λ b. Each (MakingGood d z.stands b g.1.place) todo) (sym w.builder) (makings_kept v.builder w.held g.1.place todo g.1.fits);
       cheap = g.1.cheap;
       shallow = g.1.shallow;
@@ -241,7 +241,7 @@ module _ (d : Definition) (costs depths : Tables) (v z : View) where
     g.2,
   )
   task_kept (Building items) w up below steps frames g = g
-  task_kept (Carrying request) w up below steps frames g = (
+  task_kept (Handling request) w up below steps frames g = (
     g.0,
     g.1,
     record {

@@ -4,7 +4,7 @@ use Rattle.ui_machine.specs.Definition.{Definition}
 use Rattle.ui_machine.specs.State.Bindings.{Binding}
 use Rattle.ui_machine.specs.State.Objects.{Objects}
 use Rattle.ui_machine.specs.State.Handlers.{Handler}
-use Rattle.ui_machine.specs.State.Tasks.{Task, Setting, Notifying, Beginning, Emitting, Transferring, Unsetting, Thawing, Running, Answering, Calling, Constructing, Building, Carrying, Due}
+use Rattle.ui_machine.specs.State.Tasks.{Task, Setting, Notifying, Beginning, Emitting, Transferring, Unsetting, Thawing, Running, Answering, Calling, Constructing, Building, Handling, Due}
 use Rattle.law_typing.specs.Graph.Tables.{Tables}
 use Rattle.law_typing.specs.Good.Standing.{Standing, standing}
 use Rattle.law_typing.specs.Good.Handlers.{HandlersGood}
@@ -23,7 +23,7 @@ module _ (d : Definition) (costs depths : Tables) (a b : List Task) (alike : Ali
   pub pairs_stay : (os : Objects) (bs : List Binding) → PairsGood d a os bs → PairsGood d b os bs
   pairs_stay os bs g = record {
     frozen = λ id o is pair some. (let same = alike.constructs id in let old = g.frozen id o is pair some in omega (arith, same, old));
-    before = λ some. (let same = alike.makes in let old = g.before (omega (arith, same, some)) in (old.0, alike.carrying ∙ old.1));
+    before = λ some. (let same = alike.makes in let old = g.before (omega (arith, same, some)) in (old.0, alike.request_step ∙ old.1));
     one = (let same = alike.makes in let old = g.one in omega (arith, same, old));
   }
 
@@ -52,5 +52,5 @@ build_stays d builder a b (Running frame ∷ tasks) e g = build_stays d builder 
 build_stays d builder a b (Answering source ∷ tasks) e g = build_stays d builder a b tasks e g
 build_stays d builder a b (Calling call ∷ tasks) e g = build_stays d builder a b tasks e g
 build_stays d builder a b (Constructing id todo held ∷ tasks) e g = build_stays d builder a b tasks e g
-build_stays d builder a b (Carrying request ∷ tasks) e g = build_stays d builder a b tasks e g
+build_stays d builder a b (Handling request ∷ tasks) e g = build_stays d builder a b tasks e g
 build_stays d builder a b (Due source ∷ tasks) e g = build_stays d builder a b tasks e g

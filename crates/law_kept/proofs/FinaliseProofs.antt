@@ -17,8 +17,8 @@ use Rattle.ui_machine.specs.State.Objects.{Object, Objects, living, put, live, o
 use Rattle.ui_machine.specs.State.Handlers.{handler_of}
 use Rattle.ui_machine.specs.State.Bindings.{binding_of, is_end}
 use Rattle.ui_machine.specs.State.Peers.{Peer}
-use Rattle.ui_machine.specs.State.Tasks.{Task, Setting, Notifying, Beginning, Emitting, Transferring, Unsetting, Thawing, Running, Answering, Calling, Constructing, Building, Carrying, Due}
-use Rattle.ui_machine.specs.State.Config.{Held, unbuilt, built, World, Config, said, with_objects}
+use Rattle.ui_machine.specs.State.Tasks.{Task, Setting, Notifying, Beginning, Emitting, Transferring, Unsetting, Thawing, Running, Answering, Calling, Constructing, Building, Handling, Due}
+use Rattle.ui_machine.specs.State.Config.{BuilderEntry, unbuilt, built, World, Config, said, with_objects}
 use Rattle.ui_machine.specs.State.References.{same, in_option, in_value, in_values, in_object, in_held, in_source, in_task, mentions, unheld_from, next_unheld}
 use Rattle.ui_machine.specs.Rules.Disposal.{names_object, is_identity, is_of_object, disposed, finalised}
 use Rattle.ui_machine.specs.Steps.{most_steps, counted, uncounted, finalising}
@@ -89,7 +89,7 @@ in_all f [] x e h = absurd h
 in_all f (y ∷ ys) x e (inl s) = ap f s ∙ omega (arith, e)
 in_all f (y ∷ ys) x e (inr h) = in_all f ys x (omega (arith, e)) h
 
-read_zero : (f : Held → ℕ) → f unbuilt ≡ 0 → (xs : List Held) (i : ℕ) → total f xs ≡ 0 → f (read unbuilt xs i) ≡ 0
+read_zero : (f : BuilderEntry → ℕ) → f unbuilt ≡ 0 → (xs : List BuilderEntry) (i : ℕ) → total f xs ≡ 0 → f (read unbuilt xs i) ≡ 0
 read_zero f none [] i e = none
 read_zero f none (x ∷ xs) zero e = omega (arith, e)
 read_zero f none (x ∷ xs) (suc i) e = read_zero f none xs i (omega (arith, e))
@@ -145,7 +145,7 @@ needs_held o (Answering source) e = refl
 needs_held o (Calling call) e = refl
 needs_held o (Constructing object steps held) e = refl
 needs_held o (Building items) e = refl
-needs_held o (Carrying request) e = refl
+needs_held o (Handling request) e = refl
 needs_held o (Due source) e = refl
 
 all_need_held : (o : ℕ) (tasks : List Task) → total is_due_set tasks ≡ 0 → total (needed o) tasks ≡ total (in_task o) tasks
@@ -372,7 +372,7 @@ module _ (d : Definition) (costs depths : Tables) (most_counted most : ℕ) (c :
 
   pool : PeersGood d v.peers (length v.builder + total is_for_builder c.agenda)
   pool =
-      subst (λ (b : List Held). PeersGood d v.peers (length b + total is_for_builder c.agenda)) (sym k.builder)
+      subst (λ (b : List BuilderEntry). PeersGood d v.peers (length b + total is_for_builder c.agenda)) (sym k.builder)
       (λ place p is. each_to _ _ p.peers (λ name old. peer_there place p name old) (g.peers place p is))
     where
       abbrev_made : ℕ

@@ -3,7 +3,7 @@ use Rattle.std.specs.Prelude.{◌≡◌, ℕ, List}
 use Rattle.ui_machine.specs.Seq.{total}
 use Rattle.ui_machine.specs.Definition.{Definition}
 use Rattle.ui_machine.specs.State.Tasks.{Item, Task}
-use Rattle.ui_machine.specs.State.Config.{Held, World}
+use Rattle.ui_machine.specs.State.Config.{BuilderEntry, World}
 use Rattle.ui_machine.specs.Rules.Build.{of_items}
 use Rattle.law_typing.specs.Graph.Tables.{Tables}
 use Rattle.law_typing.specs.Good.DueCosts.{unsets}
@@ -16,7 +16,7 @@ pub record Alike (a b : List Task) : Type 0 where
   pub items : (f : Item → ℕ) → total (of_items f) b ≡ total (of_items f) a
   -- the same bindings are to be set free, and as many transfers are under way
   pub unset : (number : ℕ) → total (unsets number) b ≡ total (unsets number) a
-  pub carrying : total is_carrying_over b ≡ total is_carrying_over a
+  pub request_step : total is_carrying_over b ≡ total is_carrying_over a
   -- the builder makes the same objects
   pub makes : total is_for_builder b ≡ total is_for_builder a
   pub constructs : (id : ℕ) → total (constructs_held id) b ≡ total (constructs_held id) a
@@ -30,5 +30,5 @@ WholeStays =
 -- where the builder makes as many objects the build goes on as it did
 abbrev pub BuildStays : Type 0
 BuildStays =
-    (d : Definition) (builder : List Held) (a b tasks : List Task) → total is_for_builder b ≡ total is_for_builder a →
+    (d : Definition) (builder : List BuilderEntry) (a b tasks : List Task) → total is_for_builder b ≡ total is_for_builder a →
     BuildGood d builder a tasks → BuildGood d builder b tasks

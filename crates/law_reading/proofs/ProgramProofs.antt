@@ -16,7 +16,7 @@ use Rattle.ui_machine.specs.Output.Text.{no_type}
 use Rattle.ui_machine.specs.Definition.{Definition}
 use Rattle.ui_machine.specs.Definition.Kinds.{Kind, RegisterKind}
 use Rattle.ui_machine.specs.Definition.Kinds as kinds
-use Rattle.ui_machine.specs.Definition.Programs.{Block, Instruction, Program}
+use Rattle.ui_machine.specs.Definition.Programs.{Block, Instruction, Program, passes_in}
 use Rattle.type_tree.specs.Adding.{required_named}
 use Rattle.handler_code.specs.declared.fault.ProgramFault.{ProgramFault}
 use Rattle.handler_code.specs.declared.fault.ProgramFault.TheVariants as faults
@@ -27,7 +27,7 @@ use Rattle.handler_code.specs.Reading.Operands.{Refusal, named}
 use Rattle.handler_code.specs.Reading.RegisterKinds.{Names, place_in, plain, register_kind_by, register_kind_in, register_kind_of}
 use Rattle.handler_code.specs.Reading.OutlineFaults.{Part, all_of, bad_shape, entry_of, kind_there, member_of, shaped}
 use Rattle.handler_code.specs.Reading.Outline.{BlockOutline, Outline, block_at, block_step, blocks_at, entries_or_none, entry_at, first_entry, fit_registers, keys_of_block, keys_of_program, kind_step, kinds_at, only_at, outline_in, registers_of, result_at, some_entries, some_entries_at}
-use Rattle.handler_code.specs.Reading.Programs.{blocks_in, code_in, code_step, filled, good_at, instruction_behind, instruction_step, program_of, program_with, scope_of, unless_fault}
+use Rattle.handler_code.specs.Reading.Programs.{blocks_in, code_in, code_step, filled, good_at, instruction_behind, with_next_instruction, program_of, program_with, scope_of, unless_fault}
 use Rattle.handler_code.specs.Reading.Words.{instruction_at}
 use Rattle.handler_code.specs.Shape.{at_block, first_backward, first_limit, first_open, instructions_in, is_ended, leads_back, or_next, shape_fault}
 use Rattle.law_typing.specs.Rules.Brackets.{written}
@@ -319,10 +319,10 @@ module _ (d : Definition) (members : (t : ℕ) → HasMembers (read no_type d.ty
     code_read : (block : ℕ) (xs : List Data) → IfOk (code_in (scope_of names o) block xs) CodeRead
     unfolding code_in
     code_read block xs =
-        each_at (λ i code. CodeRead code) (instruction_step (scope_of names o) block) xs (λ i code x there h. one_more i code x h) 0 [] xs (from_first xs)
+        each_at (λ i code. CodeRead code) (with_next_instruction (scope_of names o) block) xs (λ i code x there h. one_more i code x h) 0 [] xs (from_first xs)
         (record { each = tt; last = tt }) (length xs) (omega arith)
       where
-        one_more : (i : ℕ) (code : List Instruction) (x : Data) → CodeRead code → IfOk (instruction_step (scope_of names o) block i code x) CodeRead
+        one_more : (i : ℕ) (code : List Instruction) (x : Data) → CodeRead code → IfOk (with_next_instruction (scope_of names o) block i code x) CodeRead
         one_more i code x old =
             on (λ i. IsRead i × (is_ended code ≡ false)) CodeRead (instruction_behind (scope_of names o) block i code x) _ (behind block i code x) λ new h.
             record { each = each_append IsRead code (new ∷ []) old.each (h.0, tt); last = open_more code new old.last h.1 }
@@ -332,7 +332,7 @@ module _ (d : Definition) (members : (t : ℕ) → HasMembers (read no_type d.ty
       said_so : BlockOutline
       there : slice_get o.blocks n ≡ Some said_so
       entry : b.entry ≡ filled o.registers said_so.entry
-      once : b.passes ≡ 1
+      once : passes_in b ≡ 1
       code : CodeRead b.code
 
     record BlocksMade (i : ℕ) (bs : List Block) : Type 0 where
@@ -349,7 +349,7 @@ module _ (d : Definition) (members : (t : ℕ) → HasMembers (read no_type d.ty
             → IfOk (code_step (scope_of names o) i bs b) (BlocksMade (suc i))
         one_more i bs b there old =
             on CodeRead (BlocksMade (suc i)) (code_in (scope_of names o) i b.code) _ (code_read i b.code) λ code h.
-            let new : Block = record { entry = filled o.registers b.entry; passes = 1; code = code } in
+            let new : Block = record { entry = filled o.registers b.entry; repeat = None; code = code } in
             let made : BlockMade i new = record { said_so = b; there = there; entry = refl; once = refl; code = h } in
             record {
               many = omega (arith, old.many, length-append bs (new ∷ []));

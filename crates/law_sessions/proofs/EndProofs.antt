@@ -19,10 +19,10 @@ use Rattle.ui_machine.specs.State.Objects.{living, class_in, object_at, changed,
 use Rattle.ui_machine.specs.State.Peers.{Peer, Reply, method_of}
 use Rattle.ui_machine.specs.State.References.{mentions, next_unheld}
 use Rattle.ui_machine.specs.State.Sources.{source_of}
-use Rattle.ui_machine.specs.State.Tasks.{PlanEntry, class_handler, handler, Emission, Making, sets, runs, thaws, Item, makes, adopts, forwards, binds, connects, Request, Frame, Call, Task, Setting, Notifying, Beginning, Emitting, Transferring, Unsetting, Thawing, Running, Answering, Calling, Constructing, Building, Carrying, Due}
+use Rattle.ui_machine.specs.State.Tasks.{PlanEntry, class_handler, handler, Emission, ConstructStep, sets, runs, thaws, Item, makes, adopts, forwards, binds, connects, Request, Frame, Call, Task, Setting, Notifying, Beginning, Emitting, Transferring, Unsetting, Thawing, Running, Answering, Calling, Constructing, Building, Handling, Due}
 use Rattle.ui_machine.specs.State.Tasks as config
-use Rattle.ui_machine.specs.State.Config.{World, Config, Started, Left, sunk, without, peer_at, is_asked, is_unbuilt, held_at}
-use Rattle.ui_machine.specs.Steps.{step, most_steps, uncounted, counted, left, counted_left, settling, act, first_of, finalising}
+use Rattle.ui_machine.specs.State.Config.{World, Config, Started, Left, sunk, without, peer_at, is_asked, is_unbuilt, builder_entry}
+use Rattle.ui_machine.specs.Steps.{step, most_steps, uncounted, counted, left, counted_left, sink_first_floating, act, first_of, finalising}
 use Rattle.ui_machine.specs.Instructions.{running}
 use Rattle.ui_machine.specs.Instructions.Peers.{left_with, with_method, called, uncalled, replied, calling_on}
 use Rattle.ui_machine.specs.Instructions.Registers.{with_register}
@@ -34,9 +34,9 @@ use Rattle.ui_machine.specs.Rules.NotifyQueue.{raised, thawing, frozen_less}
 use Rattle.ui_machine.specs.Rules.Sets.{has_kind, lives, is_disposed, spec_at, raising, raising_if, written, setting}
 use Rattle.ui_machine.specs.Rules.Children.{adopted}
 use Rattle.ui_machine.specs.Rules.Connections.{signal_number, detail_at, detail_in}
-use Rattle.ui_machine.specs.Rules.Construction.{has_valid_default, construction, given_value, making, making_set, constructed, thawing_made, constructing}
+use Rattle.ui_machine.specs.Rules.Construction.{has_valid_default, construction, given_value, making, apply_construct_property, constructed, thawing_made, constructing}
 use Rattle.ui_machine.specs.Rules.Build.{held_object, held_data, peer_for, building, building_child, set_forward, building_forward, building_binding, building_handler, building_object}
-use Rattle.ui_machine.specs.Rules.Events.{set_given, carrying_set, carrying_get, given_values, carrying_emit, carrying_release, carrying}
+use Rattle.ui_machine.specs.Rules.Events.{set_given, set_from_event, get_from_event, given_values, emit_from_event, release_from_event, request_step}
 use Rattle.ui_machine.specs.Rules.MainLoop.{sourcing}
 use Rattle.ui_machine.specs.Rules.Transform.{same_value}
 use Rattle.ui_machine.specs.Rules.Validation.{clamp}
@@ -153,7 +153,7 @@ module _ (keep : StepsKeepGood) (d : Definition) (well : WellRead d) (a : Accept
         go [] e held = ended (at_end w n) (record { agenda = refl; floating = e; held = held })
         go (id ∷ ids) e held =
             acts_on (at_end w n) good near (λ reply.
-            subst (λ v. IsGood d a most (at_end v n) → ComesToEnd d (at_end v n)) (sym (ap (settling w) e)) (again id ids e))
+            subst (λ v. IsGood d a most (at_end v n) → ComesToEnd d (at_end v n)) (sym (ap (sink_first_floating w) e)) (again id ids e))
 
     fewer : (w : World) (m id : ℕ) (ids : List ℕ) → w.floating ≡ id ∷ ids → length w.floating ≤ suc m → length (without id w.floating) ≤ m
     fewer w m id ids e less =
@@ -369,25 +369,25 @@ module _ (keep : StepsKeepGood) (d : Definition) (well : WellRead d) (a : Accept
     unfolding constructed
     constructed_starts w id false = tt
     constructed_starts w id true = after_each (object_at w.objects id) _ _ (λ o.
-        only_such (is_unbuilt (held_at w o.place)) arms.Code _ _ tt)
+        only_such (is_unbuilt (builder_entry w o.place)) arms.Code _ _ tt)
 
     making_set_starts : (w : World) (id slot : ℕ) (v : Value) (tasks : List Task) → Each Comes tasks →
-        Starts (making_set d w id slot v tasks)
-    unfolding making_set
+        Starts (apply_construct_property d w id slot v tasks)
+    unfolding apply_construct_property
     making_set_starts w id slot v tasks all =
         after_each (spec_at d w.objects id slot) _ _ (λ s. only_such (is_writable s) arms.Flags _ _ (set id slot v, all))
 
-    thawing_made_starts : (w : World) (id : ℕ) (steps : List Making) (held : Bool) → Comes (Constructing id steps held) →
+    thawing_made_starts : (w : World) (id : ℕ) (steps : List ConstructStep) (held : Bool) → Comes (Constructing id steps held) →
         Starts (thawing_made w id steps held)
     unfolding thawing_made
     thawing_made_starts w id steps held later =
         after_each (changed w.objects id frozen_less) _ _ (λ taken. (thaw taken.answer id, (later, tt)))
 
-    construction_comes : (steps : List Making) (id : ℕ) (held : Bool) → Comes (Constructing id steps held)
+    construction_comes : (steps : List ConstructStep) (id : ℕ) (held : Bool) → Comes (Constructing id steps held)
     construction_comes [] id held =
         uncounted_comes (Constructing id [] held) (λ w. constructed w id held) (λ w reply rest n. refl) (λ w. constructed_starts w id held)
     construction_comes (sets slot v ∷ steps) id held =
-        uncounted_comes (Constructing id (sets slot v ∷ steps) held) (λ w. making_set d w id slot v (Constructing id steps held ∷ []))
+        uncounted_comes (Constructing id (sets slot v ∷ steps) held) (λ w. apply_construct_property d w id slot v (Constructing id steps held ∷ []))
         (λ w reply rest n. refl)
         (λ w. making_set_starts w id slot v (Constructing id steps held ∷ []) (construction_comes steps id held, tt))
     construction_comes (runs number ∷ steps) id held =
@@ -472,8 +472,8 @@ module _ (keep : StepsKeepGood) (d : Definition) (well : WellRead d) (a : Accept
 
     -- ** requests and sources
 
-    request_starts : (r : Request) (w : World) → Starts (carrying d w r)
-    unfolding carrying_set set_given carrying_get asked carrying_emit carrying_release
+    request_starts : (r : Request) (w : World) → Starts (request_step d w r)
+    unfolding set_from_event set_given get_from_event asked emit_from_event release_from_event
     request_starts (config.set place slot given) w =
         after_each (held_object w place) _ _ (λ id.
         after_each (spec_at d w.objects id slot) _ _ (λ s.
@@ -490,8 +490,8 @@ module _ (keep : StepsKeepGood) (d : Definition) (well : WellRead d) (a : Accept
     request_starts (config.release place) w =
         after_each (known arms.Code (place_at d place)) _ _ (λ p. after_each (held_object w place) _ _ (λ id. tt))
 
-    request : (r : Request) → Comes (Carrying r)
-    request r = uncounted_comes (Carrying r) (λ w. carrying d w r) (λ w reply rest n. refl) (request_starts r)
+    request : (r : Request) → Comes (Handling r)
+    request r = uncounted_comes (Handling r) (λ w. request_step d w r) (λ w reply rest n. refl) (request_starts r)
 
     source_starts : (number : ℕ) (w : World) → Starts (sourcing d w number)
     unfolding sourcing
@@ -517,7 +517,7 @@ module _ (keep : StepsKeepGood) (d : Definition) (well : WellRead d) (a : Accept
     task_comes (Calling c) = call_comes c
     task_comes (Constructing id steps held) = construction_comes steps id held
     task_comes (Building items) = build items
-    task_comes (Carrying r) = request r
+    task_comes (Handling r) = request r
     task_comes (Due number) = source number
 
     agenda_ends : (agenda : List Task) → Ends agenda

@@ -4,7 +4,7 @@ use Rattle.std.specs.Prelude.{IsSome}
 use Rattle.ui_machine.specs.declared.arm.Halt.TheVariants as halts
 use Rattle.ui_machine.specs.State.Sources.{Source, source_of}
 use Rattle.ui_machine.specs.State.Tasks as config
-use Rattle.ui_machine.specs.Runs.{Fits}
+use Rattle.ui_machine.specs.Runs.{Fits, at_a_source, at_its_beginning}
 use Rattle.law_typing.specs.Verdict.Accepted.{Each}
 use Rattle.law_sessions.specs.Sessions.{Runs, serving, turning}
 use Rattle.law_sessions.specs.Halting.{EventsHaltForMemory}
@@ -14,7 +14,8 @@ use Rattle.law_sessions.proofs.SessionProofs.{never_stuck}
 pub events_halt_for_memory : EventsHaltForMemory
 events_halt_for_memory d well a peers ready events read (config.request r) w serves replies fit halt shown h last =
     (never_stuck d well a peers ready events read (serving r w serves)).halts replies fit halt shown h last
-events_halt_for_memory d well a peers ready events read (config.turn moment) w serves replies fit halt shown h last =
+events_halt_for_memory d well a peers ready events read (config.turn moment) w serves replies fit halt shown (at_its_beginning stops) last = stops.memory
+events_halt_for_memory d well a peers ready events read (config.turn moment) w serves replies fit halt shown (at_a_source h) last =
     go (source_of h.number h.mid.sources) refl h.stands
   where
     fits : Each (Fits d) h.first × Each (Fits d) h.later

@@ -14,8 +14,8 @@ use Rattle.ui_machine.specs.Definition.{Definition, Class}
 use Rattle.ui_machine.specs.Definition.Places.{Given, value, named, GivenProperty, Place}
 use Rattle.ui_machine.specs.Definition.Programs.{Program}
 use Rattle.ui_machine.specs.Definition.Lookups.{place_at, program_at, class_of, no_class, specs_of, spec_of}
-use Rattle.ui_machine.specs.State.Config.{World, Held, unbuilt, built, released, held_at}
-use Rattle.ui_machine.specs.State.Tasks.{Making, sets, runs, thaws}
+use Rattle.ui_machine.specs.State.Config.{World, BuilderEntry, unbuilt, built, released, builder_entry}
+use Rattle.ui_machine.specs.State.Tasks.{ConstructStep, sets, runs, thaws}
 use Rattle.ui_machine.specs.Rules.Ancestry.{is_a, lineage, is_or_implements, implemented_by}
 use Rattle.ui_machine.specs.Rules.Sets.{has_kind}
 use Rattle.ui_machine.specs.Rules.Transform.{is_one, kind_fits}
@@ -69,12 +69,12 @@ in_reverse {A} (y ∷ ys) x h = go (reverse ys) (λ h. in_reverse ys x h) (subst
 -- ** values
 
 -- what a set of a construction says of its value
-pub record ValueFits (s : Standing) (builder : List Held) (v : Value) (kind : Kind) : Type 0 where
+pub record ValueFits (s : Standing) (builder : List BuilderEntry) (v : Value) (kind : Kind) : Type 0 where
   pub kind_is : has_kind v kind ≡ true
   pub lives : lives_by s v ≡ true
   pub held : HeldIf builder v
 
-module _ (d : Definition) (s : Standing) (builder : List Held) where
+module _ (d : Definition) (s : Standing) (builder : List BuilderEntry) where
   plain_fits : (v : Value) (kind : Kind) → kind_fits no_class_of d.types v kind ≡ true → ValueFits s builder v kind
   plain_fits (values.object (Some id)) (kinds.object t) e = absurd (cc)
   plain_fits (values.object (Some id)) kinds.bool e = absurd (cc)
@@ -90,7 +90,7 @@ module _ (d : Definition) (s : Standing) (builder : List Held) where
   plain_fits (values.flags t n) kind e = record { kind_is = of_kind no_class_of d.types (values.flags t n) kind e; lives = refl; held = tt }
 
   -- an object of the builder
-  held_fits : HeldGood s builder → (place type : ℕ) (h : Held) (v : Value) → read unbuilt builder place ≡ h → object_held h ≡ Some v → ValueFits s builder v (kinds.object type)
+  held_fits : HeldGood s builder → (place type : ℕ) (h : BuilderEntry) (v : Value) → read unbuilt builder place ≡ h → object_held h ≡ Some v → ValueFits s builder v (kinds.object type)
   held_fits held place type unbuilt v is e = absurd (cc)
   held_fits held place type released v is e = absurd (cc)
   held_fits held place type (built id) v is e =
@@ -101,7 +101,7 @@ module _ (d : Definition) (s : Standing) (builder : List Held) where
   pub given_fits : (w : World) → w.builder ≡ builder → HeldGood s builder → (kind : Kind) (g : Given) (v : Value) → GivenFits d kind g → given_value w g ≡ Some v → ValueFits s builder v kind
   given_fits w same held kind (value u) v fits e = let own : u ≡ v = cc in subst (λ v. ValueFits s builder v kind) own (plain_fits u kind fits)
   given_fits w same held kind (named to) v fits e =
-      subst (ValueFits s builder v) (sym fits.4) (held_fits held to fits.1 (held_at w to) v (ap (λ b. read unbuilt b to) (sym same)) e)
+      subst (ValueFits s builder v) (sym fits.4) (held_fits held to fits.1 (builder_entry w to) v (ap (λ b. read unbuilt b to) (sym same)) e)
 
 -- ** sets
 
@@ -202,7 +202,7 @@ taken_at d types place class one (Some p) e =
         let x = both_parts (fits d (kinds.some class) q) (parameters_fit d [] ps) e in
         ap (λ b. b && parameters_fit d [] ps) (at_class d types place class q one x.0) ∙ x.1
 
-module _ (d : Definition) (types : TypesRead d) (a : Accepted d) (s : Standing) (builder : List Held) (place : ℕ) (p : Place) (is : place_at d place ≡ Some p) where
+module _ (d : Definition) (types : TypesRead d) (a : Accepted d) (s : Standing) (builder : List BuilderEntry) (place : ℕ) (p : Place) (is : place_at d place ≡ Some p) where
   runs_good : Each (MakingGood d s builder place) (constructed_runs d p.class)
   runs_good = each_flat (MakingGood d s builder place) (λ c. run_of (class_of d c).constructed) (reverse (lineage d.types p.class)) (λ c h. go c (in_reverse (lineage d.types p.class) c h) (class_of d c).constructed refl)
     where
@@ -233,7 +233,7 @@ constructions_fit d types a s w place p held is well =
 
 -- ** thaws
 
-thaw_sum : (xs ys : List Making) → to_thaw (xs ++ ys) ≡ to_thaw xs + to_thaw ys
+thaw_sum : (xs ys : List ConstructStep) → to_thaw (xs ++ ys) ≡ to_thaw xs + to_thaw ys
 thaw_sum [] ys = omega arith
 thaw_sum (sets slot v ∷ xs) ys = thaw_sum xs ys
 thaw_sum (runs program ∷ xs) ys = thaw_sum xs ys
@@ -265,7 +265,7 @@ no_thaw_givens w specs (g ∷ gs) =
     go false (Some v) = refl
 
 -- whether a step runs a program
-abbrev is_run : Making → Bool
+abbrev is_run : ConstructStep → Bool
 is_run (runs program) = true
 is_run m = false
 
@@ -276,7 +276,7 @@ all_run d class = each_flat (λ m. is_run m ≡ true) (λ c. run_of (class_of d 
     go None = tt
     go (Some program) = (refl, tt)
 
-no_thaw_runs : (ms : List Making) → Each (λ m. is_run m ≡ true) ms → to_thaw ms ≡ 0
+no_thaw_runs : (ms : List ConstructStep) → Each (λ m. is_run m ≡ true) ms → to_thaw ms ≡ 0
 no_thaw_runs [] all = refl
 no_thaw_runs (runs program ∷ ms) all = no_thaw_runs ms all.1
 no_thaw_runs (sets slot v ∷ ms) all = absurd (let e = all.0 in cc)
@@ -306,7 +306,7 @@ module _ (d : Definition) (a : Accepted d) (w : World) (place : ℕ) (p : Place)
   abbrev most : ℕ
   most = deepest a.weighed.depths (present d raising)
 
-  abbrev Low : Making → Type 0
+  abbrev Low : ConstructStep → Type 0
   Low m = step_depth a.weighed.depths place m ≤ most
 
   -- what the making may raise goes no deeper, and what is not there is flat
@@ -386,11 +386,11 @@ module _ (d : Definition) (a : Accepted d) (w : World) (place : ℕ) (p : Place)
           (one (is_at_construction (read no_spec specs g.slot)) (given_value w g.given) e) rest
 
   -- a program of the construction is one of those that the construction's channel runs
-  in_programs : (ms : List Making) (program : ℕ) → IsIn (runs program) ms → IsIn program (programs_of ms)
+  in_programs : (ms : List ConstructStep) (program : ℕ) → IsIn (runs program) ms → IsIn program (programs_of ms)
   in_programs [] program h = absurd h
   in_programs (runs q ∷ ms) program (inl e) = inl (let f = ap number_of e in f)
     where
-      number_of : Making → ℕ
+      number_of : ConstructStep → ℕ
       number_of (runs q) = q
       number_of _ = program
   in_programs (runs q ∷ ms) program (inr h) = inr (in_programs ms program h)
@@ -406,7 +406,7 @@ module _ (d : Definition) (a : Accepted d) (w : World) (place : ℕ) (p : Place)
   filled [] x h = absurd h
   filled (y ∷ ys) x h = refl
 
-  run_low : (m : Making) → is_run m ≡ true → IsIn m (constructed_runs d p.class) → Low m
+  run_low : (m : ConstructStep) → is_run m ≡ true → IsIn m (constructed_runs d p.class) → Low m
   run_low (sets slot v) e h = absurd (cc)
   run_low thaws e h = absurd (cc)
   run_low (runs program) e h =
@@ -418,7 +418,7 @@ module _ (d : Definition) (a : Accepted d) (w : World) (place : ℕ) (p : Place)
       let deep = k.deep in
       omega (arith, inside, top, deep)
 
-  runs_low : (ms : List Making) → Each (λ m. is_run m ≡ true) ms → ((m : Making) → IsIn m ms → IsIn m (constructed_runs d p.class)) → Each Low ms
+  runs_low : (ms : List ConstructStep) → Each (λ m. is_run m ≡ true) ms → ((m : ConstructStep) → IsIn m ms → IsIn m (constructed_runs d p.class)) → Each Low ms
   runs_low [] all among = tt
   runs_low (m ∷ ms) all among = (run_low m all.0 (among m (inl refl)), runs_low ms all.1 (λ x h. among x (inr h)))
 

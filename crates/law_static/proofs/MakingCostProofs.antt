@@ -11,7 +11,7 @@ use Rattle.ui_machine.specs.Definition.Places.{GivenProperty, Place}
 use Rattle.ui_machine.specs.Definition.Lookups.{class_of, specs_of}
 use Rattle.ui_machine.specs.Rules.Ancestry.{lineage}
 use Rattle.ui_machine.specs.State.Config.{World}
-use Rattle.ui_machine.specs.State.Tasks.{Making, sets, runs, thaws}
+use Rattle.ui_machine.specs.State.Tasks.{ConstructStep, sets, runs, thaws}
 use Rattle.ui_machine.specs.Rules.Construction.{is_forward, given_at, given_value, not_forward, is_at_construction, construct_sets, or_default, set_of, no_spec, given_sets, run_of, constructed_runs}
 use Rattle.law_typing.specs.Graph.Channels.{Channel, constructed, property, programs_of, of_class, constructed_at, is_filled, is_channel, present}
 use Rattle.law_typing.specs.Graph.{graph, is_given, set_from}
@@ -139,7 +139,7 @@ module _ (d : Definition) (a : Accepted d) (w : World) (place : ℕ) where
   abbrev of_slot : ℕ → ℕ
   of_slot slot = node_cost (graph d) costs (property place slot)
 
-  abbrev of_step : Making → ℕ
+  abbrev of_step : ConstructStep → ℕ
   of_step m = step_cost d costs place m
 
   made_steps : (gs : List GivenProperty) (n : ℕ) (specs : List Spec) → total of_step (construct_sets w gs n specs) ≡ made_sum of_slot place n specs
@@ -167,7 +167,7 @@ module _ (d : Definition) (a : Accepted d) (w : World) (place : ℕ) where
       go false None = omega arith
       go false (Some v) = omega arith
 
-  run_steps : (ms : List Making) → Each (λ m. of_step m ≡ programs_cost costs (programs_of (m ∷ []))) ms → total of_step ms ≡ programs_cost costs (programs_of ms)
+  run_steps : (ms : List ConstructStep) → Each (λ m. of_step m ≡ programs_cost costs (programs_of (m ∷ []))) ms → total of_step ms ≡ programs_cost costs (programs_of ms)
   run_steps [] all = refl
   run_steps (sets slot v ∷ ms) all = let h = run_steps ms all.1 in let e = all.0 in omega (arith, h, e)
   run_steps (runs program ∷ ms) all = let h = run_steps ms all.1 in omega (arith, h)

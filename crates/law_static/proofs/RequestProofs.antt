@@ -8,9 +8,9 @@ use Rattle.ui_machine.specs.Definition.{Definition}
 use Rattle.ui_machine.specs.Definition.Places.{Given, value, named, Place}
 use Rattle.ui_machine.specs.State.Objects.{Object}
 use Rattle.ui_machine.specs.State.Bindings.{Binding}
-use Rattle.ui_machine.specs.State.Tasks.{Request, Task, Carrying}
+use Rattle.ui_machine.specs.State.Tasks.{Request, Task, Handling}
 use Rattle.ui_machine.specs.State.Tasks as config
-use Rattle.ui_machine.specs.State.Config.{Held, unbuilt, built, released, World, held_at}
+use Rattle.ui_machine.specs.State.Config.{BuilderEntry, unbuilt, built, released, World, builder_entry}
 use Rattle.ui_machine.specs.Rules.Events.{is_released, gives_released, names_released}
 use Rattle.law_typing.specs.Graph.Channels.{property, signal}
 use Rattle.law_typing.specs.Graph.{Raised, graph}
@@ -52,7 +52,7 @@ object_below d well place object = among_first d.places place object.0 object.1 
     before j q less is true e = absurd (let later = well.order j place q object.0 is object.1 e object.2 in omega (arith, later, less))
     before j q less is false e = e
 
-built_at : (xs : List Held) (i : ℕ) → Each IsBuilt xs → i < length xs → IsBuilt (read unbuilt xs i)
+built_at : (xs : List BuilderEntry) (i : ℕ) → Each IsBuilt xs → i < length xs → IsBuilt (read unbuilt xs i)
 built_at [] i all less = absurd (omega (arith, less))
 built_at (x ∷ xs) zero all less = all.0
 built_at (x ∷ xs) (suc i) all less = built_at xs i all.1 (omega (arith, less))
@@ -61,12 +61,12 @@ module _ (d : Definition) (well : WellRead d) (w : World) (document : DocumentGo
   abbrev IsHeld : ℕ → Type 0
   IsHeld place = (id : ℕ) × (read unbuilt w.builder place ≡ built id)
 
-  held_of : (place : ℕ) → IsObject d place → is_released (held_at w place) ≡ false → IsHeld place
+  held_of : (place : ℕ) → IsObject d place → is_released (builder_entry w place) ≡ false → IsHeld place
   held_of place object kept =
       go (read unbuilt w.builder place) refl
       (built_at w.builder place document.each (let below = object_below d well place object in let all = document.all in omega (arith, below, all))) kept
     where
-      go : (h : Held) → read unbuilt w.builder place ≡ h → IsBuilt h → is_released h ≡ false → IsHeld place
+      go : (h : BuilderEntry) → read unbuilt w.builder place ≡ h → IsBuilt h → is_released h ≡ false → IsHeld place
       go unbuilt e is kept = absurd is
       go (built id) e is kept = (id, e)
       go released e is kept = absurd (cc)
@@ -94,13 +94,13 @@ module _ (d : Definition) (well : WellRead d) (w : World) (document : DocumentGo
 
   places_held : (r : Request) → RequestRead d r → names_released w r ≡ false → Each IsHeld (places_named r)
   places_held (config.set place slot (value v)) fits kept =
-      let p = or_parts (is_released (held_at w place)) (gives_released w (value v)) kept in (held_of place fits.0 p.0, tt)
+      let p = or_parts (is_released (builder_entry w place)) (gives_released w (value v)) kept in (held_of place fits.0 p.0, tt)
   places_held (config.set place slot (named to)) fits kept =
-      let p = or_parts (is_released (held_at w place)) (gives_released w (named to)) kept in
+      let p = or_parts (is_released (builder_entry w place)) (gives_released w (named to)) kept in
       (held_of place fits.0 p.0, (held_of to (given_object fits.1.kind (named to) fits.5 to refl) p.1, tt))
   places_held (config.get place slot) fits kept = (held_of place fits.0 kept, tt)
   places_held (config.emit place number args detail) fits kept =
-      let p = or_parts (is_released (held_at w place)) (list_any (gives_released w) args) kept in
+      let p = or_parts (is_released (builder_entry w place)) (list_any (gives_released w) args) kept in
       (held_of place fits.0 p.0, all_given _ (λ v. refl) (λ to. refl) args fits.2.params fits.6 p.1)
   places_held (config.release place) fits kept = (held_of place fits kept, tt)
 
@@ -116,7 +116,7 @@ deep_enough d depths (config.release place) = omega arith
 
 module _ (d : Definition) (costs depths : Tables) (w : World) (r : Resting d costs depths w) (request : Request) where
   abbrev agenda : List Task
-  agenda = Carrying request ∷ []
+  agenda = Handling request ∷ []
 
   channel : (id : ℕ) (x : Raised) → ChannelGood d costs depths [] id w.handlers x → ChannelGood d costs depths agenda id w.handlers x
   channel id x g = record { own = g.own; connected = g.connected; own_shallow = g.own_shallow; connected_shallow = g.connected_shallow }

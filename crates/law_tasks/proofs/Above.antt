@@ -45,7 +45,7 @@ module _ {d : Definition} {task : Task} (t : First d task) (program : ℕ) (args
     run_alike alike = record {
       items = λ f. (let same = alike.items f in omega (arith, same));
       unset = λ number. (let same = alike.unset number in omega (arith, same));
-      carrying = (let same = alike.carrying in omega (arith, same));
+      request_step = (let same = alike.request_step in omega (arith, same));
       makes = (let same = alike.makes in omega (arith, same));
       constructs = λ id. (let same = alike.constructs id in omega (arith, same));
     }

@@ -14,14 +14,14 @@ use Rattle.ui_machine.specs.Rules.Build.{is_making}
 use Rattle.ui_machine.specs.Rules.Connections.{may_stand, detail_for, detail_at, detail_in}
 use Rattle.ui_machine.specs.Rules.Construction.{given_value, object_held}
 use Rattle.ui_machine.specs.Rules.EmissionPlan.{signal_of, signal_at, new_emission}
-use Rattle.ui_machine.specs.Rules.Events.{set_given, carrying_set, given_values, carrying_emit}
+use Rattle.ui_machine.specs.Rules.Events.{set_given, set_from_event, given_values, emit_from_event}
 use Rattle.ui_machine.specs.Rules.Programs.{all_fit}
 use Rattle.ui_machine.specs.Rules.Sets.{spec_at}
 use Rattle.ui_machine.specs.Rules.Transform.{is_one, kind_fits}
 use Rattle.ui_machine.specs.State.Config.{World, unbuilt, built, starts}
 use Rattle.ui_machine.specs.State.Objects.{Object, living}
 use Rattle.ui_machine.specs.State.References.{mentions}
-use Rattle.ui_machine.specs.State.Tasks.{Emission, Task, Setting, Beginning, Carrying}
+use Rattle.ui_machine.specs.State.Tasks.{Emission, Task, Setting, Beginning, Handling}
 use Rattle.ui_machine.specs.State.Tasks as config
 use Rattle.ui_machine.specs.Steps.{uncounted}
 use Rattle.law_typing.specs.Rules.RegisterKinds.{class_at}
@@ -101,22 +101,22 @@ module _ (d : Definition) (w : World) (held : (place id : ℕ) → read unbuilt 
 -- ** a set
 
 set_leads : (d : Definition) (w : World) (place slot id : ℕ) (given : Given) (s : Spec) (v : Value) → read unbuilt w.builder place ≡ built id → spec_at d w.objects id slot ≡ Ok s → is_writable s ≡ true →
-    is_construct_only s ≡ false → given_value w given ≡ Some v → carrying_set d w place slot given ≡ starts w (Setting id slot v ∷ [])
-unfolding carrying_set set_given
+    is_construct_only s ≡ false → given_value w given ≡ Some v → set_from_event d w place slot given ≡ starts w (Setting id slot v ∷ [])
+unfolding set_from_event set_given
 set_leads d w place slot id given s v held at writable free is = rw (held, at, writable, free, is) refl
 
-module _ {d : Definition} (place slot : ℕ) (given : Given) (t : First d (Carrying (config.set place slot given))) where
+module _ {d : Definition} (place slot : ℕ) (given : Given) (t : First d (Handling (config.set place slot given))) where
   open t use {a, w, rest, n, g}
 
   abbrev task : Task
-  task = Carrying (config.set place slot given)
+  task = Handling (config.set place slot given)
 
   module _ (id : ℕ) (held : read unbuilt w.builder place ≡ built id) (v : Value) (is : given_value w given ≡ Some v) where
     abbrev later : List Task
     later = Setting id slot v ∷ rest
 
     now_alike : Alike (task ∷ rest) later
-    now_alike = record { items = λ f. omega arith; unset = λ number. omega arith; carrying = omega arith; makes = omega arith; constructs = λ id. omega arith }
+    now_alike = record { items = λ f. omega arith; unset = λ number. omega arith; request_step = omega arith; makes = omega arith; constructs = λ id. omega arith }
 
     as_later : AsFrozen d (task ∷ rest) later
     as_later = record {
@@ -183,7 +183,7 @@ module _ {d : Definition} (place slot : ℕ) (given : Given) (t : First d (Carry
         (ap (uncounted rest n) (set_leads d w place slot id given fits.1 v held (spec_is d w id slot p.o fits.1 p.lives p.has) fits.3 fits.4 is))
         set_good
 
-pub set_request_fine : {d : Definition} (place slot : ℕ) (given : Given) (t : First d (Carrying (config.set place slot given))) → StepIsFine t
+pub set_request_fine : {d : Definition} (place slot : ℕ) (given : Given) (t : First d (Handling (config.set place slot given))) → StepIsFine t
 set_request_fine {d} place slot (value v) t =
     let asks = t.g.agenda.3.2 in
     set_fine place slot (value v) t asks.held.0.0 asks.held.0.1 v refl
@@ -195,8 +195,8 @@ set_request_fine {d} place slot (named to) t =
 
 emit_leads : (d : Definition) (w : World) (place number id : ℕ) (args : List Given) (detail : Option (List ℕ)) (o : Object) (sig : Signal) (vs : List Value) → read unbuilt w.builder place ≡ built id →
     living w.objects id ≡ Some o → signal_of d o.class number ≡ Some sig → may_stand d o.class number sig detail ≡ true → given_values w args ≡ Ok vs →
-    carrying_emit d w place number args detail ≡ starts w (Beginning (new_emission id number (detail_for number detail) vs true) ∷ [])
-unfolding carrying_emit detail_in detail_at signal_at
+    emit_from_event d w place number args detail ≡ starts w (Beginning (new_emission id number (detail_for number detail) vs true) ∷ [])
+unfolding emit_from_event detail_in detail_at signal_at
 emit_leads d w place number id args detail o sig vs held lives has stands is = rw (held, lives, has, stands, is) refl
 
 own_of_node : (d : Definition) (costs : Tables) (c : Channel) → entry costs.channels c ≤ node_cost (graph d) costs c
@@ -206,11 +206,11 @@ own_of_node d costs c = go (other_end (graph d) c)
     go None = omega arith
     go (Some other) = omega arith
 
-module _ {d : Definition} (place number : ℕ) (args : List Given) (detail : Option (List ℕ)) (t : First d (Carrying (config.emit place number args detail))) where
+module _ {d : Definition} (place number : ℕ) (args : List Given) (detail : Option (List ℕ)) (t : First d (Handling (config.emit place number args detail))) where
   open t use {well, a, w, rest, n, g}
 
   abbrev asked : Task
-  asked = Carrying (config.emit place number args detail)
+  asked = Handling (config.emit place number args detail)
 
   module _ (id : ℕ) (held : read unbuilt w.builder place ≡ built id) (vs : AllGiven d w g.held args g.agenda.3.2.fits.2.params) where
     abbrev e : Emission
@@ -220,7 +220,7 @@ module _ {d : Definition} (place number : ℕ) (args : List Given) (detail : Opt
     emitting = Beginning e ∷ rest
 
     emits_alike : Alike (asked ∷ rest) emitting
-    emits_alike = record { items = λ f. omega arith; unset = λ number. omega arith; carrying = omega arith; makes = omega arith; constructs = λ id. omega arith }
+    emits_alike = record { items = λ f. omega arith; unset = λ number. omega arith; request_step = omega arith; makes = omega arith; constructs = λ id. omega arith }
 
     as_emitting : AsFrozen d (asked ∷ rest) emitting
     as_emitting = record {
@@ -282,7 +282,7 @@ module _ {d : Definition} (place number : ℕ) (args : List Given) (detail : Opt
         (emit_leads d w place number id args detail p.o asks.2 vs.vs held p.lives (ap (λ c. signal_of d c number) (sym same) ∙ asks.4) (ap (λ c. may_stand d c number asks.2 detail) (sym same) ∙ asks.7) vs.is))
         emit_good
 
-pub emit_request_fine : {d : Definition} (place number : ℕ) (args : List Given) (detail : Option (List ℕ)) (t : First d (Carrying (config.emit place number args detail))) → StepIsFine t
+pub emit_request_fine : {d : Definition} (place number : ℕ) (args : List Given) (detail : Option (List ℕ)) (t : First d (Handling (config.emit place number args detail))) → StepIsFine t
 emit_request_fine {d} place number args detail t =
     let asks = t.g.agenda.3.2 in
     emit_fine place number args detail t asks.held.0.0 asks.held.0.1 (all_given d t.w t.g.held _ (λ v. refl) (λ to. refl) args asks.fits.2.params asks.fits.6 asks.held.1)

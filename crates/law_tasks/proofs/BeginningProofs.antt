@@ -163,7 +163,7 @@ module _ {d : Definition} (e : Emission) (t : First d (Beginning e)) where
   fits_all (x ∷ xs) all = let more = fits_all xs all.1 in ((all.0.0, more.0), (all.0.1, more.1))
 
   now_alike : Alike (task ∷ rest) later
-  now_alike = record { items = λ f. omega arith; unset = λ number. omega arith; carrying = omega arith; makes = omega arith; constructs = λ id. omega arith }
+  now_alike = record { items = λ f. omega arith; unset = λ number. omega arith; request_step = omega arith; makes = omega arith; constructs = λ id. omega arith }
 
   as_later : AsFrozen d (task ∷ rest) later
   as_later = record {

@@ -3,7 +3,7 @@ use Rattle.std.proofs.Common.{◌≡◌, refl, sym, ap, subst, ◌∙◌, ℕ, B
 use Rattle.std.specs.Prelude.{nat_eq}
 use Rattle.ui_machine.specs.Definition.{Definition}
 use Rattle.ui_machine.specs.State.Bindings.{Binding, binding_of, with_busy, listens}
-use Rattle.ui_machine.specs.State.Tasks.{PlanEntry, class_handler, handler, Emission, Task, Setting, Notifying, Beginning, Emitting, Transferring, Unsetting, Thawing, Running, Answering, Calling, Constructing, Building, Carrying, Due}
+use Rattle.ui_machine.specs.State.Tasks.{PlanEntry, class_handler, handler, Emission, Task, Setting, Notifying, Beginning, Emitting, Transferring, Unsetting, Thawing, Running, Answering, Calling, Constructing, Building, Handling, Due}
 use Rattle.ui_machine.specs.State.Tasks as config
 use Rattle.law_typing.specs.Graph.Tables.{Tables}
 use Rattle.law_typing.specs.Verdict.Accepted.{Each}
@@ -81,7 +81,7 @@ module _ (d : Definition) (costs depths : Tables) (v : View) (number : ℕ) (bus
     record { place = g.1.place; is = g.1.is; for_builder = g.1.for_builder; fits = g.1.fits; cheap = g.1.cheap; shallow = g.1.shallow; one = g.1.one },
     g.2,
   )
-  task_bound (Carrying request) up below steps frames g =
+  task_bound (Handling request) up below steps frames g =
       (g.0, g.1, record { fits = g.2.fits; held = g.2.held; cheap = g.2.cheap; shallow = g.2.shallow })
   task_bound (Setting id slot x) up below steps frames g = g
   task_bound (Notifying id slot) up below steps frames g = g
@@ -106,7 +106,7 @@ module _ (d : Definition) (costs depths : Tables) (v : View) (number : ℕ) (bus
   down_bound (Calling call) = refl
   down_bound (Constructing id todo held) = refl
   down_bound (Building items) = refl
-  down_bound (Carrying request) = refl
+  down_bound (Handling request) = refl
   down_bound (Due source) = refl
 
   pub agenda_bound : (most : ℕ) (up : Down) (agenda : List Task) (budget : ℕ) → AgendaGood d costs depths v most up agenda budget → AgendaGood d costs depths bound most up agenda budget

@@ -4,7 +4,7 @@ use Rattle.ui_machine.specs.Seq.{total}
 use Rattle.ui_machine.specs.Definition.{Definition}
 use Rattle.ui_machine.specs.Rules.Build.{is_making}
 use Rattle.ui_machine.specs.State.Bindings.{Binding}
-use Rattle.ui_machine.specs.State.Config.{Held}
+use Rattle.ui_machine.specs.State.Config.{BuilderEntry}
 use Rattle.ui_machine.specs.State.Tasks.{Task, Building}
 use Rattle.law_typing.specs.Laws.StepsKeepGood.{IsGood}
 use Rattle.law_typing.specs.Good.Standing.{standing}
@@ -34,7 +34,7 @@ module _ {d : Definition} (t : First d (Building [])) where
         let count = g.build.2 in
         let alone = none_below is_for_builder in
         omega (arith, made, whole, split, count, alone));
-    each = each_to _ IsBuilt w.builder (λ (h : Held) is. subst IsBuilt (sym is.1) tt) g.build.3;
+    each = each_to _ IsBuilt w.builder (λ (h : BuilderEntry) is. subst IsBuilt (sym is.1) tt) g.build.3;
   }
 
   bindings_good : BindingsGood d (standing w.objects) rest w.objects w.bindings

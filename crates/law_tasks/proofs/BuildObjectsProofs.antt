@@ -16,7 +16,7 @@ use Rattle.ui_machine.specs.State.Bindings.{Binding}
 use Rattle.ui_machine.specs.State.Config.{World, said, starts}
 use Rattle.ui_machine.specs.State.Objects.{Object, living}
 use Rattle.ui_machine.specs.State.Peers.{Peer, peer_number, is_left, first_left}
-use Rattle.ui_machine.specs.State.Tasks.{Item, makes, Making, Task, Constructing, Building}
+use Rattle.ui_machine.specs.State.Tasks.{Item, makes, ConstructStep, Task, Constructing, Building}
 use Rattle.ui_machine.specs.Steps.{uncounted}
 use Rattle.law_typing.specs.Graph.{graph, raised_by_making}
 use Rattle.law_typing.specs.Graph.Costs.{making_cost}
@@ -153,7 +153,7 @@ module _ {d : Definition} (place : ℕ) (items : List Item) (t : First d (Buildi
   abbrev v : World
   v = said d made (lines.construct new (type_of d p.class).name)
 
-  abbrev todo : List Making
+  abbrev todo : List ConstructStep
   todo = construction d w place p
 
   abbrev agenda : List Task

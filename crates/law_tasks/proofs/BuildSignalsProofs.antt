@@ -14,7 +14,7 @@ use Rattle.ui_machine.specs.Rules.Build.{is_making, held_data, connection, with_
 use Rattle.ui_machine.specs.Rules.Connections.{Connection, signal_number, may_stand, detail_for, detail_at, is_too_late, new_handler, with_handler}
 use Rattle.ui_machine.specs.Rules.EmissionPlan.{signal_of, signal_at}
 use Rattle.ui_machine.specs.State.Bindings.{Binding}
-use Rattle.ui_machine.specs.State.Config.{Held, World, unbuilt, built, starts}
+use Rattle.ui_machine.specs.State.Config.{BuilderEntry, World, unbuilt, built, starts}
 use Rattle.ui_machine.specs.State.Handlers.{Handler}
 use Rattle.ui_machine.specs.State.Tasks.{Item, connects, Task, Building}
 use Rattle.ui_machine.specs.Steps.{uncounted}
@@ -79,7 +79,7 @@ stands_there d class number s (Some x) notify has e = go (nat_eq number 0) refl 
 
 -- ** what the builder holds
 
-pub held_below : (builder : List Held) → Each (λ (h : Held). (id : ℕ) × (h ≡ built id)) builder → (place : ℕ) → place < length builder → (id : ℕ) × (read unbuilt builder place ≡ built id)
+pub held_below : (builder : List BuilderEntry) → Each (λ (h : BuilderEntry). (id : ℕ) × (h ≡ built id)) builder → (place : ℕ) → place < length builder → (id : ℕ) × (read unbuilt builder place ≡ built id)
 held_below [] all place low = absurd (omega (arith, low))
 held_below (h ∷ hs) all zero low = all.0
 held_below (h ∷ hs) all (suc place) low = held_below hs all.1 place (omega (arith, low))

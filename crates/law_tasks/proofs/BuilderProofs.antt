@@ -5,7 +5,7 @@ use Rattle.ui_machine.specs.Seq.{read, write, total}
 use Rattle.ui_machine.specs.Definition.{Definition}
 use Rattle.ui_machine.specs.Rules.Build.{of_items}
 use Rattle.ui_machine.specs.Rules.Construction.{constructed}
-use Rattle.ui_machine.specs.State.Config.{Held, World, unbuilt, built, without, sunk, with_held, starts}
+use Rattle.ui_machine.specs.State.Config.{BuilderEntry, World, unbuilt, built, without, sunk, with_builder_entry, starts}
 use Rattle.ui_machine.specs.State.Objects.{Object, living}
 use Rattle.ui_machine.specs.State.Tasks.{Item, Task, Constructing, Building}
 use Rattle.ui_machine.specs.Steps.{uncounted}
@@ -30,20 +30,20 @@ use Rattle.law_tasks.specs.Ending.{BuilderTakes}
 
 -- ** the builder with one object more
 
-read_past : (xs : List Held) → read unbuilt xs (length xs) ≡ unbuilt
+read_past : (xs : List BuilderEntry) → read unbuilt xs (length xs) ≡ unbuilt
 read_past [] = refl
 read_past (x ∷ xs) = read_past xs
 
-write_end : (xs : List Held) (h : Held) → write unbuilt xs (length xs) h ≡ xs ++ h ∷ []
+write_end : (xs : List BuilderEntry) (h : BuilderEntry) → write unbuilt xs (length xs) h ≡ xs ++ h ∷ []
 write_end [] h = refl
-write_end (x ∷ xs) h = ap (λ (ys : List Held). x ∷ ys) (write_end xs h)
+write_end (x ∷ xs) h = ap (λ (ys : List BuilderEntry). x ∷ ys) (write_end xs h)
 
-one_longer : (xs : List Held) (h : Held) → length (xs ++ h ∷ []) ≡ suc (length xs)
+one_longer : (xs : List BuilderEntry) (h : BuilderEntry) → length (xs ++ h ∷ []) ≡ suc (length xs)
 one_longer [] h = refl
 one_longer (x ∷ xs) h = let more = one_longer xs h in omega (arith, more)
 
 -- what stands there is what stood there, or the new one at the end
-read_more : (xs : List Held) (h : Held) (i : ℕ) → (read unbuilt (xs ++ h ∷ []) i ≡ read unbuilt xs i) ⊎ ((i ≡ length xs) × (read unbuilt (xs ++ h ∷ []) i ≡ h))
+read_more : (xs : List BuilderEntry) (h : BuilderEntry) (i : ℕ) → (read unbuilt (xs ++ h ∷ []) i ≡ read unbuilt xs i) ⊎ ((i ≡ length xs) × (read unbuilt (xs ++ h ∷ []) i ≡ h))
 read_more [] h zero = inr (refl, refl)
 read_more [] h (suc i) = inl refl
 read_more (x ∷ xs) h zero = inl refl
@@ -57,7 +57,7 @@ read_more (x ∷ xs) h (suc i) = go (read_more xs h i)
 -- ** what the machine does
 
 takes : (w : World) (id : ℕ) (o : Object) → living w.objects id ≡ Some o → read unbuilt w.builder o.place ≡ unbuilt →
-    constructed w id true ≡ starts (sunk (with_held w o.place (built id)) id) []
+    constructed w id true ≡ starts (sunk (with_builder_entry w o.place (built id)) id) []
 unfolding constructed
 takes w id o is none = rw (is, none) refl
 
@@ -76,7 +76,7 @@ module _ {d : Definition} (id : ℕ) (items : List Item) (x : Above d (Construct
   abbrev agenda : List Task
   agenda = Building items ∷ []
 
-  abbrev builder : List Held
+  abbrev builder : List BuilderEntry
   builder = w.builder ++ built id ∷ []
 
   abbrev v : World
@@ -134,7 +134,7 @@ module _ {d : Definition} (id : ℕ) (items : List Item) (x : Above d (Construct
     g.build.0,
     g.build.1,
     (let count = g.build.2 in let more = one_longer w.builder (built id) in omega (arith, count, more)),
-    each_append (λ (h : Held). (id : ℕ) × (h ≡ built id)) w.builder (built id ∷ []) g.build.3 ((id, refl), tt),
+    each_append (λ (h : BuilderEntry). (id : ℕ) × (h ≡ built id)) w.builder (built id ∷ []) g.build.3 ((id, refl), tt),
   )
 
   queues_good : QueuesGood d (depths (first x)) (most (first x)) agenda n w.objects

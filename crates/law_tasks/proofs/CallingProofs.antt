@@ -114,7 +114,7 @@ module _ {d : Definition} (call : Call) (f : Frame) (tasks : List Task) (x : Abo
       receives d (costs (first x)) (depths (first x)) s (down d (view w) (Calling call)) f below.0 below.1 r call.to c.m.result v comes low fit
 
   alike : (v : Value) → Alike (Calling call ∷ Running f ∷ tasks) (later v)
-  alike v = record { items = λ f. omega arith; unset = λ number. omega arith; carrying = omega arith; makes = omega arith; constructs = λ id. omega arith }
+  alike v = record { items = λ f. omega arith; unset = λ number. omega arith; request_step = omega arith; makes = omega arith; constructs = λ id. omega arith }
 
   as_later : (v : Value) → AsFrozen d (Calling call ∷ Running f ∷ tasks) (later v)
   as_later v = record {

@@ -12,12 +12,12 @@ use Rattle.ui_machine.specs.Definition.Properties.{Spec, is_readable}
 use Rattle.ui_machine.specs.Definition.Values.{Value}
 use Rattle.ui_machine.specs.Output.Lines as lines
 use Rattle.ui_machine.specs.Output.Text.{text_of_line}
-use Rattle.ui_machine.specs.Rules.Events.{carrying_get, carrying_release}
+use Rattle.ui_machine.specs.Rules.Events.{get_from_event, release_from_event}
 use Rattle.ui_machine.specs.Rules.Sets.{spec_at}
-use Rattle.ui_machine.specs.State.Config.{World, Held, unbuilt, built, released, said, with_held}
+use Rattle.ui_machine.specs.State.Config.{World, BuilderEntry, unbuilt, built, released, said, with_builder_entry}
 use Rattle.ui_machine.specs.State.Objects.{Object, living, asked, value_at}
 use Rattle.ui_machine.specs.State.Tasks as config
-use Rattle.ui_machine.specs.State.Tasks.{Task, Carrying}
+use Rattle.ui_machine.specs.State.Tasks.{Task, Handling}
 use Rattle.ui_machine.specs.Steps.{uncounted}
 use Rattle.law_typing.specs.Rules.RegisterKinds.{class_at}
 use Rattle.law_typing.specs.Graph.Channels.{spec_if}
@@ -44,12 +44,12 @@ value_is w id slot o v e is = rw (e, is) refl
 
 get_leads : (d : Definition) (w : World) (rest : List Task) (n place slot id : ℕ) (s : Spec) (v : Value) → read unbuilt w.builder place ≡ built id → spec_at d w.objects id slot ≡ Ok s →
     asked w.objects id (value_at slot) ≡ Ok v → is_readable s ≡ true →
-    uncounted rest n (carrying_get d w place slot)
+    uncounted rest n (get_from_event d w place slot)
     ≡ Ok (record { world = record w { transcript = w.transcript ++ text_of_line d.types (lines.get id s.name v) ∷ []; result = Some v }; agenda = rest; counted = n })
-unfolding carrying_get
+unfolding get_from_event
 get_leads d w rest n place slot id s v a b c readable = rw (a, b, c, readable) refl
 
-module _ {d : Definition} (place slot : ℕ) (t : First d (Carrying (config.get place slot))) where
+module _ {d : Definition} (place slot : ℕ) (t : First d (Handling (config.get place slot))) where
   open t use {w, rest, n, g}
 
   pub get_fine : StepIsFine t
@@ -68,7 +68,7 @@ module _ {d : Definition} (place slot : ℕ) (t : First d (Carrying (config.get 
       (get_leads d w rest n place slot id s v.value is (spec_is d w id slot x.0 s x.1 has) (value_is w id slot x.0 v.value x.1 v.is) asks.fits.3)
       (done t said (Some v.value)
       (record {
-        alike = record { items = λ f. omega arith; unset = λ number. omega arith; carrying = omega arith; makes = omega arith; constructs = λ id. omega arith };
+        alike = record { items = λ f. omega arith; unset = λ number. omega arith; request_step = omega arith; makes = omega arith; constructs = λ id. omega arith };
         frozen = λ id. refl;
         build = λ build. build;
         good = g.agenda.6;
@@ -76,17 +76,17 @@ module _ {d : Definition} (place slot : ℕ) (t : First d (Carrying (config.get 
 
 -- ** a release
 
-as_long : (builder : List Held) (place id : ℕ) → read unbuilt builder place ≡ built id → length (write unbuilt builder place released) ≡ length builder
+as_long : (builder : List BuilderEntry) (place id : ℕ) → read unbuilt builder place ≡ built id → length (write unbuilt builder place released) ≡ length builder
 as_long [] place id e = absurd (cc)
 as_long (h ∷ builder) zero id e = omega arith
 as_long (h ∷ builder) (suc place) id e = let same = as_long builder place id e in omega (arith, same)
 
-still_built : (builder : List Held) (place id : ℕ) → read unbuilt builder place ≡ built id → Each IsBuilt builder → Each IsBuilt (write unbuilt builder place released)
+still_built : (builder : List BuilderEntry) (place id : ℕ) → read unbuilt builder place ≡ built id → Each IsBuilt builder → Each IsBuilt (write unbuilt builder place released)
 still_built [] place id e all = absurd (cc)
 still_built (h ∷ builder) zero id e all = (tt, all.1)
 still_built (h ∷ builder) (suc place) id e all = (all.0, still_built builder place id e all.1)
 
-still_held : (s : Standing) (builder : List Held) (place : ℕ) → HeldGood s builder → HeldGood s (write unbuilt builder place released)
+still_held : (s : Standing) (builder : List BuilderEntry) (place : ℕ) → HeldGood s builder → HeldGood s (write unbuilt builder place released)
 still_held s builder place held x id is = go (nat_eq place x) refl
   where
     go : (b : Bool) → nat_eq place x ≡ b → s id ≡ Some x
@@ -99,7 +99,7 @@ still_held s builder place held x id is = go (nat_eq place x) refl
         cc)
     go false e = held x id (sym (read_apart unbuilt builder place released x (eqb-false place x e)) ∙ is)
 
-objects_held : (d : Definition) (w : World) (lines : List (List ℕ)) (builder : List Held) → ObjectsGood d w → ObjectsGood d (record w { transcript = lines; builder = builder })
+objects_held : (d : Definition) (w : World) (lines : List (List ℕ)) (builder : List BuilderEntry) → ObjectsGood d w → ObjectsGood d (record w { transcript = lines; builder = builder })
 objects_held d w lines builder g id o e = let o = g id o e in record {
   place = o.place;
   is = o.is;
@@ -112,15 +112,15 @@ objects_held d w lines builder g id o e = let o = g id o e in record {
 }
 
 release_leads : (d : Definition) (w : World) (rest : List Task) (n place id : ℕ) (p : Place) → place_at d place ≡ Some p → read unbuilt w.builder place ≡ built id →
-    uncounted rest n (carrying_release d w place) ≡ Ok (record { world = with_held (said d w (lines.release p.id)) place released; agenda = rest; counted = n })
-unfolding carrying_release
+    uncounted rest n (release_from_event d w place) ≡ Ok (record { world = with_builder_entry (said d w (lines.release p.id)) place released; agenda = rest; counted = n })
+unfolding release_from_event
 release_leads d w rest n place id p a b = rw (a, b) refl
 
-module _ {d : Definition} (place : ℕ) (t : First d (Carrying (config.release place))) where
+module _ {d : Definition} (place : ℕ) (t : First d (Handling (config.release place))) where
   open t use {w, rest, n, g}
 
-  now_alike : Alike (Carrying (config.release place) ∷ rest) rest
-  now_alike = record { items = λ f. omega arith; unset = λ number. omega arith; carrying = omega arith; makes = omega arith; constructs = λ id. omega arith }
+  now_alike : Alike (Handling (config.release place) ∷ rest) rest
+  now_alike = record { items = λ f. omega arith; unset = λ number. omega arith; request_step = omega arith; makes = omega arith; constructs = λ id. omega arith }
 
   pub release_fine : StepIsFine t
   release_fine =
@@ -133,14 +133,14 @@ module _ {d : Definition} (place : ℕ) (t : First d (Carrying (config.release p
       let builder = write unbuilt w.builder place released in
       let v = record w { transcript = said; builder = builder } in
       let long = as_long w.builder place id is in
-      let made : length builder + total is_for_builder rest ≡ length w.builder + total is_for_builder (Carrying (config.release place) ∷ rest) = omega (arith, long) in
-      let document : DocumentGood d w.builder × (total is_for_builder (Carrying (config.release place) ∷ rest) ≡ 0) =
-      subst (λ tasks. BuildGood d w.builder (Carrying (config.release place) ∷ rest) tasks) alone g.build in
+      let made : length builder + total is_for_builder rest ≡ length w.builder + total is_for_builder (Handling (config.release place) ∷ rest) = omega (arith, long) in
+      let document : DocumentGood d w.builder × (total is_for_builder (Handling (config.release place) ∷ rest) ≡ 0) =
+      subst (λ tasks. BuildGood d w.builder (Handling (config.release place) ∷ rest) tasks) alone g.build in
       fine_where t (record { world = v; agenda = rest; counted = n }) (release_leads d w rest n place id p asks.fits.1 is)
       (good_of t v rest
       (record {
         objects = refl;
-        whole = whole_stays d (costs t) (depths t) (Carrying (config.release place) ∷ rest) rest v now_alike
+        whole = whole_stays d (costs t) (depths t) (Handling (config.release place) ∷ rest) rest v now_alike
             (record {
               objects = objects_held d w said builder g.objects;
               handlers = g.handlers;
@@ -155,7 +155,7 @@ module _ {d : Definition} (place : ℕ) (t : First d (Carrying (config.release p
         build = subst (λ tasks. BuildGood d builder tasks tasks) (sym alone)
             (record { all = long ∙ document.0.all; each = still_built w.builder place id is document.0.each }, refl);
         frozen = λ id. omega arith;
-        lowest = λ id some. lowest_falls d id (Carrying (config.release place)) rest;
+        lowest = λ id some. lowest_falls d id (Handling (config.release place)) rest;
         no_set = g.sets.first;
         no_source = none_later is_due_source rest g.sets.alone;
         budget = g.agenda.2;

@@ -5,11 +5,11 @@ use Rattle.ui_machine.specs.Definition.{Definition}
 use Rattle.ui_machine.specs.Definition.Properties.{Spec, is_writable}
 use Rattle.ui_machine.specs.Definition.Values.{Value}
 use Rattle.ui_machine.specs.Rules.Build.{is_making}
-use Rattle.ui_machine.specs.Rules.Construction.{making_set}
+use Rattle.ui_machine.specs.Rules.Construction.{apply_construct_property}
 use Rattle.ui_machine.specs.Rules.Sets.{spec_at}
 use Rattle.ui_machine.specs.State.Config.{World, starts}
 use Rattle.ui_machine.specs.State.References.{mentions}
-use Rattle.ui_machine.specs.State.Tasks.{Making, sets, Task, Setting, Constructing}
+use Rattle.ui_machine.specs.State.Tasks.{ConstructStep, sets, Task, Setting, Constructing}
 use Rattle.ui_machine.specs.Steps.{uncounted}
 use Rattle.law_typing.specs.Laws.StepsKeepGood.{IsGood}
 use Rattle.law_typing.specs.Graph.Channels.{property}
@@ -27,11 +27,11 @@ use Rattle.law_tasks.proofs.SettingProofs.{owns}
 use Rattle.law_tasks.specs.Starting.{ConstructionsSet}
 
 set_leads : (d : Definition) (w : World) (id slot : ℕ) (v : Value) (tasks : List Task) (s : Spec) → spec_at d w.objects id slot ≡ Ok s → is_writable s ≡ true →
-    making_set d w id slot v tasks ≡ starts w (Setting id slot v ∷ tasks)
-unfolding making_set
+    apply_construct_property d w id slot v tasks ≡ starts w (Setting id slot v ∷ tasks)
+unfolding apply_construct_property
 set_leads d w id slot v tasks s at writable = rw (at, writable) refl
 
-module _ {d : Definition} (id slot : ℕ) (v : Value) (todo : List Making) (held : Bool) (t : First d (Constructing id (sets slot v ∷ todo) held)) where
+module _ {d : Definition} (id slot : ℕ) (v : Value) (todo : List ConstructStep) (held : Bool) (t : First d (Constructing id (sets slot v ∷ todo) held)) where
   open t use {a, w, rest, n, g}
 
   abbrev task : Task
@@ -44,7 +44,7 @@ module _ {d : Definition} (id slot : ℕ) (v : Value) (todo : List Making) (held
   later = Setting id slot v ∷ below
 
   now_alike : Alike (task ∷ rest) later
-  now_alike = record { items = λ f. omega arith; unset = λ number. omega arith; carrying = omega arith; makes = omega arith; constructs = λ id. omega arith }
+  now_alike = record { items = λ f. omega arith; unset = λ number. omega arith; request_step = omega arith; makes = omega arith; constructs = λ id. omega arith }
 
   as_later : AsFrozen d (task ∷ rest) later
   as_later = record {

@@ -17,7 +17,7 @@ use Rattle.ui_machine.specs.Rules.Transform.{kind_fits}
 use Rattle.ui_machine.specs.Rules.EmissionPlan.{signal_of, signal_at}
 use Rattle.ui_machine.specs.State.Config.{World}
 use Rattle.ui_machine.specs.State.Objects.{Object, living}
-use Rattle.ui_machine.specs.State.Tasks.{Emission, Frame, Task, Setting, Notifying, Beginning, Emitting, Transferring, Unsetting, Thawing, Running, Answering, Calling, Constructing, Building, Carrying, Due}
+use Rattle.ui_machine.specs.State.Tasks.{Emission, Frame, Task, Setting, Notifying, Beginning, Emitting, Transferring, Unsetting, Thawing, Running, Answering, Calling, Constructing, Building, Handling, Due}
 use Rattle.ui_machine.specs.Rules.Construction.{constructed}
 use Rattle.ui_machine.specs.Steps.{left, uncounted}
 use Rattle.law_typing.specs.Rules.RegisterKinds.{Kinds, class_at}
@@ -102,7 +102,7 @@ passes (Answering source ∷ rest) v e = refl
 passes (Calling call ∷ rest) v e = refl
 passes (Constructing id todo held ∷ rest) v e = refl
 passes (Building items ∷ rest) v e = refl
-passes (Carrying request ∷ rest) v e = refl
+passes (Handling request ∷ rest) v e = refl
 passes (Due source ∷ rest) v e = refl
 
 -- ** the agenda below
@@ -157,7 +157,7 @@ not_awaited d costs depths v most k (Answering source ∷ rest) budget e g = g
 not_awaited d costs depths v most k (Calling call ∷ rest) budget e g = g
 not_awaited d costs depths v most k (Constructing id todo held ∷ rest) budget e g = g
 not_awaited d costs depths v most k (Building items ∷ rest) budget e g = g
-not_awaited d costs depths v most k (Carrying request ∷ rest) budget e g = g
+not_awaited d costs depths v most k (Handling request ∷ rest) budget e g = g
 not_awaited d costs depths v most k (Due source ∷ rest) budget e g = g
 
 -- ** the steps
@@ -180,7 +180,7 @@ module _ {d : Definition} (e : Emission) (t : First d (Emitting e [])) where
       (does ∙ ap (λ world. Ok (record { world = world; agenda = rest; counted = n })) said.is)
       (done t said.lines said.value
       (record {
-        alike = record { items = λ f. omega arith; unset = λ number. omega arith; carrying = omega arith; makes = omega arith; constructs = λ id. omega arith };
+        alike = record { items = λ f. omega arith; unset = λ number. omega arith; request_step = omega arith; makes = omega arith; constructs = λ id. omega arith };
         frozen = λ id. refl;
         build = λ build. build;
         good = not_awaited d (costs t) (depths t) (view w) (most t) (result_of_emission d (standing w.objects) e) rest g.agenda.2 none_waits g.agenda.6;
@@ -256,7 +256,7 @@ module _ {d : Definition} (e : Emission) (f : Frame) (tasks : List Task) (x : Ab
       (does ∙ ap (λ world. Ok (record { world = world; agenda = Running (after_value f to v) ∷ tasks; counted = n })) said.is)
       (received x to v said.lines said.value
       (record {
-        alike = record { items = λ f. omega arith; unset = λ number. omega arith; carrying = omega arith; makes = omega arith; constructs = λ id. omega arith };
+        alike = record { items = λ f. omega arith; unset = λ number. omega arith; request_step = omega arith; makes = omega arith; constructs = λ id. omega arith };
         unfrozen = λ id. refl;
         build = λ build. build;
         kept = λ id. frozen_still d (costs (first x)) (depths (first x)) s up f below.0 below.1 r to v id kept;
@@ -288,7 +288,7 @@ constructions_end id = fine_of (λ d t. good d t)
         fine_where t (record { world = t.w; agenda = t.rest; counted = t.n }) (made t.w id t.rest t.n)
         (done t t.w.transcript t.w.result
         (record {
-          alike = record { items = λ f. omega arith; unset = λ number. omega arith; carrying = omega arith; makes = omega arith; constructs = λ id. omega arith };
+          alike = record { items = λ f. omega arith; unset = λ number. omega arith; request_step = omega arith; makes = omega arith; constructs = λ id. omega arith };
           frozen = λ x. no_more (nat_eq id x);
           build = λ build. build;
           good = t.g.agenda.6;

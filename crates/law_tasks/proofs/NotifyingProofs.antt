@@ -18,7 +18,7 @@ use Rattle.ui_machine.specs.State.Bindings.{transfers}
 use Rattle.ui_machine.specs.State.Config.{World, said, starts}
 use Rattle.ui_machine.specs.State.Handlers.{Handler}
 use Rattle.ui_machine.specs.State.Objects.{Object, living}
-use Rattle.ui_machine.specs.State.Tasks.{PlanEntry, Emission, Frame, Task, Setting, Notifying, Beginning, Emitting, Transferring, Unsetting, Thawing, Running, Answering, Calling, Constructing, Building, Carrying, Due}
+use Rattle.ui_machine.specs.State.Tasks.{PlanEntry, Emission, Frame, Task, Setting, Notifying, Beginning, Emitting, Transferring, Unsetting, Thawing, Running, Answering, Calling, Constructing, Building, Handling, Due}
 use Rattle.ui_machine.specs.Steps.{uncounted}
 use Rattle.law_typing.specs.Graph.{Raised, class_handler_for, listed_if}
 use Rattle.law_typing.specs.Graph.Channels.{property, of_class, is_channel, is_readable_one}
@@ -92,7 +92,7 @@ may_come d costs depths v most k (Answering source ∷ rest) budget g = g
 may_come d costs depths v most k (Calling call ∷ rest) budget g = g
 may_come d costs depths v most k (Constructing id todo held ∷ rest) budget g = g
 may_come d costs depths v most k (Building items ∷ rest) budget g = g
-may_come d costs depths v most k (Carrying request ∷ rest) budget g = g
+may_come d costs depths v most k (Handling request ∷ rest) budget g = g
 may_come d costs depths v most k (Due source ∷ rest) budget g = g
 
 -- ** the step
@@ -210,7 +210,7 @@ module _ {d : Definition} (id slot : ℕ) (t : First d (Notifying id slot)) wher
   }
 
   now_alike : Alike (task ∷ rest) later
-  now_alike = record { items = λ f. omega arith; unset = λ number. omega arith; carrying = omega arith; makes = omega arith; constructs = λ id. omega arith }
+  now_alike = record { items = λ f. omega arith; unset = λ number. omega arith; request_step = omega arith; makes = omega arith; constructs = λ id. omega arith }
 
   as_later : AsFrozen d (task ∷ rest) later
   as_later = record {

@@ -7,7 +7,7 @@ use Rattle.ui_machine.specs.Definition.{Definition}
 use Rattle.ui_machine.specs.Definition.Places.{Bind}
 use Rattle.ui_machine.specs.State.Objects.{Object, Objects, living}
 use Rattle.ui_machine.specs.State.Bindings.{Binding}
-use Rattle.ui_machine.specs.State.Tasks.{Task, Setting, Notifying, Beginning, Emitting, Transferring, Unsetting, Thawing, Running, Answering, Calling, Constructing, Building, Carrying, Due}
+use Rattle.ui_machine.specs.State.Tasks.{Task, Setting, Notifying, Beginning, Emitting, Transferring, Unsetting, Thawing, Running, Answering, Calling, Constructing, Building, Handling, Due}
 use Rattle.law_typing.specs.Graph.{graph}
 use Rattle.law_typing.specs.Graph.Channels.{Channel, property, is_pair, source_of, target_of, same_channel}
 use Rattle.law_typing.specs.Graph.Tables.{Tables, entry}
@@ -44,7 +44,7 @@ held_is_for_builder id (Running frame) = omega arith
 held_is_for_builder id (Answering source) = omega arith
 held_is_for_builder id (Calling call) = omega arith
 held_is_for_builder id (Building items) = omega arith
-held_is_for_builder id (Carrying request) = omega arith
+held_is_for_builder id (Handling request) = omega arith
 held_is_for_builder id (Due source) = omega arith
 
 unset_is_carried : (number : ℕ) (task : Task) → unsets number task ≤ is_carrying_over task
@@ -64,7 +64,7 @@ unset_is_carried number (Answering source) = omega arith
 unset_is_carried number (Calling call) = omega arith
 unset_is_carried number (Constructing object todo held) = omega arith
 unset_is_carried number (Building items) = omega arith
-unset_is_carried number (Carrying request) = omega arith
+unset_is_carried number (Handling request) = omega arith
 unset_is_carried number (Due source) = omega arith
 
 -- ** frames
@@ -82,7 +82,7 @@ frozen_is_frame d id (Thawing object slots) some = absurd (omega (arith, some))
 frozen_is_frame d id (Answering source) some = absurd (omega (arith, some))
 frozen_is_frame d id (Calling call) some = absurd (omega (arith, some))
 frozen_is_frame d id (Building items) some = absurd (omega (arith, some))
-frozen_is_frame d id (Carrying request) some = absurd (omega (arith, some))
+frozen_is_frame d id (Handling request) some = absurd (omega (arith, some))
 frozen_is_frame d id (Due source) some = absurd (omega (arith, some))
 
 -- the lowest task that holds an object frozen is a frame, and stands on those below it

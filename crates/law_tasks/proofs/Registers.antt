@@ -93,15 +93,15 @@ module _ (d : Definition) (p : Program) (ks : Kinds) where
   unfolding typing.on_handlers
   handlers_keep object program = bound_keeps n (typing.operand d ks object) _ (λ class. none_keeps ks (typing.program_named d program))
 
-  set_keeps : (object : ℕ) (name : List ℕ) (from : ℕ) → Keeps n (typing.assigning d ks object name from)
-  unfolding typing.assigning
+  set_keeps : (object : ℕ) (name : List ℕ) (from : ℕ) → Keeps n (typing.set_property d ks object name from)
+  unfolding typing.set_property
   set_keeps object name from =
       bound_keeps n (typing.property_of d ks object name) _
       (λ s. tested_keeps n (is_writable s) rules.flags _
       (tested_keeps n (not (is_construct_only s)) rules.construct_only _ (none_keeps ks (typing.fitting d ks from s.kind))))
 
-  get_keeps : (to object : ℕ) (name : List ℕ) → to < n → Keeps n (typing.getting d ks to object name)
-  unfolding typing.getting
+  get_keeps : (to object : ℕ) (name : List ℕ) → to < n → Keeps n (typing.get_property d ks to object name)
+  unfolding typing.get_property
   get_keeps to object name low =
       bound_keeps n (typing.property_of d ks object name) _
       (λ s. tested_keeps n (is_readable s) rules.flags _ (length_write kinds.unset ks to (kinds.plain s.kind) low))
@@ -111,7 +111,7 @@ module _ (d : Definition) (p : Program) (ks : Kinds) where
 
   -- an instruction that does not end its block writes one of the registers, or none
   typed_keeps : (i : Instruction) → ends i ≡ false → Within n (written i) → Keeps n (typed d p ks i)
-  unfolding typing.moving typing.reckoning typing.comparing typing.sameness typing.negating typing.combining typing.joining typing.converting typing.naming typing.adopting
+  unfolding typing.moving typing.reckoning typing.comparing typing.sameness typing.negating typing.combining typing.joining typing.converting typing.look_up_object typing.adopting
   typed_keeps (words.const to kind v) e low = length_write kinds.unset ks to (kinds.plain kind) low
   typed_keeps (words.move to from) e low = gives_keeps (typing.set_in ks from) (λ k. k) to low
   typed_keeps (words.clear to) e low = length_write kinds.unset ks to kinds.unset low

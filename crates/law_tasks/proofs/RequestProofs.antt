@@ -3,7 +3,7 @@ use Rattle.ui_machine.specs.State.Tasks as config
 use Rattle.law_tasks.proofs.AskedProofs.{set_request_fine, emit_request_fine}
 use Rattle.law_tasks.proofs.CarryingProofs.{get_fine, release_fine}
 use Rattle.law_tasks.proofs.First.{fine_of}
-use Rattle.law_tasks.specs.Carrying.{RequestsAreFine}
+use Rattle.law_tasks.specs.Handling.{RequestsAreFine}
 
 pub requests_are_fine : RequestsAreFine
 requests_are_fine (config.set place slot given) = fine_of (λ d t. set_request_fine place slot given t)

@@ -13,7 +13,7 @@ use Rattle.ui_machine.specs.Output.Lines as lines
 use Rattle.ui_machine.specs.Output.Text.{text_of_line}
 use Rattle.ui_machine.specs.Rules.Build.{is_making}
 use Rattle.ui_machine.specs.Rules.NotifyQueue.{queued}
-use Rattle.ui_machine.specs.Rules.Sets.{has_kind, spec_at, lives, raising, raising_if, notifies, kept, written, setting}
+use Rattle.ui_machine.specs.Rules.Sets.{has_kind, spec_at, lives, raising, raising_if, notifies, without_disposed, written, setting}
 use Rattle.ui_machine.specs.Rules.Transform.{same_value}
 use Rattle.ui_machine.specs.Rules.Validation.{clamp, is_valid}
 use Rattle.ui_machine.specs.State.Config.{World, said, starts, with_objects}
@@ -91,7 +91,7 @@ with_value_in o slot v = record o { values = slice_set o.values slot v }
 
 -- what is written
 abbrev to_write : Definition → World → Spec → Value → Value
-to_write d w s v = kept w.objects s (clamp (class_in w.objects) d.types s v)
+to_write d w s v = without_disposed w.objects s (clamp (class_in w.objects) d.types s v)
 
 -- whether it is
 abbrev is_taken : Definition → World → Spec → Value → Bool
@@ -136,10 +136,10 @@ module _ {d : Definition} (id slot : ℕ) (v : Value) (t : First d (Setting id s
   task = Setting id slot v
 
   alike_rest : Alike (task ∷ rest) rest
-  alike_rest = record { items = λ f. omega arith; unset = λ number. omega arith; carrying = omega arith; makes = omega arith; constructs = λ id. omega arith }
+  alike_rest = record { items = λ f. omega arith; unset = λ number. omega arith; request_step = omega arith; makes = omega arith; constructs = λ id. omega arith }
 
   alike_notifying : Alike (task ∷ rest) (Notifying id slot ∷ rest)
-  alike_notifying = record { items = λ f. omega arith; unset = λ number. omega arith; carrying = omega arith; makes = omega arith; constructs = λ id. omega arith }
+  alike_notifying = record { items = λ f. omega arith; unset = λ number. omega arith; request_step = omega arith; makes = omega arith; constructs = λ id. omega arith }
 
   as_before : AsFrozen d (task ∷ rest) (task ∷ rest)
   as_before = record { frozen = λ id. refl; lowest = λ id some. omega arith }
@@ -293,7 +293,7 @@ module _ {d : Definition} (id slot : ℕ) (v : Value) (t : First d (Setting id s
   valid_new =
       let p = owned in
       let read = well.types.specs p.o.class slot spec p.has in
-      subst (λ f. is_valid f d.types spec (kept w.objects spec (clamp (class_in w.objects) d.types spec v)) ≡ true) (classes_agree d w g.objects)
+      subst (λ f. is_valid f d.types spec (without_disposed w.objects spec (clamp (class_in w.objects) d.types spec v)) ≡ true) (classes_agree d w g.objects)
       (kept_valid (class_in w.objects) d.types w.objects spec (clamp (class_in w.objects) d.types spec v) (validated d spec read well.types (class_in w.objects) v g.agenda.3.1.kind))
 
   set_fine : StepIsFine t

@@ -3,7 +3,7 @@ use Rattle.std.proofs.Common.{refl, sym, subst, ℕ, Bool, true, false, cond, Li
 use Rattle.std.specs.Prelude.{nat_eq}
 use Rattle.ui_machine.specs.Definition.{Definition}
 use Rattle.ui_machine.specs.State.Config.{World, without}
-use Rattle.ui_machine.specs.Steps.{first_of, settling}
+use Rattle.ui_machine.specs.Steps.{first_of, sink_first_floating}
 use Rattle.law_typing.specs.Graph.Tables.{Tables}
 use Rattle.law_typing.specs.Verdict.Accepted.{Each}
 use Rattle.law_typing.specs.Laws.StepsKeepGood.{Fine}
@@ -42,7 +42,7 @@ sunk_good d costs depths most_counted most w n floating g lives = record {
 }
 
 settled_good : (d : Definition) (costs depths : Tables) (most_counted most : ℕ) (w : World) (n : ℕ) (ids : List ℕ) → Good d costs depths most_counted most (at_end w n) →
-    Good d costs depths most_counted most (at_end (settling w ids) n)
+    Good d costs depths most_counted most (at_end (sink_first_floating w ids) n)
 settled_good d costs depths most_counted most w n [] g = g
 settled_good d costs depths most_counted most w n (id ∷ ids) g =
     sunk_good d costs depths most_counted most w n (without id w.floating) g (each_without (Lives (standing w.objects)) id w.floating g.floating)

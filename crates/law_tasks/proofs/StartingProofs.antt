@@ -12,7 +12,7 @@ use Rattle.ui_machine.specs.Rules.MainLoop.{source_data, sourcing}
 use Rattle.ui_machine.specs.Rules.Programs.{program_before}
 use Rattle.ui_machine.specs.State.Config.{World, said}
 use Rattle.ui_machine.specs.State.Sources.{Source, source_of, is_numbered}
-use Rattle.ui_machine.specs.State.Tasks.{Making, runs, Constructing, Due, Answering}
+use Rattle.ui_machine.specs.State.Tasks.{ConstructStep, runs, Constructing, Due, Answering}
 use Rattle.ui_machine.specs.Steps.{uncounted}
 use Rattle.law_typing.specs.Rules.Signatures.{data_kinds, result_fits}
 use Rattle.law_typing.specs.Good.Standing.{Standing, standing, LivesIf}
@@ -63,7 +63,7 @@ module _ {d : Definition} (number : ℕ) (t : First d (Due number)) where
       (ap (uncounted rest n) (sources_start d w number source g.agenda.3.2.1 ∙ b.leads (Answering number ∷ [])))
       (begins_above t program args (Some kinds.bool) b (Answering number)
       (record {
-        alike = record { items = λ f. refl; unset = λ number. refl; carrying = refl; makes = refl; constructs = λ id. refl };
+        alike = record { items = λ f. refl; unset = λ number. refl; request_step = refl; makes = refl; constructs = λ id. refl };
         frozen = λ id. refl;
         no_set = refl;
         no_source = refl;
@@ -83,7 +83,7 @@ gives_none : (d : Definition) (result : Option Kind) → result_fits d result No
 gives_none d None e = refl
 gives_none d (Some kind) e = absurd (cc)
 
-module _ {d : Definition} (id program : ℕ) (todo : List Making) (held : Bool) (t : First d (Constructing id (runs program ∷ todo) held)) where
+module _ {d : Definition} (id program : ℕ) (todo : List ConstructStep) (held : Bool) (t : First d (Constructing id (runs program ∷ todo) held)) where
   open t use {well, a, w, rest, n, g}
 
   run_begun : Begun d well a w g.objects program (values.object (Some id) ∷ []) None
@@ -101,7 +101,7 @@ module _ {d : Definition} (id program : ℕ) (todo : List Making) (held : Bool) 
       (ap (uncounted rest n) (b.leads (Constructing id todo held ∷ [])))
       (begins_above t program args None b (Constructing id todo held)
       (record {
-        alike = record { items = λ f. refl; unset = λ number. refl; carrying = refl; makes = refl; constructs = λ id. refl };
+        alike = record { items = λ f. refl; unset = λ number. refl; request_step = refl; makes = refl; constructs = λ id. refl };
         frozen = λ id. refl;
         no_set = refl;
         no_source = refl;

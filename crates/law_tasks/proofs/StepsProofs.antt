@@ -3,7 +3,7 @@ use Rattle.std.proofs.Common.{◌≡◌, refl, sym, subst, ℕ, true, false, Lis
 use Rattle.ui_machine.specs.Outcome.{Answer}
 use Rattle.ui_machine.specs.State.Config.{Config}
 use Rattle.ui_machine.specs.State.References.{mentions, next_unheld}
-use Rattle.ui_machine.specs.State.Tasks.{PlanEntry, class_handler, handler, Making, sets, runs, thaws, Item, makes, adopts, forwards, binds, connects, Task, Setting, Notifying, Beginning, Emitting, Transferring, Unsetting, Thawing, Running, Answering, Calling, Constructing, Building, Carrying, Due}
+use Rattle.ui_machine.specs.State.Tasks.{PlanEntry, class_handler, handler, ConstructStep, sets, runs, thaws, Item, makes, adopts, forwards, binds, connects, Task, Setting, Notifying, Beginning, Emitting, Transferring, Unsetting, Thawing, Running, Answering, Calling, Constructing, Building, Handling, Due}
 use Rattle.ui_machine.specs.State.Tasks as config
 use Rattle.ui_machine.specs.Steps.{step, first_of}
 use Rattle.law_typing.specs.Graph.{graph}
@@ -61,7 +61,7 @@ tasks_are_fine (Building (adopts place ∷ items)) = adoptions_are_fine place it
 tasks_are_fine (Building (forwards place slot to ∷ items)) = forwards_are_fine place slot to items
 tasks_are_fine (Building (binds number ∷ items)) = bindings_are_fine number items
 tasks_are_fine (Building (connects place number ∷ items)) = signals_are_fine place number items
-tasks_are_fine (Carrying request) = requests_are_fine request
+tasks_are_fine (Handling request) = requests_are_fine request
 tasks_are_fine (Due source) = sources_are_fine source
 
 pub steps_keep_good : StepsKeepGood

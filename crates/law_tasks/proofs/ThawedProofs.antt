@@ -11,7 +11,7 @@ use Rattle.ui_machine.specs.Rules.Construction.{thawing_made}
 use Rattle.ui_machine.specs.Rules.NotifyQueue.{less_frozen}
 use Rattle.ui_machine.specs.State.Config.{World, with_objects, starts}
 use Rattle.ui_machine.specs.State.Objects.{Object, living, put, changed}
-use Rattle.ui_machine.specs.State.Tasks.{Making, thaws, Task, Thawing, Constructing}
+use Rattle.ui_machine.specs.State.Tasks.{ConstructStep, thaws, Task, Thawing, Constructing}
 use Rattle.ui_machine.specs.Steps.{uncounted}
 use Rattle.law_typing.specs.Graph.Channels.{property, spec_at, spec_if}
 use Rattle.law_typing.specs.Graph.Tables.{entry}
@@ -37,12 +37,12 @@ use Rattle.law_tasks.proofs.Changed.{no_sets, changed_well}
 use Rattle.law_tasks.proofs.First.{First, StepIsFine, fine_where, fine_of, whole_was, pool_alike, build_alike, costs, depths, most}
 use Rattle.law_tasks.specs.Starting.{ConstructionsThaw}
 
-thaw_leads : (w : World) (id : ℕ) (todo : List Making) (held : Bool) (o : Object) (less : ℕ) → living w.objects id ≡ Some o → o.freezes ≡ suc less →
+thaw_leads : (w : World) (id : ℕ) (todo : List ConstructStep) (held : Bool) (o : Object) (less : ℕ) → living w.objects id ≡ Some o → o.freezes ≡ suc less →
     thawing_made w id todo held ≡ starts (with_objects w (put w.objects id (Some (less_frozen less o).state))) (Thawing id (less_frozen less o).answer ∷ Constructing id todo held ∷ [])
 unfolding thawing_made changed
 thaw_leads w id todo held o less is count = rw (is, less_is o less count) refl
 
-module _ {d : Definition} (id : ℕ) (todo : List Making) (held : Bool) (t : First d (Constructing id (thaws ∷ todo) held)) (p : Placed d t.w id t.g.agenda.3.1.place) where
+module _ {d : Definition} (id : ℕ) (todo : List ConstructStep) (held : Bool) (t : First d (Constructing id (thaws ∷ todo) held)) (p : Placed d t.w id t.g.agenda.3.1.place) where
   open t use {a, w, rest, n, g}
 
   abbrev o : Object
@@ -88,7 +88,7 @@ module _ {d : Definition} (id : ℕ) (todo : List Making) (held : Bool) (t : Fir
   agenda = Thawing id slots ∷ next ∷ rest
 
   now_alike : Alike (task ∷ rest) agenda
-  now_alike = record { items = λ f. omega arith; unset = λ number. omega arith; carrying = omega arith; makes = omega arith; constructs = λ id. omega arith }
+  now_alike = record { items = λ f. omega arith; unset = λ number. omega arith; request_step = omega arith; makes = omega arith; constructs = λ id. omega arith }
 
   kept : Kept d (costs t) (depths t) (task ∷ rest) w v
   kept = write_keeps d (costs t) (depths t) (task ∷ rest) w id o new p.lives (thaw_is_like d w id less o p.good count_is) (whole_was t)

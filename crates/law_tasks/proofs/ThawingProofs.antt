@@ -38,7 +38,7 @@ module _ {d : Definition} (id slot : ℕ) (slots : List ℕ) (t : First d (Thawi
   later = Notifying id slot ∷ Thawing id slots ∷ rest
 
   now_alike : Alike (Thawing id (slot ∷ slots) ∷ rest) later
-  now_alike = record { items = λ f. omega arith; unset = λ number. omega arith; carrying = omega arith; makes = omega arith; constructs = λ id. omega arith }
+  now_alike = record { items = λ f. omega arith; unset = λ number. omega arith; request_step = omega arith; makes = omega arith; constructs = λ id. omega arith }
 
   unset_same : (number : ℕ) → total (unsets number) (Thawing id slots ∷ rest) ≡ total (unsets number) rest
   unset_same number = omega arith
@@ -99,7 +99,7 @@ due_thaws_are_fine id [] = fine_of (λ d t. none_left d t)
         fine_where t (record { world = t.w; agenda = t.rest; counted = t.n }) refl
         (done t t.w.transcript t.w.result
         (record {
-          alike = record { items = λ f. omega arith; unset = λ number. omega arith; carrying = omega arith; makes = omega arith; constructs = λ id. omega arith };
+          alike = record { items = λ f. omega arith; unset = λ number. omega arith; request_step = omega arith; makes = omega arith; constructs = λ id. omega arith };
           frozen = λ id. refl;
           build = λ build. build;
           good = t.g.agenda.6;

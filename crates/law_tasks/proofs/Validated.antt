@@ -16,7 +16,7 @@ use Rattle.ui_machine.specs.Definition.Types.{GType, Member}
 use Rattle.ui_machine.specs.Definition.Properties.{Spec}
 use Rattle.ui_machine.specs.Output.Text.{members_of}
 use Rattle.ui_machine.specs.State.Objects.{Objects, living}
-use Rattle.ui_machine.specs.Rules.Sets.{has_kind, is_disposed, unless_disposed, kept}
+use Rattle.ui_machine.specs.Rules.Sets.{has_kind, is_disposed, unless_disposed, without_disposed}
 use Rattle.ui_machine.specs.Rules.Transform.{same_whole, same_value, is_between, least, greatest, known_bits, kind_fits}
 use Rattle.ui_machine.specs.Rules.Validation.{limited, clamp, is_valid}
 use Rattle.machine_laws.specs.ClampLaws.{IsSound}
@@ -140,7 +140,7 @@ module _ (f : ℕ → Option ℕ) (types : List GType) (os : Objects) (s : Spec)
       go true = null_valid i e
       go false = e
 
-  pub kept_valid : (v : Value) → is_valid f types s v ≡ true → is_valid f types s (kept os s v) ≡ true
+  pub kept_valid : (v : Value) → is_valid f types s v ≡ true → is_valid f types s (without_disposed os s v) ≡ true
   kept_valid v e = go s.weak
     where
       go : (b : Bool) → is_valid f types s (cond b (unless_disposed os v) v) ≡ true

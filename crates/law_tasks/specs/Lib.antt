@@ -5,7 +5,7 @@ pub mod Turns
 pub mod Starting
 pub mod Settling
 pub mod Ending
-pub mod Carrying
+pub mod Handling
 pub mod BuildSignals
 pub mod BuildObjects
 pub mod BuildForwards

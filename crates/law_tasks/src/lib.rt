@@ -17,7 +17,7 @@ ghost use Rattle.law_tasks.specs.BuildBindings.{BindingsAreFine};
 ghost use Rattle.law_tasks.specs.BuildForwards.{ForwardsAreFine};
 ghost use Rattle.law_tasks.specs.BuildObjects.{ObjectsAreFine};
 ghost use Rattle.law_tasks.specs.BuildSignals.{SignalsAreFine};
-ghost use Rattle.law_tasks.specs.Carrying.{RequestsAreFine};
+ghost use Rattle.law_tasks.specs.Handling.{RequestsAreFine};
 ghost use Rattle.law_tasks.specs.Notifying.{DueNotificationsAreFine};
 ghost use Rattle.law_tasks.specs.Thawing.{DueThawsAreFine};
 ghost use Rattle.law_tasks.specs.Transferring.{DueTransfersAreFine};
@@ -46,7 +46,7 @@ pub fn starting()
 {}
 
 /// Where nothing is left to do, what floats is let go.
-pub fn settling()
+pub fn sink_first_floating()
     ensures fine { SettlingIsFine }
 {}
 
@@ -58,7 +58,7 @@ pub fn endings()
 {}
 
 /// Each request: a set is due, or an emission; a property is told, or an object released.
-pub fn carrying()
+pub fn request_step()
     ensures fine { RequestsAreFine }
 {}
 

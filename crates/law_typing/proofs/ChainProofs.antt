@@ -1,7 +1,7 @@
 -- The costs of a chain double with each link.
 use Rattle.std.proofs.Common.{◌≡◌, refl, ap, ℕ, zero, suc, ◌+◌, ◌*◌, ◌<◌, [], ◌∷◌, Some, slice_get, arith}
 use Rattle.std.proofs.Math.Nat.{pow-suc}
-use Rattle.law_typing.specs.Rules.Typing.{data_in, passing, two_numbers, two_passing, moving, reckoning, comparing, sameness, negating, combining, joining, converting, property_of, getting, changing_none, assigning, place_for, naming, adopting, arguments, emitting, program_named, connecting, on_handlers, attaching, methods_for, method_named, calling, entering, branching, branching_null, returning}
+use Rattle.law_typing.specs.Rules.Typing.{data_in, passing, two_numbers, two_passing, moving, reckoning, comparing, sameness, negating, combining, joining, converting, property_of, get_property, changing_none, set_property, place_for, look_up_object, adopting, arguments, emitting, program_named, connecting, on_handlers, attaching, methods_for, method_named, calling, entering, branching, branching_null, returning}
 use Rattle.law_typing.specs.Graph.Channels.{property}
 use Rattle.law_typing.specs.Graph.{Graph, graph}
 use Rattle.law_typing.specs.Graph.Tables.{entry, Tables}
@@ -50,19 +50,19 @@ abbrev three : Graph
 three = graph chain.definition
 
 three_handlers : (slot : ℕ) → slot < 3 → raised_of three (property 0 slot) ≡ Some (at_property slot (slot ∷ []))
-unfolding data_in passing two_numbers two_passing moving reckoning comparing sameness negating combining joining converting property_of getting changing_none assigning place_for naming adopting arguments emitting program_named connecting on_handlers attaching methods_for method_named calling entering branching branching_null returning
+unfolding data_in passing two_numbers two_passing moving reckoning comparing sameness negating combining joining converting property_of get_property changing_none set_property place_for look_up_object adopting arguments emitting program_named connecting on_handlers attaching methods_for method_named calling entering branching branching_null returning
 three_handlers zero h = refl
 three_handlers (suc zero) h = refl
 three_handlers (suc (suc zero)) h = refl
 three_handlers (suc (suc (suc n))) h = absurd (omega (arith, h))
 
 three_programs : (slot : ℕ) → slot < 3 → slice_get three.programs slot ≡ Some (sets_next slot)
-unfolding data_in passing two_numbers two_passing moving reckoning comparing sameness negating combining joining converting property_of getting changing_none assigning place_for naming adopting arguments emitting program_named connecting on_handlers attaching methods_for method_named calling entering branching branching_null returning
+unfolding data_in passing two_numbers two_passing moving reckoning comparing sameness negating combining joining converting property_of get_property changing_none set_property place_for look_up_object adopting arguments emitting program_named connecting on_handlers attaching methods_for method_named calling entering branching branching_null returning
 three_programs zero h = refl
 three_programs (suc zero) h = refl
 three_programs (suc (suc zero)) h = refl
 three_programs (suc (suc (suc n))) h = absurd (omega (arith, h))
 
 pub three_links : ThreeLinks
-unfolding data_in passing two_numbers two_passing moving reckoning comparing sameness negating combining joining converting property_of getting changing_none assigning place_for naming adopting arguments emitting program_named connecting on_handlers attaching methods_for method_named calling entering branching branching_null returning
+unfolding data_in passing two_numbers two_passing moving reckoning comparing sameness negating combining joining converting property_of get_property changing_none set_property place_for look_up_object adopting arguments emitting program_named connecting on_handlers attaching methods_for method_named calling entering branching branching_null returning
 three_links = record { handlers = three_handlers; last = refl; programs = three_programs; pairs = refl }

@@ -1,6 +1,6 @@
 -- The judgements compute.
 use Rattle.std.proofs.Common.{refl}
-use Rattle.law_typing.specs.Rules.Typing.{data_in, passing, two_numbers, two_passing, moving, reckoning, comparing, sameness, negating, combining, joining, converting, property_of, getting, changing_none, assigning, place_for, naming, adopting, arguments, emitting, program_named, connecting, on_handlers, attaching, methods_for, method_named, calling, entering, branching, branching_null, returning}
+use Rattle.law_typing.specs.Rules.Typing.{data_in, passing, two_numbers, two_passing, moving, reckoning, comparing, sameness, negating, combining, joining, converting, property_of, get_property, changing_none, set_property, place_for, look_up_object, adopting, arguments, emitting, program_named, connecting, on_handlers, attaching, methods_for, method_named, calling, entering, branching, branching_null, returning}
 use Rattle.law_typing.specs.Examples.SetConstructOnly as setconstructonly_case
 use Rattle.law_typing.specs.Examples.UnfitHandler as unfithandler_case
 use Rattle.law_typing.specs.Examples.UnfitBinding as unfitbinding_case
@@ -11,33 +11,33 @@ use Rattle.law_typing.specs.Examples.LabelCycle as labelcycle_case
 use Rattle.law_typing.specs.Examples.TooLarge as toolarge_case
 
 pub setconstructonly_holds : setconstructonly_case.Holds
-unfolding data_in passing two_numbers two_passing moving reckoning comparing sameness negating combining joining converting property_of getting changing_none assigning place_for naming adopting arguments emitting program_named connecting on_handlers attaching methods_for method_named calling entering branching branching_null returning
+unfolding data_in passing two_numbers two_passing moving reckoning comparing sameness negating combining joining converting property_of get_property changing_none set_property place_for look_up_object adopting arguments emitting program_named connecting on_handlers attaching methods_for method_named calling entering branching branching_null returning
 setconstructonly_holds = refl
 
 pub unfithandler_holds : unfithandler_case.Holds
-unfolding data_in passing two_numbers two_passing moving reckoning comparing sameness negating combining joining converting property_of getting changing_none assigning place_for naming adopting arguments emitting program_named connecting on_handlers attaching methods_for method_named calling entering branching branching_null returning
+unfolding data_in passing two_numbers two_passing moving reckoning comparing sameness negating combining joining converting property_of get_property changing_none set_property place_for look_up_object adopting arguments emitting program_named connecting on_handlers attaching methods_for method_named calling entering branching branching_null returning
 unfithandler_holds = refl
 
 pub unfitbinding_holds : unfitbinding_case.Holds
-unfolding data_in passing two_numbers two_passing moving reckoning comparing sameness negating combining joining converting property_of getting changing_none assigning place_for naming adopting arguments emitting program_named connecting on_handlers attaching methods_for method_named calling entering branching branching_null returning
+unfolding data_in passing two_numbers two_passing moving reckoning comparing sameness negating combining joining converting property_of get_property changing_none set_property place_for look_up_object adopting arguments emitting program_named connecting on_handlers attaching methods_for method_named calling entering branching branching_null returning
 unfitbinding_holds = refl
 
 pub secondpair_holds : secondpair_case.Holds
-unfolding data_in passing two_numbers two_passing moving reckoning comparing sameness negating combining joining converting property_of getting changing_none assigning place_for naming adopting arguments emitting program_named connecting on_handlers attaching methods_for method_named calling entering branching branching_null returning
+unfolding data_in passing two_numbers two_passing moving reckoning comparing sameness negating combining joining converting property_of get_property changing_none set_property place_for look_up_object adopting arguments emitting program_named connecting on_handlers attaching methods_for method_named calling entering branching branching_null returning
 secondpair_holds = refl
 
 pub frozenpair_holds : frozenpair_case.Holds
-unfolding data_in passing two_numbers two_passing moving reckoning comparing sameness negating combining joining converting property_of getting changing_none assigning place_for naming adopting arguments emitting program_named connecting on_handlers attaching methods_for method_named calling entering branching branching_null returning
+unfolding data_in passing two_numbers two_passing moving reckoning comparing sameness negating combining joining converting property_of get_property changing_none set_property place_for look_up_object adopting arguments emitting program_named connecting on_handlers attaching methods_for method_named calling entering branching branching_null returning
 frozenpair_holds = refl
 
 pub openfreeze_holds : openfreeze_case.Holds
-unfolding data_in passing two_numbers two_passing moving reckoning comparing sameness negating combining joining converting property_of getting changing_none assigning place_for naming adopting arguments emitting program_named connecting on_handlers attaching methods_for method_named calling entering branching branching_null returning
+unfolding data_in passing two_numbers two_passing moving reckoning comparing sameness negating combining joining converting property_of get_property changing_none set_property place_for look_up_object adopting arguments emitting program_named connecting on_handlers attaching methods_for method_named calling entering branching branching_null returning
 openfreeze_holds = refl
 
 pub labelcycle_holds : labelcycle_case.Holds
-unfolding data_in passing two_numbers two_passing moving reckoning comparing sameness negating combining joining converting property_of getting changing_none assigning place_for naming adopting arguments emitting program_named connecting on_handlers attaching methods_for method_named calling entering branching branching_null returning
+unfolding data_in passing two_numbers two_passing moving reckoning comparing sameness negating combining joining converting property_of get_property changing_none set_property place_for look_up_object adopting arguments emitting program_named connecting on_handlers attaching methods_for method_named calling entering branching branching_null returning
 labelcycle_holds = (refl, refl)
 
 pub toolarge_holds : toolarge_case.Holds
-unfolding data_in passing two_numbers two_passing moving reckoning comparing sameness negating combining joining converting property_of getting changing_none assigning place_for naming adopting arguments emitting program_named connecting on_handlers attaching methods_for method_named calling entering branching branching_null returning
+unfolding data_in passing two_numbers two_passing moving reckoning comparing sameness negating combining joining converting property_of get_property changing_none set_property place_for look_up_object adopting arguments emitting program_named connecting on_handlers attaching methods_for method_named calling entering branching branching_null returning
 toolarge_holds = refl

@@ -8,11 +8,11 @@ use Rattle.ui_machine.specs.Definition.Properties.{Spec}
 use Rattle.ui_machine.specs.Definition.{Definition}
 use Rattle.ui_machine.specs.Definition.Places.{Place}
 use Rattle.ui_machine.specs.State.Objects.{Object, Objects}
-use Rattle.ui_machine.specs.State.Config.{Held, built}
+use Rattle.ui_machine.specs.State.Config.{BuilderEntry, built}
 use Rattle.ui_machine.specs.State.Peers.{Peer}
 use Rattle.ui_machine.specs.Definition.Lookups.{spec_of}
 use Rattle.ui_machine.specs.State.Objects as heap
-use Rattle.law_typing.specs.Rules.Typing.{data_in, passing, two_numbers, two_passing, moving, reckoning, comparing, sameness, negating, combining, joining, converting, property_of, getting, changing_none, assigning, place_for, naming, adopting, arguments, emitting, program_named, connecting, on_handlers, attaching, methods_for, method_named, calling, entering, branching, branching_null, returning}
+use Rattle.law_typing.specs.Rules.Typing.{data_in, passing, two_numbers, two_passing, moving, reckoning, comparing, sameness, negating, combining, joining, converting, property_of, get_property, changing_none, set_property, place_for, look_up_object, adopting, arguments, emitting, program_named, connecting, on_handlers, attaching, methods_for, method_named, calling, entering, branching, branching_null, returning}
 use Rattle.law_typing.specs.Rules.Brackets.{is_empty}
 use Rattle.law_typing.specs.Graph.{Raised, graph, place_of_channel}
 use Rattle.law_typing.specs.Verdict.Accepted.{Each}
@@ -34,7 +34,7 @@ ValueIf d s v None = ⊤
 ValueIf d s v (Some spec) = ValueGood d s spec v
 
 -- what the builder has built of a place stands there
-abbrev HeldAt : Standing → (place : ℕ) → Held → Type 0
+abbrev HeldAt : Standing → (place : ℕ) → BuilderEntry → Type 0
 HeldAt s place (built id) = s id ≡ Some place
 HeldAt s place held = ⊤
 
@@ -70,17 +70,17 @@ first_run_held (suc n) id e = absurd (cc)
 
 first_run_channels : (id place : ℕ) → standing first_run_os id ≡ Some place →
     Each (λ (r : Raised). place_of_channel r.channel ≡ place → ChannelGood first_run.definition (costs_of first_run.definition) (depths_of first_run.definition) case.at_notification.agenda id case.at_notification.world.handlers r) (graph first_run.definition).raised
-unfolding data_in passing two_numbers two_passing moving reckoning comparing sameness negating combining joining converting property_of getting changing_none assigning place_for naming adopting arguments emitting program_named connecting on_handlers attaching methods_for method_named calling entering branching branching_null returning
+unfolding data_in passing two_numbers two_passing moving reckoning comparing sameness negating combining joining converting property_of get_property changing_none set_property place_for look_up_object adopting arguments emitting program_named connecting on_handlers attaching methods_for method_named calling entering branching branching_null returning
 first_run_channels zero place e = absurd (cc)
 first_run_channels (suc zero) place e = ((λ f. record { own = leb-true _ _ refl; connected = tt; own_shallow = tt; connected_shallow = tt }), tt)
 first_run_channels (suc (suc n)) place e = absurd (cc)
 
 first_run_queue : QueueGood first_run.definition (depths_of first_run.definition) 1 case.at_notification.agenda case.at_notification.counted 1 (case.box (case.int 5 ∷ []) 0 [])
-unfolding data_in passing two_numbers two_passing moving reckoning comparing sameness negating combining joining converting property_of getting changing_none assigning place_for naming adopting arguments emitting program_named connecting on_handlers attaching methods_for method_named calling entering branching branching_null returning
+unfolding data_in passing two_numbers two_passing moving reckoning comparing sameness negating combining joining converting property_of get_property changing_none set_property place_for look_up_object adopting arguments emitting program_named connecting on_handlers attaching methods_for method_named calling entering branching branching_null returning
 first_run_queue = record { count = refl; few = leb-true 0 1 refl; none = λ e. refl; deep = tt }
 
 pub first_run_good : Good first_run.definition (costs_of first_run.definition) (depths_of first_run.definition) 65 1 case.at_notification
-unfolding data_in passing two_numbers two_passing moving reckoning comparing sameness negating combining joining converting property_of getting changing_none assigning place_for naming adopting arguments emitting program_named connecting on_handlers attaching methods_for method_named calling entering branching branching_null returning
+unfolding data_in passing two_numbers two_passing moving reckoning comparing sameness negating combining joining converting property_of get_property changing_none set_property place_for look_up_object adopting arguments emitting program_named connecting on_handlers attaching methods_for method_named calling entering branching branching_null returning
 first_run_good = record {
   objects = λ id x e. (let o = first_run_only id x e in
       subst (λ i. ObjectGood first_run.definition case.at_notification.world (standing first_run_os) i x) (sym o.0)
@@ -128,13 +128,13 @@ freezes_held (suc n) id e = absurd (cc)
 
 freezes_channels : (id place : ℕ) → standing freezes_os id ≡ Some place →
     Each (λ (r : Raised). place_of_channel r.channel ≡ place → ChannelGood freezes.definition (costs_of freezes.definition) (depths_of freezes.definition) case.at_freeze.agenda id case.at_freeze.world.handlers r) (graph freezes.definition).raised
-unfolding data_in passing two_numbers two_passing moving reckoning comparing sameness negating combining joining converting property_of getting changing_none assigning place_for naming adopting arguments emitting program_named connecting on_handlers attaching methods_for method_named calling entering branching branching_null returning
+unfolding data_in passing two_numbers two_passing moving reckoning comparing sameness negating combining joining converting property_of get_property changing_none set_property place_for look_up_object adopting arguments emitting program_named connecting on_handlers attaching methods_for method_named calling entering branching branching_null returning
 freezes_channels zero place e = absurd (cc)
 freezes_channels (suc zero) place e = ((λ f. record { own = leb-true _ _ refl; connected = tt; own_shallow = tt; connected_shallow = tt }), ((λ f. record { own = leb-true _ _ refl; connected = tt; own_shallow = tt; connected_shallow = tt }), ((λ f. record { own = leb-true _ _ refl; connected = tt; own_shallow = (leb-true _ _ refl, tt); connected_shallow = tt }), tt)))
 freezes_channels (suc (suc n)) place e = absurd (cc)
 
 freezes_queue : QueueGood freezes.definition (depths_of freezes.definition) 3 case.at_freeze.agenda case.at_freeze.counted 1 (case.box (case.int 1 ∷ case.int 0 ∷ []) 1 (0 ∷ []))
-unfolding data_in passing two_numbers two_passing moving reckoning comparing sameness negating combining joining converting property_of getting changing_none assigning place_for naming adopting arguments emitting program_named connecting on_handlers attaching methods_for method_named calling entering branching branching_null returning
+unfolding data_in passing two_numbers two_passing moving reckoning comparing sameness negating combining joining converting property_of get_property changing_none set_property place_for look_up_object adopting arguments emitting program_named connecting on_handlers attaching methods_for method_named calling entering branching branching_null returning
 freezes_queue = record { count = refl; few = leb-true 1 5 refl; none = λ e. absurd (cc); deep = (leb-true 3 3 refl, tt) }
 
 registers_fit : RegistersFit freezes.definition (standing freezes_os) (kinds.some 2 ∷ kinds.plain (kinds.whole kinds.int) ∷ []) case.frame.registers
@@ -143,7 +143,7 @@ registers_fit (suc zero) = refl
 registers_fit (suc (suc n)) = refl
 
 pub freezes_good : Good freezes.definition (costs_of freezes.definition) (depths_of freezes.definition) 77 3 case.at_freeze
-unfolding data_in passing two_numbers two_passing moving reckoning comparing sameness negating combining joining converting property_of getting changing_none assigning place_for naming adopting arguments emitting program_named connecting on_handlers attaching methods_for method_named calling entering branching branching_null returning
+unfolding data_in passing two_numbers two_passing moving reckoning comparing sameness negating combining joining converting property_of get_property changing_none set_property place_for look_up_object adopting arguments emitting program_named connecting on_handlers attaching methods_for method_named calling entering branching branching_null returning
 freezes_good = record {
   objects = λ id x e. (let o = freezes_only id x e in
       subst (λ i. ObjectGood freezes.definition case.at_freeze.world (standing freezes_os) i x) (sym o.0)

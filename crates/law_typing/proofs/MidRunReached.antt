@@ -4,7 +4,7 @@ use Rattle.std.proofs.Common.{◌≡◌, refl}
 use Rattle.std.specs.Prelude.{[], None, Ok}
 use Rattle.ui_machine.specs.Definition.Places.{value}
 use Rattle.ui_machine.specs.State.Tasks as config
-use Rattle.ui_machine.specs.Rules.Construction.{making, making_set, constructed, thawing_made}
+use Rattle.ui_machine.specs.Rules.Construction.{making, apply_construct_property, constructed, thawing_made}
 use Rattle.ui_machine.specs.Rules.Build.{set_forward, held_data, building_child, building_forward, building_binding, building_handler, building_object}
 use Rattle.ui_machine.specs.Instructions.Peers.{with_method, left_with, called, uncalled, calling}
 use Rattle.ui_machine.specs.Rules.Connections.{detail_at, detail_in}
@@ -13,8 +13,8 @@ use Rattle.ui_machine.specs.Rules.EmissionPlan.{notifying, signal_at, beginning_
 use Rattle.ui_machine.specs.Rules.Children.{adopted}
 use Rattle.ui_machine.specs.Instructions.Registers.{moving, values_in, truth_in, text_in, whole_in, operand_in, data_in, written_to}
 use Rattle.ui_machine.specs.Instructions.Arithmetic.{reckoning, comparing, sameness, negating, conjunction, disjunction, joining, converting}
-use Rattle.ui_machine.specs.Instructions.Properties.{slot_at, getting, set_from, assigning, then_goes_on, telling}
-use Rattle.ui_machine.specs.Instructions.Objects.{naming, made_new, creating, sinking, orphaning, disposing, adopting, freezing, unfreezing}
+use Rattle.ui_machine.specs.Instructions.Properties.{slot_at, get_property, set_from, set_property, then_goes_on, notify_from_program}
+use Rattle.ui_machine.specs.Instructions.Objects.{look_up_object, made_new, creating, sinking, orphaning, disposing, adopting, freezing, thaw_notify}
 use Rattle.ui_machine.specs.Instructions.Signals.{signal_in, signal_to_emit, emitting, connecting, on_handlers}
 use Rattle.ui_machine.specs.Instructions.Sources.{attaching, removing}
 use Rattle.ui_machine.specs.Instructions.Jumps.{jumping, branching, branching_null, block_in, given_by, returned, returning}
@@ -23,7 +23,7 @@ use Rattle.ui_machine.specs.Rules.Programs.{beginning_program, program_before}
 use Rattle.ui_machine.specs.Rules.Accumulation.{down_to_emission, down_to_source, received_by, ending, collecting, resulting}
 use Rattle.ui_machine.specs.Instructions.{in_front, running}
 use Rattle.ui_machine.specs.Rules.Sets.{spec_at, raising, written, setting}
-use Rattle.ui_machine.specs.Rules.Events.{set_given, carrying_set, carrying_get, given_values, carrying_emit, carrying_release}
+use Rattle.ui_machine.specs.Rules.Events.{set_given, set_from_event, get_from_event, given_values, emit_from_event, release_from_event}
 use Rattle.ui_machine.specs.Steps.{finalising, left}
 use Rattle.ui_machine.specs.Rules.MainLoop.{sourcing}
 use Rattle.ui_machine.specs.Rules.Transfers.{carried}
@@ -33,9 +33,9 @@ use Rattle.law_typing.specs.Examples.Freezes as freezes
 use Rattle.law_typing.specs.Laws.MidRun.{after, int, box_built, at_notification, freezer_built, at_freeze}
 
 pub notification_reached : after 2 first_run.definition (of_request box_built (config.set 0 0 (value (int 5)))) ≡ Ok at_notification
-unfolding digits making making_set set_forward constructed thawing_made held_data building_child building_forward building_binding building_handler with_method left_with called uncalled detail_at detail_in closing finalised notifying signal_at beginning_emission adopted moving reckoning comparing sameness negating conjunction disjunction joining converting slot_at getting set_from assigning then_goes_on telling naming made_new creating sinking orphaning disposing adopting freezing unfreezing signal_in signal_to_emit emitting connecting on_handlers attaching removing calling jumping branching branching_null asked changed with_value beginning_program program_before values_in truth_in text_in whole_in operand_in data_in written_to down_to_emission down_to_source received_by ending block_in given_by returned returning in_front running spec_at raising written setting building_object set_given finalising carrying_set carrying_get given_values carrying_emit carrying_release sourcing left carried collecting resulting
+unfolding digits making apply_construct_property set_forward constructed thawing_made held_data building_child building_forward building_binding building_handler with_method left_with called uncalled detail_at detail_in closing finalised notifying signal_at beginning_emission adopted moving reckoning comparing sameness negating conjunction disjunction joining converting slot_at get_property set_from set_property then_goes_on notify_from_program look_up_object made_new creating sinking orphaning disposing adopting freezing thaw_notify signal_in signal_to_emit emitting connecting on_handlers attaching removing calling jumping branching branching_null asked changed with_value beginning_program program_before values_in truth_in text_in whole_in operand_in data_in written_to down_to_emission down_to_source received_by ending block_in given_by returned returning in_front running spec_at raising written setting building_object set_given finalising set_from_event get_from_event given_values emit_from_event release_from_event sourcing left carried collecting resulting
 notification_reached = refl
 
 pub freeze_reached : after 7 freezes.definition (of_request freezer_built (config.emit 0 1 [] None)) ≡ Ok at_freeze
-unfolding digits making making_set set_forward constructed thawing_made held_data building_child building_forward building_binding building_handler with_method left_with called uncalled detail_at detail_in closing finalised notifying signal_at beginning_emission adopted moving reckoning comparing sameness negating conjunction disjunction joining converting slot_at getting set_from assigning then_goes_on telling naming made_new creating sinking orphaning disposing adopting freezing unfreezing signal_in signal_to_emit emitting connecting on_handlers attaching removing calling jumping branching branching_null asked changed with_value beginning_program program_before values_in truth_in text_in whole_in operand_in data_in written_to down_to_emission down_to_source received_by ending block_in given_by returned returning in_front running spec_at raising written setting building_object set_given finalising carrying_set carrying_get given_values carrying_emit carrying_release sourcing left carried collecting resulting
+unfolding digits making apply_construct_property set_forward constructed thawing_made held_data building_child building_forward building_binding building_handler with_method left_with called uncalled detail_at detail_in closing finalised notifying signal_at beginning_emission adopted moving reckoning comparing sameness negating conjunction disjunction joining converting slot_at get_property set_from set_property then_goes_on notify_from_program look_up_object made_new creating sinking orphaning disposing adopting freezing thaw_notify signal_in signal_to_emit emitting connecting on_handlers attaching removing calling jumping branching branching_null asked changed with_value beginning_program program_before values_in truth_in text_in whole_in operand_in data_in written_to down_to_emission down_to_source received_by ending block_in given_by returned returning in_front running spec_at raising written setting building_object set_given finalising set_from_event get_from_event given_values emit_from_event release_from_event sourcing left carried collecting resulting
 freeze_reached = refl

@@ -13,7 +13,7 @@ use Rattle.ui_machine.specs.Rules.Validation.{is_valid}
 use Rattle.ui_machine.specs.Definition.Properties.{Spec, is_writable, is_construct, is_construct_only}
 use Rattle.ui_machine.specs.Definition.{Definition, Class}
 use Rattle.ui_machine.specs.Definition.Signals.{Signal, Shape, Method}
-use Rattle.ui_machine.specs.Definition.Programs.{Instruction, Block, Program}
+use Rattle.ui_machine.specs.Definition.Programs.{Instruction, Block, Program, passes_in}
 use Rattle.ui_machine.specs.Definition.Places.{Given, value, named, GivenProperty, Attached, Place, Bind}
 use Rattle.ui_machine.specs.Definition.Programs as words
 use Rattle.ui_machine.specs.Definition.Lookups.{type_of, spec_of, place_at}
@@ -130,7 +130,7 @@ is_within registers (Some r) = nat_lt r registers
 abbrev pub is_block_read : Definition → Program → ℕ → Block → Bool
 is_block_read d p number b =
     nat_eq (length b.entry) p.registers
-    && (nat_eq b.passes 1
+    && (nat_eq (passes_in b) 1
     && (is_ended b.code
     && (list_all (is_constant_fit d) b.code
     && (list_all (λ i. is_within p.registers (written i)) b.code

@@ -3,7 +3,7 @@ use Rattle.std.proofs.Common.{◌≡◌, refl, subst, ℕ, zero, suc, true, List
 use Rattle.std.specs.Prelude.{⊤}
 use Rattle.ui_machine.specs.Definition.{Definition}
 use Rattle.ui_machine.specs.Definition.Places.{Place}
-use Rattle.law_typing.specs.Rules.Typing.{data_in, passing, two_numbers, two_passing, moving, reckoning, comparing, sameness, negating, combining, joining, converting, property_of, getting, changing_none, assigning, place_for, naming, adopting, arguments, emitting, program_named, connecting, on_handlers, attaching, methods_for, method_named, calling, entering, branching, branching_null, returning}
+use Rattle.law_typing.specs.Rules.Typing.{data_in, passing, two_numbers, two_passing, moving, reckoning, comparing, sameness, negating, combining, joining, converting, property_of, get_property, changing_none, set_property, place_for, look_up_object, adopting, arguments, emitting, program_named, connecting, on_handlers, attaching, methods_for, method_named, calling, entering, branching, branching_null, returning}
 use Rattle.law_typing.specs.Rules.Brackets.{is_empty}
 use Rattle.law_typing.specs.Verdict.Accepted.{Each}
 use Rattle.law_typing.specs.Examples.LastReference as last_reference
@@ -45,7 +45,7 @@ tally_ready (suc zero) p e = subst TallyReady e (
 tally_ready (suc (suc n)) p e = absurd (cc)
 
 pub worked_begin : WorkedBegin
-unfolding data_in passing two_numbers two_passing moving reckoning comparing sameness negating combining joining converting property_of getting changing_none assigning place_for naming adopting arguments emitting program_named connecting on_handlers attaching methods_for method_named calling entering branching branching_null returning
+unfolding data_in passing two_numbers two_passing moving reckoning comparing sameness negating combining joining converting property_of get_property changing_none set_property place_for look_up_object adopting arguments emitting program_named connecting on_handlers attaching methods_for method_named calling entering branching branching_null returning
 worked_begin = record {
   first_run = plain _ 64 1 refl (record { cheap = refl; few = refl; shallow = refl });
   nothing_to_do = plain _ 64 0 refl (record { cheap = refl; few = refl; shallow = refl });

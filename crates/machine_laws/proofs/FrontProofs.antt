@@ -22,8 +22,8 @@ use Rattle.ui_machine.specs.Output.Text.{text_of_line}
 use Rattle.ui_machine.specs.State.Tasks as config
 use Rattle.ui_machine.specs.State.Objects.{Object, Objects, living}
 use Rattle.ui_machine.specs.State.Peers.{Peer, Reply, no_peer, closed_peer}
-use Rattle.ui_machine.specs.State.Config.{World, Config, Held, Started, said, with_objects, with_held, sunk, Left, with_peer_state}
-use Rattle.ui_machine.specs.State.Tasks.{Setting, Notifying, Beginning, Emitting, Transferring, Unsetting, Thawing, Running, Answering, Calling, Constructing, Building, Carrying, Due, Task, Emission, PlanEntry, class_handler, handler, Frame, Call, Making, sets, runs, thaws, Item, makes, adopts, forwards, binds, connects, Request}
+use Rattle.ui_machine.specs.State.Config.{World, Config, BuilderEntry, Started, said, with_objects, with_builder_entry, sunk, Left, with_peer_state}
+use Rattle.ui_machine.specs.State.Tasks.{Setting, Notifying, Beginning, Emitting, Transferring, Unsetting, Thawing, Running, Answering, Calling, Constructing, Building, Handling, Due, Task, Emission, PlanEntry, class_handler, handler, Frame, Call, ConstructStep, sets, runs, thaws, Item, makes, adopts, forwards, binds, connects, Request}
 use Rattle.ui_machine.specs.State.Bindings.{Binding, binding_of}
 use Rattle.ui_machine.specs.State.Handlers.{Handler, handler_of}
 use Rattle.ui_machine.specs.Outcome.{After, Answer, ◌>>=◌, only_if}
@@ -39,17 +39,17 @@ use Rattle.ui_machine.specs.Instructions.Registers.{tells, operand_in, data_in, 
 use Rattle.ui_machine.specs.Rules.MainLoop.{kept_source, sourcing}
 use Rattle.ui_machine.specs.Instructions.Peers.{call_line, replied, with_method, left_with, called, uncalled, calling_on, calling}
 use Rattle.ui_machine.specs.Rules.Connections.{detail_in, is_too_late, has_room_for_handler, with_handler, connected, disconnected, blocked, unblocked, with_handlers_on, Connection}
-use Rattle.ui_machine.specs.Rules.Construction.{given_value, with_object, making, making_set, constructed, thawing_made, constructing}
+use Rattle.ui_machine.specs.Rules.Construction.{given_value, with_object, making, apply_construct_property, constructed, thawing_made, constructing}
 use Rattle.ui_machine.specs.Rules.Build.{held_data, building_child, set_forward, building_forward, building_binding, building_handler, with_signal, building_object, building}
 use Rattle.ui_machine.specs.Instructions.Signals.{Emit, signal_in, signal_to_emit, emitting, connecting, on_handlers, disconnecting, blocking, unblocking, unbinding}
-use Rattle.ui_machine.specs.Instructions.Objects.{disposed_once, naming, made_new, creating, sinking, orphaning, disposing, adopting, freezing, unfreezing}
+use Rattle.ui_machine.specs.Instructions.Objects.{disposed_once, look_up_object, made_new, creating, sinking, orphaning, disposing, adopting, freezing, thaw_notify}
 use Rattle.ui_machine.specs.Instructions.Arithmetic.{most_bytes, gives_from, within_bytes, reckoning, comparing, sameness, negating, conjunction, disjunction, joining, converting}
 use Rattle.ui_machine.specs.Instructions.Sources.{with_source, attached_to, attaching, removing, Attach}
-use Rattle.ui_machine.specs.Instructions.Properties.{slot_at, getting, set_from, assigning, then_goes_on, telling}
+use Rattle.ui_machine.specs.Instructions.Properties.{slot_at, get_property, set_from, set_property, then_goes_on, notify_from_program}
 use Rattle.ui_machine.specs.Instructions.Jumps.{jumping, branching, branching_null, returned, returning}
-use Rattle.ui_machine.specs.Instructions.{in_front, instructed, running}
-use Rattle.ui_machine.specs.Rules.Events.{with_result, set_given, carrying_set, carrying_get, given_values, carrying_emit, carrying_release, carrying}
-use Rattle.ui_machine.specs.Steps.{most_steps, uncounted, counted, counted_left, left, settling, act, finalising, first_of, asked_first, asked_after}
+use Rattle.ui_machine.specs.Instructions.{in_front, instruction_step, running}
+use Rattle.ui_machine.specs.Rules.Events.{with_result, set_given, set_from_event, get_from_event, given_values, emit_from_event, release_from_event, request_step}
+use Rattle.ui_machine.specs.Steps.{most_steps, uncounted, counted, counted_left, left, sink_first_floating, act, finalising, first_of, asked_first, asked_after}
 use Rattle.ui_machine.specs.Rules.NotifyQueue.{thawing}
 use Rattle.machine_laws.specs.FrontLaws.{fronted, fronted_at, mapped, StepAppends, QuestionStays}
 
@@ -257,30 +257,30 @@ module _ (front : List (List ℕ)) (d : Definition) where
   unfolding slot_at
   finds_slot w id name = refl
 
-  gets : (w : World) (f : Frame) (to object : ℕ) (name : List ℕ) → getting d (fronted front w) f to object name ≡ mapped started (getting d w f to object name)
-  unfolding getting
-  gets w f to object name = simp (getting, parts, writes_register, reads_operand, reads_data, finds_slot)
+  gets : (w : World) (f : Frame) (to object : ℕ) (name : List ℕ) → get_property d (fronted front w) f to object name ≡ mapped started (get_property d w f to object name)
+  unfolding get_property
+  gets w f to object name = simp (get_property, parts, writes_register, reads_operand, reads_data, finds_slot)
 
   sets_from : (w : World) (f : Frame) (id slot from : ℕ) → set_from (fronted front w) f id slot from ≡ mapped started (set_from w f id slot from)
   unfolding set_from
   sets_from w f id slot from = simp (set_from, parts, writes_register, reads_operand, reads_data)
 
-  assigns : (w : World) (f : Frame) (object : ℕ) (name : List ℕ) (from : ℕ) → assigning d (fronted front w) f object name from ≡ mapped started (assigning d w f object name from)
-  unfolding assigning
-  assigns w f object name from = simp (assigning, parts, writes_register, reads_operand, reads_data, finds_slot, sets_from)
+  assigns : (w : World) (f : Frame) (object : ℕ) (name : List ℕ) (from : ℕ) → set_property d (fronted front w) f object name from ≡ mapped started (set_property d w f object name from)
+  unfolding set_property
+  assigns w f object name from = simp (set_property, parts, writes_register, reads_operand, reads_data, finds_slot, sets_from)
 
   goes_on_after : (f : Frame) (a : Answer Started) → then_goes_on f (mapped started a) ≡ mapped started (then_goes_on f a)
   unfolding then_goes_on
   goes_on_after f (Ok s) = refl
   goes_on_after f (Err arm) = refl
 
-  tells_of : (w : World) (f : Frame) (object : ℕ) (name : List ℕ) → telling d (fronted front w) f object name ≡ mapped started (telling d w f object name)
-  unfolding telling
-  tells_of w f object name = simp (telling, parts, writes_register, reads_operand, reads_data, finds_slot, raises, goes_on_after)
+  tells_of : (w : World) (f : Frame) (object : ℕ) (name : List ℕ) → notify_from_program d (fronted front w) f object name ≡ mapped started (notify_from_program d w f object name)
+  unfolding notify_from_program
+  tells_of w f object name = simp (notify_from_program, parts, writes_register, reads_operand, reads_data, finds_slot, raises, goes_on_after)
 
-  names : (w : World) (f : Frame) (to : ℕ) (id : List ℕ) → naming d (fronted front w) f to id ≡ mapped started (naming d w f to id)
-  unfolding naming
-  names w f to id = simp (naming, parts, writes_register, reads_operand, reads_data)
+  names : (w : World) (f : Frame) (to : ℕ) (id : List ℕ) → look_up_object d (fronted front w) f to id ≡ mapped started (look_up_object d w f to id)
+  unfolding look_up_object
+  names w f to id = simp (look_up_object, parts, writes_register, reads_operand, reads_data)
 
   -- ** constructions
 
@@ -322,9 +322,9 @@ module _ (front : List (List ℕ)) (d : Definition) where
   unfolding freezing
   freezes w f object = simp (freezing, parts, writes_register, reads_operand, reads_data)
 
-  unfreezes : (w : World) (f : Frame) (object : ℕ) → unfreezing (fronted front w) f object ≡ mapped started (unfreezing w f object)
-  unfolding unfreezing
-  unfreezes w f object = simp (unfreezing, parts, writes_register, reads_operand, reads_data)
+  unfreezes : (w : World) (f : Frame) (object : ℕ) → thaw_notify (fronted front w) f object ≡ mapped started (thaw_notify w f object)
+  unfolding thaw_notify
+  unfreezes w f object = simp (thaw_notify, parts, writes_register, reads_operand, reads_data)
 
   -- ** signals, sources and peers
 
@@ -456,7 +456,7 @@ module _ (front : List (List ℕ)) (d : Definition) where
   begins : (w : World) (rest : List Task) (a b : Answer Started) → a ≡ mapped started b → in_front rest a ≡ mapped remaining (in_front rest b)
   begins w rest a b same = ap (in_front rest) same ∙ puts_in_front rest b
 
-  instructs_all : (w : World) (rest : List Task) (f : Frame) (i : Instruction) → instructed d (fronted front w) rest f i ≡ mapped remaining (instructed d w rest f i)
+  instructs_all : (w : World) (rest : List Task) (f : Frame) (i : Instruction) → instruction_step d (fronted front w) rest f i ≡ mapped remaining (instruction_step d w rest f i)
   instructs_all w rest f (words.const to kind v) = begins w rest (constant (fronted front w) f to v) (constant w f to v) (writes_register w to (Some v) f)
   instructs_all w rest f (words.move to from) = begins w rest (moving (fronted front w) f to from) (moving w f to from) (moves w f to from)
   instructs_all w rest f (words.clear to) = begins w rest (clearing (fronted front w) f to) (clearing w f to) (writes_register w to None f)
@@ -468,18 +468,18 @@ module _ (front : List (List ℕ)) (d : Definition) where
   instructs_all w rest f (words.either to a b) = begins w rest (disjunction (fronted front w) f to a b) (disjunction w f to a b) (joins_either w f to a b)
   instructs_all w rest f (words.join to a b) = begins w rest (joining d (fronted front w) f to a b) (joining d w f to a b) (joins w f to a b)
   instructs_all w rest f (words.convert to a kind) = begins w rest (converting d (fronted front w) f to a kind) (converting d w f to a kind) (converts w f to a kind)
-  instructs_all w rest f (words.get to object name) = begins w rest (getting d (fronted front w) f to object name) (getting d w f to object name) (gets w f to object name)
-  instructs_all w rest f (words.set object name from) = begins w rest (assigning d (fronted front w) f object name from) (assigning d w f object name from) (assigns w f object name from)
-  instructs_all w rest f (words.object to id) = begins w rest (naming d (fronted front w) f to id) (naming d w f to id) (names w f to id)
+  instructs_all w rest f (words.get to object name) = begins w rest (get_property d (fronted front w) f to object name) (get_property d w f to object name) (gets w f to object name)
+  instructs_all w rest f (words.set object name from) = begins w rest (set_property d (fronted front w) f object name from) (set_property d w f object name from) (assigns w f object name from)
+  instructs_all w rest f (words.object to id) = begins w rest (look_up_object d (fronted front w) f to id) (look_up_object d w f to id) (names w f to id)
   instructs_all w rest f (words.new to id) = begins w rest (creating d (fronted front w) rest f to id) (creating d w rest f to id) (creates w rest f to id)
   instructs_all w rest f (words.sink object) = begins w rest (sinking (fronted front w) f object) (sinking w f object) (sinks w f object)
   instructs_all w rest f (words.orphan object) = begins w rest (orphaning d (fronted front w) f object) (orphaning d w f object) (orphans_of w f object)
   instructs_all w rest f (words.dispose object) = begins w rest (disposing d (fronted front w) f object) (disposing d w f object) (disposes_of w f object)
   instructs_all w rest f (words.adopt to parent child) = begins w rest (adopting d (fronted front w) f to parent child) (adopting d w f to parent child) (adopts_of w f to parent child)
   instructs_all w rest f (words.freeze object) = begins w rest (freezing (fronted front w) f object) (freezing w f object) (freezes w f object)
-  instructs_all w rest f (words.thaw object) = begins w rest (unfreezing (fronted front w) f object) (unfreezing w f object) (unfreezes w f object)
+  instructs_all w rest f (words.thaw object) = begins w rest (thaw_notify (fronted front w) f object) (thaw_notify w f object) (unfreezes w f object)
   instructs_all w rest f (words.emit into object name detail args) = begins w rest (emitting d (fronted front w) f object (record { into = into; signal = name; detail = detail; args = args })) (emitting d w f object (record { into = into; signal = name; detail = detail; args = args })) (emits w f object (record { into = into; signal = name; detail = detail; args = args }))
-  instructs_all w rest f (words.notify object name) = begins w rest (telling d (fronted front w) f object name) (telling d w f object name) (tells_of w f object name)
+  instructs_all w rest f (words.notify object name) = begins w rest (notify_from_program d (fronted front w) f object name) (notify_from_program d w f object name) (tells_of w f object name)
   instructs_all w rest f (words.connect to object c) = begins w rest (connecting d (fronted front w) rest f to object c) (connecting d w rest f to object c) (connects_of w rest f to object c)
   instructs_all w rest f (words.disconnect object program) = begins w rest (disconnecting d (fronted front w) f object program) (disconnecting d w f object program) (disconnects w f object program)
   instructs_all w rest f (words.block object program) = begins w rest (blocking d (fronted front w) f object program) (blocking d w f object program) (blocks_of w f object program)
@@ -536,20 +536,20 @@ module _ (front : List (List ℕ)) (d : Definition) where
 
   -- ** constructions and the build
 
-  makes_set : (w : World) (id slot : ℕ) (v : Value) (tasks : List Task) → making_set d (fronted front w) id slot v tasks ≡ mapped started (making_set d w id slot v tasks)
-  unfolding making_set
-  makes_set w id slot v tasks = simp (making_set, parts)
+  makes_set : (w : World) (id slot : ℕ) (v : Value) (tasks : List Task) → apply_construct_property d (fronted front w) id slot v tasks ≡ mapped started (apply_construct_property d w id slot v tasks)
+  unfolding apply_construct_property
+  makes_set w id slot v tasks = simp (apply_construct_property, parts)
 
   is_constructed : (w : World) (id : ℕ) (held : Bool) → constructed (fronted front w) id held ≡ mapped started (constructed w id held)
   unfolding constructed
   is_constructed w id false = refl
   is_constructed w id true = simp (constructed, parts)
 
-  thaws_made : (w : World) (id : ℕ) (steps : List Making) (held : Bool) → thawing_made (fronted front w) id steps held ≡ mapped started (thawing_made w id steps held)
+  thaws_made : (w : World) (id : ℕ) (steps : List ConstructStep) (held : Bool) → thawing_made (fronted front w) id steps held ≡ mapped started (thawing_made w id steps held)
   unfolding thawing_made
   thaws_made w id steps held = simp (thawing_made, parts)
 
-  constructs : (w : World) (id : ℕ) (steps : List Making) (held : Bool) → constructing d (fronted front w) id steps held ≡ mapped started (constructing d w id steps held)
+  constructs : (w : World) (id : ℕ) (steps : List ConstructStep) (held : Bool) → constructing d (fronted front w) id steps held ≡ mapped started (constructing d w id steps held)
   constructs w id [] held = is_constructed w id held
   constructs w id (sets slot v ∷ steps) held = makes_set w id slot v (Constructing id steps held ∷ [])
   constructs w id (runs program ∷ steps) held = runs_before w program (values.object (Some id) ∷ []) (Constructing id steps held ∷ [])
@@ -614,29 +614,29 @@ module _ (front : List (List ℕ)) (d : Definition) where
   unfolding set_given
   sets_given w id slot given = simp (set_given, parts, finds_given)
 
-  carries_set : (w : World) (place slot : ℕ) (given : Given) → carrying_set d (fronted front w) place slot given ≡ mapped started (carrying_set d w place slot given)
-  unfolding carrying_set
-  carries_set w place slot given = simp (carrying_set, parts, sets_given)
+  carries_set : (w : World) (place slot : ℕ) (given : Given) → set_from_event d (fronted front w) place slot given ≡ mapped started (set_from_event d w place slot given)
+  unfolding set_from_event
+  carries_set w place slot given = simp (set_from_event, parts, sets_given)
 
   says_answer : (w : World) (line : Line) (v : Value) → with_result (said d (fronted front w) line) v ≡ fronted front (with_result (said d w line) v)
   says_answer w line v = ap (λ x. with_result x v) (said_in_front w line)
 
-  says_held : (w : World) (line : Line) (place : ℕ) (held : Held) → with_held (said d (fronted front w) line) place held ≡ fronted front (with_held (said d w line) place held)
-  says_held w line place held = ap (λ x. with_held x place held) (said_in_front w line)
+  says_held : (w : World) (line : Line) (place : ℕ) (held : BuilderEntry) → with_builder_entry (said d (fronted front w) line) place held ≡ fronted front (with_builder_entry (said d w line) place held)
+  says_held w line place held = ap (λ x. with_builder_entry x place held) (said_in_front w line)
 
-  carries_get : (w : World) (place slot : ℕ) → carrying_get d (fronted front w) place slot ≡ mapped started (carrying_get d w place slot)
-  unfolding carrying_get
-  carries_get w place slot = simp (carrying_get, mapped_then, mapped_if, says_answer)
+  carries_get : (w : World) (place slot : ℕ) → get_from_event d (fronted front w) place slot ≡ mapped started (get_from_event d w place slot)
+  unfolding get_from_event
+  carries_get w place slot = simp (get_from_event, mapped_then, mapped_if, says_answer)
 
-  carries_emit : (w : World) (place signal : ℕ) (args : List Given) (detail : Option (List ℕ)) → carrying_emit d (fronted front w) place signal args detail ≡ mapped started (carrying_emit d w place signal args detail)
-  unfolding carrying_emit
-  carries_emit w place signal args detail = simp (carrying_emit, parts, finds_detail, finds_givens)
+  carries_emit : (w : World) (place signal : ℕ) (args : List Given) (detail : Option (List ℕ)) → emit_from_event d (fronted front w) place signal args detail ≡ mapped started (emit_from_event d w place signal args detail)
+  unfolding emit_from_event
+  carries_emit w place signal args detail = simp (emit_from_event, parts, finds_detail, finds_givens)
 
-  carries_release : (w : World) (place : ℕ) → carrying_release d (fronted front w) place ≡ mapped started (carrying_release d w place)
-  unfolding carrying_release
-  carries_release w place = simp (carrying_release, mapped_then, says_held)
+  carries_release : (w : World) (place : ℕ) → release_from_event d (fronted front w) place ≡ mapped started (release_from_event d w place)
+  unfolding release_from_event
+  carries_release w place = simp (release_from_event, mapped_then, says_held)
 
-  carries_request : (w : World) (r : Request) → carrying d (fronted front w) r ≡ mapped started (carrying d w r)
+  carries_request : (w : World) (r : Request) → request_step d (fronted front w) r ≡ mapped started (request_step d w r)
   carries_request w (config.set place slot given) = carries_set w place slot given
   carries_request w (config.get place slot) = carries_get w place slot
   carries_request w (config.emit place signal args detail) = carries_emit w place signal args detail
@@ -671,7 +671,7 @@ module _ (front : List (List ℕ)) (d : Definition) where
       ap (only_if (nat_lt n most_steps) arms.Steps) (leaves_agenda (suc n) a b same)
       ∙ sym (mapped_if (fronted_at front) (nat_lt n most_steps) arms.Steps (left (suc n) b))
 
-  settles_floating : (w : World) (ids : List ℕ) → settling (fronted front w) ids ≡ fronted front (settling w ids)
+  settles_floating : (w : World) (ids : List ℕ) → sink_first_floating (fronted front w) ids ≡ fronted front (sink_first_floating w ids)
   settles_floating w [] = refl
   settles_floating w (id ∷ ids) = refl
 
@@ -694,7 +694,7 @@ module _ (front : List (List ℕ)) (d : Definition) where
   acts w reply (Calling c ∷ rest) n = leaves_agenda n (calling_on d (fronted front w) c rest reply) (calling_on d w c rest reply) (calls_on w c rest reply)
   acts w reply (Constructing id steps held ∷ rest) n = not_counted rest n (constructing d (fronted front w) id steps held) (constructing d w id steps held) (constructs w id steps held)
   acts w reply (Building items ∷ rest) n = not_counted rest n (building d (fronted front w) items) (building d w items) (builds w items)
-  acts w reply (Carrying r ∷ rest) n = not_counted rest n (carrying d (fronted front w) r) (carrying d w r) (carries_request w r)
+  acts w reply (Handling r ∷ rest) n = not_counted rest n (request_step d (fronted front w) r) (request_step d w r) (carries_request w r)
   acts w reply (Due source ∷ rest) n = not_counted rest n (sourcing d (fronted front w) source) (sourcing d w source) (runs_source w source)
 
   steps_first : (reply : Option Reply) (c : Config) (id : Option ℕ) → first_of d reply (fronted_at front c) id ≡ mapped (fronted_at front) (first_of d reply c id)
@@ -715,7 +715,7 @@ module _ (front : List (List ℕ)) (d : Definition) where
   asks_first w (Calling call ∷ rest) = refl
   asks_first w (Constructing object steps held ∷ rest) = refl
   asks_first w (Building items ∷ rest) = refl
-  asks_first w (Carrying request ∷ rest) = refl
+  asks_first w (Handling request ∷ rest) = refl
   asks_first w (Due source ∷ rest) = refl
 
   asks_after : (c : Config) (id : Option ℕ) → asked_after (fronted_at front c) id ≡ asked_after c id

@@ -13,8 +13,8 @@ use Rattle.ui_machine.specs.State.Tasks as config
 use Rattle.ui_machine.specs.State.Peers.{Reply}
 use Rattle.ui_machine.specs.State.Sources.{Source, source_of}
 use Rattle.ui_machine.specs.State.Tasks.{Due, Event}
-use Rattle.ui_machine.specs.State.Config.{World, Config, said, held_at, untold}
-use Rattle.ui_machine.specs.Runs.{Step, Steps, Reaches, HasEnded, HaltsAt, Dispatches, Halts, Tally, Then, Rests, Carries, RunsSource, RunsSources, Does, Comes, Serves, ServesAll, HaltsIn, beginning, of_request}
+use Rattle.ui_machine.specs.State.Config.{World, Config, said, builder_entry, untold}
+use Rattle.ui_machine.specs.Runs.{Step, Steps, Reaches, HasEnded, HaltsAt, Dispatches, Halts, Tally, Then, Rests, Carries, RunsSource, RunsSources, Does, Comes, Serves, ServesAll, HaltsIn, at_a_source, at_its_beginning, beginning, of_request}
 use Rattle.ui_machine.specs.Rules.Events.{Refusal, is_released, gives_released, gone, refusal}
 use Rattle.ui_machine.specs.Rules.MainLoop.{turned, ready_at}
 use Rattle.machine_laws.specs.FrontLaws.{fronted, fronted_at, mapped, StepsAppend, DispatchAppends, HaltAppends, EventAppends, EventsAppend, EventHaltAppends}
@@ -136,9 +136,9 @@ module _ (front : List (List ℕ)) (d : Definition) where
   why_released first others = elim (first || others) [ true ↦ Some gone | false ↦ None ]
 
   refused : (event : Event) (w : World) → refusal (fronted front w) event ≡ refusal w event
-  refused (config.request (config.set place slot given)) w = ap (why_released (is_released (held_at w place))) (gives w given)
+  refused (config.request (config.set place slot given)) w = ap (why_released (is_released (builder_entry w place))) (gives w given)
   refused (config.request (config.get place slot)) w = refl
-  refused (config.request (config.emit place signal args detail)) w = ap (why_released (is_released (held_at w place))) (one_gives w args)
+  refused (config.request (config.emit place signal args detail)) w = ap (why_released (is_released (builder_entry w place))) (one_gives w args)
   refused (config.request (config.release place)) w = refl
   refused (config.turn moment) w = refl
 
@@ -153,7 +153,12 @@ module _ (front : List (List ℕ)) (d : Definition) where
   halts_in : (event : Event) (replies : List Reply) (w : World) (halt : Halt) (shown : List (List ℕ)) →
       HaltsIn d event replies w halt shown → HaltsIn d event replies (fronted front w) halt (front ++ shown)
   halts_in (config.request r) replies w halt shown h = halting replies (of_request w r) halt shown h
-  halts_in (config.turn moment) replies w halt shown h = record {
+  halts_in (config.turn moment) replies w halt shown (at_its_beginning stops) = at_its_beginning (record {
+    memory = stops.memory;
+    asked = stops.asked;
+    lines = ap (λ lines. front ++ lines) stops.lines;
+  })
+  halts_in (config.turn moment) replies w halt shown (at_a_source h) = at_a_source (record {
     done = h.done;
     number = h.number;
     more = h.more;
@@ -166,7 +171,7 @@ module _ (front : List (List ℕ)) (d : Definition) where
     runs = turn_runs h.done moment h.first w h.tally h.mid h.runs;
     stands = h.stands;
     halts = halting h.later (beginning h.mid (Due h.number)) halt shown h.halts;
-  }
+  })
 
 pub steps_append : StepsAppend
 steps_append d n replies = (λ front c e s. steps front d n replies c e s, λ front c e r. reaches front d replies c e r)

@@ -22,7 +22,7 @@ use Rattle.ui_machine.specs.Seq.{total}
 use Rattle.ui_machine.specs.State.Tasks as config
 use Rattle.ui_machine.specs.State.Peers.{Reply}
 use Rattle.ui_machine.specs.State.Config.{World, Config, starts, leaves, Started, Left}
-use Rattle.ui_machine.specs.State.Tasks.{Setting, Notifying, Beginning, Emitting, Transferring, Unsetting, Thawing, Running, Answering, Calling, Constructing, Building, Carrying, Due, Task, Emission, PlanEntry, class_handler, handler, Frame, Call, Making, sets, runs, thaws, Item, makes, adopts, forwards, binds, connects, Request}
+use Rattle.ui_machine.specs.State.Tasks.{Setting, Notifying, Beginning, Emitting, Transferring, Unsetting, Thawing, Running, Answering, Calling, Constructing, Building, Handling, Due, Task, Emission, PlanEntry, class_handler, handler, Frame, Call, ConstructStep, sets, runs, thaws, Item, makes, adopts, forwards, binds, connects, Request}
 use Rattle.ui_machine.specs.State.Bindings.{Binding, binding_of, goes_back, listens, transfers}
 use Rattle.ui_machine.specs.State.Handlers.{Handler, handler_of}
 use Rattle.ui_machine.specs.Outcome.{After, Answer, ◌>>=◌, only_if}
@@ -36,16 +36,16 @@ use Rattle.ui_machine.specs.Instructions.Registers.{with_register, written_to, m
 use Rattle.ui_machine.specs.Rules.MainLoop.{sourcing}
 use Rattle.ui_machine.specs.Instructions.Peers.{replied, with_method, left_with, called, uncalled, calling_on, calling}
 use Rattle.ui_machine.specs.Rules.Connections.{disconnected, blocked, unblocked, with_handlers_on}
-use Rattle.ui_machine.specs.Rules.Construction.{peer_to_take, making, making_set, constructed, thawing_made, constructing}
+use Rattle.ui_machine.specs.Rules.Construction.{peer_to_take, making, apply_construct_property, constructed, thawing_made, constructing}
 use Rattle.ui_machine.specs.Rules.Build.{of_items, to_make, to_connect, is_making, is_connecting, first_transfer, building_child, set_forward, building_forward, building_binding, building_handler, building_object, building}
 use Rattle.ui_machine.specs.Instructions.Signals.{Emit, emitting, connecting, on_handlers, disconnecting, blocking, unblocking, unbinding}
-use Rattle.ui_machine.specs.Instructions.Objects.{naming, made_new, creating, sinking, orphaning, disposing, adopting, freezing, unfreezing}
+use Rattle.ui_machine.specs.Instructions.Objects.{look_up_object, made_new, creating, sinking, orphaning, disposing, adopting, freezing, thaw_notify}
 use Rattle.ui_machine.specs.Instructions.Arithmetic.{gives_from, reckoning, comparing, sameness, negating, conjunction, disjunction, joining, converting}
 use Rattle.ui_machine.specs.Instructions.Sources.{attaching, removing, Attach}
-use Rattle.ui_machine.specs.Instructions.Properties.{getting, set_from, assigning, then_goes_on, telling}
+use Rattle.ui_machine.specs.Instructions.Properties.{get_property, set_from, set_property, then_goes_on, notify_from_program}
 use Rattle.ui_machine.specs.Instructions.Jumps.{jumping, branching, branching_null, returning}
-use Rattle.ui_machine.specs.Instructions.{in_front, instructed, running}
-use Rattle.ui_machine.specs.Rules.Events.{set_given, carrying_set, carrying_get, carrying_emit, carrying_release, carrying}
+use Rattle.ui_machine.specs.Instructions.{in_front, instruction_step, running}
+use Rattle.ui_machine.specs.Rules.Events.{set_given, set_from_event, get_from_event, emit_from_event, release_from_event, request_step}
 use Rattle.ui_machine.specs.Steps.{most_steps, uncounted, counted, counted_left, left, act, finalising, first_of, asked_first, asked_after}
 use Rattle.ui_machine.specs.Rules.NotifyQueue.{thawing}
 use Rattle.machine_laws.specs.FrontLaws.{mapped}
@@ -202,7 +202,7 @@ module _ (gone : ℕ → Bool) (d : Definition) where
   as_many f (Calling call) = refl
   as_many f (Constructing object steps held) = refl
   as_many f (Building items) = refl
-  as_many f (Carrying request) = refl
+  as_many f (Handling request) = refl
   as_many f (Due source) = refl
 
   all_as_many : (f : Item → ℕ) (rest : List Task) → total (of_items f) (map (pruned gone) rest) ≡ total (of_items f) rest
@@ -314,32 +314,32 @@ module _ (gone : ℕ → Bool) (d : Definition) where
   unfolding converting
   converts w f to a kind = simp (converting, parts, writes_register)
 
-  gets : (w : World) (f : Frame) (to object : ℕ) (name : List ℕ) → mapped started (getting d w f to object name) ≡ getting d w f to object name
-  unfolding getting
-  gets w f to object name = simp (getting, parts, writes_register)
+  gets : (w : World) (f : Frame) (to object : ℕ) (name : List ℕ) → mapped started (get_property d w f to object name) ≡ get_property d w f to object name
+  unfolding get_property
+  gets w f to object name = simp (get_property, parts, writes_register)
 
   sets_from : (w : World) (f : Frame) (id slot from : ℕ) → mapped started (set_from w f id slot from) ≡ set_from w f id slot from
   unfolding set_from
   sets_from w f id slot from = simp (set_from, parts)
 
-  assigns : (w : World) (f : Frame) (object : ℕ) (name : List ℕ) (from : ℕ) → mapped started (assigning d w f object name from) ≡ assigning d w f object name from
-  unfolding assigning
-  assigns w f object name from = simp (assigning, parts, sets_from)
+  assigns : (w : World) (f : Frame) (object : ℕ) (name : List ℕ) (from : ℕ) → mapped started (set_property d w f object name from) ≡ set_property d w f object name from
+  unfolding set_property
+  assigns w f object name from = simp (set_property, parts, sets_from)
 
   goes_on_after : (f : Frame) (a : Answer Started) → mapped started a ≡ a → mapped started (then_goes_on f a) ≡ then_goes_on f a
   unfolding then_goes_on
   goes_on_after f a same = behind a (Running f ∷ []) same
 
-  tells_of : (w : World) (f : Frame) (object : ℕ) (name : List ℕ) → mapped started (telling d w f object name) ≡ telling d w f object name
-  unfolding telling
-  tells_of w f object name = simp (telling, parts, raised_on w f)
+  tells_of : (w : World) (f : Frame) (object : ℕ) (name : List ℕ) → mapped started (notify_from_program d w f object name) ≡ notify_from_program d w f object name
+  unfolding notify_from_program
+  tells_of w f object name = simp (notify_from_program, parts, raised_on w f)
     where
       raised_on : (v : World) (g : Frame) (id slot : ℕ) → mapped started (then_goes_on g (raising v id slot)) ≡ then_goes_on g (raising v id slot)
       raised_on v g id slot = goes_on_after g (raising v id slot) (raises v id slot)
 
-  names : (w : World) (f : Frame) (to : ℕ) (id : List ℕ) → mapped started (naming d w f to id) ≡ naming d w f to id
-  unfolding naming
-  names w f to id = simp (naming, parts, writes_register)
+  names : (w : World) (f : Frame) (to : ℕ) (id : List ℕ) → mapped started (look_up_object d w f to id) ≡ look_up_object d w f to id
+  unfolding look_up_object
+  names w f to id = simp (look_up_object, parts, writes_register)
 
   makes_object : (w : World) (place : ℕ) (peer : Option ℕ) (held : Bool) → mapped started (making d w place peer held) ≡ making d w place peer held
   unfolding making
@@ -375,9 +375,9 @@ module _ (gone : ℕ → Bool) (d : Definition) where
   unfolding freezing
   freezes w f object = simp (freezing, parts)
 
-  unfreezes : (w : World) (f : Frame) (object : ℕ) → mapped started (unfreezing w f object) ≡ unfreezing w f object
-  unfolding unfreezing
-  unfreezes w f object = simp (unfreezing, parts)
+  unfreezes : (w : World) (f : Frame) (object : ℕ) → mapped started (thaw_notify w f object) ≡ thaw_notify w f object
+  unfolding thaw_notify
+  unfreezes w f object = simp (thaw_notify, parts)
 
   emits : (w : World) (f : Frame) (object : ℕ) (e : Emit) → mapped started (emitting d w f object e) ≡ emitting d w f object e
   unfolding emitting
@@ -426,21 +426,21 @@ module _ (gone : ℕ → Bool) (d : Definition) where
   unbinds : (w : World) (f : Frame) (name : List ℕ) → mapped started (unbinding d w f name) ≡ unbinding d w f name
   unbinds w f name = simp parts
 
-  makes_set : (w : World) (id slot : ℕ) (v : Value) (steps : List Making) (held : Bool) →
-      mapped started (making_set d w id slot v (Constructing id steps held ∷ [])) ≡ making_set d w id slot v (Constructing id steps held ∷ [])
-  unfolding making_set
-  makes_set w id slot v steps held = simp (making_set, parts)
+  makes_set : (w : World) (id slot : ℕ) (v : Value) (steps : List ConstructStep) (held : Bool) →
+      mapped started (apply_construct_property d w id slot v (Constructing id steps held ∷ [])) ≡ apply_construct_property d w id slot v (Constructing id steps held ∷ [])
+  unfolding apply_construct_property
+  makes_set w id slot v steps held = simp (apply_construct_property, parts)
 
   is_constructed : (w : World) (id : ℕ) (held : Bool) → mapped started (constructed w id held) ≡ constructed w id held
   unfolding constructed
   is_constructed w id false = refl
   is_constructed w id true = simp (constructed, parts)
 
-  thaws_made : (w : World) (id : ℕ) (steps : List Making) (held : Bool) → mapped started (thawing_made w id steps held) ≡ thawing_made w id steps held
+  thaws_made : (w : World) (id : ℕ) (steps : List ConstructStep) (held : Bool) → mapped started (thawing_made w id steps held) ≡ thawing_made w id steps held
   unfolding thawing_made
   thaws_made w id steps held = simp (thawing_made, parts)
 
-  constructs : (w : World) (id : ℕ) (steps : List Making) (held : Bool) → mapped started (constructing d w id steps held) ≡ constructing d w id steps held
+  constructs : (w : World) (id : ℕ) (steps : List ConstructStep) (held : Bool) → mapped started (constructing d w id steps held) ≡ constructing d w id steps held
   constructs w id [] held = is_constructed w id held
   constructs w id (sets slot v ∷ steps) held = makes_set w id slot v steps held
   constructs w id (runs program ∷ steps) held = runs_before w program (values.object (Some id) ∷ []) (Constructing id steps held ∷ [])
@@ -489,23 +489,23 @@ module _ (gone : ℕ → Bool) (d : Definition) where
   unfolding set_given
   sets_given w id slot given = simp (set_given, parts)
 
-  carries_set : (w : World) (place slot : ℕ) (given : Given) → mapped started (carrying_set d w place slot given) ≡ carrying_set d w place slot given
-  unfolding carrying_set
-  carries_set w place slot given = simp (carrying_set, parts, sets_given)
+  carries_set : (w : World) (place slot : ℕ) (given : Given) → mapped started (set_from_event d w place slot given) ≡ set_from_event d w place slot given
+  unfolding set_from_event
+  carries_set w place slot given = simp (set_from_event, parts, sets_given)
 
-  carries_get : (w : World) (place slot : ℕ) → mapped started (carrying_get d w place slot) ≡ carrying_get d w place slot
-  unfolding carrying_get
-  carries_get w place slot = simp (carrying_get, parts)
+  carries_get : (w : World) (place slot : ℕ) → mapped started (get_from_event d w place slot) ≡ get_from_event d w place slot
+  unfolding get_from_event
+  carries_get w place slot = simp (get_from_event, parts)
 
-  carries_emit : (w : World) (place signal : ℕ) (args : List Given) (detail : Option (List ℕ)) → mapped started (carrying_emit d w place signal args detail) ≡ carrying_emit d w place signal args detail
-  unfolding carrying_emit
-  carries_emit w place signal args detail = simp (carrying_emit, parts)
+  carries_emit : (w : World) (place signal : ℕ) (args : List Given) (detail : Option (List ℕ)) → mapped started (emit_from_event d w place signal args detail) ≡ emit_from_event d w place signal args detail
+  unfolding emit_from_event
+  carries_emit w place signal args detail = simp (emit_from_event, parts)
 
-  carries_release : (w : World) (place : ℕ) → mapped started (carrying_release d w place) ≡ carrying_release d w place
-  unfolding carrying_release
-  carries_release w place = simp (carrying_release, parts)
+  carries_release : (w : World) (place : ℕ) → mapped started (release_from_event d w place) ≡ release_from_event d w place
+  unfolding release_from_event
+  carries_release w place = simp (release_from_event, parts)
 
-  carries_request : (w : World) (r : Request) → mapped started (carrying d w r) ≡ carrying d w r
+  carries_request : (w : World) (r : Request) → mapped started (request_step d w r) ≡ request_step d w r
   carries_request w (config.set place slot given) = carries_set w place slot given
   carries_request w (config.get place slot) = carries_get w place slot
   carries_request w (config.emit place signal args detail) = carries_emit w place signal args detail
@@ -604,8 +604,8 @@ module _ (gone : ℕ → Bool) (d : Definition) where
   gives_down w (Constructing object steps held ∷ rest) (Some v) = refl
   gives_down w (Building items ∷ rest) None = refl
   gives_down w (Building items ∷ rest) (Some v) = refl
-  gives_down w (Carrying request ∷ rest) None = refl
-  gives_down w (Carrying request ∷ rest) (Some v) = refl
+  gives_down w (Handling request ∷ rest) None = refl
+  gives_down w (Handling request ∷ rest) (Some v) = refl
   gives_down w (Due source ∷ rest) None = refl
   gives_down w (Due source ∷ rest) (Some v) = refl
 
@@ -629,7 +629,7 @@ module _ (gone : ℕ → Bool) (d : Definition) where
   passes_down (Calling call ∷ rest) v = refl
   passes_down (Constructing object steps held ∷ rest) v = refl
   passes_down (Building items ∷ rest) v = refl
-  passes_down (Carrying request ∷ rest) v = refl
+  passes_down (Handling request ∷ rest) v = refl
   passes_down (Due source ∷ rest) v = refl
 
   ends_emission : (w : World) (e : Emission) (rest : List Task) → mapped remaining (ending d w e rest) ≡ ending d w e (map (pruned gone) rest)
@@ -654,7 +654,7 @@ module _ (gone : ℕ → Bool) (d : Definition) where
   receives (Calling call ∷ rest) to v = refl
   receives (Constructing object steps held ∷ rest) to v = refl
   receives (Building items ∷ rest) to v = refl
-  receives (Carrying request ∷ rest) to v = refl
+  receives (Handling request ∷ rest) to v = refl
   receives (Due source ∷ rest) to v = refl
 
   left_with_one : (w : World) (rest : List Task) (to : ℕ) (v : Value) → mapped remaining (left_with w rest to v) ≡ left_with w (map (pruned gone) rest) to v
@@ -695,7 +695,7 @@ module _ (gone : ℕ → Bool) (d : Definition) where
   stops (Calling call ∷ rest) = refl
   stops (Constructing object steps held ∷ rest) = refl
   stops (Building items ∷ rest) = refl
-  stops (Carrying request ∷ rest) = refl
+  stops (Handling request ∷ rest) = refl
   stops (Due source ∷ rest) = refl
 
   returns : (w : World) (f : Frame) (rest : List Task) (from : Option ℕ) → mapped remaining (returning d w f rest from) ≡ returning d w f (map (pruned gone) rest) from
@@ -708,7 +708,7 @@ module _ (gone : ℕ → Bool) (d : Definition) where
       ap (λ l. Ok (record { world = s.world; agenda = l })) (map-append (pruned gone) s.tasks rest) ∙ ap (in_front (map (pruned gone) rest)) same
   begins rest (Err arm) b same = ap (in_front (map (pruned gone) rest)) same
 
-  instructs_all : (w : World) (rest : List Task) (f : Frame) (i : Instruction) → mapped remaining (instructed d w rest f i) ≡ instructed d w (map (pruned gone) rest) f i
+  instructs_all : (w : World) (rest : List Task) (f : Frame) (i : Instruction) → mapped remaining (instruction_step d w rest f i) ≡ instruction_step d w (map (pruned gone) rest) f i
   instructs_all w rest f (words.const to kind v) = begins rest (constant w f to v) (constant w f to v) (writes_register w to (Some v) f)
   instructs_all w rest f (words.move to from) = begins rest (moving w f to from) (moving w f to from) (moves w f to from)
   instructs_all w rest f (words.clear to) = begins rest (clearing w f to) (clearing w f to) (writes_register w to None f)
@@ -720,18 +720,18 @@ module _ (gone : ℕ → Bool) (d : Definition) where
   instructs_all w rest f (words.either to a b) = begins rest (disjunction w f to a b) (disjunction w f to a b) (joins_either w f to a b)
   instructs_all w rest f (words.join to a b) = begins rest (joining d w f to a b) (joining d w f to a b) (joins w f to a b)
   instructs_all w rest f (words.convert to a kind) = begins rest (converting d w f to a kind) (converting d w f to a kind) (converts w f to a kind)
-  instructs_all w rest f (words.get to object name) = begins rest (getting d w f to object name) (getting d w f to object name) (gets w f to object name)
-  instructs_all w rest f (words.set object name from) = begins rest (assigning d w f object name from) (assigning d w f object name from) (assigns w f object name from)
-  instructs_all w rest f (words.object to id) = begins rest (naming d w f to id) (naming d w f to id) (names w f to id)
+  instructs_all w rest f (words.get to object name) = begins rest (get_property d w f to object name) (get_property d w f to object name) (gets w f to object name)
+  instructs_all w rest f (words.set object name from) = begins rest (set_property d w f object name from) (set_property d w f object name from) (assigns w f object name from)
+  instructs_all w rest f (words.object to id) = begins rest (look_up_object d w f to id) (look_up_object d w f to id) (names w f to id)
   instructs_all w rest f (words.new to id) = begins rest (creating d w rest f to id) (creating d w (map (pruned gone) rest) f to id) (creates w rest f to id)
   instructs_all w rest f (words.sink object) = begins rest (sinking w f object) (sinking w f object) (sinks w f object)
   instructs_all w rest f (words.orphan object) = begins rest (orphaning d w f object) (orphaning d w f object) (orphans_of w f object)
   instructs_all w rest f (words.dispose object) = begins rest (disposing d w f object) (disposing d w f object) (disposes_of w f object)
   instructs_all w rest f (words.adopt to parent child) = begins rest (adopting d w f to parent child) (adopting d w f to parent child) (adopts_of w f to parent child)
   instructs_all w rest f (words.freeze object) = begins rest (freezing w f object) (freezing w f object) (freezes w f object)
-  instructs_all w rest f (words.thaw object) = begins rest (unfreezing w f object) (unfreezing w f object) (unfreezes w f object)
+  instructs_all w rest f (words.thaw object) = begins rest (thaw_notify w f object) (thaw_notify w f object) (unfreezes w f object)
   instructs_all w rest f (words.emit into object name detail args) = begins rest (emitting d w f object (record { into = into; signal = name; detail = detail; args = args })) (emitting d w f object (record { into = into; signal = name; detail = detail; args = args })) (emits w f object (record { into = into; signal = name; detail = detail; args = args }))
-  instructs_all w rest f (words.notify object name) = begins rest (telling d w f object name) (telling d w f object name) (tells_of w f object name)
+  instructs_all w rest f (words.notify object name) = begins rest (notify_from_program d w f object name) (notify_from_program d w f object name) (tells_of w f object name)
   instructs_all w rest f (words.connect to object c) = begins rest (connecting d w rest f to object c) (connecting d w (map (pruned gone) rest) f to object c) (connects_of w rest f to object c)
   instructs_all w rest f (words.disconnect object program) = begins rest (disconnecting d w f object program) (disconnecting d w f object program) (disconnects w f object program)
   instructs_all w rest f (words.block object program) = begins rest (blocking d w f object program) (blocking d w f object program) (blocks_of w f object program)
@@ -799,7 +799,7 @@ module _ (gone : ℕ → Bool) (d : Definition) where
   acts w apart reply (Calling c ∷ rest) n stands = leaves_agenda n (calling_on d w c rest reply) (calling_on d w c (map (pruned gone) rest) reply) (calls_on w c rest reply)
   acts w apart reply (Constructing id steps held ∷ rest) n stands = not_counted rest n (constructing d w id steps held) (constructing d w id steps held) (constructs w id steps held)
   acts w apart reply (Building items ∷ rest) n stands = not_counted rest n (building d w items) (building d w items) (builds w items)
-  acts w apart reply (Carrying r ∷ rest) n stands = not_counted rest n (carrying d w r) (carrying d w r) (carries_request w r)
+  acts w apart reply (Handling r ∷ rest) n stands = not_counted rest n (request_step d w r) (request_step d w r) (carries_request w r)
   acts w apart reply (Due source ∷ rest) n stands = not_counted rest n (sourcing d w source) (sourcing d w source) (runs_source w source)
 
   -- ** what holds objects, and what is asked
@@ -817,7 +817,7 @@ module _ (gone : ℕ → Bool) (d : Definition) where
   holds_as o (Calling call) = refl
   holds_as o (Constructing object steps held) = refl
   holds_as o (Building items) = refl
-  holds_as o (Carrying request) = refl
+  holds_as o (Handling request) = refl
   holds_as o (Due source) = refl
 
   pub hold_as : (o : ℕ) (tasks : List Task) → total (in_task o) (map (pruned gone) tasks) ≡ total (in_task o) tasks
@@ -845,7 +845,7 @@ module _ (gone : ℕ → Bool) (d : Definition) where
   asks_first w (Calling call ∷ rest) = refl
   asks_first w (Constructing object steps held ∷ rest) = refl
   asks_first w (Building items ∷ rest) = refl
-  asks_first w (Carrying request ∷ rest) = refl
+  asks_first w (Handling request ∷ rest) = refl
   asks_first w (Due source ∷ rest) = refl
 
   asks_after : (c : Config) (id : Option ℕ) → asked_after (pruned_at gone c) id ≡ asked_after c id
@@ -901,7 +901,7 @@ module _ (gone : ℕ → Bool) (d : Definition) where
   acts_passing w apart reply (Calling call ∷ rest) n is = absurd (false≢true is)
   acts_passing w apart reply (Constructing object steps held ∷ rest) n is = absurd (false≢true is)
   acts_passing w apart reply (Building items ∷ rest) n is = absurd (false≢true is)
-  acts_passing w apart reply (Carrying request ∷ rest) n is = absurd (false≢true is)
+  acts_passing w apart reply (Handling request ∷ rest) n is = absurd (false≢true is)
   acts_passing w apart reply (Due source ∷ rest) n is = absurd (false≢true is)
 
 pub question_does_without : QuestionsDoWithout
@@ -980,7 +980,7 @@ module _ (before later : ℕ → Bool) (more : (number : ℕ) → before number 
   task_again (Calling call) = refl
   task_again (Constructing object steps held) = refl
   task_again (Building items) = refl
-  task_again (Carrying request) = refl
+  task_again (Handling request) = refl
   task_again (Due source) = refl
 
   tasks_again : (tasks : List Task) → map (pruned later) (map (pruned before) tasks) ≡ map (pruned later) tasks

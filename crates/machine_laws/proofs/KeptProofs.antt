@@ -16,12 +16,12 @@ use Rattle.ui_machine.specs.Definition.Programs.{Arithmetic, Comparison, Connect
 use Rattle.ui_machine.specs.Definition.Programs as words
 use Rattle.ui_machine.specs.Definition.Values.{Value}
 use Rattle.ui_machine.specs.Definition.Values as values
-use Rattle.ui_machine.specs.Instructions.{in_front, instructed, running}
+use Rattle.ui_machine.specs.Instructions.{in_front, instruction_step, running}
 use Rattle.ui_machine.specs.Instructions.Arithmetic.{bytes_of, conjunction, comparing, converting, disjunction, gives_from, joining, most_bytes, negating, reckoning, sameness, within_bytes}
 use Rattle.ui_machine.specs.Instructions.Jumps.{block_in, branching, branching_null, in_pass, jumping, null_of, past, returned, returning}
-use Rattle.ui_machine.specs.Instructions.Objects.{adopting, creating, disposed_once, disposing, freezing, has_room_for_object, made_new, naming, orphaning, sinking, unfreezing}
+use Rattle.ui_machine.specs.Instructions.Objects.{adopting, creating, disposed_once, disposing, freezing, has_room_for_object, made_new, look_up_object, orphaning, sinking, thaw_notify}
 use Rattle.ui_machine.specs.Instructions.Peers.{calling}
-use Rattle.ui_machine.specs.Instructions.Properties.{assigning, getting, set_from, slot_at, telling, then_goes_on}
+use Rattle.ui_machine.specs.Instructions.Properties.{set_property, get_property, set_from, slot_at, notify_from_program, then_goes_on}
 use Rattle.ui_machine.specs.Instructions.Registers.{clearing, constant, data_in, goes_on, moving, operand_in, tells, text_in, truth_in, value_in, values_in, whole_in, with_register, written_to}
 use Rattle.ui_machine.specs.Instructions.Signals.{Emit, blocking, connecting, connection_by_code, disconnecting, emitting, on_handlers, signal_in, signal_to_emit, unbinding, unblocking}
 use Rattle.ui_machine.specs.Instructions.Sources.{Attach, attaching, removing, with_source}
@@ -197,8 +197,8 @@ module _ (d : Definition) (w : World) where
 
   -- ** properties
 
-  gets : (f : Frame) (to object : ℕ) (name : List ℕ) → IfOk (getting d w f to object name) Kept
-  unfolding getting
+  gets : (f : Frame) (to object : ℕ) (name : List ℕ) → IfOk (get_property d w f to object name) Kept
+  unfolding get_property
   gets f to object name = bind_keeps (operand_in w f object) _ Kept (λ id _. bind_keeps (slot_at d w id name) _ Kept (λ slot _.
       bind_keeps (spec_at d w.objects id slot) _ Kept (λ s _. bind_keeps (asked w.objects id (value_at slot)) _ Kept (λ v _. only_keeps _ _ _ Kept (writes to _ f)))))
 
@@ -206,8 +206,8 @@ module _ (d : Definition) (w : World) where
   unfolding set_from
   sets_from f id slot from = bind_keeps (value_in f from) _ Kept (λ v _. same_kept w w refl refl)
 
-  assigns : (f : Frame) (object : ℕ) (name : List ℕ) (from : ℕ) → IfOk (assigning d w f object name from) Kept
-  unfolding assigning
+  assigns : (f : Frame) (object : ℕ) (name : List ℕ) (from : ℕ) → IfOk (set_property d w f object name from) Kept
+  unfolding set_property
   assigns f object name from = bind_keeps (operand_in w f object) _ Kept (λ id _. bind_keeps (slot_at d w id name) _ Kept (λ slot _.
       bind_keeps (spec_at d w.objects id slot) _ Kept (λ s _.
       only_keeps (is_writable s) arms.Flags (only_if (not (is_construct_only s)) arms.ConstructOnly (set_from w f id slot from)) Kept
@@ -217,15 +217,15 @@ module _ (d : Definition) (w : World) where
   unfolding then_goes_on raising
   raises f id slot = bind_keeps (raising w id slot) _ Kept (λ s is. kept_at Kept (raising w id slot) s (bind_keeps (changed w.objects id (raised slot)) _ Kept (λ r _. same_kept w _ refl refl)) is)
 
-  notifies : (f : Frame) (object : ℕ) (name : List ℕ) → IfOk (telling d w f object name) Kept
-  unfolding telling
+  notifies : (f : Frame) (object : ℕ) (name : List ℕ) → IfOk (notify_from_program d w f object name) Kept
+  unfolding notify_from_program
   notifies f object name = bind_keeps (operand_in w f object) _ Kept (λ id _. bind_keeps (slot_at d w id name) _ Kept (λ slot _.
       bind_keeps (spec_at d w.objects id slot) _ Kept (λ s _. cond_keeps (is_readable s) _ _ Kept (raises f id slot) (same_kept w w refl refl))))
 
   -- ** objects
 
-  names : (f : Frame) (to : ℕ) (id : List ℕ) → IfOk (naming d w f to id) Kept
-  unfolding naming
+  names : (f : Frame) (to : ℕ) (id : List ℕ) → IfOk (look_up_object d w f to id) Kept
+  unfolding look_up_object
   names f to id = bind_keeps (known arms.Code (place_of d id)) _ Kept (λ place _. bind_keeps (known arms.Code (place_at d place)) _ Kept (λ p _. only_keeps _ _ _ Kept (writes to _ f)))
 
   makes : (place : ℕ) (peer : Option ℕ) (held : Bool) → IfOk (making d w place peer held) Kept
@@ -298,8 +298,8 @@ module _ (d : Definition) (w : World) where
   unfolding freezing
   freezes f object = bind_keeps (operand_in w f object) _ Kept (λ id _. bind_keeps (changed w.objects id frozen_more) _ Kept (λ r _. same_kept w _ refl refl))
 
-  thaws : (f : Frame) (object : ℕ) → IfOk (unfreezing w f object) Kept
-  unfolding unfreezing
+  thaws : (f : Frame) (object : ℕ) → IfOk (thaw_notify w f object) Kept
+  unfolding thaw_notify
   thaws f object = bind_keeps (operand_in w f object) _ Kept (λ id _. bind_keeps (changed w.objects id frozen_less) _ Kept (λ r _. same_kept w _ refl refl))
 
   -- ** signals
@@ -410,7 +410,7 @@ module _ (d : Definition) (w : World) where
   unfolding returning
   returns f rest from = bind_keeps (returned d w f from) _ Leaves (λ given _. down rest given)
 
-  pub instructed_kept : (rest : List Task) (f : Frame) (i : Instruction) → IfOk (instructed d w rest f i) Leaves
+  pub instructed_kept : (rest : List Task) (f : Frame) (i : Instruction) → IfOk (instruction_step d w rest f i) Leaves
   instructed_kept rest f (words.const to kind v) = begins rest (constant w f to v) (writes to (Some v) f)
   instructed_kept rest f (words.move to from) = begins rest (moving w f to from) (moves f to from)
   instructed_kept rest f (words.clear to) = begins rest (clearing w f to) (writes to None f)
@@ -422,18 +422,18 @@ module _ (d : Definition) (w : World) where
   instructed_kept rest f (words.either to a b) = begins rest (disjunction w f to a b) (either f to a b)
   instructed_kept rest f (words.join to a b) = begins rest (joining d w f to a b) (joins f to a b)
   instructed_kept rest f (words.convert to a kind) = begins rest (converting d w f to a kind) (converts f to a kind)
-  instructed_kept rest f (words.get to object name) = begins rest (getting d w f to object name) (gets f to object name)
-  instructed_kept rest f (words.set object name from) = begins rest (assigning d w f object name from) (assigns f object name from)
-  instructed_kept rest f (words.object to id) = begins rest (naming d w f to id) (names f to id)
+  instructed_kept rest f (words.get to object name) = begins rest (get_property d w f to object name) (gets f to object name)
+  instructed_kept rest f (words.set object name from) = begins rest (set_property d w f object name from) (assigns f object name from)
+  instructed_kept rest f (words.object to id) = begins rest (look_up_object d w f to id) (names f to id)
   instructed_kept rest f (words.new to id) = begins rest (creating d w rest f to id) (creates rest f to id)
   instructed_kept rest f (words.sink object) = begins rest (sinking w f object) (sinks f object)
   instructed_kept rest f (words.orphan object) = begins rest (orphaning d w f object) (orphans f object)
   instructed_kept rest f (words.dispose object) = begins rest (disposing d w f object) (disposes f object)
   instructed_kept rest f (words.adopt to parent child) = begins rest (adopting d w f to parent child) (adopts f to parent child)
   instructed_kept rest f (words.freeze object) = begins rest (freezing w f object) (freezes f object)
-  instructed_kept rest f (words.thaw object) = begins rest (unfreezing w f object) (thaws f object)
+  instructed_kept rest f (words.thaw object) = begins rest (thaw_notify w f object) (thaws f object)
   instructed_kept rest f (words.emit into object name detail args) = begins rest (emitting d w f object _) (emits f object (record { into = into; signal = name; detail = detail; args = args }))
-  instructed_kept rest f (words.notify object name) = begins rest (telling d w f object name) (notifies f object name)
+  instructed_kept rest f (words.notify object name) = begins rest (notify_from_program d w f object name) (notifies f object name)
   instructed_kept rest f (words.connect to object c) = begins rest (connecting d w rest f to object c) (connects rest f to object c)
   instructed_kept rest f (words.disconnect object program) = begins rest (disconnecting d w f object program)
       (changes f object program disconnected (λ id number. changed_kept w _ refl (λ n. fewer (λ h. not (is_on id number h)) n w.handlers)))

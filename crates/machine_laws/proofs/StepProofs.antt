@@ -7,7 +7,7 @@ use Rattle.ui_machine.specs.Rules.Transform.{is_one}
 use Rattle.ui_machine.specs.Seq.{read, write}
 use Rattle.ui_machine.specs.State.Objects.{Object, Objects, living, put}
 use Rattle.ui_machine.specs.State.Tasks.{Task}
-use Rattle.ui_machine.specs.Steps.{settling, act, first_of}
+use Rattle.ui_machine.specs.Steps.{sink_first_floating, act, first_of}
 use Rattle.machine_laws.specs.StepLaws.{HeldAtRest, EndsStay, FittingLives, FinalisedFitsNothing}
 
 pub held_at_rest : HeldAtRest
@@ -17,7 +17,7 @@ pub ends_stay : EndsStay
 ends_stay d reply c h =
     ap (first_of d reply c) h.held
     ∙ (ap (λ (ts : List Task). act d c.world reply ts c.counted) h.agenda
-    ∙ (ap (λ (floating : List ℕ). Ok (record { world = settling c.world floating; agenda = []; counted = c.counted })) h.floating
+    ∙ (ap (λ (floating : List ℕ). Ok (record { world = sink_first_floating c.world floating; agenda = []; counted = c.counted })) h.floating
     ∙ ap (λ (ts : List Task). Ok (record { world = c.world; agenda = ts; counted = c.counted })) (sym h.agenda)))
 
 fitting : (types : List GType) (t : ℕ) (o : Option Object) → is_one types t (option_map (λ (x : Object). x.class) o) ≡ true → (x : Object) × (o ≡ Some x) × (is_a types x.class t ≡ true)

@@ -1,7 +1,7 @@
 -- The runs compute.
 use Rattle.std.specs.Fmt.{digits}
 use Rattle.std.proofs.Common.{refl}
-use Rattle.ui_machine.specs.Rules.Construction.{making, making_set, constructed, thawing_made}
+use Rattle.ui_machine.specs.Rules.Construction.{making, apply_construct_property, constructed, thawing_made}
 use Rattle.ui_machine.specs.Rules.Build.{set_forward, held_data, building_child, building_forward, building_binding, building_handler, building_object}
 use Rattle.ui_machine.specs.Instructions.Peers.{with_method, left_with, called, uncalled, calling}
 use Rattle.ui_machine.specs.Rules.Connections.{detail_at, detail_in}
@@ -10,8 +10,8 @@ use Rattle.ui_machine.specs.Rules.EmissionPlan.{notifying, signal_at, beginning_
 use Rattle.ui_machine.specs.Rules.Children.{adopted}
 use Rattle.ui_machine.specs.Instructions.Registers.{moving, values_in, truth_in, text_in, whole_in, operand_in, data_in, written_to}
 use Rattle.ui_machine.specs.Instructions.Arithmetic.{reckoning, comparing, sameness, negating, conjunction, disjunction, joining, converting}
-use Rattle.ui_machine.specs.Instructions.Properties.{slot_at, getting, set_from, assigning, then_goes_on, telling}
-use Rattle.ui_machine.specs.Instructions.Objects.{naming, made_new, creating, sinking, orphaning, disposing, adopting, freezing, unfreezing}
+use Rattle.ui_machine.specs.Instructions.Properties.{slot_at, get_property, set_from, set_property, then_goes_on, notify_from_program}
+use Rattle.ui_machine.specs.Instructions.Objects.{look_up_object, made_new, creating, sinking, orphaning, disposing, adopting, freezing, thaw_notify}
 use Rattle.ui_machine.specs.Instructions.Signals.{signal_in, signal_to_emit, emitting, connecting, on_handlers}
 use Rattle.ui_machine.specs.Instructions.Sources.{attaching, removing}
 use Rattle.ui_machine.specs.Instructions.Jumps.{jumping, branching, branching_null, block_in, given_by, returned, returning}
@@ -20,7 +20,7 @@ use Rattle.ui_machine.specs.Rules.Programs.{beginning_program, program_before}
 use Rattle.ui_machine.specs.Rules.Accumulation.{down_to_emission, down_to_source, received_by, ending, collecting, resulting}
 use Rattle.ui_machine.specs.Instructions.{in_front, running}
 use Rattle.ui_machine.specs.Rules.Sets.{spec_at, raising, written, setting}
-use Rattle.ui_machine.specs.Rules.Events.{set_given, carrying_set, carrying_get, given_values, carrying_emit, carrying_release}
+use Rattle.ui_machine.specs.Rules.Events.{set_given, set_from_event, get_from_event, given_values, emit_from_event, release_from_event}
 use Rattle.ui_machine.specs.Steps.{finalising, left}
 use Rattle.ui_machine.specs.Rules.MainLoop.{sourcing}
 use Rattle.ui_machine.specs.Rules.Transfers.{carried}
@@ -55,117 +55,117 @@ use Rattle.machine_rows.specs.Runs.RepeatedBlock as repeatedblock_run
 use Rattle.machine_rows.specs.Runs.FrozenPair as frozenpair_run
 
 pub firstrun_holds : firstrun_run.Holds
-unfolding digits making making_set set_forward closing finalised detail_at detail_in set_given finalising constructed thawing_made held_data building_child building_forward building_binding building_handler with_method left_with called uncalled notifying signal_at beginning_emission adopted moving reckoning comparing sameness negating conjunction disjunction joining converting slot_at getting set_from assigning then_goes_on telling naming made_new creating sinking orphaning disposing adopting freezing unfreezing signal_in signal_to_emit emitting connecting on_handlers attaching removing calling jumping branching branching_null asked changed with_value beginning_program program_before values_in truth_in text_in whole_in operand_in data_in written_to down_to_emission down_to_source received_by ending block_in given_by returned returning in_front running spec_at raising written setting building_object carrying_set carrying_get given_values carrying_emit carrying_release sourcing left carried collecting resulting
+unfolding digits making apply_construct_property set_forward closing finalised detail_at detail_in set_given finalising constructed thawing_made held_data building_child building_forward building_binding building_handler with_method left_with called uncalled notifying signal_at beginning_emission adopted moving reckoning comparing sameness negating conjunction disjunction joining converting slot_at get_property set_from set_property then_goes_on notify_from_program look_up_object made_new creating sinking orphaning disposing adopting freezing thaw_notify signal_in signal_to_emit emitting connecting on_handlers attaching removing calling jumping branching branching_null asked changed with_value beginning_program program_before values_in truth_in text_in whole_in operand_in data_in written_to down_to_emission down_to_source received_by ending block_in given_by returned returning in_front running spec_at raising written setting building_object set_from_event get_from_event given_values emit_from_event release_from_event sourcing left carried collecting resulting
 firstrun_holds = refl
 
 pub nothingtodo_holds : nothingtodo_run.Holds
-unfolding digits making making_set set_forward closing finalised detail_at detail_in set_given finalising constructed thawing_made held_data building_child building_forward building_binding building_handler with_method left_with called uncalled notifying signal_at beginning_emission adopted moving reckoning comparing sameness negating conjunction disjunction joining converting slot_at getting set_from assigning then_goes_on telling naming made_new creating sinking orphaning disposing adopting freezing unfreezing signal_in signal_to_emit emitting connecting on_handlers attaching removing calling jumping branching branching_null asked changed with_value beginning_program program_before values_in truth_in text_in whole_in operand_in data_in written_to down_to_emission down_to_source received_by ending block_in given_by returned returning in_front running spec_at raising written setting building_object carrying_set carrying_get given_values carrying_emit carrying_release sourcing left carried collecting resulting
+unfolding digits making apply_construct_property set_forward closing finalised detail_at detail_in set_given finalising constructed thawing_made held_data building_child building_forward building_binding building_handler with_method left_with called uncalled notifying signal_at beginning_emission adopted moving reckoning comparing sameness negating conjunction disjunction joining converting slot_at get_property set_from set_property then_goes_on notify_from_program look_up_object made_new creating sinking orphaning disposing adopting freezing thaw_notify signal_in signal_to_emit emitting connecting on_handlers attaching removing calling jumping branching branching_null asked changed with_value beginning_program program_before values_in truth_in text_in whole_in operand_in data_in written_to down_to_emission down_to_source received_by ending block_in given_by returned returning in_front running spec_at raising written setting building_object set_from_event get_from_event given_values emit_from_event release_from_event sourcing left carried collecting resulting
 nothingtodo_holds = refl
 
 pub range_holds : range_run.Holds
-unfolding digits making making_set set_forward closing finalised detail_at detail_in set_given finalising constructed thawing_made held_data building_child building_forward building_binding building_handler with_method left_with called uncalled notifying signal_at beginning_emission adopted moving reckoning comparing sameness negating conjunction disjunction joining converting slot_at getting set_from assigning then_goes_on telling naming made_new creating sinking orphaning disposing adopting freezing unfreezing signal_in signal_to_emit emitting connecting on_handlers attaching removing calling jumping branching branching_null asked changed with_value beginning_program program_before values_in truth_in text_in whole_in operand_in data_in written_to down_to_emission down_to_source received_by ending block_in given_by returned returning in_front running spec_at raising written setting building_object carrying_set carrying_get given_values carrying_emit carrying_release sourcing left carried collecting resulting
+unfolding digits making apply_construct_property set_forward closing finalised detail_at detail_in set_given finalising constructed thawing_made held_data building_child building_forward building_binding building_handler with_method left_with called uncalled notifying signal_at beginning_emission adopted moving reckoning comparing sameness negating conjunction disjunction joining converting slot_at get_property set_from set_property then_goes_on notify_from_program look_up_object made_new creating sinking orphaning disposing adopting freezing thaw_notify signal_in signal_to_emit emitting connecting on_handlers attaching removing calling jumping branching branching_null asked changed with_value beginning_program program_before values_in truth_in text_in whole_in operand_in data_in written_to down_to_emission down_to_source received_by ending block_in given_by returned returning in_front running spec_at raising written setting building_object set_from_event get_from_event given_values emit_from_event release_from_event sourcing left carried collecting resulting
 range_holds = refl
 
 pub laxrange_holds : laxrange_run.Holds
-unfolding digits making making_set set_forward closing finalised detail_at detail_in set_given finalising constructed thawing_made held_data building_child building_forward building_binding building_handler with_method left_with called uncalled notifying signal_at beginning_emission adopted moving reckoning comparing sameness negating conjunction disjunction joining converting slot_at getting set_from assigning then_goes_on telling naming made_new creating sinking orphaning disposing adopting freezing unfreezing signal_in signal_to_emit emitting connecting on_handlers attaching removing calling jumping branching branching_null asked changed with_value beginning_program program_before values_in truth_in text_in whole_in operand_in data_in written_to down_to_emission down_to_source received_by ending block_in given_by returned returning in_front running spec_at raising written setting building_object carrying_set carrying_get given_values carrying_emit carrying_release sourcing left carried collecting resulting
+unfolding digits making apply_construct_property set_forward closing finalised detail_at detail_in set_given finalising constructed thawing_made held_data building_child building_forward building_binding building_handler with_method left_with called uncalled notifying signal_at beginning_emission adopted moving reckoning comparing sameness negating conjunction disjunction joining converting slot_at get_property set_from set_property then_goes_on notify_from_program look_up_object made_new creating sinking orphaning disposing adopting freezing thaw_notify signal_in signal_to_emit emitting connecting on_handlers attaching removing calling jumping branching branching_null asked changed with_value beginning_program program_before values_in truth_in text_in whole_in operand_in data_in written_to down_to_emission down_to_source received_by ending block_in given_by returned returning in_front running spec_at raising written setting building_object set_from_event get_from_event given_values emit_from_event release_from_event sourcing left carried collecting resulting
 laxrange_holds = refl
 
 pub constructonly_holds : constructonly_run.Holds
-unfolding digits making making_set set_forward closing finalised detail_at detail_in set_given finalising constructed thawing_made held_data building_child building_forward building_binding building_handler with_method left_with called uncalled notifying signal_at beginning_emission adopted moving reckoning comparing sameness negating conjunction disjunction joining converting slot_at getting set_from assigning then_goes_on telling naming made_new creating sinking orphaning disposing adopting freezing unfreezing signal_in signal_to_emit emitting connecting on_handlers attaching removing calling jumping branching branching_null asked changed with_value beginning_program program_before values_in truth_in text_in whole_in operand_in data_in written_to down_to_emission down_to_source received_by ending block_in given_by returned returning in_front running spec_at raising written setting building_object carrying_set carrying_get given_values carrying_emit carrying_release sourcing left carried collecting resulting
+unfolding digits making apply_construct_property set_forward closing finalised detail_at detail_in set_given finalising constructed thawing_made held_data building_child building_forward building_binding building_handler with_method left_with called uncalled notifying signal_at beginning_emission adopted moving reckoning comparing sameness negating conjunction disjunction joining converting slot_at get_property set_from set_property then_goes_on notify_from_program look_up_object made_new creating sinking orphaning disposing adopting freezing thaw_notify signal_in signal_to_emit emitting connecting on_handlers attaching removing calling jumping branching branching_null asked changed with_value beginning_program program_before values_in truth_in text_in whole_in operand_in data_in written_to down_to_emission down_to_source received_by ending block_in given_by returned returning in_front running spec_at raising written setting building_object set_from_event get_from_event given_values emit_from_event release_from_event sourcing left carried collecting resulting
 constructonly_holds = refl
 
 pub forwardreference_holds : forwardreference_run.Holds
-unfolding digits making making_set set_forward closing finalised detail_at detail_in set_given finalising constructed thawing_made held_data building_child building_forward building_binding building_handler with_method left_with called uncalled notifying signal_at beginning_emission adopted moving reckoning comparing sameness negating conjunction disjunction joining converting slot_at getting set_from assigning then_goes_on telling naming made_new creating sinking orphaning disposing adopting freezing unfreezing signal_in signal_to_emit emitting connecting on_handlers attaching removing calling jumping branching branching_null asked changed with_value beginning_program program_before values_in truth_in text_in whole_in operand_in data_in written_to down_to_emission down_to_source received_by ending block_in given_by returned returning in_front running spec_at raising written setting building_object carrying_set carrying_get given_values carrying_emit carrying_release sourcing left carried collecting resulting
+unfolding digits making apply_construct_property set_forward closing finalised detail_at detail_in set_given finalising constructed thawing_made held_data building_child building_forward building_binding building_handler with_method left_with called uncalled notifying signal_at beginning_emission adopted moving reckoning comparing sameness negating conjunction disjunction joining converting slot_at get_property set_from set_property then_goes_on notify_from_program look_up_object made_new creating sinking orphaning disposing adopting freezing thaw_notify signal_in signal_to_emit emitting connecting on_handlers attaching removing calling jumping branching branching_null asked changed with_value beginning_program program_before values_in truth_in text_in whole_in operand_in data_in written_to down_to_emission down_to_source received_by ending block_in given_by returned returning in_front running spec_at raising written setting building_object set_from_event get_from_event given_values emit_from_event release_from_event sourcing left carried collecting resulting
 forwardreference_holds = refl
 
 pub freezes_holds : freezes_run.Holds
-unfolding digits making making_set set_forward closing finalised detail_at detail_in set_given finalising constructed thawing_made held_data building_child building_forward building_binding building_handler with_method left_with called uncalled notifying signal_at beginning_emission adopted moving reckoning comparing sameness negating conjunction disjunction joining converting slot_at getting set_from assigning then_goes_on telling naming made_new creating sinking orphaning disposing adopting freezing unfreezing signal_in signal_to_emit emitting connecting on_handlers attaching removing calling jumping branching branching_null asked changed with_value beginning_program program_before values_in truth_in text_in whole_in operand_in data_in written_to down_to_emission down_to_source received_by ending block_in given_by returned returning in_front running spec_at raising written setting building_object carrying_set carrying_get given_values carrying_emit carrying_release sourcing left carried collecting resulting
+unfolding digits making apply_construct_property set_forward closing finalised detail_at detail_in set_given finalising constructed thawing_made held_data building_child building_forward building_binding building_handler with_method left_with called uncalled notifying signal_at beginning_emission adopted moving reckoning comparing sameness negating conjunction disjunction joining converting slot_at get_property set_from set_property then_goes_on notify_from_program look_up_object made_new creating sinking orphaning disposing adopting freezing thaw_notify signal_in signal_to_emit emitting connecting on_handlers attaching removing calling jumping branching branching_null asked changed with_value beginning_program program_before values_in truth_in text_in whole_in operand_in data_in written_to down_to_emission down_to_source received_by ending block_in given_by returned returning in_front running spec_at raising written setting building_object set_from_event get_from_event given_values emit_from_event release_from_event sourcing left carried collecting resulting
 freezes_holds = refl
 
 pub stages_holds : stages_run.Holds
-unfolding digits making making_set set_forward closing finalised detail_at detail_in set_given finalising constructed thawing_made held_data building_child building_forward building_binding building_handler with_method left_with called uncalled notifying signal_at beginning_emission adopted moving reckoning comparing sameness negating conjunction disjunction joining converting slot_at getting set_from assigning then_goes_on telling naming made_new creating sinking orphaning disposing adopting freezing unfreezing signal_in signal_to_emit emitting connecting on_handlers attaching removing calling jumping branching branching_null asked changed with_value beginning_program program_before values_in truth_in text_in whole_in operand_in data_in written_to down_to_emission down_to_source received_by ending block_in given_by returned returning in_front running spec_at raising written setting building_object carrying_set carrying_get given_values carrying_emit carrying_release sourcing left carried collecting resulting
+unfolding digits making apply_construct_property set_forward closing finalised detail_at detail_in set_given finalising constructed thawing_made held_data building_child building_forward building_binding building_handler with_method left_with called uncalled notifying signal_at beginning_emission adopted moving reckoning comparing sameness negating conjunction disjunction joining converting slot_at get_property set_from set_property then_goes_on notify_from_program look_up_object made_new creating sinking orphaning disposing adopting freezing thaw_notify signal_in signal_to_emit emitting connecting on_handlers attaching removing calling jumping branching branching_null asked changed with_value beginning_program program_before values_in truth_in text_in whole_in operand_in data_in written_to down_to_emission down_to_source received_by ending block_in given_by returned returning in_front running spec_at raising written setting building_object set_from_event get_from_event given_values emit_from_event release_from_event sourcing left carried collecting resulting
 stages_holds = refl
 
 pub truehandled_holds : truehandled_run.Holds
-unfolding digits making making_set set_forward closing finalised detail_at detail_in set_given finalising constructed thawing_made held_data building_child building_forward building_binding building_handler with_method left_with called uncalled notifying signal_at beginning_emission adopted moving reckoning comparing sameness negating conjunction disjunction joining converting slot_at getting set_from assigning then_goes_on telling naming made_new creating sinking orphaning disposing adopting freezing unfreezing signal_in signal_to_emit emitting connecting on_handlers attaching removing calling jumping branching branching_null asked changed with_value beginning_program program_before values_in truth_in text_in whole_in operand_in data_in written_to down_to_emission down_to_source received_by ending block_in given_by returned returning in_front running spec_at raising written setting building_object carrying_set carrying_get given_values carrying_emit carrying_release sourcing left carried collecting resulting
+unfolding digits making apply_construct_property set_forward closing finalised detail_at detail_in set_given finalising constructed thawing_made held_data building_child building_forward building_binding building_handler with_method left_with called uncalled notifying signal_at beginning_emission adopted moving reckoning comparing sameness negating conjunction disjunction joining converting slot_at get_property set_from set_property then_goes_on notify_from_program look_up_object made_new creating sinking orphaning disposing adopting freezing thaw_notify signal_in signal_to_emit emitting connecting on_handlers attaching removing calling jumping branching branching_null asked changed with_value beginning_program program_before values_in truth_in text_in whole_in operand_in data_in written_to down_to_emission down_to_source received_by ending block_in given_by returned returning in_front running spec_at raising written setting building_object set_from_event get_from_event given_values emit_from_event release_from_event sourcing left carried collecting resulting
 truehandled_holds = refl
 
 pub nohandlers_holds : nohandlers_run.Holds
-unfolding digits making making_set set_forward closing finalised detail_at detail_in set_given finalising constructed thawing_made held_data building_child building_forward building_binding building_handler with_method left_with called uncalled notifying signal_at beginning_emission adopted moving reckoning comparing sameness negating conjunction disjunction joining converting slot_at getting set_from assigning then_goes_on telling naming made_new creating sinking orphaning disposing adopting freezing unfreezing signal_in signal_to_emit emitting connecting on_handlers attaching removing calling jumping branching branching_null asked changed with_value beginning_program program_before values_in truth_in text_in whole_in operand_in data_in written_to down_to_emission down_to_source received_by ending block_in given_by returned returning in_front running spec_at raising written setting building_object carrying_set carrying_get given_values carrying_emit carrying_release sourcing left carried collecting resulting
+unfolding digits making apply_construct_property set_forward closing finalised detail_at detail_in set_given finalising constructed thawing_made held_data building_child building_forward building_binding building_handler with_method left_with called uncalled notifying signal_at beginning_emission adopted moving reckoning comparing sameness negating conjunction disjunction joining converting slot_at get_property set_from set_property then_goes_on notify_from_program look_up_object made_new creating sinking orphaning disposing adopting freezing thaw_notify signal_in signal_to_emit emitting connecting on_handlers attaching removing calling jumping branching branching_null asked changed with_value beginning_program program_before values_in truth_in text_in whole_in operand_in data_in written_to down_to_emission down_to_source received_by ending block_in given_by returned returning in_front running spec_at raising written setting building_object set_from_event get_from_event given_values emit_from_event release_from_event sourcing left carried collecting resulting
 nohandlers_holds = refl
 
 pub connections_holds : connections_run.Holds
-unfolding digits making making_set set_forward closing finalised detail_at detail_in set_given finalising constructed thawing_made held_data building_child building_forward building_binding building_handler with_method left_with called uncalled notifying signal_at beginning_emission adopted moving reckoning comparing sameness negating conjunction disjunction joining converting slot_at getting set_from assigning then_goes_on telling naming made_new creating sinking orphaning disposing adopting freezing unfreezing signal_in signal_to_emit emitting connecting on_handlers attaching removing calling jumping branching branching_null asked changed with_value beginning_program program_before values_in truth_in text_in whole_in operand_in data_in written_to down_to_emission down_to_source received_by ending block_in given_by returned returning in_front running spec_at raising written setting building_object carrying_set carrying_get given_values carrying_emit carrying_release sourcing left carried collecting resulting
+unfolding digits making apply_construct_property set_forward closing finalised detail_at detail_in set_given finalising constructed thawing_made held_data building_child building_forward building_binding building_handler with_method left_with called uncalled notifying signal_at beginning_emission adopted moving reckoning comparing sameness negating conjunction disjunction joining converting slot_at get_property set_from set_property then_goes_on notify_from_program look_up_object made_new creating sinking orphaning disposing adopting freezing thaw_notify signal_in signal_to_emit emitting connecting on_handlers attaching removing calling jumping branching branching_null asked changed with_value beginning_program program_before values_in truth_in text_in whole_in operand_in data_in written_to down_to_emission down_to_source received_by ending block_in given_by returned returning in_front running spec_at raising written setting building_object set_from_event get_from_event given_values emit_from_event release_from_event sourcing left carried collecting resulting
 connections_holds = refl
 
 pub pair_holds : pair_run.Holds
-unfolding digits making making_set set_forward closing finalised detail_at detail_in set_given finalising constructed thawing_made held_data building_child building_forward building_binding building_handler with_method left_with called uncalled notifying signal_at beginning_emission adopted moving reckoning comparing sameness negating conjunction disjunction joining converting slot_at getting set_from assigning then_goes_on telling naming made_new creating sinking orphaning disposing adopting freezing unfreezing signal_in signal_to_emit emitting connecting on_handlers attaching removing calling jumping branching branching_null asked changed with_value beginning_program program_before values_in truth_in text_in whole_in operand_in data_in written_to down_to_emission down_to_source received_by ending block_in given_by returned returning in_front running spec_at raising written setting building_object carrying_set carrying_get given_values carrying_emit carrying_release sourcing left carried collecting resulting
+unfolding digits making apply_construct_property set_forward closing finalised detail_at detail_in set_given finalising constructed thawing_made held_data building_child building_forward building_binding building_handler with_method left_with called uncalled notifying signal_at beginning_emission adopted moving reckoning comparing sameness negating conjunction disjunction joining converting slot_at get_property set_from set_property then_goes_on notify_from_program look_up_object made_new creating sinking orphaning disposing adopting freezing thaw_notify signal_in signal_to_emit emitting connecting on_handlers attaching removing calling jumping branching branching_null asked changed with_value beginning_program program_before values_in truth_in text_in whole_in operand_in data_in written_to down_to_emission down_to_source received_by ending block_in given_by returned returning in_front running spec_at raising written setting building_object set_from_event get_from_event given_values emit_from_event release_from_event sourcing left carried collecting resulting
 pair_holds = refl
 
 pub labels_holds : labels_run.Holds
-unfolding digits making making_set set_forward closing finalised detail_at detail_in set_given finalising constructed thawing_made held_data building_child building_forward building_binding building_handler with_method left_with called uncalled notifying signal_at beginning_emission adopted moving reckoning comparing sameness negating conjunction disjunction joining converting slot_at getting set_from assigning then_goes_on telling naming made_new creating sinking orphaning disposing adopting freezing unfreezing signal_in signal_to_emit emitting connecting on_handlers attaching removing calling jumping branching branching_null asked changed with_value beginning_program program_before values_in truth_in text_in whole_in operand_in data_in written_to down_to_emission down_to_source received_by ending block_in given_by returned returning in_front running spec_at raising written setting building_object carrying_set carrying_get given_values carrying_emit carrying_release sourcing left carried collecting resulting
+unfolding digits making apply_construct_property set_forward closing finalised detail_at detail_in set_given finalising constructed thawing_made held_data building_child building_forward building_binding building_handler with_method left_with called uncalled notifying signal_at beginning_emission adopted moving reckoning comparing sameness negating conjunction disjunction joining converting slot_at get_property set_from set_property then_goes_on notify_from_program look_up_object made_new creating sinking orphaning disposing adopting freezing thaw_notify signal_in signal_to_emit emitting connecting on_handlers attaching removing calling jumping branching branching_null asked changed with_value beginning_program program_before values_in truth_in text_in whole_in operand_in data_in written_to down_to_emission down_to_source received_by ending block_in given_by returned returning in_front running spec_at raising written setting building_object set_from_event get_from_event given_values emit_from_event release_from_event sourcing left carried collecting resulting
 labels_holds = refl
 
 pub lastreference_holds : lastreference_run.Holds
-unfolding digits making making_set set_forward closing finalised detail_at detail_in set_given finalising constructed thawing_made held_data building_child building_forward building_binding building_handler with_method left_with called uncalled notifying signal_at beginning_emission adopted moving reckoning comparing sameness negating conjunction disjunction joining converting slot_at getting set_from assigning then_goes_on telling naming made_new creating sinking orphaning disposing adopting freezing unfreezing signal_in signal_to_emit emitting connecting on_handlers attaching removing calling jumping branching branching_null asked changed with_value beginning_program program_before values_in truth_in text_in whole_in operand_in data_in written_to down_to_emission down_to_source received_by ending block_in given_by returned returning in_front running spec_at raising written setting building_object carrying_set carrying_get given_values carrying_emit carrying_release sourcing left carried collecting resulting
+unfolding digits making apply_construct_property set_forward closing finalised detail_at detail_in set_given finalising constructed thawing_made held_data building_child building_forward building_binding building_handler with_method left_with called uncalled notifying signal_at beginning_emission adopted moving reckoning comparing sameness negating conjunction disjunction joining converting slot_at get_property set_from set_property then_goes_on notify_from_program look_up_object made_new creating sinking orphaning disposing adopting freezing thaw_notify signal_in signal_to_emit emitting connecting on_handlers attaching removing calling jumping branching branching_null asked changed with_value beginning_program program_before values_in truth_in text_in whole_in operand_in data_in written_to down_to_emission down_to_source received_by ending block_in given_by returned returning in_front running spec_at raising written setting building_object set_from_event get_from_event given_values emit_from_event release_from_event sourcing left carried collecting resulting
 lastreference_holds = refl
 
 pub mainloop_holds : mainloop_run.Holds
-unfolding digits making making_set set_forward closing finalised detail_at detail_in set_given finalising constructed thawing_made held_data building_child building_forward building_binding building_handler with_method left_with called uncalled notifying signal_at beginning_emission adopted moving reckoning comparing sameness negating conjunction disjunction joining converting slot_at getting set_from assigning then_goes_on telling naming made_new creating sinking orphaning disposing adopting freezing unfreezing signal_in signal_to_emit emitting connecting on_handlers attaching removing calling jumping branching branching_null asked changed with_value beginning_program program_before values_in truth_in text_in whole_in operand_in data_in written_to down_to_emission down_to_source received_by ending block_in given_by returned returning in_front running spec_at raising written setting building_object carrying_set carrying_get given_values carrying_emit carrying_release sourcing left carried collecting resulting
+unfolding digits making apply_construct_property set_forward closing finalised detail_at detail_in set_given finalising constructed thawing_made held_data building_child building_forward building_binding building_handler with_method left_with called uncalled notifying signal_at beginning_emission adopted moving reckoning comparing sameness negating conjunction disjunction joining converting slot_at get_property set_from set_property then_goes_on notify_from_program look_up_object made_new creating sinking orphaning disposing adopting freezing thaw_notify signal_in signal_to_emit emitting connecting on_handlers attaching removing calling jumping branching branching_null asked changed with_value beginning_program program_before values_in truth_in text_in whole_in operand_in data_in written_to down_to_emission down_to_source received_by ending block_in given_by returned returning in_front running spec_at raising written setting building_object set_from_event get_from_event given_values emit_from_event release_from_event sourcing left carried collecting resulting
 mainloop_holds = refl
 
 pub floating_holds : floating_run.Holds
-unfolding digits making making_set set_forward closing finalised detail_at detail_in set_given finalising constructed thawing_made held_data building_child building_forward building_binding building_handler with_method left_with called uncalled notifying signal_at beginning_emission adopted moving reckoning comparing sameness negating conjunction disjunction joining converting slot_at getting set_from assigning then_goes_on telling naming made_new creating sinking orphaning disposing adopting freezing unfreezing signal_in signal_to_emit emitting connecting on_handlers attaching removing calling jumping branching branching_null asked changed with_value beginning_program program_before values_in truth_in text_in whole_in operand_in data_in written_to down_to_emission down_to_source received_by ending block_in given_by returned returning in_front running spec_at raising written setting building_object carrying_set carrying_get given_values carrying_emit carrying_release sourcing left carried collecting resulting
+unfolding digits making apply_construct_property set_forward closing finalised detail_at detail_in set_given finalising constructed thawing_made held_data building_child building_forward building_binding building_handler with_method left_with called uncalled notifying signal_at beginning_emission adopted moving reckoning comparing sameness negating conjunction disjunction joining converting slot_at get_property set_from set_property then_goes_on notify_from_program look_up_object made_new creating sinking orphaning disposing adopting freezing thaw_notify signal_in signal_to_emit emitting connecting on_handlers attaching removing calling jumping branching branching_null asked changed with_value beginning_program program_before values_in truth_in text_in whole_in operand_in data_in written_to down_to_emission down_to_source received_by ending block_in given_by returned returning in_front running spec_at raising written setting building_object set_from_event get_from_event given_values emit_from_event release_from_event sourcing left carried collecting resulting
 floating_holds = refl
 
 pub faultingpeer_holds : faultingpeer_run.Holds
-unfolding digits making making_set set_forward closing finalised detail_at detail_in set_given finalising constructed thawing_made held_data building_child building_forward building_binding building_handler with_method left_with called uncalled notifying signal_at beginning_emission adopted moving reckoning comparing sameness negating conjunction disjunction joining converting slot_at getting set_from assigning then_goes_on telling naming made_new creating sinking orphaning disposing adopting freezing unfreezing signal_in signal_to_emit emitting connecting on_handlers attaching removing calling jumping branching branching_null asked changed with_value beginning_program program_before values_in truth_in text_in whole_in operand_in data_in written_to down_to_emission down_to_source received_by ending block_in given_by returned returning in_front running spec_at raising written setting building_object carrying_set carrying_get given_values carrying_emit carrying_release sourcing left carried collecting resulting
+unfolding digits making apply_construct_property set_forward closing finalised detail_at detail_in set_given finalising constructed thawing_made held_data building_child building_forward building_binding building_handler with_method left_with called uncalled notifying signal_at beginning_emission adopted moving reckoning comparing sameness negating conjunction disjunction joining converting slot_at get_property set_from set_property then_goes_on notify_from_program look_up_object made_new creating sinking orphaning disposing adopting freezing thaw_notify signal_in signal_to_emit emitting connecting on_handlers attaching removing calling jumping branching branching_null asked changed with_value beginning_program program_before values_in truth_in text_in whole_in operand_in data_in written_to down_to_emission down_to_source received_by ending block_in given_by returned returning in_front running spec_at raising written setting building_object set_from_event get_from_event given_values emit_from_event release_from_event sourcing left carried collecting resulting
 faultingpeer_holds = refl
 
 pub release_holds : release_run.Holds
-unfolding digits making making_set set_forward closing finalised detail_at detail_in set_given finalising constructed thawing_made held_data building_child building_forward building_binding building_handler with_method left_with called uncalled notifying signal_at beginning_emission adopted moving reckoning comparing sameness negating conjunction disjunction joining converting slot_at getting set_from assigning then_goes_on telling naming made_new creating sinking orphaning disposing adopting freezing unfreezing signal_in signal_to_emit emitting connecting on_handlers attaching removing calling jumping branching branching_null asked changed with_value beginning_program program_before values_in truth_in text_in whole_in operand_in data_in written_to down_to_emission down_to_source received_by ending block_in given_by returned returning in_front running spec_at raising written setting building_object carrying_set carrying_get given_values carrying_emit carrying_release sourcing left carried collecting resulting
+unfolding digits making apply_construct_property set_forward closing finalised detail_at detail_in set_given finalising constructed thawing_made held_data building_child building_forward building_binding building_handler with_method left_with called uncalled notifying signal_at beginning_emission adopted moving reckoning comparing sameness negating conjunction disjunction joining converting slot_at get_property set_from set_property then_goes_on notify_from_program look_up_object made_new creating sinking orphaning disposing adopting freezing thaw_notify signal_in signal_to_emit emitting connecting on_handlers attaching removing calling jumping branching branching_null asked changed with_value beginning_program program_before values_in truth_in text_in whole_in operand_in data_in written_to down_to_emission down_to_source received_by ending block_in given_by returned returning in_front running spec_at raising written setting building_object set_from_event get_from_event given_values emit_from_event release_from_event sourcing left carried collecting resulting
 release_holds = refl
 
 pub textandtruth_holds : textandtruth_run.Holds
-unfolding digits making making_set set_forward closing finalised detail_at detail_in set_given finalising constructed thawing_made held_data building_child building_forward building_binding building_handler with_method left_with called uncalled notifying signal_at beginning_emission adopted moving reckoning comparing sameness negating conjunction disjunction joining converting slot_at getting set_from assigning then_goes_on telling naming made_new creating sinking orphaning disposing adopting freezing unfreezing signal_in signal_to_emit emitting connecting on_handlers attaching removing calling jumping branching branching_null asked changed with_value beginning_program program_before values_in truth_in text_in whole_in operand_in data_in written_to down_to_emission down_to_source received_by ending block_in given_by returned returning in_front running spec_at raising written setting building_object carrying_set carrying_get given_values carrying_emit carrying_release sourcing left carried collecting resulting
+unfolding digits making apply_construct_property set_forward closing finalised detail_at detail_in set_given finalising constructed thawing_made held_data building_child building_forward building_binding building_handler with_method left_with called uncalled notifying signal_at beginning_emission adopted moving reckoning comparing sameness negating conjunction disjunction joining converting slot_at get_property set_from set_property then_goes_on notify_from_program look_up_object made_new creating sinking orphaning disposing adopting freezing thaw_notify signal_in signal_to_emit emitting connecting on_handlers attaching removing calling jumping branching branching_null asked changed with_value beginning_program program_before values_in truth_in text_in whole_in operand_in data_in written_to down_to_emission down_to_source received_by ending block_in given_by returned returning in_front running spec_at raising written setting building_object set_from_event get_from_event given_values emit_from_event release_from_event sourcing left carried collecting resulting
 textandtruth_holds = refl
 
 pub construction_holds : construction_run.Holds
-unfolding digits making making_set set_forward closing finalised detail_at detail_in set_given finalising constructed thawing_made held_data building_child building_forward building_binding building_handler with_method left_with called uncalled notifying signal_at beginning_emission adopted moving reckoning comparing sameness negating conjunction disjunction joining converting slot_at getting set_from assigning then_goes_on telling naming made_new creating sinking orphaning disposing adopting freezing unfreezing signal_in signal_to_emit emitting connecting on_handlers attaching removing calling jumping branching branching_null asked changed with_value beginning_program program_before values_in truth_in text_in whole_in operand_in data_in written_to down_to_emission down_to_source received_by ending block_in given_by returned returning in_front running spec_at raising written setting building_object carrying_set carrying_get given_values carrying_emit carrying_release sourcing left carried collecting resulting
+unfolding digits making apply_construct_property set_forward closing finalised detail_at detail_in set_given finalising constructed thawing_made held_data building_child building_forward building_binding building_handler with_method left_with called uncalled notifying signal_at beginning_emission adopted moving reckoning comparing sameness negating conjunction disjunction joining converting slot_at get_property set_from set_property then_goes_on notify_from_program look_up_object made_new creating sinking orphaning disposing adopting freezing thaw_notify signal_in signal_to_emit emitting connecting on_handlers attaching removing calling jumping branching branching_null asked changed with_value beginning_program program_before values_in truth_in text_in whole_in operand_in data_in written_to down_to_emission down_to_source received_by ending block_in given_by returned returning in_front running spec_at raising written setting building_object set_from_event get_from_event given_values emit_from_event release_from_event sourcing left carried collecting resulting
 construction_holds = refl
 
 pub explicitnotify_holds : explicitnotify_run.Holds
-unfolding digits making making_set set_forward closing finalised detail_at detail_in set_given finalising constructed thawing_made held_data building_child building_forward building_binding building_handler with_method left_with called uncalled notifying signal_at beginning_emission adopted moving reckoning comparing sameness negating conjunction disjunction joining converting slot_at getting set_from assigning then_goes_on telling naming made_new creating sinking orphaning disposing adopting freezing unfreezing signal_in signal_to_emit emitting connecting on_handlers attaching removing calling jumping branching branching_null asked changed with_value beginning_program program_before values_in truth_in text_in whole_in operand_in data_in written_to down_to_emission down_to_source received_by ending block_in given_by returned returning in_front running spec_at raising written setting building_object carrying_set carrying_get given_values carrying_emit carrying_release sourcing left carried collecting resulting
+unfolding digits making apply_construct_property set_forward closing finalised detail_at detail_in set_given finalising constructed thawing_made held_data building_child building_forward building_binding building_handler with_method left_with called uncalled notifying signal_at beginning_emission adopted moving reckoning comparing sameness negating conjunction disjunction joining converting slot_at get_property set_from set_property then_goes_on notify_from_program look_up_object made_new creating sinking orphaning disposing adopting freezing thaw_notify signal_in signal_to_emit emitting connecting on_handlers attaching removing calling jumping branching branching_null asked changed with_value beginning_program program_before values_in truth_in text_in whole_in operand_in data_in written_to down_to_emission down_to_source received_by ending block_in given_by returned returning in_front running spec_at raising written setting building_object set_from_event get_from_event given_values emit_from_event release_from_event sourcing left carried collecting resulting
 explicitnotify_holds = refl
 
 pub links_holds : links_run.Holds
-unfolding digits making making_set set_forward closing finalised detail_at detail_in set_given finalising constructed thawing_made held_data building_child building_forward building_binding building_handler with_method left_with called uncalled notifying signal_at beginning_emission adopted moving reckoning comparing sameness negating conjunction disjunction joining converting slot_at getting set_from assigning then_goes_on telling naming made_new creating sinking orphaning disposing adopting freezing unfreezing signal_in signal_to_emit emitting connecting on_handlers attaching removing calling jumping branching branching_null asked changed with_value beginning_program program_before values_in truth_in text_in whole_in operand_in data_in written_to down_to_emission down_to_source received_by ending block_in given_by returned returning in_front running spec_at raising written setting building_object carrying_set carrying_get given_values carrying_emit carrying_release sourcing left carried collecting resulting
+unfolding digits making apply_construct_property set_forward closing finalised detail_at detail_in set_given finalising constructed thawing_made held_data building_child building_forward building_binding building_handler with_method left_with called uncalled notifying signal_at beginning_emission adopted moving reckoning comparing sameness negating conjunction disjunction joining converting slot_at get_property set_from set_property then_goes_on notify_from_program look_up_object made_new creating sinking orphaning disposing adopting freezing thaw_notify signal_in signal_to_emit emitting connecting on_handlers attaching removing calling jumping branching branching_null asked changed with_value beginning_program program_before values_in truth_in text_in whole_in operand_in data_in written_to down_to_emission down_to_source received_by ending block_in given_by returned returning in_front running spec_at raising written setting building_object set_from_event get_from_event given_values emit_from_event release_from_event sourcing left carried collecting resulting
 links_holds = refl
 
 pub children_holds : children_run.Holds
-unfolding digits making making_set set_forward closing finalised detail_at detail_in set_given finalising constructed thawing_made held_data building_child building_forward building_binding building_handler with_method left_with called uncalled notifying signal_at beginning_emission adopted moving reckoning comparing sameness negating conjunction disjunction joining converting slot_at getting set_from assigning then_goes_on telling naming made_new creating sinking orphaning disposing adopting freezing unfreezing signal_in signal_to_emit emitting connecting on_handlers attaching removing calling jumping branching branching_null asked changed with_value beginning_program program_before values_in truth_in text_in whole_in operand_in data_in written_to down_to_emission down_to_source received_by ending block_in given_by returned returning in_front running spec_at raising written setting building_object carrying_set carrying_get given_values carrying_emit carrying_release sourcing left carried collecting resulting
+unfolding digits making apply_construct_property set_forward closing finalised detail_at detail_in set_given finalising constructed thawing_made held_data building_child building_forward building_binding building_handler with_method left_with called uncalled notifying signal_at beginning_emission adopted moving reckoning comparing sameness negating conjunction disjunction joining converting slot_at get_property set_from set_property then_goes_on notify_from_program look_up_object made_new creating sinking orphaning disposing adopting freezing thaw_notify signal_in signal_to_emit emitting connecting on_handlers attaching removing calling jumping branching branching_null asked changed with_value beginning_program program_before values_in truth_in text_in whole_in operand_in data_in written_to down_to_emission down_to_source received_by ending block_in given_by returned returning in_front running spec_at raising written setting building_object set_from_event get_from_event given_values emit_from_event release_from_event sourcing left carried collecting resulting
 children_holds = refl
 
 pub detail_holds : detail_run.Holds
-unfolding digits making making_set set_forward closing finalised detail_at detail_in set_given finalising constructed thawing_made held_data building_child building_forward building_binding building_handler with_method left_with called uncalled notifying signal_at beginning_emission adopted moving reckoning comparing sameness negating conjunction disjunction joining converting slot_at getting set_from assigning then_goes_on telling naming made_new creating sinking orphaning disposing adopting freezing unfreezing signal_in signal_to_emit emitting connecting on_handlers attaching removing calling jumping branching branching_null asked changed with_value beginning_program program_before values_in truth_in text_in whole_in operand_in data_in written_to down_to_emission down_to_source received_by ending block_in given_by returned returning in_front running spec_at raising written setting building_object carrying_set carrying_get given_values carrying_emit carrying_release sourcing left carried collecting resulting
+unfolding digits making apply_construct_property set_forward closing finalised detail_at detail_in set_given finalising constructed thawing_made held_data building_child building_forward building_binding building_handler with_method left_with called uncalled notifying signal_at beginning_emission adopted moving reckoning comparing sameness negating conjunction disjunction joining converting slot_at get_property set_from set_property then_goes_on notify_from_program look_up_object made_new creating sinking orphaning disposing adopting freezing thaw_notify signal_in signal_to_emit emitting connecting on_handlers attaching removing calling jumping branching branching_null asked changed with_value beginning_program program_before values_in truth_in text_in whole_in operand_in data_in written_to down_to_emission down_to_source received_by ending block_in given_by returned returning in_front running spec_at raising written setting building_object set_from_event get_from_event given_values emit_from_event release_from_event sourcing left carried collecting resulting
 detail_holds = refl
 
 pub enumbinding_holds : enumbinding_run.Holds
-unfolding digits making making_set set_forward closing finalised detail_at detail_in set_given finalising constructed thawing_made held_data building_child building_forward building_binding building_handler with_method left_with called uncalled notifying signal_at beginning_emission adopted moving reckoning comparing sameness negating conjunction disjunction joining converting slot_at getting set_from assigning then_goes_on telling naming made_new creating sinking orphaning disposing adopting freezing unfreezing signal_in signal_to_emit emitting connecting on_handlers attaching removing calling jumping branching branching_null asked changed with_value beginning_program program_before values_in truth_in text_in whole_in operand_in data_in written_to down_to_emission down_to_source received_by ending block_in given_by returned returning in_front running spec_at raising written setting building_object carrying_set carrying_get given_values carrying_emit carrying_release sourcing left carried collecting resulting
+unfolding digits making apply_construct_property set_forward closing finalised detail_at detail_in set_given finalising constructed thawing_made held_data building_child building_forward building_binding building_handler with_method left_with called uncalled notifying signal_at beginning_emission adopted moving reckoning comparing sameness negating conjunction disjunction joining converting slot_at get_property set_from set_property then_goes_on notify_from_program look_up_object made_new creating sinking orphaning disposing adopting freezing thaw_notify signal_in signal_to_emit emitting connecting on_handlers attaching removing calling jumping branching branching_null asked changed with_value beginning_program program_before values_in truth_in text_in whole_in operand_in data_in written_to down_to_emission down_to_source received_by ending block_in given_by returned returning in_front running spec_at raising written setting building_object set_from_event get_from_event given_values emit_from_event release_from_event sourcing left carried collecting resulting
 enumbinding_holds = refl
 
 pub duenotification_holds : duenotification_run.Holds
-unfolding digits making making_set set_forward closing finalised detail_at detail_in set_given finalising constructed thawing_made held_data building_child building_forward building_binding building_handler with_method left_with called uncalled notifying signal_at beginning_emission adopted moving reckoning comparing sameness negating conjunction disjunction joining converting slot_at getting set_from assigning then_goes_on telling naming made_new creating sinking orphaning disposing adopting freezing unfreezing signal_in signal_to_emit emitting connecting on_handlers attaching removing calling jumping branching branching_null asked changed with_value beginning_program program_before values_in truth_in text_in whole_in operand_in data_in written_to down_to_emission down_to_source received_by ending block_in given_by returned returning in_front running spec_at raising written setting building_object carrying_set carrying_get given_values carrying_emit carrying_release sourcing left carried collecting resulting
+unfolding digits making apply_construct_property set_forward closing finalised detail_at detail_in set_given finalising constructed thawing_made held_data building_child building_forward building_binding building_handler with_method left_with called uncalled notifying signal_at beginning_emission adopted moving reckoning comparing sameness negating conjunction disjunction joining converting slot_at get_property set_from set_property then_goes_on notify_from_program look_up_object made_new creating sinking orphaning disposing adopting freezing thaw_notify signal_in signal_to_emit emitting connecting on_handlers attaching removing calling jumping branching branching_null asked changed with_value beginning_program program_before values_in truth_in text_in whole_in operand_in data_in written_to down_to_emission down_to_source received_by ending block_in given_by returned returning in_front running spec_at raising written setting building_object set_from_event get_from_event given_values emit_from_event release_from_event sourcing left carried collecting resulting
 duenotification_holds = refl
 
 pub screenpeer_holds : screenpeer_run.Holds
-unfolding digits making making_set set_forward closing finalised detail_at detail_in set_given finalising constructed thawing_made held_data building_child building_forward building_binding building_handler with_method left_with called uncalled notifying signal_at beginning_emission adopted moving reckoning comparing sameness negating conjunction disjunction joining converting slot_at getting set_from assigning then_goes_on telling naming made_new creating sinking orphaning disposing adopting freezing unfreezing signal_in signal_to_emit emitting connecting on_handlers attaching removing calling jumping branching branching_null asked changed with_value beginning_program program_before values_in truth_in text_in whole_in operand_in data_in written_to down_to_emission down_to_source received_by ending block_in given_by returned returning in_front running spec_at raising written setting building_object carrying_set carrying_get given_values carrying_emit carrying_release sourcing left carried collecting resulting
+unfolding digits making apply_construct_property set_forward closing finalised detail_at detail_in set_given finalising constructed thawing_made held_data building_child building_forward building_binding building_handler with_method left_with called uncalled notifying signal_at beginning_emission adopted moving reckoning comparing sameness negating conjunction disjunction joining converting slot_at get_property set_from set_property then_goes_on notify_from_program look_up_object made_new creating sinking orphaning disposing adopting freezing thaw_notify signal_in signal_to_emit emitting connecting on_handlers attaching removing calling jumping branching branching_null asked changed with_value beginning_program program_before values_in truth_in text_in whole_in operand_in data_in written_to down_to_emission down_to_source received_by ending block_in given_by returned returning in_front running spec_at raising written setting building_object set_from_event get_from_event given_values emit_from_event release_from_event sourcing left carried collecting resulting
 screenpeer_holds = refl
 
 pub repeatedblock_holds : repeatedblock_run.Holds
-unfolding digits making making_set set_forward closing finalised detail_at detail_in set_given finalising constructed thawing_made held_data building_child building_forward building_binding building_handler with_method left_with called uncalled notifying signal_at beginning_emission adopted moving reckoning comparing sameness negating conjunction disjunction joining converting slot_at getting set_from assigning then_goes_on telling naming made_new creating sinking orphaning disposing adopting freezing unfreezing signal_in signal_to_emit emitting connecting on_handlers attaching removing calling jumping branching branching_null asked changed with_value beginning_program program_before values_in truth_in text_in whole_in operand_in data_in written_to down_to_emission down_to_source received_by ending block_in given_by returned returning in_front running spec_at raising written setting building_object carrying_set carrying_get given_values carrying_emit carrying_release sourcing left carried collecting resulting
+unfolding digits making apply_construct_property set_forward closing finalised detail_at detail_in set_given finalising constructed thawing_made held_data building_child building_forward building_binding building_handler with_method left_with called uncalled notifying signal_at beginning_emission adopted moving reckoning comparing sameness negating conjunction disjunction joining converting slot_at get_property set_from set_property then_goes_on notify_from_program look_up_object made_new creating sinking orphaning disposing adopting freezing thaw_notify signal_in signal_to_emit emitting connecting on_handlers attaching removing calling jumping branching branching_null asked changed with_value beginning_program program_before values_in truth_in text_in whole_in operand_in data_in written_to down_to_emission down_to_source received_by ending block_in given_by returned returning in_front running spec_at raising written setting building_object set_from_event get_from_event given_values emit_from_event release_from_event sourcing left carried collecting resulting
 repeatedblock_holds = refl
 
 pub frozenpair_holds : frozenpair_run.Holds
-unfolding digits making making_set set_forward closing finalised detail_at detail_in set_given finalising constructed thawing_made held_data building_child building_forward building_binding building_handler with_method left_with called uncalled notifying signal_at beginning_emission adopted moving reckoning comparing sameness negating conjunction disjunction joining converting slot_at getting set_from assigning then_goes_on telling naming made_new creating sinking orphaning disposing adopting freezing unfreezing signal_in signal_to_emit emitting connecting on_handlers attaching removing calling jumping branching branching_null asked changed with_value beginning_program program_before values_in truth_in text_in whole_in operand_in data_in written_to down_to_emission down_to_source received_by ending block_in given_by returned returning in_front running spec_at raising written setting building_object carrying_set carrying_get given_values carrying_emit carrying_release sourcing left carried collecting resulting
+unfolding digits making apply_construct_property set_forward closing finalised detail_at detail_in set_given finalising constructed thawing_made held_data building_child building_forward building_binding building_handler with_method left_with called uncalled notifying signal_at beginning_emission adopted moving reckoning comparing sameness negating conjunction disjunction joining converting slot_at get_property set_from set_property then_goes_on notify_from_program look_up_object made_new creating sinking orphaning disposing adopting freezing thaw_notify signal_in signal_to_emit emitting connecting on_handlers attaching removing calling jumping branching branching_null asked changed with_value beginning_program program_before values_in truth_in text_in whole_in operand_in data_in written_to down_to_emission down_to_source received_by ending block_in given_by returned returning in_front running spec_at raising written setting building_object set_from_event get_from_event given_values emit_from_event release_from_event sourcing left carried collecting resulting
 frozenpair_holds = refl

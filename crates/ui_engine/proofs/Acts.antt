@@ -14,21 +14,21 @@ use Rattle.ui_machine.specs.Output.Lines as lines
 use Rattle.ui_machine.specs.Definition.Lookups.{type_of, program_at, place_at, specs_of}
 use Rattle.ui_machine.specs.State.Tasks as config
 use Rattle.ui_machine.specs.State.Objects.{Object, Objects, changed, object_at}
-use Rattle.ui_machine.specs.State.Tasks.{Making, Item, makes, adopts, connects, PlanEntry, class_handler, handler, transfer, Emission, Frame, Task, Setting, Notifying, Beginning, Emitting, Transferring, Unsetting, Thawing, Running, Answering, Calling, Constructing, Building, Carrying, Due}
-use Rattle.ui_machine.specs.State.Config.{World, Config, built, Started, starts, said, held_at, is_unbuilt, with_held, sunk, Left}
+use Rattle.ui_machine.specs.State.Tasks.{ConstructStep, Item, makes, adopts, connects, PlanEntry, class_handler, handler, transfer, Emission, Frame, Task, Setting, Notifying, Beginning, Emitting, Transferring, Unsetting, Thawing, Running, Answering, Calling, Constructing, Building, Handling, Due}
+use Rattle.ui_machine.specs.State.Config.{World, Config, built, Started, starts, said, builder_entry, is_unbuilt, with_builder_entry, sunk, Left}
 use Rattle.ui_machine.specs.Outcome.{After, Answer, known, only_if}
 use Rattle.ui_machine.specs.Rules.NotifyQueue.{frozen_less, thawing}
 use Rattle.ui_machine.specs.Rules.Programs.{first_frame, all_fit, fits_register, beginning_program, program_before}
 use Rattle.ui_machine.specs.Rules.EmissionPlan.{notifying, beginning_emission}
 use Rattle.ui_machine.specs.Rules.Accumulation.{resulting, passed_down, received_by, taken, told, ending, given_to, in_stage, instance_of, running_handler, taking_entry}
 use Rattle.ui_machine.specs.Rules.Transfers.{transfer_for}
-use Rattle.ui_machine.specs.Rules.Construction.{not_forward, initially_unowned, making, with_object, new_object, thawing_made, constructed, making_set, constructed_runs}
+use Rattle.ui_machine.specs.Rules.Construction.{not_forward, initially_unowned, making, with_object, new_object, thawing_made, constructed, apply_construct_property, constructed_runs}
 use Rattle.ui_machine.specs.Rules.Sets.{setting, spec_at}
 use Rattle.ui_machine.specs.Steps.{most_steps, before, uncounted, left, act}
 use Rattle.ui_machine.specs.Rules.Build.{building, building_child, building_forward, building_handler, connected_items, connection, held_data, held_object}
 use Rattle.ui_machine.specs.Rules.Connections.{Connection, detail_at, is_too_late, signal_number, with_handler}
 use Rattle.ui_machine.specs.Rules.Children.{adopted}
-use Rattle.ui_machine.specs.Rules.Events.{carrying_set, carrying_get, carrying_emit, carrying_release}
+use Rattle.ui_machine.specs.Rules.Events.{set_from_event, get_from_event, emit_from_event, release_from_event}
 use Rattle.g_values.specs.View.{value_view}
 use Rattle.builder_defs.specs.declared.event.Event.{Event}
 use Rattle.builder_defs.specs.declared.event.Event.TheVariants as events
@@ -304,12 +304,12 @@ module _ (d : Definition) (w : World) (rest : List Task) (n : ℕ) where
       steady (Constructing id [] false) refl (record { world = w; tasks = [] })
       (record { floating = refl; handlers = refl; last = refl; grows = prefix_same w.transcript })
       (record { less = omega arith })
-  constructed_passes id true = uncounted_if (Constructing id [] true) (constructed w id true) (bind_ok (object_at w.objects id) _ P (λ o _. by o.place (is_unbuilt (held_at w o.place)) refl))
+  constructed_passes id true = uncounted_if (Constructing id [] true) (constructed w id true) (bind_ok (object_at w.objects id) _ P (λ o _. by o.place (is_unbuilt (builder_entry w o.place)) refl))
     where
       P : Started → Type 0
       P = λ s. Passes d w (Constructing id [] true) rest n (before rest n s)
 
-      by : (place : ℕ) (b : Bool) → is_unbuilt (held_at w place) ≡ b → IfOk (only_if b arms.Code (starts (sunk (with_held w place (built id)) id) [])) P
+      by : (place : ℕ) (b : Bool) → is_unbuilt (builder_entry w place) ≡ b → IfOk (only_if b arms.Code (starts (sunk (with_builder_entry w place (built id)) id) [])) P
       by place true new = record {
         falls = λ _. omega (arith, without_less id w.floating);
         stays = λ _. refl;
@@ -329,9 +329,9 @@ module _ (d : Definition) (w : World) (rest : List Task) (n : ℕ) where
     gone = same_stay w _ quiet.handlers quiet.last;
   }
 
-  sets_passes : (id slot : ℕ) (v : Value) (steps : List Making) (held : Bool) → IfOk (uncounted rest n (making_set d w id slot v (Constructing id steps held ∷ []))) (Passes d w (Constructing id (config.sets slot v ∷ steps) held) rest n)
-  unfolding making_set
-  sets_passes id slot v steps held = uncounted_if whole (making_set d w id slot v (Constructing id steps held ∷ [])) (bind_ok (spec_at d w.objects id slot) _ P (λ s _. by (is_writable s)))
+  sets_passes : (id slot : ℕ) (v : Value) (steps : List ConstructStep) (held : Bool) → IfOk (uncounted rest n (apply_construct_property d w id slot v (Constructing id steps held ∷ []))) (Passes d w (Constructing id (config.sets slot v ∷ steps) held) rest n)
+  unfolding apply_construct_property
+  sets_passes id slot v steps held = uncounted_if whole (apply_construct_property d w id slot v (Constructing id steps held ∷ [])) (bind_ok (spec_at d w.objects id slot) _ P (λ s _. by (is_writable s)))
     where
       whole : Task
       whole = Constructing id (config.sets slot v ∷ steps) held
@@ -345,7 +345,7 @@ module _ (d : Definition) (w : World) (rest : List Task) (n : ℕ) where
           (record { less = omega arith })
       by false = tt
 
-  runs_passes : (id program : ℕ) (steps : List Making) (held : Bool) → (args : List Value)
+  runs_passes : (id program : ℕ) (steps : List ConstructStep) (held : Bool) → (args : List Value)
       → IfOk (uncounted rest n (program_before d w program args (Constructing id steps held ∷ []))) (Passes d w (Constructing id (config.runs program ∷ steps) held) rest n)
   unfolding Begins
   runs_passes id program steps held args = uncounted_if whole (program_before d w program args (Constructing id steps held ∷ []))
@@ -357,7 +357,7 @@ module _ (d : Definition) (w : World) (rest : List Task) (n : ℕ) where
       whole : Task
       whole = Constructing id (config.runs program ∷ steps) held
 
-  thaws_passes : (id : ℕ) (steps : List Making) (held : Bool) → IfOk (uncounted rest n (thawing_made w id steps held)) (Passes d w (Constructing id (config.thaws ∷ steps) held) rest n)
+  thaws_passes : (id : ℕ) (steps : List ConstructStep) (held : Bool) → IfOk (uncounted rest n (thawing_made w id steps held)) (Passes d w (Constructing id (config.thaws ∷ steps) held) rest n)
   unfolding thawing_made
   thaws_passes id steps held = uncounted_if whole (thawing_made w id steps held)
       (both Quiet (Falls d w (weight d whole)) (λ s. Passes d w whole rest n (before rest n s)) (thawing_made w id steps held) quiet (thawing_made_falls d w id steps held)
@@ -372,7 +372,7 @@ module _ (d : Definition) (w : World) (rest : List Task) (n : ℕ) where
       quiet : IfOk (thawing_made w id steps held) Quiet
       quiet = bind_ok (changed w.objects id frozen_less) _ Quiet (λ r e. record { floating = refl; handlers = refl; last = refl; grows = prefix_same w.transcript })
 
-  constructing_passes : (id : ℕ) (steps : List Making) (held : Bool) → IfOk (act d w None (Constructing id steps held ∷ rest) n) (Passes d w (Constructing id steps held) rest n)
+  constructing_passes : (id : ℕ) (steps : List ConstructStep) (held : Bool) → IfOk (act d w None (Constructing id steps held ∷ rest) n) (Passes d w (Constructing id steps held) rest n)
   constructing_passes id [] held = constructed_passes id held
   constructing_passes id (config.sets slot v ∷ steps) held = sets_passes id slot v steps held
   constructing_passes id (config.runs program ∷ steps) held = runs_passes id program steps held _
@@ -386,11 +386,11 @@ module _ (d : Definition) (w : World) (rest : List Task) (n : ℕ) where
   setting_passes : (id slot : ℕ) (v : Value) → IfOk (act d w None (Setting id slot v ∷ rest) n) (Passes d w (Setting id slot v) rest n)
   setting_passes id slot v = steadily (Setting id slot v) refl (setting d w id slot v) (setting_calm d w id slot v) (setting_falls d w id slot v)
 
-  carrying_passes : (event : Event) → IfOk (act d w None (Carrying (request_of event) ∷ rest) n) (Passes d w (Carrying (request_of event)) rest n)
-  carrying_passes (events.Set place slot given) = steadily (Carrying (request_of (events.Set place slot given))) refl (carrying_set d w place.0 slot (given_view given)) (carrying_set_calm d w place.0 slot (given_view given)) (carrying_set_falls d w place.0 slot (given_view given))
-  carrying_passes (events.Get place slot) = steadily (Carrying (request_of (events.Get place slot))) refl (carrying_get d w place.0 slot) (carrying_get_calm d w place.0 slot) (carrying_get_falls d w place.0 slot)
-  carrying_passes (events.Emit place signal args detail) = steadily (Carrying (request_of (events.Emit place signal args detail))) refl (carrying_emit d w place.0 signal (map given_view args.items) (detail_of detail)) (carrying_emit_calm d w place.0 signal (map given_view args.items) (detail_of detail)) (carrying_emit_falls d w place.0 signal (map given_view args.items) (detail_of detail))
-  carrying_passes (events.Release place) = steadily (Carrying (request_of (events.Release place))) refl (carrying_release d w place.0) (carrying_release_calm d w place.0) (carrying_release_falls d w place.0)
+  carrying_passes : (event : Event) → IfOk (act d w None (Handling (request_of event) ∷ rest) n) (Passes d w (Handling (request_of event)) rest n)
+  carrying_passes (events.Set place slot given) = steadily (Handling (request_of (events.Set place slot given))) refl (set_from_event d w place.0 slot (given_view given)) (carrying_set_calm d w place.0 slot (given_view given)) (carrying_set_falls d w place.0 slot (given_view given))
+  carrying_passes (events.Get place slot) = steadily (Handling (request_of (events.Get place slot))) refl (get_from_event d w place.0 slot) (carrying_get_calm d w place.0 slot) (carrying_get_falls d w place.0 slot)
+  carrying_passes (events.Emit place signal args detail) = steadily (Handling (request_of (events.Emit place signal args detail))) refl (emit_from_event d w place.0 signal (map given_view args.items) (detail_of detail)) (carrying_emit_calm d w place.0 signal (map given_view args.items) (detail_of detail)) (carrying_emit_falls d w place.0 signal (map given_view args.items) (detail_of detail))
+  carrying_passes (events.Release place) = steadily (Handling (request_of (events.Release place))) refl (release_from_event d w place.0) (carrying_release_calm d w place.0) (carrying_release_falls d w place.0)
 
   -- ** the build
 
@@ -543,4 +543,4 @@ module _ (d : Definition) (w : World) (rest : List Task) (n : ℕ) where
   acted basic hs own (tasks.Adopting place forwards) ts same = adopting_passes place.0 (build_from d (suc place.0) forwards)
   acted basic hs own (tasks.Connecting place number) ts same =
       signals_pass (connects_from d place.0 number) (numbered_first place.0 number (drop number (signals_of (place_at d place.0))) _ (connected_first (suc place.0) (drop (suc place.0) d.places)))
-  acted basic hs own (tasks.Carrying event) ts same = carrying_passes event
+  acted basic hs own (tasks.Handling event) ts same = carrying_passes event

@@ -13,7 +13,7 @@ use Rattle.ui_machine.specs.Definition.Values as values
 use Rattle.ui_machine.specs.Seq.{read}
 use Rattle.ui_machine.specs.Definition.Lookups.{type_of, class_of, specs_of}
 use Rattle.ui_machine.specs.Output.Lines as lines
-use Rattle.ui_machine.specs.State.Tasks.{Making, sets, thaws, Item, makes, Task, Constructing, Building}
+use Rattle.ui_machine.specs.State.Tasks.{ConstructStep, sets, thaws, Item, makes, Task, Constructing, Building}
 use Rattle.ui_machine.specs.State.Config.{World, Started, starts, said}
 use Rattle.ui_machine.specs.Outcome.{Answer, ◌>>=◌, known, only_if}
 use Rattle.ui_machine.specs.Rules.Construction.{is_forward, not_forward, or_default, given_at, given_value, set_of, no_spec, is_at_construction, construct_sets, constructed_runs, given_sets, new_object, with_object, making, has_valid_default, has_shape}
@@ -26,7 +26,7 @@ use Rattle.g_values.specs.View.{value_view}
 use Rattle.builder_defs.specs.Meaning.{IsPlain, IsBasic, is_object, object_count}
 use Rattle.ui_engine.specs.declared.task.Forward.{Forward}
 use Rattle.ui_engine.specs.TaskView.{forwards_of_place, forwards_at, adopts_of, build_from, build_end, build_behind}
-use Rattle.ui_engine.specs.declared.task.Making as code
+use Rattle.ui_engine.specs.declared.task.ConstructStep as code
 use Rattle.ui_engine.specs.MakingView.{making_of_code, making_steps, later_steps, making_of_object}
 use Rattle.ui_engine.proofs.Notified.{none_given}
 use Rattle.ui_engine.proofs.Prototypes.{made_past, object_there}
@@ -51,7 +51,7 @@ pub few_early : (place : ℕ) (given : List GivenProperty) → length (not_forwa
 few_early place [] = omega arith
 few_early place (g ∷ gs) = one_early (not (is_forward place g.given)) g (not_forward place gs) gs (few_early place gs)
 
-one_set : (b : Bool) (slot : ℕ) (v : values.Value) (steps : List Making)
+one_set : (b : Bool) (slot : ℕ) (v : values.Value) (steps : List ConstructStep)
     → length (cond b (sets slot v ∷ []) [] ++ steps) ≤ suc (length steps)
 one_set true slot v steps = omega arith
 one_set false slot v steps = omega arith
@@ -65,7 +65,7 @@ few_construct w given slot (s ∷ specs) =
     let more = few_construct w given (suc slot) specs in
     omega (arith, one, more)
 
-one_given : (b : Bool) (v : Option values.Value) (slot : ℕ) (steps : List Making)
+one_given : (b : Bool) (v : Option values.Value) (slot : ℕ) (steps : List ConstructStep)
     → length (cond b [] (set_of v slot) ++ steps) ≤ suc (length steps)
 one_given true v slot steps = omega arith
 one_given false None slot steps = omega arith
@@ -160,7 +160,7 @@ pub mapped_more : {A B : Type 0} (f : A → B) (xs : List A) (x : A) → map f (
 mapped_more f [] x = refl
 mapped_more f (y ∷ xs) x = ap (λ ys. f y ∷ ys) (mapped_more f xs x)
 
-pub one_step_more : (steps : List code.Making) (step : code.Making) → making_steps (steps ++ step ∷ []) ≡ making_of_code step ∷ making_steps steps
+pub one_step_more : (steps : List code.ConstructStep) (step : code.ConstructStep) → making_steps (steps ++ step ∷ []) ≡ making_of_code step ∷ making_steps steps
 one_step_more steps step = ap reverse (mapped_more making_of_code steps step) ∙ reverse-append (map making_of_code steps) (making_of_code step ∷ [])
 
 -- ** the defaults of a class

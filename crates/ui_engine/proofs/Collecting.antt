@@ -164,8 +164,8 @@ module _ (d : Definition) (hs : List Handler) (w : World) (rest : List Task) whe
   gives_other (tasks.Adopting place forwards) (Some v) other = refl
   gives_other (tasks.Connecting place number) None other = refl
   gives_other (tasks.Connecting place number) (Some v) other = refl
-  gives_other (tasks.Carrying event) None other = refl
-  gives_other (tasks.Carrying event) (Some v) other = refl
+  gives_other (tasks.Handling event) None other = refl
+  gives_other (tasks.Handling event) (Some v) other = refl
 
 -- code that tests that nothing is given, above the same tasks
 pub goes_none : (d : Definition) (w : World) (r : Result (Unit {0}) Halt) (given : Option Value) (old new tasks : List Task) → TestsNone r given → old ≡ tasks → new ≡ tasks

@@ -7,11 +7,11 @@ use Rattle.ui_machine.specs.Definition.{Definition}
 use Rattle.ui_machine.specs.Definition.Lookups.{class_of}
 use Rattle.ui_machine.specs.Rules.Ancestry.{parent_of, lineage}
 use Rattle.ui_machine.specs.Rules.Construction.{constructed_runs, run_of}
-use Rattle.ui_machine.specs.State.Tasks.{Making}
+use Rattle.ui_machine.specs.State.Tasks.{ConstructStep}
 use Rattle.type_tree.specs.Tree.{IsTree}
 use Rattle.type_tree.proofs.Lines.{line_from-parent, line_from-root}
 
-runs_last : (f : ℕ → List Making) (ts : List ℕ) (t : ℕ) → flat_map f (reverse (t ∷ ts)) ≡ flat_map f (reverse ts) ++ f t
+runs_last : (f : ℕ → List ConstructStep) (ts : List ℕ) (t : ℕ) → flat_map f (reverse (t ∷ ts)) ≡ flat_map f (reverse ts) ++ f t
 runs_last f ts t =
     ap (flat_map f) (reverse-append (t ∷ []) ts) ∙ flat_map-append f (reverse ts) (t ∷ []) ∙ ap (λ l. flat_map f (reverse ts) ++ l) (append-nil (f t))
 
@@ -28,7 +28,7 @@ module _ (d : Definition) (tree : IsTree d.types) where
       ap (λ l. flat_map (λ c. run_of (class_of d c).constructed) (reverse (t ∷ l))) (line_from-root d.types tree t none) ∙ append-nil (run_of (class_of d t).constructed)
 
   -- the runs before these steps
-  pub runs_before_child : (t p : ℕ) (mid old new : List Making) → parent_of d.types t ≡ Some p → mid ≡ run_of (class_of d t).constructed ++ old
+  pub runs_before_child : (t p : ℕ) (mid old new : List ConstructStep) → parent_of d.types t ≡ Some p → mid ≡ run_of (class_of d t).constructed ++ old
       → new ≡ constructed_runs d p ++ mid → new ≡ constructed_runs d t ++ old
   runs_before_child t p mid old new is one more =
       more

@@ -8,7 +8,7 @@ use Rattle.ui_machine.specs.Definition.{Definition}
 use Rattle.ui_machine.specs.Definition.Values.{Value}
 use Rattle.ui_machine.specs.Outcome.{After, Answer, ◌>>=◌, known, only_if}
 use Rattle.ui_machine.specs.Rules.NotifyQueue.{queued, raised, less_frozen, frozen_less}
-use Rattle.ui_machine.specs.State.Config.{Held, said}
+use Rattle.ui_machine.specs.State.Config.{BuilderEntry, said}
 use Rattle.ui_machine.specs.State.Objects.{Object, Objects, living, put, asked, changed, value_at, with_value}
 use Rattle.ui_machine.specs.State.References.{same, in_value, in_object, in_held, in_task, mentions, next_unheld}
 use Rattle.ui_machine.specs.State.Tasks.{Emission, Emitting, PlanEntry, Task}
@@ -19,9 +19,9 @@ use Rattle.instances.specs.Weak.{Marks, Knows, is_strong, strong_in}
 use Rattle.instances.proofs.Created.{create_exact}
 use Rattle.instances.proofs.Disposed.{finalise_exact}
 use Rattle.instances.proofs.Exact.{sink_exact}
-use Rattle.instances.proofs.Held.{counted_finds}
+use Rattle.instances.proofs.BuilderEntry.{counted_finds}
 use Rattle.instances.specs.Release.{Finalises}
-use Rattle.instances.proofs.Held.{total_put}
+use Rattle.instances.proofs.BuilderEntry.{total_put}
 use Rattle.instances.proofs.Moves.{less_at}
 use Rattle.instances.proofs.WriteExact.{write_exact}
 use Rattle.ui_engine.specs.declared.engine.Engine.{Engine}
@@ -50,24 +50,24 @@ both_only t m n p q = record { objects = q.objects ∙ p.objects; floating = q.f
 -- ** counts by what holds
 
 -- the counts of a table, beside its objects, what floats, the builder and the tasks
-abbrev pub Exact : Definition → (ℕ → ℕ) → Store → List Held → List Task → Type 0
+abbrev pub Exact : Definition → (ℕ → ℕ) → Store → List BuilderEntry → List Task → Type 0
 Exact d taken t builder agenda =
     (o : ℕ) → count_of t.counts o
     ≡ total (in_object d o) t.objects + (total (in_held o) builder + (total (same o) t.floating + (0 + total (in_task o) agenda))) + taken o
 
 -- what is held beside the objects and what floats
-abbrev pub beside_of : (ℕ → ℕ) → List Held → List Task → ℕ → ℕ
+abbrev pub beside_of : (ℕ → ℕ) → List BuilderEntry → List Task → ℕ → ℕ
 beside_of taken builder agenda o = total (in_held o) builder + (total (in_task o) agenda + taken o)
 
 module _ (d : Definition) (taken : ℕ → ℕ) where
-  pub to_counted : (t : Store) (b : List Held) (a : List Task) → Exact d taken t b a → Counted d (beside_of taken b a) t
+  pub to_counted : (t : Store) (b : List BuilderEntry) (a : List Task) → Exact d taken t b a → Counted d (beside_of taken b a) t
   to_counted t b a h o = omega (arith, h o)
 
-  pub from_counted : (t : Store) (b : List Held) (a : List Task) → Counted d (beside_of taken b a) t → Exact d taken t b a
+  pub from_counted : (t : Store) (b : List BuilderEntry) (a : List Task) → Counted d (beside_of taken b a) t → Exact d taken t b a
   from_counted t b a h o = omega (arith, h o)
 
   -- one holder more
-  pub holder_more : (t n : Store) (b c : List Held) (a r : List Task) (come : ℕ → ℕ) → OnlyCounts t n
+  pub holder_more : (t n : Store) (b c : List BuilderEntry) (a r : List Task) (come : ℕ → ℕ) → OnlyCounts t n
       → ((o : ℕ) → count_of n.counts o ≡ count_of t.counts o + come o)
       → ((o : ℕ) → total (in_held o) c + total (in_task o) r ≡ total (in_held o) b + total (in_task o) a + come o)
       → Exact d taken t b a → Exact d taken n c r
@@ -77,7 +77,7 @@ module _ (d : Definition) (taken : ℕ → ℕ) where
       omega (arith, objects, floats, counts o, holders o, h o)
 
   -- one holder less
-  pub holder_less : (t n : Store) (b c : List Held) (a r : List Task) (gone : ℕ → ℕ) → OnlyCounts t n
+  pub holder_less : (t n : Store) (b c : List BuilderEntry) (a r : List Task) (gone : ℕ → ℕ) → OnlyCounts t n
       → ((o : ℕ) → count_of n.counts o + gone o ≡ count_of t.counts o)
       → ((o : ℕ) → total (in_held o) c + total (in_task o) r + gone o ≡ total (in_held o) b + total (in_task o) a)
       → Exact d taken t b a → Exact d taken n c r
@@ -87,11 +87,11 @@ module _ (d : Definition) (taken : ℕ → ℕ) where
       omega (arith, objects, floats, counts o, holders o, h o)
 
   -- an object that no longer floats
-  pub sunk_exact : (t n : Store) (b : List Held) (a : List Task) (id : ℕ) → Sinks id t n → Exact d taken t b a → Exact d taken n b a
+  pub sunk_exact : (t n : Store) (b : List BuilderEntry) (a : List Task) (id : ℕ) → Sinks id t n → Exact d taken t b a → Exact d taken n b a
   sunk_exact t n b a id sinks h = from_counted n b a (sink_exact d (beside_of taken b a) t n id sinks (to_counted t b a h))
 
   -- objects that hold what they held
-  pub objects_alike : (t n : Store) (b : List Held) (a : List Task) → n ≡ with_objects t n.objects
+  pub objects_alike : (t n : Store) (b : List BuilderEntry) (a : List Task) → n ≡ with_objects t n.objects
       → ((o : ℕ) → total (in_object d o) n.objects ≡ total (in_object d o) t.objects) → Exact d taken t b a → Exact d taken n b a
   objects_alike t n b a beside alike h o =
       let floats : total (same o) n.floating ≡ total (same o) t.floating = ap (λ (s : Store). total (same o) s.floating) beside in
@@ -163,7 +163,7 @@ module _ (d : Definition) (m : Marks) (t n : Store) (id slot : ℕ) (v : Value) 
   set_in : Object → Value → Answer (After Object Value)
   set_in x old = Ok (record { state = record x { values = slice_set x.values slot v }; answer = old })
 
-  pub written_exact : (taken : ℕ → ℕ) (b : List Held) (a : List Task) (was : Value) → Knows d m
+  pub written_exact : (taken : ℕ → ℕ) (b : List BuilderEntry) (a : List Task) (was : Value) → Knows d m
       → changed t.objects id (with_value slot v) ≡ Ok (record { state = n.objects; answer = was })
       → n ≡ record t { objects = n.objects; counts = n.counts }
       → ((w : Value) → asked t.objects id (value_at slot) ≡ Ok w → Moved w)

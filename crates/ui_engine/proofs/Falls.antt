@@ -16,13 +16,13 @@ use Rattle.ui_machine.specs.Definition.Lookups.{place_at}
 use Rattle.ui_machine.specs.Definition.Places.{Given}
 use Rattle.ui_machine.specs.Rules.NotifyQueue.{queued, thawed, raised, frozen_less, less_frozen, thawing}
 use Rattle.ui_machine.specs.State.Objects.{Object, Objects, living, put, class_in, asked, value_at, changed, with_value}
-use Rattle.ui_machine.specs.State.Tasks.{Item, Making, Notifying}
+use Rattle.ui_machine.specs.State.Tasks.{Item, ConstructStep, Notifying}
 use Rattle.ui_machine.specs.State.Config.{World, Started, starts, said}
 use Rattle.ui_machine.specs.Outcome.{After, Answer, ◌>>=◌, known, only_if}
-use Rattle.ui_machine.specs.Rules.Sets.{spec_at, raising, raising_if, notifies, kept, written, settled, setting, lives, has_kind}
+use Rattle.ui_machine.specs.Rules.Sets.{spec_at, raising, raising_if, notifies, without_disposed, written, settled, setting, lives, has_kind}
 use Rattle.ui_machine.specs.Rules.Construction.{thawing_made, given_value}
 use Rattle.ui_machine.specs.Rules.Build.{held_object, set_forward, building_forward}
-use Rattle.ui_machine.specs.Rules.Events.{with_result, carrying_set, carrying_get, carrying_emit, carrying_release, given_values, set_given}
+use Rattle.ui_machine.specs.Rules.Events.{with_result, set_from_event, get_from_event, emit_from_event, release_from_event, given_values, set_given}
 use Rattle.ui_machine.specs.Rules.Connections.{detail_in}
 use Rattle.ui_engine.specs.Measure.{item_weight, weight, waiting_in, waiting}
 use Rattle.ui_engine.proofs.Floats.{if_ok_at, bind_ok}
@@ -133,8 +133,8 @@ written_falls d w id slot s v = bind_ok (changed w.objects id (with_value slot v
 settled_falls : (d : Definition) (w : World) (id slot : ℕ) (s : Spec) (v valid : Value) → IfOk (settled d w id slot s v valid) (Falls d w 3)
 settled_falls d w id slot s v valid = by (same_value valid v || is_lax s)
   where
-    by : (b : Bool) → IfOk (cond b (written d w id slot s (kept w.objects s valid)) (starts (said d w (lines.refused id s.name v)) [])) (Falls d w 3)
-    by true = written_falls d w id slot s (kept w.objects s valid)
+    by : (b : Bool) → IfOk (cond b (written d w id slot s (without_disposed w.objects s valid)) (starts (said d w (lines.refused id s.name v)) [])) (Falls d w 3)
+    by true = written_falls d w id slot s (without_disposed w.objects s valid)
     by false = record { less = omega arith }
 
 only_falls : (d : Definition) (w : World) (before : ℕ) (b : Bool) (arm : Arm) (a : Answer Started) → IfOk a (Falls d w before) → IfOk (only_if b arm a) (Falls d w before)
@@ -150,7 +150,7 @@ pub thawing_falls : (d : Definition) (w : World) (id : ℕ) (slots : List ℕ) �
 thawing_falls d w id [] = record { less = omega arith }
 thawing_falls d w id (slot ∷ slots) = record { less = omega arith }
 
-pub thawing_made_falls : (d : Definition) (w : World) (id : ℕ) (steps : List Making) (held : Bool) → IfOk (thawing_made w id steps held) (Falls d w (4 * suc (length steps) + 1))
+pub thawing_made_falls : (d : Definition) (w : World) (id : ℕ) (steps : List ConstructStep) (held : Bool) → IfOk (thawing_made w id steps held) (Falls d w (4 * suc (length steps) + 1))
 unfolding thawing_made twice_length
 thawing_made_falls d w id steps held = bind_ok (changed w.objects id frozen_less) _ (Falls d w (4 * suc (length steps) + 1)) (λ r e.
     let a = if_ok_at (λ (r : After Objects (List ℕ)). waiting r.state + 2 * length r.answer ≤ waiting w.objects + 0) (changed w.objects id frozen_less) r (changed_waiting twice_length 0 w.objects id frozen_less thawed_adds) e in
@@ -160,8 +160,8 @@ set_given_falls : (d : Definition) (w : World) (id slot : ℕ) (given : Given) �
 unfolding set_given
 set_given_falls d w id slot given = bind_ok (known arms.Operand (given_value w given)) _ (Falls d w 4) (λ v _. record { less = omega arith })
 
-pub carrying_set_falls : (d : Definition) (w : World) (place slot : ℕ) (given : Given) → IfOk (carrying_set d w place slot given) (Falls d w 4)
-unfolding carrying_set
+pub carrying_set_falls : (d : Definition) (w : World) (place slot : ℕ) (given : Given) → IfOk (set_from_event d w place slot given) (Falls d w 4)
+unfolding set_from_event
 carrying_set_falls d w place slot given = bind_ok (held_object w place) _ (Falls d w 4) (λ id _. bind_ok (spec_at d w.objects id slot) _ (Falls d w 4) (λ s _.
     only_falls d w 4 (is_writable s) arms.Flags (only_if (not (is_construct_only s)) arms.ConstructOnly (set_given w id slot given))
     (only_falls d w 4 (not (is_construct_only s)) arms.ConstructOnly (set_given w id slot given) (set_given_falls d w id slot given))))
@@ -180,16 +180,16 @@ building_forward_falls d w place slot to items =
     only_falls d w before (is_writable s) arms.Flags (only_if (not (is_construct_only s)) arms.ConstructOnly (set_forward w id slot to items))
     (only_falls d w before (not (is_construct_only s)) arms.ConstructOnly (set_forward w id slot to items) (set_forward_falls d w id slot to items))))
 
-pub carrying_get_falls : (d : Definition) (w : World) (place slot : ℕ) → IfOk (carrying_get d w place slot) (Falls d w 4)
-unfolding carrying_get
+pub carrying_get_falls : (d : Definition) (w : World) (place slot : ℕ) → IfOk (get_from_event d w place slot) (Falls d w 4)
+unfolding get_from_event
 carrying_get_falls d w place slot = bind_ok (held_object w place) _ (Falls d w 4) (λ id _. bind_ok (spec_at d w.objects id slot) _ (Falls d w 4) (λ s _. bind_ok (asked w.objects id (value_at slot)) _ (Falls d w 4) (λ v _.
     only_falls d w 4 (is_readable s) arms.Flags (starts (with_result (said d w (lines.get id s.name v)) v) []) (record { less = omega arith }))))
 
-pub carrying_emit_falls : (d : Definition) (w : World) (place signal : ℕ) (args : List Given) (detail : Option (List ℕ)) → IfOk (carrying_emit d w place signal args detail) (Falls d w 4)
-unfolding carrying_emit
+pub carrying_emit_falls : (d : Definition) (w : World) (place signal : ℕ) (args : List Given) (detail : Option (List ℕ)) → IfOk (emit_from_event d w place signal args detail) (Falls d w 4)
+unfolding emit_from_event
 carrying_emit_falls d w place signal args detail = bind_ok (held_object w place) _ (Falls d w 4) (λ id _. bind_ok (detail_in d w id signal detail) _ (Falls d w 4) (λ stands _.
     bind_ok (given_values w args) _ (Falls d w 4) (λ vs _. record { less = omega arith })))
 
-pub carrying_release_falls : (d : Definition) (w : World) (place : ℕ) → IfOk (carrying_release d w place) (Falls d w 4)
-unfolding carrying_release
+pub carrying_release_falls : (d : Definition) (w : World) (place : ℕ) → IfOk (release_from_event d w place) (Falls d w 4)
+unfolding release_from_event
 carrying_release_falls d w place = bind_ok (known arms.Code (place_at d place)) _ (Falls d w 4) (λ p _. bind_ok (held_object w place) _ (Falls d w 4) (λ id _. record { less = omega arith }))

@@ -2,7 +2,7 @@
 use Rattle.std.proofs.Common.{◌≡◌, ℕ, suc, ◌≤◌, Bool, true, false, cond, nat_eq, List, [], ◌∷◌, ◌++◌, length, Some, slice_get, Ok, Err, refl, ap, subst, ◌∙◌, arith, length-append}
 use Rattle.std.specs.Prelude.{IfOk}
 use Rattle.std.proofs.lemmas.Bool.Decides.{nat_tests}
-use Rattle.ui_machine.specs.State.Config.{Held, unbuilt, built, released, World, is_unbuilt, without}
+use Rattle.ui_machine.specs.State.Config.{BuilderEntry, unbuilt, built, released, World, is_unbuilt, without}
 use Rattle.ui_machine.specs.declared.arm.Arm.TheVariants as arms
 use Rattle.ui_machine.specs.Outcome.{Answer, known, ◌>>=◌}
 use Rattle.ui_machine.specs.Rules.Build.{identity_held}
@@ -65,13 +65,13 @@ pub same_self : (o : ℕ) → same o o ≡ 1
 same_self o = grind (arith, nat_tests)
 
 -- what the builder holds is that object
-pub holds_built : (q : ℕ) (h : Held) (id : ℕ) → known arms.Operand (identity_held h) ≡ Ok id → in_held q h ≡ same q id
+pub holds_built : (q : ℕ) (h : BuilderEntry) (id : ℕ) → known arms.Operand (identity_held h) ≡ Ok id → in_held q h ≡ same q id
 holds_built q unbuilt id e = cc e
 holds_built q (built i) id e = let is : i ≡ id = cc e in ap (same q) is
 holds_built q released id e = cc e
 
 -- a place that the builder has not come to holds nothing
-pub holds_nothing : (q : ℕ) (h : Held) → is_unbuilt h ≡ true → in_held q h ≡ 0
+pub holds_nothing : (q : ℕ) (h : BuilderEntry) → is_unbuilt h ≡ true → in_held q h ≡ 0
 holds_nothing q unbuilt e = refl
 holds_nothing q (built id) e = absurd (cc)
 holds_nothing q released e = refl

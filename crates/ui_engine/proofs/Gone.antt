@@ -223,7 +223,7 @@ module _ (gone : ℕ → Bool) (keeps : Handler → Bool) where
     task_alike (tasks.Building place forwards) = refl
     task_alike (tasks.Adopting place forwards) = refl
     task_alike (tasks.Connecting place number) = refl
-    task_alike (tasks.Carrying event) = refl
+    task_alike (tasks.Handling event) = refl
 
     all_alike : (ts : List code.Task) → map (pruned gone) (map (task_of d hs) ts) ≡ map (task_of d (filter keeps hs)) ts
     all_alike [] = refl

@@ -10,7 +10,7 @@ use Rattle.ui_machine.specs.Seq.{read}
 use Rattle.ui_machine.specs.State.Config.{World, said}
 use Rattle.ui_machine.specs.State.Objects.{Object, Objects, object_at}
 use Rattle.ui_machine.proofs.Prefixes.{prefix_one}
-use Rattle.instances.proofs.Held.{total_put}
+use Rattle.instances.proofs.BuilderEntry.{total_put}
 use Rattle.ui_engine.specs.Measure.{waiting, waiting_in}
 use Rattle.ui_engine.proofs.Floats.{bind_ok, without_less}
 

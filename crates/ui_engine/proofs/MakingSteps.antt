@@ -5,7 +5,7 @@ use Rattle.ui_machine.specs.Seq.{read}
 use Rattle.ui_machine.specs.Definition.Properties.{Spec}
 use Rattle.ui_machine.specs.Definition.Places.{GivenProperty}
 use Rattle.ui_machine.specs.State.Config.{World}
-use Rattle.ui_machine.specs.State.Tasks.{Making}
+use Rattle.ui_machine.specs.State.Tasks.{ConstructStep}
 use Rattle.ui_machine.specs.Rules.Construction.{is_forward, given_value, given_at, construct_sets, given_sets}
 use Rattle.ui_machine.specs.Definition.Values.{Value}
 use Rattle.builder_defs.specs.declared.object_entry.GivenValue.{GivenValue}
@@ -19,7 +19,7 @@ within_list (x ∷ xs) zero small = (x, refl)
 within_list (x ∷ xs) (suc i) small = within_list xs i (omega arith)
 
 -- one slot less
-pub slot_before : (w : World) (given : List GivenProperty) (specs : List Spec) (above slot : ℕ) (old new tail : List Making)
+pub slot_before : (w : World) (given : List GivenProperty) (specs : List Spec) (above slot : ℕ) (old new tail : List ConstructStep)
     → above ≡ suc slot → above ≤ length specs → old ≡ construct_sets w given above (drop above specs) ++ tail
     → ((s : Spec) → slice_get specs slot ≡ Some s → new ≡ construct_set w given slot s ++ old)
     → new ≡ construct_sets w given slot (drop slot specs) ++ tail
@@ -33,7 +33,7 @@ slot_before w given specs above slot old new tail is within before adds =
     ∙ sym (ap (λ (ss : List Spec). construct_sets w given slot ss ++ tail) (drop_at specs slot there.0 there.1))
 
 -- one entry less, which may be a forward reference
-pub entry_before : (w : World) (specs : List Spec) (place : ℕ) (given : List GivenValue) (above i : ℕ) (g : GivenValue) (old new tail : List Making)
+pub entry_before : (w : World) (specs : List Spec) (place : ℕ) (given : List GivenValue) (above i : ℕ) (g : GivenValue) (old new tail : List ConstructStep)
     → above ≡ suc i → slice_get given i ≡ Some g
     → old ≡ given_sets w specs (early place (drop above given)) ++ tail → new ≡ early_set w specs place (given_property g) ++ old
     → new ≡ given_sets w specs (early place (drop i given)) ++ tail

@@ -8,7 +8,7 @@ use Rattle.ui_machine.specs.Definition.Lookups.{place_at, place_of}
 use Rattle.ui_machine.specs.Definition.Places.{Place}
 use Rattle.ui_machine.specs.Definition.Values.{Value}
 use Rattle.ui_machine.specs.Definition.Values as values
-use Rattle.ui_machine.specs.Instructions.Objects.{disposed_once, disposing, freezing, naming, or_null, orphaning, sinking, unfreezing}
+use Rattle.ui_machine.specs.Instructions.Objects.{disposed_once, disposing, freezing, look_up_object, or_null, orphaning, sinking, thaw_notify}
 use Rattle.ui_machine.specs.Instructions.Registers.{gives, goes_on, identity_of, operand_in, value_in}
 use Rattle.ui_machine.specs.Outcome.{After, Answer, Stops, known, only_if, ◌>>=◌}
 use Rattle.ui_machine.specs.Rules.Build.{identity_held}
@@ -17,7 +17,7 @@ use Rattle.ui_machine.specs.Rules.Construction.{object_held}
 use Rattle.ui_machine.specs.Rules.Disposal.{disposed}
 use Rattle.ui_machine.specs.Rules.NotifyQueue.{frozen_less, frozen_more}
 use Rattle.ui_machine.specs.Rules.Sets.{is_disposed}
-use Rattle.ui_machine.specs.State.Config.{Held, Started, World, built, held_at, released, sunk, unbuilt, with_objects}
+use Rattle.ui_machine.specs.State.Config.{BuilderEntry, Started, World, built, builder_entry, released, sunk, unbuilt, with_objects}
 use Rattle.ui_machine.specs.State.Objects.{Object, Objects, changed, living, object_at}
 use Rattle.ui_machine.specs.State.Tasks.{Frame, Thawing}
 use Rattle.handler_code.specs.Operand.{identity_in}
@@ -56,38 +56,38 @@ operand_by w f from id is = by (value_in f from) ∙ ap (λ (a : Answer ℕ). a 
 
 -- ** `object`
 
-held_value : (h : Held) → or_null (object_held h) ≡ values.object (identity_held h)
+held_value : (h : BuilderEntry) → or_null (object_held h) ≡ values.object (identity_held h)
 held_value unbuilt = refl
 held_value (built id) = refl
 held_value released = refl
 
 module _ (d : Definition) (w : World) (f : Frame) (to : ℕ) (id : List ℕ) where
   abbrev names_at : ℕ → Place → Answer Started
-  names_at place p = only_if (not p.is_prototype) arms.Code (gives w to (or_null (object_held (held_at w place))) f)
+  names_at place p = only_if (not p.is_prototype) arms.Code (gives w to (or_null (object_held (builder_entry w place))) f)
 
-  pub name_unknown : place_of d id ≡ None → naming d w f to id ≡ Err arms.Code
-  unfolding naming
+  pub name_unknown : place_of d id ≡ None → look_up_object d w f to id ≡ Err arms.Code
+  unfolding look_up_object
   name_unknown none = ap (λ (o : Option ℕ). known arms.Code o >>= λ place. known arms.Code (place_at d place) >>= names_at place) none
 
   module _ (place : ℕ) (is : place_of d id ≡ Some place) where
-    names_of : (p : Option Place) → place_at d place ≡ p → naming d w f to id ≡ (known arms.Code p >>= names_at place)
-    unfolding naming
+    names_of : (p : Option Place) → place_at d place ≡ p → look_up_object d w f to id ≡ (known arms.Code p >>= names_at place)
+    unfolding look_up_object
     names_of p at =
         ap (λ (o : Option ℕ). known arms.Code o >>= λ place. known arms.Code (place_at d place) >>= names_at place) is
         ∙ ap (λ (o : Option Place). known arms.Code o >>= names_at place) at
 
-    pub name_nowhere : place_at d place ≡ None → naming d w f to id ≡ Err arms.Code
+    pub name_nowhere : place_at d place ≡ None → look_up_object d w f to id ≡ Err arms.Code
     name_nowhere none = names_of None none
 
     module _ (p : Place) (at : place_at d place ≡ Some p) where
-      names_so : (b : Bool) → p.is_prototype ≡ b → naming d w f to id ≡ only_if (not b) arms.Code (gives w to (or_null (object_held (held_at w place))) f)
-      names_so b so = names_of (Some p) at ∙ ap (λ c. only_if (not c) arms.Code (gives w to (or_null (object_held (held_at w place))) f)) so
+      names_so : (b : Bool) → p.is_prototype ≡ b → look_up_object d w f to id ≡ only_if (not b) arms.Code (gives w to (or_null (object_held (builder_entry w place))) f)
+      names_so b so = names_of (Some p) at ∙ ap (λ c. only_if (not c) arms.Code (gives w to (or_null (object_held (builder_entry w place))) f)) so
 
-      pub name_prototype : p.is_prototype ≡ true → naming d w f to id ≡ Err arms.Code
+      pub name_prototype : p.is_prototype ≡ true → look_up_object d w f to id ≡ Err arms.Code
       name_prototype so = names_so true so
 
-      pub names : p.is_prototype ≡ false → naming d w f to id ≡ gives w to (values.object (identity_held (held_at w place))) f
-      names so = names_so false so ∙ ap (λ (v : Value). gives w to v f) (held_value (held_at w place))
+      pub names : p.is_prototype ≡ false → look_up_object d w f to id ≡ gives w to (values.object (identity_held (builder_entry w place))) f
+      names so = names_so false so ∙ ap (λ (v : Value). gives w to v f) (held_value (builder_entry w place))
 
 -- ** what floats, and freezes
 
@@ -106,8 +106,8 @@ module _ (w : World) (f : Frame) (object : ℕ) where
   unfolding freezing
   freeze_none halt s = stops_on halt (operand_in w f object) freezes_of s
 
-  pub thaw_none : (halt : Halt) → Stops halt (operand_in w f object) → Stops halt (unfreezing w f object)
-  unfolding unfreezing
+  pub thaw_none : (halt : Halt) → Stops halt (operand_in w f object) → Stops halt (thaw_notify w f object)
+  unfolding thaw_notify
   thaw_none halt s = stops_on halt (operand_in w f object) thaws_of s
 
   module _ (id : ℕ) (is : operand_in w f object ≡ Ok id) where
@@ -125,15 +125,15 @@ module _ (w : World) (f : Frame) (object : ℕ) where
     pub freezes : (os : Objects) → changed w.objects id frozen_more ≡ Ok (record { state = os; answer = tt }) → freezing w f object ≡ goes_on (with_objects w os) [] f
     freezes os new = freezes_by ∙ ap (λ (a : Answer (After Objects (Unit {0}))). a >>= λ frozen. goes_on (with_objects w frozen.state) [] f) new
 
-    thaws_by : unfreezing w f object ≡ thaws_of id
-    unfolding unfreezing
+    thaws_by : thaw_notify w f object ≡ thaws_of id
+    unfolding thaw_notify
     thaws_by = ap (λ (a : Answer ℕ). a >>= thaws_of) is
 
-    pub thaw_stuck : (arm : Arm) → changed w.objects id frozen_less ≡ Err arm → unfreezing w f object ≡ Err arm
+    pub thaw_stuck : (arm : Arm) → changed w.objects id frozen_less ≡ Err arm → thaw_notify w f object ≡ Err arm
     thaw_stuck arm stuck = thaws_by ∙ ap (λ (a : Answer (After Objects (List ℕ))). a >>= λ thaw. goes_on (with_objects w thaw.state) (Thawing id thaw.answer ∷ []) f) stuck
 
     pub thaws : (os : Objects) (slots : List ℕ) → changed w.objects id frozen_less ≡ Ok (record { state = os; answer = slots })
-        → unfreezing w f object ≡ goes_on (with_objects w os) (Thawing id slots ∷ []) f
+        → thaw_notify w f object ≡ goes_on (with_objects w os) (Thawing id slots ∷ []) f
     thaws os slots new = thaws_by ∙ ap (λ (a : Answer (After Objects (List ℕ))). a >>= λ thaw. goes_on (with_objects w thaw.state) (Thawing id thaw.answer ∷ []) f) new
 
 -- ** `orphan` and `dispose`

@@ -18,7 +18,7 @@ use Rattle.ui_machine.specs.Output.Lines as lines
 use Rattle.ui_machine.specs.State.Objects.{class_in}
 use Rattle.ui_machine.specs.State.Config.{World, starts, said}
 use Rattle.ui_machine.specs.Outcome.{Answer, ◌>>=◌, only_if}
-use Rattle.ui_machine.specs.Rules.Sets.{spec_at, has_kind, lives, kept, written, settled, setting}
+use Rattle.ui_machine.specs.Rules.Sets.{spec_at, has_kind, lives, without_disposed, written, settled, setting}
 use Rattle.g_values.specs.declared.value.Value as coded
 use Rattle.g_values.specs.declared.value.Value.TheVariants as of_value
 use Rattle.g_values.specs.View.{kind_view, value_view, value_kind}
@@ -159,12 +159,12 @@ module _ (d : Definition) (w : World) (id slot : ℕ) (v : Value) where
 
       refused_set : (same_value (clamp (class_in w.objects) d.types s v) v || is_lax s) ≡ false → setting d w id slot v ≡ starts (said d w (lines.refused id s.name v)) []
       refused_set bad =
-          by_value ∙ ap (λ b. cond b (written d w id slot s (kept w.objects s (clamp (class_in w.objects) d.types s v))) (starts (said d w (lines.refused id s.name v)) [])) bad
+          by_value ∙ ap (λ b. cond b (written d w id slot s (without_disposed w.objects s (clamp (class_in w.objects) d.types s v))) (starts (said d w (lines.refused id s.name v)) [])) bad
 
-      written_set : (x : Value) → x ≡ kept w.objects s (clamp (class_in w.objects) d.types s v) → (same_value (clamp (class_in w.objects) d.types s v) v || is_lax s) ≡ true
+      written_set : (x : Value) → x ≡ without_disposed w.objects s (clamp (class_in w.objects) d.types s v) → (same_value (clamp (class_in w.objects) d.types s v) v || is_lax s) ≡ true
           → setting d w id slot v ≡ written d w id slot s x
       written_set x valid good =
-          by_value ∙ ap (λ b. cond b (written d w id slot s (kept w.objects s (clamp (class_in w.objects) d.types s v))) (starts (said d w (lines.refused id s.name v)) [])) good
+          by_value ∙ ap (λ b. cond b (written d w id slot s (without_disposed w.objects s (clamp (class_in w.objects) d.types s v))) (starts (said d w (lines.refused id s.name v)) [])) good
           ∙ ap (written d w id slot s) (sym valid)
 
       -- as code finds it, with a flag for what was changed
@@ -177,7 +177,7 @@ module _ (d : Definition) (w : World) (id slot : ℕ) (v : Value) where
 
       pub written_by_flag : (refuses is_changed : Bool) (x : Value) → refuses ≡ false → refuses ≡ (is_changed && not (is_lax s))
           → is_changed ≡ not (same_value (clamp (class_in w.objects) d.types s v) v)
-          → x ≡ kept w.objects s (clamp (class_in w.objects) d.types s v) → setting d w id slot v ≡ written d w id slot s x
+          → x ≡ without_disposed w.objects s (clamp (class_in w.objects) d.types s v) → setting d w id slot v ≡ written d w id slot s x
       written_by_flag refuses is_changed x is e f valid =
           written_set x valid (flag_on (same_value (clamp (class_in w.objects) d.types s v) v || is_lax s) (sym (refuses_is refuses is_changed (same_value (clamp (class_in w.objects) d.types s v) v) (is_lax s) e f) ∙ is))
 

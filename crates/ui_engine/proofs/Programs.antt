@@ -7,7 +7,7 @@ use Rattle.ui_machine.specs.declared.arm.Halt.TheVariants as halts
 use Rattle.ui_machine.specs.Definition.{Definition}
 use Rattle.ui_machine.specs.Definition.Lookups.{program_at}
 use Rattle.ui_machine.specs.Definition.Programs.{Block, Instruction, Program}
-use Rattle.ui_machine.specs.Instructions.{instructed, running}
+use Rattle.ui_machine.specs.Instructions.{instruction_step, running}
 use Rattle.ui_machine.specs.Instructions.Jumps.{block_in, in_pass, is_again, past}
 use Rattle.ui_machine.specs.Outcome.{Answer, Stops, known, only_if, ◌>>=◌}
 use Rattle.ui_machine.specs.State.Config.{Left, World}
@@ -34,14 +34,14 @@ module _ (d : Definition) (w : World) (rest : List Task) (f : Frame) where
   pub unknown_program : program_at d f.program ≡ None → running d w rest f ≡ Err arms.Code
   unfolding running block_in
   unknown_program none =
-      ap (λ (o : Option Program). (known arms.Code o >>= λ p. known arms.Code (slice_get p.blocks f.block)) >>= λ b. known arms.Code (slice_get b.code (in_pass b f).at) >>= λ i. instructed d w rest (past (in_pass b f)) i) none
+      ap (λ (o : Option Program). (known arms.Code o >>= λ p. known arms.Code (slice_get p.blocks f.block)) >>= λ b. known arms.Code (slice_get b.code (in_pass b f).at) >>= λ i. instruction_step d w rest (past (in_pass b f)) i) none
 
   module _ (p : Program) (is : program_at d f.program ≡ Some p) where
     pub no_instruction : taken_in p f ≡ None → running d w rest f ≡ Err arms.Code
-    no_instruction none = running_taken d w f p is rest ∙ ap (λ (o : Option Taken). known arms.Code o >>= λ t. instructed d w rest t.frame t.instruction) none
+    no_instruction none = running_taken d w f p is rest ∙ ap (λ (o : Option Taken). known arms.Code o >>= λ t. instruction_step d w rest t.frame t.instruction) none
 
-    pub takes_instruction : (t : Taken) → taken_in p f ≡ Some t → running d w rest f ≡ instructed d w rest t.frame t.instruction
-    takes_instruction t some = running_taken d w f p is rest ∙ ap (λ (o : Option Taken). known arms.Code o >>= λ t. instructed d w rest t.frame t.instruction) some
+    pub takes_instruction : (t : Taken) → taken_in p f ≡ Some t → running d w rest f ≡ instruction_step d w rest t.frame t.instruction
+    takes_instruction t some = running_taken d w f p is rest ∙ ap (λ (o : Option Taken). known arms.Code o >>= λ t. instruction_step d w rest t.frame t.instruction) some
 
 -- what is taken changes no register, and the program goes on
 pub taken_keeps : (p : Program) (f : Frame) (t : Taken) → taken_in p f ≡ Some t → (t.frame.registers ≡ f.registers) × (t.frame.program ≡ f.program)

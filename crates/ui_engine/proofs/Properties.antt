@@ -7,7 +7,7 @@ use Rattle.ui_machine.specs.Definition.{Definition}
 use Rattle.ui_machine.specs.Definition.Lookups.{slot_of}
 use Rattle.ui_machine.specs.Definition.Properties.{Spec, is_readable}
 use Rattle.ui_machine.specs.Definition.Values.{Value}
-use Rattle.ui_machine.specs.Instructions.Properties.{assigning, getting, set_from, slot_at, telling, then_goes_on}
+use Rattle.ui_machine.specs.Instructions.Properties.{set_property, get_property, set_from, slot_at, notify_from_program, then_goes_on}
 use Rattle.ui_machine.specs.Instructions.Registers.{gives, goes_on, operand_in, value_in}
 use Rattle.ui_machine.specs.Outcome.{Answer, Stops, known, only_if, ◌>>=◌}
 use Rattle.ui_machine.specs.Rules.Sets.{if_settable, raising, spec_at}
@@ -70,19 +70,19 @@ module _ (d : Definition) (w : World) (f : Frame) (to object : ℕ) (name : List
   abbrev gets_of : ℕ → Answer Started
   gets_of id = slot_at d w id name >>= λ slot. spec_at d w.objects id slot >>= λ s. asked w.objects id (value_at slot) >>= λ v. only_if (is_readable s) arms.Flags (gives w to v f)
 
-  pub get_none : (halt : Halt) → Stops halt (operand_in w f object) → Stops halt (getting d w f to object name)
-  unfolding getting
+  pub get_none : (halt : Halt) → Stops halt (operand_in w f object) → Stops halt (get_property d w f to object name)
+  unfolding get_property
   get_none halt s = stops_on halt (operand_in w f object) gets_of s
 
   module _ (id : ℕ) (is : operand_in w f object ≡ Ok id) where
-    gets_by : getting d w f to object name ≡ (readable_value d w id name >>= λ v. gives w to v f)
-    unfolding getting
+    gets_by : get_property d w f to object name ≡ (readable_value d w id name >>= λ v. gives w to v f)
+    unfolding get_property
     gets_by = ap (λ (a : Answer ℕ). a >>= gets_of) is ∙ read_then d w id name (λ v. gives w to v f)
 
-    pub get_unread : (halt : Halt) → Stops halt (readable_value d w id name) → Stops halt (getting d w f to object name)
-    get_unread halt s = stops_as halt (getting d w f to object name) _ gets_by (stops_on halt (readable_value d w id name) (λ v. gives w to v f) s)
+    pub get_unread : (halt : Halt) → Stops halt (readable_value d w id name) → Stops halt (get_property d w f to object name)
+    get_unread halt s = stops_as halt (get_property d w f to object name) _ gets_by (stops_on halt (readable_value d w id name) (λ v. gives w to v f) s)
 
-    pub gets : (v : Value) → readable_value d w id name ≡ Ok v → getting d w f to object name ≡ gives w to v f
+    pub gets : (v : Value) → readable_value d w id name ≡ Ok v → get_property d w f to object name ≡ gives w to v f
     gets v read = gets_by ∙ ap (λ (a : Answer Value). a >>= λ v. gives w to v f) read
 
 -- ** `set`
@@ -91,29 +91,29 @@ module _ (d : Definition) (w : World) (f : Frame) (object : ℕ) (name : List �
   abbrev sets_of : ℕ → Answer Started
   sets_of id = slot_at d w id name >>= λ slot. spec_at d w.objects id slot >>= λ s. if_settable s (set_from w f id slot from)
 
-  pub set_none : (halt : Halt) → Stops halt (operand_in w f object) → Stops halt (assigning d w f object name from)
-  unfolding assigning
+  pub set_none : (halt : Halt) → Stops halt (operand_in w f object) → Stops halt (set_property d w f object name from)
+  unfolding set_property
   set_none halt s = stops_on halt (operand_in w f object) sets_of s
 
   module _ (id : ℕ) (is : operand_in w f object ≡ Ok id) where
-    sets_by : assigning d w f object name from ≡ (settable_slot d w id name >>= λ slot. set_from w f id slot from)
-    unfolding assigning
+    sets_by : set_property d w f object name from ≡ (settable_slot d w id name >>= λ slot. set_from w f id slot from)
+    unfolding set_property
     sets_by =
         ap (λ (a : Answer ℕ). a >>= sets_of) is
         ∙ settable_then (slot_at d w id name) (λ slot. spec_at d w.objects id slot) (λ slot. set_from w f id slot from)
 
-    pub set_unknown : (arm : Arm) → settable_slot d w id name ≡ Err arm → assigning d w f object name from ≡ Err arm
+    pub set_unknown : (arm : Arm) → settable_slot d w id name ≡ Err arm → set_property d w f object name from ≡ Err arm
     set_unknown arm none = sets_by ∙ ap (λ (a : Answer ℕ). a >>= λ slot. set_from w f id slot from) none
 
     module _ (slot : ℕ) (found : settable_slot d w id name ≡ Ok slot) where
-      sets_value : assigning d w f object name from ≡ (value_in f from >>= λ v. goes_on w (Setting id slot v ∷ []) f)
+      sets_value : set_property d w f object name from ≡ (value_in f from >>= λ v. goes_on w (Setting id slot v ∷ []) f)
       unfolding set_from
       sets_value = sets_by ∙ ap (λ (a : Answer ℕ). a >>= λ slot. set_from w f id slot from) found
 
-      pub set_unset : (halt : Halt) → Stops halt (value_in f from) → Stops halt (assigning d w f object name from)
-      set_unset halt s = stops_as halt (assigning d w f object name from) _ sets_value (stops_on halt (value_in f from) (λ v. goes_on w (Setting id slot v ∷ []) f) s)
+      pub set_unset : (halt : Halt) → Stops halt (value_in f from) → Stops halt (set_property d w f object name from)
+      set_unset halt s = stops_as halt (set_property d w f object name from) _ sets_value (stops_on halt (value_in f from) (λ v. goes_on w (Setting id slot v ∷ []) f) s)
 
-      pub sets : (v : Value) → value_in f from ≡ Ok v → assigning d w f object name from ≡ goes_on w (Setting id slot v ∷ []) f
+      pub sets : (v : Value) → value_in f from ≡ Ok v → set_property d w f object name from ≡ goes_on w (Setting id slot v ∷ []) f
       sets v read = sets_value ∙ ap (λ (a : Answer Value). a >>= λ v. goes_on w (Setting id slot v ∷ []) f) read
 
 -- ** `notify`
@@ -122,33 +122,33 @@ module _ (d : Definition) (w : World) (f : Frame) (object : ℕ) (name : List �
   abbrev tells_slot : ℕ → ℕ → Answer Started
   tells_slot id slot = spec_at d w.objects id slot >>= λ s. cond (is_readable s) (then_goes_on f (raising w id slot)) (goes_on w [] f)
 
-  pub tell_none : (halt : Halt) → Stops halt (operand_in w f object) → Stops halt (telling d w f object name)
-  unfolding telling
+  pub tell_none : (halt : Halt) → Stops halt (operand_in w f object) → Stops halt (notify_from_program d w f object name)
+  unfolding notify_from_program
   tell_none halt s = stops_on halt (operand_in w f object) (λ id. slot_at d w id name >>= tells_slot id) s
 
   module _ (id : ℕ) (is : operand_in w f object ≡ Ok id) where
-    tells_by : telling d w f object name ≡ (slot_at d w id name >>= tells_slot id)
-    unfolding telling
+    tells_by : notify_from_program d w f object name ≡ (slot_at d w id name >>= tells_slot id)
+    unfolding notify_from_program
     tells_by = ap (λ (a : Answer ℕ). a >>= λ id. slot_at d w id name >>= tells_slot id) is
 
-    pub tell_unknown : (arm : Arm) → slot_at d w id name ≡ Err arm → telling d w f object name ≡ Err arm
+    pub tell_unknown : (arm : Arm) → slot_at d w id name ≡ Err arm → notify_from_program d w f object name ≡ Err arm
     tell_unknown arm none = tells_by ∙ ap (λ (a : Answer ℕ). a >>= tells_slot id) none
 
     module _ (slot : ℕ) (found : slot_at d w id name ≡ Ok slot) where
-      tells_at : telling d w f object name ≡ tells_slot id slot
+      tells_at : notify_from_program d w f object name ≡ tells_slot id slot
       tells_at = tells_by ∙ ap (λ (a : Answer ℕ). a >>= tells_slot id) found
 
-      pub tell_no_spec : (arm : Arm) → spec_at d w.objects id slot ≡ Err arm → telling d w f object name ≡ Err arm
+      pub tell_no_spec : (arm : Arm) → spec_at d w.objects id slot ≡ Err arm → notify_from_program d w f object name ≡ Err arm
       tell_no_spec arm none = tells_at ∙ ap (λ (a : Answer Spec). a >>= λ s. cond (is_readable s) (then_goes_on f (raising w id slot)) (goes_on w [] f)) none
 
       module _ (s : Spec) (of : spec_at d w.objects id slot ≡ Ok s) where
-        tells_if : (b : Bool) → is_readable s ≡ b → telling d w f object name ≡ cond b (then_goes_on f (raising w id slot)) (goes_on w [] f)
+        tells_if : (b : Bool) → is_readable s ≡ b → notify_from_program d w f object name ≡ cond b (then_goes_on f (raising w id slot)) (goes_on w [] f)
         tells_if b readable =
             tells_at ∙ ap (λ (a : Answer Spec). a >>= λ s. cond (is_readable s) (then_goes_on f (raising w id slot)) (goes_on w [] f)) of
             ∙ ap (λ c. cond c (then_goes_on f (raising w id slot)) (goes_on w [] f)) readable
 
-        pub tells : is_readable s ≡ true → telling d w f object name ≡ then_goes_on f (raising w id slot)
+        pub tells : is_readable s ≡ true → notify_from_program d w f object name ≡ then_goes_on f (raising w id slot)
         tells readable = tells_if true readable
 
-        pub tells_nothing : is_readable s ≡ false → telling d w f object name ≡ goes_on w [] f
+        pub tells_nothing : is_readable s ≡ false → notify_from_program d w f object name ≡ goes_on w [] f
         tells_nothing unreadable = tells_if false unreadable

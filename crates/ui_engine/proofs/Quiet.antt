@@ -16,12 +16,12 @@ use Rattle.ui_machine.specs.State.Tasks.{Emission, Item}
 use Rattle.ui_machine.specs.State.Config.{World, Started, starts, said}
 use Rattle.ui_machine.specs.Outcome.{Answer, known, only_if}
 use Rattle.ui_machine.specs.Rules.NotifyQueue.{raised, thawing}
-use Rattle.ui_machine.specs.Rules.Sets.{spec_at, raising, raising_if, notifies, kept, written, settled, setting, lives, has_kind}
+use Rattle.ui_machine.specs.Rules.Sets.{spec_at, raising, raising_if, notifies, without_disposed, written, settled, setting, lives, has_kind}
 use Rattle.ui_machine.specs.Rules.EmissionPlan.{beginning_emission, notifying, signal_at}
 use Rattle.ui_machine.specs.Rules.Connections.{detail_in}
 use Rattle.ui_machine.specs.Rules.Programs.{all_fit}
 use Rattle.ui_machine.specs.Rules.Construction.{given_value}
-use Rattle.ui_machine.specs.Rules.Events.{with_result, carrying_set, carrying_get, carrying_emit, carrying_release, given_values, set_given}
+use Rattle.ui_machine.specs.Rules.Events.{with_result, set_from_event, get_from_event, emit_from_event, release_from_event, given_values, set_given}
 use Rattle.ui_machine.specs.Rules.Build.{held_object, set_forward, building_forward}
 use Rattle.ui_machine.proofs.Prefixes.{prefix_same, prefix_one}
 use Rattle.ui_engine.proofs.Floats.{Quietly, quietly_on, bind_ok}
@@ -69,8 +69,8 @@ written_calm d w id slot s v = bind_ok (changed w.objects id (with_value slot v)
 settled_calm : (d : Definition) (w : World) (id slot : ℕ) (s : Spec) (v valid : Value) → IfOk (settled d w id slot s v valid) (Calm w)
 settled_calm d w id slot s v valid = by (same_value valid v || is_lax s)
   where
-    by : (b : Bool) → IfOk (cond b (written d w id slot s (kept w.objects s valid)) (starts (said d w (lines.refused id s.name v)) [])) (Calm w)
-    by true = written_calm d w id slot s (kept w.objects s valid)
+    by : (b : Bool) → IfOk (cond b (written d w id slot s (without_disposed w.objects s valid)) (starts (said d w (lines.refused id s.name v)) [])) (Calm w)
+    by true = written_calm d w id slot s (without_disposed w.objects s valid)
     by false = record { floating = refl; handlers = refl; last = refl; grows = (prefix_one w.transcript _) }
 
 only_calm : (w : World) (b : Bool) (arm : Arm) (a : Answer Started) → IfOk a (Calm w) → IfOk (only_if b arm a) (Calm w)
@@ -87,24 +87,24 @@ set_given_calm : (w : World) (id slot : ℕ) (given : Given) → IfOk (set_given
 unfolding set_given
 set_given_calm w id slot given = bind_ok (known arms.Operand (given_value w given)) _ (Calm w) (λ v _. record { floating = refl; handlers = refl; last = refl; grows = prefix_same w.transcript })
 
-pub carrying_set_calm : (d : Definition) (w : World) (place slot : ℕ) (given : Given) → IfOk (carrying_set d w place slot given) (Calm w)
-unfolding carrying_set
+pub carrying_set_calm : (d : Definition) (w : World) (place slot : ℕ) (given : Given) → IfOk (set_from_event d w place slot given) (Calm w)
+unfolding set_from_event
 carrying_set_calm d w place slot given = bind_ok (held_object w place) _ (Calm w) (λ id _. bind_ok (spec_at d w.objects id slot) _ (Calm w) (λ s _.
     only_calm w (is_writable s) arms.Flags (only_if (not (is_construct_only s)) arms.ConstructOnly (set_given w id slot given))
     (only_calm w (not (is_construct_only s)) arms.ConstructOnly (set_given w id slot given) (set_given_calm w id slot given))))
 
-pub carrying_get_calm : (d : Definition) (w : World) (place slot : ℕ) → IfOk (carrying_get d w place slot) (Calm w)
-unfolding carrying_get
+pub carrying_get_calm : (d : Definition) (w : World) (place slot : ℕ) → IfOk (get_from_event d w place slot) (Calm w)
+unfolding get_from_event
 carrying_get_calm d w place slot = bind_ok (held_object w place) _ (Calm w) (λ id _. bind_ok (spec_at d w.objects id slot) _ (Calm w) (λ s _. bind_ok (asked w.objects id (value_at slot)) _ (Calm w) (λ v _.
     only_calm w (is_readable s) arms.Flags (starts (with_result (said d w (lines.get id s.name v)) v) []) (record { floating = refl; handlers = refl; last = refl; grows = prefix_one w.transcript _ }))))
 
-pub carrying_emit_calm : (d : Definition) (w : World) (place signal : ℕ) (args : List Given) (detail : Option (List ℕ)) → IfOk (carrying_emit d w place signal args detail) (Calm w)
-unfolding carrying_emit
+pub carrying_emit_calm : (d : Definition) (w : World) (place signal : ℕ) (args : List Given) (detail : Option (List ℕ)) → IfOk (emit_from_event d w place signal args detail) (Calm w)
+unfolding emit_from_event
 carrying_emit_calm d w place signal args detail = bind_ok (held_object w place) _ (Calm w) (λ id _. bind_ok (detail_in d w id signal detail) _ (Calm w) (λ stands _.
     bind_ok (given_values w args) _ (Calm w) (λ vs _. record { floating = refl; handlers = refl; last = refl; grows = prefix_same w.transcript })))
 
-pub carrying_release_calm : (d : Definition) (w : World) (place : ℕ) → IfOk (carrying_release d w place) (Calm w)
-unfolding carrying_release
+pub carrying_release_calm : (d : Definition) (w : World) (place : ℕ) → IfOk (release_from_event d w place) (Calm w)
+unfolding release_from_event
 carrying_release_calm d w place = bind_ok (known arms.Code (place_at d place)) _ (Calm w) (λ p _. bind_ok (held_object w place) _ (Calm w) (λ id _. record { floating = refl; handlers = refl; last = refl; grows = prefix_one w.transcript _ }))
 
 -- ** forward references

@@ -68,7 +68,7 @@ passes_by d hs (tasks.Constructing id steps held) rest v other = refl
 passes_by d hs (tasks.Building place forwards) rest v other = refl
 passes_by d hs (tasks.Adopting place forwards) rest v other = refl
 passes_by d hs (tasks.Connecting place number) rest v other = refl
-passes_by d hs (tasks.Carrying event) rest v other = refl
+passes_by d hs (tasks.Handling event) rest v other = refl
 
 -- ** counts
 

@@ -52,7 +52,7 @@ register_most : (o : ℕ) (r : Option values.Value) → in_register o r ≤ 1
 register_most o None = omega arith
 register_most o (Some v) = value_most o v
 
-held_most : (o : ℕ) (h : config.Held) → in_held o h ≤ 1
+held_most : (o : ℕ) (h : config.BuilderEntry) → in_held o h ≤ 1
 held_most o config.unbuilt = omega arith
 held_most o (config.built i) = same_most o i
 held_most o config.released = omega arith
@@ -96,7 +96,7 @@ task_most d hs o (tasks.Constructing id steps held) = omega (arith, same_most o 
 task_most d hs o (tasks.Building place forwards) = omega arith
 task_most d hs o (tasks.Adopting place forwards) = omega arith
 task_most d hs o (tasks.Connecting place number) = omega arith
-task_most d hs o (tasks.Carrying event) = omega arith
+task_most d hs o (tasks.Handling event) = omega arith
 
 agenda_most : (d : machine.Definition) (hs : List Handler) (s : Stack) (o : ℕ)
     → total (in_task o) (tasks_of d hs s) ≤ length s.tasks.items * 9223372036854775809

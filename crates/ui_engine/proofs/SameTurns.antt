@@ -92,7 +92,7 @@ module _ (d : Definition) (hs ks : List Handler) where
   task_same (tasks.Building place forwards) is = refl
   task_same (tasks.Adopting place forwards) is = refl
   task_same (tasks.Connecting place number) is = refl
-  task_same (tasks.Carrying event) is = refl
+  task_same (tasks.Handling event) is = refl
 
   all_same : (ts : List code.Task) → OfEmissions Same ts → map (task_of d hs) ts ≡ map (task_of d ks) ts
   all_same [] is = refl
@@ -151,7 +151,7 @@ module _ (d : Definition) (change : Handler → Handler) (only : OnlyBlocks chan
       by (tasks.Building place forwards) = tt
       by (tasks.Adopting place forwards) = tt
       by (tasks.Connecting place number) = tt
-      by (tasks.Carrying event) = tt
+      by (tasks.Handling event) = tt
 
   pub blocks_same : (s : Stack) → tasks_of d (map change hs) s ≡ tasks_of d hs s
   blocks_same s = tasks_same d (map change hs) hs s (all_turns s.tasks.items)
@@ -195,7 +195,7 @@ module _ (d : Definition) (h : Handler) (hs : List Handler) (last : ℕ) (later 
       by (tasks.Building place forwards) begun = tt
       by (tasks.Adopting place forwards) begun = tt
       by (tasks.Connecting place number) begun = tt
-      by (tasks.Carrying event) begun = tt
+      by (tasks.Handling event) begun = tt
 
   pub connected_same : (s : Stack) → AllBegun last s → tasks_of d (hs ++ h ∷ []) s ≡ tasks_of d hs s
   connected_same s begun = tasks_same d (hs ++ h ∷ []) hs s (begun_turns s.tasks.items begun)
@@ -215,7 +215,7 @@ begun_more last more few s begun = all_more s.tasks.items begun
     one_more (tasks.Building place forwards) begun = tt
     one_more (tasks.Adopting place forwards) begun = tt
     one_more (tasks.Connecting place number) begun = tt
-    one_more (tasks.Carrying event) begun = tt
+    one_more (tasks.Handling event) begun = tt
 
     all_more : (ts : List code.Task) → All (HasBegun last) ts → All (HasBegun more) ts
     all_more [] begun = All-nil (HasBegun more)

@@ -6,7 +6,7 @@ use Rattle.ui_machine.specs.Runs as runs
 use Rattle.ui_machine.specs.Runs.{beginning}
 use Rattle.ui_machine.specs.State.Config.{World}
 use Rattle.ui_machine.specs.State.Tasks as config
-use Rattle.ui_machine.specs.State.Tasks.{Carrying, Request}
+use Rattle.ui_machine.specs.State.Tasks.{Handling, Request}
 use Rattle.builder_defs.specs.declared.event.Event as code
 use Rattle.builder_defs.specs.Meaning.{request_of, event_of}
 use Rattle.ui_engine.specs.declared.dispatch.Reply.{Reply}
@@ -18,7 +18,7 @@ module _ (d : Definition) (w : World) (r : Request) where
   refused_by : (released : Bool) → names_released w r ≡ released → refusal w (config.request r) ≡ elim released as (λ _. Option Refusal) [ true ↦ Some gone | false ↦ None ]
   refused_by released is = ap (λ (b : Bool). elim b as (λ _. Option Refusal) [ true ↦ Some gone | false ↦ None ]) is
 
-  serves : names_released w r ≡ false → (result : Result Reply SessionFault) (new : SessionState) → Comes result (carrying_out d (beginning w (Carrying r))) d new → Comes result (serving d w (config.request r)) d new
+  serves : names_released w r ≡ false → (result : Result Reply SessionFault) (new : SessionState) → Comes result (carrying_out d (beginning w (Handling r))) d new → Comes result (serving d w (config.request r)) d new
   serves none (Ok reply) new ends = record {
     leads = subst (λ (why : Option Refusal). runs.Comes d (config.request r) why [] w (tally_of reply) new.world) (sym (refused_by false none)) ends.leads;
     value = ends.value;
@@ -39,7 +39,7 @@ module _ (old : SessionState) (event : code.Event) (goes : old.stopped ≡ false
 
   -- a session that has not stopped answers so where nothing is named that was released
   pub answers : (result : Result Reply SessionFault) (new : SessionState) → names_released old.world (request_of event) ≡ false
-      → Comes result (carrying_out old.definition (beginning old.world (Carrying (request_of event)))) old.definition new
+      → Comes result (carrying_out old.definition (beginning old.world (Handling (request_of event)))) old.definition new
       → AnswersEvent old.stopped result old (event_of event) new
   answers result new none comes =
       by_refusal result new None (refused_by old.definition old.world (request_of event) false none)

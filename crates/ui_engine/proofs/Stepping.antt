@@ -5,14 +5,14 @@ use Rattle.std.specs.List.{filter}
 use Rattle.ui_machine.specs.declared.arm.Halt.{Halt}
 use Rattle.ui_machine.specs.Definition.{Definition}
 use Rattle.ui_machine.specs.State.Handlers.{Handler}
-use Rattle.ui_machine.specs.State.Tasks.{Answering, Beginning, Building, Calling, Carrying, Constructing, Due, Emitting, Notifying, PlanEntry, Running, Setting, Task, Thawing, Transferring, Unsetting}
+use Rattle.ui_machine.specs.State.Tasks.{Answering, Beginning, Building, Calling, Handling, Constructing, Due, Emitting, Notifying, PlanEntry, Running, Setting, Task, Thawing, Transferring, Unsetting}
 use Rattle.machine_laws.specs.GoneLaws.{gone_in, pruned, stays}
 use Rattle.ui_machine.specs.State.Config.{World, Config, sunk}
 use Rattle.ui_machine.specs.Outcome.{Stops}
 use Rattle.ui_machine.specs.State.References.{mentions, next_unheld}
 use Rattle.ui_machine.specs.Seq.{total}
 use Rattle.ui_engine.specs.Measure.{weight, waiting, work}
-use Rattle.ui_machine.specs.Steps.{act, settling, counted, finalising, most_steps, first_of, step, asked_first}
+use Rattle.ui_machine.specs.Steps.{act, sink_first_floating, counted, finalising, most_steps, first_of, step, asked_first}
 use Rattle.builder_defs.specs.Meaning.{IsBasic}
 use Rattle.ui_engine.specs.declared.task.Task as code
 use Rattle.ui_engine.specs.declared.task.Task.TheVariants as tasks
@@ -43,7 +43,7 @@ asks_none d hs w (tasks.Constructing id steps held) rest = refl
 asks_none d hs w (tasks.Building place forwards) rest = refl
 asks_none d hs w (tasks.Adopting place forwards) rest = refl
 asks_none d hs w (tasks.Connecting place number) rest = refl
-asks_none d hs w (tasks.Carrying event) rest = refl
+asks_none d hs w (tasks.Handling event) rest = refl
 
 -- turns that are left out weigh nothing
 pruned_weighs : (d : Definition) (gone : ℕ → Bool) (ts : List Task) → total (weight d) (map (pruned gone) ts) ≤ total (weight d) ts
@@ -71,7 +71,7 @@ pruned_weighs d gone (task ∷ ts) = let rest = pruned_weighs d gone ts in omega
     one (Calling call) = omega arith
     one (Constructing id steps held) = omega arith
     one (Building items) = omega arith
-    one (Carrying request) = omega arith
+    one (Handling request) = omega arith
     one (Due source) = omega arith
 
 module _ (d : Definition) (basic : IsBasic d) (hs : List Handler) (c e : Config) (own : hs ≡ c.world.handlers) (none : NoneUnheld d c) (task : code.Task) (s : Stack)
@@ -130,7 +130,7 @@ module _ (d : Definition) (c e : Config) (none : NoneUnheld d c) (idle : c.agend
   settles : act d c.world None (with_first c.world.handlers c.agenda) c.counted ≡ Ok (record { world = sunk c.world id; agenda = []; counted = c.counted })
   settles =
       ap (λ (ts : List Task). act d c.world None (with_first c.world.handlers ts) c.counted) idle
-      ∙ ap (λ floating. Ok (record { world = settling c.world floating; agenda = []; counted = c.counted })) floats
+      ∙ ap (λ floating. Ok (record { world = sink_first_floating c.world floating; agenda = []; counted = c.counted })) floats
 
   pub settle_stepped : e ≡ record c { world = sunk c.world id } → Stepped (Ok mades.Uncounted) d c e
   settle_stepped is =

@@ -145,7 +145,7 @@ module _ (d : Definition) (hs : List Handler) where
   stops_none (tasks.Building place forwards) rest other = refl
   stops_none (tasks.Adopting place forwards) rest other = refl
   stops_none (tasks.Connecting place number) rest other = refl
-  stops_none (tasks.Carrying event) rest other = refl
+  stops_none (tasks.Handling event) rest other = refl
 
 -- a stop changes what no task holds
 pub stopped_holds : (d : Definition) (o : ℕ) (ts : List Task) → total (in_task o) (machine.stopped ts) ≡ total (in_task o) ts
@@ -162,7 +162,7 @@ stopped_holds d o (config.Answering source ∷ rest) = refl
 stopped_holds d o (config.Calling call ∷ rest) = refl
 stopped_holds d o (config.Constructing id steps held ∷ rest) = refl
 stopped_holds d o (config.Building items ∷ rest) = refl
-stopped_holds d o (config.Carrying request ∷ rest) = refl
+stopped_holds d o (config.Handling request ∷ rest) = refl
 stopped_holds d o (config.Due source ∷ rest) = refl
 
 pub stop_counts : (d : Definition) (e mid : Engine) (taken : ℕ → ℕ) → mid ≡ record e { stack = mid.stack } → agenda_of d mid ≡ machine.stopped (agenda_of d e)

@@ -6,7 +6,7 @@ use Rattle.ui_machine.specs.Definition.Places.{Place}
 use Rattle.ui_machine.specs.Definition.Lookups.{place_at, specs_of}
 use Rattle.ui_machine.specs.Rules.Construction.{constructed_runs}
 use Rattle.ui_machine.specs.State.Objects.{Object, Objects}
-use Rattle.ui_machine.specs.State.Tasks.{Item, makes, adopts, forwards, binds, connects, Task, Setting, Notifying, Beginning, Emitting, Transferring, Unsetting, Thawing, Running, Answering, Calling, Constructing, Building, Carrying, Due}
+use Rattle.ui_machine.specs.State.Tasks.{Item, makes, adopts, forwards, binds, connects, Task, Setting, Notifying, Beginning, Emitting, Transferring, Unsetting, Thawing, Running, Answering, Calling, Constructing, Building, Handling, Due}
 use Rattle.ui_machine.specs.State.Config.{Config}
 
 -- the properties of an object of the build, the programs of its construction, and the values that it is given
@@ -34,7 +34,7 @@ weight d (Answering source) = 1
 weight d (Calling call) = 1
 weight d (Constructing id steps held) = 4 * length steps + 1
 weight d (Building items) = total (item_weight d) items + 1
-weight d (Carrying request) = 4
+weight d (Handling request) = 4
 weight d (Due source) = 1
 
 -- a notification that waits

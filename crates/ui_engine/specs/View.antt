@@ -2,12 +2,12 @@
 use Rattle.std.specs.Prelude.{ℕ, List, [], ◌∷◌, ◌++◌, map, option_map, string_bytes}
 use Rattle.ui_machine.specs.State.Config as config
 use Rattle.g_values.specs.View.{value_view}
-use Rattle.ui_engine.specs.declared.builder.Held.{Held}
-use Rattle.ui_engine.specs.declared.builder.Held.TheVariants as held
+use Rattle.ui_engine.specs.declared.builder.BuilderEntry.{BuilderEntry}
+use Rattle.ui_engine.specs.declared.builder.BuilderEntry.TheVariants as held
 use Rattle.ui_engine.specs.declared.world.World.{World}
 
 -- what the builder has of a place, as the machine says it
-abbrev pub held_of : Held → config.Held
+abbrev pub held_of : BuilderEntry → config.BuilderEntry
 held_of held.Unbuilt = config.unbuilt
 held_of (held.Built id) = config.built id.0
 held_of held.Released = config.released

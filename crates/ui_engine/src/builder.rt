@@ -13,7 +13,7 @@ use ui_machine::{ObjectId, Place};
 
 /// What the builder has of a place.
 #[derive(Clone, Copy, Debug, PartialEq, Eq)]
-pub enum Held {
+pub enum BuilderEntry {
     /// It has not come to the place yet.
     Unbuilt,
     /// It holds the object that it built.
@@ -22,14 +22,14 @@ pub enum Held {
     Released,
 }
 
-impl Held {
+impl BuilderEntry {
     /// The object that it holds.
     pub fn object(self) -> Option<ObjectId>
         ensures { id_of result ≡ identity_held (held_of self) }
     {
         match self {
-            Held::Built(object) => Some(object),
-            Held::Unbuilt | Held::Released => None,
+            BuilderEntry::Built(object) => Some(object),
+            BuilderEntry::Unbuilt | BuilderEntry::Released => None,
         }
     }
 
@@ -38,8 +38,8 @@ impl Held {
         ensures { result ≡ is_unbuilt (held_of self) }
     {
         match self {
-            Held::Unbuilt => true,
-            Held::Built(_) | Held::Released => false,
+            BuilderEntry::Unbuilt => true,
+            BuilderEntry::Built(_) | BuilderEntry::Released => false,
         }
     }
 
@@ -48,25 +48,25 @@ impl Held {
         ensures { result ≡ is_released (held_of self) }
     {
         match self {
-            Held::Released => true,
-            Held::Unbuilt | Held::Built(_) => false,
+            BuilderEntry::Released => true,
+            BuilderEntry::Unbuilt | BuilderEntry::Built(_) => false,
         }
     }
 }
 
 /// The builder has this of a place from now on. A place that it has not come to yet has nothing.
-pub fn put_held(builder: &mut Vec<Held>, place: Place, held: Held) -> Result<(), AllocError>
+pub fn set_builder_entry(builder: &mut Vec<BuilderEntry>, place: Place, held: BuilderEntry) -> Result<(), AllocError>
     ensures { OnOk result (map held_of builder.new.items ≡ write unbuilt (map held_of builder.old.items) place.0 (held_of held)) }
 {
     put_at(builder, usize::from(place.0), held)
 }
 
 // The same by the place's number.
-fn put_at(builder: &mut Vec<Held>, place: usize, held: Held) -> Result<(), AllocError>
+fn put_at(builder: &mut Vec<BuilderEntry>, place: usize, held: BuilderEntry) -> Result<(), AllocError>
     ensures { OnOk result (map held_of builder.new.items ≡ write unbuilt (map held_of builder.old.items) place (held_of held)) }
 {
     'growing: while builder.len() <= place {
-        builder.push(Held::Unbuilt)?;
+        builder.push(BuilderEntry::Unbuilt)?;
     }
     builder[place] = held;
     Ok(())

@@ -123,7 +123,7 @@ impl Task {
             Task::Building { .. } => None,
             Task::Adopting { .. } => None,
             Task::Connecting { .. } => None,
-            Task::Carrying(_) => None,
+            Task::Handling(_) => None,
         }
     }
 }
@@ -176,7 +176,7 @@ fn hold_given(table: &mut Table, task: &Task) -> Result<(), AllocError>
         Task::Building { .. } => Ok(()),
         Task::Adopting { .. } => Ok(()),
         Task::Connecting { .. } => Ok(()),
-        Task::Carrying(_) => Ok(()),
+        Task::Handling(_) => Ok(()),
     }
 }
 

@@ -2,7 +2,7 @@
 
 ghost use Rattle.std.specs.Prelude.{◌≡◌, false, Some, IfSome, OnOk, OnErr};
 ghost use Rattle.ui_machine.specs.Definition.Lookups.{program_at};
-ghost use Rattle.ui_machine.specs.Instructions.{instructed};
+ghost use Rattle.ui_machine.specs.Instructions.{instruction_step};
 ghost use Rattle.ui_machine.specs.Outcome.{Goes};
 ghost use Rattle.ui_machine.specs.Steps.{left};
 ghost use Rattle.g_values.specs.View.{IsKnown};
@@ -50,7 +50,7 @@ impl Engine {
         requires result { IfSome program.now.result (IsKnown definition.now.types) }
         requires counted { Counts definition.now (λ o. in_frame o (frame_view frame)) self.now }
         ensures step { GoesPruned result
-            (left self.old.counted (instructed definition.now (world_of self.old.world) (agenda_of definition.now self.old) (frame_view frame) (instruction_view instruction.now)))
+            (left self.old.counted (instruction_step definition.now (world_of self.old.world) (agenda_of definition.now self.old) (frame_view frame) (instruction_view instruction.now)))
             (config_of definition.now self.new) }
         ensures quiet { OnErr result ((world_of self.new.world).transcript ≡ (world_of self.old.world).transcript) }
         ensures counted { OnOk result (Counts definition.now nothing self.new) }
@@ -79,7 +79,7 @@ impl Engine {
         requires result { IfSome program.now.result (IsKnown definition.now.types) }
         requires counted { Counts definition.now (λ o. in_frame o (frame_view frame)) self.now }
         ensures step { Goes result
-            (left self.old.counted (instructed definition.now (world_of self.old.world) (agenda_of definition.now self.old) (frame_view frame) (instruction_view instruction.now)))
+            (left self.old.counted (instruction_step definition.now (world_of self.old.world) (agenda_of definition.now self.old) (frame_view frame) (instruction_view instruction.now)))
             (config_of definition.now self.new) }
         ensures quiet { OnErr result ((world_of self.new.world).transcript ≡ (world_of self.old.world).transcript) }
         ensures counted { OnOk result (Counts definition.now nothing self.new) }
@@ -117,7 +117,7 @@ impl Engine {
         requires later { is_later (instruction_view instruction.now) ≡ false }
         requires counted { Counts definition.now (λ o. in_frame o (frame_view frame)) self.now }
         ensures step { Goes result
-            (left self.old.counted (instructed definition.now (world_of self.old.world) (agenda_of definition.now self.old) (frame_view frame) (instruction_view instruction.now)))
+            (left self.old.counted (instruction_step definition.now (world_of self.old.world) (agenda_of definition.now self.old) (frame_view frame) (instruction_view instruction.now)))
             (config_of definition.now self.new) }
         ensures quiet { OnErr result ((world_of self.new.world).transcript ≡ (world_of self.old.world).transcript) }
         ensures counted { OnOk result (Counts definition.now nothing self.new) }
@@ -127,16 +127,16 @@ impl Engine {
                 to,
                 object,
                 property,
-            } => self.getting(definition, frame, *to, *object, property.as_str()),
+            } => self.get_property(definition, frame, *to, *object, property.as_str()),
             Instruction::Set {
                 object,
                 property,
                 from,
-            } => self.assigning(definition, frame, *object, property.as_str(), *from),
+            } => self.set_property(definition, frame, *object, property.as_str(), *from),
             Instruction::Notify { object, property } => {
-                self.telling(definition, frame, *object, property.as_str())
+                self.notify_from_program(definition, frame, *object, property.as_str())
             }
-            Instruction::Object { to, id } => self.naming(definition, frame, *to, id.as_str()),
+            Instruction::Object { to, id } => self.look_up_object(definition, frame, *to, id.as_str()),
             Instruction::New { to, id } => self.creating(definition, frame, *to, id.as_str()),
             Instruction::Sink(object) => self.sinking(definition, frame, *object),
             Instruction::Orphan(object) => self.orphaning(definition, frame, *object),
@@ -144,7 +144,7 @@ impl Engine {
                 self.adopting_child(definition, frame, *to, *parent, *child)
             }
             Instruction::Freeze(object) => self.freezing(definition, frame, *object),
-            Instruction::Thaw(object) => self.unfreezing(definition, frame, *object),
+            Instruction::Thaw(object) => self.thaw_notify(definition, frame, *object),
             _ => self.instruct_on_signals(definition, program, frame, instruction),
         }
     }
@@ -162,7 +162,7 @@ impl Engine {
         requires later { is_later (instruction_view instruction.now) ≡ false }
         requires counted { Counts definition.now (λ o. in_frame o (frame_view frame)) self.now }
         ensures step { Goes result
-            (left self.old.counted (instructed definition.now (world_of self.old.world) (agenda_of definition.now self.old) (frame_view frame) (instruction_view instruction.now)))
+            (left self.old.counted (instruction_step definition.now (world_of self.old.world) (agenda_of definition.now self.old) (frame_view frame) (instruction_view instruction.now)))
             (config_of definition.now self.new) }
         ensures quiet { OnErr result ((world_of self.new.world).transcript ≡ (world_of self.old.world).transcript) }
         ensures counted { OnOk result (Counts definition.now nothing self.new) }

@@ -2,7 +2,7 @@
 
 ghost use Rattle.std.specs.Prelude.{◌≡◌, map};
 ghost use Rattle.std.specs.List.{list_any};
-ghost use Rattle.ui_machine.specs.State.Config.{held_at};
+ghost use Rattle.ui_machine.specs.State.Config.{builder_entry};
 ghost use Rattle.ui_machine.specs.Rules.Events.{is_released, gives_released, names_released};
 ghost use Rattle.builder_defs.specs.Meaning.{given_view, request_of};
 ghost use Rattle.ui_engine.specs.View.{world_of};
@@ -14,7 +14,7 @@ use ui_machine::Place;
 impl World {
     // Whether the builder has let the object of a place go.
     fn is_released(&self, place: Place) -> bool
-        ensures { result ≡ is_released (held_at (world_of self.now) place.0) }
+        ensures { result ≡ is_released (builder_entry (world_of self.now) place.0) }
     {
         self.held(place).is_released()
     }

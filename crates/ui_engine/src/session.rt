@@ -146,7 +146,7 @@ impl Session {
         if self.engine.world.names_released(&event) {
             return Err(SessionFault::Released);
         }
-        self.carry_out(Task::Carrying(event))
+        self.carry_out(Task::Handling(event))
     }
 
     // Carries out a task with all that it leads to. Where that halts the session stops.

@@ -46,7 +46,7 @@ impl Slots {
 
 /// A step of a construction that is to come.
 #[derive(Drop)]
-pub enum Making {
+pub enum ConstructStep {
     Set { slot: Slot, value: Value },
     /// A program runs that a class names for its objects.
     Run { program: ProgramId },
@@ -56,7 +56,7 @@ pub enum Making {
 /// The steps of a construction that are to come, the last of the list first.
 #[derive(Drop)]
 pub struct Makings {
-    steps: Vec<Making>,
+    steps: Vec<ConstructStep>,
 }
 
 impl Model for Makings {
@@ -64,21 +64,21 @@ impl Model for Makings {
     ghost use Rattle.ui_machine.specs.State.Tasks as config;
     ghost use Rattle.ui_engine.specs.MakingView.{making_of_code};
 
-    ghost Value = { List config.Making };
+    ghost Value = { List config.ConstructStep };
 
     ghost view = { λ m. reverse (map making_of_code m.steps.items) };
 }
 
 impl Makings {
     /// The steps of a list, from its end.
-    pub fn new(steps: Vec<Making>) -> Self
+    pub fn new(steps: Vec<ConstructStep>) -> Self
         ensures { result ≡ reverse (map making_of_code steps.items) }
     {
         Makings { steps }
     }
 
     /// Takes the next one.
-    pub fn take(&mut self) -> Option<Making>
+    pub fn take(&mut self) -> Option<ConstructStep>
         ensures { MatchOption result ((self.old ≡ []) × (self.new ≡ [])) (λ step. self.old ≡ making_of_code step ∷ self.new) }
     {
         self.steps.pop()
@@ -192,7 +192,7 @@ pub enum Task {
         number: usize,
     },
     /// An event is to be carried out.
-    Carrying(Event),
+    Handling(Event),
 }
 
 /// The tasks that are left, the first on top.

@@ -96,8 +96,8 @@ impl Engine {
                 self.connecting(definition, place, number)?;
                 return Ok(Made::Uncounted);
             }
-            Task::Carrying(event) => {
-                self.carrying(definition, event)?;
+            Task::Handling(event) => {
+                self.handle_event(definition, event)?;
                 return Ok(Made::Uncounted);
             }
         }

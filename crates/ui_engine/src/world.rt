@@ -1,12 +1,12 @@
 //! All but the tasks.
 
 ghost use Rattle.std.specs.Prelude.{◌≡◌, ◌∷◌, [], ◌++◌, cond, OnOk, OnErr, slice_get, string_bytes};
-ghost use Rattle.ui_machine.specs.State.Config.{held_at};
+ghost use Rattle.ui_machine.specs.State.Config.{builder_entry};
 ghost use Rattle.ui_machine.specs.Rules.Build.{identity_held};
 ghost use Rattle.instances.specs.Store.{id_of};
 ghost use Rattle.ui_engine.specs.View.{held_of, world_of};
 
-use crate::builder::Held;
+use crate::builder::BuilderEntry;
 use g_values::Value;
 use instances::{Table, WeakSlots};
 use signal_core::Handlers;
@@ -22,7 +22,7 @@ pub struct World {
     /// What is connected to the objects' signals.
     pub handlers: Handlers,
     /// What the builder has of each place, as far as it has built.
-    pub builder: Vec<Held>,
+    pub builder: Vec<BuilderEntry>,
     pub transcript: Vec<String>,
     pub result: Option<Value>,
 }
@@ -66,25 +66,25 @@ impl World {
     }
 
     // What stands at a place of the builder.
-    fn entry(&self, place: Place) -> Option<Held>
+    fn entry(&self, place: Place) -> Option<BuilderEntry>
         ensures { result ≡ slice_get self.now.builder.items place.0 }
     {
         self.builder.get(usize::from(place.0)).copied()
     }
 
     /// What the builder has of a place.
-    pub fn held(&self, place: Place) -> Held
-        ensures { held_of result ≡ held_at (world_of self.now) place.0 }
+    pub fn held(&self, place: Place) -> BuilderEntry
+        ensures { held_of result ≡ builder_entry (world_of self.now) place.0 }
     {
         match self.entry(place) {
             Some(held) => held,
-            None => Held::Unbuilt,
+            None => BuilderEntry::Unbuilt,
         }
     }
 
     /// The identity of what the builder holds of a place.
     pub fn built(&self, place: Place) -> Option<ObjectId>
-        ensures { id_of result ≡ identity_held (held_at (world_of self.now) place.0) }
+        ensures { id_of result ≡ identity_held (builder_entry (world_of self.now) place.0) }
     {
         self.held(place).object()
     }

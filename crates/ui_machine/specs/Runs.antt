@@ -17,7 +17,7 @@ use Rattle.ui_machine.specs.State.Config.{Config, World, said, untold}
 use Rattle.ui_machine.specs.State.Peers.{Peer, PeerState, Question, Reply}
 use Rattle.ui_machine.specs.State.References.{mentions, next_unheld}
 use Rattle.ui_machine.specs.State.Sources.{Source, source_of}
-use Rattle.ui_machine.specs.State.Tasks.{Building, Carrying, Due, Event, Request, Task}
+use Rattle.ui_machine.specs.State.Tasks.{Building, Handling, Due, Event, Request, Task}
 use Rattle.ui_machine.specs.State.Tasks as config
 use Rattle.ui_machine.specs.Steps.{question, step}
 
@@ -132,7 +132,7 @@ beginning w task = record { world = untold w; agenda = task ∷ []; counted = 0 
 
 -- where a request's dispatch begins
 abbrev pub of_request : World → Request → Config
-of_request w request = beginning w (Carrying request)
+of_request w request = beginning w (Handling request)
 
 -- the world before anything is built
 abbrev pub first_world : Definition → List Peer → World
@@ -251,7 +251,19 @@ pub record TurnHalts (d : Definition) (moment : ℕ) (replies : List Reply) (w :
   pub stands : IsSome (source_of number mid.sources)
   pub halts : Halts d later (beginning mid (Due number)) halt shown
 
--- a dispatch of an event that is not refused halts
+-- A turn for which no memory is found before a source of it runs, or where none is ready: at the list of its sources, or at its line. It
+-- has done nothing.
+pub record TurnStops (replies : List Reply) (w : World) (halt : Halt) (shown : List (List ℕ)) : Type 0 where
+  pub memory : halt ≡ halts.OutOfMemory
+  pub asked : replies ≡ []
+  pub lines : w.transcript ≡ shown
+
+-- how a turn halts: as it begins, or in a dispatch of one of its sources
+pub data TurnIsCut (d : Definition) (moment : ℕ) (replies : List Reply) (w : World) (halt : Halt) (shown : List (List ℕ)) : Type 0 where
+  at_its_beginning : TurnStops replies w halt shown → TurnIsCut d moment replies w halt shown
+  at_a_source : TurnHalts d moment replies w halt shown → TurnIsCut d moment replies w halt shown
+
+-- an event that is not refused halts
 abbrev pub HaltsIn : Definition → Event → List Reply → World → Halt → List (List ℕ) → Type 0
 HaltsIn d (config.request r) replies w halt shown = Halts d replies (of_request w r) halt shown
-HaltsIn d (config.turn moment) replies w halt shown = TurnHalts d moment replies w halt shown
+HaltsIn d (config.turn moment) replies w halt shown = TurnIsCut d moment replies w halt shown

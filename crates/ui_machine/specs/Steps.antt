@@ -10,7 +10,7 @@ use Rattle.ui_machine.specs.Rules.Build.{building}
 use Rattle.ui_machine.specs.Rules.Construction.{constructing}
 use Rattle.ui_machine.specs.Rules.Disposal.{finalised}
 use Rattle.ui_machine.specs.Rules.EmissionPlan.{beginning_emission, notifying}
-use Rattle.ui_machine.specs.Rules.Events.{carrying}
+use Rattle.ui_machine.specs.Rules.Events.{request_step}
 use Rattle.ui_machine.specs.Rules.MainLoop.{sourcing}
 use Rattle.ui_machine.specs.Rules.NotifyQueue.{thawing}
 use Rattle.ui_machine.specs.Rules.Sets.{setting}
@@ -18,7 +18,7 @@ use Rattle.ui_machine.specs.Rules.Transfers.{transferring, unsetting}
 use Rattle.ui_machine.specs.State.Config.{Config, Left, Started, World, starts, sunk}
 use Rattle.ui_machine.specs.State.Peers.{Question, Reply}
 use Rattle.ui_machine.specs.State.References.{mentions, next_unheld}
-use Rattle.ui_machine.specs.State.Tasks.{Answering, Beginning, Building, Calling, Carrying, Constructing, Due, Emitting, Notifying, Running, Setting, Task, Thawing, Transferring, Unsetting}
+use Rattle.ui_machine.specs.State.Tasks.{Answering, Beginning, Building, Calling, Handling, Constructing, Due, Emitting, Notifying, Running, Setting, Task, Thawing, Transferring, Unsetting}
 
 -- the most counted steps of a dispatch
 abbrev pub most_steps : ℕ
@@ -51,13 +51,13 @@ abbrev pub counted_left : ℕ → Answer Left → Answer Config
 counted_left n answer = only_if (nat_lt n most_steps) arms.Steps (left (suc n) answer)
 
 -- what still floats as nothing is left to do is let go, the lowest first; identities rise, so that it is the first
-abbrev pub settling : World → List ℕ → World
-settling w [] = w
-settling w (id ∷ ids) = sunk w id
+abbrev pub sink_first_floating : World → List ℕ → World
+sink_first_floating w [] = w
+sink_first_floating w (id ∷ ids) = sunk w id
 
 -- what the first task does; a call takes the reply
 abbrev pub act : Definition → World → Option Reply → List Task → ℕ → Answer Config
-act d w reply [] n = Ok (record { world = settling w w.floating; agenda = []; counted = n })
+act d w reply [] n = Ok (record { world = sink_first_floating w w.floating; agenda = []; counted = n })
 act d w reply (Setting id slot v ∷ rest) n = uncounted rest n (setting d w id slot v)
 act d w reply (Notifying id slot ∷ rest) n = counted rest n (notifying d w id slot)
 act d w reply (Beginning emission ∷ rest) n = counted rest n (beginning_emission d w emission)
@@ -71,7 +71,7 @@ act d w reply (Answering source ∷ rest) n = Err arms.Code
 act d w reply (Calling call ∷ rest) n = left n (calling_on d w call rest reply)
 act d w reply (Constructing id steps held ∷ rest) n = uncounted rest n (constructing d w id steps held)
 act d w reply (Building items ∷ rest) n = uncounted rest n (building d w items)
-act d w reply (Carrying request ∷ rest) n = uncounted rest n (carrying d w request)
+act d w reply (Handling request ∷ rest) n = uncounted rest n (request_step d w request)
 act d w reply (Due source ∷ rest) n = uncounted rest n (sourcing d w source)
 
 -- an object is finalised
@@ -106,7 +106,7 @@ asked_first w (Answering source ∷ rest) = None
 asked_first w (Calling call ∷ rest) = question_of w call
 asked_first w (Constructing id steps held ∷ rest) = None
 asked_first w (Building items ∷ rest) = None
-asked_first w (Carrying request ∷ rest) = None
+asked_first w (Handling request ∷ rest) = None
 asked_first w (Due source ∷ rest) = None
 
 -- a finalisation asks nothing

@@ -62,8 +62,8 @@ method name params result = record { name = name; params = params; result = resu
 abbrev pub shape : List ℕ → List Method → Shape
 shape name methods = record { name = name; methods = methods }
 
-abbrev pub block : List RegisterKind → ℕ → List Instruction → Block
-block entry passes code = record { entry = entry; passes = passes; code = code }
+abbrev pub block : List RegisterKind → Option ℕ → List Instruction → Block
+block entry repeat code = record { entry = entry; repeat = repeat; code = code }
 
 abbrev pub program : List ℕ → List RegisterKind → ℕ → Option Kind → List Block → Program
 program name params registers result blocks =
@@ -86,9 +86,9 @@ abbrev pub prototype : List ℕ → ℕ → List GivenProperty → List (List �
 prototype id class given peers =
     record { id = id; class = class; is_prototype = true; parent = None; given = given; peers = peers; signals = [] }
 
-abbrev pub bind : Option (List ℕ) → (source source_slot target target_slot flags : ℕ) → Bind
-bind name source source_slot target target_slot flags =
-    record { name = name; source = source; source_slot = source_slot; target = target; target_slot = target_slot; flags = flags }
+abbrev pub bind : Option (List ℕ) → (source source_slot target target_slot flags at : ℕ) → Bind
+bind name source source_slot target target_slot flags at =
+    record { name = name; source = source; source_slot = source_slot; target = target; target_slot = target_slot; flags = flags; at = at }
 
 -- ** instructions and peers
 

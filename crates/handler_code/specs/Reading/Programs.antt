@@ -29,13 +29,13 @@ instruction_behind s block at code d =
     if is_ended code then Err (faults.BadInstruction (at_block block) at) else good_at block at (instruction_at s d)
 
 -- the instructions of a block, with the one that an entry gives
-abbrev pub instruction_step : Scope → ℕ → ℕ → List machine.Instruction → Data → Result (List machine.Instruction) ProgramFault
-instruction_step s block at code d = do
+abbrev pub with_next_instruction : Scope → ℕ → ℕ → List machine.Instruction → Data → Result (List machine.Instruction) ProgramFault
+with_next_instruction s block at code d = do
   instruction ← instruction_behind s block at code d
   Ok (code ++ instruction ∷ [])
 
 unfoldable pub code_in : Scope → ℕ → List Data → Result (List machine.Instruction) ProgramFault
-code_in s block ds = each (instruction_step s block) 0 [] ds
+code_in s block ds = each (with_next_instruction s block) 0 [] ds
 
 -- ** blocks
 
@@ -47,7 +47,7 @@ filled registers kinds = kinds ++ replicate (min (registers - length kinds) 32) 
 abbrev pub code_step : Scope → ℕ → List machine.Block → BlockOutline → Result (List machine.Block) ProgramFault
 code_step s i blocks b = do
   code ← code_in s i b.code
-  Ok (blocks ++ (record { entry = filled s.registers b.entry; passes = 1; code = code }) ∷ [])
+  Ok (blocks ++ (record { entry = filled s.registers b.entry; repeat = None; code = code }) ∷ [])
 
 unfoldable pub blocks_in : Scope → List BlockOutline → Result (List machine.Block) ProgramFault
 blocks_in s bs = each (code_step s) 0 [] bs

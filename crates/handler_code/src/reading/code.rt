@@ -91,7 +91,7 @@ pub(crate) fn blocks_of(
         let entry = filled(alloc, scope.registers, outline.entry.as_slice())?;
         blocks.push(Block {
             entry,
-            passes: 1,
+            repeat: None,
             code,
         })?;
     }

@@ -27,13 +27,13 @@ definition = record {
       [];
   programs =
       program (codes "copy") ((kinds.at 0) ∷ []) 3 None
-      (block ((kinds.at 0) ∷ kinds.unset ∷ kinds.unset ∷ []) 1 (words.object 1 (codes "b") ∷ words.branch_null 1 1 2 ∷ [])
-      ∷ block (kinds.unset ∷ kinds.unset ∷ kinds.unset ∷ []) 1 (words.return None ∷ [])
-      ∷ block ((kinds.at 0) ∷ (kinds.at 1) ∷ kinds.unset ∷ []) 1 (words.get 2 0 (codes "value") ∷ words.set 1 (codes "value") 2
+      (block ((kinds.at 0) ∷ kinds.unset ∷ kinds.unset ∷ []) None (words.object 1 (codes "b") ∷ words.branch_null 1 1 2 ∷ [])
+      ∷ block (kinds.unset ∷ kinds.unset ∷ kinds.unset ∷ []) None (words.return None ∷ [])
+      ∷ block ((kinds.at 0) ∷ (kinds.at 1) ∷ kinds.unset ∷ []) None (words.get 2 0 (codes "value") ∷ words.set 1 (codes "value") 2
       ∷ words.return None ∷ [])
       ∷ [])
       ∷ program (codes "make") ((kinds.at 0) ∷ []) 2 None
-      (block ((kinds.at 0) ∷ kinds.unset ∷ []) 1 (words.new 1 (codes "spare") ∷ words.return None ∷ [])
+      (block ((kinds.at 0) ∷ kinds.unset ∷ []) None (words.new 1 (codes "spare") ∷ words.return None ∷ [])
       ∷ [])
       ∷ [];
   places =
@@ -44,8 +44,8 @@ definition = record {
       ∷ prototype (codes "spare") 2 (gives 0 (value (values.whole kinds.int (pos 1))) ∷ []) []
       ∷ [];
   bindings =
-      bind None 0 1 1 1 3
-      ∷ bind None 1 0 2 0 0
+      bind None 0 1 1 1 3 0
+      ∷ bind None 1 0 2 0 0 0
       ∷ [];
   most_objects = 4;
   most_handlers = 1;

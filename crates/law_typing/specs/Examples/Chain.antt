@@ -29,15 +29,15 @@ definition = record {
       [];
   programs =
       program (codes "g0") ((kinds.some 2) ∷ []) 2 None
-      (block ((kinds.some 2) ∷ kinds.unset ∷ []) 1 (words.get 1 0 (codes "p0") ∷ words.set 0 (codes "p1") 1 ∷ words.set 0 (codes "p1") 1
+      (block ((kinds.some 2) ∷ kinds.unset ∷ []) None (words.get 1 0 (codes "p0") ∷ words.set 0 (codes "p1") 1 ∷ words.set 0 (codes "p1") 1
       ∷ words.return None ∷ [])
       ∷ [])
       ∷ program (codes "g1") ((kinds.some 2) ∷ []) 2 None
-      (block ((kinds.some 2) ∷ kinds.unset ∷ []) 1 (words.get 1 0 (codes "p1") ∷ words.set 0 (codes "p2") 1 ∷ words.set 0 (codes "p2") 1
+      (block ((kinds.some 2) ∷ kinds.unset ∷ []) None (words.get 1 0 (codes "p1") ∷ words.set 0 (codes "p2") 1 ∷ words.set 0 (codes "p2") 1
       ∷ words.return None ∷ [])
       ∷ [])
       ∷ program (codes "g2") ((kinds.some 2) ∷ []) 2 None
-      (block ((kinds.some 2) ∷ kinds.unset ∷ []) 1 (words.get 1 0 (codes "p2") ∷ words.set 0 (codes "p3") 1 ∷ words.set 0 (codes "p3") 1
+      (block ((kinds.some 2) ∷ kinds.unset ∷ []) None (words.get 1 0 (codes "p2") ∷ words.set 0 (codes "p3") 1 ∷ words.set 0 (codes "p3") 1
       ∷ words.return None ∷ [])
       ∷ [])
       ∷ [];

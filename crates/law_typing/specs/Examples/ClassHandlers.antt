@@ -26,15 +26,15 @@ definition = record {
       [];
   programs =
       program (codes "bump") ((kinds.some 2) ∷ []) 2 None
-      (block ((kinds.some 2) ∷ kinds.unset ∷ []) 1 (words.const 1 (kinds.whole kinds.int) (values.whole kinds.int (pos 1))
+      (block ((kinds.some 2) ∷ kinds.unset ∷ []) None (words.const 1 (kinds.whole kinds.int) (values.whole kinds.int (pos 1))
       ∷ words.set 0 (codes "value") 1 ∷ words.return None ∷ [])
       ∷ [])
       ∷ program (codes "begin") ((kinds.some 2) ∷ []) 2 None
-      (block ((kinds.some 2) ∷ kinds.unset ∷ []) 1
+      (block ((kinds.some 2) ∷ kinds.unset ∷ []) None
       (words.connect 1 0 (connects (codes "turned") None (codes "rest") false false None) ∷ words.return None ∷ [])
       ∷ [])
       ∷ program (codes "rest") ((kinds.some 2) ∷ []) 1 None
-      (block ((kinds.some 2) ∷ []) 1 (words.return None ∷ [])
+      (block ((kinds.some 2) ∷ []) None (words.return None ∷ [])
       ∷ [])
       ∷ [];
   places =

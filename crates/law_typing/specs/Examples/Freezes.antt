@@ -27,7 +27,7 @@ definition = record {
       [];
   programs =
       program (codes "f") ((kinds.some 2) ∷ []) 2 None
-      (block ((kinds.some 2) ∷ kinds.unset ∷ []) 1 (words.const 1 (kinds.whole kinds.int) (values.whole kinds.int (pos 1))
+      (block ((kinds.some 2) ∷ kinds.unset ∷ []) None (words.const 1 (kinds.whole kinds.int) (values.whole kinds.int (pos 1))
       ∷ words.freeze 0 ∷ words.set 0 (codes "a") 1 ∷ words.freeze 0 ∷ words.set 0 (codes "b") 1 ∷ words.thaw 0
       ∷ words.set 0 (codes "a") 1 ∷ words.thaw 0 ∷ words.return None ∷ [])
       ∷ [])

@@ -25,7 +25,7 @@ definition = record {
       [];
   programs =
       program (codes "f") ((kinds.some 2) ∷ []) 1 None
-      (block ((kinds.some 2) ∷ []) 1 (words.freeze 0 ∷ words.thaw 0 ∷ words.return None ∷ [])
+      (block ((kinds.some 2) ∷ []) None (words.freeze 0 ∷ words.thaw 0 ∷ words.return None ∷ [])
       ∷ [])
       ∷ [];
   places =
@@ -33,7 +33,7 @@ definition = record {
       ∷ object (codes "b") 2 None [] [] []
       ∷ [];
   bindings =
-      bind None 0 0 1 0 7
+      bind None 0 0 1 0 7 0
       ∷ [];
   most_objects = 64;
   most_handlers = 0;

@@ -30,26 +30,26 @@ definition = record {
       ∷ [];
   programs =
       program (codes "mk") ((kinds.at 0) ∷ []) 3 None
-      (block ((kinds.at 0) ∷ kinds.unset ∷ kinds.unset ∷ []) 1 (words.new 1 (codes "it") ∷ words.branch_null 1 1 2 ∷ [])
-      ∷ block (kinds.unset ∷ kinds.unset ∷ kinds.unset ∷ []) 1 (words.return None ∷ [])
-      ∷ block ((kinds.at 0) ∷ (kinds.at 1) ∷ kinds.unset ∷ []) 1
+      (block ((kinds.at 0) ∷ kinds.unset ∷ kinds.unset ∷ []) None (words.new 1 (codes "it") ∷ words.branch_null 1 1 2 ∷ [])
+      ∷ block (kinds.unset ∷ kinds.unset ∷ kinds.unset ∷ []) None (words.return None ∷ [])
+      ∷ block ((kinds.at 0) ∷ (kinds.at 1) ∷ kinds.unset ∷ []) None
       (words.connect 2 1 (connects (codes "s") None (codes "drop") false true (Some 0))
       ∷ words.connect 2 1 (connects (codes "s") None (codes "later") false false None) ∷ words.set 0 (codes "cur") 1
       ∷ words.set 0 (codes "w") 1 ∷ words.return None ∷ [])
       ∷ [])
       ∷ program (codes "drop") ((kinds.at 0) ∷ (kinds.at 1) ∷ []) 3 None
-      (block ((kinds.at 0) ∷ (kinds.at 1) ∷ kinds.unset ∷ []) 1 (words.const 2 (kinds.object 2) (values.object None)
+      (block ((kinds.at 0) ∷ (kinds.at 1) ∷ kinds.unset ∷ []) None (words.const 2 (kinds.object 2) (values.object None)
       ∷ words.set 0 (codes "cur") 2 ∷ words.return None ∷ [])
       ∷ [])
       ∷ program (codes "later") ((kinds.some 2) ∷ []) 3 None
-      (block ((kinds.some 2) ∷ kinds.unset ∷ kinds.unset ∷ []) 1
+      (block ((kinds.some 2) ∷ kinds.unset ∷ kinds.unset ∷ []) None
       (words.const 1 (kinds.whole kinds.int64) (values.whole kinds.int64 (pos 2)) ∷ words.call 2 0 (codes "add") (1 ∷ [])
       ∷ words.return None ∷ [])
       ∷ [])
       ∷ program (codes "fire") ((kinds.at 0) ∷ []) 2 None
-      (block ((kinds.at 0) ∷ kinds.unset ∷ []) 1 (words.get 1 0 (codes "cur") ∷ words.branch_null 1 1 2 ∷ [])
-      ∷ block (kinds.unset ∷ kinds.unset ∷ []) 1 (words.return None ∷ [])
-      ∷ block ((kinds.at 0) ∷ (kinds.some 2) ∷ []) 1 (words.emit None 1 (codes "s") None [] ∷ words.return None ∷ [])
+      (block ((kinds.at 0) ∷ kinds.unset ∷ []) None (words.get 1 0 (codes "cur") ∷ words.branch_null 1 1 2 ∷ [])
+      ∷ block (kinds.unset ∷ kinds.unset ∷ []) None (words.return None ∷ [])
+      ∷ block ((kinds.at 0) ∷ (kinds.some 2) ∷ []) None (words.emit None 1 (codes "s") None [] ∷ words.return None ∷ [])
       ∷ [])
       ∷ [];
   places =

@@ -24,7 +24,7 @@ definition = record {
       [];
   programs =
       program (codes "f") ((kinds.some 2) ∷ []) 1 None
-      (block ((kinds.some 2) ∷ []) 1 (words.freeze 0 ∷ words.return None ∷ [])
+      (block ((kinds.some 2) ∷ []) None (words.freeze 0 ∷ words.return None ∷ [])
       ∷ [])
       ∷ [];
   places =

@@ -28,7 +28,7 @@ definition = record {
       ∷ object (codes "b") 2 None [] [] []
       ∷ [];
   bindings =
-      bind None 0 0 1 0 7
+      bind None 0 0 1 0 7 0
       ∷ [];
   most_objects = 64;
   most_handlers = 0;

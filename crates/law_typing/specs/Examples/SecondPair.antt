@@ -32,8 +32,8 @@ definition = record {
       ∷ object (codes "c") 2 None [] [] []
       ∷ [];
   bindings =
-      bind None 0 1 1 1 1
-      ∷ bind None 0 1 2 1 1
+      bind None 0 1 1 1 1 0
+      ∷ bind None 0 1 2 1 1 0
       ∷ [];
   most_objects = 64;
   most_handlers = 0;

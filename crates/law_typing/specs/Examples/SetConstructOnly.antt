@@ -28,7 +28,7 @@ definition = record {
       [];
   programs =
       program (codes "p") ((kinds.some 2) ∷ []) 2 None
-      (block ((kinds.some 2) ∷ kinds.unset ∷ []) 1 (words.const 1 (kinds.whole kinds.int) (values.whole kinds.int (pos 3))
+      (block ((kinds.some 2) ∷ kinds.unset ∷ []) None (words.const 1 (kinds.whole kinds.int) (values.whole kinds.int (pos 3))
       ∷ words.set 0 (codes "n") 1 ∷ words.return None ∷ [])
       ∷ [])
       ∷ [];

@@ -38,43 +38,43 @@ definition = record {
       [];
   programs =
       program (codes "g0") ((kinds.some 2) ∷ []) 2 None
-      (block ((kinds.some 2) ∷ kinds.unset ∷ []) 1 (words.get 1 0 (codes "p0") ∷ words.set 0 (codes "p1") 1 ∷ words.set 0 (codes "p1") 1
+      (block ((kinds.some 2) ∷ kinds.unset ∷ []) None (words.get 1 0 (codes "p0") ∷ words.set 0 (codes "p1") 1 ∷ words.set 0 (codes "p1") 1
       ∷ words.set 0 (codes "p1") 1 ∷ words.set 0 (codes "p1") 1 ∷ words.return None ∷ [])
       ∷ [])
       ∷ program (codes "g1") ((kinds.some 2) ∷ []) 2 None
-      (block ((kinds.some 2) ∷ kinds.unset ∷ []) 1 (words.get 1 0 (codes "p1") ∷ words.set 0 (codes "p2") 1 ∷ words.set 0 (codes "p2") 1
+      (block ((kinds.some 2) ∷ kinds.unset ∷ []) None (words.get 1 0 (codes "p1") ∷ words.set 0 (codes "p2") 1 ∷ words.set 0 (codes "p2") 1
       ∷ words.set 0 (codes "p2") 1 ∷ words.set 0 (codes "p2") 1 ∷ words.return None ∷ [])
       ∷ [])
       ∷ program (codes "g2") ((kinds.some 2) ∷ []) 2 None
-      (block ((kinds.some 2) ∷ kinds.unset ∷ []) 1 (words.get 1 0 (codes "p2") ∷ words.set 0 (codes "p3") 1 ∷ words.set 0 (codes "p3") 1
+      (block ((kinds.some 2) ∷ kinds.unset ∷ []) None (words.get 1 0 (codes "p2") ∷ words.set 0 (codes "p3") 1 ∷ words.set 0 (codes "p3") 1
       ∷ words.set 0 (codes "p3") 1 ∷ words.set 0 (codes "p3") 1 ∷ words.return None ∷ [])
       ∷ [])
       ∷ program (codes "g3") ((kinds.some 2) ∷ []) 2 None
-      (block ((kinds.some 2) ∷ kinds.unset ∷ []) 1 (words.get 1 0 (codes "p3") ∷ words.set 0 (codes "p4") 1 ∷ words.set 0 (codes "p4") 1
+      (block ((kinds.some 2) ∷ kinds.unset ∷ []) None (words.get 1 0 (codes "p3") ∷ words.set 0 (codes "p4") 1 ∷ words.set 0 (codes "p4") 1
       ∷ words.set 0 (codes "p4") 1 ∷ words.set 0 (codes "p4") 1 ∷ words.return None ∷ [])
       ∷ [])
       ∷ program (codes "g4") ((kinds.some 2) ∷ []) 2 None
-      (block ((kinds.some 2) ∷ kinds.unset ∷ []) 1 (words.get 1 0 (codes "p4") ∷ words.set 0 (codes "p5") 1 ∷ words.set 0 (codes "p5") 1
+      (block ((kinds.some 2) ∷ kinds.unset ∷ []) None (words.get 1 0 (codes "p4") ∷ words.set 0 (codes "p5") 1 ∷ words.set 0 (codes "p5") 1
       ∷ words.set 0 (codes "p5") 1 ∷ words.set 0 (codes "p5") 1 ∷ words.return None ∷ [])
       ∷ [])
       ∷ program (codes "g5") ((kinds.some 2) ∷ []) 2 None
-      (block ((kinds.some 2) ∷ kinds.unset ∷ []) 1 (words.get 1 0 (codes "p5") ∷ words.set 0 (codes "p6") 1 ∷ words.set 0 (codes "p6") 1
+      (block ((kinds.some 2) ∷ kinds.unset ∷ []) None (words.get 1 0 (codes "p5") ∷ words.set 0 (codes "p6") 1 ∷ words.set 0 (codes "p6") 1
       ∷ words.set 0 (codes "p6") 1 ∷ words.set 0 (codes "p6") 1 ∷ words.return None ∷ [])
       ∷ [])
       ∷ program (codes "g6") ((kinds.some 2) ∷ []) 2 None
-      (block ((kinds.some 2) ∷ kinds.unset ∷ []) 1 (words.get 1 0 (codes "p6") ∷ words.set 0 (codes "p7") 1 ∷ words.set 0 (codes "p7") 1
+      (block ((kinds.some 2) ∷ kinds.unset ∷ []) None (words.get 1 0 (codes "p6") ∷ words.set 0 (codes "p7") 1 ∷ words.set 0 (codes "p7") 1
       ∷ words.set 0 (codes "p7") 1 ∷ words.set 0 (codes "p7") 1 ∷ words.return None ∷ [])
       ∷ [])
       ∷ program (codes "g7") ((kinds.some 2) ∷ []) 2 None
-      (block ((kinds.some 2) ∷ kinds.unset ∷ []) 1 (words.get 1 0 (codes "p7") ∷ words.set 0 (codes "p8") 1 ∷ words.set 0 (codes "p8") 1
+      (block ((kinds.some 2) ∷ kinds.unset ∷ []) None (words.get 1 0 (codes "p7") ∷ words.set 0 (codes "p8") 1 ∷ words.set 0 (codes "p8") 1
       ∷ words.set 0 (codes "p8") 1 ∷ words.set 0 (codes "p8") 1 ∷ words.return None ∷ [])
       ∷ [])
       ∷ program (codes "g8") ((kinds.some 2) ∷ []) 2 None
-      (block ((kinds.some 2) ∷ kinds.unset ∷ []) 1 (words.get 1 0 (codes "p8") ∷ words.set 0 (codes "p9") 1 ∷ words.set 0 (codes "p9") 1
+      (block ((kinds.some 2) ∷ kinds.unset ∷ []) None (words.get 1 0 (codes "p8") ∷ words.set 0 (codes "p9") 1 ∷ words.set 0 (codes "p9") 1
       ∷ words.set 0 (codes "p9") 1 ∷ words.set 0 (codes "p9") 1 ∷ words.return None ∷ [])
       ∷ [])
       ∷ program (codes "g9") ((kinds.some 2) ∷ []) 2 None
-      (block ((kinds.some 2) ∷ kinds.unset ∷ []) 1 (words.get 1 0 (codes "p9") ∷ words.set 0 (codes "p10") 1
+      (block ((kinds.some 2) ∷ kinds.unset ∷ []) None (words.get 1 0 (codes "p9") ∷ words.set 0 (codes "p10") 1
       ∷ words.set 0 (codes "p10") 1 ∷ words.set 0 (codes "p10") 1 ∷ words.set 0 (codes "p10") 1 ∷ words.return None ∷ [])
       ∷ [])
       ∷ [];

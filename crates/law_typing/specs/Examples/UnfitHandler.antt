@@ -27,7 +27,7 @@ definition = record {
       [];
   programs =
       program (codes "f") ((kinds.some 2) ∷ (kinds.plain (kinds.whole kinds.int)) ∷ []) 2 None
-      (block ((kinds.some 2) ∷ (kinds.plain (kinds.whole kinds.int)) ∷ []) 1 (words.return None ∷ [])
+      (block ((kinds.some 2) ∷ (kinds.plain (kinds.whole kinds.int)) ∷ []) None (words.return None ∷ [])
       ∷ [])
       ∷ [];
   places =

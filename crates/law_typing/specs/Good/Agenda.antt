@@ -3,7 +3,7 @@ use Rattle.std.specs.Prelude.{◌≡◌, Bool, true, ℕ, ◌+◌, ◌≤◌, Li
 use Rattle.ui_machine.specs.Seq.{total}
 use Rattle.ui_machine.specs.Definition.{Definition}
 use Rattle.ui_machine.specs.State.Sources.{Source}
-use Rattle.ui_machine.specs.State.Tasks.{Item, Task, Setting, Notifying, Beginning, Emitting, Transferring, Unsetting, Thawing, Running, Answering, Calling, Constructing, Building, Carrying, Due}
+use Rattle.ui_machine.specs.State.Tasks.{Item, Task, Setting, Notifying, Beginning, Emitting, Transferring, Unsetting, Thawing, Running, Answering, Calling, Constructing, Building, Handling, Due}
 use Rattle.law_typing.specs.Graph.Tables.{Tables, of_program}
 use Rattle.law_typing.specs.Verdict.Accepted.{Each}
 use Rattle.law_typing.specs.Good.Standing.{View}
@@ -39,7 +39,7 @@ TaskGood d costs depths w up below (Constructing id todo held) steps frames =
     TakesNone up × ConstructingGood d costs depths w id todo held steps frames × OnBuild held below
 TaskGood d costs depths w up below (Building items) steps frames =
     TakesNone up × (below ≡ []) × (total (item_cost d costs) items ≤ steps) × Each (λ item. item_depth d depths item ≤ frames) items
-TaskGood d costs depths w up below (Carrying request) steps frames =
+TaskGood d costs depths w up below (Handling request) steps frames =
     TakesNone up × (below ≡ []) × CarryingGood d costs depths w request steps frames
 TaskGood d costs depths w up below (Due source) steps frames =
     TakesNone up × (below ≡ []) × ((s : Source) × (sources.source_of source w.sources ≡ Some s) × (of_program costs s.program ≤ steps)

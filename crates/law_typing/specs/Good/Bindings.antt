@@ -8,7 +8,7 @@ use Rattle.ui_machine.specs.Definition.Lookups.{program_at}
 use Rattle.ui_machine.specs.State.Objects.{Object, Objects}
 use Rattle.ui_machine.specs.State.Bindings.{Binding}
 use Rattle.ui_machine.specs.State.Sources.{Source}
-use Rattle.ui_machine.specs.State.Config.{Held, unbuilt, built}
+use Rattle.ui_machine.specs.State.Config.{BuilderEntry, unbuilt, built}
 use Rattle.ui_machine.specs.State.Tasks.{Item, binds, Task}
 use Rattle.ui_machine.specs.State.Objects as heap
 use Rattle.ui_machine.specs.Rules.Build.{of_items}
@@ -54,15 +54,15 @@ pub record SourceGood (d : Definition) (s : Standing) (source : Source) : Type 0
   pub told : IsIn source.program (graph d).sources
 
 -- what the builder holds of a place lives there
-abbrev pub HeldGood : Standing → List Held → Type 0
+abbrev pub HeldGood : Standing → List BuilderEntry → Type 0
 HeldGood s builder = (place id : ℕ) → read unbuilt builder place ≡ built id → s id ≡ Some place
 
 -- what the builder has of a place is built or released
-abbrev pub IsBuilt : Held → Type 0
+abbrev pub IsBuilt : BuilderEntry → Type 0
 IsBuilt unbuilt = ⊥
 IsBuilt held = ⊤
 
 -- each place of the document is built or released
-pub record DocumentGood (d : Definition) (builder : List Held) : Type 0 where
+pub record DocumentGood (d : Definition) (builder : List BuilderEntry) : Type 0 where
   pub all : length builder ≡ objects_of d
   pub each : Each IsBuilt builder

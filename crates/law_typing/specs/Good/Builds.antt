@@ -8,8 +8,8 @@ use Rattle.ui_machine.specs.Definition.Properties.{Spec, has_flags, is_writable}
 use Rattle.ui_machine.specs.Definition.{Definition}
 use Rattle.ui_machine.specs.Definition.Places.{Bind}
 use Rattle.ui_machine.specs.Definition.Lookups.{program_at}
-use Rattle.ui_machine.specs.State.Config.{Held, unbuilt, built}
-use Rattle.ui_machine.specs.State.Tasks.{Making, sets, runs, thaws, Item, makes, adopts, forwards, binds, connects, Task, Constructing, Building}
+use Rattle.ui_machine.specs.State.Config.{BuilderEntry, unbuilt, built}
+use Rattle.ui_machine.specs.State.Tasks.{ConstructStep, sets, runs, thaws, Item, makes, adopts, forwards, binds, connects, Task, Constructing, Building}
 use Rattle.ui_machine.specs.Rules.Sets.{has_kind}
 use Rattle.ui_machine.specs.Rules.Build.{is_making, build_items}
 use Rattle.law_typing.specs.Rules.Signatures.{is_taken_by}
@@ -24,28 +24,28 @@ use Rattle.law_typing.specs.Good.DueCosts.{transfer_cost, transfer_depth}
 use Rattle.law_typing.specs.Good.Bindings.{DocumentGood}
 
 -- an object that a construction is given is held by the builder
-abbrev pub HeldIf : List Held → Value → Type 0
+abbrev pub HeldIf : List BuilderEntry → Value → Type 0
 HeldIf builder (values.object (Some id)) = (place : ℕ) × (read unbuilt builder place ≡ built id)
 HeldIf builder v = ⊤
 
 -- a step of a construction, what it may cost and how deep it is; a notification of it waits in the queue and is paid there
-abbrev pub MakingGood : Definition → Standing → List Held → (place : ℕ) → Making → Type 0
+abbrev pub MakingGood : Definition → Standing → List BuilderEntry → (place : ℕ) → ConstructStep → Type 0
 MakingGood d s builder place (sets slot v) = (spec : Spec) × (spec_at d place slot ≡ Some spec) × (has_kind v spec.kind ≡ true)
     × (lives_by s v ≡ true) × HeldIf builder v × (is_writable spec ≡ true)
 MakingGood d s builder place (runs program) = is_taken_by d (program_at d program) (kinds.at place ∷ []) None ≡ true
 MakingGood d s builder place thaws = ⊤
 
-abbrev pub step_cost : Definition → Tables → (place : ℕ) → Making → ℕ
+abbrev pub step_cost : Definition → Tables → (place : ℕ) → ConstructStep → ℕ
 step_cost d costs place (sets slot v) = node_cost (graph d) costs (property place slot)
 step_cost d costs place (runs program) = of_program costs program
 step_cost d costs place thaws = 0
 
-abbrev pub step_depth : Tables → (place : ℕ) → Making → ℕ
+abbrev pub step_depth : Tables → (place : ℕ) → ConstructStep → ℕ
 step_depth depths place (sets slot v) = entry depths.channels (property place slot)
 step_depth depths place (runs program) = of_program depths program
 step_depth depths place thaws = 0
 
-pub record ConstructingGood (d : Definition) (costs depths : Tables) (w : View) (id : ℕ) (todo : List Making) (held : Bool)
+pub record ConstructingGood (d : Definition) (costs depths : Tables) (w : View) (id : ℕ) (todo : List ConstructStep) (held : Bool)
     (steps frames : ℕ) : Type 0 where
   pub place : ℕ
   pub is : w.stands id ≡ Some place
@@ -89,9 +89,9 @@ is_for_builder _ = 0
 
 -- The rest of the build is the end of all of it. Up to there each object was made: the builder holds it, or it is under construction. Where
 -- nothing of the build is left, each place of the document is built or released, and no construction is for the builder.
-abbrev pub BuildGood : Definition → List Held → (agenda : List Task) → List Task → Type 0
+abbrev pub BuildGood : Definition → List BuilderEntry → (agenda : List Task) → List Task → Type 0
 BuildGood d builder agenda [] = DocumentGood d builder × (total is_for_builder agenda ≡ 0)
 BuildGood d builder agenda (Building items ∷ tasks) =
     (done : List Item) × (build_items d ≡ done ++ items) × (total is_making done ≡ length builder + total is_for_builder agenda)
-    × Each (λ (h : Held). (id : ℕ) × (h ≡ built id)) builder
+    × Each (λ (h : BuilderEntry). (id : ℕ) × (h ≡ built id)) builder
 BuildGood d builder agenda (task ∷ tasks) = BuildGood d builder agenda tasks

@@ -6,7 +6,7 @@ use Rattle.ui_machine.specs.Definition.Values as values
 use Rattle.ui_machine.specs.Definition.{Definition}
 use Rattle.ui_machine.specs.State.Objects.{Object, Objects}
 use Rattle.ui_machine.specs.State.Bindings.{Binding}
-use Rattle.ui_machine.specs.State.Tasks.{Making, thaws, Task, Setting, Transferring, Unsetting, Running, Constructing, Due}
+use Rattle.ui_machine.specs.State.Tasks.{ConstructStep, thaws, Task, Setting, Transferring, Unsetting, Running, Constructing, Due}
 use Rattle.ui_machine.specs.State.Config.{Config}
 use Rattle.ui_machine.specs.State.References.{next_unheld, mentions}
 use Rattle.ui_machine.specs.State.Objects as heap
@@ -20,7 +20,7 @@ use Rattle.law_typing.specs.Good.Builds.{is_for_builder}
 use Rattle.law_typing.specs.Good.Agenda.{frames}
 
 -- how often a construction has still to thaw its object
-abbrev pub to_thaw : List Making → ℕ
+abbrev pub to_thaw : List ConstructStep → ℕ
 to_thaw [] = 0
 to_thaw (thaws ∷ more) = 1 + to_thaw more
 to_thaw (m ∷ more) = to_thaw more

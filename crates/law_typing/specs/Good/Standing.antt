@@ -14,7 +14,7 @@ use Rattle.ui_machine.specs.State.Handlers.{Handler}
 use Rattle.ui_machine.specs.State.Bindings.{Binding}
 use Rattle.ui_machine.specs.State.Sources.{Source}
 use Rattle.ui_machine.specs.State.Peers.{Peer}
-use Rattle.ui_machine.specs.State.Config.{Held, World}
+use Rattle.ui_machine.specs.State.Config.{BuilderEntry, World}
 use Rattle.ui_machine.specs.State.Tasks.{Registers}
 use Rattle.ui_machine.specs.Rules.Programs.{place_in, names_one}
 use Rattle.law_typing.specs.Rules.RegisterKinds.{Kinds, kind_in, class_at, covers}
@@ -90,7 +90,7 @@ pub record View : Type 0 where
   pub bindings : List Binding
   pub sources : List Source
   pub peers : List Peer
-  pub builder : List Held
+  pub builder : List BuilderEntry
 
 abbrev pub view : World → View
 view w = record {

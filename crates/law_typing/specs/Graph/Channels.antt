@@ -7,7 +7,7 @@ use Rattle.ui_machine.specs.Definition.{Definition}
 use Rattle.ui_machine.specs.Definition.Signals.{Signal}
 use Rattle.ui_machine.specs.Definition.Places.{Bind}
 use Rattle.ui_machine.specs.Definition.Lookups.{class_of, specs_of, spec_of}
-use Rattle.ui_machine.specs.State.Tasks.{Making, sets, runs, thaws}
+use Rattle.ui_machine.specs.State.Tasks.{ConstructStep, sets, runs, thaws}
 use Rattle.ui_machine.specs.Rules.Construction.{constructed_runs}
 use Rattle.law_typing.specs.Rules.RegisterKinds.{class_at, place_numbers}
 
@@ -43,7 +43,7 @@ same_channel _ _ = false
 -- ** which there are
 
 -- the programs that a construction runs
-abbrev pub programs_of : List Making → List ℕ
+abbrev pub programs_of : List ConstructStep → List ℕ
 programs_of [] = []
 programs_of (sets slot v ∷ more) = programs_of more
 programs_of (runs p ∷ more) = p ∷ programs_of more

@@ -29,7 +29,7 @@ definition = record {
   shapes = [];
   programs =
       program (codes "p") (kinds.some 1 ∷ kinds.plain kinds.bool ∷ []) 2 None
-      (block (kinds.some 1 ∷ kinds.plain kinds.bool ∷ []) 1 (words.set 0 (codes "on") 1 ∷ words.return None ∷ [])
+      (block (kinds.some 1 ∷ kinds.plain kinds.bool ∷ []) None (words.set 0 (codes "on") 1 ∷ words.return None ∷ [])
       ∷ [])
       ∷ [];
   places = object (codes "a") 2 None [] [] [] ∷ [];

@@ -42,9 +42,9 @@ definition = record {
   programs =
       program (codes "p") ((kinds.some 2) ∷ []) 6 None
       (block ((kinds.some 2) ∷ kinds.unset ∷ kinds.unset ∷ kinds.unset ∷ kinds.unset ∷ kinds.unset
-      ∷ []) 1 (words.const 1 kinds.text (values.text (Some (codes "x"))) ∷ words.jump 1 ∷ [])
+      ∷ []) None (words.const 1 kinds.text (values.text (Some (codes "x"))) ∷ words.jump 1 ∷ [])
       ∷ block ((kinds.some 2) ∷ (kinds.plain kinds.text) ∷ kinds.unset ∷ kinds.unset ∷ kinds.unset ∷ kinds.unset
-      ∷ []) 1 (words.return None ∷ [])
+      ∷ []) None (words.return None ∷ [])
       ∷ [])
       ∷ [];
   places =
@@ -87,12 +87,12 @@ pub record RuleWords : Type 0 where
 
 -- a binding from a property of the first knob to one of the second
 abbrev pub from_to : (source target flags : ℕ) → Option BindingWord
-from_to source target flags = word_of definition (bind None 0 source 1 target flags)
+from_to source target flags = word_of definition (bind None 0 source 1 target flags 0)
 
 -- a binding that keeps the rules, and one for each word
 pub record BindingWords : Type 0 where
   pub keeps : from_to 0 0 1 ≡ None
-  pub same : word_of definition (bind None 1 0 1 0 0) ≡ Some faults.same
+  pub same : word_of definition (bind None 1 0 1 0 0 0) ≡ Some faults.same
   pub readable : from_to 1 0 0 ≡ Some faults.readable
   pub writable : from_to 0 2 0 ≡ Some faults.writable
   pub construct_only : from_to 0 3 0 ≡ Some faults.construct_only

@@ -14,7 +14,7 @@ use Rattle.ui_machine.specs.Rules.Validation.{is_valid}
 use Rattle.ui_machine.specs.Definition.Properties.{Spec, is_writable, is_construct, is_construct_only}
 use Rattle.ui_machine.specs.Definition.{Definition, Class}
 use Rattle.ui_machine.specs.Definition.Signals.{Signal, Shape, Method}
-use Rattle.ui_machine.specs.Definition.Programs.{Instruction, Block, Program}
+use Rattle.ui_machine.specs.Definition.Programs.{Instruction, Block, Program, passes_in}
 use Rattle.ui_machine.specs.Definition.Places.{Given, value, named, GivenProperty, Attached, Place, Bind}
 use Rattle.ui_machine.specs.Definition.Programs as words
 use Rattle.ui_machine.specs.Definition.Lookups.{type_of, spec_of, place_at, program_at}
@@ -145,7 +145,7 @@ ConstantFits d _ = ⊤
 pub record BlockRead (d : Definition) (p : Program) (number : ℕ) (b : Block) : Type 0 where
   pub entry : length b.entry ≡ p.registers
   -- its instructions are taken once: a block with more passes is of a later format
-  pub once : b.passes ≡ 1
+  pub once : passes_in b ≡ 1
   pub ends : Ends b.code
   pub constants : Each (ConstantFits d) b.code
   pub written : Each (λ i. Within p.registers (written i)) b.code

@@ -174,8 +174,8 @@ property_of d ks object name = do
   known rules.unknown (spec_of d class slot)
 
 -- `get d o p`
-unfoldable pub getting : Definition → Kinds → (to object : ℕ) → List ℕ → Typing Kinds
-getting d ks to object name = do
+unfoldable pub get_property : Definition → Kinds → (to object : ℕ) → List ℕ → Typing Kinds
+get_property d ks to object name = do
   s ← property_of d ks object name
   only_if (is_readable s) rules.flags (gives to (kinds.plain s.kind) ks)
 
@@ -194,8 +194,8 @@ changing_none ks tested = do
   Ok ks
 
 -- `set o p s`
-unfoldable pub assigning : Definition → Kinds → ℕ → List ℕ → ℕ → Typing Kinds
-assigning d ks object name from = do
+unfoldable pub set_property : Definition → Kinds → ℕ → List ℕ → ℕ → Typing Kinds
+set_property d ks object name from = do
   s ← property_of d ks object name
   if_settable s (changing_none ks (fitting d ks from s.kind))
 
@@ -209,8 +209,8 @@ place_for d id of_prototype = do
   only_if (cond of_prototype p.is_prototype (not p.is_prototype)) rules.unknown (Ok place)
 
 -- `object d id`, `new d c`
-unfoldable pub naming : Definition → Kinds → ℕ → List ℕ → Bool → Typing Kinds
-naming d ks to id of_prototype = do
+unfoldable pub look_up_object : Definition → Kinds → ℕ → List ℕ → Bool → Typing Kinds
+look_up_object d ks to id of_prototype = do
   place ← place_for d id of_prototype
   gives to (kinds.at_or_null place) ks
 
@@ -377,10 +377,10 @@ typed d p ks (words.both to a b) = combining ks to a b
 typed d p ks (words.either to a b) = combining ks to a b
 typed d p ks (words.join to a b) = joining ks to a b
 typed d p ks (words.convert to a kind) = converting d ks to a kind
-typed d p ks (words.get to object name) = getting d ks to object name
-typed d p ks (words.set object name from) = assigning d ks object name from
-typed d p ks (words.object to id) = naming d ks to id false
-typed d p ks (words.new to id) = naming d ks to id true
+typed d p ks (words.get to object name) = get_property d ks to object name
+typed d p ks (words.set object name from) = set_property d ks object name from
+typed d p ks (words.object to id) = look_up_object d ks to id false
+typed d p ks (words.new to id) = look_up_object d ks to id true
 typed d p ks (words.sink object) = changing_none ks (operand d ks object)
 typed d p ks (words.orphan object) = changing_none ks (operand d ks object)
 typed d p ks (words.dispose object) = changing_none ks (operand d ks object)

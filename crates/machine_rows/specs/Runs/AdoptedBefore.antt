@@ -28,9 +28,9 @@ definition = record {
       [];
   programs =
       program (codes "join") ((kinds.some 3) ∷ []) 3 None
-      (block ((kinds.some 3) ∷ kinds.unset ∷ kinds.unset ∷ []) 1 (words.object 1 (codes "b") ∷ words.branch_null 1 1 2 ∷ [])
-      ∷ block ((kinds.some 3) ∷ kinds.unset ∷ kinds.unset ∷ []) 1 (words.return None ∷ [])
-      ∷ block ((kinds.some 3) ∷ (kinds.at 0) ∷ kinds.unset ∷ []) 1 (words.adopt 2 1 0 ∷ words.return None ∷ [])
+      (block ((kinds.some 3) ∷ kinds.unset ∷ kinds.unset ∷ []) None (words.object 1 (codes "b") ∷ words.branch_null 1 1 2 ∷ [])
+      ∷ block ((kinds.some 3) ∷ kinds.unset ∷ kinds.unset ∷ []) None (words.return None ∷ [])
+      ∷ block ((kinds.some 3) ∷ (kinds.at 0) ∷ kinds.unset ∷ []) None (words.adopt 2 1 0 ∷ words.return None ∷ [])
       ∷ [])
       ∷ [];
   places =

@@ -27,11 +27,11 @@ definition = record {
       [];
   programs =
       program (codes "p") [] 2 (Some kinds.bool)
-      (block (kinds.unset ∷ kinds.unset ∷ []) 1 (words.remove (codes "p") ∷ words.idle 0 (codes "p") (pos 0) None
+      (block (kinds.unset ∷ kinds.unset ∷ []) None (words.remove (codes "p") ∷ words.idle 0 (codes "p") (pos 0) None
       ∷ words.const 1 kinds.bool (values.bool false) ∷ words.return (Some 1) ∷ [])
       ∷ [])
       ∷ program (codes "f") ((kinds.some 2) ∷ []) 2 None
-      (block ((kinds.some 2) ∷ kinds.unset ∷ []) 1 (words.idle 1 (codes "p") (pos 0) None ∷ words.return None ∷ [])
+      (block ((kinds.some 2) ∷ kinds.unset ∷ []) None (words.idle 1 (codes "p") (pos 0) None ∷ words.return None ∷ [])
       ∷ [])
       ∷ [];
   places =

@@ -30,7 +30,7 @@ definition = record {
   programs =
       program (codes "f") ((kinds.some 2) ∷ []) 4 None
       (block ((kinds.some 2) ∷ kinds.unset ∷ kinds.unset
-      ∷ kinds.unset ∷ []) 1 (words.const 1 (kinds.whole kinds.int) (values.whole kinds.int (pos 7)) ∷ words.block 0 (codes "h")
+      ∷ kinds.unset ∷ []) None (words.const 1 (kinds.whole kinds.int) (values.whole kinds.int (pos 7)) ∷ words.block 0 (codes "h")
       ∷ words.block 0 (codes "h") ∷ words.unblock 0 (codes "h") ∷ words.emit None 0 (codes "s") (Some (codes "d")) (1 ∷ [])
       ∷ words.unblock 0 (codes "h") ∷ words.unblock 0 (codes "h") ∷ words.emit None 0 (codes "s") (Some (codes "e")) (1 ∷ [])
       ∷ words.emit None 0 (codes "s") None (1 ∷ []) ∷ words.disconnect 0 (codes "h")
@@ -40,19 +40,19 @@ definition = record {
       ∷ words.emit None 0 (codes "s") (Some (codes "d")) (1 ∷ []) ∷ words.return None ∷ [])
       ∷ [])
       ∷ program (codes "h") ((kinds.some 2) ∷ (kinds.plain (kinds.whole kinds.int)) ∷ []) 2 None
-      (block ((kinds.some 2) ∷ (kinds.plain (kinds.whole kinds.int)) ∷ []) 1 (words.return None ∷ [])
+      (block ((kinds.some 2) ∷ (kinds.plain (kinds.whole kinds.int)) ∷ []) None (words.return None ∷ [])
       ∷ [])
       ∷ program (codes "c") ((kinds.some 2) ∷ (kinds.plain (kinds.whole kinds.int)) ∷ []) 2 None
-      (block ((kinds.some 2) ∷ (kinds.plain (kinds.whole kinds.int)) ∷ []) 1 (words.stop ∷ words.return None ∷ [])
+      (block ((kinds.some 2) ∷ (kinds.plain (kinds.whole kinds.int)) ∷ []) None (words.stop ∷ words.return None ∷ [])
       ∷ [])
       ∷ program (codes "n") ((kinds.some 2) ∷ []) 1 None
-      (block ((kinds.some 2) ∷ []) 1 (words.return None ∷ [])
+      (block ((kinds.some 2) ∷ []) None (words.return None ∷ [])
       ∷ [])
       ∷ program (codes "m") ((kinds.some 2) ∷ (kinds.plain (kinds.whole kinds.int)) ∷ (kinds.some 2) ∷ []) 3 None
-      (block ((kinds.some 2) ∷ (kinds.plain (kinds.whole kinds.int)) ∷ (kinds.some 2) ∷ []) 1 (words.return None ∷ [])
+      (block ((kinds.some 2) ∷ (kinds.plain (kinds.whole kinds.int)) ∷ (kinds.some 2) ∷ []) None (words.return None ∷ [])
       ∷ [])
       ∷ program (codes "k") ((kinds.at 1) ∷ (kinds.plain (kinds.whole kinds.int)) ∷ (kinds.some 2) ∷ []) 3 None
-      (block ((kinds.at 1) ∷ (kinds.plain (kinds.whole kinds.int)) ∷ (kinds.some 2) ∷ []) 1 (words.dispose 0 ∷ words.return None ∷ [])
+      (block ((kinds.at 1) ∷ (kinds.plain (kinds.whole kinds.int)) ∷ (kinds.some 2) ∷ []) None (words.dispose 0 ∷ words.return None ∷ [])
       ∷ [])
       ∷ [];
   places =

@@ -28,19 +28,19 @@ definition = record {
       [];
   programs =
       program (codes "last") ((kinds.some 2) ∷ []) 2 (Some (kinds.whole kinds.int))
-      (block ((kinds.some 2) ∷ kinds.unset ∷ []) 1 (words.const 1 (kinds.whole kinds.int) (values.whole kinds.int (pos 9))
+      (block ((kinds.some 2) ∷ kinds.unset ∷ []) None (words.const 1 (kinds.whole kinds.int) (values.whole kinds.int (pos 9))
       ∷ words.return (Some 1) ∷ [])
       ∷ [])
       ∷ program (codes "one") ((kinds.some 2) ∷ []) 2 (Some (kinds.whole kinds.int))
-      (block ((kinds.some 2) ∷ kinds.unset ∷ []) 1 (words.const 1 (kinds.whole kinds.int) (values.whole kinds.int (pos 1))
+      (block ((kinds.some 2) ∷ kinds.unset ∷ []) None (words.const 1 (kinds.whole kinds.int) (values.whole kinds.int (pos 1))
       ∷ words.return (Some 1) ∷ [])
       ∷ [])
       ∷ program (codes "two") ((kinds.some 2) ∷ []) 2 (Some (kinds.whole kinds.int))
-      (block ((kinds.some 2) ∷ kinds.unset ∷ []) 1 (words.stop ∷ words.const 1 (kinds.whole kinds.int) (values.whole kinds.int (pos 2))
+      (block ((kinds.some 2) ∷ kinds.unset ∷ []) None (words.stop ∷ words.const 1 (kinds.whole kinds.int) (values.whole kinds.int (pos 2))
       ∷ words.return (Some 1) ∷ [])
       ∷ [])
       ∷ program (codes "three") ((kinds.some 2) ∷ []) 2 (Some (kinds.whole kinds.int))
-      (block ((kinds.some 2) ∷ kinds.unset ∷ []) 1 (words.const 1 (kinds.whole kinds.int) (values.whole kinds.int (pos 3))
+      (block ((kinds.some 2) ∷ kinds.unset ∷ []) None (words.const 1 (kinds.whole kinds.int) (values.whole kinds.int (pos 3))
       ∷ words.return (Some 1) ∷ [])
       ∷ [])
       ∷ [];

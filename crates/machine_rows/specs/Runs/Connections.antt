@@ -26,17 +26,17 @@ definition = record {
       [];
   programs =
       program (codes "h1") ((kinds.some 2) ∷ []) 2 None
-      (block ((kinds.some 2) ∷ kinds.unset ∷ []) 1 (words.disconnect 0 (codes "h2") ∷ words.block 0 (codes "h3")
+      (block ((kinds.some 2) ∷ kinds.unset ∷ []) None (words.disconnect 0 (codes "h2") ∷ words.block 0 (codes "h3")
       ∷ words.connect 1 0 (connects (codes "s") None (codes "n") false false None) ∷ words.return None ∷ [])
       ∷ [])
       ∷ program (codes "h2") ((kinds.some 2) ∷ []) 1 None
-      (block ((kinds.some 2) ∷ []) 1 (words.return None ∷ [])
+      (block ((kinds.some 2) ∷ []) None (words.return None ∷ [])
       ∷ [])
       ∷ program (codes "h3") ((kinds.some 2) ∷ []) 1 None
-      (block ((kinds.some 2) ∷ []) 1 (words.return None ∷ [])
+      (block ((kinds.some 2) ∷ []) None (words.return None ∷ [])
       ∷ [])
       ∷ program (codes "n") ((kinds.some 2) ∷ []) 1 None
-      (block ((kinds.some 2) ∷ []) 1 (words.return None ∷ [])
+      (block ((kinds.some 2) ∷ []) None (words.return None ∷ [])
       ∷ [])
       ∷ [];
   places =

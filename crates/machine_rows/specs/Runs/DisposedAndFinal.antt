@@ -29,7 +29,7 @@ definition = record {
       [];
   programs =
       program (codes "f") ((kinds.some 2) ∷ []) 2 None
-      (block ((kinds.some 2) ∷ kinds.unset ∷ []) 1 (words.dispose 0 ∷ words.return None ∷ [])
+      (block ((kinds.some 2) ∷ kinds.unset ∷ []) None (words.dispose 0 ∷ words.return None ∷ [])
       ∷ [])
       ∷ [];
   places =

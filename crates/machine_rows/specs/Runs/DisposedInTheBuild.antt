@@ -31,10 +31,10 @@ definition = record {
       [];
   programs =
       program (codes "die") ((kinds.some 2) ∷ []) 1 None
-      (block ((kinds.some 2) ∷ []) 1 (words.dispose 0 ∷ words.return None ∷ [])
+      (block ((kinds.some 2) ∷ []) None (words.dispose 0 ∷ words.return None ∷ [])
       ∷ [])
       ∷ program (codes "h") ((kinds.some 2) ∷ []) 1 None
-      (block ((kinds.some 2) ∷ []) 1 (words.return None ∷ [])
+      (block ((kinds.some 2) ∷ []) None (words.return None ∷ [])
       ∷ [])
       ∷ [];
   places =
@@ -42,7 +42,7 @@ definition = record {
       ∷ object (codes "b") 2 None [] [] []
       ∷ [];
   bindings =
-      bind None 0 2 1 2 2
+      bind None 0 2 1 2 2 0
       ∷ [];
   most_objects = 64;
   most_handlers = 0;

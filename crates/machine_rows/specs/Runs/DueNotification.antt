@@ -32,7 +32,7 @@ definition = record {
       ∷ object (codes "t") 2 None [] [] []
       ∷ [];
   bindings =
-      bind None 0 0 1 0 0
+      bind None 0 0 1 0 0 0
       ∷ [];
   most_objects = 64;
   most_handlers = 0;

@@ -27,9 +27,9 @@ definition = record {
       [];
   programs =
       program (codes "f") ((kinds.some 2) ∷ (kinds.plain (kinds.object 2)) ∷ []) 3 None
-      (block ((kinds.some 2) ∷ (kinds.plain (kinds.object 2)) ∷ kinds.unset ∷ []) 1 (words.branch_null 1 1 2 ∷ [])
-      ∷ block (kinds.unset ∷ kinds.unset ∷ kinds.unset ∷ []) 1 (words.return None ∷ [])
-      ∷ block ((kinds.some 2) ∷ (kinds.some 2) ∷ kinds.unset ∷ []) 1 (words.adopt 2 0 1 ∷ words.adopt 2 1 0 ∷ words.adopt 2 0 0
+      (block ((kinds.some 2) ∷ (kinds.plain (kinds.object 2)) ∷ kinds.unset ∷ []) None (words.branch_null 1 1 2 ∷ [])
+      ∷ block (kinds.unset ∷ kinds.unset ∷ kinds.unset ∷ []) None (words.return None ∷ [])
+      ∷ block ((kinds.some 2) ∷ (kinds.some 2) ∷ kinds.unset ∷ []) None (words.adopt 2 0 1 ∷ words.adopt 2 1 0 ∷ words.adopt 2 0 0
       ∷ words.return None ∷ [])
       ∷ [])
       ∷ [];

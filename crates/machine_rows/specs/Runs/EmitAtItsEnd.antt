@@ -27,11 +27,11 @@ definition = record {
       [];
   programs =
       program (codes "f") ((kinds.some 2) ∷ []) 2 None
-      (block ((kinds.some 2) ∷ kinds.unset ∷ []) 1 (words.new 1 (codes "it") ∷ words.emit (Some 1) 0 (codes "q") None []
+      (block ((kinds.some 2) ∷ kinds.unset ∷ []) None (words.new 1 (codes "it") ∷ words.emit (Some 1) 0 (codes "q") None []
       ∷ words.return None ∷ [])
       ∷ [])
       ∷ program (codes "q") ((kinds.some 2) ∷ []) 2 (Some (kinds.object 0))
-      (block ((kinds.some 2) ∷ kinds.unset ∷ []) 1 (words.const 1 (kinds.object 0) (values.object None) ∷ words.return (Some 1) ∷ [])
+      (block ((kinds.some 2) ∷ kinds.unset ∷ []) None (words.const 1 (kinds.object 0) (values.object None) ∷ words.return (Some 1) ∷ [])
       ∷ [])
       ∷ [];
   places =

@@ -36,7 +36,7 @@ definition = record {
       ∷ object (codes "b") 3 None [] [] []
       ∷ [];
   bindings =
-      bind None 0 0 1 1 0
+      bind None 0 0 1 1 0 0
       ∷ [];
   most_objects = 64;
   most_handlers = 0;

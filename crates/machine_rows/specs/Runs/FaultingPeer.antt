@@ -29,7 +29,7 @@ definition = record {
       ∷ [];
   programs =
       program (codes "later") ((kinds.some 2) ∷ []) 3 None
-      (block ((kinds.some 2) ∷ kinds.unset ∷ kinds.unset ∷ []) 1
+      (block ((kinds.some 2) ∷ kinds.unset ∷ kinds.unset ∷ []) None
       (words.const 1 (kinds.whole kinds.int64) (values.whole kinds.int64 (pos 2)) ∷ words.call 2 0 (codes "add") (1 ∷ [])
       ∷ words.return None ∷ [])
       ∷ [])

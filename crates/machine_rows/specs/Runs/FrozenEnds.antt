@@ -29,9 +29,9 @@ definition = record {
       [];
   programs =
       program (codes "f") ((kinds.some 2) ∷ (kinds.plain (kinds.object 2)) ∷ []) 3 None
-      (block ((kinds.some 2) ∷ (kinds.plain (kinds.object 2)) ∷ kinds.unset ∷ []) 1 (words.branch_null 1 1 2 ∷ [])
-      ∷ block (kinds.unset ∷ kinds.unset ∷ kinds.unset ∷ []) 1 (words.return None ∷ [])
-      ∷ block ((kinds.some 2) ∷ (kinds.some 2) ∷ kinds.unset ∷ []) 1 (words.const 2 kinds.bool (values.bool true) ∷ words.freeze 0
+      (block ((kinds.some 2) ∷ (kinds.plain (kinds.object 2)) ∷ kinds.unset ∷ []) None (words.branch_null 1 1 2 ∷ [])
+      ∷ block (kinds.unset ∷ kinds.unset ∷ kinds.unset ∷ []) None (words.return None ∷ [])
+      ∷ block ((kinds.some 2) ∷ (kinds.some 2) ∷ kinds.unset ∷ []) None (words.const 2 kinds.bool (values.bool true) ∷ words.freeze 0
       ∷ words.freeze 1 ∷ words.set 0 (codes "on") 2 ∷ words.thaw 0 ∷ words.thaw 1 ∷ words.return None ∷ [])
       ∷ [])
       ∷ [];
@@ -40,7 +40,7 @@ definition = record {
       ∷ object (codes "b") 2 None [] [] []
       ∷ [];
   bindings =
-      bind None 0 0 1 0 7
+      bind None 0 0 1 0 7 0
       ∷ [];
   most_objects = 64;
   most_handlers = 0;

@@ -28,9 +28,9 @@ definition = record {
       [];
   programs =
       program (codes "up") ((kinds.at 0) ∷ []) 3 None
-      (block ((kinds.at 0) ∷ kinds.unset ∷ kinds.unset ∷ []) 1 (words.object 1 (codes "l2") ∷ words.branch_null 1 1 2 ∷ [])
-      ∷ block (kinds.unset ∷ kinds.unset ∷ kinds.unset ∷ []) 1 (words.return None ∷ [])
-      ∷ block ((kinds.at 0) ∷ (kinds.at 1) ∷ kinds.unset ∷ []) 1 (words.get 2 0 (codes "text") ∷ words.set 1 (codes "text") 2
+      (block ((kinds.at 0) ∷ kinds.unset ∷ kinds.unset ∷ []) None (words.object 1 (codes "l2") ∷ words.branch_null 1 1 2 ∷ [])
+      ∷ block (kinds.unset ∷ kinds.unset ∷ kinds.unset ∷ []) None (words.return None ∷ [])
+      ∷ block ((kinds.at 0) ∷ (kinds.at 1) ∷ kinds.unset ∷ []) None (words.get 2 0 (codes "text") ∷ words.set 1 (codes "text") 2
       ∷ words.return None ∷ [])
       ∷ [])
       ∷ [];

@@ -26,10 +26,10 @@ definition = record {
       [];
   programs =
       program (codes "n") ((kinds.some 2) ∷ []) 1 None
-      (block ((kinds.some 2) ∷ []) 1 (words.return None ∷ [])
+      (block ((kinds.some 2) ∷ []) None (words.return None ∷ [])
       ∷ [])
       ∷ program (codes "f") ((kinds.some 2) ∷ []) 2 None
-      (block ((kinds.some 2) ∷ kinds.unset ∷ []) 1 (words.dispose 0
+      (block ((kinds.some 2) ∷ kinds.unset ∷ []) None (words.dispose 0
       ∷ words.connect 1 0 (connects (codes "go") None (codes "n") false false None) ∷ words.return None ∷ [])
       ∷ [])
       ∷ [];

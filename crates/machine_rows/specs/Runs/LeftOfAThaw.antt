@@ -34,10 +34,10 @@ definition = record {
       [];
   programs =
       program (codes "say") ((kinds.some 3) ∷ []) 1 None
-      (block ((kinds.some 3) ∷ []) 1 (words.return None ∷ [])
+      (block ((kinds.some 3) ∷ []) None (words.return None ∷ [])
       ∷ [])
       ∷ program (codes "f") ((kinds.some 2) ∷ []) 2 None
-      (block ((kinds.some 2) ∷ kinds.unset ∷ []) 1 (words.new 1 (codes "it") ∷ words.return None ∷ [])
+      (block ((kinds.some 2) ∷ kinds.unset ∷ []) None (words.new 1 (codes "it") ∷ words.return None ∷ [])
       ∷ [])
       ∷ [];
   places =

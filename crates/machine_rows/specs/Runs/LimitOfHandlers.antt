@@ -31,10 +31,10 @@ definition = record {
       [];
   programs =
       program (codes "n") ((kinds.some 2) ∷ []) 1 None
-      (block ((kinds.some 2) ∷ []) 1 (words.return None ∷ [])
+      (block ((kinds.some 2) ∷ []) None (words.return None ∷ [])
       ∷ [])
       ∷ program (codes "f") ((kinds.some 2) ∷ []) 2 None
-      (block ((kinds.some 2) ∷ kinds.unset ∷ []) 1
+      (block ((kinds.some 2) ∷ kinds.unset ∷ []) None
       (words.connect 1 0 (connects (codes "notify") (Some (codes "x")) (codes "n") false false None)
       ∷ words.connect 1 0 (connects (codes "notify") (Some (codes "y")) (codes "n") false false None)
       ∷ words.disconnect 0 (codes "n")

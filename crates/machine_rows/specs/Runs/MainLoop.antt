@@ -27,14 +27,14 @@ definition = record {
       [];
   programs =
       program (codes "start") ((kinds.some 2) ∷ []) 2 None
-      (block ((kinds.some 2) ∷ kinds.unset ∷ []) 1 (words.timeout 1 (codes "tick") (pos 0) 100 None
+      (block ((kinds.some 2) ∷ kinds.unset ∷ []) None (words.timeout 1 (codes "tick") (pos 0) 100 None
       ∷ words.idle 1 (codes "rest") (pos 200) None ∷ words.return None ∷ [])
       ∷ [])
       ∷ program (codes "tick") [] 1 (Some kinds.bool)
-      (block (kinds.unset ∷ []) 1 (words.const 0 kinds.bool (values.bool true) ∷ words.return (Some 0) ∷ [])
+      (block (kinds.unset ∷ []) None (words.const 0 kinds.bool (values.bool true) ∷ words.return (Some 0) ∷ [])
       ∷ [])
       ∷ program (codes "rest") [] 1 (Some kinds.bool)
-      (block (kinds.unset ∷ []) 1 (words.const 0 kinds.bool (values.bool false) ∷ words.return (Some 0) ∷ [])
+      (block (kinds.unset ∷ []) None (words.const 0 kinds.bool (values.bool false) ∷ words.return (Some 0) ∷ [])
       ∷ [])
       ∷ [];
   places =

@@ -30,7 +30,7 @@ definition = record {
       [];
   programs =
       program (codes "f") ((kinds.some 2) ∷ []) 2 None
-      (block ((kinds.some 2) ∷ kinds.unset ∷ []) 1 (words.new 1 (codes "it") ∷ words.new 1 (codes "it") ∷ words.return None ∷ [])
+      (block ((kinds.some 2) ∷ kinds.unset ∷ []) None (words.new 1 (codes "it") ∷ words.new 1 (codes "it") ∷ words.return None ∷ [])
       ∷ [])
       ∷ [];
   places =

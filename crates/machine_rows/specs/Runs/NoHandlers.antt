@@ -28,10 +28,10 @@ definition = record {
       [];
   programs =
       program (codes "f") ((kinds.some 2) ∷ []) 2 (Some kinds.bool)
-      (block ((kinds.some 2) ∷ kinds.unset ∷ []) 1 (words.const 1 kinds.bool (values.bool false) ∷ words.return (Some 1) ∷ [])
+      (block ((kinds.some 2) ∷ kinds.unset ∷ []) None (words.const 1 kinds.bool (values.bool false) ∷ words.return (Some 1) ∷ [])
       ∷ [])
       ∷ program (codes "t") ((kinds.some 2) ∷ []) 2 (Some kinds.bool)
-      (block ((kinds.some 2) ∷ kinds.unset ∷ []) 1 (words.const 1 kinds.bool (values.bool true) ∷ words.return (Some 1) ∷ [])
+      (block ((kinds.some 2) ∷ kinds.unset ∷ []) None (words.const 1 kinds.bool (values.bool true) ∷ words.return (Some 1) ∷ [])
       ∷ [])
       ∷ [];
   places =

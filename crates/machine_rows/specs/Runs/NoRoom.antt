@@ -26,10 +26,10 @@ definition = record {
       [];
   programs =
       program (codes "again") ((kinds.some 2) ∷ []) 1 None
-      (block ((kinds.some 2) ∷ []) 1 (words.emit None 0 (codes "s") None [] ∷ words.return None ∷ [])
+      (block ((kinds.some 2) ∷ []) None (words.emit None 0 (codes "s") None [] ∷ words.return None ∷ [])
       ∷ [])
       ∷ program (codes "f") ((kinds.some 2) ∷ []) 2 None
-      (block ((kinds.some 2) ∷ kinds.unset ∷ []) 1 (words.connect 1 0 (connects (codes "s") None (codes "again") false false None)
+      (block ((kinds.some 2) ∷ kinds.unset ∷ []) None (words.connect 1 0 (connects (codes "s") None (codes "again") false false None)
       ∷ words.return None ∷ [])
       ∷ [])
       ∷ [];

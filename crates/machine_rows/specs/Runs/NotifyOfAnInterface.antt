@@ -32,10 +32,10 @@ definition = record {
       [];
   programs =
       program (codes "say") ((kinds.some 2) ∷ []) 1 None
-      (block ((kinds.some 2) ∷ []) 1 (words.return None ∷ [])
+      (block ((kinds.some 2) ∷ []) None (words.return None ∷ [])
       ∷ [])
       ∷ program (codes "f") ((kinds.some 2) ∷ []) 2 None
-      (block ((kinds.some 2) ∷ kinds.unset ∷ []) 1
+      (block ((kinds.some 2) ∷ kinds.unset ∷ []) None
       (words.connect 1 0 (connects (codes "notify") (Some (codes "n")) (codes "say") false false None) ∷ words.return None ∷ [])
       ∷ [])
       ∷ [];

@@ -29,9 +29,9 @@ definition = record {
       [];
   programs =
       program (codes "look") ((kinds.some 2) ∷ []) 2 None
-      (block ((kinds.some 2) ∷ kinds.unset ∷ []) 1 (words.object 1 (codes "b") ∷ words.branch_null 1 1 2 ∷ [])
-      ∷ block ((kinds.some 2) ∷ kinds.unset ∷ []) 1 (words.return None ∷ [])
-      ∷ block ((kinds.some 2) ∷ kinds.unset ∷ []) 1 (words.dispose 0 ∷ words.return None ∷ [])
+      (block ((kinds.some 2) ∷ kinds.unset ∷ []) None (words.object 1 (codes "b") ∷ words.branch_null 1 1 2 ∷ [])
+      ∷ block ((kinds.some 2) ∷ kinds.unset ∷ []) None (words.return None ∷ [])
+      ∷ block ((kinds.some 2) ∷ kinds.unset ∷ []) None (words.dispose 0 ∷ words.return None ∷ [])
       ∷ [])
       ∷ [];
   places =

@@ -34,8 +34,8 @@ definition = record {
       ∷ object (codes "c") 2 None [] [] []
       ∷ [];
   bindings =
-      bind None 0 0 1 0 1
-      ∷ bind None 1 0 2 0 0
+      bind None 0 0 1 0 1 0
+      ∷ bind None 1 0 2 0 0 0
       ∷ [];
   most_objects = 64;
   most_handlers = 0;

@@ -1,5 +1,5 @@
 -- A block that is passed three times.
-use Rattle.std.specs.Prelude.{◌≡◌, ℕ, pos, negsuc, false, List, [], ◌∷◌, codes, None, Ok}
+use Rattle.std.specs.Prelude.{◌≡◌, ℕ, pos, negsuc, false, List, [], ◌∷◌, codes, None, Ok, Some}
 use Rattle.ui_machine.specs.Definition.Kinds as kinds
 use Rattle.ui_machine.specs.Definition.Values as values
 use Rattle.ui_machine.specs.Definition.Types.{plain_class}
@@ -28,11 +28,11 @@ definition = record {
       [];
   programs =
       program (codes "f") ((kinds.some 2) ∷ []) 3 None
-      (block ((kinds.some 2) ∷ kinds.unset ∷ kinds.unset ∷ []) 1 (words.const 1 (kinds.whole kinds.int) (values.whole kinds.int (pos 1))
+      (block ((kinds.some 2) ∷ kinds.unset ∷ kinds.unset ∷ []) None (words.const 1 (kinds.whole kinds.int) (values.whole kinds.int (pos 1))
       ∷ words.const 2 (kinds.whole kinds.int) (values.whole kinds.int (pos 0)) ∷ words.jump 1 ∷ [])
       ∷ block ((kinds.some 2) ∷ (kinds.plain (kinds.whole kinds.int))
-      ∷ (kinds.plain (kinds.whole kinds.int)) ∷ []) 3 (words.arithmetic words.add 2 2 1 ∷ words.set 0 (codes "n") 2 ∷ words.jump 2 ∷ [])
-      ∷ block ((kinds.some 2) ∷ kinds.unset ∷ kinds.unset ∷ []) 1 (words.return None ∷ [])
+      ∷ (kinds.plain (kinds.whole kinds.int)) ∷ []) (Some 3) (words.arithmetic words.add 2 2 1 ∷ words.set 0 (codes "n") 2 ∷ words.jump 2 ∷ [])
+      ∷ block ((kinds.some 2) ∷ kinds.unset ∷ kinds.unset ∷ []) None (words.return None ∷ [])
       ∷ [])
       ∷ [];
   places =

@@ -30,12 +30,12 @@ definition = record {
   programs =
       program (codes "p") ((kinds.some 2) ∷ []) 4 None
       (block ((kinds.some 2) ∷ kinds.unset ∷ kinds.unset
-      ∷ kinds.unset ∷ []) 1 (words.const 1 kinds.text (values.text (Some (codes "hi"))) ∷ words.call 2 0 (codes "show") (1 ∷ [])
+      ∷ kinds.unset ∷ []) None (words.const 1 kinds.text (values.text (Some (codes "hi"))) ∷ words.call 2 0 (codes "show") (1 ∷ [])
       ∷ words.const 3 (kinds.whole kinds.uint) (values.whole kinds.uint (pos 0)) ∷ words.call 1 0 (codes "line") (3 ∷ [])
       ∷ words.return None ∷ [])
       ∷ [])
       ∷ program (codes "q") ((kinds.some 2) ∷ []) 3 None
-      (block ((kinds.some 2) ∷ kinds.unset ∷ kinds.unset ∷ []) 1 (words.const 1 kinds.text (values.text (Some (codes "hi")))
+      (block ((kinds.some 2) ∷ kinds.unset ∷ kinds.unset ∷ []) None (words.const 1 kinds.text (values.text (Some (codes "hi")))
       ∷ words.dispose 0 ∷ words.call 2 0 (codes "show") (1 ∷ []) ∷ words.return None ∷ [])
       ∷ [])
       ∷ [];

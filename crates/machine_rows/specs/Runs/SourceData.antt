@@ -27,12 +27,12 @@ definition = record {
       [];
   programs =
       program (codes "f") ((kinds.some 2) ∷ []) 3 None
-      (block ((kinds.some 2) ∷ kinds.unset ∷ kinds.unset ∷ []) 1 (words.new 1 (codes "it") ∷ words.branch_null 1 1 2 ∷ [])
-      ∷ block (kinds.unset ∷ kinds.unset ∷ kinds.unset ∷ []) 1 (words.return None ∷ [])
-      ∷ block ((kinds.some 2) ∷ (kinds.at 1) ∷ kinds.unset ∷ []) 1 (words.idle 2 (codes "rest") (pos 0) (Some 1) ∷ words.return None ∷ [])
+      (block ((kinds.some 2) ∷ kinds.unset ∷ kinds.unset ∷ []) None (words.new 1 (codes "it") ∷ words.branch_null 1 1 2 ∷ [])
+      ∷ block (kinds.unset ∷ kinds.unset ∷ kinds.unset ∷ []) None (words.return None ∷ [])
+      ∷ block ((kinds.some 2) ∷ (kinds.at 1) ∷ kinds.unset ∷ []) None (words.idle 2 (codes "rest") (pos 0) (Some 1) ∷ words.return None ∷ [])
       ∷ [])
       ∷ program (codes "rest") ((kinds.some 0) ∷ []) 2 (Some kinds.bool)
-      (block ((kinds.some 0) ∷ kinds.unset ∷ []) 1 (words.const 1 kinds.bool (values.bool false) ∷ words.return (Some 1) ∷ [])
+      (block ((kinds.some 0) ∷ kinds.unset ∷ []) None (words.const 1 kinds.bool (values.bool false) ∷ words.return (Some 1) ∷ [])
       ∷ [])
       ∷ [];
   places =

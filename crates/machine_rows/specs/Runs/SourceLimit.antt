@@ -27,14 +27,14 @@ definition = record {
       [];
   programs =
       program (codes "f") ((kinds.some 2) ∷ []) 2 None
-      (block ((kinds.some 2) ∷ kinds.unset ∷ []) 1 (words.jump 1 ∷ [])
-      ∷ block ((kinds.some 2) ∷ kinds.unset ∷ []) 256 (words.idle 1 (codes "rest") (pos 200) None ∷ words.jump 2 ∷ [])
-      ∷ block ((kinds.some 2) ∷ kinds.unset ∷ []) 1 (words.idle 1 (codes "rest") (pos 0) None
+      (block ((kinds.some 2) ∷ kinds.unset ∷ []) None (words.jump 1 ∷ [])
+      ∷ block ((kinds.some 2) ∷ kinds.unset ∷ []) (Some 256) (words.idle 1 (codes "rest") (pos 200) None ∷ words.jump 2 ∷ [])
+      ∷ block ((kinds.some 2) ∷ kinds.unset ∷ []) None (words.idle 1 (codes "rest") (pos 0) None
       ∷ words.timeout 1 (codes "rest") (pos 0) 5 None ∷ words.remove (codes "rest") ∷ words.timeout 1 (codes "rest") (pos 0) 5 None
       ∷ words.return None ∷ [])
       ∷ [])
       ∷ program (codes "rest") [] 1 (Some kinds.bool)
-      (block (kinds.unset ∷ []) 1 (words.const 0 kinds.bool (values.bool false) ∷ words.return (Some 0) ∷ [])
+      (block (kinds.unset ∷ []) None (words.const 0 kinds.bool (values.bool false) ∷ words.return (Some 0) ∷ [])
       ∷ [])
       ∷ [];
   places =

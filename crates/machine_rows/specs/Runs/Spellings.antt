@@ -29,7 +29,7 @@ definition = record {
       [];
   programs =
       program (codes "say") ((kinds.some 2) ∷ []) 1 None
-      (block ((kinds.some 2) ∷ []) 1 (words.notify 0 (codes "my_prop") ∷ words.return None ∷ [])
+      (block ((kinds.some 2) ∷ []) None (words.notify 0 (codes "my_prop") ∷ words.return None ∷ [])
       ∷ [])
       ∷ [];
   places =

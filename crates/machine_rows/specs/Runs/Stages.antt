@@ -26,16 +26,16 @@ definition = record {
       [];
   programs =
       program (codes "c") ((kinds.some 2) ∷ []) 1 None
-      (block ((kinds.some 2) ∷ []) 1 (words.return None ∷ [])
+      (block ((kinds.some 2) ∷ []) None (words.return None ∷ [])
       ∷ [])
       ∷ program (codes "h1") ((kinds.some 2) ∷ []) 1 None
-      (block ((kinds.some 2) ∷ []) 1 (words.return None ∷ [])
+      (block ((kinds.some 2) ∷ []) None (words.return None ∷ [])
       ∷ [])
       ∷ program (codes "h2") ((kinds.some 2) ∷ []) 1 None
-      (block ((kinds.some 2) ∷ []) 1 (words.stop ∷ words.return None ∷ [])
+      (block ((kinds.some 2) ∷ []) None (words.stop ∷ words.return None ∷ [])
       ∷ [])
       ∷ program (codes "h3") ((kinds.some 2) ∷ []) 1 None
-      (block ((kinds.some 2) ∷ []) 1 (words.return None ∷ [])
+      (block ((kinds.some 2) ∷ []) None (words.return None ∷ [])
       ∷ [])
       ∷ [];
   places =

@@ -25,7 +25,7 @@ definition = record {
       [];
   programs =
       program (codes "f") ((kinds.some 2) ∷ []) 3 None
-      (block ((kinds.some 2) ∷ kinds.unset ∷ kinds.unset ∷ []) 1 (words.new 1 (codes "it") ∷ words.new 2 (codes "it")
+      (block ((kinds.some 2) ∷ kinds.unset ∷ kinds.unset ∷ []) None (words.new 1 (codes "it") ∷ words.new 2 (codes "it")
       ∷ words.return None ∷ [])
       ∷ [])
       ∷ [];

@@ -32,7 +32,7 @@ definition = record {
       [];
   programs =
       program (codes "halt") ((kinds.some 2) ∷ []) 1 None
-      (block ((kinds.some 2) ∷ []) 1 (words.stop ∷ words.return None ∷ [])
+      (block ((kinds.some 2) ∷ []) None (words.stop ∷ words.return None ∷ [])
       ∷ [])
       ∷ [];
   places =
@@ -40,7 +40,7 @@ definition = record {
       ∷ object (codes "o") 3 None [] [] []
       ∷ [];
   bindings =
-      bind None 0 0 1 0 0
+      bind None 0 0 1 0 0 0
       ∷ [];
   most_objects = 64;
   most_handlers = 0;

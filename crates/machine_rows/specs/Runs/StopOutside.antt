@@ -28,13 +28,13 @@ definition = record {
       [];
   programs =
       program (codes "c") ((kinds.some 3) ∷ []) 1 None
-      (block ((kinds.some 3) ∷ []) 1 (words.stop ∷ words.return None ∷ [])
+      (block ((kinds.some 3) ∷ []) None (words.stop ∷ words.return None ∷ [])
       ∷ [])
       ∷ program (codes "f") ((kinds.some 2) ∷ []) 2 None
-      (block ((kinds.some 2) ∷ kinds.unset ∷ []) 1 (words.new 1 (codes "it") ∷ words.return None ∷ [])
+      (block ((kinds.some 2) ∷ kinds.unset ∷ []) None (words.new 1 (codes "it") ∷ words.return None ∷ [])
       ∷ [])
       ∷ program (codes "g") ((kinds.some 2) ∷ []) 1 None
-      (block ((kinds.some 2) ∷ []) 1 (words.return None ∷ [])
+      (block ((kinds.some 2) ∷ []) None (words.return None ∷ [])
       ∷ [])
       ∷ [];
   places =

@@ -28,7 +28,7 @@ definition = record {
       [];
   programs =
       program (codes "f") ((kinds.plain (kinds.whole kinds.int)) ∷ (kinds.some 2) ∷ []) 2 None
-      (block ((kinds.plain (kinds.whole kinds.int)) ∷ (kinds.some 2) ∷ []) 1 (words.dispose 1 ∷ words.return None ∷ [])
+      (block ((kinds.plain (kinds.whole kinds.int)) ∷ (kinds.some 2) ∷ []) None (words.dispose 1 ∷ words.return None ∷ [])
       ∷ [])
       ∷ [];
   places =

@@ -28,14 +28,14 @@ definition = record {
       [];
   programs =
       program (codes "f") ((kinds.some 2) ∷ []) 2 None
-      (block ((kinds.some 2) ∷ kinds.unset ∷ []) 1 (words.const 1 (kinds.whole kinds.int) (values.whole kinds.int (pos 1))
+      (block ((kinds.some 2) ∷ kinds.unset ∷ []) None (words.const 1 (kinds.whole kinds.int) (values.whole kinds.int (pos 1))
       ∷ words.freeze 0 ∷ words.set 0 (codes "n") 1 ∷ words.dispose 0 ∷ words.thaw 0 ∷ words.return None ∷ [])
       ∷ [])
       ∷ program (codes "say") ((kinds.some 2) ∷ []) 1 None
-      (block ((kinds.some 2) ∷ []) 1 (words.return None ∷ [])
+      (block ((kinds.some 2) ∷ []) None (words.return None ∷ [])
       ∷ [])
       ∷ program (codes "h") ((kinds.some 2) ∷ []) 1 None
-      (block ((kinds.some 2) ∷ []) 1 (words.return None ∷ [])
+      (block ((kinds.some 2) ∷ []) None (words.return None ∷ [])
       ∷ [])
       ∷ [];
   places =

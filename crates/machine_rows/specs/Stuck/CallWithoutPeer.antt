@@ -27,7 +27,7 @@ definition = record {
       [];
   programs =
       program (codes "f") ((kinds.some 2) ∷ []) 2 None
-      (block ((kinds.some 2) ∷ kinds.unset ∷ []) 1 (words.call 1 0 (codes "show") [] ∷ words.return None ∷ [])
+      (block ((kinds.some 2) ∷ kinds.unset ∷ []) None (words.call 1 0 (codes "show") [] ∷ words.return None ∷ [])
       ∷ [])
       ∷ [];
   places =

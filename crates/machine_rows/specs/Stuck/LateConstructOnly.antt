@@ -29,7 +29,7 @@ definition = record {
       [];
   programs =
       program (codes "f") ((kinds.some 2) ∷ []) 2 None
-      (block ((kinds.some 2) ∷ kinds.unset ∷ []) 1 (words.const 1 (kinds.whole kinds.int) (values.whole kinds.int (pos 3))
+      (block ((kinds.some 2) ∷ kinds.unset ∷ []) None (words.const 1 (kinds.whole kinds.int) (values.whole kinds.int (pos 3))
       ∷ words.set 0 (codes "n") 1 ∷ words.return None ∷ [])
       ∷ [])
       ∷ [];

@@ -28,7 +28,7 @@ definition = record {
       [];
   programs =
       program (codes "f") ((kinds.some 2) ∷ []) 2 None
-      (block ((kinds.some 2) ∷ kinds.unset ∷ []) 1 (words.new 1 (codes "b") ∷ words.return None ∷ [])
+      (block ((kinds.some 2) ∷ kinds.unset ∷ []) None (words.new 1 (codes "b") ∷ words.return None ∷ [])
       ∷ [])
       ∷ [];
   places =

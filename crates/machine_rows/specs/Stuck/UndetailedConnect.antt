@@ -30,7 +30,7 @@ definition = record {
       [];
   programs =
       program (codes "f") ((kinds.some 2) ∷ []) 2 None
-      (block ((kinds.some 2) ∷ kinds.unset ∷ []) 1
+      (block ((kinds.some 2) ∷ kinds.unset ∷ []) None
       (words.connect 1 0 (connects (codes "go") (Some (codes "n")) (codes "f") false false None) ∷ words.return None ∷ [])
       ∷ [])
       ∷ [];

@@ -30,7 +30,7 @@ definition = record {
       [];
   programs =
       program (codes "f") ((kinds.some 2) ∷ []) 2 None
-      (block ((kinds.some 2) ∷ kinds.unset ∷ []) 1 (words.emit None 0 (codes "go") (Some (codes "n")) [] ∷ words.return None ∷ [])
+      (block ((kinds.some 2) ∷ kinds.unset ∷ []) None (words.emit None 0 (codes "go") (Some (codes "n")) [] ∷ words.return None ∷ [])
       ∷ [])
       ∷ [];
   places =

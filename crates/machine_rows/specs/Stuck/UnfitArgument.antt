@@ -29,7 +29,7 @@ definition = record {
       [];
   programs =
       program (codes "f") ((kinds.some 2) ∷ []) 2 None
-      (block ((kinds.some 2) ∷ kinds.unset ∷ []) 1 (words.const 1 kinds.bool (values.bool true)
+      (block ((kinds.some 2) ∷ kinds.unset ∷ []) None (words.const 1 kinds.bool (values.bool true)
       ∷ words.emit None 0 (codes "s") None (1 ∷ []) ∷ words.return None ∷ [])
       ∷ [])
       ∷ [];

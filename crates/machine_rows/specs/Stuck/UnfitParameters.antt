@@ -27,7 +27,7 @@ definition = record {
       [];
   programs =
       program (codes "f") ((kinds.plain (kinds.whole kinds.int)) ∷ []) 2 None
-      (block ((kinds.plain (kinds.whole kinds.int)) ∷ kinds.unset ∷ []) 1 (words.return None ∷ [])
+      (block ((kinds.plain (kinds.whole kinds.int)) ∷ kinds.unset ∷ []) None (words.return None ∷ [])
       ∷ [])
       ∷ [];
   places =

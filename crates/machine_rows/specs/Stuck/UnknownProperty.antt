@@ -27,7 +27,7 @@ definition = record {
       [];
   programs =
       program (codes "f") ((kinds.some 2) ∷ []) 2 None
-      (block ((kinds.some 2) ∷ kinds.unset ∷ []) 1 (words.set 0 (codes "n") 0 ∷ words.return None ∷ [])
+      (block ((kinds.some 2) ∷ kinds.unset ∷ []) None (words.set 0 (codes "n") 0 ∷ words.return None ∷ [])
       ∷ [])
       ∷ [];
   places =

@@ -29,7 +29,7 @@ definition = record {
       [];
   programs =
       program (codes "f") ((kinds.some 2) ∷ []) 2 None
-      (block ((kinds.some 2) ∷ kinds.unset ∷ []) 1 (words.const 1 kinds.bool (values.bool true) ∷ words.set 0 (codes "n") 1
+      (block ((kinds.some 2) ∷ kinds.unset ∷ []) None (words.const 1 kinds.bool (values.bool true) ∷ words.set 0 (codes "n") 1
       ∷ words.return None ∷ [])
       ∷ [])
       ∷ [];

@@ -15,7 +15,7 @@ use ui_machine::Halt;
 
 impl Engine {
     // What has floated longest, if something floats, floats no longer, where nothing else is left to do.
-    fn settle(&mut self, definition: &Definition) -> Made
+    fn sink_first_floating(&mut self, definition: &Definition) -> Made
         requires none { NoneUnheld definition.now (config_of definition.now self.now) }
         requires idle { agenda_of definition.now self.now ≡ [] }
         requires counted { Counts definition.now nothing self.now }
@@ -43,7 +43,7 @@ impl Engine {
         // For the proof: what is known of a definition's types.
         let _types = definition.types();
         let Some(task) = self.stack.pop() else {
-            return Ok(self.settle(definition));
+            return Ok(self.sink_first_floating(definition));
         };
         let held = task.object();
         let made = self.act(definition, task)?;

@@ -2,7 +2,7 @@
 
 ghost use Rattle.std.specs.Prelude.{◌≡◌, false, map, IsSome, OnOk, OnErr};
 ghost use Rattle.ui_machine.specs.Instructions.{in_front};
-ghost use Rattle.ui_machine.specs.Instructions.Objects.{adopting, disposing, freezing, naming, orphaning, sinking, unfreezing};
+ghost use Rattle.ui_machine.specs.Instructions.Objects.{adopting, disposing, freezing, look_up_object, orphaning, sinking, thaw_notify};
 ghost use Rattle.ui_machine.specs.Outcome.{Goes};
 ghost use Rattle.ui_machine.specs.Rules.Children.{orphaned};
 ghost use Rattle.ui_machine.specs.Rules.Disposal.{disposed};
@@ -32,7 +32,7 @@ use ui_machine::{Arm, Halt, ObjectId};
 
 impl Engine {
     /// A register is written with the object that the builder has of an id, or with null where it has none.
-    pub(crate) fn naming(
+    pub(crate) fn look_up_object(
         &mut self,
         definition: &Definition,
         frame: Frame,
@@ -41,7 +41,7 @@ impl Engine {
     ) -> Result<(), Halt>
         requires counted { Counts definition.now (λ o. in_frame o (frame_view frame)) self.now }
         ensures step { Goes result
-            (left self.old.counted (in_front (agenda_of definition.now self.old) (naming definition.now (world_of self.old.world) (frame_view frame) to.0 id.now)))
+            (left self.old.counted (in_front (agenda_of definition.now self.old) (look_up_object definition.now (world_of self.old.world) (frame_view frame) to.0 id.now)))
             (config_of definition.now self.new) }
         ensures quiet { OnErr result ((world_of self.new.world).transcript ≡ (world_of self.old.world).transcript) }
         ensures counted { OnOk result (Counts definition.now nothing self.new) }
@@ -104,7 +104,7 @@ impl Engine {
     }
 
     /// One freeze of an object is taken off. Where it was the last one, what waited is notified before the program goes on.
-    pub(crate) fn unfreezing(
+    pub(crate) fn thaw_notify(
         &mut self,
         definition: &Definition,
         frame: Frame,
@@ -112,7 +112,7 @@ impl Engine {
     ) -> Result<(), Halt>
         requires counted { Counts definition.now (λ o. in_frame o (frame_view frame)) self.now }
         ensures step { Goes result
-            (left self.old.counted (in_front (agenda_of definition.now self.old) (unfreezing (world_of self.old.world) (frame_view frame) object.0)))
+            (left self.old.counted (in_front (agenda_of definition.now self.old) (thaw_notify (world_of self.old.world) (frame_view frame) object.0)))
             (config_of definition.now self.new) }
         ensures quiet { OnErr result ((world_of self.new.world).transcript ≡ (world_of self.old.world).transcript) }
         ensures counted { OnOk result (Counts definition.now nothing self.new) }

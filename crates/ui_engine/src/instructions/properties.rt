@@ -2,7 +2,7 @@
 
 ghost use Rattle.std.specs.Prelude.{◌≡◌, OnOk, OnErr};
 ghost use Rattle.ui_machine.specs.Instructions.{in_front};
-ghost use Rattle.ui_machine.specs.Instructions.Properties.{assigning, getting, slot_at, telling};
+ghost use Rattle.ui_machine.specs.Instructions.Properties.{set_property, get_property, slot_at, notify_from_program};
 ghost use Rattle.ui_machine.specs.Instructions.Registers.{value_in};
 ghost use Rattle.ui_machine.specs.Outcome.{Goes};
 ghost use Rattle.ui_machine.specs.Rules.Sets.{raising};
@@ -90,7 +90,7 @@ impl Engine {
     }
 
     /// A register is written with the value of an object's property.
-    pub(crate) fn getting(
+    pub(crate) fn get_property(
         &mut self,
         definition: &Definition,
         frame: Frame,
@@ -100,7 +100,7 @@ impl Engine {
     ) -> Result<(), Halt>
         requires counted { Counts definition.now (λ o. in_frame o (frame_view frame)) self.now }
         ensures step { Goes result
-            (left self.old.counted (in_front (agenda_of definition.now self.old) (getting definition.now (world_of self.old.world) (frame_view frame) to.0 object.0 property.now)))
+            (left self.old.counted (in_front (agenda_of definition.now self.old) (get_property definition.now (world_of self.old.world) (frame_view frame) to.0 object.0 property.now)))
             (config_of definition.now self.new) }
         ensures quiet { OnErr result ((world_of self.new.world).transcript ≡ (world_of self.old.world).transcript) }
         ensures counted { OnOk result (Counts definition.now nothing self.new) }
@@ -111,7 +111,7 @@ impl Engine {
     }
 
     /// An object's property is set to the value of a register, before the program goes on.
-    pub(crate) fn assigning(
+    pub(crate) fn set_property(
         &mut self,
         definition: &Definition,
         frame: Frame,
@@ -121,7 +121,7 @@ impl Engine {
     ) -> Result<(), Halt>
         requires counted { Counts definition.now (λ o. in_frame o (frame_view frame)) self.now }
         ensures step { Goes result
-            (left self.old.counted (in_front (agenda_of definition.now self.old) (assigning definition.now (world_of self.old.world) (frame_view frame) object.0 property.now from.0)))
+            (left self.old.counted (in_front (agenda_of definition.now self.old) (set_property definition.now (world_of self.old.world) (frame_view frame) object.0 property.now from.0)))
             (config_of definition.now self.new) }
         ensures quiet { OnErr result ((world_of self.new.world).transcript ≡ (world_of self.old.world).transcript) }
         ensures counted { OnOk result (Counts definition.now nothing self.new) }
@@ -157,7 +157,7 @@ impl Engine {
     }
 
     /// The notification of an object's property is raised before the program goes on, if the property may be read.
-    pub(crate) fn telling(
+    pub(crate) fn notify_from_program(
         &mut self,
         definition: &Definition,
         frame: Frame,
@@ -166,7 +166,7 @@ impl Engine {
     ) -> Result<(), Halt>
         requires counted { Counts definition.now (λ o. in_frame o (frame_view frame)) self.now }
         ensures step { Goes result
-            (left self.old.counted (in_front (agenda_of definition.now self.old) (telling definition.now (world_of self.old.world) (frame_view frame) object.0 property.now)))
+            (left self.old.counted (in_front (agenda_of definition.now self.old) (notify_from_program definition.now (world_of self.old.world) (frame_view frame) object.0 property.now)))
             (config_of definition.now self.new) }
         ensures quiet { OnErr result ((world_of self.new.world).transcript ≡ (world_of self.old.world).transcript) }
         ensures counted { OnOk result (Counts definition.now nothing self.new) }

@@ -1,7 +1,7 @@
 //! Instructions that touch registers alone.
 
 ghost use Rattle.std.specs.Prelude.{◌≡◌, Some, option_map, OnOk, OnErr};
-ghost use Rattle.ui_machine.specs.Instructions.{in_front, instructed};
+ghost use Rattle.ui_machine.specs.Instructions.{in_front, instruction_step};
 ghost use Rattle.ui_machine.specs.Instructions.Registers.{written_to};
 ghost use Rattle.ui_machine.specs.Outcome.{Goes};
 ghost use Rattle.ui_machine.specs.Output.Lines as lines;
@@ -80,7 +80,7 @@ impl Engine {
         requires known { HasKnownKind definition.now.types computation.now }
         requires counted { Counts definition.now (λ o. in_frame o (frame_view frame)) self.now }
         ensures step { Goes result
-            (left self.old.counted (instructed definition.now (world_of self.old.world) (agenda_of definition.now self.old) (frame_view frame) (instruction_of computation.now to.0)))
+            (left self.old.counted (instruction_step definition.now (world_of self.old.world) (agenda_of definition.now self.old) (frame_view frame) (instruction_of computation.now to.0)))
             (config_of definition.now self.new) }
         ensures quiet { OnErr result ((world_of self.new.world).transcript ≡ (world_of self.old.world).transcript) }
         ensures counted { OnOk result (Counts definition.now nothing self.new) }

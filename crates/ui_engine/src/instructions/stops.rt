@@ -3,7 +3,7 @@
 ghost use Rattle.std.specs.Prelude.{◌≡◌, ℕ, OnOk, OnErr};
 ghost use Rattle.ui_machine.specs.Definition as machine;
 ghost use Rattle.ui_machine.specs.Definition.Programs as words;
-ghost use Rattle.ui_machine.specs.Instructions.{instructed};
+ghost use Rattle.ui_machine.specs.Instructions.{instruction_step};
 ghost use Rattle.ui_machine.specs.Outcome.{Goes};
 ghost use Rattle.ui_machine.specs.Rules.Accumulation.{stopped};
 ghost use Rattle.ui_machine.specs.Steps.{left};
@@ -53,7 +53,7 @@ impl Engine {
     pub(crate) fn stopping(&mut self, definition: &Definition, frame: Frame) -> Result<(), Halt>
         requires counted { Counts definition.now (λ o. in_frame o (frame_view frame)) self.now }
         ensures step { Goes result
-            (left self.old.counted (instructed definition.now (world_of self.old.world) (agenda_of definition.now self.old) (frame_view frame) words.stop))
+            (left self.old.counted (instruction_step definition.now (world_of self.old.world) (agenda_of definition.now self.old) (frame_view frame) words.stop))
             (config_of definition.now self.new) }
         ensures quiet { OnErr result ((world_of self.new.world).transcript ≡ (world_of self.old.world).transcript) }
         ensures counted { OnOk result (Counts definition.now nothing self.new) }

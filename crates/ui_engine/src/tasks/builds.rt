@@ -11,7 +11,7 @@ ghost use Rattle.instances.specs.Laws.{Counted};
 ghost use Rattle.ui_machine.specs.State.References.{in_values};
 ghost use Rattle.ui_machine.specs.Definition as definition;
 ghost use Rattle.ui_engine.specs.BegunView.{HasBegun};
-ghost use Rattle.ui_machine.specs.Rules.Construction.{with_object, constructed, thawing_made, making, making_set, constructing};
+ghost use Rattle.ui_machine.specs.Rules.Construction.{with_object, constructed, thawing_made, making, apply_construct_property, constructing};
 ghost use Rattle.ui_machine.specs.State.Config.{starts};
 ghost use Rattle.ui_machine.specs.State.Handlers.{Handler};
 ghost use Rattle.ui_machine.specs.State.Tasks.{Building, Constructing};
@@ -24,13 +24,13 @@ ghost use Rattle.ui_engine.specs.TaskView.{task_of, agenda_of, build_from, build
 ghost use Rattle.ui_engine.specs.Counting.{Connects, KeepsCounts};
 ghost use Rattle.ui_engine.specs.EngineView.{config_of};
 
-use crate::builder::{Held, put_held};
+use crate::builder::{BuilderEntry, set_builder_entry};
 use crate::engine::Engine;
 use crate::given::object_value;
 use crate::holding::hold_any;
 use crate::lines::Line;
 use crate::places::{entry_at, is_object, next_place};
-use crate::task::{Forwards, Making, Makings, Slots, Task};
+use crate::task::{Forwards, ConstructStep, Makings, Slots, Task};
 use crate::tasks::makings::{GivenAt, construction};
 use builder_defs::Definition;
 use g_values::Value;
@@ -66,7 +66,7 @@ impl Engine {
         if !self.world.held(place).is_unbuilt() {
             return Err(Halt::Stuck(Arm::Code));
         }
-        put_held(&mut self.world.builder, place, Held::Built(object))?;
+        set_builder_entry(&mut self.world.builder, place, BuilderEntry::Built(object))?;
         hold_any(&mut self.world.table, Some(object))?;
         self.world.table.sink(object);
         Ok(())
@@ -123,8 +123,8 @@ impl Engine {
     }
 
     // A set of a construction.
-    #[tactic(auto, unfolding(ui_machine::specs::Rules::Construction::making_set))]
-    fn making_set(
+    #[tactic(auto, unfolding(ui_machine::specs::Rules::Construction::apply_construct_property))]
+    fn apply_construct_property(
         &mut self,
         definition: &Definition,
         object: ObjectId,
@@ -134,7 +134,7 @@ impl Engine {
         held: bool,
     ) -> Result<(), Halt>
         ensures step { Goes result
-            (uncounted (agenda_of definition.now self.old) self.old.counted (making_set definition.now (world_of self.old.world) object.0 slot (value_view value) (Constructing object.0 steps held ∷ [])))
+            (uncounted (agenda_of definition.now self.old) self.old.counted (apply_construct_property definition.now (world_of self.old.world) object.0 slot (value_view value) (Constructing object.0 steps held ∷ [])))
             (config_of definition.now self.new) }
         ensures quiet { OnErr result ((world_of self.new.world).transcript ≡ (world_of self.old.world).transcript) }
         ensures counted { OnOk result (KeepsCounts definition.now self.old self.new) }
@@ -157,7 +157,7 @@ impl Engine {
     }
 
     // A program of a construction begins, which is given the object alone.
-    fn making_run(
+    fn run_constructed(
         &mut self,
         definition: &Definition,
         object: ObjectId,
@@ -199,15 +199,15 @@ impl Engine {
             return self.constructed(definition, object, held);
         };
         match step {
-            Making::Set { slot, value } => {
-                self.making_set(definition, object, slot, value, steps, held)?;
+            ConstructStep::Set { slot, value } => {
+                self.apply_construct_property(definition, object, slot, value, steps, held)?;
                 return Ok(());
             }
-            Making::Run { program } => {
-                self.making_run(definition, object, program, steps, held)?;
+            ConstructStep::Run { program } => {
+                self.run_constructed(definition, object, program, steps, held)?;
                 return Ok(());
             }
-            Making::Thaw => {
+            ConstructStep::Thaw => {
                 self.thawing_made(definition, object, steps, held)?;
                 return Ok(());
             }

@@ -3,14 +3,14 @@
 ghost use Rattle.std.specs.Prelude.{◌≡◌, map, option_map, OnOk, OnErr};
 ghost use Rattle.ui_machine.specs.Outcome.{Goes};
 ghost use Rattle.ui_machine.specs.Steps.{uncounted};
-ghost use Rattle.ui_machine.specs.Rules.Events.{carrying, carrying_set, carrying_get, carrying_emit, carrying_release};
+ghost use Rattle.ui_machine.specs.Rules.Events.{request_step, set_from_event, get_from_event, emit_from_event, release_from_event};
 ghost use Rattle.builder_defs.specs.Meaning.{given_view, request_of};
 ghost use Rattle.ui_engine.specs.View.{world_of};
 ghost use Rattle.ui_engine.specs.TaskView.{agenda_of};
 ghost use Rattle.ui_engine.specs.Counting.{HoldsBuilt, KeepsCounts};
 ghost use Rattle.ui_engine.specs.EngineView.{config_of};
 
-use crate::builder::{Held, put_held};
+use crate::builder::{BuilderEntry, set_builder_entry};
 use crate::engine::Engine;
 use crate::holding::let_go_any;
 use crate::lines::Line;
@@ -22,8 +22,8 @@ use ui_machine::{Arm, Halt, Place, SignalId, Slot};
 
 impl Engine {
     // A set by an event.
-    #[tactic(auto, unfolding(ui_machine::specs::Rules::Events::carrying_set, ui_machine::specs::Rules::Events::set_given))]
-    fn carrying_set(
+    #[tactic(auto, unfolding(ui_machine::specs::Rules::Events::set_from_event, ui_machine::specs::Rules::Events::set_given))]
+    fn set_from_event(
         &mut self,
         definition: &Definition,
         place: Place,
@@ -31,7 +31,7 @@ impl Engine {
         given: Given,
     ) -> Result<(), Halt>
         ensures step { Goes result
-            (uncounted (agenda_of definition.now self.old) self.old.counted (carrying_set definition.now (world_of self.old.world) place.0 slot (given_view given)))
+            (uncounted (agenda_of definition.now self.old) self.old.counted (set_from_event definition.now (world_of self.old.world) place.0 slot (given_view given)))
             (config_of definition.now self.new) }
         ensures quiet { OnErr result ((world_of self.new.world).transcript ≡ (world_of self.old.world).transcript) }
         ensures counted { OnOk result (KeepsCounts definition.now self.old self.new) }
@@ -47,15 +47,15 @@ impl Engine {
     }
 
     // A get by an event.
-    #[tactic(auto, unfolding(ui_machine::specs::Rules::Events::carrying_get))]
-    fn carrying_get(
+    #[tactic(auto, unfolding(ui_machine::specs::Rules::Events::get_from_event))]
+    fn get_from_event(
         &mut self,
         definition: &Definition,
         place: Place,
         slot: Slot,
     ) -> Result<(), Halt>
         ensures step { Goes result
-            (uncounted (agenda_of definition.now self.old) self.old.counted (carrying_get definition.now (world_of self.old.world) place.0 slot))
+            (uncounted (agenda_of definition.now self.old) self.old.counted (get_from_event definition.now (world_of self.old.world) place.0 slot))
             (config_of definition.now self.new) }
         ensures quiet { OnErr result ((world_of self.new.world).transcript ≡ (world_of self.old.world).transcript) }
         ensures counted { OnOk result (KeepsCounts definition.now self.old self.new) }
@@ -79,8 +79,8 @@ impl Engine {
     }
 
     // An emission by an event.
-    #[tactic(auto, unfolding(ui_machine::specs::Rules::Events::carrying_emit))]
-    fn carrying_emit(
+    #[tactic(auto, unfolding(ui_machine::specs::Rules::Events::emit_from_event))]
+    fn emit_from_event(
         &mut self,
         definition: &Definition,
         place: Place,
@@ -89,7 +89,7 @@ impl Engine {
         detail: Option<&str>,
     ) -> Result<(), Halt>
         ensures step { Goes result
-            (uncounted (agenda_of definition.now self.old) self.old.counted (carrying_emit definition.now (world_of self.old.world) place.0 signal (map given_view args.now) (option_map (λ text. text.now) detail.entry)))
+            (uncounted (agenda_of definition.now self.old) self.old.counted (emit_from_event definition.now (world_of self.old.world) place.0 signal (map given_view args.now) (option_map (λ text. text.now) detail.entry)))
             (config_of definition.now self.new) }
         ensures quiet { OnErr result ((world_of self.new.world).transcript ≡ (world_of self.old.world).transcript) }
         ensures counted { OnOk result (KeepsCounts definition.now self.old self.new) }
@@ -108,11 +108,11 @@ impl Engine {
     }
 
     // The builder lets an object go.
-    #[tactic(auto, unfolding(ui_machine::specs::Rules::Events::carrying_release))]
-    fn carrying_release(&mut self, definition: &Definition, place: Place) -> Result<(), Halt>
+    #[tactic(auto, unfolding(ui_machine::specs::Rules::Events::release_from_event))]
+    fn release_from_event(&mut self, definition: &Definition, place: Place) -> Result<(), Halt>
         requires holds { HoldsBuilt self.now }
         ensures step { Goes result
-            (uncounted (agenda_of definition.now self.old) self.old.counted (carrying_release definition.now (world_of self.old.world) place.0))
+            (uncounted (agenda_of definition.now self.old) self.old.counted (release_from_event definition.now (world_of self.old.world) place.0))
             (config_of definition.now self.new) }
         ensures quiet { OnErr result ((world_of self.new.world).transcript ≡ (world_of self.old.world).transcript) }
         ensures counted { OnOk result (KeepsCounts definition.now self.old self.new) }
@@ -122,31 +122,31 @@ impl Engine {
         };
         let object = self.held(place)?;
         let line = Line::Release { id: entry.id }.text(self.alloc, definition.types())?;
-        put_held(&mut self.world.builder, place, Held::Released)?;
+        set_builder_entry(&mut self.world.builder, place, BuilderEntry::Released)?;
         let_go_any(&mut self.world.table, Some(object));
         self.world.say(line)?;
         Ok(())
     }
 
     // What an event does.
-    pub(crate) fn carrying(&mut self, definition: &Definition, event: Event) -> Result<(), Halt>
+    pub(crate) fn handle_event(&mut self, definition: &Definition, event: Event) -> Result<(), Halt>
         requires holds { HoldsBuilt self.now }
         ensures step { Goes result
-            (uncounted (agenda_of definition.now self.old) self.old.counted (carrying definition.now (world_of self.old.world) (request_of event)))
+            (uncounted (agenda_of definition.now self.old) self.old.counted (request_step definition.now (world_of self.old.world) (request_of event)))
             (config_of definition.now self.new) }
         ensures quiet { OnErr result ((world_of self.new.world).transcript ≡ (world_of self.old.world).transcript) }
         ensures counted { OnOk result (KeepsCounts definition.now self.old self.new) }
     {
         match event {
-            Event::Set { place, slot, given } => self.carrying_set(definition, place, slot, given),
-            Event::Get { place, slot } => self.carrying_get(definition, place, slot),
+            Event::Set { place, slot, given } => self.set_from_event(definition, place, slot, given),
+            Event::Get { place, slot } => self.get_from_event(definition, place, slot),
             Event::Emit {
                 place,
                 signal,
                 args,
                 detail,
-            } => self.carrying_emit(definition, place, signal, args.as_slice(), text_of(&detail)),
-            Event::Release { place } => self.carrying_release(definition, place),
+            } => self.emit_from_event(definition, place, signal, args.as_slice(), text_of(&detail)),
+            Event::Release { place } => self.release_from_event(definition, place),
         }
     }
 }

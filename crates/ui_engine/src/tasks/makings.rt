@@ -12,7 +12,7 @@ ghost use Rattle.builder_defs.specs.Meaning.{given_view, given_property};
 ghost use Rattle.ui_engine.specs.MakingView.{making_steps, early, construct_set, later_set, early_set, making_of_object};
 ghost use Rattle.ui_engine.specs.View.{world_of};
 
-use crate::task::{Making, Makings};
+use crate::task::{ConstructStep, Makings};
 use crate::world::World;
 use builder_defs::{Definition, Given, GivenValue};
 use g_values::Value;
@@ -68,7 +68,7 @@ fn value_for(given: GivenAt<'_>, spec: &Spec, slot: Slot) -> Result<Value, Alloc
 
 // Puts the set of a construct property before what a construction does.
 fn add_construct_set(
-    steps: &mut Vec<Making>,
+    steps: &mut Vec<ConstructStep>,
     definition: &Definition,
     class: TypeId,
     given: GivenAt<'_>,
@@ -82,14 +82,14 @@ fn add_construct_set(
     };
     if spec.is_at_construction() {
         let value = value_for(given, spec, slot)?;
-        steps.push(Making::Set { slot, value })?;
+        steps.push(ConstructStep::Set { slot, value })?;
     }
     Ok(())
 }
 
 // Puts the sets of the construct properties before what a construction does, in the order of their slots.
 fn add_construct_sets(
-    steps: &mut Vec<Making>,
+    steps: &mut Vec<ConstructStep>,
     definition: &Definition,
     class: TypeId,
     given: GivenAt<'_>,
@@ -116,19 +116,19 @@ fn is_at_construction(definition: &Definition, class: TypeId, slot: Slot) -> boo
 }
 
 // Puts the set of a value before what a construction does, if there is one.
-fn add_set(steps: &mut Vec<Making>, slot: Slot, value: Option<Value>) -> Result<(), AllocError>
+fn add_set(steps: &mut Vec<ConstructStep>, slot: Slot, value: Option<Value>) -> Result<(), AllocError>
     ensures { OnOk result (making_steps steps.new.items ≡ set_of (option_map value_view value) slot ++ making_steps steps.old.items) }
 {
     let Some(value) = value else {
         return Ok(());
     };
-    steps.push(Making::Set { slot, value })?;
+    steps.push(ConstructStep::Set { slot, value })?;
     Ok(())
 }
 
 // Puts the set of what is given to a property before what a construction does, where the property is not set in any case.
 fn add_later_set(
-    steps: &mut Vec<Making>,
+    steps: &mut Vec<ConstructStep>,
     definition: &Definition,
     class: TypeId,
     world: &World,
@@ -144,7 +144,7 @@ fn add_later_set(
 
 // The same of an entry that may be a forward reference, which a construction leaves out.
 fn add_early_set(
-    steps: &mut Vec<Making>,
+    steps: &mut Vec<ConstructStep>,
     definition: &Definition,
     class: TypeId,
     given: GivenAt<'_>,
@@ -161,7 +161,7 @@ fn add_early_set(
 
 // Puts the sets of what is given before what a construction does, in the given order.
 fn add_later_sets(
-    steps: &mut Vec<Making>,
+    steps: &mut Vec<ConstructStep>,
     definition: &Definition,
     class: TypeId,
     given: GivenAt<'_>,
@@ -179,7 +179,7 @@ fn add_later_sets(
 
 // Puts the run of the program that a class itself names before what a construction does, if it names one.
 fn add_run(
-    steps: &mut Vec<Making>,
+    steps: &mut Vec<ConstructStep>,
     definition: &Definition,
     class: TypeId,
 ) -> Result<(), AllocError>
@@ -188,13 +188,13 @@ fn add_run(
     let Some(program) = definition.constructed(class) else {
         return Ok(());
     };
-    steps.push(Making::Run { program })?;
+    steps.push(ConstructStep::Run { program })?;
     Ok(())
 }
 
 // Puts the runs of the programs that a class and its ancestors name before what a construction does, the root's first.
 fn add_runs(
-    steps: &mut Vec<Making>,
+    steps: &mut Vec<ConstructStep>,
     definition: &Definition,
     class: TypeId,
 ) -> Result<(), AllocError>
@@ -221,7 +221,7 @@ pub(crate) fn construction(
         ≡ making_of_object definition.now (world_of given.entry.world.now) class (early given.entry.place.0 given.entry.entries.now)) }
 {
     let mut steps = Vec::new(alloc);
-    steps.push(Making::Thaw)?;
+    steps.push(ConstructStep::Thaw)?;
     add_later_sets(&mut steps, definition, class, given)?;
     add_runs(&mut steps, definition, class)?;
     add_construct_sets(&mut steps, definition, class, given)?;

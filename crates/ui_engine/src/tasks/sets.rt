@@ -2,7 +2,7 @@
 
 ghost use Rattle.std.specs.Prelude.{◌≡◌, ◌&&◌, not, string_bytes, OnOk, OnErr, IfOk};
 ghost use Rattle.ui_machine.specs.Outcome.{Goes, Follows, only_if};
-ghost use Rattle.ui_machine.specs.Rules.Sets.{setting, kept, written, raising_if, notifies, spec_at, has_kind, lives, unless_disposed};
+ghost use Rattle.ui_machine.specs.Rules.Sets.{setting, without_disposed, written, raising_if, notifies, spec_at, has_kind, lives, unless_disposed};
 ghost use Rattle.ui_machine.specs.State.Objects.{class_in, changed, with_value};
 ghost use Rattle.ui_machine.specs.declared.arm.Arm.TheVariants as arms;
 ghost use Rattle.param_specs.specs.Validation.{KnowsClass};
@@ -74,7 +74,7 @@ pub(crate) fn living_class(table: &Table, id: ObjectId) -> Option<TypeId>
 }
 
 // A value by the class of the object that it names, which must live.
-fn classed(table: &Table, value: Value) -> Result<Value, Arm>
+fn with_own_class(table: &Table, value: Value) -> Result<Value, Arm>
     ensures value { Shows value_view result (only_if (lives table.now.objects (value_view value)) arms.Value (Ok (value_view value))) }
     ensures class { IfOk result (λ v. KnowsClass (class_in table.now.objects) v) }
 {
@@ -102,8 +102,8 @@ fn unless_disposed(table: &Table, value: Value) -> Value
 }
 
 // The value that is written: a weak property takes no disposed object.
-fn kept(table: &Table, spec: &Spec, value: Value) -> Value
-    ensures { value_view result ≡ kept table.now.objects (spec_view spec.now) (value_view value) }
+fn without_disposed(table: &Table, spec: &Spec, value: Value) -> Value
+    ensures { value_view result ≡ without_disposed table.now.objects (spec_view spec.now) (value_view value) }
 {
     if !spec.weak {
         return value;
@@ -258,15 +258,15 @@ impl Engine {
         if !has_kind(&value, spec.kind) {
             return Err(Halt::Stuck(Arm::Value));
         }
-        let known = classed(&self.world.table, value)?;
+        let known = with_own_class(&self.world.table, value)?;
         let original = known.copied()?;
         let (valid, is_changed) = validate(definition.types(), spec, known);
         if refuses(spec, is_changed) {
             self.refuse(definition, object, spec.name.as_str(), &original)?;
             return Ok(());
         }
-        let kept = kept(&self.world.table, spec, valid);
-        self.put(definition, object, slot, spec, kept)?;
+        let without_disposed = without_disposed(&self.world.table, spec, valid);
+        self.put(definition, object, slot, spec, without_disposed)?;
         Ok(())
     }
 }

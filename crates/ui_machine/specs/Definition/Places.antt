@@ -38,3 +38,4 @@ pub record Bind : Type 0 where
   pub target : ℕ
   pub target_slot : ℕ
   pub flags : ℕ  -- GBindingFlags, as bits: bidirectional 1, sync-create 2, invert-boolean 4
+  pub at : ℕ  -- its entry in the list of its target's properties

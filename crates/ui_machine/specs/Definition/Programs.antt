@@ -1,5 +1,5 @@
 -- Programs: blocks of instructions over registers.
-use Rattle.std.specs.Prelude.{Bool, List, Option, ℕ, ℤ}
+use Rattle.std.specs.Prelude.{Bool, List, None, Option, Some, ℕ, ℤ}
 use Rattle.ui_machine.specs.Definition.Kinds.{Kind, RegisterKind}
 use Rattle.ui_machine.specs.Definition.Values.{Value}
 
@@ -64,8 +64,17 @@ pub data Instruction : Type 0 where
 
 pub record Block : Type 0 where
   pub entry : List RegisterKind  -- of every register
-  pub passes : ℕ  -- how often the instructions before the last are taken
+  pub repeat : Option ℕ  -- how often the instructions before the last are taken, where it says so
   pub code : List Instruction
+
+-- that many, or once where nothing is said
+abbrev pub said_or_once : Option ℕ → ℕ
+said_or_once None = 1
+said_or_once (Some n) = n
+
+-- how often a block's instructions before the last are taken
+abbrev pub passes_in : Block → ℕ
+passes_in b = said_or_once b.repeat
 
 pub record Program : Type 0 where
   pub name : List ℕ

@@ -3,7 +3,7 @@ use Rattle.std.specs.Prelude.{Bool, Err, List, None, Ok, Option, Some, [], cond,
 use Rattle.ui_machine.specs.declared.arm.Arm.TheVariants as arms
 use Rattle.ui_machine.specs.Definition.{Definition}
 use Rattle.ui_machine.specs.Definition.Lookups.{program_at}
-use Rattle.ui_machine.specs.Definition.Programs.{Block}
+use Rattle.ui_machine.specs.Definition.Programs.{Block, passes_in}
 use Rattle.ui_machine.specs.Definition.Values.{Value}
 use Rattle.ui_machine.specs.Definition.Values as values
 use Rattle.ui_machine.specs.Instructions.Registers.{goes_on, truth_in, value_in}
@@ -21,7 +21,7 @@ unfoldable pub jumping : Definition → World → Frame → ℕ → Answer Start
 jumping d w f to = do
   p ← known arms.Code (program_at d f.program)
   b ← known arms.Code (slice_get p.blocks to)
-  goes_on w [] (record f { block = to; at = 0; passes = b.passes })
+  goes_on w [] (record f { block = to; at = 0; passes = passes_in b })
 
 -- `if a b b`
 unfoldable pub branching : Definition → World → Frame → (on then_to else_to : ℕ) → Answer Started

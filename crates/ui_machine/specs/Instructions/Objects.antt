@@ -15,7 +15,7 @@ use Rattle.ui_machine.specs.Rules.Construction.{has_shape, making, object_held, 
 use Rattle.ui_machine.specs.Rules.Disposal.{disposed}
 use Rattle.ui_machine.specs.Rules.NotifyQueue.{frozen_less, frozen_more}
 use Rattle.ui_machine.specs.Rules.Sets.{is_disposed}
-use Rattle.ui_machine.specs.State.Config.{Started, World, held_at, said, sunk, with_objects}
+use Rattle.ui_machine.specs.State.Config.{Started, World, builder_entry, said, sunk, with_objects}
 use Rattle.ui_machine.specs.State.Objects.{changed, live, living, most_identities, object_at}
 use Rattle.ui_machine.specs.State.Tasks.{Frame, Task, Thawing}
 
@@ -25,11 +25,11 @@ or_null None = values.object None
 or_null (Some v) = v
 
 -- `object d id`: what the builder holds under the id, which is of an object
-unfoldable pub naming : Definition → World → Frame → ℕ → List ℕ → Answer Started
-naming d w f to id = do
+unfoldable pub look_up_object : Definition → World → Frame → ℕ → List ℕ → Answer Started
+look_up_object d w f to id = do
   place ← known arms.Code (place_of d id)
   p ← known arms.Code (place_at d place)
-  only_if (not p.is_prototype) arms.Code (gives w to (or_null (object_held (held_at w place))) f)
+  only_if (not p.is_prototype) arms.Code (gives w to (or_null (object_held (builder_entry w place))) f)
 
 -- Whether one more object may be made, where the builder has still so many to make: they count in number and in identities. A class with a
 -- shape also wants a peer.
@@ -99,8 +99,8 @@ freezing w f object = do
   goes_on (with_objects w frozen.state) [] f
 
 -- `thaw o`
-unfoldable pub unfreezing : World → Frame → ℕ → Answer Started
-unfreezing w f object = do
+unfoldable pub thaw_notify : World → Frame → ℕ → Answer Started
+thaw_notify w f object = do
   id ← operand_in w f object
   thaw ← changed w.objects id frozen_less
   goes_on (with_objects w thaw.state) (Thawing id thaw.answer ∷ []) f

@@ -18,8 +18,8 @@ slot_at d w id name = do
   known arms.Code (slot_of d o.class name)
 
 -- `get d o p`
-unfoldable pub getting : Definition → World → Frame → (to object : ℕ) → List ℕ → Answer Started
-getting d w f to object name = do
+unfoldable pub get_property : Definition → World → Frame → (to object : ℕ) → List ℕ → Answer Started
+get_property d w f to object name = do
   id ← operand_in w f object
   slot ← slot_at d w id name
   s ← spec_at d w.objects id slot
@@ -33,8 +33,8 @@ set_from w f id slot from = do
   goes_on w (Setting id slot v ∷ []) f
 
 -- `set o p s`
-unfoldable pub assigning : Definition → World → Frame → ℕ → List ℕ → ℕ → Answer Started
-assigning d w f object name from = do
+unfoldable pub set_property : Definition → World → Frame → ℕ → List ℕ → ℕ → Answer Started
+set_property d w f object name from = do
   id ← operand_in w f object
   slot ← slot_at d w id name
   s ← spec_at d w.objects id slot
@@ -47,8 +47,8 @@ then_goes_on f answer = do
   goes_on s.world s.tasks f
 
 -- `notify o p`: nothing where it is not readable
-unfoldable pub telling : Definition → World → Frame → ℕ → List ℕ → Answer Started
-telling d w f object name = do
+unfoldable pub notify_from_program : Definition → World → Frame → ℕ → List ℕ → Answer Started
+notify_from_program d w f object name = do
   id ← operand_in w f object
   slot ← slot_at d w id name
   s ← spec_at d w.objects id slot

@@ -15,7 +15,7 @@ use Rattle.ui_machine.specs.Rules.Sets.{if_settable, is_disposed, spec_at}
 use Rattle.ui_machine.specs.Rules.Transform.{same_bool}
 use Rattle.ui_machine.specs.Seq.{total}
 use Rattle.ui_machine.specs.State.Bindings.{Binding}
-use Rattle.ui_machine.specs.State.Config.{Held, Started, World, built, held_at, released, starts, unbuilt}
+use Rattle.ui_machine.specs.State.Config.{BuilderEntry, Started, World, built, builder_entry, released, starts, unbuilt}
 use Rattle.ui_machine.specs.State.Objects.{living}
 use Rattle.ui_machine.specs.State.Peers.{Peer, peer_number}
 use Rattle.ui_machine.specs.State.Tasks.{Building, Item, Setting, Task, Transferring, adopts, binds, connects, forwards, makes}
@@ -61,14 +61,14 @@ abbrev pub build_items : Definition → List Item
 build_items d = made_items 0 d.places ++ (forward_items 0 d.places ++ (numbered binds 0 d.bindings ++ connected_items 0 d.places))
 
 -- the object that the builder holds under a place
-abbrev pub identity_held : Held → Option ℕ
+abbrev pub identity_held : BuilderEntry → Option ℕ
 identity_held unbuilt = None
 identity_held (built id) = Some id
 identity_held released = None
 
 -- that object, as an operand
 abbrev pub held_object : World → ℕ → Answer ℕ
-held_object w place = known arms.Operand (identity_held (held_at w place))
+held_object w place = known arms.Operand (identity_held (builder_entry w place))
 
 -- the same of a place that may be left out
 unfoldable pub held_data : World → Option ℕ → Answer (Option ℕ)

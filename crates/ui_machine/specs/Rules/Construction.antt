@@ -18,10 +18,10 @@ use Rattle.ui_machine.specs.Rules.Programs.{program_before}
 use Rattle.ui_machine.specs.Rules.Sets.{spec_at}
 use Rattle.ui_machine.specs.Rules.Validation.{is_valid}
 use Rattle.ui_machine.specs.Seq.{read, write}
-use Rattle.ui_machine.specs.State.Config.{Held, Started, World, built, held_at, is_unbuilt, released, said, starts, sunk, unbuilt, with_held, with_objects}
+use Rattle.ui_machine.specs.State.Config.{BuilderEntry, Started, World, built, builder_entry, is_unbuilt, released, said, starts, sunk, unbuilt, with_builder_entry, with_objects}
 use Rattle.ui_machine.specs.State.Objects.{Object, changed, object_at}
 use Rattle.ui_machine.specs.State.Peers.{Peer, first_left, no_peer}
-use Rattle.ui_machine.specs.State.Tasks.{Constructing, Making, Setting, Task, Thawing, runs, sets, thaws}
+use Rattle.ui_machine.specs.State.Tasks.{Constructing, ConstructStep, Setting, Task, Thawing, runs, sets, thaws}
 
 -- ** which peer a new object gets
 
@@ -41,7 +41,7 @@ is_forward place (value v) = false
 is_forward place (named to) = nat_le place to
 
 -- the object that the builder has of a place
-abbrev pub object_held : Held → Option Value
+abbrev pub object_held : BuilderEntry → Option Value
 object_held unbuilt = None
 object_held (built id) = Some (values.object (Some id))
 object_held released = None
@@ -49,7 +49,7 @@ object_held released = None
 -- the value that is given, where the builder has its object
 abbrev pub given_value : World → Given → Option Value
 given_value w (value v) = Some v
-given_value w (named to) = object_held (held_at w to)
+given_value w (named to) = object_held (builder_entry w to)
 
 -- what is given without a forward name
 abbrev pub not_forward : ℕ → List GivenProperty → List GivenProperty
@@ -72,14 +72,14 @@ or_default None v = v
 or_default (Some given) v = given
 
 -- the construct properties from this slot on, each with the given value or the default
-abbrev pub construct_sets : World → List GivenProperty → ℕ → List Spec → List Making
+abbrev pub construct_sets : World → List GivenProperty → ℕ → List Spec → List ConstructStep
 construct_sets w given slot [] = []
 construct_sets w given slot (s ∷ specs) =
     cond (is_at_construction s) (sets slot (or_default (given_at w given slot) s.default) ∷ []) []
     ++ construct_sets w given (suc slot) specs
 
 -- a set of a value, if there is one
-abbrev pub set_of : Option Value → ℕ → List Making
+abbrev pub set_of : Option Value → ℕ → List ConstructStep
 set_of None slot = []
 set_of (Some v) slot = sets slot v ∷ []
 
@@ -88,22 +88,22 @@ abbrev pub no_spec : Spec
 no_spec = record { name = []; kind = kinds.bool; flags = 0; default = values.bool false; low = pos 0; high = pos 0; weak = false }
 
 -- the other given properties, in the given order
-abbrev pub given_sets : World → List Spec → List GivenProperty → List Making
+abbrev pub given_sets : World → List Spec → List GivenProperty → List ConstructStep
 given_sets w specs [] = []
 given_sets w specs (g ∷ gs) =
     cond (is_at_construction (read no_spec specs g.slot)) [] (set_of (given_value w g.given) g.slot) ++ given_sets w specs gs
 
 -- a run of a program, if there is one
-abbrev pub run_of : Option ℕ → List Making
+abbrev pub run_of : Option ℕ → List ConstructStep
 run_of None = []
 run_of (Some program) = runs program ∷ []
 
 -- the runs of the `constructed` programs of a class and its ancestors, the root's first
-abbrev pub constructed_runs : Definition → ℕ → List Making
+abbrev pub constructed_runs : Definition → ℕ → List ConstructStep
 constructed_runs d class = flat_map (λ c. run_of (class_of d c).constructed) (reverse (lineage d.types class))
 
 -- what a construction does after its object was made: the construct properties by slot, the programs, the other given properties, the thaw
-abbrev pub construction : Definition → World → ℕ → Place → List Making
+abbrev pub construction : Definition → World → ℕ → Place → List ConstructStep
 construction d w place p =
     construct_sets w (not_forward place p.given) 0 (specs_of d p.class)
     ++ (constructed_runs d p.class
@@ -160,8 +160,8 @@ making d w place peer held = do
       (Constructing (suc (length w.objects)) (construction d w place p) held ∷ [])))
 
 -- a set of a construction, of a writable property
-unfoldable pub making_set : Definition → World → (id slot : ℕ) → Value → List Task → Answer Started
-making_set d w id slot v tasks = do
+unfoldable pub apply_construct_property : Definition → World → (id slot : ℕ) → Value → List Task → Answer Started
+apply_construct_property d w id slot v tasks = do
   s ← spec_at d w.objects id slot
   only_if (is_writable s) arms.Flags (starts w (Setting id slot v ∷ tasks))
 
@@ -170,10 +170,10 @@ unfoldable pub constructed : World → ℕ → Bool → Answer Started
 constructed w id false = starts w []
 constructed w id true = do
   o ← object_at w.objects id
-  only_if (is_unbuilt (held_at w o.place)) arms.Code (starts (sunk (with_held w o.place (built id)) id) [])
+  only_if (is_unbuilt (builder_entry w o.place)) arms.Code (starts (sunk (with_builder_entry w o.place (built id)) id) [])
 
 -- the thaw that ends a construction
-unfoldable pub thawing_made : World → ℕ → List Making → Bool → Answer Started
+unfoldable pub thawing_made : World → ℕ → List ConstructStep → Bool → Answer Started
 thawing_made w id steps held = do
   thaw ← changed w.objects id frozen_less
   starts (with_objects w thaw.state) (Thawing id thaw.answer ∷ Constructing id steps held ∷ [])
@@ -191,9 +191,9 @@ peer_to_take d w p = cond (has_shape d p.class) (peer_left w p) None
 -- ** the steps of a construction
 
 -- the next step of a construction
-abbrev pub constructing : Definition → World → ℕ → List Making → Bool → Answer Started
+abbrev pub constructing : Definition → World → ℕ → List ConstructStep → Bool → Answer Started
 constructing d w id [] held = constructed w id held
-constructing d w id (sets slot v ∷ steps) held = making_set d w id slot v (Constructing id steps held ∷ [])
+constructing d w id (sets slot v ∷ steps) held = apply_construct_property d w id slot v (Constructing id steps held ∷ [])
 constructing d w id (runs program ∷ steps) held =
     program_before d w program (values.object (Some id) ∷ []) (Constructing id steps held ∷ [])
 constructing d w id (thaws ∷ steps) held = thawing_made w id steps held

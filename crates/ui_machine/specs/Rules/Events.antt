@@ -15,7 +15,7 @@ use Rattle.ui_machine.specs.Rules.Construction.{given_value}
 use Rattle.ui_machine.specs.Rules.EmissionPlan.{new_emission}
 use Rattle.ui_machine.specs.Rules.MainLoop.{is_back}
 use Rattle.ui_machine.specs.Rules.Sets.{if_settable, spec_at}
-use Rattle.ui_machine.specs.State.Config.{Held, Started, World, built, held_at, released, said, starts, unbuilt, with_held}
+use Rattle.ui_machine.specs.State.Config.{BuilderEntry, Started, World, built, builder_entry, released, said, starts, unbuilt, with_builder_entry}
 use Rattle.ui_machine.specs.State.Objects.{asked, value_at}
 use Rattle.ui_machine.specs.State.Tasks.{Beginning, Event, Request, Setting}
 use Rattle.ui_machine.specs.State.Tasks as config
@@ -29,8 +29,8 @@ set_given w id slot given = do
   starts w (Setting id slot v ∷ [])
 
 -- a set by an event
-unfoldable pub carrying_set : Definition → World → (place slot : ℕ) → Given → Answer Started
-carrying_set d w place slot given = do
+unfoldable pub set_from_event : Definition → World → (place slot : ℕ) → Given → Answer Started
+set_from_event d w place slot given = do
   id ← held_object w place
   s ← spec_at d w.objects id slot
   if_settable s (set_given w id slot given)
@@ -40,8 +40,8 @@ abbrev pub with_result : World → Value → World
 with_result w v = record w { result = Some v }
 
 -- a get by an event
-unfoldable pub carrying_get : Definition → World → ℕ → ℕ → Answer Started
-carrying_get d w place slot = do
+unfoldable pub get_from_event : Definition → World → ℕ → ℕ → Answer Started
+get_from_event d w place slot = do
   id ← held_object w place
   s ← spec_at d w.objects id slot
   v ← asked w.objects id (value_at slot)
@@ -56,31 +56,31 @@ given_values w (g ∷ gs) = do
   Ok (v ∷ vs)
 
 -- an emission by an event
-unfoldable pub carrying_emit : Definition → World → (place signal : ℕ) → List Given → Option (List ℕ) → Answer Started
-carrying_emit d w place signal args detail = do
+unfoldable pub emit_from_event : Definition → World → (place signal : ℕ) → List Given → Option (List ℕ) → Answer Started
+emit_from_event d w place signal args detail = do
   id ← held_object w place
   stands ← detail_in d w id signal detail
   given ← given_values w args
   starts w (Beginning (new_emission id signal stands given true) ∷ [])
 
 -- the builder lets an object go
-unfoldable pub carrying_release : Definition → World → ℕ → Answer Started
-carrying_release d w place = do
+unfoldable pub release_from_event : Definition → World → ℕ → Answer Started
+release_from_event d w place = do
   p ← known arms.Code (place_at d place)
   _ ← held_object w place
-  starts (with_held (said d w (lines.release p.id)) place released) []
+  starts (with_builder_entry (said d w (lines.release p.id)) place released) []
 
 -- what a request does
-abbrev pub carrying : Definition → World → Request → Answer Started
-carrying d w (config.set place slot given) = carrying_set d w place slot given
-carrying d w (config.get place slot) = carrying_get d w place slot
-carrying d w (config.emit place signal args detail) = carrying_emit d w place signal args detail
-carrying d w (config.release place) = carrying_release d w place
+abbrev pub request_step : Definition → World → Request → Answer Started
+request_step d w (config.set place slot given) = set_from_event d w place slot given
+request_step d w (config.get place slot) = get_from_event d w place slot
+request_step d w (config.emit place signal args detail) = emit_from_event d w place signal args detail
+request_step d w (config.release place) = release_from_event d w place
 
 -- ** which events are refused
 
 -- whether the builder has let an object go
-abbrev pub is_released : Held → Bool
+abbrev pub is_released : BuilderEntry → Bool
 is_released unbuilt = false
 is_released (built id) = false
 is_released released = true
@@ -88,14 +88,14 @@ is_released released = true
 -- whether a given value names such an object
 abbrev pub gives_released : World → Given → Bool
 gives_released w (value v) = false
-gives_released w (named place) = is_released (held_at w place)
+gives_released w (named place) = is_released (builder_entry w place)
 
 -- whether a request names an object that was released, in any position
 abbrev pub names_released : World → Request → Bool
-names_released w (config.set place slot given) = is_released (held_at w place) || gives_released w given
-names_released w (config.get place slot) = is_released (held_at w place)
-names_released w (config.emit place signal args detail) = is_released (held_at w place) || list_any (gives_released w) args
-names_released w (config.release place) = is_released (held_at w place)
+names_released w (config.set place slot given) = is_released (builder_entry w place) || gives_released w given
+names_released w (config.get place slot) = is_released (builder_entry w place)
+names_released w (config.emit place signal args detail) = is_released (builder_entry w place) || list_any (gives_released w) args
+names_released w (config.release place) = is_released (builder_entry w place)
 
 -- why an event is refused, which then leaves the world as it is
 pub data Refusal : Type 0 where

@@ -7,7 +7,7 @@ use Rattle.ui_machine.specs.Definition.Values.{Value}
 use Rattle.ui_machine.specs.Definition.Values as values
 use Rattle.ui_machine.specs.Rules.Transform.{kind_fits, is_one}
 use Rattle.ui_machine.specs.Definition.{Definition}
-use Rattle.ui_machine.specs.Definition.Programs.{Program, Block}
+use Rattle.ui_machine.specs.Definition.Programs.{Program, Block, passes_in}
 use Rattle.ui_machine.specs.Definition.Lookups.{program_at}
 use Rattle.ui_machine.specs.Output.Lines as lines
 use Rattle.ui_machine.specs.State.Objects.{Object, Objects, living, class_in}
@@ -56,7 +56,7 @@ first_registers p args = map (λ v. Some v) args ++ replicate (p.registers - len
 -- how often a block is passed; what a program has no block for is passed once
 abbrev pub passes_of : Option Block → ℕ
 passes_of None = 1
-passes_of (Some b) = b.passes
+passes_of (Some b) = passes_in b
 
 -- a program at its first instruction
 abbrev pub first_frame : ℕ → Program → List Value → Frame

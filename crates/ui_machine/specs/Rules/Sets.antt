@@ -82,8 +82,8 @@ unless_disposed os (values.object None) = values.object None
 unless_disposed os (values.object (Some i)) = values.object (cond (is_disposed (living os i)) None (Some i))
 
 -- the value that is written: a weak property takes no disposed object
-abbrev pub kept : Objects → Spec → Value → Value
-kept os s v = cond s.weak (unless_disposed os v) v
+abbrev pub without_disposed : Objects → Spec → Value → Value
+without_disposed os s v = cond s.weak (unless_disposed os v) v
 
 -- a value is written and told of, and the notification raised
 unfoldable pub written : Definition → World → ℕ → ℕ → Spec → Value → Answer Started
@@ -94,7 +94,7 @@ written d w id slot s v = do
 -- a set whose value validation would change is refused, unless the property is lax
 abbrev pub settled : Definition → World → ℕ → ℕ → Spec → Value → Value → Answer Started
 settled d w id slot s v valid =
-    cond (same_value valid v || is_lax s) (written d w id slot s (kept w.objects s valid))
+    cond (same_value valid v || is_lax s) (written d w id slot s (without_disposed w.objects s valid))
     (starts (said d w (lines.refused id s.name v)) [])
 
 -- a due set

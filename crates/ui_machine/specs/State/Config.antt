@@ -14,10 +14,10 @@ use Rattle.ui_machine.specs.State.Sources.{Source}
 use Rattle.ui_machine.specs.State.Tasks.{Task}
 
 -- what the builder has of a definition's object
-pub data Held : Type 0 where
-  unbuilt : Held
-  built : (object : ℕ) → Held
-  released : Held
+pub data BuilderEntry : Type 0 where
+  unbuilt : BuilderEntry
+  built : (object : ℕ) → BuilderEntry
+  released : BuilderEntry
 
 -- ** the configuration
 
@@ -30,7 +30,7 @@ pub record World : Type 0 where
   pub sources : List Source  -- in order of attachment
   pub last_source : ℕ
   pub floating : List ℕ
-  pub builder : List Held  -- by place, as far as it has built
+  pub builder : List BuilderEntry  -- by place, as far as it has built
   pub peers : List Peer
   pub moment : ℕ  -- of the latest turn
   pub transcript : List (List ℕ)  -- whole lines, without their LF
@@ -53,18 +53,18 @@ abbrev pub with_objects : World → Objects → World
 with_objects w os = record w { objects = os }
 
 -- what the builder has of a place
-abbrev pub held_at : World → ℕ → Held
-held_at w place = read unbuilt w.builder place
+abbrev pub builder_entry : World → ℕ → BuilderEntry
+builder_entry w place = read unbuilt w.builder place
 
 -- whether the builder has not come to a place yet
-abbrev pub is_unbuilt : Held → Bool
+abbrev pub is_unbuilt : BuilderEntry → Bool
 is_unbuilt unbuilt = true
 is_unbuilt (built id) = false
 is_unbuilt released = false
 
 -- the builder has this of a place
-abbrev pub with_held : World → ℕ → Held → World
-with_held w place held = record w { builder = write unbuilt w.builder place held }
+abbrev pub with_builder_entry : World → ℕ → BuilderEntry → World
+with_builder_entry w place held = record w { builder = write unbuilt w.builder place held }
 
 -- the list without one identity
 abbrev pub without : ℕ → List ℕ → List ℕ

@@ -6,10 +6,10 @@ use Rattle.ui_machine.specs.Definition.Properties.{Spec}
 use Rattle.ui_machine.specs.Definition.Values.{Value}
 use Rattle.ui_machine.specs.Definition.Values as values
 use Rattle.ui_machine.specs.Seq.{total}
-use Rattle.ui_machine.specs.State.Config.{Config, Held, built, released, unbuilt}
+use Rattle.ui_machine.specs.State.Config.{Config, BuilderEntry, built, released, unbuilt}
 use Rattle.ui_machine.specs.State.Objects.{Object, Objects}
 use Rattle.ui_machine.specs.State.Sources.{Source}
-use Rattle.ui_machine.specs.State.Tasks.{Answering, Beginning, Building, Calling, Carrying, Constructing, Due, Emission, Emitting, Notifying, Running, Setting, Task, Thawing, Transferring, Unsetting}
+use Rattle.ui_machine.specs.State.Tasks.{Answering, Beginning, Building, Calling, Handling, Constructing, Due, Emission, Emitting, Notifying, Running, Setting, Task, Thawing, Transferring, Unsetting}
 
 -- ** objects without a mention
 
@@ -77,7 +77,7 @@ in_task o (Answering source) = 0
 in_task o (Calling call) = same o call.object + total (in_value o) call.args
 in_task o (Constructing object steps held) = same o object
 in_task o (Building items) = 0
-in_task o (Carrying request) = 0
+in_task o (Handling request) = 0
 in_task o (Due source) = 0
 
 -- a source holds its data
@@ -85,7 +85,7 @@ abbrev pub in_source : ℕ → Source → ℕ
 in_source o s = in_option o s.arg
 
 -- what the builder has built
-abbrev pub in_held : ℕ → Held → ℕ
+abbrev pub in_held : ℕ → BuilderEntry → ℕ
 in_held o unbuilt = 0
 in_held o (built i) = same o i
 in_held o released = 0

@@ -20,10 +20,10 @@ pub record Emission : Type 0 where
   pub cleanup : Bool  -- whether its cleanup stage has begun
 
 -- a step of a construction that is to come
-pub data Making : Type 0 where
-  sets : (slot : ℕ) (value : Value) → Making
-  runs : (program : ℕ) → Making
-  thaws : Making
+pub data ConstructStep : Type 0 where
+  sets : (slot : ℕ) (value : Value) → ConstructStep
+  runs : (program : ℕ) → ConstructStep
+  thaws : ConstructStep
 
 -- a step of the build that is to come
 pub data Item : Type 0 where
@@ -81,7 +81,7 @@ pub data Task : Type 0 where
   Running : (frame : Frame) → Task  -- the rest of a program
   Answering : (source : ℕ) → Task  -- a source whose program runs
   Calling : (call : Call) → Task  -- a peer is to answer
-  Constructing : (object : ℕ) (steps : List Making) (held : Bool) → Task  -- held: by the builder, once it has ended
+  Constructing : (object : ℕ) (steps : List ConstructStep) (held : Bool) → Task  -- held: by the builder, once it has ended
   Building : (items : List Item) → Task
-  Carrying : (request : Request) → Task
+  Handling : (request : Request) → Task
   Due : (source : ℕ) → Task  -- a ready source is to run

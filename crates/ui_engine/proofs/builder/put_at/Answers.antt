@@ -2,7 +2,7 @@ use Rattle.std.proofs.Common.{◌≡◌, refl, ◌<◌, ◌≤◌, length, map, 
 use Rattle.std.proofs.lemmas.List.{length-map}
 use Rattle.ui_machine.specs.Seq.{write}
 use Rattle.ui_machine.specs.State.Config.{unbuilt}
-use Rattle.ui_engine.specs.declared.builder.Held.TheVariants as held
+use Rattle.ui_engine.specs.declared.builder.BuilderEntry.TheVariants as held
 use Rattle.ui_engine.specs.View.{held_of}
 use Rattle.ui_engine.proofs.Built.{filled, held_more, held_set}
 use Rattle.ui_engine.proofs.builder.put_at.Goals as goal

@@ -8,7 +8,7 @@ use Rattle.handler_code.specs.declared.instruction.Instruction.{Instruction}
 use Rattle.handler_code.specs.Known.{IsKnownInstruction}
 use Rattle.handler_code.specs.Reading.Each.{each}
 use Rattle.handler_code.specs.Reading.Scopes.{scope_view}
-use Rattle.handler_code.specs.Reading.Programs.{code_in, instruction_behind, instruction_step}
+use Rattle.handler_code.specs.Reading.Programs.{code_in, instruction_behind, with_next_instruction}
 use Rattle.handler_code.proofs.Each.{adds, is_done, pushed}
 use Rattle.handler_code.proofs.Stopping.{stops_program}
 use Rattle.handler_code.proofs.reading.code.code_of.Goals as goal
@@ -17,7 +17,7 @@ pub returns-in_err-instruction-clause-read : goal.returns-in_err-instruction-cla
 unfolding code_in
 returns-in_err-instruction-clause-read c =
     let p = err_from_is_err_and c.from_residual.result c.from_residual.ensures.1 in
-    let step = instruction_step (scope_view c.args.scope.now) c.args.block in
+    let step = with_next_instruction (scope_view c.args.scope.now) c.args.block in
     let v = c.index-items-at.result in
     let code = map instruction_view c.items.code.items in
     rw (p.1, p.2) (stops_program step view c.args.items.now c.items.at code (each step 0 [] (map view c.args.items.now))
@@ -26,7 +26,7 @@ returns-in_err-instruction-clause-read c =
 
 pub items-preserved : goal.items-preserved
 items-preserved c =
-    let step = instruction_step (scope_view c.args.scope.now) c.args.block in
+    let step = with_next_instruction (scope_view c.args.scope.now) c.args.block in
     let v = c.index-items-at.result in
     let code = map instruction_view c.items.code.items in
     record {
@@ -41,5 +41,5 @@ items-preserved c =
 pub returns-clause-read : goal.returns-clause-read
 unfolding code_in
 returns-clause-read c =
-    let step = instruction_step (scope_view c.args.scope.now) c.args.block in
+    let step = with_next_instruction (scope_view c.args.scope.now) c.args.block in
     is_done step view c.args.items.now c.items.at (map instruction_view c.items.code.items) (each step 0 [] (map view c.args.items.now)) c.items-test.false c.items.invariant.read

@@ -4,12 +4,12 @@ use Rattle.handler_code.specs.View.{instruction_view}
 use Rattle.handler_code.specs.Known.{IsKnownInstruction}
 use Rattle.handler_code.specs.Reading.Each.{each}
 use Rattle.handler_code.specs.Reading.Scopes.{scope_view}
-use Rattle.handler_code.specs.Reading.Programs.{instruction_step}
+use Rattle.handler_code.specs.Reading.Programs.{with_next_instruction}
 use Rattle.handler_code.proofs.reading.code.code_of.Given as goal
 
 abbrev pub invariant-items : goal.invariant-items
 invariant-items l = record {
-  read : each (instruction_step (scope_view l.scope) l.block) l.at (map instruction_view l.code.items) (map view (drop l.at l.items))
-      ≡ each (instruction_step (scope_view l.scope) l.block) 0 [] (map view l.items);
+  read : each (with_next_instruction (scope_view l.scope) l.block) l.at (map instruction_view l.code.items) (map view (drop l.at l.items))
+      ≡ each (with_next_instruction (scope_view l.scope) l.block) 0 [] (map view l.items);
   known : All (λ i. IsKnownInstruction l.scope.types.now i) l.code.items;
 }

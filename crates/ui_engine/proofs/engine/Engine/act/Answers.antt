@@ -27,9 +27,9 @@ pub returns-in-Adopting-clause-counted : goal.returns-in-Adopting-clause-counted
 returns-in-Adopting-clause-counted c =
     done_plain c.args.definition.now c.args.self.now c.adopting.new.self c.args.task _ c.in-Adopting.is (λ o. refl) c.in_ok-adopting-in-Adopting.ensures.counted c.requires.counted
 
-pub returns-in-Carrying-clause-counted : goal.returns-in-Carrying-clause-counted
-returns-in-Carrying-clause-counted c =
-    done_plain c.args.definition.now c.args.self.now c.carrying.new.self c.args.task _ c.in-Carrying.is (λ o. refl) c.in_ok-carrying-in-Carrying.ensures.counted c.requires.counted
+pub returns-in-Handling-clause-counted : goal.returns-in-Handling-clause-counted
+returns-in-Handling-clause-counted c =
+    done_plain c.args.definition.now c.args.self.now c.handle_event.new.self c.args.task _ c.in-Handling.is (λ o. refl) c.in_ok-handle_event-in-Handling.ensures.counted c.requires.counted
 
 pub returns-in-Setting-clause-step : goal.returns-in-Setting-clause-step
 returns-in-Setting-clause-step c = rw c.in-Setting.is (goes_whole c.args.definition.now c.setting.new.self (Ok (tt {0})) _ c.in_ok-setting-in-Setting.ensures.step)
@@ -55,8 +55,8 @@ returns-in-Building-clause-step c = rw c.in-Building.is (goes_whole c.args.defin
 pub returns-in-Adopting-clause-step : goal.returns-in-Adopting-clause-step
 returns-in-Adopting-clause-step c = rw c.in-Adopting.is (goes_whole c.args.definition.now c.adopting.new.self (Ok (tt {0})) _ c.in_ok-adopting-in-Adopting.ensures.step)
 
-pub returns-in-Carrying-clause-step : goal.returns-in-Carrying-clause-step
-returns-in-Carrying-clause-step c = rw c.in-Carrying.is (goes_whole c.args.definition.now c.carrying.new.self (Ok (tt {0})) _ c.in_ok-carrying-in-Carrying.ensures.step)
+pub returns-in-Handling-clause-step : goal.returns-in-Handling-clause-step
+returns-in-Handling-clause-step c = rw c.in-Handling.is (goes_whole c.args.definition.now c.handle_event.new.self (Ok (tt {0})) _ c.in_ok-handle_event-in-Handling.ensures.step)
 
 pub returns-in-Connecting-clause-counted : goal.returns-in-Connecting-clause-counted
 returns-in-Connecting-clause-counted c =

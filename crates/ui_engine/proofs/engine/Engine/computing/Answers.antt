@@ -1,6 +1,6 @@
 use Rattle.std.proofs.Common.{◌≡◌, ap, subst, sym}
 use Rattle.std.proofs.lemmas.Result.{err_from_is_err_and}
-use Rattle.ui_machine.specs.Instructions.{in_front, instructed}
+use Rattle.ui_machine.specs.Instructions.{in_front, instruction_step}
 use Rattle.handler_code.specs.Computing.{instruction_of, registers_of, writes}
 use Rattle.handler_code.specs.declared.computation.Computed.{Computed}
 use Rattle.handler_code.specs.FrameView.{frame_view}
@@ -25,5 +25,5 @@ returns-in-TooLong-clause-step c =
     let f = frame_view c.args.frame in
     let rest = agenda_of d e in
     let comes = c.in_ok-computed.ensures.computed d w rest f c.args.to.0 (sym c.types-types.ensures.types) (ap (λ rs. registers_of rs) (sym c.as_slice.ensures.value)) in
-    let long = subst (λ (x : Computed). instructed d w rest f (instruction_of c.args.computation.now c.args.to.0) ≡ in_front rest (writes d w f c.args.to.0 x)) c.in-TooLong.is comes in
+    let long = subst (λ (x : Computed). instruction_step d w rest f (instruction_of c.args.computation.now c.args.to.0) ≡ in_front rest (writes d w f c.args.to.0 x)) c.in-TooLong.is comes in
     rw long c.writing_at_limit.ensures.step

@@ -11,17 +11,17 @@ use Rattle.ui_engine.proofs.Counts.{config_same, taken_off, given_back, same_tas
 use Rattle.ui_engine.proofs.Stepping.{first_stepped, first_grows}
 use Rattle.ui_engine.proofs.engine.Engine.first_task.Goals as goal
 
-pub settle-requires-clause-none : goal.settle-requires-clause-none
-settle-requires-clause-none c =
+pub sink_first_floating-requires-clause-none : goal.sink_first_floating-requires-clause-none
+sink_first_floating-requires-clause-none c =
     let d = c.args.definition.now in
     let none = c.in_default.ensures.tasks d c.args.self.now.world.handlers.handlers in
     subst (λ (ts : List Task). NoneUnheld d (record (config_of d c.args.self.now) { agenda = ts })) (none.0 ∙ sym none.1) c.requires.none
 
-pub settle-requires-clause-idle : goal.settle-requires-clause-idle
-settle-requires-clause-idle c = (c.in_default.ensures.tasks c.args.definition.now c.args.self.now.world.handlers.handlers).1
+pub sink_first_floating-requires-clause-idle : goal.sink_first_floating-requires-clause-idle
+sink_first_floating-requires-clause-idle c = (c.in_default.ensures.tasks c.args.definition.now c.args.self.now.world.handlers.handlers).1
 
-pub settle-requires-clause-counted : goal.settle-requires-clause-counted
-settle-requires-clause-counted c =
+pub sink_first_floating-requires-clause-counted : goal.sink_first_floating-requires-clause-counted
+sink_first_floating-requires-clause-counted c =
     let d = c.args.definition.now in
     let none = c.in_default.ensures.tasks d c.args.self.now.world.handlers.handlers in
     same_tasks d c.args.self.now c.pop.new.self (none.1 ∙ sym none.0) c.in_default.ensures.begun c.requires.counted
@@ -30,8 +30,8 @@ pub returns-in_default-clause-stepped : goal.returns-in_default-clause-stepped
 returns-in_default-clause-stepped c =
     let d = c.args.definition.now in
     let none = c.in_default.ensures.tasks d c.args.self.now.world.handlers.handlers in
-    subst (λ (ts : List Task). Stepped (Ok c.settle.result) d (record (config_of d c.args.self.now) { agenda = ts }) (config_of d c.settle.new.self)) (none.1 ∙ sym none.0)
-    c.settle.ensures.stepped
+    subst (λ (ts : List Task). Stepped (Ok c.sink_first_floating.result) d (record (config_of d c.args.self.now) { agenda = ts }) (config_of d c.sink_first_floating.new.self)) (none.1 ∙ sym none.0)
+    c.sink_first_floating.ensures.stepped
 
 pub returns-in_err-made-clause-stepped : goal.returns-in_err-made-clause-stepped
 returns-in_err-made-clause-stepped c =

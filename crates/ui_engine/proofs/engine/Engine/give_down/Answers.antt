@@ -51,7 +51,7 @@ returns-in_default-task-clause-step c =
     other (tasks.Building place forwards) is = tt
     other (tasks.Adopting place forwards) is = tt
     other (tasks.Connecting place number) is = tt
-    other (tasks.Carrying event) is = tt
+    other (tasks.Handling event) is = tt
 
 pub returns-in_default-task-clause-counted : goal.returns-in_default-task-clause-counted
 returns-in_default-task-clause-counted c =

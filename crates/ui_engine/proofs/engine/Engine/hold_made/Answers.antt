@@ -1,6 +1,6 @@
 use Rattle.std.proofs.Common.{◌≡◌, true, false, refl, sym, ap, ◌∙◌}
 use Rattle.std.proofs.lemmas.Result.{err_from_is_err_and}
-use Rattle.ui_machine.specs.State.Config.{held_at, is_unbuilt}
+use Rattle.ui_machine.specs.State.Config.{builder_entry, is_unbuilt}
 use Rattle.ui_machine.specs.Steps.{uncounted}
 use Rattle.ui_engine.specs.View.{world_of}
 use Rattle.ui_engine.specs.TaskView.{agenda_of}
@@ -8,7 +8,7 @@ use Rattle.ui_engine.proofs.Built.{no_object, held_before, held_now}
 use Rattle.instances.specs.Store.{Store}
 use Rattle.std.proofs.Common.{ℕ, ◌+◌, map, List, arith}
 use Rattle.ui_machine.specs.Seq.{total}
-use Rattle.ui_machine.specs.State.Config.{Held, unbuilt, built}
+use Rattle.ui_machine.specs.State.Config.{BuilderEntry, unbuilt, built}
 use Rattle.ui_machine.specs.State.References.{same, in_held}
 use Rattle.ui_engine.specs.View.{held_of}
 use Rattle.ui_engine.proofs.Lists.{total-written}
@@ -26,19 +26,19 @@ pub returns-then-not-is_unbuilt-clause-step : goal.returns-then-not-is_unbuilt-c
 returns-then-not-is_unbuilt-clause-step c =
     let w = world_of c.args.self.now.world in
     let rest = agenda_of c.args.definition.now c.args.self.now in
-    let there : is_unbuilt (held_at w c.in_ok-place.place.0) ≡ false = ap is_unbuilt (sym c.held.ensures) ∙ sym c.is_unbuilt.ensures ∙ c.if-not-is_unbuilt.true in
+    let there : is_unbuilt (builder_entry w c.in_ok-place.place.0) ≡ false = ap is_unbuilt (sym c.held.ensures) ∙ sym c.is_unbuilt.ensures ∙ c.if-not-is_unbuilt.true in
     ap (uncounted rest c.args.self.now.counted) (held_before w c.args.object.0 c.in_ok-place.place.0 c.in_ok-place.ensures there)
 
 pub returns-clause-step : goal.returns-clause-step
 returns-clause-step c =
     let w = world_of c.args.self.now.world in
     let rest = agenda_of c.args.definition.now c.args.self.now in
-    let there : is_unbuilt (held_at w c.in_ok-place.place.0) ≡ true =
+    let there : is_unbuilt (builder_entry w c.in_ok-place.place.0) ≡ true =
     ap is_unbuilt (sym c.held.ensures) ∙ sym c.is_unbuilt.ensures ∙ c.if-not-is_unbuilt.false in
     let floats = ap (λ (s : Store). s.floating) c.sink.ensures.beside in
     let objects = ap (λ (s : Store). s.objects) c.sink.ensures.beside in
     ap (uncounted rest c.args.self.now.counted) (held_now w c.args.object.0 c.in_ok-place.place.0 c.in_ok-place.ensures there)
-    ∙ rw (floats, objects, c.hold_any.ensures.only.floating, c.hold_any.ensures.only.objects, c.in_ok-put_held.ensures) refl
+    ∙ rw (floats, objects, c.hold_any.ensures.only.floating, c.hold_any.ensures.only.objects, c.in_ok-set_builder_entry.ensures) refl
 
 pub returns-clause-counted : goal.returns-clause-counted
 returns-clause-counted c =
@@ -48,12 +48,12 @@ returns-clause-counted c =
     let id = c.args.object.0 in
     let place = c.in_ok-place.place.0 in
     let b = map held_of e.world.builder.items in
-    let n = map held_of c.put_held.new.builder.items in
+    let n = map held_of c.set_builder_entry.new.builder.items in
     let a = agenda_of d e in
-    let there : is_unbuilt (held_at w place) ≡ true =
+    let there : is_unbuilt (builder_entry w place) ≡ true =
     ap is_unbuilt (sym c.held.ensures) ∙ sym c.is_unbuilt.ensures ∙ c.if-not-is_unbuilt.false in
     let more : (o : ℕ) → total (in_held o) n ≡ total (in_held o) b + same o id =
-    λ o. ap (λ (hs : List Held). total (in_held o) hs) c.in_ok-put_held.ensures ∙ total-written (in_held o) unbuilt b place (built id) refl (holds_nothing o (held_at w place) there) in
+    λ o. ap (λ (hs : List BuilderEntry). total (in_held o) hs) c.in_ok-set_builder_entry.ensures ∙ total-written (in_held o) unbuilt b place (built id) refl (holds_nothing o (builder_entry w place) there) in
     keeps_by d e _ refl (stays d e _ refl refl) (λ taken _ h.
     sunk_exact d taken c.hold_any.new.table c.sink.new.self n a id c.sink.ensures
     (holder_more d taken e.world.table c.hold_any.new.table b n a a (λ o. same o id) c.hold_any.ensures.only c.in_ok-hold_any.ensures.counts

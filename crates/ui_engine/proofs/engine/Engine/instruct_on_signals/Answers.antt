@@ -1,6 +1,6 @@
 use Rattle.std.proofs.Common.{◌≡◌, false, refl, Err}
 use Rattle.ui_machine.specs.declared.arm.Arm.TheVariants as arms
-use Rattle.ui_machine.specs.Instructions.{instructed}
+use Rattle.ui_machine.specs.Instructions.{instruction_step}
 use Rattle.ui_machine.specs.Steps.{left}
 use Rattle.handler_code.specs.FrameView.{frame_view}
 use Rattle.handler_code.specs.Later.{is_later}
@@ -16,7 +16,7 @@ pub returns-in_default-clause-step : goal.returns-in_default-clause-step
 returns-in_default-clause-step c = by c.args.instruction.now refl c.requires.acts c.requires.later
   where
     by : (i : Instruction) → c.args.instruction.now ≡ i → ActsOnSignals i → is_later (instruction_view i) ≡ false
-        → left c.args.self.now.counted (instructed c.args.definition.now (world_of c.args.self.now.world) (agenda_of c.args.definition.now c.args.self.now) (frame_view c.args.frame) (instruction_view i)) ≡ Err arms.Code
+        → left c.args.self.now.counted (instruction_step c.args.definition.now (world_of c.args.self.now.world) (agenda_of c.args.definition.now c.args.self.now) (frame_view c.args.frame) (instruction_view i)) ≡ Err arms.Code
     by instructions.Stop is acts later = absurd (c.in_default.not-Stop is)
     by (instructions.Emit into object signal detail args) is acts later = absurd (c.in_default.not-Emit into object signal detail args is)
     by (instructions.Connect to object connection) is acts later = absurd (c.in_default.not-Connect to object connection is)

@@ -1,6 +1,6 @@
 use Rattle.std.proofs.Common.{ap, subst, suc, sym, ◌∙◌}
 use Rattle.ui_machine.specs.Definition.Lookups.{program_at}
-use Rattle.ui_machine.specs.Instructions.{instructed, running}
+use Rattle.ui_machine.specs.Instructions.{instruction_step, running}
 use Rattle.ui_machine.specs.Outcome.{Answer}
 use Rattle.ui_machine.specs.Seq.{total}
 use Rattle.ui_machine.specs.State.Config.{Config}
@@ -61,5 +61,5 @@ returns-clause-step c =
     let is = c.in_ok-count.ensures.ok.1 in
     let whole = left_counted e.counted (running d (world_of e.world) (agenda_of d e) f) c.in_ok-count.ensures.ok.0
     ∙ ap (left (suc e.counted)) (takes_instruction d (world_of e.world) (agenda_of d e) f (program_view c.in-Some.program.now) (sym c.in-Some.ensures.program) t c.in-Some-take.ensures)
-    ∙ ap (λ (g : Engine). left g.counted (instructed d (world_of g.world) (agenda_of d g) t.frame t.instruction)) (sym is) in
+    ∙ ap (λ (g : Engine). left g.counted (instruction_step d (world_of g.world) (agenda_of d g) t.frame t.instruction)) (sym is) in
     subst (λ (a : Answer Config). GoesPruned c.carry_out.result a (config_of d c.carry_out.new.self)) (sym whole) c.carry_out.ensures.step

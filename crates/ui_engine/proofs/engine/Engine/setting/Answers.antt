@@ -2,7 +2,7 @@ use Rattle.std.proofs.Common.{◌≡◌, true, false, Err, refl, sym, ap, subst,
 use Rattle.std.proofs.lemmas.Result.{err_from_is_err_and}
 use Rattle.ui_machine.specs.Definition.Values.{Value}
 use Rattle.ui_machine.specs.State.Objects.{class_in}
-use Rattle.ui_machine.specs.Rules.Sets.{has_kind, lives, kept}
+use Rattle.ui_machine.specs.Rules.Sets.{has_kind, lives, without_disposed}
 use Rattle.ui_machine.specs.Steps.{uncounted}
 use Rattle.g_values.specs.View.{value_view}
 use Rattle.param_specs.specs.View.{spec_view}
@@ -75,7 +75,7 @@ returns-in_err-put-clause-step c =
     let kind : has_kind x s.kind ≡ true = subst (λ (v : Value). has_kind v s.kind ≡ true) (sym live.1) (sym c.if-not-has_kind.ensures) in
     let alive : lives w.objects x ≡ true = subst (λ (v : Value). lives w.objects v ≡ true) (sym live.1) live.0 in
     let knows = c.in_ok-known.ensures.class in
-    let told = written_by_flag d w c.args.object.0 c.args.slot x s c.in_ok-spec.ensures.spec plain kind alive false _ (value_view c.kept-kept.result) refl c.if-refuses.ensures (rw c.types.ensures.types at (c.validate-valid.ensures.changed (class_in w.objects) knows)) (c.kept-kept.ensures ∙ ap (kept w.objects s) (rw c.types.ensures.types at (c.validate-valid.ensures.value (class_in w.objects) knows))) in
+    let told = written_by_flag d w c.args.object.0 c.args.slot x s c.in_ok-spec.ensures.spec plain kind alive false _ (value_view c.without_disposed-without_disposed.result) refl c.if-refuses.ensures (rw c.types.ensures.types at (c.validate-valid.ensures.changed (class_in w.objects) knows)) (c.without_disposed-without_disposed.ensures ∙ ap (without_disposed w.objects s) (rw c.types.ensures.types at (c.validate-valid.ensures.value (class_in w.objects) knows))) in
     let p = err_from_is_err_and c.from_residual-in_err-put.result c.from_residual-in_err-put.ensures.1 in
     rw (p.1, p.2, ← live.1, told) c.in_err-put.ensures.step
 
@@ -90,5 +90,5 @@ returns-clause-step c =
     let kind : has_kind x s.kind ≡ true = subst (λ (v : Value). has_kind v s.kind ≡ true) (sym live.1) (sym c.if-not-has_kind.ensures) in
     let alive : lives w.objects x ≡ true = subst (λ (v : Value). lives w.objects v ≡ true) (sym live.1) live.0 in
     let knows = c.in_ok-known.ensures.class in
-    let told = written_by_flag d w c.args.object.0 c.args.slot x s c.in_ok-spec.ensures.spec plain kind alive false _ (value_view c.kept-kept.result) refl c.if-refuses.ensures (rw c.types.ensures.types at (c.validate-valid.ensures.changed (class_in w.objects) knows)) (c.kept-kept.ensures ∙ ap (kept w.objects s) (rw c.types.ensures.types at (c.validate-valid.ensures.value (class_in w.objects) knows))) in
+    let told = written_by_flag d w c.args.object.0 c.args.slot x s c.in_ok-spec.ensures.spec plain kind alive false _ (value_view c.without_disposed-without_disposed.result) refl c.if-refuses.ensures (rw c.types.ensures.types at (c.validate-valid.ensures.changed (class_in w.objects) knows)) (c.without_disposed-without_disposed.ensures ∙ ap (without_disposed w.objects s) (rw c.types.ensures.types at (c.validate-valid.ensures.value (class_in w.objects) knows))) in
     rw (← live.1) (ap (uncounted (agenda_of d c.args.self.now) c.args.self.now.counted) told ∙ c.in_ok-put.ensures.step)

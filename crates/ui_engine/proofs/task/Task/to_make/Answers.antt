@@ -30,4 +30,4 @@ returns-in_default c hs = by c.args.self.now refl
     by (tasks.Running frame) is = refl
     by (tasks.Thawing object slots) is = refl
     by (tasks.Constructing object steps held) is = refl
-    by (tasks.Carrying event) is = refl
+    by (tasks.Handling event) is = refl
