@@ -1,13 +1,1 @@
-pub mod Lines
-pub mod Texts
-pub mod EventFileRun
-pub mod Writing
-pub mod Reading
-pub mod LineOutcome
-pub mod Events
-pub mod RunOver
-pub mod Opening
-pub mod OpeningView
-pub mod Files
-pub mod Endings
 pub mod CommandLine

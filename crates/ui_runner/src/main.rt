@@ -3,41 +3,14 @@
 
 ghost use Rattle.std.specs.Prelude.{◌≡◌, false};
 
-mod chunk;
 mod command_line;
-mod definition_file;
-mod devices;
-mod ending;
-mod event_file;
-#[cfg(test)]
-mod fakes;
-mod gather;
-mod line_handler;
-mod line_outcome;
-mod line_reader;
-mod opening;
-mod output;
-mod refusal;
-mod run;
-#[cfg(test)]
-mod tests;
-mod writing;
 
 use command_line::{Request, WordsFault, read_words};
-use definition_file::{FileFault, definition_bytes};
-use devices::Counted;
-use ending::Ending;
-use run::run;
+use event_lines::{Counted, Ending, FileFault, definition_bytes, run};
 use std::env;
 use std::fs::File;
 use std::process::ExitCode;
 use ui_machine::Device;
-
-/// The most bytes of an event line, without its LF.
-pub const LINE_LIMIT: usize = 65_536;
-
-/// The most event lines.
-pub const MOST_LINES: u64 = 65_536;
 
 fn main(rt: HostRuntime) -> ExitCode {
     ExitCode::from(status(&rt))

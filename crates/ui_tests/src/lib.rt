@@ -9,6 +9,10 @@ mod bindings_tests;
 #[cfg(test)]
 mod builder_defs_tests;
 #[cfg(test)]
+mod event_lines_tests;
+#[cfg(test)]
+mod fakes;
+#[cfg(test)]
 mod fixtures;
 #[cfg(test)]
 mod g_values_tests;

@@ -1,0 +1,82 @@
+-- What a session's answers are to the lines that it hears.
+use Rattle.std.proofs.Common.{◌≡◌, ℕ, Bool, true, false, List, [], ◌∷◌, ◌++◌, length, drop, Option, None, Some, Ok, Err, refl, sym, ap, ◌∙◌, inl, inr}
+use Rattle.ui_machine.specs.State.Tasks.{Event}
+use Rattle.ui_machine.specs.Rules.Events.{Refusal, gone, clock_back, refusal}
+use Rattle.builder_defs.specs.EventMeaning.{event_refusal, event_denoted, Fails}
+use Rattle.builder_defs.specs.declared.event_fault.EventError.{EventError}
+use Rattle.builder_defs.specs.declared.event_fault.EventError.TheVariants as errors
+use Rattle.ui_machine.specs.Prefix.{IsPrefix}
+use Rattle.ui_engine.specs.declared.dispatch.Reply.{Reply}
+use Rattle.ui_engine.specs.declared.session.SessionFault.{SessionFault}
+use Rattle.ui_engine.specs.declared.session.SessionFault.TheVariants as ends
+use Rattle.ui_engine.specs.SessionView.{SessionState, tally_of, AnswersBy, AnswersEvent}
+use Rattle.event_lines.specs.LineOutcome.{outcome_of, reading_fault, dispatch_fault}
+use Rattle.event_lines.specs.Events.{Says, event_replies}
+
+drop_front : {A : Type 0} (xs ys : List A) → drop (length xs) (xs ++ ys) ≡ ys
+drop_front [] ys = refl
+drop_front (x ∷ xs) ys = drop_front xs ys
+
+drop_all : {A : Type 0} (xs : List A) → drop (length xs) xs ≡ []
+drop_all [] = refl
+drop_all (x ∷ xs) = drop_all xs
+
+-- what grew is what it was and the rest
+pub grown : {A : Type 0} (xs ys : List A) → IsPrefix xs ys → ys ≡ xs ++ drop (length xs) ys
+grown xs ys longer =
+    longer.whole ∙ ap (λ more. xs ++ more) (sym (ap (drop (length xs)) longer.whole ∙ drop_front xs longer.more))
+
+-- the lines that a session said since
+abbrev since : SessionState → SessionState → List (List ℕ)
+since old new = drop (length old.world.transcript) new.world.transcript
+
+module _ (old : SessionState) (line : List ℕ) where
+  pub unread : (error : EventError) → Fails error (event_denoted old.definition line) → event_replies old line (outcome_of {T = Unit {0}} (Err (reading_fault error)) (since old old)) old
+  unread errors.OutOfMemory fails = inr (refl, drop_all old.world.transcript, refl)
+  unread (errors.Refused fault) fails = (inl (record { refusal = event_refusal fault; denotes = fails }, refl), refl)
+
+  module _ (event : Event) (denotes : event_denoted old.definition line ≡ Ok event) (new : SessionState) (longer : IsPrefix old.world.transcript new.world.transcript) where
+    pub said_event : (reply : Reply) → AnswersEvent old.stopped (Ok reply) old event new → Says old line (since old new) new
+    said_event reply answers = by old.stopped answers
+      where
+        on : (why : Option Refusal) → refusal old.world event ≡ why → AnswersBy why (Ok reply) old event new → Says old line (since old new) new
+        on (Some gone) why h = cc h.0
+        on (Some clock_back) why h = absurd h
+        on None why h = record {
+          event = event;
+          tally = tally_of reply;
+          denotes = denotes;
+          serves = h.leads;
+          shows = grown old.world.transcript new.world.transcript longer;
+          definition = h.definition;
+          goes_on = h.goes_on;
+        }
+
+        by : (b : Bool) → AnswersEvent b (Ok reply) old event new → Says old line (since old new) new
+        by true h = cc h.0
+        by false h = on (refusal old.world event) refl h
+
+    pub halted : (fault : SessionFault) → AnswersEvent old.stopped (Err fault) old event new → event_replies old line (outcome_of {T = Unit {0}} (Err (dispatch_fault fault)) (since old new)) new
+    halted fault answers = by old.stopped fault answers
+      where
+        shows : new.world.transcript ≡ old.world.transcript ++ since old new
+        shows = grown old.world.transcript new.world.transcript longer
+
+        on : (why : Option Refusal) (fault : SessionFault) → refusal old.world event ≡ why → AnswersBy why (Err fault) old event new
+            → event_replies old line (outcome_of {T = Unit {0}} (Err (dispatch_fault fault)) (since old new)) new
+        on (Some gone) ends.Released why h = (inr (record { event = event; denotes = denotes; refuses = why }, refl), h.1)
+        on (Some gone) ends.Stopped why h = cc h.0
+        on (Some gone) ends.OutOfMemory why h = cc h.0
+        on (Some gone) (ends.Stuck arm) why h = cc h.0
+        on (Some clock_back) fault why h = absurd h
+        on None ends.OutOfMemory why h = inl (record { event = event; denotes = denotes; halts = h.halts; shows = shows; definition = h.definition; stops = h.stops })
+        on None (ends.Stuck arm) why h = inl (record { event = event; denotes = denotes; halts = h.halts; shows = shows; definition = h.definition; stops = h.stops })
+        on None ends.Stopped why h = absurd h
+        on None ends.Released why h = absurd h
+
+        by : (b : Bool) (fault : SessionFault) → AnswersEvent b (Err fault) old event new → event_replies old line (outcome_of {T = Unit {0}} (Err (dispatch_fault fault)) (since old new)) new
+        by true ends.Stopped h = inr (refl, ap (since old) h.1 ∙ drop_all old.world.transcript, h.1)
+        by true ends.OutOfMemory h = cc h.0
+        by true (ends.Stuck arm) h = cc h.0
+        by true ends.Released h = cc h.0
+        by false fault h = on (refusal old.world event) fault refl h

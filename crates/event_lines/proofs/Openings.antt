@@ -1,0 +1,238 @@
+-- How a run opens, and what follows.
+use Rattle.std.proofs.Common.{◌≡◌, ℕ, ◌+◌, ◌-◌, ◌/◌, Bool, true, false, List, [], ◌∷◌, ◌++◌, take, length, length-append, arith, append_assoc, append-nil, codes, String, Global, Option, Some, None, Result, Ok, Err, refl, sym, ap, subst, ◌∙◌, inl, inr}
+use Rattle.std.specs.Prelude.{IfSome, string_bytes, ◌⊎◌}
+use Rattle.std.proofs.KnownBytes.{Appends-trans}
+use Rattle.ui_machine.specs.declared.arm.Halt.{Halt}
+use Rattle.ui_machine.specs.declared.arm.Halt.TheVariants as halts
+use Rattle.ui_machine.specs.Definition.{Definition}
+use Rattle.ui_machine.specs.Runs.{of_build, Carries, Halts}
+use Rattle.builder_defs.specs.Denoted.{denoted}
+use Rattle.ui_engine.specs.declared.dispatch.Reply.{Reply}
+use Rattle.ui_engine.specs.declared.session.SessionFault.{SessionFault}
+use Rattle.ui_engine.specs.declared.session.SessionFault.TheVariants as faults
+use Rattle.ui_engine.specs.SessionView.{SessionState, without_lines, building, tally_of, Comes, Breaks}
+use Rattle.builder_defs.specs.Refusals.{Refusal}
+use Rattle.builder_defs.specs.FaultText.{refusal_text}
+use Rattle.event_lines.specs.declared.opening.Opening.TheVariants as code
+use Rattle.event_lines.specs.OpeningView.{IsOpening, Opened, halt_of}
+use Rattle.event_lines.specs.Texts.{joined, lines_text, nothing_begun, build_stopped}
+use Rattle.event_lines.specs.EventFileRun.{EventFileRun, InStep, text_from}
+use Rattle.event_lines.specs.Events.{event_replies}
+use Rattle.event_lines.proofs.Runs.{few_writes, few_after}
+use Rattle.event_lines.proofs.RunOver.{runs_over}
+use Rattle.event_lines.specs.Writing.{Sent, Passes, Tears, Finishes, Sends}
+use Rattle.ui_machine.specs.Prefix.{IsPrefix}
+use Rattle.event_lines.specs.Lines.{lines_of}
+use Rattle.event_lines.specs.Opening.{Opening, refused, unbegun, built, stopped, Opens, Concludes, Plays, Proceeds, Ran}
+
+module _ (bytes : List ℕ) (d : Definition) (s : SessionState) (denotes : denoted bytes ≡ Ok d) where
+  pub opens_built : (build : Result Reply SessionFault) → Comes build (building d) d s → halt_of build ≡ None → Opens bytes (built s)
+  opens_built (Ok reply) comes none = (
+    denotes ∙ ap Ok (sym comes.definition),
+    record {
+      tally = tally_of reply;
+      carries = subst (λ (e : Definition). Carries e (of_build e []) [] (tally_of reply) s.world) (sym comes.definition) comes.leads;
+      goes_on = comes.goes_on;
+    },
+  )
+  opens_built (Err faults.OutOfMemory) comes none = cc none
+  opens_built (Err (faults.Stuck arm)) comes none = cc none
+  opens_built (Err faults.Stopped) comes none = absurd comes
+  opens_built (Err faults.Released) comes none = absurd comes
+
+  broken : (halt found : Halt) → Some found ≡ Some halt → Breaks found (building d) d s → Opens bytes (stopped s halt)
+  broken halt found same breaks =
+      let is : found ≡ halt = cc same in (
+        denotes ∙ ap Ok (sym breaks.definition),
+        record {
+          halts = subst (λ (h : Halt). Halts s.definition [] (of_build s.definition []) h s.world.transcript) is
+              (subst (λ (e : Definition). Halts e [] (of_build e []) found s.world.transcript) (sym breaks.definition) breaks.halts);
+          stops = breaks.stops;
+        },
+      )
+
+  pub opens_stopped : (halt : Halt) (build : Result Reply SessionFault) → Comes build (building d) d s → halt_of build ≡ Some halt → Opens bytes (stopped s halt)
+  opens_stopped halt (Ok reply) comes some = cc some
+  opens_stopped halt (Err faults.OutOfMemory) comes some = broken halt halts.OutOfMemory some comes
+  opens_stopped halt (Err (faults.Stuck arm)) comes some = broken halt (halts.Stuck arm) some comes
+  opens_stopped halt (Err faults.Stopped) comes some = absurd comes
+  opens_stopped halt (Err faults.Released) comes some = absurd comes
+
+-- ** what is written
+
+-- there are bytes that the reader's are, where these are known
+pub any_bytes : (a : Option (List ℕ)) → (input : List ℕ) × IfSome a (λ known. known ≡ input)
+any_bytes None = ([], tt)
+any_bytes (Some xs) = (xs, refl)
+
+-- a text was said where nothing was gathered, and the run ends
+pub concludes : (failed : Bool) (a b c : Sent) (p q whole : List ℕ) (answer status : ℕ) → p ≡ [] → Passes a p b q whole → Finishes answer status failed b q c
+    → (out : List ℕ) × Concludes whole answer status failed out × Sends 0 0 a c out
+concludes false a b c p q whole answer status none h f =
+    let w = f.whole refl in
+    let said : whole ≡ h.moved ++ q = ap (λ t. t ++ whole) (sym none) ∙ h.whole in (
+      h.moved ++ q,
+      inr (w.0, refl, sym said),
+      record {
+        appends = Appends-trans a.bytes b.bytes c.bytes h.moved q h.appends w.1;
+        few = let n = length-append h.moved q in few_writes 0 0 a.writes c.writes (length (h.moved ++ q)) (omega arith) (omega (arith, h.full, f.once, n));
+      },
+    )
+concludes true a b c p q whole answer status none h f =
+    let w = f.part refl in
+    let said : whole ≡ h.moved ++ q = ap (λ t. t ++ whole) (sym none) ∙ h.whole in (
+      h.moved ++ w.1.part,
+      inl (w.0, refl, record { more = w.1.more; whole = said ∙ ap (λ t. h.moved ++ t) w.1.split ∙ sym (append_assoc h.moved w.1.part w.1.more) }),
+      record {
+        appends = Appends-trans a.bytes b.bytes c.bytes h.moved w.1.part h.appends w.1.appends;
+        few = let n = length-append h.moved w.1.part in few_writes 0 0 a.writes c.writes (length (h.moved ++ w.1.part)) (omega arith) (omega (arith, h.full, f.once, n));
+      },
+    )
+
+pub concludes_torn : (failed : Bool) (a b : Sent) (p whole : List ℕ) (answer : ℕ) → p ≡ [] → failed ≡ true → Tears a p b whole → (out : List ℕ) × Concludes whole answer 4 failed out × Sends 0 0 a b out
+concludes_torn failed a b p whole answer none torn h = (
+  h.moved,
+  inl (refl, torn, record { more = h.lost; whole = ap (λ t. t ++ whole) (sym none) ∙ h.whole }),
+  record { appends = h.appends; few = few_writes 0 0 a.writes b.writes (length h.moved) (omega arith) (omega (arith, h.full)) },
+)
+
+-- also where something is read meanwhile
+sends_more : (r r' : ℕ) (a b : Sent) (text : List ℕ) → Sends 0 0 a b text → Sends r r' a b text
+sends_more r r' a b text h = record { appends = h.appends; few = omega (arith, h.few) }
+
+-- some of what came before was written, and then what is left of it and more
+left_and_more : (moved left before more : List ℕ) → before ≡ moved ++ left → before ++ more ≡ moved ++ (left ++ more)
+left_and_more moved left before more e = ap (λ t. t ++ more) e ∙ append_assoc moved left more
+
+prefix_after : (moved left before more text : List ℕ) → before ≡ moved ++ left → IsPrefix text (left ++ more) → IsPrefix (moved ++ text) (before ++ more)
+prefix_after moved left before more text e h = record { more = h.more; whole = left_and_more moved left before more e ∙ ap (λ t. moved ++ t) h.whole ∙ sym (append_assoc moved text h.more) }
+
+after_prefix : (moved left before more text : List ℕ) → before ≡ moved ++ left → IsPrefix (left ++ more) text → IsPrefix (before ++ more) (moved ++ text)
+after_prefix moved left before more text e h =
+    record { more = h.more; whole = ap (λ t. moved ++ t) h.whole ∙ sym (append_assoc moved (left ++ more) h.more) ∙ ap (λ t. t ++ h.more) (sym (left_and_more moved left before more e)) }
+
+module _ (s : SessionState) (lines : List (List ℕ)) (status : ℕ) (torn : Bool) (unread : Type 0) (first last : Option (List ℕ)) where
+  abbrev build : List ℕ
+  build = lines_text s.world.transcript
+
+  -- the build's lines were said, and the events told
+  plays_on : (moved left text : List ℕ) (new : SessionState) → build ≡ moved ++ left → EventFileRun event_replies without_lines (without_lines s) left lines status torn unread first last text new
+      → Plays s lines status torn unread first last (moved ++ text)
+  plays_on moved left text new is file_run = record {
+    new = new;
+    file_run = record {
+      outcomes = file_run.outcomes;
+      told = file_run.told;
+      broke = λ failed. prefix_after moved left build (text_from 1 file_run.outcomes) text is (file_run.broke failed);
+      whole = λ fine. ap (λ t. moved ++ t) (file_run.whole fine) ∙ sym (left_and_more moved left build (text_from 1 file_run.outcomes) is);
+      over = file_run.over;
+      answer = file_run.answer;
+      order = by file_run.order;
+      heard = file_run.heard;
+    };
+    run = λ stands. runs_over s lines file_run.outcomes new stands file_run.told;
+  }
+    where
+      by : unread ⊎ InStep left file_run.outcomes first last text → unread ⊎ InStep build file_run.outcomes first last (moved ++ text)
+      by (inl un) = inl un
+      by (inr step) = inr (record {
+        count = step.count;
+        within = step.within;
+        goes_on = step.goes_on;
+        written = after_prefix moved left build (text_from 1 (take step.count file_run.outcomes)) text is step.written;
+        near = step.near;
+      })
+
+module _ (s : SessionState) (torn : Bool) (unread : Type 0) (first last : Option (List ℕ)) (r r' : ℕ) (a b c : Sent) (p q : List ℕ) where
+  abbrev PlaysOver : ℕ → Sent → Type 0
+  PlaysOver status end = (input : List ℕ) × IfSome first (λ known. known ≡ input) × (text : List ℕ) × Proceeds (built s) (lines_of input) status torn unread first last text × Sends r r' a end text
+
+  -- the build's lines broke off
+  pub breaks_off : r ≡ r' → p ≡ [] → torn ≡ true → unread → Tears a p b (lines_text s.world.transcript) → PlaysOver 4 b
+  breaks_off same none failed un h =
+      let input = any_bytes first in
+      let is : lines_text s.world.transcript ≡ h.moved ++ h.lost = ap (λ t. t ++ lines_text s.world.transcript) (sym none) ∙ h.whole in (
+        input.0,
+        input.1,
+        h.moved,
+        record {
+          new = without_lines s;
+          file_run = record {
+            outcomes = [];
+            told = refl;
+            broke = λ _. record { more = h.lost; whole = append-nil (lines_text s.world.transcript) ∙ is };
+            whole = λ fine. cc (failed, fine);
+            over = λ ne. absurd (ne refl);
+            answer = λ ne. absurd (ne refl);
+            order = inl un;
+            heard = λ _ fine. cc (failed, fine);
+          };
+          run = λ stands. runs_over s (lines_of input.0) [] (without_lines s) stands refl;
+        },
+        record { appends = h.appends; few = few_writes r r' a.writes b.writes (length h.moved) (omega (arith, same)) (omega (arith, h.full, same)) },
+      )
+
+  -- they were said, and then the events told
+  pub plays : (status : ℕ) (new : SessionState) → p ≡ [] → Passes a p b q (lines_text s.world.transcript)
+      → (input : List ℕ) × IfSome first (λ known. known ≡ input) × (text : List ℕ) × EventFileRun event_replies without_lines (without_lines s) q (lines_of input) status torn unread first last text new × Sends r r' b c text
+      → PlaysOver status c
+  plays status new none h told =
+      let is : lines_text s.world.transcript ≡ h.moved ++ q = ap (λ t. t ++ lines_text s.world.transcript) (sym none) ∙ h.whole in (
+        told.0,
+        told.1,
+        h.moved ++ told.2,
+        plays_on s (lines_of told.0) status torn unread first last h.moved q told.2 new is told.3,
+        record {
+          appends = Appends-trans a.bytes b.bytes c.bytes h.moved told.2 h.appends told.4.appends;
+          few = rw (length-append h.moved told.2) (few_after r r' a.writes b.writes c.writes (length h.moved) (length told.2) h.full told.4.few);
+        },
+      )
+
+-- ** which opening the code's is
+
+open_stopped : (bytes : List ℕ) (session : SessionState) (halt : Halt) (opening : Opening) → IsOpening (code.Stopped session halt) opening → Opens bytes opening → Opens bytes (stopped session halt)
+open_stopped bytes session halt (refused r) is opens = absurd is
+open_stopped bytes session halt unbegun is opens = absurd is
+open_stopped bytes session halt (stopped s h) is opens = rw (is.0, is.1) opens
+open_stopped bytes session halt (built s) is opens = absurd is
+
+open_built : (bytes : List ℕ) (session : SessionState) (opening : Opening) → IsOpening (code.Built session) opening → Opens bytes opening → Opens bytes (built session)
+open_built bytes session (refused r) is opens = absurd is
+open_built bytes session unbegun is opens = absurd is
+open_built bytes session (stopped s h) is opens = absurd is
+open_built bytes session (built s) is opens = rw is opens
+
+open_refused : (bytes : List ℕ) (text : String Global) (opening : Opening) → IsOpening (code.Refused text) opening → Opens bytes opening
+    → (r : Refusal) × (denoted bytes ≡ Err r) × (string_bytes text ≡ refusal_text r)
+open_refused bytes text (refused r) is opens = (r, opens, is)
+open_refused bytes text unbegun is opens = absurd is
+open_refused bytes text (stopped s h) is opens = absurd is
+open_refused bytes text (built s) is opens = absurd is
+
+module _ (bytes : List ℕ) (first last : Option (List ℕ)) (r r' : ℕ) (a c : Sent) (status : ℕ) (torn : Bool) (unread : Type 0) where
+  abbrev pub IsWritten : List ℕ → ℕ → Type 0
+  IsWritten whole answer = (out : List ℕ) × Concludes whole answer status torn out × Sends 0 0 a c out
+
+  abbrev pub RanOver : Type 0
+  RanOver = (input : List ℕ) × IfSome first (λ known. known ≡ input) × (text : List ℕ) × Ran bytes (lines_of input) status torn unread first last text × Sends r r' a c text
+
+  pub ran_stopped : (session : SessionState) (halt : Halt) → Opened bytes (code.Stopped session halt) → unread → IsWritten (lines_text session.world.transcript ++ build_stopped halt) 3 → RanOver
+  ran_stopped session halt o un w =
+      let input = any_bytes first in
+      (input.0, input.1, w.0, record { opening = stopped session halt; opens = open_stopped bytes session halt o.opening o.is o.opens; proceeds = (un, w.1) }, sends_more r r' a c w.0 w.2)
+
+  pub ran_unbegun : unread → IsWritten nothing_begun 3 → RanOver
+  ran_unbegun un w =
+      let input = any_bytes first in
+      (input.0, input.1, w.0, record { opening = unbegun; opens = tt; proceeds = (un, w.1) }, sends_more r r' a c w.0 w.2)
+
+  pub ran_refused : (text : String Global) → Opened bytes (code.Refused text) → unread → IsWritten (joined (codes "refused: " ∷ string_bytes text ∷ codes "\n" ∷ [])) 1 → RanOver
+  ran_refused text o un w =
+      let denied = open_refused bytes text o.opening o.is o.opens in
+      let concludes = rw denied.2 at w.1 in
+      let input = any_bytes first in
+      (input.0, input.1, w.0, record { opening = refused denied.0; opens = denied.1; proceeds = (un, concludes) }, sends_more r r' a c w.0 w.2)
+
+  pub ran_built : (session : SessionState) → Opened bytes (code.Built session)
+      → (input : List ℕ) × IfSome first (λ known. known ≡ input) × (text : List ℕ) × Proceeds (built session) (lines_of input) status torn unread first last text × Sends r r' a c text → RanOver
+  ran_built session o t = (t.0, t.1, t.2, record { opening = built session; opens = open_built bytes session o.opening o.is o.opens; proceeds = t.3 }, t.4)

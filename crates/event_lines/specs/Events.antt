@@ -1,0 +1,54 @@
+-- What an event line may come to in a session.
+use Rattle.std.specs.Prelude.{◌≡◌, ◌⊎◌, ℕ, true, false, List, [], ◌++◌, Some, Ok, Err}
+use Rattle.ui_machine.specs.declared.arm.Halt.{Halt}
+use Rattle.ui_machine.specs.declared.arm.Halt.TheVariants as halts
+use Rattle.ui_machine.specs.State.Tasks.{Event}
+use Rattle.ui_machine.specs.Rules.Events.{gone, refusal}
+use Rattle.ui_machine.specs.Runs.{Tally, Serves, HaltsIn}
+use Rattle.builder_defs.specs.EventMeaning.{EventRefusal, event_denoted}
+use Rattle.ui_engine.specs.SessionView.{SessionState}
+use Rattle.event_lines.specs.Texts.{line_refusal}
+use Rattle.event_lines.specs.declared.refusal.LineRefusal.{LineRefusal}
+use Rattle.event_lines.specs.declared.refusal.LineRefusal.TheVariants.{Released}
+use Rattle.event_lines.specs.EventFileRun.{Replies, said, refused, cut_off, stopped}
+
+-- the line is an event, which the machine serves, and these lines are said
+pub record Says (old : SessionState) (line : List ℕ) (lines : List (List ℕ)) (new : SessionState) : Type 0 where
+  pub event : Event
+  pub tally : Tally
+  pub denotes : event_denoted old.definition line ≡ Ok event
+  pub serves : Serves old.definition event [] old.world tally new.world
+  pub shows : new.world.transcript ≡ old.world.transcript ++ lines
+  pub definition : new.definition ≡ old.definition
+  pub goes_on : new.stopped ≡ false
+
+-- the line is an event, whose dispatch says these lines and halts, and the session stops with it
+pub record Halting (old : SessionState) (line : List ℕ) (halt : Halt) (lines : List (List ℕ)) (new : SessionState) : Type 0 where
+  pub event : Event
+  pub denotes : event_denoted old.definition line ≡ Ok event
+  pub halts : HaltsIn old.definition event [] old.world halt new.world.transcript
+  pub shows : new.world.transcript ≡ old.world.transcript ++ lines
+  pub definition : new.definition ≡ old.definition
+  pub stops : new.stopped ≡ true
+
+-- the line is an event that names an object which was let go
+pub record NamesReleased (old : SessionState) (line : List ℕ) : Type 0 where
+  pub event : Event
+  pub denotes : event_denoted old.definition line ≡ Ok event
+  pub refuses : refusal old.world event ≡ Some gone
+
+-- the line is no event
+pub record Refuses (old : SessionState) (line : List ℕ) : Type 0 where
+  pub refusal : EventRefusal
+  pub denotes : event_denoted old.definition line ≡ Err refusal
+
+-- a line is refused where it is no event, or where the machine refuses the event
+abbrev pub IsRefused : SessionState → List ℕ → LineRefusal → Type 0
+IsRefused old line r = ((no : Refuses old line) × (r ≡ line_refusal no.refusal)) ⊎ (NamesReleased old line × (r ≡ Released))
+
+-- No memory for the reading of a line is want of memory with nothing said.
+abbrev pub event_replies : Replies SessionState
+event_replies old line (said lines) new = Says old line lines new
+event_replies old line (refused r) new = IsRefused old line r × (new ≡ old)
+event_replies old line (cut_off r) new = ⊥
+event_replies old line (stopped halt lines) new = Halting old line halt lines new ⊎ ((halt ≡ halts.OutOfMemory) × (lines ≡ []) × (new ≡ old))

@@ -1,0 +1,82 @@
+-- What is written of a line.
+use Rattle.std.specs.Prelude.{ℕ, List, [], ◌∷◌, flat_map, codes, decimal}
+use Rattle.ui_machine.specs.declared.arm.Arm.{Arm}
+use Rattle.ui_machine.specs.declared.arm.Arm.TheVariants as arms
+use Rattle.ui_machine.specs.declared.arm.Halt.{Halt}
+use Rattle.ui_machine.specs.declared.arm.Halt.TheVariants as halts
+use Rattle.builder_defs.specs.Refusals.{Refusal}
+use Rattle.builder_defs.specs.FaultText.{refusal_text}
+use Rattle.builder_defs.specs.EventMeaning.{EventRefusal, too_long, not_json, shape, unknown, not_readable, not_writable, construct_only, value_fault}
+use Rattle.event_lines.specs.declared.refusal.LineRefusal.{LineRefusal}
+use Rattle.event_lines.specs.declared.refusal.LineRefusal.TheVariants as refusals
+
+-- the refusal of a line that denotes no event
+abbrev pub line_refusal : EventRefusal → LineRefusal
+line_refusal too_long = refusals.TooLong
+line_refusal not_json = refusals.NotJson
+line_refusal shape = refusals.Shape
+line_refusal (unknown name) = refusals.Unknown
+line_refusal not_readable = refusals.NotReadable
+line_refusal not_writable = refusals.NotWritable
+line_refusal construct_only = refusals.ConstructOnly
+line_refusal value_fault = refusals.ValueFault
+
+abbrev pub name_of : LineRefusal → List ℕ
+name_of refusals.TooLong = codes "TooLong"
+name_of refusals.TooMany = codes "TooMany"
+name_of refusals.NotJson = codes "NotJson"
+name_of refusals.Shape = codes "Shape"
+name_of refusals.Unknown = codes "Unknown"
+name_of refusals.NotReadable = codes "NotReadable"
+name_of refusals.NotWritable = codes "NotWritable"
+name_of refusals.ConstructOnly = codes "ConstructOnly"
+name_of refusals.ValueFault = codes "ValueFault"
+name_of refusals.ClockBack = codes "ClockBack"
+name_of refusals.Released = codes "Released"
+
+abbrev pub arm_name : Arm → List ℕ
+arm_name arms.Register = codes "F1"
+arm_name arms.Value = codes "F2"
+arm_name arms.ConstructOnly = codes "F3"
+arm_name arms.Flags = codes "F4"
+arm_name arms.Operand = codes "F5"
+arm_name arms.Argument = codes "F6"
+arm_name arms.Parameters = codes "F7"
+arm_name arms.Freeze = codes "F8"
+arm_name arms.Call = codes "F9"
+arm_name arms.Code = codes "F10"
+arm_name arms.Result = codes "F11"
+arm_name arms.Abstract = codes "F12"
+arm_name arms.Steps = codes "F13"
+
+-- what a run stopped by
+abbrev pub stop_name : Halt → List ℕ
+stop_name halts.OutOfMemory = codes "OutOfMemory"
+stop_name (halts.Stuck arm) = arm_name arm
+
+abbrev pub joined : List (List ℕ) → List ℕ
+joined parts = flat_map (λ part. part) parts
+
+-- whole lines, each with its LF
+abbrev pub lines_text : List (List ℕ) → List ℕ
+lines_text lines = flat_map (λ line. joined (line ∷ codes "\n" ∷ [])) lines
+
+abbrev pub refused_line : ℕ → LineRefusal → List ℕ
+refused_line n refusal = joined (codes "line " ∷ decimal n ∷ codes " refused: " ∷ name_of refusal ∷ codes "\n" ∷ [])
+
+abbrev pub stopped_line : ℕ → Halt → List ℕ
+stopped_line n halt = joined (codes "line " ∷ decimal n ∷ codes " stopped: " ∷ stop_name halt ∷ codes "\n" ∷ [])
+
+-- ** before the events
+
+-- a definition's bytes are refused
+abbrev pub definition_refused : Refusal → List ℕ
+definition_refused refusal = joined (codes "refused: " ∷ refusal_text refusal ∷ codes "\n" ∷ [])
+
+-- no memory was found before the build
+abbrev pub nothing_begun : List ℕ
+nothing_begun = codes "refused: OutOfMemory\n"
+
+-- the build stopped
+abbrev pub build_stopped : Halt → List ℕ
+build_stopped halt = joined (codes "build stopped: " ∷ stop_name halt ∷ codes "\n" ∷ [])

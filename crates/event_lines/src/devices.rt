@@ -1,0 +1,104 @@
+//! Devices whose calls are counted.
+
+ghost use Rattle.std.specs.Prelude.{◌≡◌, ◌<◌, ◌+◌, ◌||◌, ℕ, Bool, true, false, List, Option, length, nat_eq, IfOk, MatchResult};
+ghost use Rattle.std.specs.Io.{ReadsAtMost, WritesAtMost};
+ghost use Rattle.std.specs.Io.KnownBytes.{ReadConsumes, WriteAppends};
+ghost use Rattle.event_lines.specs.Writing.{Sent, CountsWrite};
+
+use ui_machine::{DeviceFault, Feed, Sink};
+
+/// A feed that counts its reads.
+pub trait Reader {
+    /// The bytes that reads will give from here on, where they are known.
+    ghost left: { Self → Option (List ℕ) };
+
+    /// How many reads there were.
+    ghost reads: { Self → ℕ };
+
+    /// Whether a read has failed.
+    ghost failed: { Self → Bool };
+
+    /// Reads some bytes into the front of `buf`, and answers how many: none only at the end, or into an empty slice.
+    /// A fault takes none and marks the reader as failed; after it no more reads may be made.
+    fn read(&mut self, buf: &mut [u8]) -> Result<usize, DeviceFault>
+        requires works { failed self.old ≡ false }
+        ensures bound { ReadsAtMost result buf.new }
+        ensures bytes { ReadConsumes (left self.old) (left self.new) result buf.new }
+        ensures counts { reads self.new ≡ reads self.old + 1 }
+        ensures marks { MatchResult result (λ _. failed self.new ≡ false) (λ _. failed self.new ≡ true) };
+}
+
+/// A sink that counts its writes.
+pub trait Writer {
+    /// The bytes that it has taken, where they are known, and how many writes there were, but for those that took only a part of
+    /// their bytes. Where a sink always takes all that it is given, these are all its writes.
+    ghost sent: { Self → Sent };
+
+    /// Whether a write has failed.
+    ghost failed: { Self → Bool };
+
+    /// Takes a front of `bytes`, and answers how long it is: at least 1, unless there are none. A fault takes none and marks
+    /// the writer as failed; after it no more writes may be made.
+    fn write(&mut self, bytes: &[u8]) -> Result<usize, DeviceFault>
+        requires works { failed self.old ≡ false }
+        ensures bound { WritesAtMost result bytes.now }
+        ensures some { IfOk result (λ n. 0 < length bytes.now → 0 < n) }
+        ensures bytes { WriteAppends (sent self.old).bytes (sent self.new).bytes result bytes.now }
+        ensures counts { CountsWrite result (length bytes.now) (sent self.old).writes (sent self.new).writes }
+        ensures marks { MatchResult result (λ _. failed self.new ≡ false) (λ _. failed self.new ≡ true) };
+}
+
+/// A feed or a sink, and its calls so far. A call that can't be counted fails.
+#[derive(Drop)]
+pub struct Counted<D: Drop> {
+    pub device: D,
+    pub calls: u64,
+}
+
+impl<D: Drop> Counted<D> {
+    /// A device that was not called.
+    pub fn new(device: D) -> Counted<D>
+        ensures same { result.device ≡ device }
+        ensures uncalled { result.calls ≡ 0 }
+    {
+        Counted { device, calls: 0 }
+    }
+}
+
+impl<D: Feed + Drop> Reader for Counted<D> {
+    ghost left = { λ c. D.left c.device };
+
+    ghost reads = { λ c. c.calls };
+
+    ghost failed = { λ c. D.failed c.device || nat_eq c.calls 18446744073709551615 };
+
+    fn read(&mut self, buf: &mut [u8]) -> Result<usize, DeviceFault> {
+        self.calls += 1;
+        if self.calls == u64::MAX {
+            return Err(DeviceFault);
+        }
+        self.device.read(buf)
+    }
+}
+
+impl<D: Sink + Drop> Writer for Counted<D> {
+    ghost sent = { λ c. record { bytes = D.taken c.device; writes = c.calls } };
+
+    ghost failed = { λ c. D.failed c.device || nat_eq c.calls 18446744073709551615 };
+
+    fn write(&mut self, bytes: &[u8]) -> Result<usize, DeviceFault> {
+        let calls = self.calls + 1;
+        if calls == u64::MAX {
+            self.calls = calls;
+            return Err(DeviceFault);
+        }
+        let Ok(count) = self.device.write(bytes) else {
+            self.calls = calls;
+            return Err(DeviceFault);
+        };
+        if count == bytes.len() {
+            self.calls = calls;
+        }
+        Ok(count)
+    }
+}

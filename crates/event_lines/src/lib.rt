@@ -1,0 +1,31 @@
+//! Runs a definition over event lines, from the bytes of a reader to those of a writer.
+//!
+//! [`run`] is the whole of it. What it is made of: the bytes of a reader in chunks, the lines in them, what each line comes to, and text
+//! that is gathered and written in large pieces. A program that embeds the runtime without files uses `ui_engine` instead.
+#![tactic(auto)]
+
+mod chunk;
+mod definition_file;
+mod devices;
+mod ending;
+mod event_file;
+mod gather;
+mod line_handler;
+mod line_outcome;
+mod line_reader;
+mod opening;
+mod output;
+mod refusal;
+mod whole_runs;
+mod writing;
+
+pub use definition_file::{FileFault, definition_bytes};
+pub use devices::{Counted, Reader, Writer};
+pub use ending::Ending;
+pub use whole_runs::run;
+
+/// The most bytes of an event line, without its LF.
+pub const MAX_LINE_BYTES: usize = 65_536;
+
+/// The most event lines.
+pub const MAX_LINES: u64 = 65_536;

@@ -1,0 +1,87 @@
+//! One line of the event file, handed to its handler.
+
+ghost use Rattle.std.specs.Prelude.{◌≡◌, ◌≤◌, ℕ, List, false, length, drop};
+ghost use Rattle.event_lines.specs.EventFileRun.{LineComesTo, ends, status_after, is_blank};
+ghost use Rattle.event_lines.specs.LineOutcome.{outcome_with};
+ghost use Rattle.event_lines.specs.Reading.{IsOf};
+ghost use Rattle.ui_machine.specs.Limits.{most_lines};
+
+use crate::MAX_LINES;
+use crate::line_handler::{LineFault, LineHandler};
+use crate::line_reader::Found;
+use crate::refusal::LineRefusal;
+use std::alloc::Global;
+use ui_machine::Halt;
+
+/// What a line came to, beside the lines that were said.
+#[derive(Clone, Copy, Debug, PartialEq, Eq)]
+pub enum LineOutcome {
+    Said,
+    Refused(LineRefusal),
+    /// It was refused, and the run ends.
+    CutOff(LineRefusal),
+    /// The run ends within it.
+    Stopped(Halt),
+}
+
+impl LineOutcome {
+    /// Whether the run ends here.
+    pub fn ends(self) -> bool
+        ensures { (said : List (List ℕ)) → result ≡ ends (outcome_with self said) }
+    {
+        match self {
+            LineOutcome::Said | LineOutcome::Refused(_) => false,
+            LineOutcome::CutOff(_) | LineOutcome::Stopped(_) => true,
+        }
+    }
+
+    /// The status of the run so far, from the one before.
+    pub fn status_after(self, status: u8) -> u8
+        ensures { (said : List (List ℕ)) → result ≡ status_after status (outcome_with self said) }
+    {
+        match self {
+            LineOutcome::Said => status,
+            LineOutcome::Refused(_) | LineOutcome::CutOff(_) => 5,
+            LineOutcome::Stopped(_) => 3,
+        }
+    }
+}
+
+fn is_blank(line: &[u8]) -> bool
+    ensures { result ≡ is_blank line.now }
+{
+    line.iter()
+        .all(|b| *b == b' ' || *b == b'\t' || *b == b'\r')
+}
+
+/// Hands the handler the line that was found, unless the run refuses it or passes over it.
+pub fn handle_line<L: LineHandler>(
+    alloc: Global,
+    handler: &mut L,
+    number: u64,
+    found: Found,
+    buffer: &[u8],
+) -> LineOutcome
+    ensures comes { (line : List ℕ) → IsOf found buffer.now line →
+        LineComesTo L.replies handler.old number line (outcome_with result (drop (length (L.lines handler.old)) (L.lines handler.new))) handler.new }
+    ensures grows { length (L.lines handler.old) ≤ length (L.lines handler.new) }
+    ensures goes_on { (said : List (List ℕ)) → ends (outcome_with result said) ≡ false → (number ≤ most_lines) × (found ≡ Found.Whole) }
+{
+    if found == Found::NoMemory {
+        return LineOutcome::Stopped(Halt::OutOfMemory);
+    }
+    if number > MAX_LINES {
+        return LineOutcome::CutOff(LineRefusal::TooMany);
+    }
+    if found == Found::TooLong {
+        return LineOutcome::CutOff(LineRefusal::TooLong);
+    }
+    if is_blank(buffer) {
+        return LineOutcome::Said;
+    }
+    match handler.handle(alloc, buffer) {
+        Ok(()) => return LineOutcome::Said,
+        Err(LineFault::Refused(refusal)) => return LineOutcome::Refused(refusal),
+        Err(LineFault::Stopped(halt)) => return LineOutcome::Stopped(halt),
+    }
+}
