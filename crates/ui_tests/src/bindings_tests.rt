@@ -1,5 +1,6 @@
 //! Bindings that stand, and what a notification sets by them.
 
+use crate::seen::Seen;
 use bindings::{Binding, BindingFlags, Bindings, Transfer};
 use bitflags::Flags;
 use std::test::Fail;
@@ -23,9 +24,8 @@ fn switch(name: Option<String>, flags: BindingFlags) -> Binding {
 }
 
 /// A bidirectional pair that inverts: each end sets the other, and the way back is passed over while it sets.
-#[test]
-fn passes_over_the_way_back(rt: HostRuntime) -> Result<(), Fail> {
-    let mut bindings = Bindings::new(rt.alloc());
+fn passes_over_the_way_back(seen: &mut Seen) -> Result<(), Fail> {
+    let mut bindings = Bindings::new(seen.alloc());
     let flags = BindingFlags::from_bits(7).ok_or("known bits")?;
     let first = bindings.bind(switch(None, flags))?;
     let forth = Transfer {
@@ -51,17 +51,13 @@ fn passes_over_the_way_back(rt: HostRuntime) -> Result<(), Fail> {
     let behind_the_last = bindings.on_notify(FIRST, ON, 1);
     let heard_back = bindings.on_notify(SECOND, ON, 0);
     let of_another_property = bindings.on_notify(SECOND, 1, 0);
-    assert_eq!(rt; (first, heard, while_it_sets), (0, Some(forth), None));
-    assert_eq!(rt;
-        (behind_the_last, heard_back, of_another_property),
-        (None, Some(back), None)
-    );
+    seen.same((first, heard, while_it_sets), (0, Some(forth), None))?;
+    seen.same((behind_the_last, heard_back, of_another_property), (None, Some(back), None))?;
     Ok(())
 }
 
-#[test]
-fn numbers_are_not_used_again(rt: HostRuntime) -> Result<(), Fail> {
-    let alloc = rt.alloc();
+fn numbers_are_not_used_again(seen: &mut Seen) -> Result<(), Fail> {
+    let alloc = seen.alloc();
     let mut bindings = Bindings::new(alloc);
     let one_way = BindingFlags(0);
     let zero = bindings.bind(switch(None, one_way))?;
@@ -75,10 +71,17 @@ fn numbers_are_not_used_again(rt: HostRuntime) -> Result<(), Fail> {
     let three = bindings.bind(switch(None, one_way))?;
     let ended = (bindings.end_of(SECOND), bindings.end_of(FIRST));
     let four = bindings.bind(switch(None, one_way))?;
-    assert_eq!(rt; (zero, one, three, four), (0, 1, 3, 4));
-    assert_eq!(rt;
-        (heard, heard_back, unbound, ended),
-        (Some(1), None, (true, false), (2, 0))
-    );
+    seen.same((zero, one, three, four), (0, 1, 3, 4))?;
+    seen.same((heard, heard_back, unbound, ended), (Some(1), None, (true, false), (2, 0)))?;
+    Ok(())
+}
+
+/// bindings: what its calls answer is what is wanted of them.
+#[test]
+fn bindings(rt: HostRuntime) -> Result<(), Fail> {
+    let mut seen = Seen::new(rt.alloc());
+    passes_over_the_way_back(&mut seen)?;
+    numbers_are_not_used_again(&mut seen)?;
+    assert_eq!(rt; seen.differences(), "");
     Ok(())
 }

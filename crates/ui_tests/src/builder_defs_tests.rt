@@ -1,5 +1,6 @@
 //! Definitions and events: what they say, and the sizes that no kept file has.
 
+use crate::seen::Seen;
 use crate::fixtures::times;
 use builder_defs::{
     Definition, DefinitionFault, EventError, EventFault, MAX_BYTES, MAX_LINE_BYTES, ReadError,
@@ -24,8 +25,7 @@ fn verdict(alloc: Global, bytes: &[u8]) -> Result<String, Fail> {
     }
 }
 
-#[test]
-fn refuses_each_beginning(rt: HostRuntime) -> Result<(), Fail> {
+fn refuses_each_beginning(seen: &mut Seen) -> Result<(), Fail> {
     for end in 0..BOXES.len() + 1 {
         let beginning = BOXES.as_bytes().get(..end).ok_or("no beginning")?;
         let want = if end < BOXES.len() {
@@ -33,23 +33,18 @@ fn refuses_each_beginning(rt: HostRuntime) -> Result<(), Fail> {
         } else {
             "accepted"
         };
-        assert_eq!(rt;
-            verdict(rt.alloc(), beginning)?.as_str(),
-            want,
-            "{end} bytes"
-        );
+        seen.same(verdict(seen.alloc(), beginning)?.as_str(), want)?;
     }
     Ok(())
 }
 
-#[test]
-fn knows_the_longest_definition(rt: HostRuntime) -> Result<(), Fail> {
-    let alloc = rt.alloc();
+fn knows_the_longest_definition(seen: &mut Seen) -> Result<(), Fail> {
+    let alloc = seen.alloc();
     for (length, want) in [(MAX_BYTES, "accepted"), (MAX_BYTES + 1, "TooLong")] {
         let blanks = times(alloc, " ", length - 12)?;
         let text = format!(in alloc; "{{\"format\":1}}{blanks}")?;
-        assert_eq!(rt; text.len(), length);
-        assert_eq!(rt; verdict(alloc, text.as_bytes())?.as_str(), want, "{length}");
+        seen.same(text.len(), length)?;
+        seen.same(verdict(alloc, text.as_bytes())?.as_str(), want)?;
     }
     Ok(())
 }
@@ -65,19 +60,18 @@ fn told_object(alloc: Global, definition: &Definition, id: &str) -> Result<Strin
     Ok(format!(in alloc; "{number} {name} {slots}")?)
 }
 
-#[test]
-fn tells_objects(rt: HostRuntime) -> Result<(), Fail> {
-    let alloc = rt.alloc();
+fn tells_objects(seen: &mut Seen) -> Result<(), Fail> {
+    let alloc = seen.alloc();
     let definition = read_definition(alloc, BOXES.as_bytes())?;
-    assert_eq!(rt; definition.types().len(), 4);
-    assert_eq!(rt; definition.object_count(), 3);
+    seen.same(definition.types().len(), 4)?;
+    seen.same(definition.object_count(), 3)?;
     for (id, want) in [
         ("b-1", "0 Box 2"),
         ("_", "1 GInitiallyUnowned 0"),
         ("Z", "2 Bare 0"),
         ("z", ""),
     ] {
-        assert_eq!(rt; told_object(alloc, &definition, id)?.as_str(), want, "{id}");
+        seen.same(told_object(alloc, &definition, id)?.as_str(), want)?;
     }
     Ok(())
 }
@@ -94,9 +88,8 @@ fn told_property(alloc: Global, definition: &Definition, name: &str) -> Result<S
     Ok(format!(in alloc; "{slot} {name} {kind:?} {default:?} {min} {max}")?)
 }
 
-#[test]
-fn tells_properties(rt: HostRuntime) -> Result<(), Fail> {
-    let alloc = rt.alloc();
+fn tells_properties(seen: &mut Seen) -> Result<(), Fail> {
+    let alloc = seen.alloc();
     let definition = read_definition(alloc, BOXES.as_bytes())?;
     for (name, want) in [
         ("wide_one", "0 wide-one Int Int(0) -2147483648 2147483647"),
@@ -104,19 +97,14 @@ fn tells_properties(rt: HostRuntime) -> Result<(), Fail> {
         ("title", "1 title Text Text(None) 0 0"),
         ("Title", ""),
     ] {
-        assert_eq!(rt;
-            told_property(alloc, &definition, name)?.as_str(),
-            want,
-            "{name}"
-        );
+        seen.same(told_property(alloc, &definition, name)?.as_str(), want)?;
     }
-    assert!(rt; definition.spec(definition.class_at(Place(0)), 2).is_none());
+    seen.same(definition.spec(definition.class_at(Place(0)), 2).is_none(), true)?;
     Ok(())
 }
 
-#[test]
-fn tells_the_fields_of_causes(rt: HostRuntime) -> Result<(), Fail> {
-    let alloc = rt.alloc();
+fn tells_the_fields_of_causes(seen: &mut Seen) -> Result<(), Fail> {
+    let alloc = seen.alloc();
     for (cause, want) in [
         (TypeCause::Limit(TypeLimit::Depth), "BadType /p Limit depth"),
         (
@@ -125,7 +113,7 @@ fn tells_the_fields_of_causes(rt: HostRuntime) -> Result<(), Fail> {
         ),
     ] {
         let fault = DefinitionFault::BadType(String::from_str(alloc, "/p")?, cause);
-        assert_eq!(rt; fault.text(alloc)?.as_str(), want);
+        seen.same(fault.text(alloc)?.as_str(), want)?;
     }
     for (cause, want) in [
         (SpecCause::Install(SpecFault::Limit), "BadSpec /p Limit"),
@@ -140,7 +128,7 @@ fn tells_the_fields_of_causes(rt: HostRuntime) -> Result<(), Fail> {
         ),
     ] {
         let fault = DefinitionFault::BadSpec(String::from_str(alloc, "/p")?, cause);
-        assert_eq!(rt; fault.text(alloc)?.as_str(), want);
+        seen.same(fault.text(alloc)?.as_str(), want)?;
     }
     Ok(())
 }
@@ -153,19 +141,14 @@ fn is_too_long(alloc: Global, definition: &Definition, line: &[u8]) -> bool {
     }
 }
 
-#[test]
-fn knows_the_longest_event(rt: HostRuntime) -> Result<(), Fail> {
-    let alloc = rt.alloc();
+fn knows_the_longest_event(seen: &mut Seen) -> Result<(), Fail> {
+    let alloc = seen.alloc();
     let definition = read_definition(alloc, BOXES.as_bytes())?;
     for (length, is_long) in [(MAX_LINE_BYTES, false), (MAX_LINE_BYTES + 1, true)] {
         let blanks = times(alloc, " ", length - 14)?;
         let line = format!(in alloc; "{{\"turn\":[1,2]}}{blanks}")?;
-        assert_eq!(rt; line.len(), length);
-        assert_eq!(rt;
-            is_too_long(alloc, &definition, line.as_bytes()),
-            is_long,
-            "{length}"
-        );
+        seen.same(line.len(), length)?;
+        seen.same(is_too_long(alloc, &definition, line.as_bytes()), is_long)?;
     }
     Ok(())
 }
@@ -189,9 +172,8 @@ fn told_signal(alloc: Global, definition: &Definition, number: SignalId) -> Resu
     Ok(format!(in alloc; "{name} {count} {flags}")?)
 }
 
-#[test]
-fn tells_signals(rt: HostRuntime) -> Result<(), Fail> {
-    let alloc = rt.alloc();
+fn tells_signals(seen: &mut Seen) -> Result<(), Fail> {
+    let alloc = seen.alloc();
     let definition = read_definition(alloc, SIGNALS.as_bytes())?;
     for (number, want) in [
         (0, "notify 0 17"),
@@ -199,11 +181,22 @@ fn tells_signals(rt: HostRuntime) -> Result<(), Fail> {
         (2, "go 0 2"),
         (3, ""),
     ] {
-        assert_eq!(rt;
-            told_signal(alloc, &definition, number)?.as_str(),
-            want,
-            "{number}"
-        );
+        seen.same(told_signal(alloc, &definition, number)?.as_str(), want)?;
     }
+    Ok(())
+}
+
+/// builder_defs: what its calls answer is what is wanted of them.
+#[test]
+fn builder_defs(rt: HostRuntime) -> Result<(), Fail> {
+    let mut seen = Seen::new(rt.alloc());
+    refuses_each_beginning(&mut seen)?;
+    knows_the_longest_definition(&mut seen)?;
+    tells_objects(&mut seen)?;
+    tells_properties(&mut seen)?;
+    tells_the_fields_of_causes(&mut seen)?;
+    knows_the_longest_event(&mut seen)?;
+    tells_signals(&mut seen)?;
+    assert_eq!(rt; seen.differences(), "");
     Ok(())
 }

@@ -1,5 +1,6 @@
 //! Whole runs over devices that move few bytes a call and fail.
 
+use crate::seen::Seen;
 use crate::fakes::{Pace, Source, Target};
 use event_lines::{Counted, FileFault, definition_bytes, run};
 use std::alloc::{AllocError, Global};
@@ -76,53 +77,49 @@ fn run_over(
 }
 
 // A byte a call, and many.
-#[test]
-fn runs(rt: HostRuntime) -> Result<(), Fail> {
+fn runs(seen: &mut Seen) -> Result<(), Fail> {
     for pace in [slow(0), FAST] {
         let got = run_over(
-            rt.alloc(),
+            seen.alloc(),
             BOX.as_bytes(),
             SET_AND_GET.as_bytes(),
             pace,
             pace,
         )?;
-        assert_eq!(rt; str::from_utf8(got.text.as_slice())?, FIRST_RUN);
-        assert_eq!(rt; (got.status, got.failed, got.counted), (0, false, true));
+        seen.same(str::from_utf8(got.text.as_slice())?, FIRST_RUN)?;
+        seen.same((got.status, got.failed, got.counted), (0, false, true))?;
     }
     Ok(())
 }
 
 // Each read fails once: what was written is a front of the text, and nothing is read again.
-#[test]
-fn ends_with_the_reader(rt: HostRuntime) -> Result<(), Fail> {
+fn ends_with_the_reader(seen: &mut Seen) -> Result<(), Fail> {
     let (definition, events) = (BOX.as_bytes(), SET_AND_GET.as_bytes());
-    let whole = run_over(rt.alloc(), definition, events, slow(0), FAST)?;
+    let whole = run_over(seen.alloc(), definition, events, slow(0), FAST)?;
     for before in 0..whole.reads {
-        let got = run_over(rt.alloc(), definition, events, slow(before + 1), FAST)?;
-        assert_eq!(rt; (got.status, got.reads, got.failed), (4, before + 1, true));
-        assert!(rt; got.text.as_slice().starts_with(BUILT.as_bytes()));
-        assert!(rt; FIRST_RUN.as_bytes().starts_with(got.text.as_slice()));
+        let got = run_over(seen.alloc(), definition, events, slow(before + 1), FAST)?;
+        seen.same((got.status, got.reads, got.failed), (4, before + 1, true))?;
+        seen.same(got.text.as_slice().starts_with(BUILT.as_bytes()), true)?;
+        seen.same(FIRST_RUN.as_bytes().starts_with(got.text.as_slice()), true)?;
     }
     Ok(())
 }
 
 // Each write fails once: all before it was written, and nothing is written again.
-#[test]
-fn ends_with_the_writer(rt: HostRuntime) -> Result<(), Fail> {
+fn ends_with_the_writer(seen: &mut Seen) -> Result<(), Fail> {
     let (definition, events) = (BOX.as_bytes(), SET_AND_GET.as_bytes());
-    let whole = run_over(rt.alloc(), definition, events, FAST, slow(0))?;
+    let whole = run_over(seen.alloc(), definition, events, FAST, slow(0))?;
     for before in 0..whole.writes {
-        let got = run_over(rt.alloc(), definition, events, FAST, slow(before + 1))?;
-        assert_eq!(rt; (got.status, got.writes, got.failed), (4, before + 1, true));
+        let got = run_over(seen.alloc(), definition, events, FAST, slow(before + 1))?;
+        seen.same((got.status, got.writes, got.failed), (4, before + 1, true))?;
         let written = FIRST_RUN.as_bytes().get(..got.text.len());
-        assert_eq!(rt; Some(got.text.as_slice()), written);
+        seen.same(Some(got.text.as_slice()), written)?;
     }
     Ok(())
 }
 
 // A writer that takes nothing has failed, also of a definition that is refused.
-#[test]
-fn ends_with_a_writer_that_takes_nothing(rt: HostRuntime) -> Result<(), Fail> {
+fn ends_with_a_writer_that_takes_nothing(seen: &mut Seen) -> Result<(), Fail> {
     let (events, full) = (
         SET_AND_GET.as_bytes(),
         Pace {
@@ -131,8 +128,8 @@ fn ends_with_a_writer_that_takes_nothing(rt: HostRuntime) -> Result<(), Fail> {
         },
     );
     for definition in [BOX, "{"] {
-        let got = run_over(rt.alloc(), definition.as_bytes(), events, FAST, full)?;
-        assert_eq!(rt; (got.status, got.writes, got.text.len()), (4, 1, 0));
+        let got = run_over(seen.alloc(), definition.as_bytes(), events, FAST, full)?;
+        seen.same((got.status, got.writes, got.text.len()), (4, 1, 0))?;
     }
     Ok(())
 }
@@ -153,6 +150,35 @@ fn tells_want_of_memory(text: &str) -> bool {
     is_end && FIRST_RUN.starts_with(before)
 }
 
+// A byte a call, and the call that fails.
+fn reads_definition_files(seen: &mut Seen) -> Result<(), Fail> {
+    let alloc = seen.alloc();
+    for (fails_at, want) in [(0, Ok(BOX.len())), (9, Err(FileFault::Unreadable))] {
+        let mut reader = Device::new(Source {
+            bytes: Vec::from_slice(alloc, BOX.as_bytes())?,
+            at: 0,
+            pace: slow(fails_at),
+            calls: 0,
+        });
+        let got = definition_bytes(alloc, &mut reader).map(|bytes| bytes.len());
+        seen.same(got, want)?;
+    }
+    Ok(())
+}
+
+/// event_lines: what its calls answer is what is wanted of them.
+#[test]
+fn event_lines(rt: HostRuntime) -> Result<(), Fail> {
+    let mut seen = Seen::new(rt.alloc());
+    runs(&mut seen)?;
+    ends_with_the_reader(&mut seen)?;
+    ends_with_the_writer(&mut seen)?;
+    ends_with_a_writer_that_takes_nothing(&mut seen)?;
+    reads_definition_files(&mut seen)?;
+    assert_eq!(rt; seen.differences(), "");
+    Ok(())
+}
+
 // The first run, of which any allocation may be refused.
 #[test]
 fn stands_want_of_memory(rt: HostRuntime) -> Result<(), Fail> {
@@ -171,19 +197,3 @@ fn stands_want_of_memory(rt: HostRuntime) -> Result<(), Fail> {
     Ok(())
 }
 
-// A byte a call, and the call that fails.
-#[test]
-fn reads_definition_files(rt: HostRuntime) -> Result<(), Fail> {
-    let alloc = rt.alloc();
-    for (fails_at, want) in [(0, Ok(BOX.len())), (9, Err(FileFault::Unreadable))] {
-        let mut reader = Device::new(Source {
-            bytes: Vec::from_slice(alloc, BOX.as_bytes())?,
-            at: 0,
-            pace: slow(fails_at),
-            calls: 0,
-        });
-        let got = definition_bytes(alloc, &mut reader).map(|bytes| bytes.len());
-        assert_eq!(rt; got, want, "{fails_at}");
-    }
-    Ok(())
-}

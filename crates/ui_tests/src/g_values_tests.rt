@@ -1,5 +1,6 @@
 //! Values of each kind: arithmetic, transformations, and values read from JSON.
 
+use crate::seen::Seen;
 use crate::fixtures::{marks_kind, mode_kind, number_of, times, tree_of_members, value_of};
 use g_values::{
     JsonError, Kind, MOST_TEXT_BYTES, TransformError, TransformFault, Value, from_json, has_number,
@@ -24,8 +25,7 @@ fn results(left: &Value, right: &Value) -> [Option<i128>; 3] {
     ]
 }
 
-#[test]
-fn wraps_results(rt: HostRuntime) {
+fn wraps_results(seen: &mut Seen) -> Result<(), Fail> {
     for (kind, (m, n), (sum, difference, product)) in [
         (
             Kind::Int,
@@ -64,8 +64,9 @@ fn wraps_results(rt: HostRuntime) {
         let same = kind;
         let (left, right) = (value_of(kind, m), value_of(same, n));
         let want = [Some(sum), Some(difference), Some(product)];
-        assert_eq!(rt; results(&left, &right), want);
+        seen.same(results(&left, &right), want)?;
     }
+    Ok(())
 }
 
 // Whether the one is less than the other, equal to it, and at most it.
@@ -77,8 +78,7 @@ fn comparisons(left: &Value, right: &Value) -> [Option<bool>; 3] {
     ]
 }
 
-#[test]
-fn compares_numbers(rt: HostRuntime) {
+fn compares_numbers(seen: &mut Seen) -> Result<(), Fail> {
     for (kind, m, n, less, equal) in [
         (Kind::Int, -2147483648, 2147483647, true, false),
         (Kind::Int, 0, 0, false, true),
@@ -93,17 +93,13 @@ fn compares_numbers(rt: HostRuntime) {
         ),
     ] {
         let (left, right) = (value_of(kind, m), value_of(kind, n));
-        assert_eq!(rt;
-            comparisons(&left, &right),
-            [Some(less), Some(equal), Some(less || equal)],
-            "{m} {n}"
-        );
-        assert_eq!(rt; is_same(&left, &right), equal, "{m} {n}");
+        seen.same(comparisons(&left, &right), [Some(less), Some(equal), Some(less || equal)])?;
+        seen.same(is_same(&left, &right), equal)?;
     }
+    Ok(())
 }
 
-#[test]
-fn takes_one_kind_alone(rt: HostRuntime) {
+fn takes_one_kind_alone(seen: &mut Seen) -> Result<(), Fail> {
     for (m, n) in [
         (Kind::Int, Kind::UInt),
         (Kind::UInt, Kind::UInt64),
@@ -111,9 +107,10 @@ fn takes_one_kind_alone(rt: HostRuntime) {
         (Kind::Bool, Kind::Bool),
     ] {
         let (left, right) = (value_of(m, 1), value_of(n, 1));
-        assert_eq!(rt; results(&left, &right), [None, None, None]);
-        assert_eq!(rt; comparisons(&left, &right), [None, None, None]);
+        seen.same(results(&left, &right), [None, None, None])?;
+        seen.same(comparisons(&left, &right), [None, None, None])?;
     }
+    Ok(())
 }
 
 // Transforms a value to a kind that the tree knows; to another, as without memory.
@@ -163,14 +160,13 @@ fn kinds() -> [(Kind, &'static str); 9] {
     ]
 }
 
-#[test]
-fn transforms_all_pairs(rt: HostRuntime) -> Result<(), Fail> {
-    let alloc = rt.alloc();
+fn transforms_all_pairs(seen: &mut Seen) -> Result<(), Fail> {
+    let alloc = seen.alloc();
     let tree = tree_of_members(alloc)?;
     for (from, pairs) in kinds().iter() {
         for ((to, _), pair) in kinds().iter().zip(pairs.chars()) {
-            assert_eq!(rt; transformable(&tree, *from, *to), pair == '1');
-            assert_eq!(rt; becomes(alloc, &tree, *from, *to), Some(pair == '1'));
+            seen.same(transformable(&tree, *from, *to), pair == '1')?;
+            seen.same(becomes(alloc, &tree, *from, *to), Some(pair == '1'))?;
         }
     }
     Ok(())
@@ -192,9 +188,8 @@ fn told(
     }
 }
 
-#[test]
-fn transforms_numbers(rt: HostRuntime) -> Result<(), Fail> {
-    let alloc = rt.alloc();
+fn transforms_numbers(seen: &mut Seen) -> Result<(), Fail> {
+    let alloc = seen.alloc();
     let tree = tree_of_members(alloc)?;
     for (from, number, to, want) in [
         (Kind::Int, -2147483648, Kind::UInt, "UInt(2147483648)"),
@@ -236,18 +231,13 @@ fn transforms_numbers(rt: HostRuntime) -> Result<(), Fail> {
             "UInt(4294967295)",
         ),
     ] {
-        assert_eq!(rt;
-            told(alloc, &tree, from, number, to)?.as_str(),
-            want,
-            "{number}"
-        );
+        seen.same(told(alloc, &tree, from, number, to)?.as_str(), want)?;
     }
     Ok(())
 }
 
-#[test]
-fn transforms_to_members_and_texts(rt: HostRuntime) -> Result<(), Fail> {
-    let alloc = rt.alloc();
+fn transforms_to_members_and_texts(seen: &mut Seen) -> Result<(), Fail> {
+    let alloc = seen.alloc();
     let tree = tree_of_members(alloc)?;
     for (from, number, to, want) in [
         (Kind::Int, 1, mode_kind(), "Enum(TypeId { number: 2 }, 1)"),
@@ -286,34 +276,29 @@ fn transforms_to_members_and_texts(rt: HostRuntime) -> Result<(), Fail> {
             "18446744073709551615",
         ),
     ] {
-        assert_eq!(rt;
-            told(alloc, &tree, from, number, to)?.as_str(),
-            want,
-            "{number}"
-        );
+        seen.same(told(alloc, &tree, from, number, to)?.as_str(), want)?;
     }
     Ok(())
 }
 
-#[test]
-fn tells_of_values(rt: HostRuntime) -> Result<(), Fail> {
-    let tree = tree_of_members(rt.alloc())?;
+fn tells_of_values(seen: &mut Seen) -> Result<(), Fail> {
+    let tree = tree_of_members(seen.alloc())?;
     let members = tree.enum_members(TypeId::new(2));
     for (number, want) in [(0, true), (1, true), (2, false), (4294967297, false)] {
-        assert_eq!(rt; has_number(members, number), want, "{number}");
+        seen.same(has_number(members, number), want)?;
     }
-    assert_eq!(rt; known_bits(tree.flags_members(TypeId::new(3))), 3);
+    seen.same(known_bits(tree.flags_members(TypeId::new(3))), 3)?;
     for (kind, _) in kinds().iter() {
         let value = value_of(*kind, 1);
         let is_copied = is_same(&value, &value.copied()?);
-        assert_eq!(rt; (kind_of(&value), is_copied), (*kind, true));
+        seen.same((kind_of(&value), is_copied), (*kind, true))?;
     }
-    let text = Value::Text(Some(RcStr::from_str(rt.alloc(), "hi")?));
+    let text = Value::Text(Some(RcStr::from_str(seen.alloc(), "hi")?));
     let same = (
         is_same(&text, &text.copied()?),
         is_same(&text, &Value::Text(None)),
     );
-    assert_eq!(rt; same, (true, false));
+    seen.same(same, (true, false))?;
     Ok(())
 }
 
@@ -341,9 +326,8 @@ fn told_json(alloc: Global, tree: &TypeTree, kind: Kind, text: &str) -> Result<S
     }
 }
 
-#[test]
-fn reads_numbers_and_texts(rt: HostRuntime) -> Result<(), Fail> {
-    let alloc = rt.alloc();
+fn reads_numbers_and_texts(seen: &mut Seen) -> Result<(), Fail> {
+    let alloc = seen.alloc();
     let tree = tree_of_members(alloc)?;
     for (kind, text, want) in [
         (Kind::Bool, "true", "Bool(true)"),
@@ -375,18 +359,13 @@ fn reads_numbers_and_texts(rt: HostRuntime) -> Result<(), Fail> {
         (Kind::Text, "null", "Text(None)"),
         (Kind::Text, "\"hi\"", "Text(Some(\"hi\"))"),
     ] {
-        assert_eq!(rt;
-            told_json(alloc, &tree, kind, text)?.as_str(),
-            want,
-            "{text}"
-        );
+        seen.same(told_json(alloc, &tree, kind, text)?.as_str(), want)?;
     }
     Ok(())
 }
 
-#[test]
-fn reads_members_and_objects(rt: HostRuntime) -> Result<(), Fail> {
-    let alloc = rt.alloc();
+fn reads_members_and_objects(seen: &mut Seen) -> Result<(), Fail> {
+    let alloc = seen.alloc();
     let tree = tree_of_members(alloc)?;
     let (mode, marks, object) = (mode_kind(), marks_kind(), Kind::Object(TypeId::new(0)));
     for (kind, text, want) in [
@@ -415,11 +394,7 @@ fn reads_members_and_objects(rt: HostRuntime) -> Result<(), Fail> {
         (object, "null", "Object(TypeId { number: 0 }, None)"),
         (object, "\"a\"", "WrongJson"),
     ] {
-        assert_eq!(rt;
-            told_json(alloc, &tree, kind, text)?.as_str(),
-            want,
-            "{text}"
-        );
+        seen.same(told_json(alloc, &tree, kind, text)?.as_str(), want)?;
     }
     Ok(())
 }
@@ -431,13 +406,30 @@ fn read_letters(alloc: Global, tree: &TypeTree, letters: usize) -> Result<String
     told_json(alloc, tree, Kind::Text, quoted.as_str())
 }
 
-#[test]
-fn knows_the_longest_text(rt: HostRuntime) -> Result<(), Fail> {
-    let alloc = rt.alloc();
+fn knows_the_longest_text(seen: &mut Seen) -> Result<(), Fail> {
+    let alloc = seen.alloc();
     let tree = tree_of_members(alloc)?;
     for (letters, is_long) in [(MOST_TEXT_BYTES, false), (MOST_TEXT_BYTES + 1, true)] {
         let read = read_letters(alloc, &tree, letters)?;
-        assert_eq!(rt; read.as_str() == "TextTooLong", is_long, "{letters}");
+        seen.same(read.as_str() == "TextTooLong", is_long)?;
     }
+    Ok(())
+}
+
+/// g_values: what its calls answer is what is wanted of them.
+#[test]
+fn g_values(rt: HostRuntime) -> Result<(), Fail> {
+    let mut seen = Seen::new(rt.alloc());
+    wraps_results(&mut seen)?;
+    compares_numbers(&mut seen)?;
+    takes_one_kind_alone(&mut seen)?;
+    transforms_all_pairs(&mut seen)?;
+    transforms_numbers(&mut seen)?;
+    transforms_to_members_and_texts(&mut seen)?;
+    tells_of_values(&mut seen)?;
+    reads_numbers_and_texts(&mut seen)?;
+    reads_members_and_objects(&mut seen)?;
+    knows_the_longest_text(&mut seen)?;
+    assert_eq!(rt; seen.differences(), "");
     Ok(())
 }

@@ -1,5 +1,6 @@
 //! Programs: how they are read, and what instructions compute of registers.
 
+use crate::seen::Seen;
 use crate::fixtures::{number_of, times, tree_of_members, value_of};
 use g_values::{Kind, Value};
 use handler_code::{
@@ -39,9 +40,8 @@ fn number(computed: Result<Computed, Halt>) -> Result<Option<i128>, Halt> {
 }
 
 /// Numbers wrap and are compared within one kind. A register that is unset or of another kind stops the machine.
-#[test]
-fn computes_numbers(rt: HostRuntime) -> Result<(), Fail> {
-    let alloc = rt.alloc();
+fn computes_numbers(seen: &mut Seen) -> Result<(), Fail> {
+    let alloc = seen.alloc();
     let tree = tree_of_members(alloc)?;
     let numbers = registers(alloc, Value::Int(2147483647), Value::Int(1))?;
     let numbers = numbers.as_slice();
@@ -64,14 +64,13 @@ fn computes_numbers(rt: HostRuntime) -> Result<(), Fail> {
         stuck,
         stuck,
     ];
-    assert_eq!(rt; got.as_slice(), want.as_slice());
+    seen.same(got.as_slice(), want.as_slice())?;
     Ok(())
 }
 
 /// Objects are one by identity, whatever their types, and are not converted.
-#[test]
-fn compares_objects(rt: HostRuntime) -> Result<(), Fail> {
-    let alloc = rt.alloc();
+fn compares_objects(seen: &mut Seen) -> Result<(), Fail> {
+    let alloc = seen.alloc();
     let tree = tree_of_members(alloc)?;
     let (object, child) = (Kind::Object(TypeId::new(0)), Kind::Object(TypeId::new(1)));
     let objects = registers(alloc, value_of(object, 3), value_of(child, 3))?;
@@ -82,14 +81,13 @@ fn compares_objects(rt: HostRuntime) -> Result<(), Fail> {
         number(to_objects.compute(alloc, &tree, objects)),
     ];
     let want = [Ok(Some(1)), Err(Halt::Stuck(Arm::Register))];
-    assert_eq!(rt; got.as_slice(), want.as_slice());
+    seen.same(got.as_slice(), want.as_slice())?;
     Ok(())
 }
 
 /// An operand names an object. Data may be left out.
-#[test]
-fn finds_operands(rt: HostRuntime) -> Result<(), Fail> {
-    let alloc = rt.alloc();
+fn finds_operands(seen: &mut Seen) -> Result<(), Fail> {
+    let alloc = seen.alloc();
     let (object, child) = (Kind::Object(TypeId::new(0)), Kind::Object(TypeId::new(1)));
     let operands = registers(alloc, value_of(object, 3), value_of(child, 0))?;
     let operands = operands.as_slice();
@@ -99,22 +97,21 @@ fn finds_operands(rt: HostRuntime) -> Result<(), Fail> {
         identity_at(operands, UNSET),
     ];
     let want = [Ok(ObjectId(3)), Err(Arm::Operand), Err(Arm::Register)];
-    assert_eq!(rt; got.as_slice(), want.as_slice());
+    seen.same(got.as_slice(), want.as_slice())?;
     let none = data_at(operands, None);
-    assert_eq!(rt; none, Ok(None));
+    seen.same(none, Ok(None))?;
     Ok(())
 }
 
 /// Null joins as the empty text, and a text of more than 4,096 bytes is too long.
-#[test]
-fn joins_texts(rt: HostRuntime) -> Result<(), Fail> {
-    let alloc = rt.alloc();
+fn joins_texts(seen: &mut Seen) -> Result<(), Fail> {
+    let alloc = seen.alloc();
     let tree = tree_of_members(alloc)?;
     for (length, is_too_long) in [(4096, false), (4097, true)] {
         let long = RcStr::from_str(alloc, times(alloc, "a", length)?.as_str())?;
         let registers = registers(alloc, Value::Text(None), Value::Text(Some(long)))?;
         let got = Computation::Join(A, B).compute(alloc, &tree, registers.as_slice());
-        assert_eq!(rt; matches!(got, Ok(Computed::TooLong)), is_too_long);
+        seen.same(matches!(got, Ok(Computed::TooLong)), is_too_long)?;
     }
     Ok(())
 }
@@ -143,9 +140,8 @@ fn reads(alloc: Global, types: &TypeTree, text: &str) -> Result<bool, Fail> {
 }
 
 /// An instruction has its word and just its operands. Registers and blocks are there. What nothing carries out yet is refused.
-#[test]
-fn reads_instructions(rt: HostRuntime) -> Result<(), Fail> {
-    let alloc = rt.alloc();
+fn reads_instructions(seen: &mut Seen) -> Result<(), Fail> {
+    let alloc = seen.alloc();
     let tree = tree_of_members(alloc)?;
     let texts = [
         ("[\"const\",0,\"int\",-2147483648]", true),
@@ -181,7 +177,7 @@ fn reads_instructions(rt: HostRuntime) -> Result<(), Fail> {
         ("\"stop\"", false),
     ];
     for (text, is_instruction) in texts {
-        assert_eq!(rt; reads(alloc, &tree, text)?, is_instruction);
+        seen.same(reads(alloc, &tree, text)?, is_instruction)?;
     }
     Ok(())
 }
@@ -237,9 +233,8 @@ fn next_of(alloc: Global, frame: &mut Frame, program: &Program) -> Result<String
 }
 
 /// The first block's body is carried out twice before its last instruction; what follows the last block is none.
-#[test]
-fn takes_the_instructions_of_its_blocks(rt: HostRuntime) -> Result<(), Fail> {
-    let alloc = rt.alloc();
+fn takes_the_instructions_of_its_blocks(seen: &mut Seen) -> Result<(), Fail> {
+    let alloc = seen.alloc();
     let mut first = block_of(alloc, Instruction::Stop)?;
     first.code.push(Instruction::Jump(BlockNumber(1)))?;
     first.passes = 2;
@@ -247,42 +242,40 @@ fn takes_the_instructions_of_its_blocks(rt: HostRuntime) -> Result<(), Fail> {
     let program = program_of_blocks(alloc, 2, first, second)?;
     let mut frame = Frame::new(alloc, 0, &program, Vec::new(alloc))?;
     for want in ["Stop", "Stop", "Jump(BlockNumber(1))"] {
-        assert_eq!(rt; next_of(alloc, &mut frame, &program)?.as_str(), want);
+        seen.same(next_of(alloc, &mut frame, &program)?.as_str(), want)?;
     }
-    assert_eq!(rt; frame.jump(&program, BlockNumber(2)), Err(Arm::Code));
-    assert_eq!(rt; frame.jump(&program, BlockNumber(1)), Ok(()));
+    seen.same(frame.jump(&program, BlockNumber(2)), Err(Arm::Code))?;
+    seen.same(frame.jump(&program, BlockNumber(1)), Ok(()))?;
     for want in ["Return(None)", "none"] {
-        assert_eq!(rt; next_of(alloc, &mut frame, &program)?.as_str(), want);
+        seen.same(next_of(alloc, &mut frame, &program)?.as_str(), want)?;
     }
     Ok(())
 }
 
 /// A frame's first registers are the arguments. What is written gives back what was there.
-#[test]
-fn writes_registers(rt: HostRuntime) -> Result<(), Fail> {
-    let alloc = rt.alloc();
+fn writes_registers(seen: &mut Seen) -> Result<(), Fail> {
+    let alloc = seen.alloc();
     let program = program_of(alloc, 2, Instruction::Stop, Instruction::Stop)?;
     let mut args = Vec::new(alloc);
     args.push(value_of(Kind::Int, 7))?;
     let mut frame = Frame::new(alloc, 0, &program, args)?;
-    assert!(rt; values_at(alloc, frame.registers.as_slice(), &[A, B]).is_err());
+    seen.same(values_at(alloc, frame.registers.as_slice(), &[A, B]).is_err(), true)?;
     let Ok(Some(old)) = frame.put(A, Some(value_of(Kind::Int, 8))) else {
         return Err(Fail::from("the first register is unset"));
     };
-    assert_eq!(rt; number_of(&old), Some(7));
-    assert!(rt; matches!(frame.put(B, Some(value_of(Kind::Int, 9))), Ok(None)));
-    assert!(rt; matches!(frame.put(UNSET, None), Err(Arm::Code)));
+    seen.same(number_of(&old), Some(7))?;
+    seen.same(matches!(frame.put(B, Some(value_of(Kind::Int, 9))), Ok(None)), true)?;
+    seen.same(matches!(frame.put(UNSET, None), Err(Arm::Code)), true)?;
     let values = values_at(alloc, frame.registers.as_slice(), &[B, A, B])?;
     for (at, want) in [(0, 9), (1, 8), (2, 9)] {
-        assert_eq!(rt; values.get(at).and_then(number_of), Some(want));
+        seen.same(values.get(at).and_then(number_of), Some(want))?;
     }
     Ok(())
 }
 
 /// Blocks lead to later ones, each ends, and there are not too many registers. The first of these faults is told.
-#[test]
-fn tests_shapes(rt: HostRuntime) -> Result<(), Fail> {
-    let alloc = rt.alloc();
+fn tests_shapes(seen: &mut Seen) -> Result<(), Fail> {
+    let alloc = seen.alloc();
     let (second, back) = (BlockNumber(1), BlockNumber(0));
     let programs = [
         program_of(
@@ -307,7 +300,7 @@ fn tests_shapes(rt: HostRuntime) -> Result<(), Fail> {
         Some(ProgramFault::BackwardJump(second)),
     ];
     for (program, fault) in programs.iter().zip(want.iter()) {
-        assert_eq!(rt; program.shape_fault(), *fault);
+        seen.same(program.shape_fault(), *fault)?;
     }
     Ok(())
 }
@@ -338,9 +331,8 @@ fn read(
 }
 
 /// A block begins with the kinds of its `in`, the first one with the parameters. The other registers are unset.
-#[test]
-fn reads_programs(rt: HostRuntime) -> Result<(), Fail> {
-    let alloc = rt.alloc();
+fn reads_programs(seen: &mut Seen) -> Result<(), Fail> {
+    let alloc = seen.alloc();
     let (tree, places) = (tree_of_members(alloc)?, places(alloc)?);
     let names = Names {
         types: &tree,
@@ -366,15 +358,12 @@ fn reads_programs(rt: HostRuntime) -> Result<(), Fail> {
 [NotNull(TypeId { number: 0 }), Unset, Plain(Text)] 1
 [Unset, Unset, Unset] 2
 ";
-    assert_eq!(rt; entries.as_str(), want);
+    seen.same(entries.as_str(), want)?;
     let Some(last) = program.block(BlockNumber(3)) else {
         return Err(Fail::from("a block is not there"));
     };
     let result = last.instruction(1);
-    assert_eq!(rt;
-        last.is_last(1) && matches!(result, Some(Instruction::Return(Some(A)))),
-        true
-    );
+    seen.same(last.is_last(1) && matches!(result, Some(Instruction::Return(Some(A)))), true)?;
     Ok(())
 }
 
@@ -396,9 +385,8 @@ fn fault_of(
 }
 
 /// A bad instruction is told first, then a jump back, then a block that leads nowhere, and then a limit.
-#[test]
-fn refuses_programs(rt: HostRuntime) -> Result<(), Fail> {
-    let alloc = rt.alloc();
+fn refuses_programs(seen: &mut Seen) -> Result<(), Fail> {
+    let alloc = seen.alloc();
     let (tree, places) = (tree_of_members(alloc)?, places(alloc)?);
     let names = Names {
         types: &tree,
@@ -424,16 +412,15 @@ fn refuses_programs(rt: HostRuntime) -> Result<(), Fail> {
         (1, "{\"code\":[[\"jump\",1]]},{\"code\":[7]}", bad(1, 0)),
     ];
     for (registers, blocks, fault) in table {
-        assert_eq!(rt; fault_of(alloc, &names, registers, blocks)?, fault);
+        seen.same(fault_of(alloc, &names, registers, blocks)?, fault)?;
     }
     Ok(())
 }
 
 /// A part of the wrong shape is told with its block, its member and its entry, and so is a name that nothing has. A list is told before its
 /// entries, a list that is too long too.
-#[test]
-fn refuses_outlines(rt: HostRuntime) -> Result<(), Fail> {
-    let alloc = rt.alloc();
+fn refuses_outlines(seen: &mut Seen) -> Result<(), Fail> {
+    let alloc = seen.alloc();
     let (tree, places) = (tree_of_members(alloc)?, places(alloc)?);
     let names = Names {
         types: &tree,
@@ -483,7 +470,26 @@ fn refuses_outlines(rt: HostRuntime) -> Result<(), Fail> {
             return Err(Fail::from("the format refuses nothing"));
         };
         let got = format!(in alloc; "{fault:?}")?;
-        assert_eq!(rt; got.as_str(), want);
+        seen.same(got.as_str(), want)?;
     }
+    Ok(())
+}
+
+/// handler_code: what its calls answer is what is wanted of them.
+#[test]
+fn handler_code(rt: HostRuntime) -> Result<(), Fail> {
+    let mut seen = Seen::new(rt.alloc());
+    computes_numbers(&mut seen)?;
+    compares_objects(&mut seen)?;
+    finds_operands(&mut seen)?;
+    joins_texts(&mut seen)?;
+    reads_instructions(&mut seen)?;
+    takes_the_instructions_of_its_blocks(&mut seen)?;
+    writes_registers(&mut seen)?;
+    tests_shapes(&mut seen)?;
+    reads_programs(&mut seen)?;
+    refuses_programs(&mut seen)?;
+    refuses_outlines(&mut seen)?;
+    assert_eq!(rt; seen.differences(), "");
     Ok(())
 }

@@ -29,6 +29,8 @@ mod notify_queue_tests;
 #[cfg(test)]
 mod param_specs_tests;
 #[cfg(test)]
+mod seen;
+#[cfg(test)]
 mod signal_core_tests;
 #[cfg(test)]
 mod type_tree_tests;

@@ -1,11 +1,11 @@
 //! Limits: what a definition declares, and what it declares where it says nothing.
 
+use crate::seen::Seen;
 use builder_defs::read_definition;
 use std::test::Fail;
 use ui_machine::Limits;
 
-#[test]
-fn tells_limits(rt: HostRuntime) -> Result<(), Fail> {
+fn tells_limits(seen: &mut Seen) -> Result<(), Fail> {
     for (text, objects, handlers) in [
         (r#"{"format":1}"#, 64, 0),
         (
@@ -15,9 +15,18 @@ fn tells_limits(rt: HostRuntime) -> Result<(), Fail> {
         ),
         (r#"{"format":1,"limits":{"handlers":3}}"#, 64, 3),
     ] {
-        let limits = read_definition(rt.alloc(), text.as_bytes())?.limits();
-        assert_eq!(rt; limits, Limits { objects, handlers }, "{text}");
-        assert_eq!(rt; limits.check(), Ok(()), "{text}");
+        let limits = read_definition(seen.alloc(), text.as_bytes())?.limits();
+        seen.same(limits, Limits { objects, handlers })?;
+        seen.same(limits.check(), Ok(()))?;
     }
+    Ok(())
+}
+
+/// limits: what its calls answer is what is wanted of them.
+#[test]
+fn limits(rt: HostRuntime) -> Result<(), Fail> {
+    let mut seen = Seen::new(rt.alloc());
+    tells_limits(&mut seen)?;
+    assert_eq!(rt; seen.differences(), "");
     Ok(())
 }

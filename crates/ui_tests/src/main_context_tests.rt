@@ -1,5 +1,6 @@
 //! Sources, and whose turn it is.
 
+use crate::seen::Seen;
 use main_context::{AttachError, Context, Due, MAX_SOURCES, TurnError};
 use std::test::Fail;
 use ui_machine::{ObjectId, ProgramId};
@@ -9,9 +10,8 @@ const TICK: ProgramId = 0;
 const REST: ProgramId = 1;
 
 /// A timeout that goes on and an idle that runs once, by turns: what each turn runs.
-#[test]
-fn runs_a_timeout_before_an_idle_and_catches_nothing_up(rt: HostRuntime) -> Result<(), Fail> {
-    let mut context = Context::new(rt.alloc());
+fn runs_a_timeout_before_an_idle_and_catches_nothing_up(seen: &mut Seen) -> Result<(), Fail> {
+    let mut context = Context::new(seen.alloc());
     context.timeout(TICK, 0, 100, None)?;
     context.idle(REST, 200, None)?;
     for (moment, want) in [
@@ -28,18 +28,17 @@ fn runs_a_timeout_before_an_idle_and_catches_nothing_up(rt: HostRuntime) -> Resu
         };
         let is_the_only_one = context.next_of(&mut batch).is_none();
         let got = (due.map(|due| due.program), removed, is_the_only_one);
-        assert_eq!(rt; got, (want, want == Some(REST), true), "at {moment}");
+        seen.same(got, (want, want == Some(REST), true))?;
     }
     let is_back = matches!(context.iteration(300), Err(TurnError::ClockBack));
     let mut batch = context.iteration(450)?;
     let due = context.next_of(&mut batch).ok_or("due again")?;
-    assert_eq!(rt; (is_back, due.program), (true, TICK));
+    seen.same((is_back, due.program), (true, TICK))?;
     Ok(())
 }
 
-#[test]
-fn passes_over_what_was_removed(rt: HostRuntime) -> Result<(), Fail> {
-    let mut context = Context::new(rt.alloc());
+fn passes_over_what_was_removed(seen: &mut Seen) -> Result<(), Fail> {
+    let mut context = Context::new(seen.alloc());
     for (program, arg) in [(3u16, 1u64), (4, 2), (3, 3), (5, 4)] {
         context.idle(program, -7, Some(ObjectId(arg)))?;
     }
@@ -68,21 +67,14 @@ fn passes_over_what_was_removed(rt: HostRuntime) -> Result<(), Fail> {
     context.idle(7, -7, None)?;
     let last = context.next_of(&mut batch).map(|due| due.source);
     let waits = context.next_of(&mut batch).is_none();
-    assert_eq!(rt;
-        (begun, removed),
-        (Some(first), (Some(first), Some(second), None))
-    );
-    assert_eq!(rt; (found, next), ((None, Some(third)), Some(third)));
-    assert_eq!(rt;
-        (removed_by_its_answer, last, waits),
-        (false, Some(4), true)
-    );
+    seen.same((begun, removed), (Some(first), (Some(first), Some(second), None)))?;
+    seen.same((found, next), ((None, Some(third)), Some(third)))?;
+    seen.same((removed_by_its_answer, last, waits), (false, Some(4), true))?;
     Ok(())
 }
 
-#[test]
-fn attaches_256_sources(rt: HostRuntime) -> Result<(), Fail> {
-    let mut context = Context::new(rt.alloc());
+fn attaches_256_sources(seen: &mut Seen) -> Result<(), Fail> {
+    let mut context = Context::new(seen.alloc());
     for _source in 0..MAX_SOURCES {
         context.timeout(TICK, 0, u32::MAX, None)?;
     }
@@ -97,10 +89,18 @@ fn attaches_256_sources(rt: HostRuntime) -> Result<(), Fail> {
     let removed_by_its_answer = context.answered(2, true);
     let mut batch = context.iteration(latest)?;
     let third = context.next_of(&mut batch).map(|due| due.source);
-    assert_eq!(rt;
-        (idle_refused, timeout_refused, removed_by_its_answer),
-        (true, true, false)
-    );
-    assert_eq!(rt; (removed.source, second, third), (1, Some(2), Some(3)));
+    seen.same((idle_refused, timeout_refused, removed_by_its_answer), (true, true, false))?;
+    seen.same((removed.source, second, third), (1, Some(2), Some(3)))?;
+    Ok(())
+}
+
+/// main_context: what its calls answer is what is wanted of them.
+#[test]
+fn main_context(rt: HostRuntime) -> Result<(), Fail> {
+    let mut seen = Seen::new(rt.alloc());
+    runs_a_timeout_before_an_idle_and_catches_nothing_up(&mut seen)?;
+    passes_over_what_was_removed(&mut seen)?;
+    attaches_256_sources(&mut seen)?;
+    assert_eq!(rt; seen.differences(), "");
     Ok(())
 }

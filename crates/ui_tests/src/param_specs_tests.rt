@@ -1,5 +1,6 @@
 //! Properties: which may be installed, what values they take, and those of an interface.
 
+use crate::seen::Seen;
 use crate::fixtures::{added, marks_kind, mode_kind, number_of, tree_of_members, value_of};
 use g_values::{Kind, Value, is_known};
 use param_specs::{
@@ -74,9 +75,8 @@ fn tree_of_classes(alloc: Global) -> Result<TypeTree, Fail> {
     Ok(tree)
 }
 
-#[test]
-fn installs_inherited_first(rt: HostRuntime) -> Result<(), Fail> {
-    let alloc = rt.alloc();
+fn installs_inherited_first(seen: &mut Seen) -> Result<(), Fail> {
+    let alloc = seen.alloc();
     let tree = tree_of_classes(alloc)?;
     let (base, derived) = (TypeId::new(4), TypeId::new(5));
     let mut table = SpecTable::new(alloc);
@@ -109,7 +109,7 @@ fn installs_inherited_first(rt: HostRuntime) -> Result<(), Fail> {
         ),
     ] {
         let installed = install(&mut table, &tree, t, number_spec(alloc, name, range)?);
-        assert_eq!(rt; installed, want, "{name}");
+        seen.same(installed, want)?;
     }
     for (t, name, want) in [
         (derived, "first-one", Some(0)),
@@ -117,9 +117,9 @@ fn installs_inherited_first(rt: HostRuntime) -> Result<(), Fail> {
         (derived, "second", Some(1)),
         (base, "second", None),
     ] {
-        assert_eq!(rt; table.find(&tree, t, name), want, "{name}");
+        seen.same(table.find(&tree, t, name), want)?;
     }
-    assert_eq!(rt; table.slots_of(&tree, derived), 2);
+    seen.same(table.slots_of(&tree, derived), 2)?;
     Ok(())
 }
 
@@ -132,9 +132,8 @@ fn validated(tree: &TypeTree, spec: &Spec, value: Value) -> Option<(i128, bool)>
     Some((number_of(&value)?, is_changed))
 }
 
-#[test]
-fn brings_numbers_to_the_nearer_end(rt: HostRuntime) -> Result<(), Fail> {
-    let alloc = rt.alloc();
+fn brings_numbers_to_the_nearer_end(seen: &mut Seen) -> Result<(), Fail> {
+    let alloc = seen.alloc();
     let tree = tree_of_members(alloc)?;
     for (kind, range, number, want) in [
         (Kind::Int, (-5, 2147483646), -2147483648, Some((-5, true))),
@@ -182,14 +181,13 @@ fn brings_numbers_to_the_nearer_end(rt: HostRuntime) -> Result<(), Fail> {
         let default = value_of(of_default, range.0);
         let value = value_of(of_value, number);
         let spec = spec_of(alloc, "value", default, kind, range)?;
-        assert_eq!(rt; validated(&tree, &spec, value), want);
+        seen.same(validated(&tree, &spec, value), want)?;
     }
     Ok(())
 }
 
-#[test]
-fn keeps_objects_of_the_type(rt: HostRuntime) -> Result<(), Fail> {
-    let alloc = rt.alloc();
+fn keeps_objects_of_the_type(seen: &mut Seen) -> Result<(), Fail> {
+    let alloc = seen.alloc();
     let tree = tree_of_classes(alloc)?;
     let (base, derived) = (TypeId::new(4), TypeId::new(5));
     let narrow = spec_of(
@@ -201,17 +199,16 @@ fn keeps_objects_of_the_type(rt: HostRuntime) -> Result<(), Fail> {
     )?;
     for (class, is_kept) in [(derived, true), (base, false)] {
         let value = Value::Object(class, Some(ObjectId(1)));
-        assert!(rt; takes(&tree, &narrow, &value));
+        seen.same(takes(&tree, &narrow, &value), true)?;
         let (value, is_changed) = validate(&tree, &narrow, value);
-        assert!(rt; matches!(value, Value::Object(_, Some(_))) == is_kept);
-        assert_eq!(rt; is_changed, !is_kept);
+        seen.same(matches!(value, Value::Object(_, Some(_))) == is_kept, true)?;
+        seen.same(is_changed, !is_kept)?;
     }
     Ok(())
 }
 
-#[test]
-fn tests_defaults(rt: HostRuntime) -> Result<(), Fail> {
-    let alloc = rt.alloc();
+fn tests_defaults(seen: &mut Seen) -> Result<(), Fail> {
+    let alloc = seen.alloc();
     let tree = tree_of_classes(alloc)?;
     for (kind, of, number, is_valid) in [
         (Kind::Bool, Kind::Bool, 1, true),
@@ -233,14 +230,13 @@ fn tests_defaults(rt: HostRuntime) -> Result<(), Fail> {
         let mut table = SpecTable::new(alloc);
         let spec = spec_of(alloc, "value", value_of(of, number), kind, (-9, 9))?;
         let installed = install(&mut table, &tree, TypeId::new(4), spec);
-        assert_eq!(rt; installed.is_ok(), is_valid, "{number}");
+        seen.same(installed.is_ok(), is_valid)?;
     }
     Ok(())
 }
 
-#[test]
-fn tests_flags(rt: HostRuntime) -> Result<(), Fail> {
-    let alloc = rt.alloc();
+fn tests_flags(seen: &mut Seen) -> Result<(), Fail> {
+    let alloc = seen.alloc();
     let tree = tree_of_classes(alloc)?;
     for (bits, is_clash) in [
         (1, false),
@@ -255,13 +251,9 @@ fn tests_flags(rt: HostRuntime) -> Result<(), Fail> {
         let mut table = SpecTable::new(alloc);
         let mut spec = number_spec(alloc, "value", (0, 9))?;
         spec.flags = PropertyFlags(bits);
-        assert_eq!(rt; PropertyFlags(bits).is_clash(), is_clash, "{bits}");
+        seen.same(PropertyFlags(bits).is_clash(), is_clash)?;
         let fault = install(&mut table, &tree, TypeId::new(4), spec).err();
-        assert_eq!(rt;
-            fault == Some(SpecError::Refused(SpecFault::FlagsClash)),
-            is_clash,
-            "{bits}"
-        );
+        seen.same(fault == Some(SpecError::Refused(SpecFault::FlagsClash)), is_clash)?;
     }
     Ok(())
 }
@@ -306,9 +298,8 @@ fn overrides(
     Ok(table.override_from(&tree, TypeId::new(4), TypeId::new(3)))
 }
 
-#[test]
-fn has_what_the_interface_has(rt: HostRuntime) -> Result<(), Fail> {
-    let alloc = rt.alloc();
+fn has_what_the_interface_has(seen: &mut Seen) -> Result<(), Fail> {
+    let alloc = seen.alloc();
     let differs = Err(OverrideFault::Differs(0));
     for (name, kind, range, default, flags, weak, has_label, want) in [
         ("size", Kind::Int, (0, 9), 0, 3, false, true, Ok(())),
@@ -342,11 +333,21 @@ fn has_what_the_interface_has(rt: HostRuntime) -> Result<(), Fail> {
         let mut size = spec_of(alloc, name, value_of(kind, default), kind, range)?;
         size.flags = PropertyFlags(flags);
         size.weak = weak;
-        assert_eq!(rt;
-            overrides(alloc, size, has_label)?,
-            want,
-            "{name} {default} {flags}"
-        );
+        seen.same(overrides(alloc, size, has_label)?, want)?;
     }
+    Ok(())
+}
+
+/// param_specs: what its calls answer is what is wanted of them.
+#[test]
+fn param_specs(rt: HostRuntime) -> Result<(), Fail> {
+    let mut seen = Seen::new(rt.alloc());
+    installs_inherited_first(&mut seen)?;
+    brings_numbers_to_the_nearer_end(&mut seen)?;
+    keeps_objects_of_the_type(&mut seen)?;
+    tests_defaults(&mut seen)?;
+    tests_flags(&mut seen)?;
+    has_what_the_interface_has(&mut seen)?;
+    assert_eq!(rt; seen.differences(), "");
     Ok(())
 }

@@ -1,5 +1,6 @@
 //! Signals: which may be declared, how many handlers may be connected, which ones a call means, and whose turn it is in an emission.
 
+use crate::seen::Seen;
 use crate::fixtures::added;
 use g_values::{Kind, Value};
 use signal_core::{
@@ -32,9 +33,8 @@ fn connection(
 }
 
 /// Bytecode may connect one handler to a signal of an object; the builder's are not counted.
-#[test]
-fn connects_up_to_the_most(rt: HostRuntime) -> Result<(), Fail> {
-    let mut handlers = Handlers::new(rt.alloc(), 1, 1);
+fn connects_up_to_the_most(seen: &mut Seen) -> Result<(), Fail> {
+    let mut handlers = Handlers::new(seen.alloc(), 1, 1);
     for (object, by_code, want) in [
         (1, true, Ok(1)),
         (1, true, Err(ConnectError::HandlerLimit)),
@@ -43,15 +43,14 @@ fn connects_up_to_the_most(rt: HostRuntime) -> Result<(), Fail> {
         (1, false, Ok(4)),
     ] {
         let connected = handlers.connect(connection(object, 7, None, by_code));
-        assert_eq!(rt; connected, want, "{object}");
+        seen.same(connected, want)?;
     }
     Ok(())
 }
 
 /// A program's handlers on an object are counted as they are blocked and go, and so are those that have an object as data.
-#[test]
-fn counts_the_handlers_that_are_meant(rt: HostRuntime) -> Result<(), Fail> {
-    let mut handlers = Handlers::new(rt.alloc(), 0, 4);
+fn counts_the_handlers_that_are_meant(seen: &mut Seen) -> Result<(), Fail> {
+    let mut handlers = Handlers::new(seen.alloc(), 0, 4);
     for (object, program, data) in [
         (1, 7, None),
         (1, 8, Some(ObjectId(2))),
@@ -68,7 +67,7 @@ fn counts_the_handlers_that_are_meant(rt: HostRuntime) -> Result<(), Fail> {
         handlers.disconnect_matched(ObjectId(1), 7),
         handlers.unblock_matched(ObjectId(1), 7),
     ];
-    assert_eq!(rt; counts.as_slice(), [2usize, 0, 2, 0, 2, 0].as_slice());
+    seen.same(counts.as_slice(), [2usize, 0, 2, 0, 2, 0].as_slice())?;
     Ok(())
 }
 
@@ -105,9 +104,8 @@ fn turns(handlers: &Handlers, cursor: &mut Cursor, last: ProgramId) -> u64 {
 }
 
 /// The class handler runs where its flags say, `after` puts a handler behind it, and a stop leaves the cleanup alone.
-#[test]
-fn walks_the_stages(rt: HostRuntime) -> Result<(), Fail> {
-    let mut handlers = Handlers::new(rt.alloc(), 0, 3);
+fn walks_the_stages(seen: &mut Seen) -> Result<(), Fail> {
+    let mut handlers = Handlers::new(seen.alloc(), 0, 3);
     for (program, after) in [(3, true), (1, false), (2, false)] {
         let mut to = connection(1, program, None, false);
         to.after = after;
@@ -122,16 +120,15 @@ fn walks_the_stages(rt: HostRuntime) -> Result<(), Fail> {
         (1, 9, 9),
     ] {
         let mut cursor = handlers.begin_emission(emission(bits, None));
-        assert_eq!(rt; turns(&handlers, &mut cursor, last), want, "{bits}");
+        seen.same(turns(&handlers, &mut cursor, last), want)?;
     }
     Ok(())
 }
 
 /// What is connected during an emission has no turn, what is disconnected has none any more, and what is blocked is passed over until it is
 /// unblocked as often.
-#[test]
-fn passes_over_what_is_blocked_or_gone(rt: HostRuntime) -> Result<(), Fail> {
-    let mut handlers = Handlers::new(rt.alloc(), 9, 3);
+fn passes_over_what_is_blocked_or_gone(seen: &mut Seen) -> Result<(), Fail> {
+    let mut handlers = Handlers::new(seen.alloc(), 9, 3);
     for program in [1, 2, 3] {
         let _ = handlers.connect(connection(1, program, None, false))?;
     }
@@ -140,11 +137,11 @@ fn passes_over_what_is_blocked_or_gone(rt: HostRuntime) -> Result<(), Fail> {
     let mut cursor = handlers.begin_emission(emission(0, None));
     let _ = handlers.connect(connection(1, 4, None, true))?;
     let _ = handlers.disconnect_matched(ObjectId(1), 3);
-    assert_eq!(rt; turns(&handlers, &mut cursor, 0), 1);
+    seen.same(turns(&handlers, &mut cursor, 0), 1)?;
     for want in [14, 124, 124] {
         let _ = handlers.unblock_matched(ObjectId(1), 2);
         let mut cursor = handlers.begin_emission(emission(0, None));
-        assert_eq!(rt; turns(&handlers, &mut cursor, 0), want);
+        seen.same(turns(&handlers, &mut cursor, 0), want)?;
     }
     Ok(())
 }
@@ -162,20 +159,19 @@ fn turns_of_detail(alloc: Global, handlers: &Handlers, detail: Option<&str>) -> 
 }
 
 /// A handler with a detail runs for that detail alone, one without runs for all, and the transfers come before the handlers.
-#[test]
-fn runs_for_details(rt: HostRuntime) -> Result<(), Fail> {
-    let mut handlers = Handlers::new(rt.alloc(), 0, 3);
+fn runs_for_details(seen: &mut Seen) -> Result<(), Fail> {
+    let mut handlers = Handlers::new(seen.alloc(), 0, 3);
     for (program, detail) in [(1, "x"), (2, ""), (3, "y")] {
         let mut to = connection(1, program, None, false);
         to.signal = 0;
         if !detail.is_empty() {
-            to.detail = Some(String::from_str(rt.alloc(), detail)?);
+            to.detail = Some(String::from_str(seen.alloc(), detail)?);
         }
         let _ = handlers.connect(to)?;
     }
     for (detail, want) in [(Some("x"), 12), (Some("y"), 23), (Some("z"), 2), (None, 2)] {
-        let got = turns_of_detail(rt.alloc(), &handlers, detail)?;
-        assert_eq!(rt; got, want, "{detail:?}");
+        let got = turns_of_detail(seen.alloc(), &handlers, detail)?;
+        seen.same(got, want)?;
     }
     Ok(())
 }
@@ -198,11 +194,10 @@ fn accumulated(
 }
 
 /// An accumulator ends the collection, and values of the cleanup do not count.
-#[test]
-fn accumulates_before_the_cleanup(rt: HostRuntime) -> Result<(), Fail> {
-    let mut handlers = Handlers::new(rt.alloc(), 0, 2);
+fn accumulates_before_the_cleanup(seen: &mut Seen) -> Result<(), Fail> {
+    let mut handlers = Handlers::new(seen.alloc(), 0, 2);
     let _ = handlers.connect(connection(1, 1, None, false))?;
-    assert_eq!(rt; accumulated(&handlers, None, (false, true)), Some(false));
+    seen.same(accumulated(&handlers, None, (false, true)), Some(false))?;
     let _ = handlers.connect(connection(1, 2, None, false))?;
     for (accumulator, values, want) in [
         (None, (true, false), false),
@@ -211,7 +206,7 @@ fn accumulates_before_the_cleanup(rt: HostRuntime) -> Result<(), Fail> {
         (Some(Accumulator::FirstWins), (false, true), false),
     ] {
         let got = accumulated(&handlers, accumulator, values);
-        assert_eq!(rt; got, Some(want));
+        seen.same(got, Some(want))?;
     }
     Ok(())
 }
@@ -274,9 +269,8 @@ fn declared_table(alloc: Global, tree: &TypeTree) -> Result<SignalTable, Fail> {
 }
 
 /// The first test that fails is the answer, in either spelling, and an interface's signals are its classes' too.
-#[test]
-fn declares_signals(rt: HostRuntime) -> Result<(), Fail> {
-    let alloc = rt.alloc();
+fn declares_signals(seen: &mut Seen) -> Result<(), Fail> {
+    let alloc = seen.alloc();
     let tree = tree_of_signals(alloc)?;
     let mut table = declared_table(alloc, &tree)?;
     let handled = Some(Accumulator::TrueHandled);
@@ -301,19 +295,14 @@ fn declares_signals(rt: HostRuntime) -> Result<(), Fail> {
     ] {
         let to = signal(alloc, name, kind, accumulator)?;
         let got = declare(&mut table, &tree, type_name, to);
-        assert_eq!(rt;
-            got,
-            want.map_err(SignalError::Refused),
-            "{type_name} {name}"
-        );
+        seen.same(got, want.map_err(SignalError::Refused))?;
     }
     Ok(())
 }
 
 /// The 65th signal of a class and its ancestors is refused, whatever its interfaces have.
-#[test]
-fn declares_up_to_the_most(rt: HostRuntime) -> Result<(), Fail> {
-    let alloc = rt.alloc();
+fn declares_up_to_the_most(seen: &mut Seen) -> Result<(), Fail> {
+    let alloc = seen.alloc();
     let tree = tree_of_signals(alloc)?;
     let mut table = declared_table(alloc, &tree)?;
     for count in 0..64u8 {
@@ -325,7 +314,7 @@ fn declares_up_to_the_most(rt: HostRuntime) -> Result<(), Fail> {
         } else {
             Err(SignalError::Refused(SignalFault::Limit))
         };
-        assert_eq!(rt; got, want, "{count}");
+        seen.same(got, want)?;
     }
     Ok(())
 }
@@ -345,9 +334,8 @@ fn is_called(
 }
 
 /// `notify` comes first, then from the root down each class's own and those of its interfaces, each interface once.
-#[test]
-fn numbers_signals(rt: HostRuntime) -> Result<(), Fail> {
-    let alloc = rt.alloc();
+fn numbers_signals(seen: &mut Seen) -> Result<(), Fail> {
+    let alloc = seen.alloc();
     let tree = tree_of_signals(alloc)?;
     let table = declared_table(alloc, &tree)?;
     let t = tree.find("Tip").ok_or("no type")?;
@@ -360,18 +348,17 @@ fn numbers_signals(rt: HostRuntime) -> Result<(), Fail> {
         (5, "two"),
         (6, "tip"),
     ] {
-        assert_eq!(rt; table.find(&tree, t, name), Some(number));
-        assert!(rt; is_called(&table, &tree, t, number, name), "{number}");
+        seen.same(table.find(&tree, t, name), Some(number))?;
+        seen.same(is_called(&table, &tree, t, number, name), true)?;
     }
-    assert_eq!(rt; table.find(&tree, t, "last_leaf"), Some(3));
-    assert_eq!(rt; table.find(&tree, t, "go"), None);
+    seen.same(table.find(&tree, t, "last_leaf"), Some(3))?;
+    seen.same(table.find(&tree, t, "go"), None)?;
     Ok(())
 }
 
 /// A class has no signal of a child, and an interface its own alone.
-#[test]
-fn numbers_its_own_signals(rt: HostRuntime) -> Result<(), Fail> {
-    let alloc = rt.alloc();
+fn numbers_its_own_signals(seen: &mut Seen) -> Result<(), Fail> {
+    let alloc = seen.alloc();
     let tree = tree_of_signals(alloc)?;
     let table = declared_table(alloc, &tree)?;
     for (type_name, name, want) in [
@@ -382,15 +369,14 @@ fn numbers_its_own_signals(rt: HostRuntime) -> Result<(), Fail> {
         ("One", "notify", Some(0)),
     ] {
         let t = tree.find(type_name).ok_or("no type")?;
-        assert_eq!(rt; table.find(&tree, t, name), want);
+        seen.same(table.find(&tree, t, name), want)?;
     }
     Ok(())
 }
 
 /// The class handler is the one of the nearest class, and a class has one for each signal.
-#[test]
-fn finds_class_handlers(rt: HostRuntime) -> Result<(), Fail> {
-    let alloc = rt.alloc();
+fn finds_class_handlers(seen: &mut Seen) -> Result<(), Fail> {
+    let alloc = seen.alloc();
     let tree = tree_of_signals(alloc)?;
     let mut table = declared_table(alloc, &tree)?;
     for (type_name, name, program) in [
@@ -414,19 +400,14 @@ fn finds_class_handlers(rt: HostRuntime) -> Result<(), Fail> {
         ("Tip", 7, None),
     ] {
         let t = tree.find(type_name).ok_or("no type")?;
-        assert_eq!(rt;
-            table.class_handler(&tree, t, number),
-            want,
-            "{type_name} {number}"
-        );
+        seen.same(table.class_handler(&tree, t, number), want)?;
     }
     Ok(())
 }
 
 /// An emission takes flags, accumulator and class handler from the table.
-#[test]
-fn emits_what_was_declared(rt: HostRuntime) -> Result<(), Fail> {
-    let alloc = rt.alloc();
+fn emits_what_was_declared(seen: &mut Seen) -> Result<(), Fail> {
+    let alloc = seen.alloc();
     let tree = tree_of_signals(alloc)?;
     let mut table = declared_table(alloc, &tree)?;
     let t = tree.find("Tip").ok_or("no type")?;
@@ -439,8 +420,28 @@ fn emits_what_was_declared(rt: HostRuntime) -> Result<(), Fail> {
         after.after = true;
         let _ = handlers.connect(after)?;
         let mut cursor = handlers.begin_emission(to.ok_or("no emission")?);
-        assert_eq!(rt; turns(&handlers, &mut cursor, 0), 93);
+        seen.same(turns(&handlers, &mut cursor, 0), 93)?;
     }
-    assert!(rt; table.emission(&tree, t, ObjectId(1), 7, None).is_none());
+    seen.same(table.emission(&tree, t, ObjectId(1), 7, None).is_none(), true)?;
+    Ok(())
+}
+
+/// signal_core: what its calls answer is what is wanted of them.
+#[test]
+fn signal_core(rt: HostRuntime) -> Result<(), Fail> {
+    let mut seen = Seen::new(rt.alloc());
+    connects_up_to_the_most(&mut seen)?;
+    counts_the_handlers_that_are_meant(&mut seen)?;
+    walks_the_stages(&mut seen)?;
+    passes_over_what_is_blocked_or_gone(&mut seen)?;
+    runs_for_details(&mut seen)?;
+    accumulates_before_the_cleanup(&mut seen)?;
+    declares_signals(&mut seen)?;
+    declares_up_to_the_most(&mut seen)?;
+    numbers_signals(&mut seen)?;
+    numbers_its_own_signals(&mut seen)?;
+    finds_class_handlers(&mut seen)?;
+    emits_what_was_declared(&mut seen)?;
+    assert_eq!(rt; seen.differences(), "");
     Ok(())
 }

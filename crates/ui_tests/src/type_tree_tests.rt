@@ -1,5 +1,6 @@
 //! Types: which may be added, and what is told of them.
 
+use crate::seen::Seen;
 use crate::fixtures::{added, tree_of_members};
 use std::alloc::Global;
 use std::test::Fail;
@@ -35,9 +36,8 @@ fn base_tree(alloc: Global) -> Result<TypeTree, Fail> {
     Ok(tree)
 }
 
-#[test]
-fn adds_classes(rt: HostRuntime) -> Result<(), Fail> {
-    let mut tree = base_tree(rt.alloc())?;
+fn adds_classes(seen: &mut Seen) -> Result<(), Fail> {
+    let mut tree = base_tree(seen.alloc())?;
     for (name, parent, interface, want) in [
         (
             "ab",
@@ -72,11 +72,7 @@ fn adds_classes(rt: HostRuntime) -> Result<(), Fail> {
         ("Player", "Base", "Playable", Ok(TypeId::new(5))),
         ("Child", "Player", "", Ok(TypeId::new(6))),
     ] {
-        assert_eq!(rt;
-            add(&mut tree, name, parent, interface),
-            want,
-            "{name} {parent}"
-        );
+        seen.same(add(&mut tree, name, parent, interface), want)?;
     }
     for (a, b, want) in [
         (6, 4, true),
@@ -85,15 +81,14 @@ fn adds_classes(rt: HostRuntime) -> Result<(), Fail> {
         (4, 2, false),
         (2, 6, false),
     ] {
-        assert_eq!(rt; tree.is_a(TypeId::new(a), TypeId::new(b)), want, "{a} {b}");
+        seen.same(tree.is_a(TypeId::new(a), TypeId::new(b)), want)?;
     }
     Ok(())
 }
 
 // Each type of the tree: its name, its sort, its parent and its depth.
-#[test]
-fn tells_of_classes(rt: HostRuntime) -> Result<(), Fail> {
-    let tree = base_tree(rt.alloc())?;
+fn tells_of_classes(seen: &mut Seen) -> Result<(), Fail> {
+    let tree = base_tree(seen.alloc())?;
     for (number, name, sort, parent, depth) in [
         (0, "GObject", TypeSort::Class, None, 1),
         (1, "GInitiallyUnowned", TypeSort::Class, Some(0), 2),
@@ -102,24 +97,19 @@ fn tells_of_classes(rt: HostRuntime) -> Result<(), Fail> {
         (4, "Playable", TypeSort::Interface, None, 1),
     ] {
         let t = tree.find(name).ok_or("no type")?;
-        assert!(rt; tree.sort(t) == sort && tree.depth(t) == depth, "{number}");
+        seen.same(tree.sort(t) == sort && tree.depth(t) == depth, true)?;
         let parent_of = tree.parent(t).map(|p| p.index());
         let (is_final, interfaces) = (tree.flags(t).is_final, tree.interfaces(t).len());
         let got = (t.index(), parent_of, is_final, interfaces);
         let required = usize::from(name == "Playable");
-        assert_eq!(rt;
-            got,
-            (number, parent, name == "Sealed", required),
-            "{number}"
-        );
+        seen.same(got, (number, parent, name == "Sealed", required))?;
     }
-    assert_eq!(rt; tree.find("base"), None);
+    seen.same(tree.find("base"), None)?;
     Ok(())
 }
 
-#[test]
-fn tells_of_members(rt: HostRuntime) -> Result<(), Fail> {
-    let tree = tree_of_members(rt.alloc())?;
+fn tells_of_members(seen: &mut Seen) -> Result<(), Fail> {
+    let tree = tree_of_members(seen.alloc())?;
     let (mode, marks) = (TypeId::new(2), TypeId::new(3));
     for (t, number, nick) in [
         (mode, 0, "off"),
@@ -129,22 +119,18 @@ fn tells_of_members(rt: HostRuntime) -> Result<(), Fail> {
         (marks, 3, ""),
         (marks, -1, ""),
     ] {
-        assert_eq!(rt; tree.nick(t, number), nick, "{number}");
+        seen.same(tree.nick(t, number), nick)?;
     }
     for (t, is_enum) in [(mode, true), (marks, false)] {
         let members = (tree.enum_members(t).len(), tree.flags_members(t).len());
         let want = if is_enum { (2, 0) } else { (0, 2) };
-        assert_eq!(rt;
-            (tree.is_enum(t), tree.is_flags(t), members),
-            (is_enum, !is_enum, want)
-        );
+        seen.same((tree.is_enum(t), tree.is_flags(t), members), (is_enum, !is_enum, want))?;
     }
     Ok(())
 }
 
-#[test]
-fn has_room_for_16_levels(rt: HostRuntime) -> Result<(), Fail> {
-    let alloc = rt.alloc();
+fn has_room_for_16_levels(seen: &mut Seen) -> Result<(), Fail> {
+    let alloc = seen.alloc();
     let mut tree = TypeTree::new(alloc)?;
     let mut parent = String::from_str(alloc, "GObject")?;
     for level in 1..MOST_DEPTH + 1 {
@@ -155,28 +141,40 @@ fn has_room_for_16_levels(rt: HostRuntime) -> Result<(), Fail> {
         } else {
             Some(TypeError::Refused(TypeFault::Limit(TypeLimit::Depth)))
         };
-        assert_eq!(rt; added.err(), want, "{level}");
+        seen.same(added.err(), want)?;
         parent = name;
     }
     Ok(())
 }
 
 /// A class under `GObject` is not the `Base` that `Playable` requires, one under `Base` is, and so is one with it among its interfaces.
-#[test]
-fn finds_a_missing_prerequisite(rt: HostRuntime) -> Result<(), Fail> {
-    let tree = base_tree(rt.alloc())?;
+fn finds_a_missing_prerequisite(seen: &mut Seen) -> Result<(), Fail> {
+    let tree = base_tree(seen.alloc())?;
     let (root, base, playable) = (TypeId::new(0), TypeId::new(2), TypeId::new(4));
     let missing = [
         tree.missing_prerequisite(root, &[], playable),
         tree.missing_prerequisite(base, &[], playable),
         tree.missing_prerequisite(root, &[base], playable),
     ];
-    assert_eq!(rt; missing.as_slice(), [Some(base), None, None].as_slice());
+    seen.same(missing.as_slice(), [Some(base), None, None].as_slice())?;
     let found = (
         tree.find_interface("Playable"),
         tree.find_interface("Base"),
         tree.find_required("Base"),
     );
-    assert_eq!(rt; found, (Some(playable), None, Some(base)));
+    seen.same(found, (Some(playable), None, Some(base)))?;
+    Ok(())
+}
+
+/// type_tree: what its calls answer is what is wanted of them.
+#[test]
+fn type_tree(rt: HostRuntime) -> Result<(), Fail> {
+    let mut seen = Seen::new(rt.alloc());
+    adds_classes(&mut seen)?;
+    tells_of_classes(&mut seen)?;
+    tells_of_members(&mut seen)?;
+    has_room_for_16_levels(&mut seen)?;
+    finds_a_missing_prerequisite(&mut seen)?;
+    assert_eq!(rt; seen.differences(), "");
     Ok(())
 }

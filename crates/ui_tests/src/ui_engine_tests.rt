@@ -1,5 +1,6 @@
 //! Sessions: what a call answers beside the lines, and the arms that no line of an event file comes to.
 
+use crate::seen::Seen;
 use builder_defs::{read_definition, read_event};
 use g_values::Value;
 use std::alloc::Global;
@@ -57,18 +58,17 @@ fn seen(reply: &Reply) -> (Option<i32>, u32, u64) {
     (number, reply.dispatches, reply.steps)
 }
 
-#[test]
-fn replies(rt: HostRuntime) -> Result<(), Fail> {
-    let alloc = rt.alloc();
+fn replies(seen: &mut Seen) -> Result<(), Fail> {
+    let alloc = seen.alloc();
     let (mut session, build) = box_session(alloc)?;
-    assert_eq!(rt; seen(&build), (None, 1, 0));
+    seen.same(seen(&build), (None, 1, 0))?;
     for (line, want) in [
         (r#"{"set":["b","n",-7]}"#, (None, 1, 1)),
         (r#"{"get":["b","n"]}"#, (Some(-7), 1, 0)),
         (r#"{"set":["b","n",5]}"#, (None, 1, 1)),
     ] {
         let reply = tell(alloc, &mut session, BOX, line)??;
-        assert_eq!(rt; seen(&reply), want, "{line}");
+        seen.same(seen(&reply), want)?;
     }
     Ok(())
 }
@@ -85,16 +85,25 @@ fn stopped_at(alloc: Global, line: &str) -> Result<(Option<SessionFault>, String
     Ok((fault, joined(alloc, finished.transcript.as_slice())?))
 }
 
-#[test]
-fn stops_where_the_machine_is_stuck(rt: HostRuntime) -> Result<(), Fail> {
+fn stops_where_the_machine_is_stuck(seen: &mut Seen) -> Result<(), Fail> {
     for (line, arm) in [
         (r#"{"get":["b","n"]}"#, Arm::Operand),
         (r#"{"set":["k","label-text",null]}"#, Arm::Code),
         (r#"{"set":["k","f",true]}"#, Arm::Value),
     ] {
-        let (fault, lines) = stopped_at(rt.alloc(), line)?;
-        assert_eq!(rt; fault, Some(SessionFault::Stuck(arm)), "{line}");
-        assert_eq!(rt; lines.as_str(), BOX_BUILT, "{line}");
+        let (fault, lines) = stopped_at(seen.alloc(), line)?;
+        seen.same(fault, Some(SessionFault::Stuck(arm)))?;
+        seen.same(lines.as_str(), BOX_BUILT)?;
     }
+    Ok(())
+}
+
+/// ui_engine: what its calls answer is what is wanted of them.
+#[test]
+fn ui_engine(rt: HostRuntime) -> Result<(), Fail> {
+    let mut seen = Seen::new(rt.alloc());
+    replies(&mut seen)?;
+    stops_where_the_machine_is_stuck(&mut seen)?;
+    assert_eq!(rt; seen.differences(), "");
     Ok(())
 }
