@@ -199,7 +199,7 @@ module _ (d : Definition) (costs depths : Tables) (v z : View) where
       b = g.1.b;
       in_block = g.1.in_block;
       inside = g.1.inside;
-      once = g.1.once;
+      few = g.1.few;
       counted = g.1.counted;
       ks = g.1.ks;
       fit = registers_kept d v.stands z.stands g.1.ks frame.registers w.stands g.1.fit;

@@ -126,7 +126,7 @@ module _ (d : Definition) (costs depths : Tables) (s : Standing) (up : Down) (f 
     b = g.b;
     in_block = g.in_block;
     inside = g.inside;
-    once = g.once;
+    few = g.few;
     counted = length_write None f.registers to (Some v) low ∙ g.counted;
     ks = write kinds.unset g.ks to (kinds.plain kind);
     fit = fit_written d s g.ks f.registers to (kinds.plain kind) (Some v) g.fit fit;

@@ -11,7 +11,7 @@ use Rattle.ui_machine.specs.Definition.Properties.{Spec, has_flags}
 use Rattle.ui_machine.specs.Definition.{Definition}
 use Rattle.ui_machine.specs.Definition.Signals.{Signal}
 use Rattle.ui_machine.specs.Definition.Places.{Attached, Place, Bind, GivenProperty}
-use Rattle.ui_machine.specs.Definition.Programs.{Instruction, Block, Program}
+use Rattle.ui_machine.specs.Definition.Programs.{Instruction, Block, Program, passes_in}
 use Rattle.ui_machine.specs.Definition.Programs as words
 use Rattle.ui_machine.specs.Definition.Lookups.{slot_of, specs_of, place_at, place_of, program_of}
 use Rattle.ui_machine.specs.Rules.EmissionPlan.{signal_of, class_handler_of}
@@ -41,6 +41,7 @@ pub data Start : Type 0 where
 -- a block: what each instruction may start, and which blocks come next
 pub record Stretch : Type 0 where
   pub starts : List Start
+  pub passes : ℕ  -- how often those before the last are taken
   pub next : List ℕ
 
 pub record Graph : Type 0 where
@@ -234,7 +235,7 @@ starts_of d p ks (i ∷ rest) = start_of d ks i ∷ starts_of d p (after d p ks 
 
 -- a block's stretch
 abbrev pub stretch_of : Definition → Program → Block → Stretch
-stretch_of d p b = record { starts = starts_of d p b.entry b.code; next = flat_map next_of b.code }
+stretch_of d p b = record { starts = starts_of d p b.entry b.code; passes = passes_in b; next = flat_map next_of b.code }
 
 -- a program's stretches
 abbrev pub stretches_of : Definition → Program → List Stretch

@@ -2,7 +2,7 @@
 #![tactic(auto)]
 
 ghost use Rattle.law_typing.specs.Laws.{RanksRise, EdgesLeadToNodes, RankedIsAcyclic, UnrankedHasCycle, JudgedIsAccepted, AcceptedIsJudged, CycleIsReal, NamesDoNotCount};
-ghost use Rattle.law_typing.specs.Laws.Costs.{CostsSolved, DepthsSolved, EmissionsCover, PairsCover, StartsCover, CodeCovers, BlocksCover, SetsCover, EmitsCover, DepthsCover};
+ghost use Rattle.law_typing.specs.Laws.Costs.{CostsSolved, DepthsSolved, EmissionsCover, PairsCover, StartsCover, CodeCovers, BlocksCover, PassesCover, SetsCover, EmitsCover, DepthsCover};
 ghost use Rattle.law_typing.specs.Laws.Beginnings.{WorkedBegin};
 ghost use Rattle.law_typing.specs.Laws.StepsKeepGood.{GoodIsWithin, EndsRest, TurnsRest};
 ghost use Rattle.law_typing.specs.Laws.MidRun.{MidRun};
@@ -120,6 +120,7 @@ pub fn costs()
     ensures starts { StartsCover }
     ensures code { CodeCovers }
     ensures blocks { BlocksCover }
+    ensures passes { PassesCover }
     ensures sets { SetsCover }
     ensures emits { EmitsCover }
 {}
