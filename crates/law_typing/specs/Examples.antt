@@ -20,3 +20,6 @@ pub mod TooLarge
 pub mod LabelsRenamed
 pub mod LabelChain
 pub mod ClassHandlers
+pub mod RepeatedBlock
+pub mod MostPasses
+pub mod UnfitPass

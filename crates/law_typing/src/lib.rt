@@ -25,6 +25,9 @@ ghost use Rattle.law_typing.specs.Examples.LabelChain as label_chain_case;
 ghost use Rattle.law_typing.specs.Examples.LabelsRenamed as stickers_case;
 ghost use Rattle.law_typing.specs.Examples.ClassHandlers as class_handlers_case;
 ghost use Rattle.law_typing.specs.Examples.Chain as chain_case;
+ghost use Rattle.law_typing.specs.Examples.RepeatedBlock as repeated_block_case;
+ghost use Rattle.law_typing.specs.Examples.MostPasses as most_passes_case;
+ghost use Rattle.law_typing.specs.Examples.UnfitPass as unfit_pass_case;
 ghost use Rattle.law_typing.specs.Examples.AllParts as knobs_case;
 ghost use Rattle.law_typing.specs.Examples.SetConstructOnly as set_construct_only_case;
 ghost use Rattle.law_typing.specs.Examples.UnfitHandler as unfit_handler_case;
@@ -50,11 +53,14 @@ pub fn reports()
     ensures class_handlers { class_handlers_case.Holds }
     ensures chain { chain_case.Holds }
     ensures knobs { knobs_case.Holds }
+    ensures repeated_block { repeated_block_case.Holds }
+    ensures most_passes { most_passes_case.Holds }
 {}
 
 /// Definitions that are refused, one for each word of refusal.
 pub fn refusals()
     ensures set_construct_only { set_construct_only_case.Holds }
+    ensures unfit_pass { unfit_pass_case.Holds }
     ensures unfit_handler { unfit_handler_case.Holds }
     ensures unfit_binding { unfit_binding_case.Holds }
     ensures second_pair { second_pair_case.Holds }
