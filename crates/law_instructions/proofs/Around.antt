@@ -1,6 +1,5 @@
 -- What is good where the first task is a program: what is known of it, and what is to be shown of the world that its instruction leaves.
-use Rattle.std.proofs.Common.{◌≡◌, refl, sym, ap, subst, ◌∙◌, ℕ, suc, ◌+◌, ◌-◌, ◌<◌, ◌≤◌, Bool, true, false, cond, List, ◌∷◌, length, Option, None, Some, Ok, slice_get, arith, lt-ltb}
-use Rattle.std.specs.Prelude.{nat_lt, ◌&&◌}
+use Rattle.std.proofs.Common.{◌≡◌, refl, sym, ap, subst, ◌∙◌, ℕ, suc, ◌+◌, ◌-◌, ◌<◌, ◌≤◌, false, List, ◌∷◌, length, None, Some, Ok, slice_get, arith, lt-ltb}
 use Rattle.ui_machine.specs.declared.arm.Arm.TheVariants as arms
 use Rattle.ui_machine.specs.Seq.{total}
 use Rattle.ui_machine.specs.Definition.{Definition}
@@ -24,7 +23,7 @@ use Rattle.law_typing.specs.Laws.WellRead.{WellRead, ends}
 use Rattle.law_typing.specs.Laws.StepsKeepGood.{IsGood, Fine}
 use Rattle.law_typing.specs.Good.Standing.{Standing, standing, view, RegistersFit}
 use Rattle.law_typing.specs.Good.Objects.{PeersGood}
-use Rattle.law_typing.specs.Good.ComingDown.{Down, none, given, down, result_of_program, Comes, TakesNone}
+use Rattle.law_typing.specs.Good.ComingDown.{Down, none, given, down, result_of_program, TakesNone}
 use Rattle.law_typing.specs.Good.Programs.{RunningGood, code_of, code_of_block}
 use Rattle.law_typing.specs.Good.Agenda.{AgendaGood}
 use Rattle.law_typing.specs.Good.Builds.{is_for_builder, BuildGood}
@@ -70,6 +69,10 @@ module _ {d : Definition} {i : Instruction} (t : Due d i) where
   abbrev pub r : RunningGood d costs depths s none f g.agenda.0 g.agenda.1
   r = g.agenda.3.1
 
+  -- the objects that the builder is making
+  abbrev pub making : ℕ
+  making = total is_for_builder (Running f ∷ rest)
+
   pub code_is : code_of f.block (program_at d f.program) ≡ r.b.code
   code_is = ap (code_of f.block) r.is ∙ ap code_of_block r.in_block
 
@@ -109,8 +112,8 @@ module _ {d : Definition} {i : Instruction} (t : Due d i) where
     pub queues : QueuesGood d depths most agenda (suc n) v.objects
     pub few : live v.objects + to_make agenda ≤ d.most_objects
     pub spent :
-        suc (budget + (total (carried d costs) v.objects + (live v.objects + to_make agenda)))
-        ≤ g.agenda.0 + g.agenda.2 + (total (carried d costs) w.objects + (live w.objects + to_make (Running f ∷ rest)))
+        suc (budget + (total (carried d costs making) v.objects + (live v.objects + to_make agenda)))
+        ≤ g.agenda.0 + g.agenda.2 + (total (carried d costs making) w.objects + (live w.objects + to_make (Running f ∷ rest)))
 
   pub good_of : (v : World) (agenda : List Task) → Rests v agenda → IsGood d a most_counted (record { world = v; agenda = agenda; counted = suc n })
   good_of v agenda e =
@@ -130,7 +133,11 @@ module _ {d : Definition} {i : Instruction} (t : Due d i) where
         agenda = e.good;
         queues = e.queues;
         few = e.few;
-        spent = (let old = g.spent in let new = e.spent in let split = g.agenda.5 in omega (arith, old, new, split));
+        spent = (let old = g.spent in
+            let new = e.spent in
+            let split = g.agenda.5 in
+            let same = ap (λ m. total (carried d costs m) v.objects) e.alike.makes in
+            omega (arith, old, new, split, same));
       }
 
   -- the program goes on in this frame, above what was below it
@@ -162,10 +169,10 @@ module _ {d : Definition} {i : Instruction} (t : Due d i) where
     pub queues : QueuesGood d depths most (Running next ∷ rest) (suc n) v.objects
     -- no more live, and what is queued may cost what the steps taken leave
     pub few : live v.objects ≤ live w.objects
-    pub queued : suc (steps + total (carried d costs) v.objects) ≤ g.agenda.0 + total (carried d costs) w.objects
+    pub queued : suc (steps + total (carried d costs making) v.objects) ≤ g.agenda.0 + total (carried d costs making) w.objects
 
   pub alike : (next : Frame) → Alike (Running f ∷ rest) (Running next ∷ rest)
-  alike next = record { items = λ f. refl; unset = λ number. refl; request_step = refl; makes = refl; constructs = λ id. refl }
+  alike next = record { items = λ f. refl; unset = λ number. refl; request_step = refl; makes = refl }
 
   pub goes_to : (v : World) (next : Frame) (steps : ℕ) → Around v next steps → IsGood d a most_counted (at_top v next rest (suc n))
   goes_to v next steps e =

@@ -1,23 +1,19 @@
 -- A program goes on at the first instruction of a block.
 use Rattle.std.proofs.Common.{◌≡◌, refl, sym, ap, ◌∙◌, ℕ, zero, suc, ◌-◌, ◌≤◌, true, false, List, [], ◌∷◌, length, drop, None, Some, slice_get, arith}
 use Rattle.std.specs.List.{flat_map}
-use Rattle.ui_machine.specs.Seq.{read}
-use Rattle.ui_machine.specs.Definition.Kinds.{RegisterKind}
-use Rattle.ui_machine.specs.Definition.Kinds as kinds
 use Rattle.ui_machine.specs.Definition.{Definition}
 use Rattle.ui_machine.specs.Definition.Lookups.{program_at}
 use Rattle.ui_machine.specs.Definition.Programs.{Instruction, Block, passes_in}
 use Rattle.ui_machine.specs.Definition.Programs as words
-use Rattle.ui_machine.specs.State.Tasks.{Registers, Frame, Running}
-use Rattle.law_typing.specs.Rules.RegisterKinds.{Kinds, kind_in, fits, kinds_fit}
+use Rattle.ui_machine.specs.State.Tasks.{Frame, Running}
 use Rattle.law_typing.specs.Rules.Brackets.{opened, is_empty, is_bracketed}
 use Rattle.law_typing.specs.Graph.{graph, next_of, stretch_of, stretches_of}
 use Rattle.law_typing.specs.Graph.Costs.{block_cost}
 use Rattle.law_typing.specs.Graph.Depths.{depth}
 use Rattle.law_typing.specs.Laws.{IsIn}
-use Rattle.law_typing.specs.Laws.WellRead.{TypesRead, ends, Ends}
+use Rattle.law_typing.specs.Laws.WellRead.{ends, Ends}
 use Rattle.law_typing.specs.Laws.StepsKeepGood.{IsGood}
-use Rattle.law_typing.specs.Good.Standing.{Standing, standing, view, RegistersFit}
+use Rattle.law_typing.specs.Good.Standing.{standing, view, RegistersFit}
 use Rattle.law_typing.specs.Good.ComingDown.{none}
 use Rattle.law_typing.specs.Good.Programs.{RunningGood, code_of, code_of_block, code_left}
 use Rattle.law_typing.specs.Good.Freezes.{QueuesGood}
@@ -27,7 +23,6 @@ use Rattle.law_typing.proofs.EdgeProofs.{append_left}
 use Rattle.law_static.proofs.SiteProofs.{blocks_keep}
 use Rattle.law_static.proofs.CodeProofs.{cheap}
 use Rattle.law_static.proofs.BeginProofs.{get_map, some_code, later, passed}
-use Rattle.law_static.proofs.FitsProofs.{holds_fits}
 use Rattle.law_instructions.specs.Running.{at_top}
 use Rattle.law_instructions.proofs.Frozen.{is_bracket, opened_past, frozen_same}
 use Rattle.law_instructions.proofs.Passes.{empty_is}
@@ -43,7 +38,7 @@ none_after (j ∷ []) (suc at) i block e f = absurd (cc)
 none_after (j ∷ k ∷ code) zero i block e f = absurd (let s : ends j ≡ ends i = ap ends (let t : j ≡ i = cc in t) in let b = block.0 in cc)
 none_after (j ∷ k ∷ code) (suc at) i block e f = none_after (k ∷ code) at i block.1 e f
 
-ends_plain : (i : Instruction) → ends i ≡ true → is_bracket i ≡ false
+pub ends_plain : (i : Instruction) → ends i ≡ true → is_bracket i ≡ false
 ends_plain (words.freeze r) e = absurd (cc)
 ends_plain (words.thaw r) e = absurd (cc)
 ends_plain _ e = refl

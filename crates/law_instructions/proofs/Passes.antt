@@ -1,6 +1,6 @@
 -- Passes of a block: where a program takes the instructions of its block again, it is good at the first of them as well.
 use Rattle.std.proofs.Common.{◌≡◌, refl, sym, ap, subst, ◌∙◌, ℕ, zero, suc, ◌+◌, ◌-◌, ◌*◌, ◌<◌, ◌≤◌, Bool, true, false, cond, List, [], ◌∷◌, ◌++◌, length, drop, Option, None, Some, slice_get, arith}
-use Rattle.std.specs.Prelude.{nat_eq, nat_lt, ◌&&◌, option_map}
+use Rattle.std.specs.Prelude.{◌&&◌, option_map}
 use Rattle.std.specs.List.{flat_map}
 use Rattle.std.proofs.lemmas.Bool.{eqb-true, ltb-true}
 use Rattle.ui_machine.specs.Seq.{read}
@@ -17,17 +17,17 @@ use Rattle.ui_machine.specs.Instructions.Jumps.{block_in, is_past_first, has_pas
 use Rattle.law_typing.specs.Rules.RegisterKinds.{Kinds, kind_in, fits, kinds_fit}
 use Rattle.law_typing.specs.Rules.Typing.{after, again, first_broken}
 use Rattle.law_typing.specs.Rules.Brackets.{opened, keeps, is_empty, is_bracketed}
-use Rattle.law_typing.specs.Graph.{Graph, Stretch, graph, next_of, starts_of, stretch_of, stretches_of}
+use Rattle.law_typing.specs.Graph.{Stretch, graph, next_of, starts_of, stretch_of, stretches_of}
 use Rattle.law_typing.specs.Graph.Tables.{Tables, greatest}
 use Rattle.law_typing.specs.Graph.Costs.{starts_cost, before_last, block_cost, passes_cost, code_cost}
 use Rattle.law_typing.specs.Graph.Depths.{depth}
 use Rattle.law_typing.specs.Verdict.Accepted.{Accepted}
-use Rattle.law_typing.specs.Laws.WellRead.{WellRead, TypesRead, Ends, ends, is_jump, EndsInJump, RepeatRead}
+use Rattle.law_typing.specs.Laws.WellRead.{WellRead, TypesRead, Ends, is_jump, EndsInJump, RepeatRead}
 use Rattle.law_typing.specs.Laws.StepsKeepGood.{IsGood}
 use Rattle.law_typing.specs.Good.Standing.{Standing, standing, RegistersFit}
-use Rattle.law_typing.specs.Good.ComingDown.{Down, none, awaited, Comes}
+use Rattle.law_typing.specs.Good.ComingDown.{none, Comes}
 use Rattle.law_typing.specs.Good.Programs.{RunningGood, kinds_before, code_of, code_of_block, code_left}
-use Rattle.law_typing.specs.Good.Freezes.{QueuesGood, frozen_by}
+use Rattle.law_typing.specs.Good.Freezes.{QueuesGood}
 use Rattle.law_typing.proofs.Lists.{both_parts}
 use Rattle.law_static.proofs.SiteProofs.{blocks_keep, fits_again}
 use Rattle.law_static.proofs.CodeProofs.{next_none, awaited_none}
@@ -188,7 +188,7 @@ module _ (d : Definition) (well : WellRead d) (a : Accepted d) (most_counted : �
       }
 
   alike : Alike (Running f ∷ rest) (Running next ∷ rest)
-  alike = record { items = λ f. refl; unset = λ number. refl; request_step = refl; makes = refl; constructs = λ id. refl }
+  alike = record { items = λ f. refl; unset = λ number. refl; request_step = refl; makes = refl }
 
   queues_pass : Again → QueuesGood d depths (depth (graph d) depths) (Running next ∷ rest) n w.objects
   queues_pass x id o is =

@@ -1,18 +1,17 @@
 -- What is known where an instruction of an accepted definition stands: it is found in the lists of sites and faults by its numbers.
 use Rattle.std.proofs.Common.{◌≡◌, inl, inr, refl, sym, ap, subst, ◌∙◌, ℕ, zero, suc, ◌+◌, Bool, true, false, cond, List, [], ◌∷◌, Option, None, Some, Ok, Err, slice_get, arith}
-use Rattle.std.specs.List.{flat_map}
 use Rattle.ui_machine.specs.Definition.{Definition}
 use Rattle.ui_machine.specs.Definition.Programs.{Instruction, Block, Program}
 use Rattle.ui_machine.specs.Definition.Programs as words
 use Rattle.ui_machine.specs.Outcome.{only_if}
 use Rattle.law_typing.specs.Rules.RegisterKinds.{Kinds, kinds_fit}
 use Rattle.law_typing.specs.Rules.Answers.{Typing}
-use Rattle.law_typing.specs.Rules.Faults.{unbalanced, freeze_paired}
+use Rattle.law_typing.specs.Rules.Faults.{unbalanced}
 use Rattle.law_typing.specs.Rules.Sites.{Site, sites, code_sites, block_sites, program_sites, broken_at, block_faults, program_faults}
 use Rattle.law_typing.specs.Rules.Typing.{typed, after, or_before, again, typed_in, unless_broken, first_broken, block_broken, WellTypedBlock}
 use Rattle.law_typing.specs.Rules.Answers.{Rule}
 use Rattle.law_typing.specs.Rules.Answers as rules
-use Rattle.law_typing.specs.Rules.Brackets.{is_balanced, balance_faults, unbalanced_from, freezes_pair, freeze_at}
+use Rattle.law_typing.specs.Rules.Brackets.{is_balanced, balance_faults, unbalanced_from}
 use Rattle.law_typing.specs.Graph.{start_of, starts_of}
 use Rattle.law_typing.specs.Laws.{IsIn}
 use Rattle.law_typing.specs.Good.Programs.{kinds_before}
@@ -25,15 +24,6 @@ use Rattle.law_static.specs.Sites.{BlockIs, BlocksKeep, SitesKeep, site}
 no_second : {A : Type 0} (b : Bool) (x : A) → cond b [] (x ∷ []) ≡ [] → b ≡ true
 no_second true x e = refl
 no_second false x e = absurd (cc)
-
-no_first : {A : Type 0} (b : Bool) (x : A) → cond b (x ∷ []) [] ≡ [] → b ≡ false
-no_first false x e = refl
-no_first true x e = absurd (cc)
-
-flat_empty : {A B : Type 0} (f : A → List B) (xs : List A) (x : A) → flat_map f xs ≡ [] → IsIn x xs → f x ≡ []
-flat_empty f [] x e h = absurd h
-flat_empty f (y ∷ ys) x e (inl s) = ap f s ∙ (both_empty (f y) (flat_map f ys) e).0
-flat_empty f (y ∷ ys) x e (inr h) = flat_empty f ys x (both_empty (f y) (flat_map f ys) e).1 h
 
 -- ** blocks without faults
 
@@ -175,11 +165,9 @@ module _ (d : Definition) where
 pub sites_keep : SitesKeep
 sites_keep d a program number at p b i here is =
     let kept = blocks_keep d a program number p b here in
-    let s = site d program number p b at i in
     let known = known_site d program number at p b i here is in
     record {
       typed = typed_at d p (again b) 0 at b.entry b.code i kept.typed is;
       known = known;
-      thawed = no_first (freezes_pair d s.kinds s.instruction) (freeze_paired program number at) (flat_empty (freeze_at d) (sites d) s a.freezes known);
       starts = started_at d p at b.entry b.code i is;
     }

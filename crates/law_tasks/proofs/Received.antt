@@ -166,6 +166,7 @@ module _ {d : Definition} {task : Task} {f : Frame} {tasks : List Task} (x : Abo
         whole = whole_told (first x) later lines value e.alike;
         pool = pool_alike (first x) later e.alike;
         to_make = e.alike.items is_making;
+        makes = (let same = e.alike.makes in omega (arith, same));
         build = e.build (build_alike (first x) later e.alike);
         frozen = λ id. (let free = e.unfrozen id in let same = e.kept id in omega (arith, free, same));
         lowest = λ id some. (

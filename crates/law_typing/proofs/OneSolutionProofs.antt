@@ -4,7 +4,7 @@ use Rattle.std.specs.List.{filter, flat_map, find}
 use Rattle.ui_machine.specs.Seq.{read, total}
 use Rattle.law_typing.specs.Graph.Channels.{Channel, constructed, property, signal, same_channel}
 use Rattle.law_typing.specs.Graph.Channels as causes
-use Rattle.law_typing.specs.Graph.{Graph, Raised, Start, nothing, raises, makes, Stretch}
+use Rattle.law_typing.specs.Graph.{Graph, Raised, Start, nothing, raises, makes, thaws, Stretch}
 use Rattle.law_typing.specs.Graph.Tables.{Table, entry, Tables, of_program, greatest}
 use Rattle.law_typing.specs.Graph.Ranks.{Arrow, arrow, arrows, arrows_by, arrows_from, is_raised, node, nodes, running_at, started, started_by, above, rank_by, IsRanking}
 use Rattle.law_typing.specs.Graph.Costs.{other_end, with_other, node_cost, start_cost, starts_cost, before_last, only_last, stretch_cost, path_costs, program_cost, programs_cost, emission_cost, cost_at, channel_cost}
@@ -258,6 +258,9 @@ module _ (g : Graph) (t u : Tables) where
   start_cost_same : (i : Start) → ((k : Channel) → IsIn k (started i) → SameNode g t u k) → start_cost g t i ≡ start_cost g u i
   start_cost_same nothing same = refl
   start_cost_same (raises cs) same = greatest_same (node_cost g t) (node_cost g u) cs (λ k h. node_cost_same k (same k h))
+  start_cost_same (thaws css) same =
+      greatest_same (λ cs. total (node_cost g t) cs) (λ cs. total (node_cost g u) cs) css
+      (λ cs h. total_same (node_cost g t) (node_cost g u) cs (λ k there. node_cost_same k (same k (flat_in (λ (cs : List Channel). cs) css cs k h there))))
   start_cost_same (makes cs) same = ap (λ n. 1 + n) (total_same (node_cost g t) (node_cost g u) cs (λ k h. node_cost_same k (same k h)))
 
   starts_cost_same : (starts : List Start) → ((i : Start) → IsIn i starts → (k : Channel) → IsIn k (started i) → SameNode g t u k) → starts_cost g t starts ≡ starts_cost g u starts
@@ -338,6 +341,8 @@ module _ (g : Graph) (t u : Tables) where
   start_depth_same : (i : Start) → ((k : Channel) → IsIn k (started i) → SameNode g t u k) → start_depth t i ≡ start_depth u i
   start_depth_same nothing same = refl
   start_depth_same (raises cs) same = deepest_same cs same
+  start_depth_same (thaws css) same =
+      greatest_same (deepest t) (deepest u) css (λ cs h. deepest_same cs (λ k there. same k (flat_in (λ (cs : List Channel). cs) css cs k h there)))
   start_depth_same (makes cs) same = ap (λ n. 1 + n) (deepest_same cs same)
 
   pub program_depth_same : (stretches : List Stretch) →

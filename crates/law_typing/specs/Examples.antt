@@ -13,7 +13,6 @@ pub mod SetConstructOnly
 pub mod UnfitHandler
 pub mod UnfitBinding
 pub mod SecondPair
-pub mod FrozenPair
 pub mod OpenFreeze
 pub mod LabelCycle
 pub mod TooLarge

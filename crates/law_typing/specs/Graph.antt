@@ -20,7 +20,7 @@ use Rattle.ui_machine.specs.Rules.Connections.{signal_number}
 use Rattle.ui_machine.specs.Rules.Construction.{is_at_construction, is_forward}
 use Rattle.law_typing.specs.Rules.RegisterKinds.{Kinds, kind_in, class_at, places}
 use Rattle.law_typing.specs.Rules.Typing.{after}
-use Rattle.law_typing.specs.Graph.Channels.{Channel, constructed, property, signal, same_channel, of_class, constructed_at, channels, present, is_pair, source_of, target_of}
+use Rattle.law_typing.specs.Graph.Channels.{Channel, constructed, property, signal, same_channel, of_class, constructed_at, channels, present, readable_at, is_paired, is_pair, source_of, target_of}
 use Rattle.law_typing.specs.Rules.Sites.{Site, sites}
 
 -- what runs at a channel
@@ -37,6 +37,7 @@ pub data Start : Type 0 where
   nothing : Start
   raises : List Channel → Start  -- one of these
   makes : List Channel → Start  -- an object: its construction, and the notifications of its built properties
+  thaws : List (List Channel) → Start  -- all of one of these lists: what may wait in the queue of an object
 
 -- a block: what each instruction may start, and which blocks come next
 pub record Stretch : Type 0 where
@@ -212,6 +213,10 @@ abbrev pub making_of : Definition → Option ℕ → List Channel
 making_of d None = []
 making_of d (Some place) = read [] (makings_from d 0 d.places) place
 
+-- the paired properties of a place, which a thaw of its object may notify
+abbrev pub paired_at : Definition → ℕ → List Channel
+paired_at d place = filter (is_paired d) (readable_at d place)
+
 -- what an instruction may start
 abbrev pub start_of : Definition → Kinds → Instruction → Start
 start_of d ks (words.set object name from) = raises (over d (λ class. slot_of d class name) property (places d (kind_in ks object)))
@@ -219,6 +224,7 @@ start_of d ks (words.notify object name) = raises (over d (λ class. slot_of d c
 start_of d ks (words.emit into object name detail args) =
     raises (over d (λ class. signal_number d class name) signal (places d (kind_in ks object)))
 start_of d ks (words.new to id) = makes (making_of d (place_of d id))
+start_of d ks (words.thaw object) = thaws (map (paired_at d) (places d (kind_in ks object)))
 start_of d ks _ = nothing
 
 -- the blocks that an instruction may go to

@@ -33,7 +33,6 @@ ghost use Rattle.law_typing.specs.Examples.SetConstructOnly as set_construct_onl
 ghost use Rattle.law_typing.specs.Examples.UnfitHandler as unfit_handler_case;
 ghost use Rattle.law_typing.specs.Examples.UnfitBinding as unfit_binding_case;
 ghost use Rattle.law_typing.specs.Examples.SecondPair as second_pair_case;
-ghost use Rattle.law_typing.specs.Examples.FrozenPair as frozen_pair_case;
 ghost use Rattle.law_typing.specs.Examples.OpenFreeze as open_freeze_case;
 ghost use Rattle.law_typing.specs.Examples.LabelCycle as label_cycle_case;
 ghost use Rattle.law_typing.specs.Examples.TooLarge as too_large_case;
@@ -64,7 +63,6 @@ pub fn refusals()
     ensures unfit_handler { unfit_handler_case.Holds }
     ensures unfit_binding { unfit_binding_case.Holds }
     ensures second_pair { second_pair_case.Holds }
-    ensures frozen_pair { frozen_pair_case.Holds }
     ensures open_freeze { open_freeze_case.Holds }
     ensures label_cycle { label_cycle_case.Holds }
     ensures too_large { too_large_case.Holds }

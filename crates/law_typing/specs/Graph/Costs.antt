@@ -4,7 +4,7 @@ use Rattle.std.specs.Prelude.{◌≡◌, ℕ, suc, ◌+◌, ◌*◌, ◌-◌, co
 use Rattle.ui_machine.specs.Seq.{read, total}
 use Rattle.law_typing.specs.Graph.Channels.{Channel, same_channel, constructed, property, signal, Entry}
 use Rattle.law_typing.specs.Graph.Channels as entries
-use Rattle.law_typing.specs.Graph.{Graph, Raised, Start, nothing, raises, makes, Stretch}
+use Rattle.law_typing.specs.Graph.{Graph, Raised, Start, nothing, raises, makes, thaws, Stretch}
 use Rattle.law_typing.specs.Graph.Tables.{entry, Tables, of_program, greatest, same_tables, settled}
 
 -- ** nodes
@@ -30,11 +30,12 @@ node_cost g t c = with_other t (entry t.channels c) (other_end g c)
 -- ** programs
 
 -- what an instruction may start costs, beside the instruction itself: the costliest channel; for a new object its finalisation, its
--- construction and its notifications
+-- construction and its notifications; for a thaw the costliest of the lists, each channel with its node
 abbrev pub start_cost : Graph → Tables → Start → ℕ
 start_cost g t nothing = 0
 start_cost g t (raises cs) = greatest (node_cost g t) cs
 start_cost g t (makes cs) = 1 + total (node_cost g t) cs
+start_cost g t (thaws css) = greatest (λ cs. total (node_cost g t) cs) css
 
 -- each instruction of a block, with what it may start
 abbrev pub starts_cost : Graph → Tables → List Start → ℕ
