@@ -1,5 +1,5 @@
 -- All instructions, from the laws of each.
-use Rattle.std.proofs.Common.{◌≡◌, refl, ap, ◌∙◌, ℕ, zero, suc, ◌<◌, List, [], ◌∷◌, length, Option, None, Some, slice_get, arith}
+use Rattle.std.proofs.Common.{◌≡◌, refl, sym, ap, ◌∙◌, ℕ, zero, suc, ◌<◌, List, [], ◌∷◌, length, Option, None, Some, slice_get, arith}
 use Rattle.ui_machine.specs.Definition.Programs.{Instruction}
 use Rattle.ui_machine.specs.Definition.Programs as words
 use Rattle.ui_machine.specs.State.References.{next_unheld, mentions}
@@ -11,7 +11,8 @@ use Rattle.law_typing.specs.Good.ComingDown.{none}
 use Rattle.law_typing.specs.Good.Programs.{RunningGood, code_of, code_of_block}
 use Rattle.law_typing.specs.Good.Standing.{standing}
 use Rattle.law_kept.proofs.FinaliseProofs.{finalisation_is_fine}
-use Rattle.law_instructions.specs.Running.{at_top, instruction_at, IsFine}
+use Rattle.law_instructions.specs.Running.{at_top, taking, instruction_at, IsFine}
+use Rattle.law_instructions.proofs.Passes.{turned}
 use Rattle.law_instructions.specs.Setting.{IsFineWhereHeld}
 use Rattle.law_instructions.specs.All.{InstructionsAreFine, ProgramsKeepGood}
 use Rattle.law_instructions.proofs.AttachProofs.{attachments_are_fine}
@@ -85,15 +86,17 @@ there (x ∷ xs) (suc i) low = there xs i (omega (arith, low))
 pub programs_keep_good : ProgramsKeepGood
 programs_keep_good d well a most_counted within w f rest n g reply = go (next_unheld (mentions d (at_top w f rest n)) w.objects) refl
   where
-    running : RunningGood d a.weighed.costs a.weighed.depths (standing w.objects) none f g.agenda.0 g.agenda.1
-    running = g.agenda.3.1
-
-    is : instruction_at d f ≡ Some (there running.b.code f.at running.inside).0
-    is =
-        ap (λ code. slice_get code f.at) (ap (code_of f.block) running.is ∙ ap code_of_block running.in_block)
-        ∙ (there running.b.code f.at running.inside).1
+    -- the instruction that is taken stands within its block
+    due : (i : Instruction) × (instruction_at d f ≡ Some i)
+    due =
+        let next = (turned d well a most_counted w f rest n g) in
+        let again : RunningGood d a.weighed.costs a.weighed.depths (standing w.objects) none (taking d f) next.good.agenda.0 next.good.agenda.1 = next.good.agenda.3.1 in
+        let i = there again.b.code (taking d f).at again.inside in (
+          i.0,
+          sym next.code ∙ (ap (λ code. slice_get code (taking d f).at) (ap (code_of (taking d f).block) again.is ∙ ap code_of_block again.in_block) ∙ i.1),
+        )
 
     go : (o : Option ℕ) → next_unheld (mentions d (at_top w f rest n)) w.objects ≡ o →
         Fine d a.weighed.costs a.weighed.depths most_counted (depth (graph d) a.weighed.depths) (first_of d reply (at_top w f rest n) o)
-    go None held = instructions_are_fine (there running.b.code f.at running.inside).0 d well a most_counted within w f rest n g is held
+    go None held = instructions_are_fine due.0 d well a most_counted within w f rest n g due.1 held
     go (Some id) unheld = finalisation_is_fine d a.weighed.costs a.weighed.depths most_counted (depth (graph d) a.weighed.depths) within (at_top w f rest n) g id unheld

@@ -1,17 +1,16 @@
 -- What is good where the first task is a program: what is known of it, and what is to be shown of the world that its instruction leaves.
-use Rattle.std.proofs.Common.{◌≡◌, refl, sym, ap, subst, ◌∙◌, ℕ, suc, ◌+◌, ◌-◌, ◌<◌, ◌≤◌, Bool, true, false, cond, List, ◌∷◌, length, Option, None, Some, Ok, slice_get, arith, lt-ltb}
-use Rattle.std.specs.Prelude.{nat_lt, ◌&&◌}
+use Rattle.std.proofs.Common.{◌≡◌, refl, sym, ap, subst, ◌∙◌, ℕ, suc, ◌+◌, ◌-◌, ◌<◌, ◌≤◌, false, List, ◌∷◌, length, None, Some, Ok, slice_get, arith, lt-ltb}
 use Rattle.ui_machine.specs.declared.arm.Arm.TheVariants as arms
 use Rattle.ui_machine.specs.Seq.{total}
 use Rattle.ui_machine.specs.Definition.{Definition}
 use Rattle.ui_machine.specs.Definition.Lookups.{program_at}
-use Rattle.ui_machine.specs.Definition.Programs.{Instruction, Block}
+use Rattle.ui_machine.specs.Definition.Programs.{Instruction}
 use Rattle.ui_machine.specs.State.Objects.{live}
 use Rattle.ui_machine.specs.State.Tasks.{Registers, Frame, Running, Task}
 use Rattle.ui_machine.specs.State.Config.{World, Config}
 use Rattle.ui_machine.specs.Outcome.{only_if}
 use Rattle.ui_machine.specs.Instructions.{instruction_step, running}
-use Rattle.ui_machine.specs.Instructions.Jumps.{block_in, is_past_first, has_pass, is_at_last, in_pass, past}
+use Rattle.ui_machine.specs.Instructions.Jumps.{block_in, in_pass, past}
 use Rattle.ui_machine.specs.Rules.Build.{to_make}
 use Rattle.ui_machine.specs.Steps.{most_steps, left, counted_left}
 use Rattle.law_typing.specs.Rules.Typing.{after}
@@ -24,7 +23,7 @@ use Rattle.law_typing.specs.Laws.WellRead.{WellRead, ends}
 use Rattle.law_typing.specs.Laws.StepsKeepGood.{IsGood, Fine}
 use Rattle.law_typing.specs.Good.Standing.{Standing, standing, view, RegistersFit}
 use Rattle.law_typing.specs.Good.Objects.{PeersGood}
-use Rattle.law_typing.specs.Good.ComingDown.{Down, none, given, down, result_of_program, Comes, TakesNone}
+use Rattle.law_typing.specs.Good.ComingDown.{Down, none, given, down, result_of_program, TakesNone}
 use Rattle.law_typing.specs.Good.Programs.{RunningGood, code_of, code_of_block}
 use Rattle.law_typing.specs.Good.Agenda.{AgendaGood}
 use Rattle.law_typing.specs.Good.Builds.{is_for_builder, BuildGood}
@@ -36,24 +35,10 @@ use Rattle.law_kept.specs.Write.{Whole}
 use Rattle.law_kept.specs.Alike.{Alike}
 use Rattle.law_kept.proofs.AlikeProofs.{whole_stays, build_stays}
 use Rattle.law_kept.proofs.AgendaProofs.{agenda_served}
-use Rattle.law_instructions.specs.Running.{instruction_at, at_top, IsFine}
+use Rattle.law_instructions.specs.Running.{block_if, in_pass_if, taking, at_top, IsFine}
+use Rattle.law_instructions.proofs.Passes.{no_register, turned}
 
--- no register waits where nothing comes
-no_register : (into : Option ℕ) → Comes into none → into ≡ None
-no_register None c = refl
-no_register (Some to) c = absurd (let e = c.1 in cc)
-
--- a block that is passed once is not passed again
-one_pass : (b : Block) (f : Frame) → f.passes ≡ 1 → in_pass b f ≡ f
-one_pass b f e =
-    ap (λ again. cond again (record f { at = 0; passes = f.passes - 1 }) f)
-    (never (is_past_first f) (has_pass f) (is_at_last b f) (ap (λ n. nat_lt 1 n) e))
-  where
-    never : (x y z : Bool) → y ≡ false → (x && (y && z)) ≡ false
-    never true y z e = ap (λ y. y && z) e
-    never false y z e = refl
-
--- a program has come to an instruction, where all is good
+-- a program has come to an instruction, in the pass of its block in which it takes it, where all is good
 pub record Due (d : Definition) (i : Instruction) : Type 0 where
   pub well : WellRead d
   pub a : Accepted d
@@ -63,10 +48,11 @@ pub record Due (d : Definition) (i : Instruction) : Type 0 where
   pub rest : List Task
   pub n : ℕ
   pub g : IsGood d a most_counted (at_top w f rest n)
-  pub is : instruction_at d f ≡ Some i
+  pub is : slice_get (code_of f.block (program_at d f.program)) f.at ≡ Some i
+  pub settled : taking d f ≡ f
 
 module _ {d : Definition} {i : Instruction} (t : Due d i) where
-  open t use {well, a, most_counted, w, f, rest, n, g, is}
+  open t use {well, a, most_counted, w, f, rest, n, g, is, settled}
 
   abbrev pub costs : Tables
   costs = a.weighed.costs
@@ -83,6 +69,10 @@ module _ {d : Definition} {i : Instruction} (t : Due d i) where
   abbrev pub r : RunningGood d costs depths s none f g.agenda.0 g.agenda.1
   r = g.agenda.3.1
 
+  -- the objects that the builder is making
+  abbrev pub making : ℕ
+  making = total is_for_builder (Running f ∷ rest)
+
   pub code_is : code_of f.block (program_at d f.program) ≡ r.b.code
   code_is = ap (code_of f.block) r.is ∙ ap code_of_block r.in_block
 
@@ -95,9 +85,12 @@ module _ {d : Definition} {i : Instruction} (t : Due d i) where
   pub none_into : f.into ≡ None
   none_into = no_register f.into r.comes
 
+  no_pass : in_pass r.b f ≡ f
+  no_pass = sym (ap (λ o. in_pass_if o f) (ap (block_if f.block) r.is ∙ r.in_block)) ∙ settled
+
   pub running_is : running d w rest f ≡ instruction_step d w rest (past f) i
   unfolding running block_in
-  running_is = rw (r.is, r.in_block, one_pass r.b f r.once, here) refl
+  running_is = rw (r.is, r.in_block, no_pass, here) refl
 
   pub room : most_counted ≤ most_steps → n < most_steps
   room within = (let a = g.spent in let b = taken.cheap in let c = g.agenda.5 in omega (arith, a, b, c, within))
@@ -119,8 +112,8 @@ module _ {d : Definition} {i : Instruction} (t : Due d i) where
     pub queues : QueuesGood d depths most agenda (suc n) v.objects
     pub few : live v.objects + to_make agenda ≤ d.most_objects
     pub spent :
-        suc (budget + (total (carried d costs) v.objects + (live v.objects + to_make agenda)))
-        ≤ g.agenda.0 + g.agenda.2 + (total (carried d costs) w.objects + (live w.objects + to_make (Running f ∷ rest)))
+        suc (budget + (total (carried d costs making) v.objects + (live v.objects + to_make agenda)))
+        ≤ g.agenda.0 + g.agenda.2 + (total (carried d costs making) w.objects + (live w.objects + to_make (Running f ∷ rest)))
 
   pub good_of : (v : World) (agenda : List Task) → Rests v agenda → IsGood d a most_counted (record { world = v; agenda = agenda; counted = suc n })
   good_of v agenda e =
@@ -140,7 +133,11 @@ module _ {d : Definition} {i : Instruction} (t : Due d i) where
         agenda = e.good;
         queues = e.queues;
         few = e.few;
-        spent = (let old = g.spent in let new = e.spent in let split = g.agenda.5 in omega (arith, old, new, split));
+        spent = (let old = g.spent in
+            let new = e.spent in
+            let split = g.agenda.5 in
+            let same = ap (λ m. total (carried d costs m) v.objects) e.alike.makes in
+            omega (arith, old, new, split, same));
       }
 
   -- the program goes on in this frame, above what was below it
@@ -172,10 +169,10 @@ module _ {d : Definition} {i : Instruction} (t : Due d i) where
     pub queues : QueuesGood d depths most (Running next ∷ rest) (suc n) v.objects
     -- no more live, and what is queued may cost what the steps taken leave
     pub few : live v.objects ≤ live w.objects
-    pub queued : suc (steps + total (carried d costs) v.objects) ≤ g.agenda.0 + total (carried d costs) w.objects
+    pub queued : suc (steps + total (carried d costs making) v.objects) ≤ g.agenda.0 + total (carried d costs making) w.objects
 
   pub alike : (next : Frame) → Alike (Running f ∷ rest) (Running next ∷ rest)
-  alike next = record { items = λ f. refl; unset = λ number. refl; request_step = refl; makes = refl; constructs = λ id. refl }
+  alike next = record { items = λ f. refl; unset = λ number. refl; request_step = refl; makes = refl }
 
   pub goes_to : (v : World) (next : Frame) (steps : ℕ) → Around v next steps → IsGood d a most_counted (at_top v next rest (suc n))
   goes_to v next steps e =
@@ -226,4 +223,6 @@ StepIsFine {d} {i} t = t.most_counted ≤ most_steps →
 
 pub fine_of : {i : Instruction} → ((d : Definition) (t : Due d i) → StepIsFine t) → IsFine i
 fine_of h d well a most_counted within w f rest n g is =
-    h d (record { well = well; a = a; most_counted = most_counted; w = w; f = f; rest = rest; n = n; g = g; is = is }) within
+    let x = turned d well a most_counted w f rest n g in
+    subst (λ answer. Fine d a.weighed.costs a.weighed.depths most_counted (depth (graph d) a.weighed.depths) (counted_left n answer)) x.same
+    (h d (record { well = well; a = a; most_counted = most_counted; w = w; f = taking d f; rest = rest; n = n; g = x.good; is = x.code ∙ is; settled = x.settled }) within)

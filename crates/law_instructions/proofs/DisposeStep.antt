@@ -27,7 +27,6 @@ use Rattle.law_typing.specs.Good.Bindings.{BindingsGood, SourceGood, HeldGood}
 use Rattle.law_typing.specs.Good.Builds.{is_for_builder}
 use Rattle.law_typing.specs.Good.DueCosts.{queued_cost}
 use Rattle.law_typing.specs.Good.Freezes.{PairsGood, carried}
-use Rattle.law_typing.specs.Rules.Brackets.{has_pair}
 use Rattle.law_kept.specs.Agenda.{Serves}
 use Rattle.law_kept.specs.Dispose.{DisposedKept}
 use Rattle.law_kept.proofs.Left.{each_to}
@@ -36,7 +35,7 @@ use Rattle.law_kept.proofs.BindingsProofs.{bindings_left, left_bindings_found}
 use Rattle.law_kept.proofs.DisposedProofs.{dispose_keeps}
 use Rattle.law_instructions.specs.Disposing.{DisposesAreFine}
 use Rattle.law_instructions.proofs.Frozen.{is_bracket}
-use Rattle.law_instructions.proofs.Around.{Due, r, taken, StepIsFine, fine_of}
+use Rattle.law_instructions.proofs.Around.{Due, making, r, taken, StepIsFine, fine_of}
 use Rattle.law_instructions.proofs.Written.{Moved, moved_fine, said_moved}
 use Rattle.law_instructions.proofs.Typed.{changing_none_is}
 use Rattle.law_instructions.proofs.Operand.{named}
@@ -63,17 +62,15 @@ module _ {d : Definition} {i : Instruction} (t : Due d i) (plain : is_bracket i 
       (handlers_left d a.weighed.costs a.weighed.depths s s agenda w.last_handler w.handlers (λ h. not (is_of_object id h)) (λ id place e. e)
       (λ h passes. (λ place e. e, λ id is place e. e)) g.handlers)))
 
-  left_bindings : BindingsGood d (standing v.objects) agenda v.objects v.bindings
+  left_bindings : BindingsGood d (standing v.objects) agenda v.bindings
   left_bindings =
-      subst (λ z. BindingsGood d z agenda v.objects v.bindings) (sym k.stands)
-      (subst (λ bs. BindingsGood d s agenda v.objects bs) (sym k.bindings)
-      (bindings_left d s s agenda w.objects v.objects w.bindings (λ b. not (is_end id b))
-      (λ j place x stands is. (let h = k.shed j x is in (h.0, h.1, λ none. h.2.freezes ∙ none)))
+      subst (λ z. BindingsGood d z agenda v.bindings) (sym k.stands)
+      (subst (λ bs. BindingsGood d s agenda bs) (sym k.bindings)
+      (bindings_left d s s agenda w.bindings (λ b. not (is_end id b))
       (λ b passes. (λ place e. e, λ place e. e)) g.bindings))
 
-  left_pairs : PairsGood d agenda v.objects v.bindings
+  left_pairs : PairsGood agenda v.bindings
   left_pairs = record {
-    frozen = λ j x e pair some. (let h = k.shed j x e in g.pairs.frozen j h.0 h.1 (ap (has_pair d) (sym h.2.place) ∙ pair) (let same = h.2.freezes in omega (arith, some, same)));
     before = λ some. (let b = g.pairs.before some in (k.bindings ∙ ap (filter (λ b. not (is_end id b))) b.0, b.1));
     one = g.pairs.one;
   }
@@ -87,7 +84,7 @@ module _ {d : Definition} {i : Instruction} (t : Due d i) (plain : is_bracket i 
     handlers = λ number low h is.
         (h, left_are_found d a.weighed.costs a.weighed.depths s agenda w.last_handler w.handlers (λ h. not (is_of_object id h)) g.handlers number h (subst (λ hs. handler_of number hs ≡ Some h) k.handlers is), refl, refl, refl);
     bindings = λ number b is.
-        left_bindings_found d s agenda w.objects w.bindings (λ b. not (is_end id b)) g.bindings number b (ap (λ bs. binding_of number bs) (sym k.bindings) ∙ is);
+        left_bindings_found d s agenda w.bindings (λ b. not (is_end id b)) g.bindings number b (ap (λ bs. binding_of number bs) (sym k.bindings) ∙ is);
     sources = inr k.sources;
     peers = λ number p is. (let q = k.peers number p is in (q.0, q.1, q.2));
   }
@@ -130,8 +127,9 @@ module _ {d : Definition} {i : Instruction} (t : Due d i) (plain : is_bracket i 
     pool = pool;
     queues = λ j x e. (let h = k.shed j x e in (h.0, h.1, h.2.place, h.2.freezes, h.2.queue));
     few = (let e = k.sums one_if refl (λ x y p q. refl) in omega (arith, e));
-    queued = (let e = k.sums (carried d a.weighed.costs) refl
-        (λ x y p q. ap (λ slots. total (λ slot. queued_cost d a.weighed.costs x.place slot) slots) q ∙ ap (λ place. total (λ slot. queued_cost d a.weighed.costs place slot) y.queue) p) in
+    queued = (let e = k.sums (carried d a.weighed.costs (making t)) refl
+        (λ x y p q. ap (λ slots. total (λ slot. queued_cost d a.weighed.costs (making t) x.place slot) slots) q
+        ∙ ap (λ place. total (λ slot. queued_cost d a.weighed.costs (making t) place slot) y.queue) p) in
         omega (arith, e));
   }
 

@@ -50,7 +50,6 @@ alike_both a b c p q = record {
   unset = λ number. q.unset number ∙ p.unset number;
   request_step = q.request_step ∙ p.request_step;
   makes = q.makes ∙ p.makes;
-  constructs = λ id. q.constructs id ∙ p.constructs id;
 }
 
 module _ {d : Definition} {i : Instruction} (t : Due d i) (plain : is_bracket i ≡ false) (last : ends i ≡ true) where
@@ -75,7 +74,6 @@ module _ {d : Definition} {i : Instruction} (t : Due d i) (plain : is_bracket i 
     unset = λ number. omega arith;
     request_step = omega arith;
     makes = omega arith;
-    constructs = λ id. omega arith;
   }
 
   -- the program held nothing frozen

@@ -34,7 +34,7 @@ use Rattle.law_kept.specs.Family.{Kin, FamiliesGood, with_families}
 use Rattle.law_kept.proofs.FamilyProofs.{families_keep}
 use Rattle.law_kept.proofs.DisposeProofs.{changed_here, put_apart, Was, was, place_same, sum_changed}
 use Rattle.law_instructions.specs.Families.{FamiliesAreFine}
-use Rattle.law_instructions.proofs.Around.{Due, r, taken, StepIsFine, fine_of}
+use Rattle.law_instructions.proofs.Around.{Due, making, r, taken, StepIsFine, fine_of}
 use Rattle.law_instructions.proofs.Frozen.{is_bracket}
 use Rattle.law_instructions.proofs.Written.{Moved, moved_fine, moved_written, said_moved, serves_itself}
 use Rattle.law_instructions.proofs.Inverse.{bound}
@@ -195,7 +195,7 @@ module _ {d : Definition} {i : Instruction} (t : Due d i) (plain : is_bracket i 
     queues = λ id x e. (let b = before kids above child parent w.objects id x e in
         (b.old, b.was, ap (λ (o : Object). o.place) b.same, ap (λ (o : Object). o.freezes) b.same, ap (λ (o : Object). o.queue) b.same));
     few = (let same = sum_twice kids above child parent w.objects one_if refl (λ g o. refl) (λ a o. refl) in omega (arith, same));
-    queued = (let same = sum_twice kids above child parent w.objects (carried d a.weighed.costs) refl (λ g o. refl) (λ a o. refl) in omega (arith, same));
+    queued = (let same = sum_twice kids above child parent w.objects (carried d a.weighed.costs (making t)) refl (λ g o. refl) (λ a o. refl) in omega (arith, same));
   }
 
 -- ** orphan

@@ -1,7 +1,6 @@
 -- A program freezes an object.
-use Rattle.std.proofs.Common.{◌≡◌, refl, sym, ap, subst, ◌∙◌, ℕ, zero, suc, ◌+◌, ◌<◌, ◌≤◌, Bool, true, false, cond, List, [], ◌∷◌, length, drop, Option, None, Some, Ok, slice_get, arith, lt-ltb}
+use Rattle.std.proofs.Common.{◌≡◌, refl, sym, ap, subst, ◌∙◌, ℕ, zero, suc, ◌+◌, ◌≤◌, Bool, true, false, cond, List, ◌∷◌, drop, Option, None, Some, Ok, arith, lt-ltb}
 use Rattle.std.specs.Prelude.{nat_eq, nat_lt}
-use Rattle.std.specs.List.{list_any}
 use Rattle.std.proofs.lemmas.Bool.{eqb-true, eqb-false}
 use Rattle.ui_machine.specs.Seq.{read, total}
 use Rattle.ui_machine.specs.Definition.{Definition}
@@ -16,22 +15,16 @@ use Rattle.ui_machine.specs.Instructions.Registers.{operand_in}
 use Rattle.ui_machine.specs.Instructions.Objects.{freezing}
 use Rattle.ui_machine.specs.Instructions.Jumps.{past}
 use Rattle.ui_machine.specs.Steps.{most_steps, left}
-use Rattle.law_typing.specs.Rules.RegisterKinds.{kind_in, covers, places, place_numbers}
 use Rattle.law_typing.specs.Rules.Typing as typing
-use Rattle.law_typing.specs.Rules.Brackets.{opened, less_one, has_pair, freezes_pair}
+use Rattle.law_typing.specs.Rules.Brackets.{opened, less_one}
 use Rattle.law_typing.specs.Graph.{graph}
 use Rattle.law_typing.specs.Graph.Depths.{depth}
-use Rattle.law_typing.specs.Laws.{IsIn}
 use Rattle.law_typing.specs.Laws.StepsKeepGood.{IsGood}
 use Rattle.law_typing.specs.Good.Standing.{standing, view, View, RegistersFit}
 use Rattle.law_typing.specs.Good.Programs.{code_left}
 use Rattle.law_typing.specs.Good.Freezes.{frozen_by, QueueGood, QueuesGood, carried}
-use Rattle.law_typing.proofs.Lists.{any_true, filter_in}
-use Rattle.law_typing.proofs.CostProofs.{listed_in}
-use Rattle.law_static.specs.Sites.{BlockIs}
 use Rattle.law_static.specs.Code.{gone_on}
 use Rattle.law_static.proofs.CodeProofs.{from_at}
-use Rattle.law_static.proofs.SiteProofs.{sites_keep}
 use Rattle.law_kept.specs.Agenda.{Serves}
 use Rattle.law_kept.specs.Write.{Kept}
 use Rattle.law_kept.proofs.WriteProofs.{find_here, find_apart, write_keeps}
@@ -39,7 +32,7 @@ use Rattle.law_kept.proofs.DisposeProofs.{sum_put}
 use Rattle.law_kept.proofs.ChangesProofs.{freeze_is_like}
 use Rattle.law_instructions.specs.Running.{at_top}
 use Rattle.law_instructions.specs.Freezing.{FreezesAreFine}
-use Rattle.law_instructions.proofs.Around.{Due, r, here, taken, code_is, goes_to, past_good, left_steps, steps_left, fine_where, waits_not, StepIsFine, fine_of}
+use Rattle.law_instructions.proofs.Around.{Due, making, r, here, taken, code_is, goes_to, past_good, left_steps, steps_left, fine_where, waits_not, StepIsFine, fine_of}
 use Rattle.law_instructions.proofs.Written.{serves_itself}
 use Rattle.law_instructions.proofs.Typed.{changing_none_is}
 use Rattle.law_instructions.proofs.Operand.{Named, named}
@@ -53,19 +46,6 @@ freeze_leads : (w : World) (rest : List Task) (f : Frame) (n object id : ℕ) (o
     nat_lt o.freezes most_freezes ≡ true → left n (in_front rest (freezing w f object)) ≡ Ok (at_top (with_objects w (put w.objects id (Some (frozen o)))) f rest n)
 unfolding freezing changed in_front left
 freeze_leads w rest f n object id o e is room = rw (e, is, room) refl
-
--- what no entry passes
-none_passes : {A : Type 0} (test : A → Bool) (xs : List A) (x : A) → list_any test xs ≡ false → IsIn x xs → test x ≡ false
-none_passes test xs x e h = go (test x) refl
-  where
-    go : (b : Bool) → test x ≡ b → b ≡ false
-    go true t = let f = any_true test xs x h t in cc
-    go false t = refl
-
-get_low : {A : Type 0} (xs : List A) (i : ℕ) (x : A) → slice_get xs i ≡ Some x → i < length xs
-get_low [] i x e = absurd (cc)
-get_low (y ∷ ys) zero x e = omega arith
-get_low (y ∷ ys) (suc i) x e = let h = get_low ys i x e in omega (arith, h)
 
 -- a sum over the objects, where one is written over by one that counts the same
 sum_same : (f : Option Object → ℕ) → f None ≡ 0 → (os : Objects) (id : ℕ) (o new : Object) → living os id ≡ Some o → f (Some new) ≡ f (Some o) → total f (put os id (Some new)) ≡ total f os
@@ -87,18 +67,9 @@ module _ {d : Definition} (object : ℕ) (t : Due d (words.freeze object)) (x : 
   abbrev next : Frame
   next = gone_on f f.registers
 
-  -- no property of it is of a pair
-  unpaired : has_pair d o.place ≡ false
-  unpaired =
-      let block : BlockIs d f.program f.block (r t).p (r t).b = record { is = (r t).is; has = (r t).in_block } in
-      let kept = sites_keep d a f.program f.block f.at (r t).p (r t).b (words.freeze object) block (here t) in
-      let low = get_low d.places o.place x.1.good.place x.1.good.is in
-      none_passes (has_pair d) (places d (kind_in (r t).ks object)) o.place (ap (λ ks. freezes_pair d ks (words.freeze object)) (taken t).at_site ∙ kept.thawed)
-      (filter_in (covers d (kind_in (r t).ks object)) (place_numbers d) o.place x.1.covered (listed_in (λ place. place) (length d.places) o.place low))
-
   kept : Kept d a.weighed.costs a.weighed.depths (Running f ∷ rest) w v
   kept =
-      write_keeps d a.weighed.costs a.weighed.depths (Running f ∷ rest) w id o (frozen o) x.1.lives (freeze_is_like d w id o x.1.good unpaired)
+      write_keeps d a.weighed.costs a.weighed.depths (Running f ∷ rest) w id o (frozen o) x.1.lives (freeze_is_like d w id o x.1.good)
       (record { objects = g.objects; handlers = g.handlers; bindings = g.bindings; sources = g.sources; held = g.held; floating = g.floating; pairs = g.pairs })
 
   -- one more bracket is open on it
@@ -164,7 +135,7 @@ module _ {d : Definition} (object : ℕ) (t : Due d (words.freeze object)) (x : 
             (subst (λ ks. RegistersFit d (standing w.objects) ks f.registers) (sym kinds_are) (r t).fit));
         queues = queues_good;
         few = (let same = kept.alive in omega (arith, same));
-        queued = (let left = steps_left t in let same = sum_same (carried d a.weighed.costs) refl w.objects id o (frozen o) x.1.lives refl in omega (arith, left, same));
+        queued = (let left = steps_left t in let same = sum_same (carried d a.weighed.costs (making t)) refl w.objects id o (frozen o) x.1.lives refl in omega (arith, left, same));
       })
 
   room : most_counted ≤ most_steps → nat_lt o.freezes most_freezes ≡ true

@@ -28,10 +28,11 @@ use Rattle.law_typing.proofs.Lists.{either_part}
 use Rattle.law_kept.proofs.WriteProofs.{read_here, read_apart}
 use Rattle.law_instructions.specs.Running.{at_top}
 use Rattle.law_instructions.specs.Jumps.{JumpsAreFine}
+use Rattle.law_instructions.proofs.Passes.{fit_entry}
 use Rattle.law_instructions.proofs.Around.{Due, r, taken, fine_where, waits_not, StepIsFine, fine_of}
 use Rattle.law_instructions.proofs.Inverse.{truth_at, text_at, object_at}
 use Rattle.law_instructions.proofs.Typed.{Enters, entering_is, branching_is, branching_null_is, with_kind}
-use Rattle.law_instructions.proofs.Landing.{fit_entry, lands, landed}
+use Rattle.law_instructions.proofs.Landing.{lands, landed}
 
 -- ** what the machine does
 

@@ -1,50 +1,33 @@
 -- A program goes on at the first instruction of a block.
 use Rattle.std.proofs.Common.{◌≡◌, refl, sym, ap, ◌∙◌, ℕ, zero, suc, ◌-◌, ◌≤◌, true, false, List, [], ◌∷◌, length, drop, None, Some, slice_get, arith}
 use Rattle.std.specs.List.{flat_map}
-use Rattle.ui_machine.specs.Seq.{read}
-use Rattle.ui_machine.specs.Definition.Kinds.{RegisterKind}
-use Rattle.ui_machine.specs.Definition.Kinds as kinds
 use Rattle.ui_machine.specs.Definition.{Definition}
 use Rattle.ui_machine.specs.Definition.Lookups.{program_at}
 use Rattle.ui_machine.specs.Definition.Programs.{Instruction, Block, passes_in}
 use Rattle.ui_machine.specs.Definition.Programs as words
-use Rattle.ui_machine.specs.State.Tasks.{Registers, Frame, Running}
-use Rattle.law_typing.specs.Rules.RegisterKinds.{Kinds, kind_in, fits, kinds_fit}
+use Rattle.ui_machine.specs.State.Tasks.{Frame, Running}
 use Rattle.law_typing.specs.Rules.Brackets.{opened, is_empty, is_bracketed}
 use Rattle.law_typing.specs.Graph.{graph, next_of, stretch_of, stretches_of}
 use Rattle.law_typing.specs.Graph.Costs.{block_cost}
 use Rattle.law_typing.specs.Graph.Depths.{depth}
 use Rattle.law_typing.specs.Laws.{IsIn}
-use Rattle.law_typing.specs.Laws.WellRead.{TypesRead, ends, Ends}
+use Rattle.law_typing.specs.Laws.WellRead.{ends, Ends}
 use Rattle.law_typing.specs.Laws.StepsKeepGood.{IsGood}
-use Rattle.law_typing.specs.Good.Standing.{Standing, standing, view, RegistersFit}
+use Rattle.law_typing.specs.Good.Standing.{standing, view, RegistersFit}
 use Rattle.law_typing.specs.Good.ComingDown.{none}
 use Rattle.law_typing.specs.Good.Programs.{RunningGood, code_of, code_of_block, code_left}
 use Rattle.law_typing.specs.Good.Freezes.{QueuesGood}
 use Rattle.law_typing.proofs.Lists.{both_parts, greatest_in}
-use Rattle.law_typing.proofs.CostProofs.{blocks_cover}
+use Rattle.law_typing.proofs.CostProofs.{blocks_cover, passes_cover}
 use Rattle.law_typing.proofs.EdgeProofs.{append_left}
 use Rattle.law_static.proofs.SiteProofs.{blocks_keep}
 use Rattle.law_static.proofs.CodeProofs.{cheap}
-use Rattle.law_static.proofs.BeginProofs.{get_map, some_code, later}
-use Rattle.law_static.proofs.FitsProofs.{holds_fits}
+use Rattle.law_static.proofs.BeginProofs.{get_map, some_code, later, passed}
 use Rattle.law_instructions.specs.Running.{at_top}
 use Rattle.law_instructions.proofs.Frozen.{is_bracket, opened_past, frozen_same}
+use Rattle.law_instructions.proofs.Passes.{empty_is}
 use Rattle.law_instructions.proofs.Around.{Due, goes_to, r, here}
 use Rattle.law_instructions.proofs.Written.{code_here, serves_itself}
-
--- ** kinds of a block
-
-kind_fits_at : (d : Definition) (ks es : Kinds) (r : ℕ) → kinds_fit d ks es ≡ true → fits d (kind_in ks r) (kind_in es r) ≡ true
-kind_fits_at d ks [] r e = refl
-kind_fits_at d [] (k ∷ es) zero e = (both_parts (fits d kinds.unset k) (kinds_fit d [] es) e).0
-kind_fits_at d [] (k ∷ es) (suc r) e = kind_fits_at d [] es r (both_parts (fits d kinds.unset k) (kinds_fit d [] es) e).1
-kind_fits_at d (x ∷ ks) (k ∷ es) zero e = (both_parts (fits d x k) (kinds_fit d ks es) e).0
-kind_fits_at d (x ∷ ks) (k ∷ es) (suc r) e = kind_fits_at d ks es r (both_parts (fits d x k) (kinds_fit d ks es) e).1
-
-pub fit_entry : (d : Definition) → TypesRead d → (s : Standing) (ks es : Kinds) (registers : Registers) → kinds_fit d ks es ≡ true → RegistersFit d s ks registers →
-    RegistersFit d s es registers
-fit_entry d types s ks es registers e fit r = holds_fits d types s (kind_in ks r) (kind_in es r) (read None registers r) (kind_fits_at d ks es r e) (fit r)
 
 -- ** the last instruction of a block
 
@@ -55,14 +38,10 @@ none_after (j ∷ []) (suc at) i block e f = absurd (cc)
 none_after (j ∷ k ∷ code) zero i block e f = absurd (let s : ends j ≡ ends i = ap ends (let t : j ≡ i = cc in t) in let b = block.0 in cc)
 none_after (j ∷ k ∷ code) (suc at) i block e f = none_after (k ∷ code) at i block.1 e f
 
-ends_plain : (i : Instruction) → ends i ≡ true → is_bracket i ≡ false
+pub ends_plain : (i : Instruction) → ends i ≡ true → is_bracket i ≡ false
 ends_plain (words.freeze r) e = absurd (cc)
 ends_plain (words.thaw r) e = absurd (cc)
 ends_plain _ e = refl
-
-empty_is : (xs : List ℕ) → is_empty xs ≡ true → xs ≡ []
-empty_is [] e = refl
-empty_is (x ∷ xs) e = absurd (cc)
 
 module _ {d : Definition} {i : Instruction} (t : Due d i) (last : ends i ≡ true) where
   open t use {well, a, most_counted, w, f, rest, n, g}
@@ -94,6 +73,7 @@ module _ {d : Definition} {i : Instruction} (t : Due d i) (last : ends i ≡ tru
       let block = (well.programs f.program p (r t).is).blocks to b has in
       let kept = blocks_keep d a f.program to p b (record { is = (r t).is; has = has }) in
       let covers = blocks_cover (graph d) a.weighed.costs (stretches_of d p) to (stretch_of d p b) (get_map (stretch_of d p) p.blocks to b has) (later b.code to (length p.blocks) block.next) in
+      let whole = passes_cover (graph d) a.weighed.costs (stretch_of d p b) (passes_in b - 1) (let some = passed b block.repeat in omega (arith, some)) in
       let paid = pays to next in
       record {
         p = p;
@@ -101,7 +81,7 @@ module _ {d : Definition} {i : Instruction} (t : Due d i) (last : ends i ≡ tru
         b = b;
         in_block = has;
         inside = some_code b.code block.ends;
-        once = block.once;
+        few = omega arith;
         counted = (r t).counted;
         ks = b.entry;
         fit = fit;
@@ -110,7 +90,7 @@ module _ {d : Definition} {i : Instruction} (t : Due d i) (last : ends i ≡ tru
         at_site = refl;
         typed = kept.typed;
         bracketed = (both_parts (is_bracketed b.code) (is_empty (opened b.code)) kept.balanced).0;
-        cheap = omega (arith, covers, paid);
+        cheap = omega (arith, covers, whole, paid);
         shallow = (r t).shallow;
       }
 

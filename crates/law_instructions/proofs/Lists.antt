@@ -56,7 +56,7 @@ module _ {d : Definition} {i : Instruction} (t : Due d i) (plain : is_bracket i 
   -- what is to be shown of them
   pub record ListsGood (l : Lists) : Type 0 where
     pub handlers : HandlersGood d a.weighed.costs a.weighed.depths (standing w.objects) (Running f ∷ rest) l.last_handler l.handlers
-    pub bindings : BindingsGood d (standing w.objects) (Running f ∷ rest) w.objects l.bindings
+    pub bindings : BindingsGood d (standing w.objects) (Running f ∷ rest) l.bindings
     pub sources : Each (SourceGood d (standing w.objects)) l.sources
     pub floating : Each (Lives (standing w.objects)) l.floating
     -- there is no binding where there was none
@@ -88,7 +88,7 @@ module _ {d : Definition} {i : Instruction} (t : Due d i) (plain : is_bracket i 
       sources = e.sources;
       held = g.held;
       floating = e.floating;
-      pairs = record { frozen = g.pairs.frozen; before = λ some. (let b = g.pairs.before some in (e.none b.0, b.1)); one = g.pairs.one };
+      pairs = record { before = λ some. (let b = g.pairs.before some in (e.none b.0, b.1)); one = g.pairs.one };
     };
     stands = refl;
     served = served l e;

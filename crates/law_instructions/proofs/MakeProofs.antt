@@ -61,7 +61,7 @@ use Rattle.law_kept.proofs.NewProofs.{found, new_stands, new_serves}
 use Rattle.law_kept.proofs.ServedProofs.{registers_kept}
 use Rattle.law_kept.proofs.WriteProofs.{read_apart}
 use Rattle.law_instructions.specs.Making.{MakesAreFine}
-use Rattle.law_instructions.proofs.Around.{Due, r, taken, good_of, above, past_good, left_steps, steps_left, fine_where, none_into, StepIsFine, fine_of}
+use Rattle.law_instructions.proofs.Around.{Due, making as objects_making, r, taken, good_of, above, past_good, left_steps, steps_left, fine_where, none_into, StepIsFine, fine_of}
 use Rattle.law_instructions.proofs.Frozen.{frozen_same}
 use Rattle.law_instructions.proofs.Typed.{Placed, naming_is}
 use Rattle.law_instructions.proofs.Unfrozen.{unfrozen}
@@ -206,7 +206,6 @@ module _ {d : Definition} (to : ℕ) (id : List ℕ) (t : Due d (words.new to id
       let x =
       new_whole_good d well.types a.weighed.costs a.weighed.depths (Running f ∷ rest) w k.place k.p o is_new
       (λ raised there same. (let none = all_free d a.weighed.costs k.place k.p k.has (read_well.silent k.allowed) raised.channel same (Running f ∷ rest) in omega (arith, none)))
-      (λ pair. absurd (unpaired d well k.place k.p k.has k.allowed pair))
       (record { objects = g.objects; handlers = g.handlers; bindings = g.bindings; sources = g.sources; held = g.held; floating = g.floating; pairs = g.pairs }) in
       record {
         objects = objects_stay d made v x.objects;
@@ -222,7 +221,7 @@ module _ {d : Definition} (to : ℕ) (id : List ℕ) (t : Due d (words.new to id
   pool = peers_lent d well.peers w k.place (length w.builder + total is_for_builder (Running f ∷ rest)) (length w.builder + total is_for_builder agenda) new k.p k.has (inl k.allowed) (omega arith) g.peers
 
   alike : Alike (Running f ∷ rest) agenda
-  alike = record { items = λ f. omega arith; unset = λ number. omega arith; request_step = omega arith; makes = omega arith; constructs = λ id. omega arith }
+  alike = record { items = λ f. omega arith; unset = λ number. omega arith; request_step = omega arith; makes = omega arith }
 
   -- ** the registers
 
@@ -310,11 +309,16 @@ module _ {d : Definition} (to : ℕ) (id : List ℕ) (t : Due d (words.new to id
     place = k.place;
     is = stands.here;
     for_builder = λ e. absurd (cc);
+    for_program = λ e. none_paired (has_pair d k.place) refl;
     fits = constructions_fit d well.types a (standing v.objects) w k.place k.p (λ place id is. stands.stay id place (g.held place id is)) k.has read_well;
     cheap = construction_costs d a w k.place k.p k.has read_well;
     shallow = each_to _ _ todo (λ m low. omega (arith, low)) (constructions_shallow d a w k.place k.p k.has read_well);
     one = omega arith;
   }
+    where
+      none_paired : (b : Bool) → has_pair d k.place ≡ b → b ≡ false
+      none_paired true e = absurd (unpaired d well k.place k.p k.has k.allowed e)
+      none_paired false e = refl
 
   -- ** the step
 
@@ -351,7 +355,7 @@ module _ {d : Definition} (to : ℕ) (id : List ℕ) (t : Due d (words.new to id
         spent = (let left = steps_left t in
             let is = cost_is in
             let more = (new_stands d w o).1 in
-            let sum = total_append (carried d a.weighed.costs) w.objects (Some o ∷ []) in
+            let sum = total_append (carried d a.weighed.costs (objects_making t)) w.objects (Some o ∷ []) in
             omega (arith, left, is, more, sum));
       })
 

@@ -33,7 +33,7 @@ use Rattle.law_typing.specs.Good.DueCosts.{queued_cost}
 use Rattle.law_typing.specs.Good.Freezes.{frozen_by, below_lowest, QueueGood, QueuesGood, carried}
 use Rattle.law_static.specs.Code.{gone_on}
 use Rattle.law_static.proofs.PlanCostProofs.{total_append}
-use Rattle.law_static.proofs.StartProofs.{starts_reach, due_within}
+use Rattle.law_static.proofs.StartProofs.{starts_reach, due_within, queued_within}
 use Rattle.law_static.proofs.SubclassProofs.{specs_inherit}
 use Rattle.law_kept.specs.Agenda.{Serves}
 use Rattle.law_kept.specs.Write.{Kept}
@@ -42,7 +42,7 @@ use Rattle.law_kept.proofs.DisposeProofs.{sum_put}
 use Rattle.law_kept.proofs.ChangesProofs.{each_queued, queue_is_like}
 use Rattle.law_instructions.specs.Running.{at_top}
 use Rattle.law_instructions.specs.Notifying.{NotifiesAreFine}
-use Rattle.law_instructions.proofs.Around.{Due, r, taken, goes_to, past_good, left_steps, steps_left, fine_where, waits_not, StepIsFine, fine_of}
+use Rattle.law_instructions.proofs.Around.{Due, making, r, taken, goes_to, past_good, left_steps, steps_left, fine_where, waits_not, StepIsFine, fine_of}
 use Rattle.law_instructions.proofs.Written.{serves_itself, said_moved, moved_fine, open_same}
 use Rattle.law_instructions.proofs.Frozen.{frozen_same}
 use Rattle.law_instructions.proofs.Typed.{property_is, changing_none_is}
@@ -200,10 +200,11 @@ module _ {d : Definition} (object : ℕ) (name : List ℕ) (t : Due d (words.not
         queues = queues_good frozen;
         few = (let same = kept.alive in omega (arith, same));
         queued = (let left = steps_left t in
-            let sum = sum_over (carried d a.weighed.costs) refl w.objects id o (record o { queue = queued o.queue k.slot }) k.named.lives in
-            let more = queued_more (λ slot. queued_cost d a.weighed.costs o.place slot) o.queue k.slot in
+            let sum = sum_over (carried d a.weighed.costs (making t)) refl w.objects id o (record o { queue = queued o.queue k.slot }) k.named.lives in
+            let more = queued_more (λ slot. queued_cost d a.weighed.costs (making t) o.place slot) o.queue k.slot in
+            let own = queued_within d a.weighed.costs (making t) o.place k.slot in
             let cheap = reach.0 in
-            omega (arith, left, sum, more, cheap));
+            omega (arith, left, sum, more, own, cheap));
       })
 
   notify_of : StepIsFine t

@@ -166,14 +166,14 @@ module _ {d : Definition} {i : Instruction} (t : Due d i) (plain : is_bracket i 
       (record {
         handlers = g.handlers;
         bindings =
-            bindings_left d (standing w.objects) (standing w.objects) (Running f ∷ rest) w.objects w.objects w.bindings test (λ id place o stands is. (o, is, λ e. e))
+            bindings_left d (standing w.objects) (standing w.objects) (Running f ∷ rest) w.bindings test
             (λ b passes. (λ place e. e, λ place e. e)) g.bindings;
         sources = g.sources;
         floating = g.floating;
         none = λ e. ap (filter test) e;
         last = omega arith;
         handlers_were = λ number low h is. (h, is, refl, refl, refl);
-        bindings_were = λ number b is. left_bindings_found d (standing w.objects) (Running f ∷ rest) w.objects w.bindings test g.bindings number b is;
+        bindings_were = λ number b is. left_bindings_found d (standing w.objects) (Running f ∷ rest) w.bindings test g.bindings number b is;
       })
 
   remove_moved : (number : ℕ) → Moved t plain (record w { sources = without_program number w.sources })

@@ -93,7 +93,7 @@ module _ (d : Definition) (types : TypesRead d) (costs depths : Tables) (most : 
     sources = w.sources;
     is = ap (given_down d w rest) (none_given no_own) ∙ is;
     good_sources = sources;
-    alike = record { items = λ f. refl; unset = λ number. refl; request_step = refl; makes = refl; constructs = λ id. refl };
+    alike = record { items = λ f. refl; unset = λ number. refl; request_step = refl; makes = refl };
     frozen = λ id. refl;
     lowest = λ id. omega arith;
     no_set = no_set;
@@ -114,7 +114,7 @@ module _ (d : Definition) (types : TypesRead d) (costs depths : Tables) (most : 
         sources = w.sources;
         is = emission_goes d w e turns tasks v c.emission c.left c.is;
         good_sources = sources;
-        alike = record { items = λ f. refl; unset = λ number. refl; request_step = refl; makes = refl; constructs = λ id. refl };
+        alike = record { items = λ f. refl; unset = λ number. refl; request_step = refl; makes = refl };
         frozen = λ id. refl;
         lowest = λ id. omega arith;
         no_set = omega (arith, no_set);
@@ -139,7 +139,7 @@ module _ (d : Definition) (types : TypesRead d) (costs depths : Tables) (most : 
         sources = next;
         is = source_goes d w source tasks v b.0 b.1;
         good_sources = sources_answered d (standing w.objects) w.sources w.moment source b.0 sources;
-        alike = record { items = λ f. omega arith; unset = λ number. omega arith; request_step = omega arith; makes = omega arith; constructs = λ id. omega arith };
+        alike = record { items = λ f. omega arith; unset = λ number. omega arith; request_step = omega arith; makes = omega arith };
         frozen = λ id. omega arith;
         lowest = λ id. lowest_falls d id (Answering source) tasks;
         no_set = no_set;

@@ -28,13 +28,16 @@ use Rattle.law_typing.specs.Rules.Typing.{after, property_of, fitting, changing_
 use Rattle.law_typing.specs.Graph.{graph, start_of}
 use Rattle.law_typing.specs.Graph.Channels.{property, spec_if}
 use Rattle.law_typing.specs.Graph.Costs.{start_cost}
-use Rattle.law_typing.specs.Graph.Depths.{start_depth}
+use Rattle.law_typing.specs.Graph.Depths.{start_depth, depth}
 use Rattle.law_typing.specs.Laws.WellRead.{is_set}
 use Rattle.law_typing.specs.Good.Standing.{standing, holds}
 use Rattle.law_static.proofs.FitsProofs.{holds_kind, holds_live, holds_set}
 use Rattle.law_static.proofs.StartProofs.{starts_reach, due_within}
 use Rattle.law_static.proofs.SubclassProofs.{specs_inherit}
-use Rattle.law_instructions.specs.Running.{at_top}
+use Rattle.law_instructions.specs.Running.{at_top, taking}
+use Rattle.law_instructions.proofs.Passes.{turned}
+use Rattle.law_typing.specs.Laws.StepsKeepGood.{Fine}
+use Rattle.ui_machine.specs.Steps.{counted_left}
 use Rattle.law_instructions.specs.Setting.{SetsAreFine}
 use Rattle.law_instructions.proofs.Around.{Due, r, taken, StepIsFine}
 use Rattle.law_instructions.proofs.Inverse.{bound, only, passing_is}
@@ -142,4 +145,7 @@ module _ {d : Definition} (object : ℕ) (name : List ℕ) (from : ℕ) (t : Due
 
 pub sets_are_fine : SetsAreFine
 sets_are_fine object name from d well a most_counted within w f rest n g is held =
-    set_fine object name from (record { well = well; a = a; most_counted = most_counted; w = w; f = f; rest = rest; n = n; g = g; is = is }) held within
+    let x = turned d well a most_counted w f rest n g in
+    subst (λ answer. Fine d a.weighed.costs a.weighed.depths most_counted (depth (graph d) a.weighed.depths) (counted_left n answer)) x.same
+    (set_fine object name from
+    (record { well = well; a = a; most_counted = most_counted; w = w; f = taking d f; rest = rest; n = n; g = x.good; is = x.code ∙ is; settled = x.settled }) (x.held held) within)

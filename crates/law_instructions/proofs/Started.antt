@@ -54,27 +54,27 @@ pub record Unseen (d : Definition) (task : Task) (f next : Frame) (rest : List T
 
 pub unseen : (d : Definition) (task : Task) (f next : Frame) (rest : List Task) → is_started task ≡ true → Unseen d task f next rest
 unseen d (Setting id slot v) f next rest is = record {
-  alike = record { items = λ f. omega arith; unset = λ number. omega arith; request_step = omega arith; makes = omega arith; constructs = λ id. omega arith };
+  alike = record { items = λ f. omega arith; unset = λ number. omega arith; request_step = omega arith; makes = omega arith };
   unfrozen = λ id. refl;
   build = λ builder agenda b. b;
 }
 unseen d (Notifying id slot) f next rest is = record {
-  alike = record { items = λ f. omega arith; unset = λ number. omega arith; request_step = omega arith; makes = omega arith; constructs = λ id. omega arith };
+  alike = record { items = λ f. omega arith; unset = λ number. omega arith; request_step = omega arith; makes = omega arith };
   unfrozen = λ id. refl;
   build = λ builder agenda b. b;
 }
 unseen d (Beginning e) f next rest is = record {
-  alike = record { items = λ f. omega arith; unset = λ number. omega arith; request_step = omega arith; makes = omega arith; constructs = λ id. omega arith };
+  alike = record { items = λ f. omega arith; unset = λ number. omega arith; request_step = omega arith; makes = omega arith };
   unfrozen = λ id. refl;
   build = λ builder agenda b. b;
 }
 unseen d (Calling call) f next rest is = record {
-  alike = record { items = λ f. omega arith; unset = λ number. omega arith; request_step = omega arith; makes = omega arith; constructs = λ id. omega arith };
+  alike = record { items = λ f. omega arith; unset = λ number. omega arith; request_step = omega arith; makes = omega arith };
   unfrozen = λ id. refl;
   build = λ builder agenda b. b;
 }
 unseen d (Thawing id slots) f next rest is = record {
-  alike = record { items = λ f. omega arith; unset = λ number. omega arith; request_step = omega arith; makes = omega arith; constructs = λ id. omega arith };
+  alike = record { items = λ f. omega arith; unset = λ number. omega arith; request_step = omega arith; makes = omega arith };
   unfrozen = λ id. refl;
   build = λ builder agenda b. b;
 }

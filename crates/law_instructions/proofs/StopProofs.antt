@@ -24,7 +24,7 @@ use Rattle.law_typing.specs.Good.ComingDown.{Down, down}
 use Rattle.law_typing.specs.Good.Emissions.{TurnGood, EmittingGood}
 use Rattle.law_typing.specs.Good.Builds.{is_for_builder, BuildGood}
 use Rattle.law_typing.specs.Good.Agenda.{AgendaGood, frames}
-use Rattle.law_typing.specs.Good.Freezes.{frozen_by, below_lowest, QueuesGood, constructs_held, is_carrying_over, is_due_set, is_due_source}
+use Rattle.law_typing.specs.Good.Freezes.{frozen_by, below_lowest, QueuesGood, is_carrying_over, is_due_set, is_due_source}
 use Rattle.law_static.specs.Code.{gone_on}
 use Rattle.law_kept.specs.Alike.{Alike}
 use Rattle.law_instructions.proofs.Frozen.{frozen_same}
@@ -102,7 +102,6 @@ module _ {d : Definition} (t : around.Due d words.stop) (x : Emits t.rest) where
     unset = λ number. (let s = sums (unsets number) (λ turns. refl) in omega (arith, s));
     request_step = (let s = sums is_carrying_over (λ turns. refl) in omega (arith, s));
     makes = (let s = sums is_for_builder (λ turns. refl) in omega (arith, s));
-    constructs = λ id. (let s = sums (constructs_held id) (λ turns. refl) in omega (arith, s));
   }
 
   later_good : AgendaGood d a.weighed.costs a.weighed.depths (view w) (depth (graph d) a.weighed.depths) (down d (view w) (Running f)) later g.agenda.2

@@ -24,8 +24,9 @@ use Rattle.ui_machine.specs.Steps.{left}
 use Rattle.law_typing.specs.Rules.RegisterKinds.{class_at}
 use Rattle.law_typing.specs.Rules.Typing as typing
 use Rattle.law_typing.specs.Rules.Brackets.{opened}
-use Rattle.law_typing.specs.Graph.{graph}
-use Rattle.law_typing.specs.Graph.Channels.{property, spec_at, spec_if}
+use Rattle.law_typing.specs.Graph.{graph, start_of}
+use Rattle.law_typing.specs.Graph.Costs.{other_end, start_cost}
+use Rattle.law_typing.specs.Graph.Channels.{Channel, property, spec_at, spec_if}
 use Rattle.law_typing.specs.Graph.Tables.{Tables, entry}
 use Rattle.law_typing.specs.Graph.Depths.{depth}
 use Rattle.law_typing.specs.Verdict.Accepted.{Each}
@@ -35,21 +36,21 @@ use Rattle.law_typing.specs.Good.Objects.{PeersGood}
 use Rattle.law_typing.specs.Good.ComingDown.{none}
 use Rattle.law_typing.specs.Good.Programs.{code_left}
 use Rattle.law_typing.specs.Good.Agenda.{frames}
-use Rattle.law_typing.specs.Good.DueCosts.{due_cost, due_depth, queued_cost}
+use Rattle.law_typing.specs.Good.DueCosts.{is_setting_below, over_cost, due_cost, due_depth, queued_cost}
 use Rattle.law_typing.specs.Good.Emissions.{ThawingGood}
 use Rattle.law_typing.specs.Good.Freezes.{frozen_by, below_lowest, QueueGood, QueuesGood, carried}
 use Rattle.law_typing.proofs.Lists.{each_append}
 use Rattle.law_static.specs.Code.{gone_on}
 use Rattle.law_static.proofs.PlanCostProofs.{total_append}
 use Rattle.law_static.proofs.CodeProofs.{from_at}
-use Rattle.law_static.proofs.StartProofs.{due_within}
+use Rattle.law_static.proofs.StartProofs.{thaws_reach, pairs_pay, due_within, queued_has}
 use Rattle.law_static.proofs.SourceProofs.{each_to}
 use Rattle.law_kept.specs.Agenda.{Serves}
 use Rattle.law_kept.specs.Write.{Kept}
 use Rattle.law_kept.proofs.WriteProofs.{find_here, find_apart, write_keeps}
 use Rattle.law_kept.proofs.ChangesProofs.{thaw_is_like}
 use Rattle.law_instructions.specs.Thawing.{ThawsAreFine}
-use Rattle.law_instructions.proofs.Around.{Due, r, here, taken, code_is, good_of, above, past_good, left_steps, steps_left, fine_where, none_into, StepIsFine, fine_of}
+use Rattle.law_instructions.proofs.Around.{Due, making, r, here, taken, code_is, good_of, above, past_good, left_steps, steps_left, fine_where, none_into, StepIsFine, fine_of}
 use Rattle.law_instructions.proofs.Written.{serves_itself}
 use Rattle.law_instructions.proofs.Typed.{changing_none_is}
 use Rattle.law_instructions.proofs.Operand.{Named, named}
@@ -82,6 +83,18 @@ each_two P Q R (x ∷ xs) f one two = (f x one.0 two.0, each_two P Q R xs f one.
 pub total_at_most : {A : Type 0} (f g : A → ℕ) (xs : List A) → ((x : A) → f x ≤ g x) → total f xs ≤ total g xs
 total_at_most f g [] less = omega arith
 total_at_most f g (x ∷ xs) less = let h = less x in let rest = total_at_most f g xs less in omega (arith, h, rest)
+
+pub total_both : {A : Type 0} (f g : A → ℕ) (xs : List A) → total (λ x. f x + g x) xs ≡ total f xs + total g xs
+total_both f g [] = refl
+total_both f g (x ∷ xs) = let h = total_both f g xs in omega (arith, h)
+
+-- what is due costs no more than its own part and the way over
+due_parts : (d : Definition) (costs : Tables) (below : List Task) (c : Channel) → due_cost d costs below c ≤ entry costs.channels c + over_cost costs (other_end (graph d) c)
+due_parts d costs below c = go (is_setting_below d below c)
+  where
+    go : (b : Bool) → entry costs.channels c + cond b 0 (over_cost costs (other_end (graph d) c)) ≤ entry costs.channels c + over_cost costs (other_end (graph d) c)
+    go true = omega arith
+    go false = omega arith
 
 -- ** an object with one freeze less
 
@@ -248,17 +261,28 @@ module _ {d : Definition} (object : ℕ) (t : Due d (words.thaw object)) (x : (c
   abbrev deep : ℕ
   deep = depth (graph d) a.weighed.depths - suc (frames rest)
 
-  cost_within : cost + carried d a.weighed.costs (Some new) ≤ carried d a.weighed.costs (Some o)
-  cost_within =
-      let whole = left_of.costs (λ slot. queued_cost d a.weighed.costs o.place slot) in
-      let due =
-      total_at_most (λ slot. due_cost d a.weighed.costs (Running next ∷ rest) (property o.place slot)) (λ slot. queued_cost d a.weighed.costs o.place slot) slots
-      (λ slot. (due_within d a (Running next ∷ rest) o.place slot).0) in
-      let placed = ap (λ place. total (λ slot. queued_cost d a.weighed.costs place slot) new.queue) left_of.place in
-      omega (arith, whole, due, placed)
-
   class_is : class_at d o.place ≡ Some o.class
   class_is = ap (option_map (λ (p : Place). p.class)) x.1.good.is ∙ ap (λ (c : ℕ). Some c) (sym x.1.good.class)
+
+  abbrev carries : ℕ → ℕ
+  carries slot = queued_cost d a.weighed.costs (making t) o.place slot
+
+  abbrev over : ℕ → ℕ
+  over slot = over_cost a.weighed.costs (other_end (graph d) (property o.place slot))
+
+  -- what waited pays for itself, and the thaw for the ways over and back
+  cost_within : cost + carried d a.weighed.costs (making t) (Some new) ≤ carried d a.weighed.costs (making t) (Some o) + start_cost (graph d) a.weighed.costs (start_of d (r t).ks (words.thaw object))
+  cost_within =
+      let own = left_of.costs carries in
+      let ways = left_of.costs over in
+      let due =
+      total_at_most (λ slot. due_cost d a.weighed.costs (Running next ∷ rest) (property o.place slot)) (λ slot. carries slot + over slot) slots
+      (λ slot. (let part = due_parts d a.weighed.costs (Running next ∷ rest) (property o.place slot) in let has = queued_has d a.weighed.costs (making t) o.place slot in omega (arith, part, has))) in
+      let split = total_both carries over slots in
+      let paid = pairs_pay d a a.weighed.costs o.place o.queue x.1.good.apart in
+      let reach = (thaws_reach d a.weighed.costs (r t).ks object o.place o.class x.1.covered class_is).0 in
+      let placed = ap (λ place. total (λ slot. queued_cost d a.weighed.costs (making t) place slot) new.queue) left_of.place in
+      omega (arith, own, ways, due, split, paid, reach, placed)
 
   -- where this was the lowest bracket what is due goes no deeper than what is left above the program
   shallow : less ≡ 0 → Each (λ slot. entry a.weighed.depths.channels (property o.place slot) ≤ deep) o.queue
@@ -321,7 +345,7 @@ module _ {d : Definition} (object : ℕ) (t : Due d (words.thaw object)) (x : (c
         queues = queues_good;
         few = (let old = g.few in let same = kept.alive in let makes = u.alike.items is_making in omega (arith, old, same, makes));
         spent = (let left = steps_left t in
-            let sum = sum_over (carried d a.weighed.costs) refl w.objects id o new x.1.lives in
+            let sum = sum_over (carried d a.weighed.costs (making t)) refl w.objects id o new x.1.lives in
             let within = cost_within in
             let same = kept.alive in
             let makes = u.alike.items is_making in

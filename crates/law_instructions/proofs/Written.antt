@@ -43,7 +43,7 @@ use Rattle.law_kept.proofs.Lists.{objects_stay}
 use Rattle.law_kept.proofs.WriteProofs.{read_here, read_apart}
 use Rattle.law_instructions.specs.Running.{at_top}
 use Rattle.law_instructions.proofs.Frozen.{is_bracket, opened_past, frozen_same}
-use Rattle.law_instructions.proofs.Around.{Due, goes_to, past_good, left_steps, steps_left, r, here, taken, code_is, fine_where, waits_not, StepIsFine}
+use Rattle.law_instructions.proofs.Around.{Due, goes_to, past_good, left_steps, steps_left, r, here, taken, code_is, fine_where, waits_not, StepIsFine, making}
 
 pub length_write : {A : Type 0} (x : A) (xs : List A) (i : ℕ) (y : A) → i < length xs → length (write x xs i y) ≡ length xs
 length_write x [] i y low = absurd (omega (arith, low))
@@ -122,7 +122,7 @@ module _ {d : Definition} {i : Instruction} (t : Due d i) (plain : is_bracket i 
     pub queues : (id : ℕ) (x : Object) → living v.objects id ≡ Some x →
         (o : Object) × (living w.objects id ≡ Some o) × (x.place ≡ o.place) × (x.freezes ≡ o.freezes) × (x.queue ≡ o.queue)
     pub few : live v.objects ≤ live w.objects
-    pub queued : total (carried d a.weighed.costs) v.objects ≤ start_cost (graph d) a.weighed.costs (start_of d (r t).ks i) + total (carried d a.weighed.costs) w.objects
+    pub queued : total (carried d a.weighed.costs (making t)) v.objects ≤ start_cost (graph d) a.weighed.costs (start_of d (r t).ks i) + total (carried d a.weighed.costs (making t)) w.objects
 
   -- what was frozen is, as often, where the open registers hold what they held
   queues_stay : (v : World) → Moved v → (registers : Registers) → ((r : ℕ) → is_among (opened (code_left d f)) r ≡ true → read None registers r ≡ read None f.registers r) →

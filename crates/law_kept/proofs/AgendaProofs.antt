@@ -199,7 +199,7 @@ module _ (d : Definition) (costs depths : Tables) (v z : View) where
       b = g.1.b;
       in_block = g.1.in_block;
       inside = g.1.inside;
-      once = g.1.once;
+      few = g.1.few;
       counted = g.1.counted;
       ks = g.1.ks;
       fit = registers_kept d v.stands z.stands g.1.ks frame.registers w.stands g.1.fit;
@@ -233,6 +233,7 @@ module _ (d : Definition) (costs depths : Tables) (v z : View) where
       place = g.1.place;
       is = w.stands id (let k = same_itself id in omega (arith, k)) g.1.place g.1.is;
       for_builder = λ h. g.1.for_builder h ∙ sym (ap (λ (b : List BuilderEntry). length b) w.builder);
+      for_program = g.1.for_program;
       fits = subst (λ b. Each (MakingGood d z.stands b g.1.place) todo) (sym w.builder) (makings_kept v.builder w.held g.1.place todo g.1.fits);
       cheap = g.1.cheap;
       shallow = g.1.shallow;

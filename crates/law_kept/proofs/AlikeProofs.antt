@@ -2,7 +2,6 @@
 use Rattle.std.proofs.Common.{◌∙◌, ℕ, List, [], ◌∷◌, arith}
 use Rattle.ui_machine.specs.Definition.{Definition}
 use Rattle.ui_machine.specs.State.Bindings.{Binding}
-use Rattle.ui_machine.specs.State.Objects.{Objects}
 use Rattle.ui_machine.specs.State.Handlers.{Handler}
 use Rattle.ui_machine.specs.State.Tasks.{Task, Setting, Notifying, Beginning, Emitting, Transferring, Unsetting, Thawing, Running, Answering, Calling, Constructing, Building, Handling, Due}
 use Rattle.law_typing.specs.Graph.Tables.{Tables}
@@ -17,12 +16,11 @@ module _ (d : Definition) (costs depths : Tables) (a b : List Task) (alike : Ali
   pub handlers_stay : (s : Standing) (last : ℕ) (hs : List Handler) → HandlersGood d costs depths s a last hs → HandlersGood d costs depths s b last hs
   handlers_stay = handlers_moved d costs depths a b alike.items
 
-  pub bindings_stay : (s : Standing) (os : Objects) (bs : List Binding) → BindingsGood d s a os bs → BindingsGood d s b os bs
+  pub bindings_stay : (s : Standing) (bs : List Binding) → BindingsGood d s a bs → BindingsGood d s b bs
   bindings_stay = bindings_moved d costs depths a b alike.items alike.unset
 
-  pub pairs_stay : (os : Objects) (bs : List Binding) → PairsGood d a os bs → PairsGood d b os bs
-  pairs_stay os bs g = record {
-    frozen = λ id o is pair some. (let same = alike.constructs id in let old = g.frozen id o is pair some in omega (arith, same, old));
+  pub pairs_stay : (bs : List Binding) → PairsGood a bs → PairsGood b bs
+  pairs_stay bs g = record {
     before = λ some. (let same = alike.makes in let old = g.before (omega (arith, same, some)) in (old.0, alike.request_step ∙ old.1));
     one = (let same = alike.makes in let old = g.one in omega (arith, same, old));
   }
@@ -31,11 +29,11 @@ pub whole_stays : WholeStays
 whole_stays d costs depths a b w alike g = record {
   objects = g.objects;
   handlers = handlers_stay d costs depths a b alike (standing w.objects) w.last_handler w.handlers g.handlers;
-  bindings = bindings_stay d costs depths a b alike (standing w.objects) w.objects w.bindings g.bindings;
+  bindings = bindings_stay d costs depths a b alike (standing w.objects) w.bindings g.bindings;
   sources = g.sources;
   held = g.held;
   floating = g.floating;
-  pairs = pairs_stay d costs depths a b alike w.objects w.bindings g.pairs;
+  pairs = pairs_stay d costs depths a b alike w.bindings g.pairs;
 }
 
 pub build_stays : BuildStays

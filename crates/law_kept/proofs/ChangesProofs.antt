@@ -1,13 +1,16 @@
 -- What a step writes into one object is like what stood there.
-use Rattle.std.proofs.Common.{◌≡◌, inl, inr, refl, sym, ap, subst, ◌∙◌, ℕ, zero, suc, Bool, true, false, cond, List, [], ◌∷◌, ◌++◌, Some, slice_get, arith}
-use Rattle.std.specs.Prelude.{nat_eq, slice_set}
+use Rattle.std.proofs.Common.{◌≡◌, refl, sym, ap, subst, ◌∙◌, ℕ, zero, suc, Bool, true, false, cond, List, [], ◌∷◌, ◌++◌, Some, slice_get}
+use Rattle.std.specs.Prelude.{nat_eq, not, ◌||◌, slice_set}
 use Rattle.std.specs.List.{list_any}
-use Rattle.std.proofs.lemmas.Bool.{eqb-true, eqb-false}
+use Rattle.std.proofs.lemmas.Bool.{and_from, eqb-true, eqb-false}
+use Rattle.std.proofs.lemmas.List.Folds.{list_any-append}
 use Rattle.ui_machine.specs.Definition.Properties.{Spec, is_readable}
 use Rattle.ui_machine.specs.Definition.Lookups.{spec_of}
 use Rattle.ui_machine.specs.Rules.Validation.{is_valid}
 use Rattle.ui_machine.specs.Rules.NotifyQueue.{queued}
 use Rattle.law_typing.specs.Verdict.Accepted.{Each}
+use Rattle.law_typing.specs.Laws.WellRead.{no_two}
+use Rattle.law_typing.proofs.Lists.{both_parts}
 use Rattle.law_typing.specs.Good.Standing.{standing, class_by}
 use Rattle.law_typing.specs.Good.Objects.{ValueGood}
 use Rattle.law_kept.specs.Changes.{ValueIsLike, QueueIsLike, FreezeIsLike, ThawIsLike}
@@ -31,11 +34,11 @@ value_is_like d w id slot o spec v g is valid = record {
   class = refl;
   children = refl;
   parent = refl;
-  freezes = inl (λ e. e);
   disposed = refl;
   peer = refl;
   values = λ other own has. at other own has (nat_eq slot other) refl;
   queue = g.queue;
+  apart = g.apart;
 }
   where
     at : (other : ℕ) (own : Spec) → spec_of d o.class other ≡ Some own → (b : Bool) → nat_eq slot other ≡ b →
@@ -64,32 +67,57 @@ each_queued P queue slot all here = go (list_any (λ s. nat_eq s slot) queue)
     go true = all
     go false = last queue all
 
+-- each stands once, where one that is not there yet comes last
+apart_last : (queue : List ℕ) (slot : ℕ) → list_any (λ s. nat_eq s slot) queue ≡ false → no_two nat_eq queue ≡ true → no_two nat_eq (queue ++ slot ∷ []) ≡ true
+apart_last [] slot none apart = refl
+apart_last (x ∷ xs) slot none apart =
+    let here = neither (nat_eq x slot) (list_any (λ s. nat_eq s slot) xs) none in
+    let parts = both_parts (not (list_any (nat_eq x) xs)) (no_two nat_eq xs) apart in
+    and_from (not (list_any (nat_eq x) (xs ++ slot ∷ []))) (no_two nat_eq (xs ++ slot ∷ []))
+    (ap not (list_any-append (nat_eq x) xs (slot ∷ []) ∙ (ap (λ b. list_any (nat_eq x) xs || (b || false)) here.0 ∙ nothing_more (list_any (nat_eq x) xs) parts.0)))
+    (apart_last xs slot here.1 parts.1)
+  where
+    neither : (a b : Bool) → (a || b) ≡ false → (a ≡ false) × (b ≡ false)
+    neither false b e = (refl, e)
+    neither true b e = absurd (cc)
+
+    nothing_more : (b : Bool) → not b ≡ true → (b || (false || false)) ≡ false
+    nothing_more false e = refl
+    nothing_more true e = absurd (cc)
+
+apart_queued : (queue : List ℕ) (slot : ℕ) → no_two nat_eq queue ≡ true → no_two nat_eq (queued queue slot) ≡ true
+apart_queued queue slot apart = go (list_any (λ s. nat_eq s slot) queue) refl
+  where
+    go : (b : Bool) → list_any (λ s. nat_eq s slot) queue ≡ b → no_two nat_eq (cond b queue (queue ++ slot ∷ [])) ≡ true
+    go true e = apart
+    go false e = apart_last queue slot e apart
+
 pub queue_is_like : QueueIsLike
 queue_is_like d w id slot o spec g is readable = record {
   place = refl;
   class = refl;
   children = refl;
   parent = refl;
-  freezes = inl (λ e. e);
   disposed = refl;
   peer = refl;
   values = g.values;
   queue =
       each_queued (λ slot. (spec : Spec) × (spec_of d o.class slot ≡ Some spec) × (is_readable spec ≡ true)) o.queue slot g.queue
       (spec, is, readable);
+  apart = apart_queued o.queue slot g.apart;
 }
 
 pub freeze_is_like : FreezeIsLike
-freeze_is_like d w id o g none = record {
+freeze_is_like d w id o g = record {
   place = refl;
   class = refl;
   children = refl;
   parent = refl;
-  freezes = inr none;
   disposed = refl;
   peer = refl;
   values = g.values;
   queue = g.queue;
+  apart = g.apart;
 }
 
 pub thaw_is_like : ThawIsLike
@@ -98,20 +126,20 @@ thaw_is_like d w id zero o g count = record {
   class = refl;
   children = refl;
   parent = refl;
-  freezes = inl (λ e. refl);
   disposed = refl;
   peer = refl;
   values = g.values;
   queue = tt;
+  apart = refl;
 }
 thaw_is_like d w id (suc left) o g count = record {
   place = refl;
   class = refl;
   children = refl;
   parent = refl;
-  freezes = inl (λ e. absurd (omega (arith, e, count)));
   disposed = refl;
   peer = refl;
   values = g.values;
   queue = g.queue;
+  apart = g.apart;
 }

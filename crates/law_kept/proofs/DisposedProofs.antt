@@ -262,6 +262,7 @@ module _ (d : Definition) (w : World) (id : ℕ) (o : Object) (is : living w.obj
         children = children l.old l.cs l.b l.this g.children;
         parent = subst (λ os. FamilyGood os j l.p) (sym objects) (parent l.old l.p l.family g.parent);
         queue = g.queue;
+        apart = g.apart;
         peer = peer_kept v.peers closed j l.old l.vs l.cs l.p l.b l.old_is l.this g.peer;
       }))
     where

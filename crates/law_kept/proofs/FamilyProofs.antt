@@ -1,11 +1,10 @@
 -- Families that change: what is good of a world stays so.
-use Rattle.std.proofs.Common.{sym, ap, subst, ◌∙◌, ℕ, ◌<◌, List, [], ◌∷◌}
+use Rattle.std.proofs.Common.{sym, subst, ℕ, List, [], ◌∷◌}
 use Rattle.ui_machine.specs.Definition.{Definition}
 use Rattle.ui_machine.specs.State.Objects.{Object, Objects}
 use Rattle.ui_machine.specs.State.Tasks.{Task}
 use Rattle.ui_machine.specs.State.Config.{World}
 use Rattle.law_typing.specs.Graph.Tables.{Tables}
-use Rattle.law_typing.specs.Rules.Brackets.{has_pair}
 use Rattle.law_typing.specs.Verdict.Accepted.{Each}
 use Rattle.law_typing.specs.Good.Standing.{standing, Lives}
 use Rattle.law_typing.specs.Good.Objects.{ObjectGood}
@@ -13,7 +12,6 @@ use Rattle.law_typing.specs.Good.Handlers.{HandlersGood}
 use Rattle.law_typing.specs.Good.Bindings.{BindingGood, BindingsGood, SourceGood, HeldGood}
 use Rattle.law_kept.specs.Write.{Whole}
 use Rattle.law_kept.specs.Family.{Kin, FamiliesGood, with_families, FamiliesKeep}
-use Rattle.law_kept.proofs.BindingsProofs.{binding_kept}
 
 each_of : {A : Type 0} (P Q : A → Type 0) (xs : List A) → ((x : A) → P x → Q x) → Each P xs → Each Q xs
 each_of P Q [] f all = tt
@@ -37,16 +35,15 @@ module _ (d : Definition) (costs depths : Tables) (agenda : List Task) (w : Worl
         children = k.children;
         parent = k.parent;
         queue = o.queue;
+        apart = o.apart;
         peer = o.peer;
       }))
 
-  bindings : BindingsGood d (standing w.objects) agenda os w.bindings
+  bindings : BindingsGood d (standing w.objects) agenda w.bindings
   bindings = record {
     each =
-        each_of (BindingGood d (standing w.objects) agenda w.objects) (BindingGood d (standing w.objects) agenda os) w.bindings
-        (λ b good. binding_kept d (standing w.objects) (standing w.objects) agenda w.objects os b
-        (λ id place o stands is. (let k = f.kin id o is in (k.old, k.was, λ zero. ap (λ (o : Object). o.freezes) k.same ∙ zero)))
-        (λ place e. e) (λ place e. e) good) g.bindings.each;
+        each_of (BindingGood d (standing w.objects) agenda) (BindingGood d (standing w.objects) agenda) w.bindings
+        (λ b good. good) g.bindings.each;
     rising = g.bindings.rising;
     made = g.bindings.made;
   }
@@ -55,16 +52,11 @@ module _ (d : Definition) (costs depths : Tables) (agenda : List Task) (w : Worl
   families_keep_them = record {
     objects = λ id x is. object id x (f.kin id x is);
     handlers = subst (λ s. HandlersGood d costs depths s agenda w.last_handler w.handlers) (sym f.stands) g.handlers;
-    bindings = subst (λ s. BindingsGood d s agenda os w.bindings) (sym f.stands) bindings;
+    bindings = subst (λ s. BindingsGood d s agenda w.bindings) (sym f.stands) bindings;
     sources = subst (λ s. Each (SourceGood d s) w.sources) (sym f.stands) g.sources;
     held = subst (λ s. HeldGood s w.builder) (sym f.stands) g.held;
     floating = subst (λ s. Each (Lives s) floating) (sym f.stands) all;
-    pairs = record {
-      frozen = λ id x is paired some. (let k = f.kin id x is in
-          g.pairs.frozen id k.old k.was (ap (has_pair d) (sym (ap (λ (o : Object). o.place) k.same)) ∙ paired) (subst (λ n. 0 < n) (ap (λ (o : Object). o.freezes) k.same) some));
-      before = g.pairs.before;
-      one = g.pairs.one;
-    };
+    pairs = g.pairs;
   }
 
 pub families_keep : FamiliesKeep

@@ -24,7 +24,6 @@ use Rattle.ui_machine.specs.Rules.Disposal.{names_object, is_identity, is_of_obj
 use Rattle.ui_machine.specs.Steps.{most_steps, counted, uncounted, finalising}
 use Rattle.law_typing.specs.Graph.Channels.{property}
 use Rattle.law_typing.specs.Graph.Tables.{Tables, entry}
-use Rattle.law_typing.specs.Rules.Brackets.{has_pair}
 use Rattle.law_typing.specs.Good.DueCosts.{queued_cost}
 use Rattle.law_typing.specs.Verdict.Accepted.{Each}
 use Rattle.law_typing.specs.Laws.{IsIn}
@@ -284,6 +283,7 @@ module _ (d : Definition) (costs depths : Tables) (most_counted most : ℕ) (c :
         children = each_inside (Lives s) (Lives z) x.children (λ child inside l. lives_other child (child_stays h.0 x j h.1 h.2 child inside) l) old.children;
         parent = family j x.parent old.parent;
         queue = old.queue;
+        apart = old.apart;
         peer = old.peer;
       }
 
@@ -300,13 +300,10 @@ module _ (d : Definition) (costs depths : Tables) (most_counted most : ℕ) (c :
       (λ h passes. (let p = not_either (nat_eq h.object id) (is_identity id h.arg) passes in (stays h.object (not_equal h.object id p.0), λ i is. stays i (not_identity id h.arg i p.1 is))))
       g.handlers))
 
-  thawer : (j place : ℕ) (x : Object) → s j ≡ Some place → living v.objects j ≡ Some x → (p : Object) × (living w.objects j ≡ Some p) × (p.freezes ≡ 0 → x.freezes ≡ 0)
-  thawer j place x is e = let f = found j x e in let h = k.shed j x f.1 in (h.0, h.1, λ none. h.2.freezes ∙ none)
-
-  left_bindings : BindingsGood d z c.agenda v.objects v.bindings
+  left_bindings : BindingsGood d z c.agenda v.bindings
   left_bindings =
-      subst (λ bs. BindingsGood d z c.agenda v.objects bs) (sym k.bindings)
-      (bindings_left d s z c.agenda w.objects v.objects w.bindings (λ b. not (is_end id b)) thawer
+      subst (λ bs. BindingsGood d z c.agenda bs) (sym k.bindings)
+      (bindings_left d s z c.agenda w.bindings (λ b. not (is_end id b))
       (λ b passes. (let p = not_either (nat_eq b.source id) (nat_eq b.target id) passes in (stays b.source (not_equal b.source id p.0), stays b.target (not_equal b.target id p.1))))
       g.bindings)
 
@@ -338,7 +335,7 @@ module _ (d : Definition) (costs depths : Tables) (most_counted most : ℕ) (c :
     handlers = λ number low h is.
         (h, left_are_found d costs depths s c.agenda w.last_handler w.handlers (λ h. not (is_of_object id h)) g.handlers number h (subst (λ hs. handler_of number hs ≡ Some h) k.handlers is), refl, refl, refl);
     bindings = λ number b is.
-        left_bindings_found d s c.agenda w.objects w.bindings (λ b. not (is_end id b)) g.bindings number b (ap (λ bs. binding_of number bs) (sym k.bindings) ∙ is);
+        left_bindings_found d s c.agenda w.bindings (λ b. not (is_end id b)) g.bindings number b (ap (λ bs. binding_of number bs) (sym k.bindings) ∙ is);
     sources = inr k.sources;
     peers = λ number p is. (let q = k.peers number p is in (q.0, q.1, q.2));
   }
@@ -358,12 +355,8 @@ module _ (d : Definition) (costs depths : Tables) (most_counted most : ℕ) (c :
             (subst (Each (λ slot. suc (below_lowest d j c.agenda) + entry depths.channels (property h.0.place slot) ≤ most)) (sym h.2.queue) q.deep);
       }
 
-  left_pairs : PairsGood d c.agenda v.objects v.bindings
+  left_pairs : PairsGood c.agenda v.bindings
   left_pairs = record {
-    frozen = λ j x e pair some.
-        (let f = found j x e in
-        let h = k.shed j x f.1 in
-        g.pairs.frozen j h.0 h.1 (ap (has_pair d) (sym h.2.place) ∙ pair) (subst (λ n. 0 < n) h.2.freezes some));
     before = λ some. (let b = g.pairs.before some in (k.bindings ∙ ap (filter (λ b. not (is_end id b))) b.0, b.1));
     one = g.pairs.one;
   }
@@ -409,10 +402,13 @@ module _ (d : Definition) (costs depths : Tables) (most_counted most : ℕ) (c :
       alive =
           let e = at_place v0.objects id o.place (ap (λ (s : Standing). s id) k.stands ∙ ap (option_map (λ (o : Object). o.place)) there) in (e.0, e.1)
 
-  carried_less : total (carried d costs) v.objects ≤ total (carried d costs) w.objects
+  abbrev making : ℕ
+  making = total is_for_builder c.agenda
+
+  carried_less : total (carried d costs making) v.objects ≤ total (carried d costs making) w.objects
   carried_less =
-      let h = sum_put (carried d costs) refl None v0.objects n in
-      let m = k.sums (carried d costs) refl (λ x y p q. ap (λ slots. total (λ slot. queued_cost d costs x.place slot) slots) q ∙ ap (λ place. total (λ slot. queued_cost d costs place slot) y.queue) p) in
+      let h = sum_put (carried d costs making) refl None v0.objects n in
+      let m = k.sums (carried d costs making) refl (λ x y p q. ap (λ slots. total (λ slot. queued_cost d costs making x.place slot) slots) q ∙ ap (λ place. total (λ slot. queued_cost d costs making place slot) y.queue) p) in
       omega (arith, h, m)
 
   good : Good d costs depths most_counted most (record { world = v; agenda = c.agenda; counted = suc c.counted })

@@ -13,5 +13,6 @@ objects_stay d w v g id o e = let o = g id o e in record {
   children = o.children;
   parent = o.parent;
   queue = o.queue;
+  apart = o.apart;
   peer = o.peer;
 }

@@ -4,7 +4,6 @@ use Rattle.ui_machine.specs.Seq.{total}
 use Rattle.ui_machine.specs.Definition.{Definition}
 use Rattle.ui_machine.specs.State.Bindings.{Binding}
 use Rattle.ui_machine.specs.State.Handlers.{Handler}
-use Rattle.ui_machine.specs.State.Objects.{Objects}
 use Rattle.ui_machine.specs.State.Tasks.{Item, Task}
 use Rattle.ui_machine.specs.Rules.Build.{of_items}
 use Rattle.law_typing.specs.Graph.{Raised, graph, place_of_channel}
@@ -37,20 +36,19 @@ module _ (d : Definition) (costs depths : Tables) (a b : List Task) (items : (f 
   }
 
   module _ (unset : (number : ℕ) → total (unsets number) b ≡ total (unsets number) a) where
-    binding_moved : (s : Standing) (os : Objects) (x : Binding) → BindingGood d s a os x → BindingGood d s b os x
-    binding_moved s os x g = record {
+    binding_moved : (s : Standing) (x : Binding) → BindingGood d s a x → BindingGood d s b x
+    binding_moved s x g = record {
       bind = g.bind;
       is = g.is;
       slots = g.slots;
       source = g.source;
       target = g.target;
       setting = unset x.number ∙ g.setting;
-      thawed = g.thawed;
     }
 
-    pub bindings_moved : (s : Standing) (os : Objects) (bs : List Binding) → BindingsGood d s a os bs → BindingsGood d s b os bs
-    bindings_moved s os bs g = record {
-      each = each_to (BindingGood d s a os) (BindingGood d s b os) bs (binding_moved s os) g.each;
+    pub bindings_moved : (s : Standing) (bs : List Binding) → BindingsGood d s a bs → BindingsGood d s b bs
+    bindings_moved s bs g = record {
+      each = each_to (BindingGood d s a) (BindingGood d s b) bs (binding_moved s) g.each;
       rising = g.rising;
       made = each_to _ _ bs (λ x low. (let same = items is_binding in omega (arith, same, low))) g.made;
     }

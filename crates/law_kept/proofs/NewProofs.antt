@@ -28,7 +28,7 @@ use Rattle.law_typing.specs.Graph.Tables.{of_program, greatest}
 use Rattle.law_typing.specs.Graph.Depths.{depth_within}
 use Rattle.law_typing.specs.Verdict.Accepted.{Each}
 use Rattle.law_typing.specs.Laws.{IsIn}
-use Rattle.law_typing.specs.Laws.WellRead.{no_class_of, TypesRead}
+use Rattle.law_typing.specs.Laws.WellRead.{no_class_of, no_two, TypesRead}
 use Rattle.law_typing.specs.Good.Standing.{Standing, standing, class_by, Lives}
 use Rattle.law_typing.specs.Good.Objects.{ValueGood, PeerGood, FamilyGood, ObjectGood}
 use Rattle.law_typing.specs.Good.Handlers.{HandlerGood, runs_at, running_for, ChannelGood}
@@ -255,6 +255,7 @@ module _ (d : Definition) (types : TypesRead d) (w : World) (o : Object) where
             (λ child lives. record { place = lives.place; is = new.stay child lives.place lives.is; allowed = tt }) g.children;
         parent = family_stays id x.parent g.parent;
         queue = g.queue;
+        apart = g.apart;
         peer = peer_stays id x free g.peer;
       }
 
@@ -274,6 +275,7 @@ module _ (d : Definition) (types : TypesRead d) (w : World) (o : Object) where
     children = subst (Each (Lives (standing next.objects))) (sym (ap (λ (o : Object). o.children) e)) tt;
     parent = subst (FamilyGood next.objects (next_identity w)) (sym (ap (λ (o : Object). o.parent) e)) tt;
     queue = subst (Each _) (sym (ap (λ (o : Object). o.queue) e)) tt;
+    apart = ap (λ (o : Object). no_two nat_eq o.queue) e;
     peer = peer;
   }
 
@@ -350,16 +352,8 @@ new_bindings_good d w o agenda g =
     record {
       each =
           each_to _ _ w.bindings
-          (λ (b : Binding) good. binding_kept d (standing w.objects) (standing (with_object d w o).objects) agenda w.objects (with_object d w o).objects b thawer (new.stay b.source) (new.stay b.target) good)
+          (λ (b : Binding) good. binding_kept d (standing w.objects) (standing (with_object d w o).objects) agenda b (new.stay b.source) (new.stay b.target) good)
           g.each;
       rising = g.rising;
       made = g.made;
     }
-  where
-    thawer : (id place : ℕ) (x : Object) → standing w.objects id ≡ Some place → living (with_object d w o).objects id ≡ Some x →
-        (p : Object) × (living w.objects id ≡ Some p) × (p.freezes ≡ 0 → x.freezes ≡ 0)
-    thawer id place x is e = go (found w.objects o id x e)
-      where
-        go : (living w.objects id ≡ Some x) ⊎ ((id ≡ next_identity w) × (x ≡ o)) → (p : Object) × (living w.objects id ≡ Some p) × (p.freezes ≡ 0 → x.freezes ≡ 0)
-        go (inl f) = (x, f, λ h. h)
-        go (inr f) = absurd (let n = (new_stands d w o).0.none in let g = sym (ap (standing w.objects) f.0) ∙ is in let h = sym n ∙ g in cc)

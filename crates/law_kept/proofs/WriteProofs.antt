@@ -1,5 +1,5 @@
 -- A write keeps the rest: what is found afterwards is the new object, or what was found before.
-use Rattle.std.proofs.Common.{◌≡◌, inl, inr, ◌⊎◌, refl, sym, ap, subst, ◌∙◌, ℕ, zero, suc, ◌<◌, Bool, true, false, List, [], ◌∷◌, Option, None, Some, slice_get, arith}
+use Rattle.std.proofs.Common.{◌≡◌, inl, inr, ◌⊎◌, refl, sym, ap, subst, ◌∙◌, ℕ, zero, suc, Bool, true, false, List, [], ◌∷◌, Option, None, Some, slice_get, arith}
 use Rattle.std.specs.Prelude.{◌&&◌, nat_eq, option_map}
 use Rattle.std.specs.List.{list_any}
 use Rattle.std.proofs.Math.Path.{fun_ext}
@@ -24,7 +24,6 @@ use Rattle.law_typing.specs.Good.Standing.{Standing, standing, view, Lives}
 use Rattle.law_typing.specs.Good.Objects.{ValueGood, FamilyGood, PeerGood, ObjectGood, ObjectsGood}
 use Rattle.law_typing.specs.Good.Handlers.{HandlersGood}
 use Rattle.law_typing.specs.Good.Bindings.{BindingGood, BindingsGood, SourceGood, HeldGood}
-use Rattle.law_typing.specs.Good.Freezes.{PairsGood, constructs_held}
 use Rattle.law_kept.specs.Write.{Like, Whole, WriteKeeps}
 
 pub read_here : {A : Type 0} (n : A) (xs : List A) (i : ℕ) (y : A) → read n (write n xs i y) i ≡ y
@@ -109,11 +108,6 @@ each_to : {A : Type 0} (P Q : A → Type 0) (xs : List A) → ((x : A) → P x �
 each_to P Q [] f all = tt
 each_to P Q (x ∷ xs) f all = (f x all.0, each_to P Q xs f all.1)
 
--- what is frozen and would not be if it had not been was
-was_frozen : (a b : ℕ) → (a ≡ 0 → b ≡ 0) → 0 < b → 0 < a
-was_frozen zero b f some = absurd (let none = f refl in omega (arith, none, some))
-was_frozen (suc a) b f some = omega arith
-
 get_in : {A : Type 0} (xs : List A) (i : ℕ) (x : A) → slice_get xs i ≡ Some x → IsIn x xs
 get_in [] i x e = absurd (cc)
 get_in (y ∷ ys) zero x e = inl (let s : x ≡ y = cc in s)
@@ -152,6 +146,7 @@ module _ (d : Definition) (w : World) (id : ℕ) (o new : Object) (is : living w
     children = subst (λ s. Each (Lives s) x.children) (sym same) g.children;
     parent = family_put w.objects id o new is like.children i x.parent g.parent;
     queue = g.queue;
+    apart = g.apart;
     peer = g.peer;
   }
 
@@ -164,6 +159,7 @@ module _ (d : Definition) (w : World) (id : ℕ) (o new : Object) (is : living w
     children = subst (λ s. Each (Lives s) new.children) (sym same) (subst (Each (Lives (standing w.objects))) (sym like.children) g.children);
     parent = family_put w.objects id o new is like.children id new.parent (subst (FamilyGood w.objects id) (sym like.parent) g.parent);
     queue = subst (λ c. Each (λ slot. (spec : Spec) × (spec_of d c slot ≡ Some spec) × (is_readable spec ≡ true)) new.queue) (sym like.class) like.queue;
+    apart = like.apart;
     peer = peer_of g.peer;
   }
     where
@@ -180,7 +176,7 @@ module _ (d : Definition) (w : World) (id : ℕ) (o new : Object) (is : living w
       go (inl h) = subst (λ i. ObjectGood d next (standing os) i x) h.0 (subst (ObjectGood d next (standing os) id) (sym h.1) (new_good (all id o is)))
       go (inr h) = other_good i x (all i x h)
 
-  binding_good : (agenda : List Task) (b : Binding) → BindingGood d (standing w.objects) agenda w.objects b → BindingGood d (standing os) agenda os b
+  binding_good : (agenda : List Task) (b : Binding) → BindingGood d (standing w.objects) agenda b → BindingGood d (standing os) agenda b
   binding_good agenda b g = record {
     bind = g.bind;
     is = g.is;
@@ -188,49 +184,10 @@ module _ (d : Definition) (w : World) (id : ℕ) (o new : Object) (is : living w
     source = ap (λ s. s b.source) same ∙ g.source;
     target = ap (λ s. s b.target) same ∙ g.target;
     setting = g.setting;
-    thawed = λ pair x there. free pair x there;
   }
-    where
-      -- an end of a pair has a paired property
-      none : is_pair g.bind ≡ true → (i place : ℕ) → id ≡ i → standing w.objects i ≡ Some place → (place ≡ g.bind.source) ⊎ (place ≡ g.bind.target) → has_pair d o.place ≡ false → ⊥
-      none pair i place same stands end e =
-          let here : place_in w.objects i ≡ Some o.place = ap (option_map (λ (o : Object). o.place)) (subst (λ i. living w.objects i ≡ Some o) same is) in
-          let at : o.place ≡ place = (let s = sym here ∙ stands in cc) in
-          let paired = pair_has d b.number g.bind place g.is pair end in
-          let f = ap (has_pair d) at ∙ paired in
-          cc
 
-      of : is_pair g.bind ≡ true → (i place : ℕ) (x : Object) → standing w.objects i ≡ Some place → (place ≡ g.bind.source) ⊎ (place ≡ g.bind.target) →
-          ((y : Object) → living w.objects i ≡ Some y → y.freezes ≡ 0) → ((id ≡ i) × (x ≡ new)) ⊎ (living w.objects i ≡ Some x) → x.freezes ≡ 0
-      of pair i place x stands end old (inl h) = ap (λ (x : Object). x.freezes) h.1 ∙ by like.freezes
-        where
-          by : (o.freezes ≡ 0 → new.freezes ≡ 0) ⊎ (has_pair d o.place ≡ false) → new.freezes ≡ 0
-          by (inl f) = f (old o (subst (λ i. living w.objects i ≡ Some o) h.0 is))
-          by (inr e) = absurd (none pair i place h.0 stands end e)
-      of pair i place x stands end old (inr h) = old x h
-
-      free : is_pair g.bind ≡ true → (x : Object) → (living os b.source ≡ Some x) ⊎ (living os b.target ≡ Some x) → x.freezes ≡ 0
-      free pair x (inl e) = of pair b.source g.bind.source x g.source (inl refl) (λ y f. g.thawed pair y (inl f)) (after w.objects id o new is b.source x e)
-      free pair x (inr e) = of pair b.target g.bind.target x g.target (inr refl) (λ y f. g.thawed pair y (inr f)) (after w.objects id o new is b.target x e)
-
-  bindings_good : (agenda : List Task) → BindingsGood d (standing w.objects) agenda w.objects w.bindings → BindingsGood d (standing os) agenda os w.bindings
+  bindings_good : (agenda : List Task) → BindingsGood d (standing w.objects) agenda w.bindings → BindingsGood d (standing os) agenda w.bindings
   bindings_good agenda g = record { each = each_to _ _ w.bindings (binding_good agenda) g.each; rising = g.rising; made = g.made }
-
-  -- a paired object stood frozen before if it does now
-  pairs_good : (agenda : List Task) → PairsGood d agenda w.objects w.bindings → PairsGood d agenda os w.bindings
-  pairs_good agenda g = record { frozen = λ i x e pair held. go i x pair held (after w.objects id o new is i x e); before = g.before; one = g.one }
-    where
-      go : (i : ℕ) (x : Object) → has_pair d x.place ≡ true → 0 < x.freezes → ((id ≡ i) × (x ≡ new)) ⊎ (living w.objects i ≡ Some x) → 0 < total (constructs_held i) agenda
-      go i x pair held (inl h) =
-          let place : x.place ≡ o.place = ap (λ (x : Object). x.place) h.1 ∙ like.place in
-          let paired = subst (λ p. has_pair d p ≡ true) place pair in
-          let some = subst (λ n. 0 < n) (ap (λ (x : Object). x.freezes) h.1) held in
-          g.frozen i o (subst (λ i. living w.objects i ≡ Some o) h.0 is) paired (by paired some like.freezes)
-        where
-          by : has_pair d o.place ≡ true → 0 < new.freezes → (o.freezes ≡ 0 → new.freezes ≡ 0) ⊎ (has_pair d o.place ≡ false) → 0 < o.freezes
-          by paired some (inl f) = was_frozen o.freezes new.freezes f some
-          by paired some (inr e) = absurd (cc)
-      go i x pair held (inr h) = g.frozen i x h pair held
 
   -- the agenda reads the same
   seen : view next ≡ view w
@@ -244,7 +201,7 @@ module _ (d : Definition) (w : World) (id : ℕ) (o new : Object) (is : living w
     sources = subst (λ s. Each (SourceGood d s) w.sources) (sym same) g.sources;
     held = subst (λ s. HeldGood s w.builder) (sym same) g.held;
     floating = subst (λ s. Each (Lives s) w.floating) (sym same) g.floating;
-    pairs = pairs_good agenda g.pairs;
+    pairs = g.pairs;
   }
 
 pub write_keeps : WriteKeeps

@@ -8,7 +8,7 @@ use Rattle.ui_machine.specs.Rules.Build.{of_items}
 use Rattle.law_typing.specs.Graph.Tables.{Tables}
 use Rattle.law_typing.specs.Good.DueCosts.{unsets}
 use Rattle.law_typing.specs.Good.Builds.{is_for_builder, BuildGood}
-use Rattle.law_typing.specs.Good.Freezes.{constructs_held, is_carrying_over}
+use Rattle.law_typing.specs.Good.Freezes.{is_carrying_over}
 use Rattle.law_kept.specs.Write.{Whole}
 
 pub record Alike (a b : List Task) : Type 0 where
@@ -19,7 +19,6 @@ pub record Alike (a b : List Task) : Type 0 where
   pub request_step : total is_carrying_over b ≡ total is_carrying_over a
   -- the builder makes the same objects
   pub makes : total is_for_builder b ≡ total is_for_builder a
-  pub constructs : (id : ℕ) → total (constructs_held id) b ≡ total (constructs_held id) a
 
 -- what is good of a world with one of them is good with the other
 abbrev pub WholeStays : Type 0

@@ -1,38 +1,29 @@
 -- Bindings that end, begin and end to set, and are made.
-use Rattle.std.specs.Prelude.{◌≡◌, ◌⊎◌, ℕ, suc, ◌+◌, Bool, true, false, cond, nat_eq, List, [], ◌∷◌, ◌++◌, length, Some, slice_get}
+use Rattle.std.specs.Prelude.{◌≡◌, ℕ, suc, ◌+◌, Bool, true, false, cond, nat_eq, List, [], ◌∷◌, ◌++◌, length, Some, slice_get}
 use Rattle.std.specs.List.{filter}
 use Rattle.ui_machine.specs.Seq.{total}
 use Rattle.ui_machine.specs.Definition.{Definition}
 use Rattle.ui_machine.specs.Definition.Places.{Bind}
-use Rattle.ui_machine.specs.State.Objects.{Object, Objects, living}
 use Rattle.ui_machine.specs.State.Bindings.{Binding, binding_of, with_busy}
 use Rattle.ui_machine.specs.State.Tasks.{Task}
 use Rattle.ui_machine.specs.Rules.Build.{of_items, new_binding}
-use Rattle.law_typing.specs.Graph.Channels.{is_pair}
 use Rattle.law_typing.specs.Good.Standing.{Standing}
 use Rattle.law_typing.specs.Good.DueCosts.{unsets}
 use Rattle.law_typing.specs.Good.Bindings.{is_binding, BindingsGood}
 use Rattle.law_kept.specs.Agenda.{Stays}
 
--- what stood and is frozen was
-abbrev pub NoMoreFrozen : Standing → Objects → Objects → Type 0
-NoMoreFrozen s os new =
-    (id place : ℕ) (o : Object) → s id ≡ Some place → living new id ≡ Some o → (p : Object) × (living os id ≡ Some p)
-    × (p.freezes ≡ 0 → o.freezes ≡ 0)
-
 -- those that are left after others ended stay good, where their ends stand as they stood
 abbrev pub BindingsLeft : Type 0
 BindingsLeft =
-    (d : Definition) (s z : Standing) (agenda : List Task) (os new : Objects) (bs : List Binding) (test : Binding → Bool) →
-    NoMoreFrozen s os new →
-    ((b : Binding) → test b ≡ true → Stays s z b.source × Stays s z b.target) → BindingsGood d s agenda os bs →
-    BindingsGood d z agenda new (filter test bs)
+    (d : Definition) (s z : Standing) (agenda : List Task) (bs : List Binding) (test : Binding → Bool) →
+    ((b : Binding) → test b ≡ true → Stays s z b.source × Stays s z b.target) → BindingsGood d s agenda bs →
+    BindingsGood d z agenda (filter test bs)
 
 -- among them a number finds what it found
 abbrev pub LeftBindingsFound : Type 0
 LeftBindingsFound =
-    (d : Definition) (s : Standing) (agenda : List Task) (os : Objects) (bs : List Binding) (test : Binding → Bool) →
-    BindingsGood d s agenda os bs →
+    (d : Definition) (s : Standing) (agenda : List Task) (bs : List Binding) (test : Binding → Bool) →
+    BindingsGood d s agenda bs →
     (number : ℕ) (b : Binding) → binding_of number (filter test bs) ≡ Some b → binding_of number bs ≡ Some b
 
 -- an agenda with one more task that sets the binding of this number free
@@ -43,17 +34,17 @@ pub record OneMore (number : ℕ) (agenda more : List Task) : Type 0 where
 -- a binding that does not set begins to
 abbrev pub BindingSets : Type 0
 BindingSets =
-    (d : Definition) (s : Standing) (agenda more : List Task) (os : Objects) (bs : List Binding) (number : ℕ) → OneMore number agenda more →
-    total (unsets number) agenda ≡ 0 → BindingsGood d s agenda os bs → BindingsGood d s more os (with_busy number true bs)
+    (d : Definition) (s : Standing) (agenda more : List Task) (bs : List Binding) (number : ℕ) → OneMore number agenda more →
+    total (unsets number) agenda ≡ 0 → BindingsGood d s agenda bs → BindingsGood d s more (with_busy number true bs)
 
 -- and it is set free
 abbrev pub BindingUnset : Type 0
 BindingUnset =
-    (d : Definition) (s : Standing) (agenda more : List Task) (os : Objects) (bs : List Binding) (number : ℕ) → OneMore number agenda more →
-    BindingsGood d s more os bs → BindingsGood d s agenda os (with_busy number false bs)
+    (d : Definition) (s : Standing) (agenda more : List Task) (bs : List Binding) (number : ℕ) → OneMore number agenda more →
+    BindingsGood d s more bs → BindingsGood d s agenda (with_busy number false bs)
 
--- a binding that the build is to make next, between objects of its places that are not frozen, if it is of a pair
-pub record NextBinding (d : Definition) (s : Standing) (agenda rest : List Task) (os : Objects) (number : ℕ) (b : Bind)
+-- a binding that the build is to make next, between objects of its places
+pub record NextBinding (d : Definition) (s : Standing) (agenda rest : List Task) (number : ℕ) (b : Bind)
     (source target : ℕ) : Type 0 where
   pub is : slice_get d.bindings number ≡ Some b
   pub from : s source ≡ Some b.source
@@ -62,12 +53,11 @@ pub record NextBinding (d : Definition) (s : Standing) (agenda rest : List Task)
   pub items : total (of_items is_binding) agenda ≡ suc (total (of_items is_binding) rest)
   pub unset : (n : ℕ) → total (unsets n) rest ≡ total (unsets n) agenda
   pub free : total (unsets number) agenda ≡ 0
-  pub thawed : is_pair b ≡ true → (o : Object) → (living os source ≡ Some o) ⊎ (living os target ≡ Some o) → o.freezes ≡ 0
 
 -- it is good among the others
 abbrev pub BindingMade : Type 0
 BindingMade =
-    (d : Definition) (s : Standing) (agenda rest : List Task) (os : Objects) (bs : List Binding) (number : ℕ) (b : Bind)
+    (d : Definition) (s : Standing) (agenda rest : List Task) (bs : List Binding) (number : ℕ) (b : Bind)
     (source target : ℕ) →
-    NextBinding d s agenda rest os number b source target → BindingsGood d s agenda os bs →
-    BindingsGood d s rest os (bs ++ new_binding number b source target ∷ [])
+    NextBinding d s agenda rest number b source target → BindingsGood d s agenda bs →
+    BindingsGood d s rest (bs ++ new_binding number b source target ∷ [])

@@ -1,5 +1,5 @@
 -- What a step writes into one object is like what stood there: a value, a notification that waits, one more freeze, one less.
-use Rattle.std.specs.Prelude.{◌≡◌, ℕ, suc, true, false, Some, slice_set}
+use Rattle.std.specs.Prelude.{◌≡◌, ℕ, suc, true, Some, slice_set}
 use Rattle.ui_machine.specs.Definition.Values.{Value}
 use Rattle.ui_machine.specs.Definition.Properties.{Spec, is_readable}
 use Rattle.ui_machine.specs.Definition.{Definition}
@@ -8,7 +8,6 @@ use Rattle.ui_machine.specs.State.Objects.{Object}
 use Rattle.ui_machine.specs.State.Config.{World}
 use Rattle.ui_machine.specs.Rules.Validation.{is_valid}
 use Rattle.ui_machine.specs.Rules.NotifyQueue.{queued, less_frozen}
-use Rattle.law_typing.specs.Rules.Brackets.{has_pair}
 use Rattle.law_typing.specs.Good.Standing.{standing, class_by}
 use Rattle.law_typing.specs.Good.Objects.{ObjectGood}
 use Rattle.law_kept.specs.Write.{Like}
@@ -26,10 +25,10 @@ QueueIsLike =
     (d : Definition) (w : World) (id slot : ℕ) (o : Object) (spec : Spec) → ObjectGood d w (standing w.objects) id o →
     spec_of d o.class slot ≡ Some spec → is_readable spec ≡ true → Like d w o (record o { queue = queued o.queue slot })
 
--- one more freeze of an object without a paired property
+-- one more freeze
 abbrev pub FreezeIsLike : Type 0
 FreezeIsLike =
-    (d : Definition) (w : World) (id : ℕ) (o : Object) → ObjectGood d w (standing w.objects) id o → has_pair d o.place ≡ false →
+    (d : Definition) (w : World) (id : ℕ) (o : Object) → ObjectGood d w (standing w.objects) id o →
     Like d w o (record o { freezes = suc o.freezes })
 
 -- one freeze less

@@ -1,5 +1,5 @@
 -- A new object of a place: all that is good of the world stays so.
-use Rattle.std.specs.Prelude.{◌≡◌, ℕ, ◌<◌, ◌≤◌, true, List, Some}
+use Rattle.std.specs.Prelude.{◌≡◌, ℕ, ◌≤◌, List, Some}
 use Rattle.ui_machine.specs.Seq.{total}
 use Rattle.ui_machine.specs.Definition.{Definition}
 use Rattle.ui_machine.specs.Definition.Places.{Place}
@@ -9,7 +9,6 @@ use Rattle.ui_machine.specs.State.Tasks.{Task}
 use Rattle.ui_machine.specs.State.Config.{World}
 use Rattle.ui_machine.specs.Rules.Build.{of_items}
 use Rattle.ui_machine.specs.Rules.Construction.{new_object, with_object, lent}
-use Rattle.law_typing.specs.Rules.Brackets.{has_pair}
 use Rattle.law_typing.specs.Graph.{Raised, graph, place_of_channel}
 use Rattle.law_typing.specs.Graph.Tables.{Tables}
 use Rattle.law_typing.specs.Graph.Costs.{programs_cost}
@@ -17,7 +16,6 @@ use Rattle.law_typing.specs.Laws.{IsIn}
 use Rattle.law_typing.specs.Laws.WellRead.{TypesRead}
 use Rattle.law_typing.specs.Good.Objects.{PeerGood}
 use Rattle.law_typing.specs.Good.Handlers.{connecting_cost}
-use Rattle.law_typing.specs.Good.Freezes.{constructs_held}
 use Rattle.law_kept.specs.New.{next_identity, TakesFree}
 use Rattle.law_kept.specs.Write.{Whole}
 
@@ -29,13 +27,12 @@ pub record IsNew (d : Definition) (w : World) (place : ℕ) (p : Place) (o : Obj
   pub free : TakesFree w o
   pub peer : PeerGood d (lent o.peer (next_identity w) w.peers) (next_identity w) o
 
--- where what the build has still to connect at its place costs no more than is reckoned there, and it is frozen in the builder's
--- construction if it has a paired property
+-- where what the build has still to connect at its place costs no more than is reckoned there
 abbrev pub NewWholeGood : Type 0
 NewWholeGood =
     (d : Definition) → TypesRead d → (costs depths : Tables) (agenda : List Task) (w : World) (place : ℕ) (p : Place) (o : Object) →
     IsNew d w place p o →
     ((r : Raised) → IsIn r (graph d).raised → place_of_channel r.channel ≡ place →
     total (of_items (connecting_cost d costs r.channel)) agenda ≤ programs_cost costs r.handlers) →
-    (has_pair d place ≡ true → 0 < total (constructs_held (next_identity w)) agenda) → Whole d costs depths agenda w →
+    Whole d costs depths agenda w →
     Whole d costs depths agenda (with_object d w o)

@@ -74,5 +74,5 @@ NewHandlersGood =
 -- bindings stay good
 abbrev pub NewBindingsGood : Type 0
 NewBindingsGood =
-    (d : Definition) (w : World) (o : Object) (agenda : List Task) → BindingsGood d (standing w.objects) agenda w.objects w.bindings →
-    BindingsGood d (standing (with_object d w o).objects) agenda (with_object d w o).objects w.bindings
+    (d : Definition) (w : World) (o : Object) (agenda : List Task) → BindingsGood d (standing w.objects) agenda w.bindings →
+    BindingsGood d (standing (with_object d w o).objects) agenda w.bindings

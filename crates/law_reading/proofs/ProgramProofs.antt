@@ -16,7 +16,7 @@ use Rattle.ui_machine.specs.Output.Text.{no_type}
 use Rattle.ui_machine.specs.Definition.{Definition}
 use Rattle.ui_machine.specs.Definition.Kinds.{Kind, RegisterKind}
 use Rattle.ui_machine.specs.Definition.Kinds as kinds
-use Rattle.ui_machine.specs.Definition.Programs.{Block, Instruction, Program, passes_in}
+use Rattle.ui_machine.specs.Definition.Programs.{Block, Instruction, Program}
 use Rattle.type_tree.specs.Adding.{required_named}
 use Rattle.handler_code.specs.declared.fault.ProgramFault.{ProgramFault}
 use Rattle.handler_code.specs.declared.fault.ProgramFault.TheVariants as faults
@@ -32,7 +32,7 @@ use Rattle.handler_code.specs.Reading.Words.{instruction_at}
 use Rattle.handler_code.specs.Shape.{at_block, first_backward, first_limit, first_open, instructions_in, is_ended, leads_back, or_next, shape_fault}
 use Rattle.law_typing.specs.Rules.Brackets.{written}
 use Rattle.law_typing.specs.Graph.{next_of}
-use Rattle.law_typing.specs.Laws.WellRead.{BlockRead, ConstantFits, ProgramRead, Within, is_set}
+use Rattle.law_typing.specs.Laws.WellRead.{BlockRead, ConstantFits, ProgramRead, RepeatRead, Within, is_set}
 use Rattle.law_typing.specs.Verdict.Accepted.{Each}
 use Rattle.law_typing.proofs.Lists.{each_append}
 use Rattle.law_reading.proofs.BlockProofs.{Open, all_ended, all_lead_on, each_at, ended_so, leads_on, open_more}
@@ -332,7 +332,7 @@ module _ (d : Definition) (members : (t : ℕ) → HasMembers (read no_type d.ty
       said_so : BlockOutline
       there : slice_get o.blocks n ≡ Some said_so
       entry : b.entry ≡ filled o.registers said_so.entry
-      once : passes_in b ≡ 1
+      once : b.repeat ≡ None
       code : CodeRead b.code
 
     record BlocksMade (i : ℕ) (bs : List Block) : Type 0 where
@@ -376,7 +376,7 @@ module _ (d : Definition) (members : (t : ℕ) → HasMembers (read no_type d.ty
           let entered = said.blocks n one.said_so one.there in
           record {
             entry = ap (λ (ks : List RegisterKind). length ks) one.entry ∙ length_filled o.registers (one.said_so).entry entered.fits shape.few;
-            once = one.once;
+            repeat = subst (λ repeat. RepeatRead repeat b.code) (sym one.once) tt;
             ends = ended_so b.code (one.code).last (all_ended blocks shape.ended n b e);
             constants = each_more IsRead (ConstantFits d) b.code (λ i h. h.constant) (one.code).each;
             written = each_more IsRead (λ i. Within o.registers (written i)) b.code (λ i h. h.register) (one.code).each;

@@ -1,21 +1,20 @@
 -- A channel that is not there costs nothing: it is in no table, and in no pair.
-use Rattle.std.proofs.Common.{◌≡◌, refl, sym, ap, ◌∙◌, ℕ, suc, ◌+◌, ◌<◌, Bool, true, false, cond, List, [], ◌∷◌, ◌++◌, length, map, Option, None, Some, slice_get, arith, lt-ltb}
+use Rattle.std.proofs.Common.{◌≡◌, refl, sym, ap, ◌∙◌, ℕ, suc, ◌+◌, ◌<◌, Bool, true, false, cond, List, [], ◌∷◌, ◌++◌, length, map, Option, None, Some, arith, lt-ltb}
 use Rattle.std.specs.Prelude.{◌&&◌, nat_lt}
 use Rattle.std.specs.List.{filter}
 use Rattle.ui_machine.specs.Definition.{Definition}
-use Rattle.ui_machine.specs.Definition.Properties.{Spec, is_readable}
 use Rattle.ui_machine.specs.Definition.Signals.{Signal}
 use Rattle.ui_machine.specs.Definition.Places.{Bind}
-use Rattle.ui_machine.specs.Definition.Lookups.{specs_of}
-use Rattle.law_typing.specs.Rules.RegisterKinds.{class_at, place_numbers}
+use Rattle.law_typing.specs.Rules.RegisterKinds.{place_numbers}
 use Rattle.law_typing.specs.Rules.BindingRules.{word_of}
-use Rattle.law_typing.specs.Graph.Channels.{Channel, constructed, property, same_channel, of_class, constructed_at, spec_if, spec_at, is_readable_one, signals_at, readable_from, signals_from, emitted_at, is_filled, channels_at, channels, is_channel, is_pair, source_of, target_of}
+use Rattle.law_typing.specs.Graph.Channels.{Channel, constructed, same_channel, constructed_at, signals_at, readable_at, signals_from, emitted_at, is_filled, channels_at, channels, is_channel, is_pair, source_of, target_of}
 use Rattle.law_typing.specs.Rules.Sites.{sites}
 use Rattle.law_typing.specs.Graph.{Raised, graph, raised_at, connections, is_before, in_order, pairs_of}
 use Rattle.law_typing.specs.Graph.Tables.{entry}
 use Rattle.law_typing.specs.Graph.Costs.{other_end_in, other_end, with_other, channel_cost}
 use Rattle.law_typing.specs.Verdict.Accepted.{Each}
 use Rattle.law_typing.proofs.Lists.{same_channel_true, each_append, each_flat}
+use Rattle.law_typing.proofs.EdgeProofs.{readable_there}
 use Rattle.law_typing.proofs.PairProofs.{PairRead, no_words, pair_read}
 use Rattle.law_static.specs.MakingCost.{AbsentCostsNothing}
 
@@ -24,19 +23,6 @@ module _ (d : Definition) where
   There c = is_channel d c ≡ true
 
   -- ** each channel of the graph is there
-
-  readable_each : (place n : ℕ) (specs : List Spec) → ((i : ℕ) → spec_at d place (n + i) ≡ slice_get specs i) → Each There (readable_from place n specs)
-  readable_each place n [] at = tt
-  readable_each place n (s ∷ specs) at =
-      each_append There (cond (is_readable s) (property place n ∷ []) []) (readable_from place (suc n) specs) (go (is_readable s) refl)
-      (readable_each place (suc n) specs (λ i. (let e : suc n + i ≡ n + suc i = omega arith in ap (spec_at d place) e ∙ at (suc i))))
-    where
-      here : spec_at d place n ≡ Some s
-      here = let e : n ≡ n + 0 = omega arith in ap (spec_at d place) e ∙ at 0
-
-      go : (b : Bool) → is_readable s ≡ b → Each There (cond b (property place n ∷ []) [])
-      go true e = (ap is_readable_one here ∙ e, tt)
-      go false e = tt
 
   emitted_each : (place n : ℕ) (signals : List Signal) → 0 < n → n + length signals ≡ length (signals_at d place) → Each There (signals_from place n signals)
   emitted_each place n [] some long = tt
@@ -48,11 +34,6 @@ module _ (d : Definition) where
   emitted_there : (place : ℕ) (signals : List Signal) → length signals ≡ length (signals_at d place) → Each There (emitted_at place signals)
   emitted_there place [] long = tt
   emitted_there place (s ∷ signals) long = emitted_each place 1 signals (omega arith) (omega (arith, long))
-
-  specs_there : (place : ℕ) (o : Option ℕ) → class_at d place ≡ o → Each There (readable_from place 0 (of_class (specs_of d) o))
-  specs_there place None e = tt
-  specs_there place (Some class) e =
-      readable_each place 0 (specs_of d class) (λ i. (let z : 0 + i ≡ i = omega arith in ap (spec_at d place) z ∙ ap (spec_if d i) e))
 
   filled_there : (place : ℕ) → Each There (cond (is_filled (constructed_at d place)) (constructed place ∷ []) [])
   filled_there place = go (is_filled (constructed_at d place)) refl
@@ -66,9 +47,9 @@ module _ (d : Definition) where
       each_flat There (channels_at d) (place_numbers d)
       (λ place h.
       each_append There (cond (is_filled (constructed_at d place)) (constructed place ∷ []) [])
-      (readable_from place 0 (of_class (specs_of d) (class_at d place)) ++ emitted_at place (signals_at d place)) (filled_there place)
-      (each_append There (readable_from place 0 (of_class (specs_of d) (class_at d place))) (emitted_at place (signals_at d place))
-      (specs_there place (class_at d place) refl) (emitted_there place (signals_at d place) refl)))
+      (readable_at d place ++ emitted_at place (signals_at d place)) (filled_there place)
+      (each_append There (readable_at d place) (emitted_at place (signals_at d place))
+      (readable_there d place) (emitted_there place (signals_at d place) refl)))
 
   -- ** what is not there is in no table
 

@@ -7,16 +7,17 @@ use Rattle.ui_machine.specs.Definition.{Definition}
 use Rattle.ui_machine.specs.Definition.Kinds.{RegisterKind}
 use Rattle.ui_machine.specs.Definition.Kinds as kinds
 use Rattle.ui_machine.specs.Definition.Values.{Value}
-use Rattle.ui_machine.specs.Definition.Programs.{Instruction}
+use Rattle.ui_machine.specs.Definition.Programs.{Instruction, Block, said_or_once, passes_in}
 use Rattle.ui_machine.specs.Rules.Programs.{first_registers, passes_of}
 use Rattle.law_typing.specs.Rules.RegisterKinds.{Kinds}
 use Rattle.law_typing.specs.Rules.Brackets.{is_bracketed, is_empty, opened}
 use Rattle.law_typing.specs.Graph.{graph, stretch_of, stretches_of, next_of}
 use Rattle.law_typing.specs.Verdict.Accepted.{Each}
-use Rattle.law_typing.specs.Laws.WellRead.{Ends}
+use Rattle.law_typing.specs.Graph.Costs.{passes_cost}
+use Rattle.law_typing.specs.Laws.WellRead.{Ends, RepeatRead}
 use Rattle.law_typing.specs.Good.Standing.{Standing, holds}
 use Rattle.law_typing.proofs.Lists.{both_parts, each_in, each_flat}
-use Rattle.law_typing.proofs.CostProofs.{costs_solved, depths_solved, blocks_cover}
+use Rattle.law_typing.proofs.CostProofs.{costs_solved, depths_solved, blocks_cover, passes_cover}
 use Rattle.law_static.specs.Fits.{AllHold}
 use Rattle.law_static.specs.Code.{ProgramsBegin, FirstRegistersFit}
 use Rattle.law_static.proofs.SiteProofs.{blocks_keep}
@@ -38,6 +39,14 @@ later code n most all =
     narrow [] all = tt
     narrow (to ∷ tos) all = (all.0.0, narrow tos all.1)
 
+-- a block is passed once at least
+pub passed : (b : Block) → RepeatRead b.repeat b.code → 0 < passes_in b
+passed b read = of b.repeat read
+  where
+    of : (o : Option ℕ) → RepeatRead o b.code → 0 < said_or_once o
+    of None read = omega arith
+    of (Some n) read = read.0
+
 pub programs_begin : ProgramsBegin
 programs_begin d read_well a s number p b registers is has counted fit =
     let costs = a.weighed.costs in
@@ -49,13 +58,15 @@ programs_begin d read_well a s number p b registers is has counted fit =
     let deep = (depths_solved (graph d) depths a.weighed.solves_depths).1 number (stretches_of d p) there in
     let first = get_map (stretch_of d p) p.blocks 0 b has in
     let covers = blocks_cover (graph d) costs (stretches_of d p) 0 (stretch_of d p b) first (later b.code 0 (length p.blocks) block.next) in
+    let whole = passes_cover (graph d) costs (stretch_of d p b) (passes_in b - 1) (let some = passed b block.repeat in omega (arith, some)) in
+    let passes = ap (λ n. passes_cost (graph d) costs (n - 1) (stretch_of d p b)) (ap passes_of has) in
     record {
       p = p;
       is = is;
       b = b;
       in_block = has;
       inside = some_code b.code block.ends;
-      once = ap passes_of has ∙ block.once;
+      few = (let first = ap passes_of has in omega (arith, first));
       counted = counted;
       ks = b.entry;
       fit = fit;
@@ -64,7 +75,7 @@ programs_begin d read_well a s number p b registers is has counted fit =
       at_site = refl;
       typed = kept.typed;
       bracketed = (both_parts (is_bracketed b.code) (is_empty (opened b.code)) kept.balanced).0;
-      cheap = omega (arith, covers, cost);
+      cheap = omega (arith, covers, cost, whole, passes);
       shallow = omega (arith, deep);
     }
 

@@ -7,11 +7,11 @@ use Rattle.ui_machine.specs.Definition.Programs.{Instruction, Block, Program}
 use Rattle.ui_machine.specs.Definition.Programs as words
 use Rattle.ui_machine.specs.State.Tasks.{Registers, Frame}
 use Rattle.law_typing.specs.Rules.RegisterKinds.{Kinds}
-use Rattle.law_typing.specs.Rules.Typing.{after, first_broken}
+use Rattle.law_typing.specs.Rules.Typing.{again, after, first_broken}
 use Rattle.law_typing.specs.Rules.Brackets.{opened, keeps, keeps_brackets, is_bracketed}
 use Rattle.law_typing.specs.Graph.{graph, start_of, starts_of, stretch_of, stretches_of, next_of}
 use Rattle.law_typing.specs.Graph.Tables.{Tables}
-use Rattle.law_typing.specs.Graph.Costs.{start_cost, code_cost}
+use Rattle.law_typing.specs.Graph.Costs.{start_cost, passes_cost, code_cost}
 use Rattle.law_typing.specs.Laws.{IsIn}
 use Rattle.law_typing.specs.Laws.WellRead.{WellRead, ends, Ends}
 use Rattle.law_typing.specs.Good.Standing.{Standing, RegistersFit}
@@ -45,13 +45,13 @@ next_kinds d p ks at [] i e = absurd (cc)
 next_kinds d p ks zero (j ∷ code) i e = let s : j ≡ i = cc in ap (after d p ks) s
 next_kinds d p ks (suc at) (j ∷ code) i e = next_kinds d p (after d p ks j) at code i e
 
-next_none : (i : Instruction) → ends i ≡ false → next_of i ≡ []
+pub next_none : (i : Instruction) → ends i ≡ false → next_of i ≡ []
 next_none (words.jump to) e = absurd (cc)
 next_none (words.branch on then_to else_to) e = absurd (cc)
 next_none (words.branch_null on then_to else_to) e = absurd (cc)
 next_none _ e = refl
 
-awaited_none : (ks : Kinds) (into : Option ℕ) → awaited ks into none ≡ ks
+pub awaited_none : (ks : Kinds) (into : Option ℕ) → awaited ks into none ≡ ks
 awaited_none ks None = refl
 awaited_none ks (Some to) = refl
 
@@ -65,16 +65,20 @@ module _ (d : Definition) (costs depths : Tables) (s : Standing) (f : Frame) (st
   here : drop f.at r.b.code ≡ i ∷ rest
   here = from_at r.b.code f.at i is
 
-  broken : first_broken d r.p f.at r.ks (i ∷ rest) ≡ None
-  broken = subst (λ code. first_broken d r.p f.at r.ks code ≡ None) here (subst (λ ks. first_broken d r.p f.at ks (drop f.at r.b.code) ≡ None) (awaited_none r.ks f.into) r.typed)
+  broken : first_broken d r.p (again r.b) f.at r.ks (i ∷ rest) ≡ None
+  broken = subst (λ code. first_broken d r.p (again r.b) f.at r.ks code ≡ None) here (subst (λ ks. first_broken d r.p (again r.b) f.at ks (drop f.at r.b.code) ≡ None) (awaited_none r.ks f.into) r.typed)
 
   kept : (keeps_brackets (opened rest) i && is_bracketed rest) ≡ true
   kept = subst (λ code. is_bracketed code ≡ true) here r.bracketed
 
-  pub cheap : code_cost (graph d) costs (stretches_of d r.p) (starts_of d r.p r.ks (i ∷ rest)) (flat_map next_of (i ∷ rest)) ≤ steps
+  -- what the passes that are left cost
+  abbrev pub passes : ℕ
+  passes = passes_cost (graph d) costs (f.passes - 1) (stretch_of d r.p r.b)
+
+  pub cheap : passes + code_cost (graph d) costs (stretches_of d r.p) (starts_of d r.p r.ks (i ∷ rest)) (flat_map next_of (i ∷ rest)) ≤ steps
   cheap =
-      subst (λ code. code_cost (graph d) costs (stretches_of d r.p) (starts_of d r.p r.ks code) (flat_map next_of code) ≤ steps) here
-      (subst (λ ks. code_cost (graph d) costs (stretches_of d r.p) (starts_of d r.p ks (drop f.at r.b.code)) (flat_map next_of (drop f.at r.b.code)) ≤ steps)
+      subst (λ code. passes + code_cost (graph d) costs (stretches_of d r.p) (starts_of d r.p r.ks code) (flat_map next_of code) ≤ steps) here
+      (subst (λ ks. passes + code_cost (graph d) costs (stretches_of d r.p) (starts_of d r.p ks (drop f.at r.b.code)) (flat_map next_of (drop f.at r.b.code)) ≤ steps)
       (awaited_none r.ks f.into) r.cheap)
 
   site_kinds : r.ks ≡ kinds_at d r.p r.b f.at
@@ -88,7 +92,7 @@ module _ (d : Definition) (costs depths : Tables) (s : Standing) (f : Frame) (st
 
   taken : Taken d costs depths s f steps frames r i
   taken = record {
-    typed = (first_typed d r.p f.at r.ks i rest broken).0;
+    typed = (first_typed d r.p (again r.b) f.at r.ks i rest broken).0;
     at_site = site_kinds;
     brackets = (both_parts (keeps_brackets (opened rest) i) (is_bracketed rest) kept).0;
     cheap = (let c = cheap in omega (arith, c));
@@ -103,17 +107,17 @@ module _ (d : Definition) (costs depths : Tables) (s : Standing) (f : Frame) (st
     b = r.b;
     in_block = r.in_block;
     inside = not_last r.b.code f.at i ((read.programs f.program r.p r.is).blocks f.block r.b r.in_block).ends is more;
-    once = r.once;
+    few = r.few;
     counted = counted;
     ks = after d r.p r.ks i;
     fit = fit;
     comes = tt;
     kept = refl;
     at_site = ap (λ ks. after d r.p ks i) site_kinds ∙ sym (next_kinds d r.p r.b.entry f.at r.b.code i is);
-    typed = (first_typed d r.p f.at r.ks i rest broken).1;
+    typed = (first_typed d r.p (again r.b) f.at r.ks i rest broken).1;
     bracketed = (both_parts (keeps_brackets (opened rest) i) (is_bracketed rest) kept).1;
     cheap = (let c =
-        subst (λ next. code_cost (graph d) costs (stretches_of d r.p) (starts_of d r.p r.ks (i ∷ rest)) (next ++ flat_map next_of rest) ≤ steps) (next_none i more) cheap in
+        subst (λ next. passes + code_cost (graph d) costs (stretches_of d r.p) (starts_of d r.p r.ks (i ∷ rest)) (next ++ flat_map next_of rest) ≤ steps) (next_none i more) cheap in
         omega (arith, c));
     shallow = r.shallow;
   }
@@ -126,17 +130,17 @@ module _ (d : Definition) (costs depths : Tables) (s : Standing) (f : Frame) (st
     b = r.b;
     in_block = r.in_block;
     inside = not_last r.b.code f.at i ((read.programs f.program r.p r.is).blocks f.block r.b r.in_block).ends is more;
-    once = r.once;
+    few = r.few;
     counted = r.counted;
     ks = r.ks;
     fit = fit;
     comes = comes;
     kept = closed;
     at_site = comes_down ∙ (ap (λ ks. after d r.p ks i) site_kinds ∙ sym (next_kinds d r.p r.b.entry f.at r.b.code i is));
-    typed = subst (λ ks. first_broken d r.p (suc f.at) ks rest ≡ None) (sym comes_down) (first_typed d r.p f.at r.ks i rest broken).1;
+    typed = subst (λ ks. first_broken d r.p (again r.b) (suc f.at) ks rest ≡ None) (sym comes_down) (first_typed d r.p (again r.b) f.at r.ks i rest broken).1;
     bracketed = (both_parts (keeps_brackets (opened rest) i) (is_bracketed rest) kept).1;
-    cheap = subst (λ ks. code_cost (graph d) costs (stretches_of d r.p) (starts_of d r.p ks rest) (flat_map next_of rest) ≤ steps - (1 + start_cost (graph d) costs (start_of d r.ks i))) (sym comes_down) (let c =
-        subst (λ next. code_cost (graph d) costs (stretches_of d r.p) (starts_of d r.p r.ks (i ∷ rest)) (next ++ flat_map next_of rest) ≤ steps) (next_none i more) cheap in
+    cheap = subst (λ ks. passes + code_cost (graph d) costs (stretches_of d r.p) (starts_of d r.p ks rest) (flat_map next_of rest) ≤ steps - (1 + start_cost (graph d) costs (start_of d r.ks i))) (sym comes_down) (let c =
+        subst (λ next. passes + code_cost (graph d) costs (stretches_of d r.p) (starts_of d r.p r.ks (i ∷ rest)) (next ++ flat_map next_of rest) ≤ steps) (next_none i more) cheap in
         omega (arith, c));
     shallow = r.shallow;
   }

@@ -127,7 +127,7 @@ module _ (d : Definition) (costs : Tables) (w : World) (below : List Task) (id p
 
   module _ (agenda : List Task) (os : Objects) (stands : standing w.objects id ≡ Some place) (words : Each (λ b. word_of d b ≡ None) d.bindings) where
     -- the binding's source or target, where it is the property that is notified
-    pub source_here : (b : Binding) (g : BindingGood d (standing w.objects) agenda os b) → is_source id slot b ≡ true → same_channel (source_of g.bind) c ≡ true
+    pub source_here : (b : Binding) (g : BindingGood d (standing w.objects) agenda b) → is_source id slot b ≡ true → same_channel (source_of g.bind) c ≡ true
     source_here b g e =
         let p = both_parts (nat_eq b.source id) (nat_eq b.source_slot slot) e in
         let same_id = eqb-true b.source id p.0 in
@@ -136,7 +136,7 @@ module _ (d : Definition) (costs : Tables) (w : World) (below : List Task) (id p
         let on : g.bind.source_slot ≡ slot = sym g.slots.0 ∙ same_slot in
         both (nat_eq g.bind.source place) (nat_eq g.bind.source_slot slot) (eq-eqb g.bind.source place at) (eq-eqb g.bind.source_slot slot on)
 
-    pub target_here : (b : Binding) (g : BindingGood d (standing w.objects) agenda os b) → is_target id slot b ≡ true → same_channel (target_of g.bind) c ≡ true
+    pub target_here : (b : Binding) (g : BindingGood d (standing w.objects) agenda b) → is_target id slot b ≡ true → same_channel (target_of g.bind) c ≡ true
     target_here b g e =
         let p = both_parts (nat_eq b.target id) (nat_eq b.target_slot slot) e in
         let same_id = eqb-true b.target id p.0 in
@@ -149,7 +149,7 @@ module _ (d : Definition) (costs : Tables) (w : World) (below : List Task) (id p
     pub source_apart : (x : Bind) → Differ (source_of x) (target_of x) → same_channel (target_of x) c ≡ true → same_channel (source_of x) c ≡ false
     source_apart x differ e = subst (λ c. same_channel (source_of x) c ≡ false) (same_channel_true (target_of x) c e) differ
 
-    priced : (b : Binding) (g : BindingGood d (standing w.objects) agenda os b) → carries b ≤ may_carry g.bind
+    priced : (b : Binding) (g : BindingGood d (standing w.objects) agenda b) → carries b ≤ may_carry g.bind
     priced b g = go (listens id slot b) refl
       where
         -- one way
@@ -195,7 +195,7 @@ module _ (d : Definition) (costs : Tables) (w : World) (below : List Task) (id p
         go false e = omega arith
         go true e = of (is_pair g.bind) (is_source id slot b) (is_target id slot b) refl refl refl (listened e)
 
-    all_priced : (bs : List Binding) → Each (BindingGood d (standing w.objects) agenda os) bs → Each (Priced carries may_carry 0 d.bindings) bs
+    all_priced : (bs : List Binding) → Each (BindingGood d (standing w.objects) agenda) bs → Each (Priced carries may_carry 0 d.bindings) bs
     all_priced [] all = tt
     all_priced (b ∷ bs) all =
         let g = all.0 in

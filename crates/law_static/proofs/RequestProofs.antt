@@ -130,10 +130,10 @@ module _ (d : Definition) (costs depths : Tables) (w : World) (r : Resting d cos
     channels = λ id place e. each_to _ _ (graph d).raised (λ x f same. channel id x (f same)) (r.handlers.channels id place e);
   }
 
-  binding : (b : Binding) → BindingGood d (standing w.objects) [] w.objects b → BindingGood d (standing w.objects) agenda w.objects b
-  binding b g = record { bind = g.bind; is = g.is; slots = g.slots; source = g.source; target = g.target; setting = g.setting; thawed = g.thawed }
+  binding : (b : Binding) → BindingGood d (standing w.objects) [] b → BindingGood d (standing w.objects) agenda b
+  binding b g = record { bind = g.bind; is = g.is; slots = g.slots; source = g.source; target = g.target; setting = g.setting }
 
-  bindings : BindingsGood d (standing w.objects) agenda w.objects w.bindings
+  bindings : BindingsGood d (standing w.objects) agenda w.bindings
   bindings = record { each = each_to _ _ w.bindings binding r.bindings.each; rising = r.bindings.rising; made = r.bindings.made }
 
   none_queued : (i : ℕ) (o : Object) → read None w.objects i ≡ Some o → o.queue ≡ []
@@ -145,7 +145,7 @@ requests_begin d well a w r request fits kept =
     let depths = a.weighed.depths in
     let deep = deep_enough d depths request in
     let few = r.few in
-    let none = none_carried d costs w.objects (none_queued d costs depths w r request) in
+    let none = none_carried d costs (0 + 0) w.objects (none_queued d costs depths w r request) in
     record {
       objects = λ id o e. (let g = r.objects id o e in record {
         place = g.place;
@@ -155,6 +155,7 @@ requests_begin d well a w r request fits kept =
         children = g.children;
         parent = g.parent;
         queue = g.queue;
+        apart = g.apart;
         peer = g.peer;
       });
       handlers = handlers d costs depths w r request;
@@ -166,7 +167,6 @@ requests_begin d well a w r request fits kept =
       floating = subst (Each (Lives (standing w.objects))) (sym r.floating) tt;
       sets = record { alone = refl; first = refl; held = λ h. absurd (omega (arith, h)) };
       pairs = record {
-        frozen = λ id o e pair h. absurd (let none = (r.thawed id o e).0 in omega (arith, h, none));
         before = λ h. absurd (omega (arith, h));
         one = omega arith;
       };

@@ -1,15 +1,17 @@
 -- What is known where an instruction of an accepted definition stands: it is found in the lists of sites and faults by its numbers.
 use Rattle.std.proofs.Common.{◌≡◌, inl, inr, refl, sym, ap, subst, ◌∙◌, ℕ, zero, suc, ◌+◌, Bool, true, false, cond, List, [], ◌∷◌, Option, None, Some, Ok, Err, slice_get, arith}
-use Rattle.std.specs.List.{flat_map}
 use Rattle.ui_machine.specs.Definition.{Definition}
 use Rattle.ui_machine.specs.Definition.Programs.{Instruction, Block, Program}
-use Rattle.law_typing.specs.Rules.RegisterKinds.{Kinds}
+use Rattle.ui_machine.specs.Definition.Programs as words
+use Rattle.ui_machine.specs.Outcome.{only_if}
+use Rattle.law_typing.specs.Rules.RegisterKinds.{Kinds, kinds_fit}
 use Rattle.law_typing.specs.Rules.Answers.{Typing}
-use Rattle.law_typing.specs.Rules.Faults.{unbalanced, freeze_paired}
+use Rattle.law_typing.specs.Rules.Faults.{unbalanced}
 use Rattle.law_typing.specs.Rules.Sites.{Site, sites, code_sites, block_sites, program_sites, broken_at, block_faults, program_faults}
-use Rattle.law_typing.specs.Rules.Typing.{typed, after, or_before, unless_broken, first_broken, WellTypedBlock}
+use Rattle.law_typing.specs.Rules.Typing.{typed, after, or_before, again, typed_in, unless_broken, first_broken, block_broken, WellTypedBlock}
 use Rattle.law_typing.specs.Rules.Answers.{Rule}
-use Rattle.law_typing.specs.Rules.Brackets.{is_balanced, balance_faults, unbalanced_from, freezes_pair, freeze_at}
+use Rattle.law_typing.specs.Rules.Answers as rules
+use Rattle.law_typing.specs.Rules.Brackets.{is_balanced, balance_faults, unbalanced_from}
 use Rattle.law_typing.specs.Graph.{start_of, starts_of}
 use Rattle.law_typing.specs.Laws.{IsIn}
 use Rattle.law_typing.specs.Good.Programs.{kinds_before}
@@ -23,15 +25,6 @@ no_second : {A : Type 0} (b : Bool) (x : A) → cond b [] (x ∷ []) ≡ [] → 
 no_second true x e = refl
 no_second false x e = absurd (cc)
 
-no_first : {A : Type 0} (b : Bool) (x : A) → cond b (x ∷ []) [] ≡ [] → b ≡ false
-no_first false x e = refl
-no_first true x e = absurd (cc)
-
-flat_empty : {A B : Type 0} (f : A → List B) (xs : List A) (x : A) → flat_map f xs ≡ [] → IsIn x xs → f x ≡ []
-flat_empty f [] x e h = absurd h
-flat_empty f (y ∷ ys) x e (inl s) = ap f s ∙ (both_empty (f y) (flat_map f ys) e).0
-flat_empty f (y ∷ ys) x e (inr h) = flat_empty f ys x (both_empty (f y) (flat_map f ys) e).1 h
-
 -- ** blocks without faults
 
 not_broken : (q n : ℕ) (o : Option (ℕ × Rule)) → broken_at q n o ≡ [] → o ≡ None
@@ -42,9 +35,9 @@ typed_block : (d : Definition) (p : Program) (q n i : ℕ) (bs : List Block) (b 
 typed_block d p q n i [] b e is = absurd (cc)
 typed_block d p q n zero (x ∷ bs) b e is =
     let s : x ≡ b = cc in
-    subst (WellTypedBlock d p) s (not_broken q n (first_broken d p 0 x.entry x.code) (both_empty (broken_at q n (first_broken d p 0 x.entry x.code)) (block_faults d p q (suc n) bs) e).0)
+    subst (WellTypedBlock d p) s (not_broken q n (block_broken d p x) (both_empty (broken_at q n (block_broken d p x)) (block_faults d p q (suc n) bs) e).0)
 typed_block d p q n (suc i) (x ∷ bs) b e is =
-    typed_block d p q (suc n) i bs b (both_empty (broken_at q n (first_broken d p 0 x.entry x.code)) (block_faults d p q (suc n) bs) e).1 is
+    typed_block d p q (suc n) i bs b (both_empty (broken_at q n (block_broken d p x)) (block_faults d p q (suc n) bs) e).1 is
 
 typed_program : (d : Definition) (q i : ℕ) (ps : List Program) (p : Program) → program_faults d q ps ≡ [] → slice_get ps i ≡ Some p → (m : ℕ) × (block_faults d p m 0 p.blocks ≡ [])
 typed_program d q i [] p e is = absurd (cc)
@@ -81,25 +74,45 @@ blocks_keep d a program number p b here =
 -- ** instructions of a block
 
 module _ (d : Definition) (p : Program) where
+  where_tested : (b : Bool) (rule : Rule) (t : Typing Kinds) (next : Kinds) → only_if b rule t ≡ Ok next → (b ≡ true) × (t ≡ Ok next)
+  where_tested true rule t next e = (refl, e)
+  where_tested false rule t next e = absurd (cc)
+
+  -- what keeps its rule in a block does so by itself
+  typed_alone : (own : Option Kinds) (ks next : Kinds) (i : Instruction) → typed_in d p own ks i ≡ Ok next → typed d p ks i ≡ Ok next
+  typed_alone None ks next i e = e
+  typed_alone (Some entry) ks next (words.jump to) e = (where_tested (kinds_fit d ks entry) rules.block (typed d p ks (words.jump to)) next e).1
+  typed_alone (Some entry) ks next i e = e
+
   -- the first of some instructions that break no rule, and the others
-  pub first_typed : (n : ℕ) (ks : Kinds) (i : Instruction) (rest : List Instruction) → first_broken d p n ks (i ∷ rest) ≡ None →
-      (typed d p ks i ≡ Ok (after d p ks i)) × (first_broken d p (suc n) (after d p ks i) rest ≡ None)
-  first_typed n ks i rest e = by (typed d p ks i) refl e
+  pub first_typed : (own : Option Kinds) (n : ℕ) (ks : Kinds) (i : Instruction) (rest : List Instruction) → first_broken d p own n ks (i ∷ rest) ≡ None →
+      (typed d p ks i ≡ Ok (after d p ks i)) × (first_broken d p own (suc n) (after d p ks i) rest ≡ None)
+  first_typed own n ks i rest e = by (typed_in d p own ks i) refl e
     where
-      by : (t : Typing Kinds) → typed d p ks i ≡ t → unless_broken (λ rule. Some (n, rule)) (λ next. first_broken d p (suc n) next rest) t ≡ None →
-          (typed d p ks i ≡ Ok (after d p ks i)) × (first_broken d p (suc n) (after d p ks i) rest ≡ None)
+      by : (t : Typing Kinds) → typed_in d p own ks i ≡ t → unless_broken (λ rule. Some (n, rule)) (λ next. first_broken d p own (suc n) next rest) t ≡ None →
+          (typed d p ks i ≡ Ok (after d p ks i)) × (first_broken d p own (suc n) (after d p ks i) rest ≡ None)
       by (Ok next) is none =
-          let s = ap (or_before ks) is in
-          (is ∙ ap (λ (ks : Kinds). Ok ks) (sym s), subst (λ ks. first_broken d p (suc n) ks rest ≡ None) (sym s) none)
+          let alone = typed_alone own ks next i is in
+          let s = ap (or_before ks) alone in
+          (alone ∙ ap (λ (ks : Kinds). Ok ks) (sym s), subst (λ ks. first_broken d p own (suc n) ks rest ≡ None) (sym s) none)
       by (Err rule) is none = absurd (cc)
 
-  typed_at : (n at : ℕ) (ks : Kinds) (code : List Instruction) (i : Instruction) → first_broken d p n ks code ≡ None → slice_get code at ≡ Some i →
+  -- at the jump of a block that is passed again the registers fit what it begins with
+  pub fits_again : (entry : Kinds) (n : ℕ) (ks : Kinds) (to : ℕ) (rest : List Instruction) → first_broken d p (Some entry) n ks (words.jump to ∷ rest) ≡ None → kinds_fit d ks entry ≡ true
+  fits_again entry n ks to rest e = by (typed_in d p (Some entry) ks (words.jump to)) refl e
+    where
+      by : (t : Typing Kinds) → typed_in d p (Some entry) ks (words.jump to) ≡ t →
+          unless_broken (λ rule. Some (n, rule)) (λ next. first_broken d p (Some entry) (suc n) next rest) t ≡ None → kinds_fit d ks entry ≡ true
+      by (Ok next) is none = (where_tested (kinds_fit d ks entry) rules.block (typed d p ks (words.jump to)) next is).0
+      by (Err rule) is none = absurd (cc)
+
+  typed_at : (own : Option Kinds) (n at : ℕ) (ks : Kinds) (code : List Instruction) (i : Instruction) → first_broken d p own n ks code ≡ None → slice_get code at ≡ Some i →
       typed d p (kinds_before d p ks at code) i ≡ Ok (kinds_before d p ks (suc at) code)
-  typed_at n at ks [] i e is = absurd (cc)
-  typed_at n zero ks (j ∷ code) i e is =
+  typed_at own n at ks [] i e is = absurd (cc)
+  typed_at own n zero ks (j ∷ code) i e is =
       let s : j ≡ i = cc in
-      subst (λ i. typed d p ks i ≡ Ok (after d p ks j)) s (first_typed n ks j code e).0
-  typed_at n (suc at) ks (j ∷ code) i e is = typed_at (suc n) at (after d p ks j) code i (first_typed n ks j code e).1 is
+      subst (λ i. typed d p ks i ≡ Ok (after d p ks j)) s (first_typed own n ks j code e).0
+  typed_at own n (suc at) ks (j ∷ code) i e is = typed_at own (suc n) at (after d p ks j) code i (first_typed own n ks j code e).1 is
 
   pub started_at : (at : ℕ) (ks : Kinds) (code : List Instruction) (i : Instruction) → slice_get code at ≡ Some i →
       IsIn (start_of d (kinds_before d p ks at code) i) (starts_of d p ks code)
@@ -152,11 +165,9 @@ module _ (d : Definition) where
 pub sites_keep : SitesKeep
 sites_keep d a program number at p b i here is =
     let kept = blocks_keep d a program number p b here in
-    let s = site d program number p b at i in
     let known = known_site d program number at p b i here is in
     record {
-      typed = typed_at d p 0 at b.entry b.code i kept.typed is;
+      typed = typed_at d p (again b) 0 at b.entry b.code i kept.typed is;
       known = known;
-      thawed = no_first (freezes_pair d s.kinds s.instruction) (freeze_paired program number at) (flat_empty (freeze_at d) (sites d) s a.freezes known);
       starts = started_at d p at b.entry b.code i is;
     }

@@ -24,16 +24,16 @@ read_at_most (x ∷ xs) zero = omega arith
 read_at_most (x ∷ xs) (suc i) = let h = read_at_most xs i in omega (arith, h)
 
 -- where nothing is queued nothing is carried
-pub none_carried : (d : Definition) (costs : Tables) (os : Objects) → ((i : ℕ) (o : Object) → read None os i ≡ Some o → o.queue ≡ []) → total (carried d costs) os ≡ 0
-none_carried d costs [] none = refl
-none_carried d costs (x ∷ os) none =
-    let later = none_carried d costs os (λ i o e. none (suc i) o e) in
+pub none_carried : (d : Definition) (costs : Tables) (making : ℕ) (os : Objects) → ((i : ℕ) (o : Object) → read None os i ≡ Some o → o.queue ≡ []) → total (carried d costs making) os ≡ 0
+none_carried d costs making [] none = refl
+none_carried d costs making (x ∷ os) none =
+    let later = none_carried d costs making os (λ i o e. none (suc i) o e) in
     let first = here x (λ o e. none zero o e) in
     omega (arith, first, later)
   where
-    here : (x : Option Object) → ((o : Object) → x ≡ Some o → o.queue ≡ []) → carried d costs x ≡ 0
+    here : (x : Option Object) → ((o : Object) → x ≡ Some o → o.queue ≡ []) → carried d costs making x ≡ 0
     here None none = refl
-    here (Some o) none = ap (λ q. carried d costs (Some (record o { queue = q }))) (none o refl)
+    here (Some o) none = ap (λ q. carried d costs making (Some (record o { queue = q }))) (none o refl)
 
 pub each_to : {A : Type 0} (P Q : A → Type 0) (xs : List A) → ((x : A) → P x → Q x) → Each P xs → Each Q xs
 each_to P Q [] f all = tt
@@ -55,10 +55,10 @@ module _ (d : Definition) (costs depths : Tables) (w : World) (r : Resting d cos
     channels = λ id place e. each_to _ _ (graph d).raised (λ x f same. channel id x (f same)) (r.handlers.channels id place e);
   }
 
-  binding : (b : Binding) → BindingGood d (standing w.objects) [] w.objects b → BindingGood d (standing w.objects) agenda w.objects b
-  binding b g = record { bind = g.bind; is = g.is; slots = g.slots; source = g.source; target = g.target; setting = g.setting; thawed = g.thawed }
+  binding : (b : Binding) → BindingGood d (standing w.objects) [] b → BindingGood d (standing w.objects) agenda b
+  binding b g = record { bind = g.bind; is = g.is; slots = g.slots; source = g.source; target = g.target; setting = g.setting }
 
-  bindings : BindingsGood d (standing w.objects) agenda w.objects w.bindings
+  bindings : BindingsGood d (standing w.objects) agenda w.bindings
   bindings = record { each = each_to _ _ w.bindings binding r.bindings.each; rising = r.bindings.rising; made = r.bindings.made }
 
   none_queued : (i : ℕ) (o : Object) → read None w.objects i ≡ Some o → o.queue ≡ []
@@ -70,7 +70,7 @@ sources_begin d well a w r number s is =
     let depths = a.weighed.depths in
     let deep = read_at_most depths.programs s.program in
     let few = r.few in
-    let none = none_carried d costs w.objects (none_queued d costs depths w r number) in
+    let none = none_carried d costs (0 + 0) w.objects (none_queued d costs depths w r number) in
     record {
       objects = λ id o e. (let g = r.objects id o e in record {
         place = g.place;
@@ -80,6 +80,7 @@ sources_begin d well a w r number s is =
         children = g.children;
         parent = g.parent;
         queue = g.queue;
+        apart = g.apart;
         peer = g.peer;
       });
       handlers = handlers d costs depths w r number;
@@ -91,7 +92,6 @@ sources_begin d well a w r number s is =
       floating = subst (Each (Lives (standing w.objects))) (sym r.floating) tt;
       sets = record { alone = refl; first = refl; held = λ h. absurd (omega (arith, h)) };
       pairs = record {
-        frozen = λ id o e pair h. absurd (let none = (r.thawed id o e).0 in omega (arith, h, none));
         before = λ h. absurd (omega (arith, h));
         one = omega arith;
       };

@@ -29,6 +29,6 @@ NotifyCosts =
     (d : Definition) (a : Accepted d) (w : World) (agenda below : List Task) (id place slot class : ℕ) (sig : Signal) →
     NotifyBegins d w id place slot class sig →
     HandlersGood d a.weighed.costs a.weighed.depths (standing w.objects) agenda w.last_handler w.handlers →
-    BindingsGood d (standing w.objects) agenda w.objects w.bindings →
+    BindingsGood d (standing w.objects) agenda w.bindings →
     1 + total (turn_cost d a.weighed.costs (view w) below) (notify_plan d w sig class id slot (property_name (spec_at d place slot)))
     ≤ due_cost d a.weighed.costs below (property place slot)

@@ -1,5 +1,5 @@
 -- What is known where an instruction of an accepted definition stands.
-use Rattle.std.specs.Prelude.{◌≡◌, ℕ, suc, true, false, Ok, Some, slice_get}
+use Rattle.std.specs.Prelude.{◌≡◌, ℕ, suc, true, Ok, Some, slice_get}
 use Rattle.ui_machine.specs.Definition.{Definition}
 use Rattle.ui_machine.specs.Definition.Programs.{Instruction, Block, Program}
 use Rattle.ui_machine.specs.Definition.Lookups.{program_at}
@@ -7,7 +7,7 @@ use Rattle.law_typing.specs.Rules.RegisterKinds.{Kinds}
 use Rattle.law_typing.specs.Rules.Sites.{Site, sites}
 use Rattle.law_typing.specs.Rules.Typing as typing
 use Rattle.law_typing.specs.Rules.Typing.{WellTypedBlock}
-use Rattle.law_typing.specs.Rules.Brackets.{is_balanced, freezes_pair}
+use Rattle.law_typing.specs.Rules.Brackets.{is_balanced}
 use Rattle.law_typing.specs.Graph.{start_of, stretch_of}
 use Rattle.law_typing.specs.Verdict.Accepted.{Accepted}
 use Rattle.law_typing.specs.Laws.{IsIn}
@@ -43,8 +43,6 @@ pub record SiteKept (d : Definition) (program number at : ℕ) (p : Program) (b 
   pub typed : typing.typed d p (kinds_at d p b at) i ≡ Ok (kinds_at d p b (suc at))
   -- it is one of the sites, so that the graph knows what it connects and attaches
   pub known : IsIn (site d program number p b at i) (sites d)
-  -- it freezes no object with a paired property
-  pub thawed : freezes_pair d (kinds_at d p b at) i ≡ false
   -- what it may start is among what its block may
   pub starts : IsIn (start_of d (kinds_at d p b at) i) (stretch_of d p b).starts
 

@@ -13,7 +13,7 @@ ghost use Rattle.law_static.specs.Makings.{ObjectsComeFirst, ItemsCostLess, AllA
 ghost use Rattle.law_static.specs.Items.{SignalsComeLast, AdoptsFollow, ForwardsFollow, BindingsFollow};
 ghost use Rattle.law_static.specs.Attached.{AttachedFit, AttachedArePaid};
 ghost use Rattle.law_static.specs.Means.{HandlersMean, RaisedKnown};
-ghost use Rattle.law_static.specs.Starts.{StartsReach, DueWithin};
+ghost use Rattle.law_static.specs.Starts.{StartsReach, ThawsReach, PairsPay, DueWithin};
 ghost use Rattle.law_static.specs.MakingCost.{AbsentCostsNothing, ConstructionCosts};
 ghost use Rattle.law_static.specs.Constructions.{ConstructionsFit, ConstructionsShallow, ConstructionsThaw};
 ghost use Rattle.law_typing.specs.Laws.StepsKeepGood.{BuildBegins, RequestsBegin, SourcesBegin};
@@ -96,9 +96,11 @@ pub fn meanings()
     ensures last { SignalsComeLast }
 {}
 
-/// What an instruction raises at the place of its operand's object is within what it may start; and what is due at a property is within its node.
+/// What an instruction raises at the place of its operand's object is within what it may start, and a thaw pays for the paired properties there; what is due at a property is within its node.
 pub fn starts()
     ensures reach { StartsReach }
+    ensures thaws { ThawsReach }
+    ensures pairs { PairsPay }
     ensures due { DueWithin }
 {}
 

@@ -47,7 +47,6 @@ module _ {d : Definition} {task : Task} (t : First d task) (program : ℕ) (args
       unset = λ number. (let same = alike.unset number in omega (arith, same));
       request_step = (let same = alike.request_step in omega (arith, same));
       makes = (let same = alike.makes in omega (arith, same));
-      constructs = λ id. (let same = alike.constructs id in omega (arith, same));
     }
 
     pub begins_above : Takes → IsGood d a t.most_counted (record { world = said d w (lines.run b.p.name); agenda = later; counted = n })
@@ -59,6 +58,7 @@ module _ {d : Definition} {task : Task} (t : First d task) (program : ℕ) (args
           whole = whole_told t later (w.transcript ++ text_of_line d.types (lines.run b.p.name) ∷ []) w.result alike;
           pool = pool_alike t later alike;
           to_make = alike.items is_making;
+          makes = (let same = alike.makes in omega (arith, same));
           build = e.build (build_alike t later alike);
           frozen = λ id. (let free = b.free id in let same = e.frozen id in omega (arith, free, same));
           lowest = λ id some. (

@@ -88,6 +88,7 @@ module _ (d : Definition) (w : World) (n : ℕ) (p : Peer) (is : slice_get w.pee
     children = x.children;
     parent = x.parent;
     queue = x.queue;
+    apart = x.apart;
     peer = own_good id o x.peer;
   }
 

@@ -116,7 +116,7 @@ module _ {d : Definition} (place slot : ℕ) (given : Given) (t : First d (Handl
     later = Setting id slot v ∷ rest
 
     now_alike : Alike (task ∷ rest) later
-    now_alike = record { items = λ f. omega arith; unset = λ number. omega arith; request_step = omega arith; makes = omega arith; constructs = λ id. omega arith }
+    now_alike = record { items = λ f. omega arith; unset = λ number. omega arith; request_step = omega arith; makes = omega arith }
 
     as_later : AsFrozen d (task ∷ rest) later
     as_later = record {
@@ -148,6 +148,7 @@ module _ {d : Definition} (place slot : ℕ) (given : Given) (t : First d (Handl
           queues = λ id o is. queue_moved d (depths t) (most t) (task ∷ rest) later n n id o as_later (omega arith) (g.queues id o is);
           alive = refl;
           to_make = now_alike.items is_making;
+          makes = (let same = now_alike.makes in omega (arith, same));
           budget = g.agenda.0 + g.agenda.2;
           good = (
             g.agenda.0,
@@ -220,7 +221,7 @@ module _ {d : Definition} (place number : ℕ) (args : List Given) (detail : Opt
     emitting = Beginning e ∷ rest
 
     emits_alike : Alike (asked ∷ rest) emitting
-    emits_alike = record { items = λ f. omega arith; unset = λ number. omega arith; request_step = omega arith; makes = omega arith; constructs = λ id. omega arith }
+    emits_alike = record { items = λ f. omega arith; unset = λ number. omega arith; request_step = omega arith; makes = omega arith }
 
     as_emitting : AsFrozen d (asked ∷ rest) emitting
     as_emitting = record {
@@ -259,6 +260,7 @@ module _ {d : Definition} (place number : ℕ) (args : List Given) (detail : Opt
           queues = λ id o is. queue_moved d (depths t) (most t) (asked ∷ rest) emitting n n id o as_emitting (omega arith) (g.queues id o is);
           alive = refl;
           to_make = emits_alike.items is_making;
+          makes = (let same = emits_alike.makes in omega (arith, same));
           budget = g.agenda.0 + g.agenda.2;
           good = (
             g.agenda.0,

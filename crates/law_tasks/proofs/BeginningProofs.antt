@@ -163,7 +163,7 @@ module _ {d : Definition} (e : Emission) (t : First d (Beginning e)) where
   fits_all (x ∷ xs) all = let more = fits_all xs all.1 in ((all.0.0, more.0), (all.0.1, more.1))
 
   now_alike : Alike (task ∷ rest) later
-  now_alike = record { items = λ f. omega arith; unset = λ number. omega arith; request_step = omega arith; makes = omega arith; constructs = λ id. omega arith }
+  now_alike = record { items = λ f. omega arith; unset = λ number. omega arith; request_step = omega arith; makes = omega arith }
 
   as_later : AsFrozen d (task ∷ rest) later
   as_later = record {
@@ -187,6 +187,7 @@ module _ {d : Definition} (e : Emission) (t : First d (Beginning e)) where
         queues = λ id o is. queue_moved d (depths t) (most t) (task ∷ rest) later n (suc n) id o as_later (omega arith) (g.queues id o is);
         alive = refl;
         to_make = now_alike.items is_making;
+        makes = (let same = now_alike.makes in omega (arith, same));
         budget = total (turn_cost d (costs t) (view w) rest) turns + g.agenda.2;
         good = (
           total (turn_cost d (costs t) (view w) rest) turns,

@@ -78,7 +78,7 @@ module _ (d : Definition) (costs depths : Tables) (v : View) (number : ℕ) (bus
   )
   task_bound (Constructing id todo held) up below steps frames g = (
     g.0,
-    record { place = g.1.place; is = g.1.is; for_builder = g.1.for_builder; fits = g.1.fits; cheap = g.1.cheap; shallow = g.1.shallow; one = g.1.one },
+    record { place = g.1.place; is = g.1.is; for_builder = g.1.for_builder; for_program = g.1.for_program; fits = g.1.fits; cheap = g.1.cheap; shallow = g.1.shallow; one = g.1.one },
     g.2,
   )
   task_bound (Handling request) up below steps frames g =

@@ -31,7 +31,7 @@ use Rattle.law_instructions.proofs.FamilyProofs.{twice, before, sum_twice, famil
 use Rattle.law_tasks.proofs.BeginningProofs.{Placed, placed}
 use Rattle.law_tasks.proofs.Built.{none_below, held_made, pairs_next, queues_next, build_next, bindings_next, left_good}
 use Rattle.law_tasks.proofs.Changed.{whole_said, no_sets, changed_well}
-use Rattle.law_tasks.proofs.First.{First, StepIsFine, fine_where, fine_of, costs, depths, most}
+use Rattle.law_tasks.proofs.First.{First, StepIsFine, fine_where, fine_of, costs, depths, most, making}
 use Rattle.law_tasks.specs.BuildAdoptions.{AdoptionsAreFine}
 
 -- ** what the machine does
@@ -104,6 +104,7 @@ module _ {d : Definition} (place : ℕ) (items : List Item) (t : First d (Buildi
         queues = queues;
         alive = refl;
         to_make = omega arith;
+        makes = omega arith;
         budget = total (item_cost d (costs t)) items;
         good = left_good item items t refl (view told);
         spent = (let cheap = g.agenda.3.2 in omega (arith, cheap));
@@ -160,9 +161,10 @@ module _ {d : Definition} (place : ℕ) (items : List Item) (t : First d (Buildi
         queues = adopted_queues;
         alive = same_sum one_if refl (λ ids above o. refl);
         to_make = omega arith;
+        makes = omega arith;
         budget = total (item_cost d (costs t)) items;
         good = left_good item items t refl (view v);
-        spent = (let cheap = g.agenda.3.2 in let same = same_sum (carried d (costs t)) refl (λ ids above o. refl) in omega (arith, cheap, same));
+        spent = (let cheap = g.agenda.3.2 in let same = same_sum (carried d (costs t) (making t)) refl (λ ids above o. refl) in omega (arith, cheap, same));
       })
 
   adopt_fine : StepIsFine t

@@ -1,5 +1,5 @@
 -- The build makes a binding: its first transfer is due if it synchronises at once. Where an end is disposed it is too late for it.
-use Rattle.std.proofs.Common.{◌≡◌, inl, inr, ◌⊎◌, refl, sym, ap, subst, ◌∙◌, ℕ, ◌+◌, ◌≤◌, Bool, true, false, cond, List, [], ◌∷◌, ◌++◌, drop, Some, slice_get, arith}
+use Rattle.std.proofs.Common.{◌≡◌, refl, sym, ap, subst, ◌∙◌, ℕ, ◌+◌, ◌≤◌, Bool, true, false, cond, List, [], ◌∷◌, ◌++◌, drop, Some, slice_get, arith}
 use Rattle.std.specs.Prelude.{◌||◌}
 use Rattle.ui_machine.specs.Seq.{read, total}
 use Rattle.ui_machine.specs.Definition.{Definition}
@@ -8,7 +8,7 @@ use Rattle.ui_machine.specs.Definition.Properties.{has_flags}
 use Rattle.ui_machine.specs.Rules.Build.{of_items, is_making, new_binding, first_transfer, with_binding, building_binding}
 use Rattle.ui_machine.specs.Rules.Sets.{is_disposed}
 use Rattle.ui_machine.specs.State.Config.{World, unbuilt, built, starts}
-use Rattle.ui_machine.specs.State.Objects.{Object, living}
+use Rattle.ui_machine.specs.State.Objects.{living}
 use Rattle.ui_machine.specs.State.Tasks.{Item, binds, Task, Transferring, Building}
 use Rattle.ui_machine.specs.Steps.{uncounted}
 use Rattle.law_typing.specs.Graph.Channels.{is_pair, source_of}
@@ -31,7 +31,7 @@ use Rattle.law_kept.specs.Bindings.{NextBinding}
 use Rattle.law_kept.proofs.AttachProofs.{handlers_wait_less}
 use Rattle.law_kept.proofs.BindingsProofs.{binding_made}
 use Rattle.law_kept.proofs.Lists.{objects_stay}
-use Rattle.law_tasks.proofs.Built.{none_below, held_object, thawed, pairs_next, queues_next, build_next, bindings_next, left_good}
+use Rattle.law_tasks.proofs.Built.{none_below, held_object, pairs_next, queues_next, build_next, bindings_next, left_good}
 use Rattle.law_tasks.proofs.Changed.{no_sets, changed_well}
 use Rattle.law_tasks.proofs.First.{First, StepIsFine, fine_where, fine_of, costs, depths, most}
 use Rattle.law_tasks.proofs.Moving.{cost_same, depth_same}
@@ -99,6 +99,7 @@ module _ {d : Definition} (number : ℕ) (items : List Item) (t : First d (Build
         queues = queues_next item items t refl late (λ id. none_more [] (frozen_by d id) refl);
         alive = refl;
         to_make = omega arith;
+        makes = omega arith;
         budget = left;
         good = left_good item items t refl (view w);
         spent = (let cheap = g.agenda.3.2 in omega (arith, cheap));
@@ -122,7 +123,7 @@ module _ {d : Definition} (number : ℕ) (items : List Item) (t : First d (Build
   counted first due f free = subst (λ r. total f (first ++ Building items ∷ r) ≡ f (Building items)) (sym g.agenda.3.1) (due.counts f free)
 
   next_binding : (first : List Task) → Due first →
-      NextBinding d (standing w.objects) (Building (item ∷ items) ∷ rest) (first ++ Building items ∷ rest) w.objects number b.bind source.0 target.0
+      NextBinding d (standing w.objects) (Building (item ∷ items) ∷ rest) (first ++ Building items ∷ rest) number b.bind source.0 target.0
   next_binding first due =
       let alone = λ (f : Task → ℕ). none_below item items t refl f in
       record {
@@ -133,12 +134,7 @@ module _ {d : Definition} (number : ℕ) (items : List Item) (t : First d (Build
         items = (let count = counted first due (of_items is_binding) refl in let none = alone (of_items is_binding) in omega (arith, count, none));
         unset = λ x. (let count = counted first due (unsets x) refl in let none = alone (unsets x) in omega (arith, count, none));
         free = (let none = alone (unsets number) in omega (arith, none));
-        thawed = λ pair o is. either o is;
       }
-    where
-      either : (o : Object) → (living w.objects source.0 ≡ Some o) ⊎ (living w.objects target.0 ≡ Some o) → o.freezes ≡ 0
-      either o (inl is) = thawed item items t refl source.0 o is
-      either o (inr is) = thawed item items t refl target.0 o is
 
   made_good : (first : List Task) → Due first → IsGood d a t.most_counted (record { world = v; agenda = first ++ Building items ∷ rest; counted = n })
   made_good first due =
@@ -150,7 +146,7 @@ module _ {d : Definition} (number : ℕ) (items : List Item) (t : First d (Build
           handlers =
               handlers_wait_less d (costs t) (depths t) (standing w.objects) (Building (item ∷ items) ∷ rest) agenda w.last_handler w.handlers
               (λ f. (let count = counted first due (of_items f) refl in omega (arith, count))) g.handlers;
-          bindings = binding_made d (standing w.objects) (Building (item ∷ items) ∷ rest) agenda w.objects w.bindings number b.bind source.0 target.0 (next_binding first due) g.bindings;
+          bindings = binding_made d (standing w.objects) (Building (item ∷ items) ∷ rest) agenda w.bindings number b.bind source.0 target.0 (next_binding first due) g.bindings;
           sources = g.sources;
           held = g.held;
           floating = g.floating;
@@ -162,6 +158,7 @@ module _ {d : Definition} (number : ℕ) (items : List Item) (t : First d (Build
         queues = queues_next item items t refl agenda (λ id. counted first due (frozen_by d id) refl);
         alive = refl;
         to_make = (let count = counted first due (of_items is_making) refl in let none = none_below item items t refl (of_items is_making) in omega (arith, count, none));
+        makes = (let none = counted first due is_for_builder refl in omega (arith, none));
         budget = due.cost + left;
         good = due.good;
         spent = (let cheap = g.agenda.3.2 in let own = due.cheap in omega (arith, cheap, own));

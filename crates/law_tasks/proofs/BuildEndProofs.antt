@@ -37,7 +37,7 @@ module _ {d : Definition} (t : First d (Building [])) where
     each = each_to _ IsBuilt w.builder (λ (h : BuilderEntry) is. subst IsBuilt (sym is.1) tt) g.build.3;
   }
 
-  bindings_good : BindingsGood d (standing w.objects) rest w.objects w.bindings
+  bindings_good : BindingsGood d (standing w.objects) rest w.bindings
   bindings_good = record {
     each = each_to _ _ w.bindings
         (λ (b : Binding) old. record {
@@ -47,15 +47,13 @@ module _ {d : Definition} (t : First d (Building [])) where
           source = old.source;
           target = old.target;
           setting = (let s = old.setting in omega (arith, s));
-          thawed = old.thawed;
         }) g.bindings.each;
     rising = g.bindings.rising;
     made = each_to _ _ w.bindings (λ (b : Binding) low. omega (arith, low)) g.bindings.made;
   }
 
-  pairs_good : PairsGood d rest w.objects w.bindings
+  pairs_good : PairsGood rest w.bindings
   pairs_good = record {
-    frozen = λ id o is pair some. (let old = g.pairs.frozen id o is pair some in omega (arith, old));
     before = λ some. (let old = g.pairs.before (omega (arith, some)) in (old.0, (let z = old.1 in omega (arith, z))));
     one = (let old = g.pairs.one in omega (arith, old));
   }
@@ -79,6 +77,7 @@ module _ {d : Definition} (t : First d (Building [])) where
         };
         pool = subst (λ m. PeersGood d w.peers (length w.builder + m)) same_made g.peers;
         to_make = omega arith;
+        makes = omega arith;
         build = subst (λ r. BuildGood d w.builder r r) (sym g.agenda.3.1) (document, refl);
         frozen = λ id. omega arith;
         lowest = λ id some. absurd (let none = none_below (frozen_by d id) in omega (arith, none, some));

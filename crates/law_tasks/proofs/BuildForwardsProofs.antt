@@ -111,6 +111,7 @@ module _ {d : Definition} (place slot to : ℕ) (items : List Item) (t : First d
         queues = queues_next (forwards place slot to) items t refl later (λ id. none_more (frozen_by d id) refl refl);
         alive = refl;
         to_make = omega arith;
+        makes = omega arith;
         budget = cost + total (item_cost d (costs t)) items;
         good = (
           cost,

@@ -1,6 +1,6 @@
 -- The build makes an object.
-use Rattle.std.proofs.Common.{◌≡◌, inl, inr, ◌⊎◌, refl, sym, ap, subst, ◌∙◌, ℕ, ◌+◌, ◌<◌, ◌≤◌, Bool, true, false, cond, List, [], ◌∷◌, ◌++◌, length, Option, None, Some, Ok, slice_get, arith}
-use Rattle.std.specs.Prelude.{◌&&◌, nat_eq, is_none, is_some, option_map}
+use Rattle.std.proofs.Common.{◌≡◌, inl, inr, ◌⊎◌, refl, sym, ap, subst, ◌∙◌, ℕ, suc, ◌+◌, ◌<◌, ◌≤◌, Bool, true, false, cond, List, [], ◌∷◌, ◌++◌, length, Option, None, Some, Ok, slice_get, arith}
+use Rattle.std.specs.Prelude.{nat_eq, is_none, is_some, option_map}
 use Rattle.std.proofs.lemmas.Bool.{eqb-true, eq-eqb}
 use Rattle.ui_machine.specs.declared.arm.Arm.TheVariants as arms
 use Rattle.ui_machine.specs.Seq.{read, total}
@@ -31,8 +31,9 @@ use Rattle.law_typing.specs.Good.Bindings.{BindingsGood}
 use Rattle.law_typing.specs.Good.Builds.{is_for_builder, item_cost, item_depth, BuildGood, ConstructingGood}
 use Rattle.law_typing.specs.Good.ComingDown.{none}
 use Rattle.law_typing.specs.Good.Handlers.{connecting_cost}
-use Rattle.law_typing.specs.Good.Freezes.{to_thaw, frozen_by, QueueGood, QueuesGood, carried, constructs_held, is_carrying_over}
+use Rattle.law_typing.specs.Good.Freezes.{to_thaw, frozen_by, QueueGood, QueuesGood, carried, is_carrying_over}
 use Rattle.law_static.specs.Makings.{Makes}
+use Rattle.law_static.proofs.SourceProofs.{none_carried}
 use Rattle.law_static.proofs.BuildCostProofs.{read_making}
 use Rattle.law_static.proofs.ConstructionProofs.{constructions_fit, constructions_shallow, constructions_thaw}
 use Rattle.law_static.proofs.MakingCostProofs.{construction_costs}
@@ -172,12 +173,11 @@ module _ {d : Definition} (place : ℕ) (items : List Item) (t : First d (Buildi
   whole_before = record {
     objects = g.objects;
     handlers = handlers_wait_less d (costs t) (depths t) (standing w.objects) (Building (makes place ∷ items) ∷ rest) agenda w.last_handler w.handlers (λ f. omega arith) g.handlers;
-    bindings = subst (BindingsGood d (standing w.objects) agenda w.objects) (sym no_bindings) (record { each = tt; rising = tt; made = tt });
+    bindings = subst (BindingsGood d (standing w.objects) agenda) (sym no_bindings) (record { each = tt; rising = tt; made = tt });
     sources = g.sources;
     held = g.held;
     floating = g.floating;
     pairs = record {
-      frozen = λ id o is pair some. (let old = g.pairs.frozen id o is pair some in omega (arith, old));
       before = λ some. (no_bindings, (let alone = none_below is_carrying_over in omega (arith, alone)));
       one = (let alone = none_below is_for_builder in omega (arith, alone));
     };
@@ -187,13 +187,12 @@ module _ {d : Definition} (place : ℕ) (items : List Item) (t : First d (Buildi
   whole =
       let peer = new_peer_good d w place (length w.builder + total is_for_builder (Building (makes place ∷ items) ∷ rest)) p at g.peers takes.there in
       let is_new : IsNew d w place p o = record { at = at; is = refl; free = peer.0; peer = peer.1 } in
-      let own : constructs_held new (Constructing new todo true) ≡ 1 = ap {B = ℕ} (λ b. cond (true && b) 1 0) (eq-eqb new new refl) in
       let x =
       new_whole_good d well.types (costs t) (depths t) agenda w place p o is_new
       (λ r there same. (let less = items_cost_less d (costs t) before (makes place ∷ items) g.build.1 r there in
       let alone = none_below (of_items (connecting_cost d (costs t) r.channel)) in
       omega (arith, less, alone)))
-      (λ pair. omega (arith, own)) whole_before in
+      whole_before in
       record {
         objects = objects_stay d made v x.objects;
         handlers = x.handlers;
@@ -201,7 +200,7 @@ module _ {d : Definition} (place : ℕ) (items : List Item) (t : First d (Buildi
         sources = x.sources;
         held = x.held;
         floating = x.floating;
-        pairs = record { frozen = x.pairs.frozen; before = x.pairs.before; one = x.pairs.one };
+        pairs = x.pairs;
       }
 
   pool : PeersGood d v.peers (length v.builder + total is_for_builder agenda)
@@ -253,6 +252,13 @@ module _ {d : Definition} (place : ℕ) (items : List Item) (t : First d (Buildi
           absurd (let none = ap (standing w.objects) (sym (eqb-true new j e)) ∙ stands.none in let here = ap (option_map (λ (o : Object). o.place)) is in let f = sym none ∙ here in cc)
       not_new false e = e
 
+  -- nothing waits, since nothing is frozen
+  none_waits : (i : ℕ) (y : Object) → read None w.objects i ≡ Some y → y.queue ≡ []
+  none_waits i y is =
+      let q = g.queues (suc i) y is in
+      let alone = none_below (frozen_by d (suc i)) in
+      q.none (let old = q.count in omega (arith, old, alone))
+
   queues_good : QueuesGood d (depths t) (most t) agenda n v.objects
   queues_good j y e = go (found w.objects o j y e)
     where
@@ -282,6 +288,7 @@ module _ {d : Definition} (place : ℕ) (items : List Item) (t : First d (Buildi
     place = place;
     is = stands.here;
     for_builder = λ e. next_place;
+    for_program = λ e. absurd (cc);
     fits = constructions_fit d well.types a (standing v.objects) w place p (λ place id is. stands.stay id place (g.held place id is)) at read_well;
     cheap = construction_costs d a w place p at read_well;
     shallow = each_to _ _ todo (λ m low. omega (arith, low)) (constructions_shallow d a w place p at read_well);
@@ -329,8 +336,9 @@ module _ {d : Definition} (place : ℕ) (items : List Item) (t : First d (Buildi
         let cheap = g.agenda.3.2 in
         let is = cost_is in
         let more = (new_stands d w o).1 in
-        let sum = total_append (carried d (costs t)) w.objects (Some o ∷ []) in
-        omega (arith, old, split, cheap, is, more, sum));
+        let sum = total_append (carried d (costs t) (total is_for_builder agenda)) w.objects (Some o ∷ []) in
+        let none = none_carried d (costs t) (total is_for_builder agenda) w.objects none_waits in
+        omega (arith, old, split, cheap, is, more, sum, none));
   }
 
   make_fine : StepIsFine t

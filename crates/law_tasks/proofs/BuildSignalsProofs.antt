@@ -213,10 +213,10 @@ module _ {d : Definition} (place number : ℕ) (items : List Item) (t : First d 
   abbrev agenda : List Task
   agenda = Building items ∷ rest
 
-  bindings_good : BindingsGood d (standing w.objects) agenda w.objects w.bindings
+  bindings_good : BindingsGood d (standing w.objects) agenda w.bindings
   bindings_good = record {
     each = each_to _ _ w.bindings
-        (λ (b : Binding) old. record { bind = old.bind; is = old.is; slots = old.slots; source = old.source; target = old.target; setting = old.setting; thawed = old.thawed }) g.bindings.each;
+        (λ (b : Binding) old. record { bind = old.bind; is = old.is; slots = old.slots; source = old.source; target = old.target; setting = old.setting }) g.bindings.each;
     rising = g.bindings.rising;
     made = each_to _ _ w.bindings (λ (b : Binding) low. omega (arith, low)) g.bindings.made;
   }
@@ -251,10 +251,11 @@ module _ {d : Definition} (place number : ℕ) (items : List Item) (t : First d 
           sources = g.sources;
           held = g.held;
           floating = g.floating;
-          pairs = record { frozen = g.pairs.frozen; before = g.pairs.before; one = g.pairs.one };
+          pairs = record { before = g.pairs.before; one = g.pairs.one };
         };
         pool = g.peers;
         to_make = omega arith;
+        makes = omega arith;
         build = build_good;
         frozen = λ id. refl;
         lowest = λ id some. omega arith;

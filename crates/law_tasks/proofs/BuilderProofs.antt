@@ -118,12 +118,11 @@ module _ {d : Definition} (id : ℕ) (items : List Item) (x : Above d (Construct
   whole = record {
     objects = objects_stay d w v g.objects;
     handlers = handlers_moved d (costs (first x)) (depths (first x)) (task ∷ agenda) agenda items_same (standing w.objects) w.last_handler w.handlers g.handlers;
-    bindings = bindings_moved d (costs (first x)) (depths (first x)) (task ∷ agenda) agenda items_same unset_same (standing w.objects) w.objects w.bindings g.bindings;
+    bindings = bindings_moved d (costs (first x)) (depths (first x)) (task ∷ agenda) agenda items_same unset_same (standing w.objects) w.bindings g.bindings;
     sources = g.sources;
     held = held_good;
     floating = each_without (Lives (standing w.objects)) id w.floating g.floating;
     pairs = record {
-      frozen = λ j o is pair some. absurd (let none = thawed j o is in omega (arith, none, some));
       before = λ some. absurd (omega (arith, some));
       one = omega arith;
     };
@@ -154,6 +153,7 @@ module _ {d : Definition} (id : ℕ) (items : List Item) (x : Above d (Construct
         queues = queues_good;
         alive = refl;
         to_make = omega arith;
+        makes = omega arith;
         budget = g.agenda.2;
         good = (let b = g.agenda.6 in (b.0, b.1, b.2, b.3, b.4, b.5, b.6));
         spent = omega arith;

@@ -40,9 +40,8 @@ module _ {d : Definition} (item : Item) (items : List Item) (t : First d (Buildi
   pub thawed : (id : ℕ) (o : Object) → living w.objects id ≡ Some o → o.freezes ≡ 0
   thawed id o is = let count = (g.queues id o is).count in let alone = none_below (frozen_by d id) in omega (arith, count, alone)
 
-  pub pairs_next : (agenda : List Task) (bs : List Binding) → total is_for_builder agenda ≡ 0 → PairsGood d agenda w.objects bs
+  pub pairs_next : (agenda : List Task) (bs : List Binding) → total is_for_builder agenda ≡ 0 → PairsGood agenda bs
   pairs_next agenda bs made = record {
-    frozen = λ id o is pair some. absurd (let none = thawed id o is in omega (arith, none, some));
     before = λ some. absurd (omega (arith, made, some));
     one = omega (arith, made);
   }
@@ -69,7 +68,7 @@ module _ {d : Definition} (item : Item) (items : List Item) (t : First d (Buildi
 
   -- bindings stay good where no more of them are to be made
   pub bindings_next : (agenda : List Task) → (total (of_items is_binding) agenda ≤ total (of_items is_binding) (Building (item ∷ items) ∷ rest)) →
-      ((number : ℕ) → total (unsets number) agenda ≡ 0) → BindingsGood d (standing w.objects) agenda w.objects w.bindings
+      ((number : ℕ) → total (unsets number) agenda ≡ 0) → BindingsGood d (standing w.objects) agenda w.bindings
   bindings_next agenda less unset = record {
     each = each_to _ _ w.bindings
         (λ (b : Binding) old. record {
@@ -79,7 +78,6 @@ module _ {d : Definition} (item : Item) (items : List Item) (t : First d (Buildi
           source = old.source;
           target = old.target;
           setting = (let s = old.setting in let z = unset b.number in let alone = none_below (unsets b.number) in omega (arith, s, z, alone));
-          thawed = old.thawed;
         }) g.bindings.each;
     rising = g.bindings.rising;
     made = each_to _ _ w.bindings (λ (b : Binding) low. omega (arith, low, less)) g.bindings.made;

@@ -114,7 +114,7 @@ module _ {d : Definition} (call : Call) (f : Frame) (tasks : List Task) (x : Abo
       receives d (costs (first x)) (depths (first x)) s (down d (view w) (Calling call)) f below.0 below.1 r call.to c.m.result v comes low fit
 
   alike : (v : Value) → Alike (Calling call ∷ Running f ∷ tasks) (later v)
-  alike v = record { items = λ f. omega arith; unset = λ number. omega arith; request_step = omega arith; makes = omega arith; constructs = λ id. omega arith }
+  alike v = record { items = λ f. omega arith; unset = λ number. omega arith; request_step = omega arith; makes = omega arith }
 
   as_later : (v : Value) → AsFrozen d (Calling call ∷ Running f ∷ tasks) (later v)
   as_later v = record {
@@ -181,6 +181,7 @@ module _ {d : Definition} (call : Call) (f : Frame) (tasks : List Task) (x : Abo
           queues = λ id o is. queue_moved d (depths (first x)) (most (first x)) (Calling call ∷ Running f ∷ tasks) (later value) n n id o (as_later value) (omega arith) (g.queues id o is);
           alive = refl;
           to_make = (alike value).items is_making;
+          makes = (let same = (alike value).makes in omega (arith, same));
           budget = g.agenda.2;
           good = (
             below.0,

@@ -68,7 +68,7 @@ module _ {d : Definition} (place slot : ℕ) (t : First d (Handling (config.get 
       (get_leads d w rest n place slot id s v.value is (spec_is d w id slot x.0 s x.1 has) (value_is w id slot x.0 v.value x.1 v.is) asks.fits.3)
       (done t said (Some v.value)
       (record {
-        alike = record { items = λ f. omega arith; unset = λ number. omega arith; request_step = omega arith; makes = omega arith; constructs = λ id. omega arith };
+        alike = record { items = λ f. omega arith; unset = λ number. omega arith; request_step = omega arith; makes = omega arith };
         frozen = λ id. refl;
         build = λ build. build;
         good = g.agenda.6;
@@ -108,6 +108,7 @@ objects_held d w lines builder g id o e = let o = g id o e in record {
   children = o.children;
   parent = o.parent;
   queue = o.queue;
+  apart = o.apart;
   peer = o.peer;
 }
 
@@ -120,7 +121,7 @@ module _ {d : Definition} (place : ℕ) (t : First d (Handling (config.release p
   open t use {w, rest, n, g}
 
   now_alike : Alike (Handling (config.release place) ∷ rest) rest
-  now_alike = record { items = λ f. omega arith; unset = λ number. omega arith; request_step = omega arith; makes = omega arith; constructs = λ id. omega arith }
+  now_alike = record { items = λ f. omega arith; unset = λ number. omega arith; request_step = omega arith; makes = omega arith }
 
   pub release_fine : StepIsFine t
   release_fine =
@@ -152,6 +153,7 @@ module _ {d : Definition} (place : ℕ) (t : First d (Handling (config.release p
             });
         pool = subst (PeersGood d w.peers) (sym made) g.peers;
         to_make = now_alike.items is_making;
+        makes = (let same = now_alike.makes in omega (arith, same));
         build = subst (λ tasks. BuildGood d builder tasks tasks) (sym alone)
             (record { all = long ∙ document.0.all; each = still_built w.builder place id is document.0.each }, refl);
         frozen = λ id. omega arith;

@@ -25,7 +25,8 @@ use Rattle.law_typing.specs.Good.Freezes.{frozen_by, below_lowest, QueueGood, Qu
 use Rattle.law_kept.specs.Write.{Whole}
 use Rattle.law_kept.proofs.Left.{each_to}
 use Rattle.law_kept.proofs.WriteProofs.{find_here, find_apart}
-use Rattle.law_tasks.proofs.First.{First, none_later, objects_told, StepIsFine, fine_where, costs, depths, most}
+use Rattle.law_tasks.proofs.First.{First, none_later, objects_told, StepIsFine, fine_where, costs, depths, most, making}
+use Rattle.law_static.proofs.StartProofs.{carried_falls}
 
 -- what is said and told is read by nothing
 pub whole_said : (d : Definition) (costs depths : Tables) (agenda : List Task) (w : World) (lines : List (List ℕ)) (v : Option Value) → Whole d costs depths agenda w →
@@ -98,9 +99,10 @@ module _ {d : Definition} {task : Task} (t : First d task) where
     pub queues : QueuesGood d (depths t) (most t) agenda m v.objects
     pub alive : live v.objects ≡ live w.objects
     pub to_make : to_make agenda ≡ to_make (task ∷ rest)
+    pub makes : total is_for_builder agenda ≤ total is_for_builder (task ∷ rest)
     pub budget : ℕ
     pub good : AgendaGood d (costs t) (depths t) (view v) (most t) none agenda budget
-    pub spent : m + (budget + total (carried d (costs t)) v.objects) ≤ n + (g.agenda.0 + g.agenda.2 + total (carried d (costs t)) w.objects)
+    pub spent : m + (budget + total (carried d (costs t) (making t)) v.objects) ≤ n + (g.agenda.0 + g.agenda.2 + total (carried d (costs t) (making t)) w.objects)
 
   pub changed_well : (v : World) (agenda : List Task) (m : ℕ) → Changes v agenda m → IsGood d a most_counted (record { world = v; agenda = agenda; counted = m })
   changed_well v agenda m e = record {
@@ -124,7 +126,8 @@ module _ {d : Definition} {task : Task} (t : First d task) where
         let new = e.spent in
         let same = e.to_make in
         let alive = e.alive in
-        omega (arith, old, split, new, same, alive));
+        let queued_less = carried_falls d (costs t) (total is_for_builder agenda) (making t) v.objects e.makes in
+        omega (arith, old, split, new, same, alive, queued_less));
   }
 
   -- a counted step is fine where its task has paid for it

@@ -44,7 +44,7 @@ module _ {d : Definition} (id slot : ℕ) (v : Value) (todo : List ConstructStep
   later = Setting id slot v ∷ below
 
   now_alike : Alike (task ∷ rest) later
-  now_alike = record { items = λ f. omega arith; unset = λ number. omega arith; request_step = omega arith; makes = omega arith; constructs = λ id. omega arith }
+  now_alike = record { items = λ f. omega arith; unset = λ number. omega arith; request_step = omega arith; makes = omega arith }
 
   as_later : AsFrozen d (task ∷ rest) later
   as_later = record {
@@ -76,6 +76,7 @@ module _ {d : Definition} (id slot : ℕ) (v : Value) (todo : List ConstructStep
         queues = λ id o is. queue_moved d (depths t) (most t) (task ∷ rest) later n n id o as_later (omega arith) (g.queues id o is);
         alive = refl;
         to_make = now_alike.items is_making;
+        makes = (let same = now_alike.makes in omega (arith, same));
         budget = cost + (left + g.agenda.2);
         good = (
           cost,
@@ -95,7 +96,7 @@ module _ {d : Definition} (id slot : ℕ) (v : Value) (todo : List ConstructStep
             left,
             g.agenda.1,
             g.agenda.2,
-            (tt, record { place = c.place; is = c.is; for_builder = c.for_builder; fits = c.fits.1; cheap = omega arith; shallow = c.shallow.1; one = c.one }, g.agenda.3.2),
+            (tt, record { place = c.place; is = c.is; for_builder = c.for_builder; for_program = c.for_program; fits = c.fits.1; cheap = omega arith; shallow = c.shallow.1; one = c.one }, g.agenda.3.2),
             g.agenda.4,
             omega arith,
             g.agenda.6,

@@ -33,6 +33,7 @@ module _ {d : Definition} {task : Task} (t : First d task) where
         whole = whole_told t rest lines v e.alike;
         pool = pool_alike t rest e.alike;
         to_make = e.alike.items is_making;
+        makes = (let same = e.alike.makes in omega (arith, same));
         build = e.build (build_alike t rest e.alike);
         frozen = λ id. (let free = e.frozen id in omega (arith, free));
         lowest = λ id some. lowest_falls d id task rest;

@@ -125,7 +125,7 @@ running_alone d costs depths s k f steps frames e g =
       b = g.b;
       in_block = g.in_block;
       inside = g.inside;
-      once = g.once;
+      few = g.few;
       counted = g.counted;
       ks = g.ks;
       fit = g.fit;
@@ -180,7 +180,7 @@ module _ {d : Definition} (e : Emission) (t : First d (Emitting e [])) where
       (does ∙ ap (λ world. Ok (record { world = world; agenda = rest; counted = n })) said.is)
       (done t said.lines said.value
       (record {
-        alike = record { items = λ f. omega arith; unset = λ number. omega arith; request_step = omega arith; makes = omega arith; constructs = λ id. omega arith };
+        alike = record { items = λ f. omega arith; unset = λ number. omega arith; request_step = omega arith; makes = omega arith };
         frozen = λ id. refl;
         build = λ build. build;
         good = not_awaited d (costs t) (depths t) (view w) (most t) (result_of_emission d (standing w.objects) e) rest g.agenda.2 none_waits g.agenda.6;
@@ -256,7 +256,7 @@ module _ {d : Definition} (e : Emission) (f : Frame) (tasks : List Task) (x : Ab
       (does ∙ ap (λ world. Ok (record { world = world; agenda = Running (after_value f to v) ∷ tasks; counted = n })) said.is)
       (received x to v said.lines said.value
       (record {
-        alike = record { items = λ f. omega arith; unset = λ number. omega arith; request_step = omega arith; makes = omega arith; constructs = λ id. omega arith };
+        alike = record { items = λ f. omega arith; unset = λ number. omega arith; request_step = omega arith; makes = omega arith };
         unfrozen = λ id. refl;
         build = λ build. build;
         kept = λ id. frozen_still d (costs (first x)) (depths (first x)) s up f below.0 below.1 r to v id kept;
@@ -288,7 +288,7 @@ constructions_end id = fine_of (λ d t. good d t)
         fine_where t (record { world = t.w; agenda = t.rest; counted = t.n }) (made t.w id t.rest t.n)
         (done t t.w.transcript t.w.result
         (record {
-          alike = record { items = λ f. omega arith; unset = λ number. omega arith; request_step = omega arith; makes = omega arith; constructs = λ id. omega arith };
+          alike = record { items = λ f. omega arith; unset = λ number. omega arith; request_step = omega arith; makes = omega arith };
           frozen = λ x. no_more (nat_eq id x);
           build = λ build. build;
           good = t.g.agenda.6;

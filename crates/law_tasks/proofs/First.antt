@@ -24,6 +24,7 @@ use Rattle.law_typing.specs.Good.ComingDown.{none}
 use Rattle.law_typing.specs.Good.Agenda.{AgendaGood}
 use Rattle.law_typing.specs.Good.Builds.{is_for_builder, BuildGood}
 use Rattle.law_typing.specs.Good.Freezes.{frozen_by, below_lowest, QueuesGood, carried, is_due_set, is_due_source}
+use Rattle.law_static.proofs.StartProofs.{carried_falls}
 use Rattle.law_kept.specs.Write.{Whole}
 use Rattle.law_kept.specs.Alike.{Alike}
 use Rattle.law_kept.proofs.AlikeProofs.{whole_stays, build_stays}
@@ -95,12 +96,17 @@ module _ {d : Definition} {task : Task} (t : First d task) where
   abbrev pub s : Standing
   s = standing w.objects
 
+  -- the objects that the builder is making
+  abbrev pub making : ℕ
+  making = total is_for_builder (task ∷ rest)
+
   -- what is to be shown of the world and the agenda that the step leaves, where no object changes
   pub record Leaves (v : World) (agenda : List Task) : Type 0 where
     pub objects : v.objects ≡ w.objects
     pub whole : Whole d costs depths agenda v
     pub pool : PeersGood d v.peers (length v.builder + total is_for_builder agenda)
     pub to_make : to_make agenda ≡ to_make (task ∷ rest)
+    pub makes : total is_for_builder agenda ≤ total is_for_builder (task ∷ rest)
     pub build : BuildGood d v.builder agenda agenda
     -- as much is frozen, and what is by no higher task
     pub frozen : (id : ℕ) → total (frozen_by d id) agenda ≡ total (frozen_by d id) (task ∷ rest)
@@ -159,8 +165,9 @@ module _ {d : Definition} {task : Task} (t : First d task) where
         let less = e.less in
         let same = e.to_make in
         let live_same = ap live e.objects in
-        let queued_same = ap (total (carried d costs)) e.objects in
-        omega (arith, old, split, less, same, live_same, queued_same));
+        let queued_same = ap (total (carried d costs (total is_for_builder agenda))) e.objects in
+        let queued_less = carried_falls d costs (total is_for_builder agenda) (total is_for_builder (task ∷ rest)) w.objects e.makes in
+        omega (arith, old, split, less, same, live_same, queued_same, queued_less));
   }
 
   -- the step is fine where what it leads to is good

@@ -33,6 +33,7 @@ objects_freed d w bs g id o e = let o = g id o e in record {
   children = o.children;
   parent = o.parent;
   queue = o.queue;
+  apart = o.apart;
   peer = o.peer;
 }
 
@@ -45,9 +46,8 @@ module _ {d : Definition} (number : ℕ) (t : First d (Unsetting number)) where
   one_more : OneMore number rest (Unsetting number ∷ rest)
   one_more = record { unset = λ n. refl; items = omega arith }
 
-  pairs_left : PairsGood d rest w.objects (with_busy number false w.bindings)
+  pairs_left : PairsGood rest (with_busy number false w.bindings)
   pairs_left = record {
-    frozen = λ id o is pair some. (let old = g.pairs.frozen id o is pair some in omega (arith, old));
     before = λ some. (let old = g.pairs.before (omega (arith, some)) in let none = old.1 in (none_freed number w.bindings old.0, omega (arith, none)));
     one = (let old = g.pairs.one in omega (arith, old));
   }
@@ -84,7 +84,7 @@ module _ {d : Definition} (number : ℕ) (t : First d (Unsetting number)) where
         whole = record {
           objects = objects_freed d w bs g.objects;
           handlers = handlers_left;
-          bindings = binding_unset d (standing w.objects) rest (Unsetting number ∷ rest) w.objects w.bindings number one_more g.bindings;
+          bindings = binding_unset d (standing w.objects) rest (Unsetting number ∷ rest) w.bindings number one_more g.bindings;
           sources = g.sources;
           held = g.held;
           floating = g.floating;
@@ -92,6 +92,7 @@ module _ {d : Definition} (number : ℕ) (t : First d (Unsetting number)) where
         };
         pool = subst (λ made. PeersGood d w.peers (length w.builder + made)) fewer g.peers;
         to_make = omega arith;
+        makes = omega arith;
         build = build_stays d w.builder (Unsetting number ∷ rest) rest rest (sym fewer) g.build;
         frozen = λ id. omega arith;
         lowest = λ id some. lowest_falls d id (Unsetting number) rest;

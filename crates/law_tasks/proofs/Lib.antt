@@ -10,6 +10,7 @@ pub mod Pairs
 pub mod Changed
 pub mod Validated
 pub mod Queued
+pub mod Holding
 pub mod SettingProofs
 pub mod Carried
 pub mod TransferringProofs

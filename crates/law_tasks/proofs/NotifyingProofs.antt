@@ -58,7 +58,7 @@ running_further d costs depths s k f steps frames g = record {
   b = g.b;
   in_block = g.in_block;
   inside = g.inside;
-  once = g.once;
+  few = g.few;
   counted = g.counted;
   ks = g.ks;
   fit = g.fit;
@@ -210,7 +210,7 @@ module _ {d : Definition} (id slot : ℕ) (t : First d (Notifying id slot)) wher
   }
 
   now_alike : Alike (task ∷ rest) later
-  now_alike = record { items = λ f. omega arith; unset = λ number. omega arith; request_step = omega arith; makes = omega arith; constructs = λ id. omega arith }
+  now_alike = record { items = λ f. omega arith; unset = λ number. omega arith; request_step = omega arith; makes = omega arith }
 
   as_later : AsFrozen d (task ∷ rest) later
   as_later = record {
@@ -234,6 +234,7 @@ module _ {d : Definition} (id slot : ℕ) (t : First d (Notifying id slot)) wher
         queues = λ id o is. queue_moved d (depths t) (most t) (task ∷ rest) later n (suc n) id o as_later (omega arith) (g.queues id o is);
         alive = refl;
         to_make = now_alike.items is_making;
+        makes = (let same = now_alike.makes in omega (arith, same));
         budget = total (turn_cost d (costs t) (view w) rest) turns + g.agenda.2;
         good = (
           total (turn_cost d (costs t) (view w) rest) turns,

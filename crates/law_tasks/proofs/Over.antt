@@ -84,7 +84,7 @@ other_end_is d a c number x p end = other_in d a.weighed.costs [] c [] d.binding
 -- ** depths
 
 module _ (d : Definition) (a : Accepted d) (w : World) (agenda below : List Task) (id place slot : ℕ) (stands : standing w.objects id ≡ Some place)
-    (bindings : BindingsGood d (standing w.objects) agenda w.objects w.bindings) (known : ChannelKnown d a (property place slot)) (frames : ℕ)
+    (bindings : BindingsGood d (standing w.objects) agenda w.bindings) (known : ChannelKnown d a (property place slot)) (frames : ℕ)
     (deep : due_depth d a.weighed.depths below (property place slot) ≤ frames) where
   abbrev c : Channel
   c = property place slot
@@ -117,7 +117,7 @@ module _ (d : Definition) (a : Accepted d) (w : World) (agenda below : List Task
           omega (arith, due, is, own, deep)
 
   -- over a pair
-  pair_deep : (b : Binding) (g : BindingGood d (standing w.objects) agenda w.objects b) → is_pair g.bind ≡ true → (same_channel (source_of g.bind) c ≡ true) ⊎ (same_channel (target_of g.bind) c ≡ true) →
+  pair_deep : (b : Binding) (g : BindingGood d (standing w.objects) agenda b) → is_pair g.bind ≡ true → (same_channel (source_of g.bind) c ≡ true) ⊎ (same_channel (target_of g.bind) c ≡ true) →
       (back : Bool) → other_of c g.bind ≡ cond back (source_of g.bind) (target_of g.bind) → 1 + transfer_depth d depths below back (Some g.bind) ≤ frames
   pair_deep b g pair end back other = go (is_setting_below d below (source_of g.bind)) refl
     where
@@ -158,7 +158,7 @@ module _ (d : Definition) (a : Accepted d) (w : World) (agenda below : List Task
           omega (arith, due, is, two, there, over, deep)
 
   -- one way
-  target_deep : (b : Binding) (g : BindingGood d (standing w.objects) agenda w.objects b) → is_pair g.bind ≡ false → is_source id slot b ≡ true → (back : Bool) →
+  target_deep : (b : Binding) (g : BindingGood d (standing w.objects) agenda b) → is_pair g.bind ≡ false → is_source id slot b ≡ true → (back : Bool) →
       1 + transfer_depth d depths below back (Some g.bind) ≤ frames
   target_deep b g one src back =
       let here = source_here d a.weighed.costs w below id place slot agenda w.objects stands words b g src in
@@ -172,10 +172,10 @@ module _ (d : Definition) (a : Accepted d) (w : World) (agenda below : List Task
 
   -- ** the turns
 
-  bidirectional : (b : Binding) (g : BindingGood d (standing w.objects) agenda w.objects b) → is_bidirectional b ≡ is_pair g.bind
+  bidirectional : (b : Binding) (g : BindingGood d (standing w.objects) agenda b) → is_bidirectional b ≡ is_pair g.bind
   bidirectional b g = ap (has_flags 1) g.slots.2
 
-  binding_deep : (b : Binding) (g : BindingGood d (standing w.objects) agenda w.objects b) → listens id slot b ≡ true → 1 + transfer_depth d depths below (goes_back id slot b) (Some g.bind) ≤ frames
+  binding_deep : (b : Binding) (g : BindingGood d (standing w.objects) agenda b) → listens id slot b ≡ true → 1 + transfer_depth d depths below (goes_back id slot b) (Some g.bind) ≤ frames
   binding_deep b g hears = of (is_pair g.bind) (is_source id slot b) (is_target id slot b) refl refl refl (ap (λ p. is_source id slot b || (p && is_target id slot b)) (sym (bidirectional b g)) ∙ hears)
     where
       of : (p s t : Bool) → is_pair g.bind ≡ p → is_source id slot b ≡ s → is_target id slot b ≡ t → (s || (p && t)) ≡ true → 1 + transfer_depth d depths below (goes_back id slot b) (Some g.bind) ≤ frames
@@ -191,7 +191,7 @@ module _ (d : Definition) (a : Accepted d) (w : World) (agenda below : List Task
           pair_deep b g pair (inr here) (goes_back id slot b) (rw (apart, src) refl)
       of true false false pair src tgt e = absurd (cc)
 
-  back_of_pair : (b : Binding) (g : BindingGood d (standing w.objects) agenda w.objects b) → listens id slot b ≡ true → GoesBack d b.number (goes_back id slot b)
+  back_of_pair : (b : Binding) (g : BindingGood d (standing w.objects) agenda b) → listens id slot b ≡ true → GoesBack d b.number (goes_back id slot b)
   back_of_pair b g hears back x is =
       let same : g.bind ≡ x = (let f = sym g.is ∙ is in cc) in
       subst (λ x. is_pair x ≡ true) same (by (is_source id slot b) (is_bidirectional b) refl refl)
@@ -205,7 +205,7 @@ module _ (d : Definition) (a : Accepted d) (w : World) (agenda below : List Task
   transfers_good e is =
       each_passing (λ turn. TurnGood d (view w) e turn × (1 + turn_depth d depths (view w) below turn ≤ frames)) (λ (b : Binding). config.transfer b.number (goes_back id slot b)) (listens id slot) w.bindings
       (λ b there hears.
-      (let g = each_in (BindingGood d (standing w.objects) agenda w.objects) w.bindings bindings.each b there in
+      (let g = each_in (BindingGood d (standing w.objects) agenda) w.bindings bindings.each b there in
       let found = finds_itself 0 w.bindings b bindings.rising there in
       let low = binding_deep b g hears in (
         (

@@ -1,11 +1,10 @@
--- A notification that waits: on a frozen object no pair is setting, so that what is due at a property costs its whole node.
+-- A notification that waits: while the builder makes an object no pair is setting, so that what is due at a property costs its whole node.
 use Rattle.std.proofs.Common.{◌≡◌, inl, inr, refl, sym, ap, subst, ◌∙◌, ℕ, suc, ◌+◌, ◌<◌, ◌≤◌, Bool, true, false, cond, List, [], ◌∷◌, Option, None, Some, slice_get, arith}
 use Rattle.std.specs.Prelude.{nat_eq, ◌&&◌, ◌⊎◌}
 use Rattle.std.proofs.lemmas.Bool.{eqb-true, eqb-false}
 use Rattle.ui_machine.specs.Seq.{total}
 use Rattle.ui_machine.specs.Definition.{Definition}
 use Rattle.ui_machine.specs.Definition.Places.{Bind}
-use Rattle.ui_machine.specs.State.Objects.{Object, Objects, living}
 use Rattle.ui_machine.specs.State.Bindings.{Binding}
 use Rattle.ui_machine.specs.State.Tasks.{Task, Setting, Notifying, Beginning, Emitting, Transferring, Unsetting, Thawing, Running, Answering, Calling, Constructing, Building, Handling, Due}
 use Rattle.law_typing.specs.Graph.{graph}
@@ -13,9 +12,10 @@ use Rattle.law_typing.specs.Graph.Channels.{Channel, property, is_pair, source_o
 use Rattle.law_typing.specs.Graph.Tables.{Tables, entry}
 use Rattle.law_typing.specs.Graph.Costs.{with_other, node_cost, other_end}
 use Rattle.law_typing.specs.Good.DueCosts.{unsets, has_end, is_setting_below, over_cost, due_cost, due_depth}
+use Rattle.law_typing.specs.Rules.Brackets.{has_pair}
 use Rattle.law_typing.specs.Good.Agenda.{frames}
 use Rattle.law_typing.specs.Good.Builds.{is_for_builder}
-use Rattle.law_typing.specs.Good.Freezes.{frozen_by, below_lowest, constructs_held, is_carrying_over, PairsGood}
+use Rattle.law_typing.specs.Good.Freezes.{frozen_by, below_lowest, is_carrying_over, PairsGood}
 use Rattle.law_typing.proofs.Lists.{both_parts, same_channel_true}
 use Rattle.law_static.proofs.PairCostProofs.{is_set_at}
 use Rattle.law_kept.proofs.WriteProofs.{pair_has}
@@ -25,27 +25,6 @@ use Rattle.law_kept.proofs.WriteProofs.{pair_has}
 total_less : (f g : Task → ℕ) → ((task : Task) → f task ≤ g task) → (tasks : List Task) → total f tasks ≤ total g tasks
 total_less f g less [] = omega arith
 total_less f g less (task ∷ tasks) = let a = less task in let b = total_less f g less tasks in omega (arith, a, b)
-
-held_is_for_builder : (id : ℕ) (task : Task) → constructs_held id task ≤ is_for_builder task
-held_is_for_builder id (Constructing object todo held) = go held (nat_eq object id)
-  where
-    go : (held same : Bool) → cond (held && same) 1 0 ≤ cond held 1 0
-    go true true = omega arith
-    go true false = omega arith
-    go false same = omega arith
-held_is_for_builder id (Setting object slot v) = omega arith
-held_is_for_builder id (Notifying object slot) = omega arith
-held_is_for_builder id (Beginning e) = omega arith
-held_is_for_builder id (Emitting e turns) = omega arith
-held_is_for_builder id (Transferring number back) = omega arith
-held_is_for_builder id (Unsetting number) = omega arith
-held_is_for_builder id (Thawing object slots) = omega arith
-held_is_for_builder id (Running frame) = omega arith
-held_is_for_builder id (Answering source) = omega arith
-held_is_for_builder id (Calling call) = omega arith
-held_is_for_builder id (Building items) = omega arith
-held_is_for_builder id (Handling request) = omega arith
-held_is_for_builder id (Due source) = omega arith
 
 unset_is_carried : (number : ℕ) (task : Task) → unsets number task ≤ is_carrying_over task
 unset_is_carried number (Unsetting n) = go (nat_eq n number)
@@ -128,7 +107,7 @@ module _ (d : Definition) (costs : Tables) (below : List Task) (c : Channel) whe
   pub depth_is_due : (depths : Tables) → is_setting_below d below c ≡ false → due_depth d depths below c ≡ entry depths.channels c
   depth_is_due depths e = rw e refl
 
--- ** a frozen object
+-- ** pairs that are setting
 
 same_place : (place at slot own : ℕ) → same_channel (property at own) (property place slot) ≡ true → place ≡ at
 same_place place at slot own e = let f = same_channel_true (property at own) (property place slot) e in (let s : at ≡ place = cc in sym s)
@@ -141,16 +120,20 @@ end_at place slot x e = go (same_channel (source_of x) (property place slot)) re
     go true t f = inl (same_place place x.source slot x.source_slot t)
     go false t f = inr (same_place place x.target slot x.target_slot f)
 
--- no pair of a frozen object is setting
-pub frozen_sets_none : (d : Definition) (costs : Tables) (task : Task) (rest : List Task) (os : Objects) (bs : List Binding) (id slot : ℕ) (o : Object) → PairsGood d (task ∷ rest) os bs → living os id ≡ Some o →
-    0 < o.freezes → is_setting_below d rest (property o.place slot) ≡ false
-frozen_sets_none d costs task rest os bs id slot o g lives frozen =
-    none_setting d costs rest (property o.place slot)
+-- while the builder makes an object no pair is setting
+pub making_sets_none : (d : Definition) (costs : Tables) (task : Task) (rest : List Task) (bs : List Binding) (place slot : ℕ) → PairsGood (task ∷ rest) bs →
+    0 < total is_for_builder (task ∷ rest) → is_setting_below d rest (property place slot) ≡ false
+making_sets_none d costs task rest bs place slot g making =
+    none_setting d costs rest (property place slot)
     (λ number x is pair end. (
-    let paired = pair_has d number x o.place is pair (end_at o.place slot x end) in
-    let some = g.frozen id o lives paired frozen in
-    let built = total_less (constructs_held id) is_for_builder (held_is_for_builder id) (task ∷ rest) in
-    let before = g.before (omega (arith, some, built)) in
-    let none = before.1 in
+    let none = (g.before making).1 in
     let fewer = total_less (unsets number) is_carrying_over (unset_is_carried number) rest in
     omega (arith, none, fewer)))
+
+-- what is setting at a property is a pair of its place
+pub setting_has : (d : Definition) (costs : Tables) (below : List Task) (place slot : ℕ) → is_setting_below d below (property place slot) ≡ true → has_pair d place ≡ true
+setting_has d costs below place slot e =
+    let found = is_set_at d costs below (property place slot) d.bindings 0 e in
+    let parts = both_parts (is_pair found.1 && has_end (property place slot) found.1) _ found.3 in
+    let of = both_parts (is_pair found.1) (has_end (property place slot) found.1) parts.0 in
+    pair_has d found.0 found.1 place found.2 of.0 (end_at place slot found.1 of.1)

@@ -126,7 +126,7 @@ module _ (d : Definition) (costs depths : Tables) (s : Standing) (up : Down) (f 
     b = g.b;
     in_block = g.in_block;
     inside = g.inside;
-    once = g.once;
+    few = g.few;
     counted = length_write None f.registers to (Some v) low ∙ g.counted;
     ks = write kinds.unset g.ks to (kinds.plain kind);
     fit = fit_written d s g.ks f.registers to (kinds.plain kind) (Some v) g.fit fit;
@@ -166,6 +166,7 @@ module _ {d : Definition} {task : Task} {f : Frame} {tasks : List Task} (x : Abo
         whole = whole_told (first x) later lines value e.alike;
         pool = pool_alike (first x) later e.alike;
         to_make = e.alike.items is_making;
+        makes = (let same = e.alike.makes in omega (arith, same));
         build = e.build (build_alike (first x) later e.alike);
         frozen = λ id. (let free = e.unfrozen id in let same = e.kept id in omega (arith, free, same));
         lowest = λ id some. (

@@ -1,5 +1,5 @@
 -- A due set: the value is refused, or written; and then it is notified at once, or waits in the queue of a frozen object, or nothing is raised.
-use Rattle.std.proofs.Common.{◌≡◌, refl, sym, ap, subst, ◌∙◌, ℕ, suc, ◌+◌, ◌<◌, ◌≤◌, Bool, true, false, List, [], ◌∷◌, ◌++◌, Option, None, Some, Ok, slice_get, arith}
+use Rattle.std.proofs.Common.{◌≡◌, refl, sym, ap, subst, ◌∙◌, ℕ, zero, suc, ◌+◌, ◌<◌, ◌≤◌, Bool, true, false, cond, List, [], ◌∷◌, ◌++◌, Option, None, Some, Ok, slice_get, arith}
 use Rattle.std.specs.Prelude.{nat_eq, slice_set, option_map, is_some, ◌||◌}
 use Rattle.std.proofs.lemmas.Bool.{eqb-false}
 use Rattle.ui_machine.specs.Seq.{total}
@@ -27,12 +27,13 @@ use Rattle.law_typing.specs.Graph.Channels as channels
 use Rattle.law_typing.specs.Graph.Costs.{node_cost}
 use Rattle.law_typing.specs.Graph.Tables.{entry}
 use Rattle.law_typing.specs.Laws.StepsKeepGood.{IsGood}
-use Rattle.law_typing.specs.Good.Standing.{standing, View, class_by, lives_by}
+use Rattle.law_typing.specs.Good.Standing.{standing, view, View, class_by, lives_by}
 use Rattle.law_typing.specs.Good.Objects.{ObjectsGood, ObjectGood}
 use Rattle.law_typing.specs.Good.ComingDown.{none}
 use Rattle.law_typing.specs.Good.Agenda.{AgendaGood}
+use Rattle.law_typing.specs.Good.Builds.{is_for_builder}
 use Rattle.law_typing.specs.Good.DueCosts.{is_setting_below, queued_cost}
-use Rattle.law_typing.specs.Good.Freezes.{below_lowest, QueueGood, QueuesGood, carried, is_due_source}
+use Rattle.law_typing.specs.Good.Freezes.{frozen_by, below_lowest, QueueGood, QueuesGood, carried, is_due_source}
 use Rattle.law_typing.proofs.Lists.{both_parts}
 use Rattle.law_kept.specs.Alike.{Alike}
 use Rattle.law_kept.specs.Write.{Whole, Kept}
@@ -41,14 +42,16 @@ use Rattle.law_kept.proofs.ChangesProofs.{value_is_like, queue_is_like, each_que
 use Rattle.law_kept.proofs.NewProofs.{at_place}
 use Rattle.law_kept.proofs.WriteProofs.{write_keeps, find_here}
 use Rattle.law_static.proofs.FitsProofs.{classes_agree}
+use Rattle.law_static.proofs.StartProofs.{queued_within, setting_in}
 use Rattle.law_instructions.proofs.Ended.{lowest_falls}
 use Rattle.law_instructions.proofs.NotifyProofs.{put_itself, sum_over, queued_more}
 use Rattle.law_instructions.proofs.ReadProofs.{spec_is}
 use Rattle.law_tasks.proofs.Changed.{AsFrozen, no_sets, queue_moved, queues_written, whole_said, changed_well}
 use Rattle.law_tasks.proofs.Done.{done}
-use Rattle.law_tasks.proofs.First.{First, none_later, fine_where, StepIsFine, fine_of, whole_was, pool_alike, build_alike, costs, depths, most}
+use Rattle.law_tasks.proofs.First.{First, none_later, fine_where, StepIsFine, fine_of, whole_was, pool_alike, build_alike, costs, depths, most, making}
 use Rattle.law_tasks.proofs.Lowest.{lowest_above}
-use Rattle.law_tasks.proofs.Queued.{lowest_stands, node_is_due, depth_is_due, frozen_sets_none}
+use Rattle.law_tasks.proofs.Queued.{lowest_stands, node_is_due, depth_is_due, making_sets_none, setting_has}
+use Rattle.law_tasks.proofs.Holding.{lowest_holds}
 use Rattle.law_tasks.proofs.Validated.{validated, kept_valid}
 use Rattle.law_tasks.specs.Setting.{DueSetsAreFine}
 
@@ -136,10 +139,10 @@ module _ {d : Definition} (id slot : ℕ) (v : Value) (t : First d (Setting id s
   task = Setting id slot v
 
   alike_rest : Alike (task ∷ rest) rest
-  alike_rest = record { items = λ f. omega arith; unset = λ number. omega arith; request_step = omega arith; makes = omega arith; constructs = λ id. omega arith }
+  alike_rest = record { items = λ f. omega arith; unset = λ number. omega arith; request_step = omega arith; makes = omega arith }
 
   alike_notifying : Alike (task ∷ rest) (Notifying id slot ∷ rest)
-  alike_notifying = record { items = λ f. omega arith; unset = λ number. omega arith; request_step = omega arith; makes = omega arith; constructs = λ id. omega arith }
+  alike_notifying = record { items = λ f. omega arith; unset = λ number. omega arith; request_step = omega arith; makes = omega arith }
 
   as_before : AsFrozen d (task ∷ rest) (task ∷ rest)
   as_before = record { frozen = λ id. refl; lowest = λ id some. omega arith }
@@ -180,8 +183,8 @@ module _ {d : Definition} (id slot : ℕ) (v : Value) (t : First d (Setting id s
     queues1 : (agenda : List Task) → AsFrozen d (task ∷ rest) agenda → QueuesGood d (depths t) (most t) agenda n w1.objects
     queues1 agenda same = queues_written d (depths t) (most t) (task ∷ rest) agenda n n w.objects id p.o o1 same (omega arith) p.lives g.queues (queue1 agenda same)
 
-    sum1 : total (carried d (costs t)) w1.objects ≡ total (carried d (costs t)) w.objects
-    sum1 = let sum = sum_over (carried d (costs t)) refl w.objects id p.o o1 p.lives in omega (arith, sum)
+    sum1 : total (carried d (costs t) (making t)) w1.objects ≡ total (carried d (costs t) (making t)) w.objects
+    sum1 = let sum = sum_over (carried d (costs t) (making t)) refl w.objects id p.o o1 p.lives in omega (arith, sum)
 
     -- nothing is raised
     silent_good : IsGood d a t.most_counted (record { world = w1; agenda = rest; counted = n })
@@ -195,6 +198,7 @@ module _ {d : Definition} (id slot : ℕ) (v : Value) (t : First d (Setting id s
           queues = queues1 rest as_rest;
           alive = kept1.alive;
           to_make = alike_rest.items is_making;
+          makes = (let same = alike_rest.makes in omega (arith, same));
           budget = g.agenda.2;
           good = subst (λ (v : View). AgendaGood d (costs t) (depths t) v (most t) none rest g.agenda.2) (sym kept1.seen) g.agenda.6;
           spent = (let sum = sum1 in omega (arith, sum));
@@ -212,6 +216,7 @@ module _ {d : Definition} (id slot : ℕ) (v : Value) (t : First d (Setting id s
           queues = queues1 (Notifying id slot ∷ rest) as_notifying;
           alive = kept1.alive;
           to_make = alike_notifying.items is_making;
+          makes = (let same = alike_notifying.makes in omega (arith, same));
           budget = g.agenda.0 + g.agenda.2;
           good = subst (λ (v : View). AgendaGood d (costs t) (depths t) v (most t) none (Notifying id slot ∷ rest) (g.agenda.0 + g.agenda.2)) (sym kept1.seen)
               (g.agenda.0, g.agenda.1, g.agenda.2, (tt, record { due = g.agenda.3.1.due; readable = readable }), g.agenda.4, omega arith, g.agenda.6);
@@ -232,22 +237,49 @@ module _ {d : Definition} (id slot : ℕ) (v : Value) (t : First d (Setting id s
       some_frozen : 0 < p.o.freezes
       some_frozen = let apart = eqb-false p.o.freezes 0 frozen in omega (arith, apart)
 
-      none_sets : is_setting_below d rest (property place slot) ≡ false
-      none_sets = subst (λ place. is_setting_below d rest (property place slot) ≡ false) p.at (frozen_sets_none d (costs t) task rest w.objects w.bindings id slot p.o g.pairs p.lives some_frozen)
+      -- what the notification carries is within what is due: its own part always, its node while the builder makes an object
+      cheap : queued_cost d (costs t) (making t) place slot ≤ g.agenda.0
+      cheap = go (nat_eq (making t) 0) refl
+        where
+          go : (b : Bool) → nat_eq (making t) 0 ≡ b → queued_cost d (costs t) (making t) place slot ≤ g.agenda.0
+          go true e =
+              let own = ap (λ b. cond b (entry (costs t).channels (property place slot)) (node_cost (graph d) (costs t) (property place slot))) e in
+              let due = g.agenda.3.1.due.cheap in
+              omega (arith, own, due)
+          go false e =
+              let some = eqb-false (making t) 0 e in
+              let none_sets = making_sets_none d (costs t) task rest w.bindings place slot g.pairs (omega (arith, some)) in
+              let same = node_is_due d (costs t) rest (property place slot) none_sets in
+              let within = queued_within d (costs t) (making t) place slot in
+              let due = g.agenda.3.1.due.cheap in
+              omega (arith, same, within, due)
 
-      cheap : node_cost (graph d) (costs t) (property place slot) ≤ g.agenda.0
-      cheap = let same = node_is_due d (costs t) rest (property place slot) none_sets in let due = g.agenda.3.1.due.cheap in omega (arith, same, due)
+      held_below : 0 < total (frozen_by d id) rest
+      held_below = let count = (g.queues id p.o p.lives).count in let some = some_frozen in omega (arith, count, some)
 
+      -- the frames of its notification are above the lowest bracket: the set itself has them, or where a pair is setting the thaw to come
       shallow : suc (below_lowest d id rest) + entry (depths t).channels (property p.o.place slot) ≤ most t
-      shallow =
-          let same = depth_is_due d (costs t) rest (property place slot) (depths t) none_sets in
-          let due = g.agenda.3.1.due.shallow in
-          let count = (g.queues id p.o p.lives).count in
-          let some = some_frozen in
-          let stands = lowest_stands d id rest (omega (arith, count, some)) in
-          let fits = g.agenda.4 in
-          let at = ap (λ place. entry (depths t).channels (property place slot)) p.at in
-          omega (arith, same, due, stands, fits, at)
+      shallow = go (is_setting_below d rest (property place slot)) refl
+        where
+          go : (b : Bool) → is_setting_below d rest (property place slot) ≡ b → suc (below_lowest d id rest) + entry (depths t).channels (property p.o.place slot) ≤ most t
+          go false none_sets =
+              let same = depth_is_due d (costs t) rest (property place slot) (depths t) none_sets in
+              let due = g.agenda.3.1.due.shallow in
+              let some = held_below in
+              let stands = lowest_stands d id rest some in
+              let fits = g.agenda.4 in
+              let at = ap (λ place. entry (depths t).channels (property place slot)) p.at in
+              omega (arith, same, due, stands, fits, at)
+          go true sets =
+              let none_made : total is_for_builder rest ≡ 0 = none_making (making t) refl sets in
+              let deep = lowest_holds d t.well a (view w) (most t) id place (property place slot) p.o.class (g.agenda.3.1.due.is) p.of_class (setting_in d a (costs t) rest place slot sets)
+              (setting_has d (costs t) rest place slot sets) none rest g.agenda.2 tt none_made held_below g.agenda.6 in
+              let at = ap (λ place. entry (depths t).channels (property place slot)) p.at in
+              omega (arith, deep, at)
+            where
+              none_making : (m : ℕ) → making t ≡ m → is_setting_below d rest (property place slot) ≡ true → total is_for_builder rest ≡ 0
+              none_making zero e sets = omega (arith, e)
+              none_making (suc m) e sets = absurd (let none = making_sets_none d (costs t) task rest w.bindings place slot g.pairs (omega (arith, e)) in cc)
 
       queue2 : QueueGood d (depths t) (most t) rest n id o2
       queue2 =
@@ -259,12 +291,12 @@ module _ {d : Definition} (id slot : ℕ) (v : Value) (t : First d (Setting id s
             deep = each_queued (λ slot. suc (below_lowest d id rest) + entry (depths t).channels (property p.o.place slot) ≤ most t) p.o.queue slot q.deep shallow;
           }
 
-      sum2 : total (carried d (costs t)) w2.objects ≤ total (carried d (costs t)) w.objects + node_cost (graph d) (costs t) (property place slot)
+      sum2 : total (carried d (costs t) (making t)) w2.objects ≤ total (carried d (costs t) (making t)) w.objects + queued_cost d (costs t) (making t) place slot
       sum2 =
           let first = sum1 in
-          let sum = sum_over (carried d (costs t)) refl w1.objects id o1 o2 lives1 in
-          let more = queued_more (λ slot. queued_cost d (costs t) p.o.place slot) p.o.queue slot in
-          let at = ap (λ place. node_cost (graph d) (costs t) (property place slot)) p.at in
+          let sum = sum_over (carried d (costs t) (making t)) refl w1.objects id o1 o2 lives1 in
+          let more = queued_more (λ slot. queued_cost d (costs t) (making t) p.o.place slot) p.o.queue slot in
+          let at = ap (λ place. queued_cost d (costs t) (making t) place slot) p.at in
           omega (arith, first, sum, more, at)
 
       queued_good : IsGood d a t.most_counted (record { world = w2; agenda = rest; counted = n })
@@ -278,6 +310,7 @@ module _ {d : Definition} (id slot : ℕ) (v : Value) (t : First d (Setting id s
             queues = queues_written d (depths t) (most t) (task ∷ rest) rest n n w1.objects id o1 o2 as_rest (omega arith) lives1 (queues1 (task ∷ rest) as_before) queue2;
             alive = kept2.alive ∙ kept1.alive;
             to_make = alike_rest.items is_making;
+            makes = (let same = alike_rest.makes in omega (arith, same));
             budget = g.agenda.2;
             good = subst (λ (v : View). AgendaGood d (costs t) (depths t) v (most t) none rest g.agenda.2) (sym (kept2.seen ∙ kept1.seen)) g.agenda.6;
             spent = (let sum = sum2 in let paid = cheap in omega (arith, sum, paid));

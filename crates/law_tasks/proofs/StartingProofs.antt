@@ -63,7 +63,7 @@ module _ {d : Definition} (number : ℕ) (t : First d (Due number)) where
       (ap (uncounted rest n) (sources_start d w number source g.agenda.3.2.1 ∙ b.leads (Answering number ∷ [])))
       (begins_above t program args (Some kinds.bool) b (Answering number)
       (record {
-        alike = record { items = λ f. refl; unset = λ number. refl; request_step = refl; makes = refl; constructs = λ id. refl };
+        alike = record { items = λ f. refl; unset = λ number. refl; request_step = refl; makes = refl };
         frozen = λ id. refl;
         no_set = refl;
         no_source = refl;
@@ -101,7 +101,7 @@ module _ {d : Definition} (id program : ℕ) (todo : List ConstructStep) (held :
       (ap (uncounted rest n) (b.leads (Constructing id todo held ∷ [])))
       (begins_above t program args None b (Constructing id todo held)
       (record {
-        alike = record { items = λ f. refl; unset = λ number. refl; request_step = refl; makes = refl; constructs = λ id. refl };
+        alike = record { items = λ f. refl; unset = λ number. refl; request_step = refl; makes = refl };
         frozen = λ id. refl;
         no_set = refl;
         no_source = refl;
@@ -115,7 +115,7 @@ module _ {d : Definition} (id program : ℕ) (todo : List ConstructStep) (held :
           g.agenda.2,
           (
             gives_none d b.p.result b.gives,
-            record { place = c.place; is = c.is; for_builder = c.for_builder; fits = c.fits.1; cheap = omega arith; shallow = c.shallow.1; one = c.one },
+            record { place = c.place; is = c.is; for_builder = c.for_builder; for_program = c.for_program; fits = c.fits.1; cheap = omega arith; shallow = c.shallow.1; one = c.one },
             g.agenda.3.2,
           ),
           g.agenda.4,

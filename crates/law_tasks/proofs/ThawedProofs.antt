@@ -1,5 +1,5 @@
 -- A construction thaws its object: what waited in the queue is due, above the rest of the construction.
-use Rattle.std.proofs.Common.{◌≡◌, refl, sym, ap, subst, ◌∙◌, ℕ, suc, ◌+◌, ◌-◌, ◌≤◌, Bool, true, false, cond, List, [], ◌∷◌, Option, Some, arith}
+use Rattle.std.proofs.Common.{◌≡◌, refl, sym, ap, subst, ◌∙◌, ℕ, suc, ◌+◌, ◌-◌, ◌<◌, ◌≤◌, Bool, true, false, cond, List, [], ◌∷◌, Option, Some, arith}
 use Rattle.std.specs.Prelude.{nat_eq, option_map}
 use Rattle.std.proofs.lemmas.Bool.{eq-eqb, eqb-true, eqb-false}
 use Rattle.ui_machine.specs.Seq.{total}
@@ -14,6 +14,9 @@ use Rattle.ui_machine.specs.State.Objects.{Object, living, put, changed}
 use Rattle.ui_machine.specs.State.Tasks.{ConstructStep, thaws, Task, Thawing, Constructing}
 use Rattle.ui_machine.specs.Steps.{uncounted}
 use Rattle.law_typing.specs.Graph.Channels.{property, spec_at, spec_if}
+use Rattle.law_typing.specs.Rules.Brackets.{has_pair}
+use Rattle.law_typing.specs.Graph.{graph}
+use Rattle.law_typing.specs.Graph.Costs.{with_other, node_cost}
 use Rattle.law_typing.specs.Graph.Tables.{entry}
 use Rattle.law_typing.specs.Verdict.Accepted.{Each}
 use Rattle.law_typing.specs.Laws.StepsKeepGood.{IsGood}
@@ -29,12 +32,12 @@ use Rattle.law_kept.proofs.AlikeProofs.{whole_stays}
 use Rattle.law_kept.proofs.ChangesProofs.{thaw_is_like}
 use Rattle.law_kept.proofs.Left.{each_to}
 use Rattle.law_kept.proofs.WriteProofs.{write_keeps, find_here, find_apart}
-use Rattle.law_static.proofs.StartProofs.{due_within}
+use Rattle.law_static.proofs.StartProofs.{due_within, queued_has, unpaired_alone}
 use Rattle.law_instructions.proofs.NotifyProofs.{sum_over}
 use Rattle.law_instructions.proofs.ThawProofs.{Thawed, thaw_leaves, thawing_good, less_is, each_two, total_at_most}
 use Rattle.law_tasks.proofs.BeginningProofs.{Placed, placed}
 use Rattle.law_tasks.proofs.Changed.{no_sets, changed_well}
-use Rattle.law_tasks.proofs.First.{First, StepIsFine, fine_where, fine_of, whole_was, pool_alike, build_alike, costs, depths, most}
+use Rattle.law_tasks.proofs.First.{First, StepIsFine, fine_where, fine_of, whole_was, pool_alike, build_alike, costs, depths, most, making}
 use Rattle.law_tasks.specs.Starting.{ConstructionsThaw}
 
 thaw_leads : (w : World) (id : ℕ) (todo : List ConstructStep) (held : Bool) (o : Object) (less : ℕ) → living w.objects id ≡ Some o → o.freezes ≡ suc less →
@@ -88,7 +91,7 @@ module _ {d : Definition} (id : ℕ) (todo : List ConstructStep) (held : Bool) (
   agenda = Thawing id slots ∷ next ∷ rest
 
   now_alike : Alike (task ∷ rest) agenda
-  now_alike = record { items = λ f. omega arith; unset = λ number. omega arith; request_step = omega arith; makes = omega arith; constructs = λ id. omega arith }
+  now_alike = record { items = λ f. omega arith; unset = λ number. omega arith; request_step = omega arith; makes = omega arith }
 
   kept : Kept d (costs t) (depths t) (task ∷ rest) w v
   kept = write_keeps d (costs t) (depths t) (task ∷ rest) w id o new p.lives (thaw_is_like d w id less o p.good count_is) (whole_was t)
@@ -145,12 +148,40 @@ module _ {d : Definition} (id : ℕ) (todo : List ConstructStep) (held : Bool) (
   abbrev deep : ℕ
   deep = most t - suc (frames rest)
 
-  cost_within : cost + carried d (costs t) (Some new) ≤ carried d (costs t) (Some o)
+  -- what waits carries what is due: the whole node while the builder makes an object, and what a program makes has no paired property
+  paid : (slot : ℕ) → due_cost d (costs t) (next ∷ rest) (property o.place slot) ≤ queued_cost d (costs t) (making t) o.place slot
+  paid slot = go held refl
+    where
+      within : due_cost d (costs t) (next ∷ rest) (property o.place slot) ≤ node_cost (graph d) (costs t) (property o.place slot)
+      within = (due_within d a (next ∷ rest) o.place slot).0
+
+      go : (b : Bool) → held ≡ b → due_cost d (costs t) (next ∷ rest) (property o.place slot) ≤ queued_cost d (costs t) (making t) o.place slot
+      go true e =
+          let one = ap {B = ℕ} (λ b. cond b 1 0) e in
+          let some : nat_eq (making t) 0 ≡ false = not_zero (making t) (omega (arith, one)) in
+          let node = ap (λ b. cond b (entry (costs t).channels (property o.place slot)) (node_cost (graph d) (costs t) (property o.place slot))) some in
+          let due = within in
+          omega (arith, node, due)
+        where
+          not_zero : (n : ℕ) → 0 < n → nat_eq n 0 ≡ false
+          not_zero n some = of (nat_eq n 0) refl
+            where
+              of : (b : Bool) → nat_eq n 0 ≡ b → b ≡ false
+              of true e = absurd (let none = eqb-true n 0 e in omega (arith, none, some))
+              of false e = refl
+      go false e =
+          let none = ap (has_pair d) p.at ∙ g.agenda.3.1.for_program e in
+          let alone = ap (with_other (costs t) (entry (costs t).channels (property o.place slot))) (unpaired_alone d o.place slot none) in
+          let has = queued_has d (costs t) (making t) o.place slot in
+          let due = within in
+          omega (arith, alone, has, due)
+
+  cost_within : cost + carried d (costs t) (making t) (Some new) ≤ carried d (costs t) (making t) (Some o)
   cost_within =
-      let whole = left_of.costs (λ slot. queued_cost d (costs t) o.place slot) in
+      let whole = left_of.costs (λ slot. queued_cost d (costs t) (making t) o.place slot) in
       let due =
-      total_at_most (λ slot. due_cost d (costs t) (next ∷ rest) (property o.place slot)) (λ slot. queued_cost d (costs t) o.place slot) slots (λ slot. (due_within d a (next ∷ rest) o.place slot).0) in
-      let placed = ap (λ place. total (λ slot. queued_cost d (costs t) place slot) new.queue) left_of.place in
+      total_at_most (λ slot. due_cost d (costs t) (next ∷ rest) (property o.place slot)) (λ slot. queued_cost d (costs t) (making t) o.place slot) slots paid in
+      let placed = ap (λ place. total (λ slot. queued_cost d (costs t) (making t) place slot) new.queue) left_of.place in
       omega (arith, whole, due, placed)
 
   shallow : less ≡ 0 → Each (λ slot. entry (depths t).channels (property o.place slot) ≤ deep) o.queue
@@ -189,6 +220,7 @@ module _ {d : Definition} (id : ℕ) (todo : List ConstructStep) (held : Bool) (
         queues = queues_good;
         alive = kept.alive;
         to_make = now_alike.items is_making;
+        makes = (let same = now_alike.makes in omega (arith, same));
         budget = cost + (g.agenda.0 + g.agenda.2);
         good = subst (λ (v : View). AgendaGood d (costs t) (depths t) v (most t) none agenda (cost + (g.agenda.0 + g.agenda.2))) (sym kept.seen) (
           cost,
@@ -201,13 +233,13 @@ module _ {d : Definition} (id : ℕ) (todo : List ConstructStep) (held : Bool) (
             g.agenda.0,
             g.agenda.1,
             g.agenda.2,
-            (tt, record { place = c.place; is = c.is; for_builder = c.for_builder; fits = c.fits.1; cheap = (let cheap = c.cheap in omega (arith, cheap)); shallow = c.shallow.1; one = c.one }, g.agenda.3.2),
+            (tt, record { place = c.place; is = c.is; for_builder = c.for_builder; for_program = c.for_program; fits = c.fits.1; cheap = (let cheap = c.cheap in omega (arith, cheap)); shallow = c.shallow.1; one = c.one }, g.agenda.3.2),
             g.agenda.4,
             omega arith,
             g.agenda.6,
           ),
         );
-        spent = (let sum = sum_over (carried d (costs t)) refl w.objects id o new p.lives in let within = cost_within in omega (arith, sum, within));
+        spent = (let sum = sum_over (carried d (costs t) (making t)) refl w.objects id o new p.lives in let within = cost_within in omega (arith, sum, within));
       })
 
 pub constructions_thaw : ConstructionsThaw

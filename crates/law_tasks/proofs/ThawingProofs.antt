@@ -38,7 +38,7 @@ module _ {d : Definition} (id slot : ℕ) (slots : List ℕ) (t : First d (Thawi
   later = Notifying id slot ∷ Thawing id slots ∷ rest
 
   now_alike : Alike (Thawing id (slot ∷ slots) ∷ rest) later
-  now_alike = record { items = λ f. omega arith; unset = λ number. omega arith; request_step = omega arith; makes = omega arith; constructs = λ id. omega arith }
+  now_alike = record { items = λ f. omega arith; unset = λ number. omega arith; request_step = omega arith; makes = omega arith }
 
   unset_same : (number : ℕ) → total (unsets number) (Thawing id slots ∷ rest) ≡ total (unsets number) rest
   unset_same number = omega arith
@@ -56,6 +56,7 @@ module _ {d : Definition} (id slot : ℕ) (slots : List ℕ) (t : First d (Thawi
         whole = whole_told t later w.transcript w.result now_alike;
         pool = pool_alike t later now_alike;
         to_make = now_alike.items is_making;
+        makes = (let same = now_alike.makes in omega (arith, same));
         build = build_alike t later now_alike;
         frozen = λ id. omega arith;
         lowest = λ x some. (
@@ -99,7 +100,7 @@ due_thaws_are_fine id [] = fine_of (λ d t. none_left d t)
         fine_where t (record { world = t.w; agenda = t.rest; counted = t.n }) refl
         (done t t.w.transcript t.w.result
         (record {
-          alike = record { items = λ f. omega arith; unset = λ number. omega arith; request_step = omega arith; makes = omega arith; constructs = λ id. omega arith };
+          alike = record { items = λ f. omega arith; unset = λ number. omega arith; request_step = omega arith; makes = omega arith };
           frozen = λ id. refl;
           build = λ build. build;
           good = t.g.agenda.6;

@@ -8,7 +8,6 @@ use Rattle.ui_machine.specs.Definition.Places.{Bind}
 use Rattle.ui_machine.specs.Rules.Build.{of_items}
 use Rattle.ui_machine.specs.Rules.Transfers.{transfer_for}
 use Rattle.ui_machine.specs.State.Bindings.{Binding, binding_of}
-use Rattle.ui_machine.specs.State.Objects.{Objects}
 use Rattle.ui_machine.specs.State.Config.{starts}
 use Rattle.ui_machine.specs.State.Tasks as config
 use Rattle.ui_machine.specs.State.Tasks.{Item, PlanEntry, Emission, Task, Emitting, Transferring}
@@ -31,16 +30,16 @@ use Rattle.law_tasks.proofs.Pairs.{source_end, not_setting}
 use Rattle.law_tasks.specs.Turns.{TransfersAreFine}
 
 -- the binding that a number finds is of that number, and good
-pub binding_found : (d : Definition) (s : Standing) (agenda : List Task) (os : Objects) (bs : List Binding) (number : ℕ) (b : Binding) → Each (BindingGood d s agenda os) bs → binding_of number bs ≡ Some b →
-    BindingGood d s agenda os b × (b.number ≡ number)
-binding_found d s agenda os [] number b all e = absurd (cc)
-binding_found d s agenda os (x ∷ bs) number b all e = go (nat_eq x.number number) refl (λ e. binding_found d s agenda os bs number b all.1 e)
+pub binding_found : (d : Definition) (s : Standing) (agenda : List Task) (bs : List Binding) (number : ℕ) (b : Binding) → Each (BindingGood d s agenda) bs → binding_of number bs ≡ Some b →
+    BindingGood d s agenda b × (b.number ≡ number)
+binding_found d s agenda [] number b all e = absurd (cc)
+binding_found d s agenda (x ∷ bs) number b all e = go (nat_eq x.number number) refl (λ e. binding_found d s agenda bs number b all.1 e)
   where
-    go : (t : Bool) → nat_eq x.number number ≡ t → (binding_of number bs ≡ Some b → BindingGood d s agenda os b × (b.number ≡ number)) → BindingGood d s agenda os b × (b.number ≡ number)
+    go : (t : Bool) → nat_eq x.number number ≡ t → (binding_of number bs ≡ Some b → BindingGood d s agenda b × (b.number ≡ number)) → BindingGood d s agenda b × (b.number ≡ number)
     go true t later =
         let f = sym (ap (λ t. cond t (Some x) (binding_of number bs)) t) ∙ e in
         let same : x ≡ b = cc in
-        (subst (BindingGood d s agenda os) same all.0, ap (λ (b : Binding). b.number) (sym same) ∙ eqb-true x.number number t)
+        (subst (BindingGood d s agenda) same all.0, ap (λ (b : Binding). b.number) (sym same) ∙ eqb-true x.number number t)
     go false t later = later (sym (ap (λ t. cond t (Some x) (binding_of number bs)) t) ∙ e)
 
 -- a transfer whose binding is not to be set free below costs its step
@@ -71,9 +70,8 @@ module _ {d : Definition} (e : Emission) (number : ℕ) (back : Bool) (turns : L
   made_same = omega arith
 
   module _ (b : Binding) (is : binding_of number w.bindings ≡ Some b) (still : b.busy ≡ false) where
-    pairs_later : PairsGood d later w.objects w.bindings
+    pairs_later : PairsGood later w.bindings
     pairs_later = record {
-      frozen = λ id o living pair some. (let old = g.pairs.frozen id o living pair some in omega (arith, old));
       before = λ some. absurd (let none = (g.pairs.before (omega (arith, some))).0 in let found = sym is ∙ ap (binding_of number) none in cc);
       one = (let old = g.pairs.one in omega (arith, old));
     }
@@ -81,7 +79,7 @@ module _ {d : Definition} (e : Emission) (number : ℕ) (back : Bool) (turns : L
     -- what sets is to be set free
     free : total (unsets number) rest ≡ 0
     free =
-        let good = binding_found d (standing w.objects) (Emitting e (config.transfer number back ∷ turns) ∷ rest) w.objects w.bindings number b g.bindings.each is in
+        let good = binding_found d (standing w.objects) (Emitting e (config.transfer number back ∷ turns) ∷ rest) w.bindings number b g.bindings.each is in
         let none = good.0.setting in
         let sets = ap {B = ℕ} (λ b. cond b 1 0) still in
         let same = ap (λ n. total (unsets n) rest) good.1 in
@@ -90,7 +88,7 @@ module _ {d : Definition} (e : Emission) (number : ℕ) (back : Bool) (turns : L
     -- the transfer of a binding that does not set is paid for
     counted_step : 1 ≤ turn_cost d (costs t) (view w) rest (config.transfer number back)
     counted_step =
-        let good = binding_found d (standing w.objects) (Emitting e (config.transfer number back ∷ turns) ∷ rest) w.objects w.bindings number b g.bindings.each is in
+        let good = binding_found d (standing w.objects) (Emitting e (config.transfer number back ∷ turns) ∷ rest) w.bindings number b g.bindings.each is in
         paid d a rest number back good.0.bind (sym (ap (slice_get d.bindings) good.1) ∙ good.0.is) free
 
     transfer_good : IsGood d a t.most_counted (record { world = w; agenda = later; counted = n })
@@ -103,7 +101,7 @@ module _ {d : Definition} (e : Emission) (number : ℕ) (back : Bool) (turns : L
           whole = record {
             objects = g.objects;
             handlers = handlers_moved d (costs t) (depths t) (Emitting e (config.transfer number back ∷ turns) ∷ rest) later items_same (standing w.objects) w.last_handler w.handlers g.handlers;
-            bindings = bindings_moved d (costs t) (depths t) (Emitting e (config.transfer number back ∷ turns) ∷ rest) later items_same unset_same (standing w.objects) w.objects w.bindings g.bindings;
+            bindings = bindings_moved d (costs t) (depths t) (Emitting e (config.transfer number back ∷ turns) ∷ rest) later items_same unset_same (standing w.objects) w.bindings g.bindings;
             sources = g.sources;
             held = g.held;
             floating = g.floating;
@@ -111,6 +109,7 @@ module _ {d : Definition} (e : Emission) (number : ℕ) (back : Bool) (turns : L
           };
           pool = subst (λ made. PeersGood d w.peers (length w.builder + made)) (sym made_same) g.peers;
           to_make = omega arith;
+          makes = omega arith;
           build = build_stays d w.builder (Emitting e (config.transfer number back ∷ turns) ∷ rest) later rest made_same g.build;
           frozen = λ id. omega arith;
           lowest = λ id some. (let above = lowest_above d id (Transferring number back) (Emitting e turns ∷ rest) (omega (arith, some)) in omega (arith, above));

@@ -126,7 +126,7 @@ record Way (d : Definition) (w : World) (b : Binding) (x : Bind) (back : Bool) :
   pub leads : Leads d (has_flags 4 x.flags) (channels.spec_at d from_place source.slot) (channels.spec_at d to_place target.slot)
   pub at : property to_place target.slot ≡ cond back (source_of x) (target_of x)
 
-way_of : (d : Definition) (w : World) (agenda : List Task) (b : Binding) (g : BindingGood d (standing w.objects) agenda w.objects b) (back : Bool) → word_of d g.bind ≡ None →
+way_of : (d : Definition) (w : World) (agenda : List Task) (b : Binding) (g : BindingGood d (standing w.objects) agenda b) (back : Bool) → word_of d g.bind ≡ None →
     (back ≡ true → is_pair g.bind ≡ true) → Way d w b g.bind back
 way_of d w agenda b g false word pair = record {
   source = source_end b;
@@ -173,9 +173,8 @@ module _ {d : Definition} (number : ℕ) (back : Bool) (t : First d (Transferrin
   as_rest : AsFrozen d (task ∷ rest) rest
   as_rest = record { frozen = λ id. omega arith; lowest = λ id some. lowest_falls d id task rest }
 
-  pairs_rest : PairsGood d rest w.objects w.bindings
+  pairs_rest : PairsGood rest w.bindings
   pairs_rest = record {
-    frozen = λ id o is pair some. (let old = g.pairs.frozen id o is pair some in omega (arith, old));
     before = λ some. (let old = g.pairs.before (omega (arith, some)) in let none = old.1 in (old.0, omega (arith, none)));
     one = (let old = g.pairs.one in omega (arith, old));
   }
@@ -187,7 +186,7 @@ module _ {d : Definition} (number : ℕ) (back : Bool) (t : First d (Transferrin
         whole = record {
           objects = g.objects;
           handlers = handlers_moved d (costs t) (depths t) (task ∷ rest) rest items_rest (standing w.objects) w.last_handler w.handlers g.handlers;
-          bindings = bindings_moved d (costs t) (depths t) (task ∷ rest) rest items_rest unset_rest (standing w.objects) w.objects w.bindings g.bindings;
+          bindings = bindings_moved d (costs t) (depths t) (task ∷ rest) rest items_rest unset_rest (standing w.objects) w.bindings g.bindings;
           sources = g.sources;
           held = g.held;
           floating = g.floating;
@@ -199,6 +198,7 @@ module _ {d : Definition} (number : ℕ) (back : Bool) (t : First d (Transferrin
         queues = λ id o is. queue_moved d (depths t) (most t) (task ∷ rest) rest n (suc n) id o as_rest (omega arith) (g.queues id o is);
         alive = refl;
         to_make = omega arith;
+        makes = omega arith;
         budget = g.agenda.2;
         good = g.agenda.6;
         spent = (let one = g.agenda.3.1.one in omega (arith, one));
@@ -209,7 +209,7 @@ module _ {d : Definition} (number : ℕ) (back : Bool) (t : First d (Transferrin
 
   -- ** a value is set
 
-  module _ (b : Binding) (found : binding_of number w.bindings ≡ Some b) (good : BindingGood d (standing w.objects) (task ∷ rest) w.objects b) (numbered : b.number ≡ number)
+  module _ (b : Binding) (found : binding_of number w.bindings ≡ Some b) (good : BindingGood d (standing w.objects) (task ∷ rest) b) (numbered : b.number ≡ number)
       (way : Way d w b good.bind back) (u : Value) where
     abbrev later : List Task
     later = Setting way.target.object way.target.slot u ∷ Unsetting number ∷ rest
@@ -236,9 +236,8 @@ module _ {d : Definition} (number : ℕ) (back : Bool) (t : First d (Transferrin
           omega (arith, first, second, was));
     }
 
-    pairs_later : PairsGood d later w.objects (with_busy number true w.bindings)
+    pairs_later : PairsGood later (with_busy number true w.bindings)
     pairs_later = record {
-      frozen = λ id o is pair some. (let old = g.pairs.frozen id o is pair some in omega (arith, old));
       before = λ some. absurd (let none = (g.pairs.before (omega (arith, some))).0 in let f = sym found ∙ ap (binding_of number) none in cc);
       one = (let old = g.pairs.one in omega (arith, old));
     }
@@ -268,7 +267,7 @@ module _ {d : Definition} (number : ℕ) (back : Bool) (t : First d (Transferrin
           whole = record {
             objects = objects_freed d w (with_busy number true w.bindings) g.objects;
             handlers = handlers_moved d (costs t) (depths t) (task ∷ rest) later items_later (standing w.objects) w.last_handler w.handlers g.handlers;
-            bindings = binding_sets d (standing w.objects) (task ∷ rest) later w.objects w.bindings number one_more (let none = due.free in omega (arith, none)) g.bindings;
+            bindings = binding_sets d (standing w.objects) (task ∷ rest) later w.bindings number one_more (let none = due.free in omega (arith, none)) g.bindings;
             sources = g.sources;
             held = g.held;
             floating = g.floating;
@@ -284,6 +283,7 @@ module _ {d : Definition} (number : ℕ) (back : Bool) (t : First d (Transferrin
           queues = λ id o is. queue_moved d (depths t) (most t) (task ∷ rest) later n (suc n) id o as_later (omega arith) (g.queues id o is);
           alive = refl;
           to_make = omega arith;
+          makes = omega arith;
           budget = cost + g.agenda.2;
           good = (
             cost,
@@ -306,7 +306,7 @@ module _ {d : Definition} (number : ℕ) (back : Bool) (t : First d (Transferrin
 
   -- ** what is carried over
 
-  module _ (b : Binding) (found : binding_of number w.bindings ≡ Some b) (good : BindingGood d (standing w.objects) (task ∷ rest) w.objects b) (numbered : b.number ≡ number) where
+  module _ (b : Binding) (found : binding_of number w.bindings ≡ Some b) (good : BindingGood d (standing w.objects) (task ∷ rest) b) (numbered : b.number ≡ number) where
     bind_here : slice_get d.bindings number ≡ Some good.bind
     bind_here = sym (ap (slice_get d.bindings) numbered) ∙ good.is
 
@@ -351,7 +351,7 @@ module _ {d : Definition} (number : ℕ) (back : Bool) (t : First d (Transferrin
   due_fine : (o : Option Binding) → binding_of number w.bindings ≡ o → StepIsFine t
   due_fine None is = idle_fine (ap (carried_by d w back) is)
   due_fine (Some b) is =
-      let good = binding_found d (standing w.objects) (task ∷ rest) w.objects w.bindings number b g.bindings.each is in transfer_fine b is good.0 good.1
+      let good = binding_found d (standing w.objects) (task ∷ rest) w.bindings number b g.bindings.each is in transfer_fine b is good.0 good.1
 
 pub due_transfers_are_fine : DueTransfersAreFine
 due_transfers_are_fine number back = fine_of (λ d t. due_fine number back t (binding_of number t.w.bindings) refl)

@@ -81,7 +81,7 @@ module _ {d : Definition} {e : Emission} {turn : PlanEntry} {turns : List PlanEn
   -- ** the turn is passed over
 
   past_alike : Alike (Emitting e (turn ∷ turns) ∷ rest) (Emitting e turns ∷ rest)
-  past_alike = record { items = λ f. refl; unset = λ number. refl; request_step = refl; makes = refl; constructs = λ id. refl }
+  past_alike = record { items = λ f. refl; unset = λ number. refl; request_step = refl; makes = refl }
 
   pub passed_over : IsGood d a t.most_counted (record { world = w; agenda = Emitting e turns ∷ rest; counted = n })
   passed_over =
@@ -92,6 +92,7 @@ module _ {d : Definition} {e : Emission} {turn : PlanEntry} {turns : List PlanEn
         whole = whole_told t (Emitting e turns ∷ rest) w.transcript w.result past_alike;
         pool = pool_alike t (Emitting e turns ∷ rest) past_alike;
         to_make = refl;
+        makes = omega arith;
         build = build_alike t (Emitting e turns ∷ rest) past_alike;
         frozen = λ id. refl;
         lowest = λ id some. omega arith;
@@ -153,7 +154,7 @@ module _ {d : Definition} {e : Emission} {turn : PlanEntry} {turns : List PlanEn
     begins_well =
         begins_above t program args g.agenda.3.fits.sig.result b (Emitting (staged cleanup) turns)
         (record {
-          alike = record { items = λ f. refl; unset = λ number. refl; request_step = refl; makes = refl; constructs = λ id. refl };
+          alike = record { items = λ f. refl; unset = λ number. refl; request_step = refl; makes = refl };
           frozen = λ id. refl;
           no_set = refl;
           no_source = refl;

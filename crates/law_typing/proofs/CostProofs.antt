@@ -9,14 +9,14 @@ use Rattle.ui_machine.specs.Definition.Lookups.{slot_of, place_at}
 use Rattle.ui_machine.specs.Rules.Connections.{signal_number}
 use Rattle.law_typing.specs.Rules.RegisterKinds.{Kinds, kind_in, class_at, covers, place_numbers, places}
 use Rattle.law_typing.specs.Graph.Channels.{Channel, property, signal, same_channel, is_channel}
-use Rattle.law_typing.specs.Graph.{Graph, Raised, Stretch, number_for, channel_for, channel_over, over}
+use Rattle.law_typing.specs.Graph.{Graph, Raised, Start, Stretch, number_for, channel_for, channel_over, over}
 use Rattle.law_typing.specs.Graph.Tables.{Table, entry, Tables, of_program, greatest}
 use Rattle.law_typing.specs.Graph.Ranks.{running_at}
-use Rattle.law_typing.specs.Graph.Costs.{other_end, with_other, node_cost, starts_cost, path_costs, program_cost, block_cost, programs_cost, channel_cost}
+use Rattle.law_typing.specs.Graph.Costs.{other_end, with_other, node_cost, starts_cost, before_last, only_last, stretch_cost, path_costs, program_cost, block_cost, programs_cost, channel_cost}
 use Rattle.law_typing.specs.Graph.Depths.{start_depth, depth_within, program_depth, property_depth, depth_at, channel_depth}
 use Rattle.law_typing.specs.Verdict.Accepted.{Each}
 use Rattle.law_typing.specs.Laws.{IsIn}
-use Rattle.law_typing.specs.Laws.Costs.{CostsSolved, DepthsSolved, EmissionsCover, PairsCover, StartsCover, CodeCovers, BlocksCover, SetsCover, EmitsCover, DepthsCover}
+use Rattle.law_typing.specs.Laws.Costs.{CostsSolved, DepthsSolved, EmissionsCover, PairsCover, StartsCover, CodeCovers, BlocksCover, PassesCover, SetsCover, EmitsCover, DepthsCover}
 use Rattle.law_typing.proofs.Lists.{filter_in, greatest_in, total_in}
 
 -- ** the equations, one by one
@@ -84,6 +84,19 @@ code_covers g t stretches s starts next = omega arith
 
 -- ** blocks
 
+both_totals : (g : Graph) (t : Tables) (starts : List Start) → starts_cost g t starts ≡ starts_cost g t (before_last starts) + starts_cost g t (only_last starts)
+both_totals g t [] = refl
+both_totals g t (s ∷ []) = omega arith
+both_totals g t (s ∷ r ∷ more) = let ih = both_totals g t (r ∷ more) in omega (arith, ih)
+
+one_pass_more : (n b l w : ℕ) → w ≡ b + l → suc n * b + l ≡ n * b + w
+one_pass_more n b l w e = grind (arith, e)
+
+pub passes_cover : PassesCover
+passes_cover g t s further e =
+    ap (λ n. n * starts_cost g t (before_last s.starts) + starts_cost g t (only_last s.starts)) e
+    ∙ one_pass_more further (starts_cost g t (before_last s.starts)) (starts_cost g t (only_last s.starts)) (starts_cost g t s.starts) (both_totals g t s.starts)
+
 greatest_le : {A : Type 0} (f g : A → ℕ) (xs : List A) → Each (λ x. f x ≤ g x) xs → greatest f xs ≤ greatest g xs
 greatest_le f g [] all = omega arith
 greatest_le f g (x ∷ xs) all = let h = all.0 in let t = greatest_le f g xs all.1 in omega (arith, h, t)
@@ -114,12 +127,12 @@ module _ (g : Graph) (t : Tables) where
       all)
 
   covered : (n i : ℕ) (stretches : List Stretch) (s : Stretch) → slice_get stretches i ≡ Some s → Each (λ to. n + i < to) s.next →
-      starts_cost g t s.starts + greatest (after n stretches) s.next ≤ read 0 (path_costs g t n stretches) i
+      stretch_cost g t s + greatest (after n stretches) s.next ≤ read 0 (path_costs g t n stretches) i
   covered n i [] s e all = absurd (cc)
   covered n zero (first ∷ more) s e all =
       let is : first ≡ s = cc in
       let most = past_first n 0 first more s.next all in
-      let whole = ap (λ (x : Stretch). starts_cost g t x.starts + greatest (λ to. read 0 (path_costs g t (suc n) more) (to - suc n)) x.next) is in
+      let whole = ap (λ (x : Stretch). stretch_cost g t x + greatest (λ to. read 0 (path_costs g t (suc n) more) (to - suc n)) x.next) is in
       omega (arith, most, whole)
   covered n (suc i) (first ∷ more) s e all =
       let most = past_first n (suc i) first more s.next all in

@@ -1,5 +1,5 @@
 -- The edges of a definition's graph lead to nodes of it.
-use Rattle.std.proofs.Common.{◌≡◌, inl, inr, refl, sym, ap, subst, ℕ, zero, suc, ◌+◌, ◌<◌, Bool, true, false, cond, List, [], ◌∷◌, ◌++◌, length, map, Option, None, Some, slice_get, arith}
+use Rattle.std.proofs.Common.{◌≡◌, inl, inr, refl, sym, ap, subst, ◌∙◌, ℕ, zero, suc, ◌+◌, ◌<◌, Bool, true, false, cond, List, [], ◌∷◌, ◌++◌, length, map, Option, None, Some, slice_get, arith}
 use Rattle.std.specs.Prelude.{◌&&◌, nat_lt}
 use Rattle.std.specs.List.{filter, filter_map, flat_map}
 use Rattle.std.proofs.lemmas.Bool.{ltb-true}
@@ -15,9 +15,9 @@ use Rattle.ui_machine.specs.Definition.Lookups.{class_of, specs_of, place_at, pl
 use Rattle.ui_machine.specs.Rules.Connections.{signal_number}
 use Rattle.law_typing.specs.Rules.RegisterKinds.{Kinds, kind_in, class_at, place_numbers, places}
 use Rattle.law_typing.specs.Rules.Typing.{after}
-use Rattle.law_typing.specs.Graph.Channels.{Channel, constructed, property, signal, same_channel, of_class, constructed_at, spec_if, spec_at, is_readable_one, signals_at, readable_from, signals_from, emitted_at, is_filled, channels_at, channels, is_channel, present}
+use Rattle.law_typing.specs.Graph.Channels.{Channel, constructed, property, signal, same_channel, of_class, constructed_at, spec_if, spec_at, is_readable_one, signals_at, readable_from, signals_from, emitted_at, is_filled, channels_at, channels, is_channel, present, readable_at, is_paired}
 use Rattle.law_typing.specs.Graph.Channels as causes
-use Rattle.law_typing.specs.Graph.{Raised, Stretch, graph, raised_at, set_from, makings_from, making_of, channel_over, over, start_of, starts_of, stretch_of, stretches_of, connections}
+use Rattle.law_typing.specs.Graph.{Raised, Stretch, graph, raised_at, set_from, makings_from, making_of, paired_at, channel_over, over, start_of, starts_of, stretch_of, stretches_of, connections}
 use Rattle.law_typing.specs.Rules.Sites.{sites}
 use Rattle.law_typing.specs.Graph.Ranks.{Arrow, arrow, arrows, arrows_by, arrows_from, is_raised, node, nodes, running_at, started, started_by}
 use Rattle.law_typing.specs.Verdict.Accepted.{Each}
@@ -85,6 +85,14 @@ module _ (d : Definition) (place : ℕ) where
       (readable_from place 0 (of_class (specs_of d) (class_at d place)) ++ emitted_at place (signals_at d place)) (constructed place)
       (subst (λ b. IsIn (constructed place) (cond b (constructed place ∷ []) [])) (sym r) (inl refl)))
 
+  -- a readable property of it is one of its readable ones
+  pub in_readable : (slot : ℕ) → is_readable_one (spec_at d place slot) ≡ true → IsIn (property place slot) (readable_at d place)
+  in_readable slot r = go (class_at d place) r
+    where
+      go : (o : Option ℕ) → is_readable_one (spec_if d slot o) ≡ true → IsIn (property place slot) (readable_from place 0 (of_class (specs_of d) o))
+      go None r = absurd (cc)
+      go (Some class) r = readable_in place 0 slot slot (specs_of d class) (omega arith) r
+
   property_in : (slot : ℕ) (o : Option ℕ) → class_at d place ≡ o → is_readable_one (spec_at d place slot) ≡ true → IsIn (property place slot) (channels d)
   property_in slot None e r = absurd (let n = ap (λ o. is_readable_one (spec_if d slot o)) e in cc)
   property_in slot (Some class) e r =
@@ -92,8 +100,7 @@ module _ (d : Definition) (place : ℕ) where
       (append_right (cond (is_filled (constructed_at d place)) (constructed place ∷ []) [])
       (readable_from place 0 (of_class (specs_of d) (class_at d place)) ++ emitted_at place (signals_at d place)) (property place slot)
       (append_left (readable_from place 0 (of_class (specs_of d) (class_at d place))) (emitted_at place (signals_at d place)) (property place slot)
-      (subst (λ o. IsIn (property place slot) (readable_from place 0 (of_class (specs_of d) o))) (sym e)
-      (readable_in place 0 slot slot (specs_of d class) (omega arith) (subst (λ o. is_readable_one (spec_if d slot o) ≡ true) e r)))))
+      (in_readable slot r)))
 
   signal_there : (number : ℕ) (o : Option ℕ) → class_at d place ≡ o → (nat_lt 0 number && nat_lt number (length (signals_at d place))) ≡ true →
       IsIn (signal place number) (channels d)
@@ -117,9 +124,45 @@ in_channels d (signal place number) e = signal_there d place number (class_at d 
 
 -- ** what is started is there
 
+-- what holds of each holds of each of those that pass a test
+each_kept : {A : Type 0} (P : A → Type 0) (test : A → Bool) (xs : List A) → Each P xs → Each P (filter test xs)
+each_kept P test [] all = tt
+each_kept {A} P test (x ∷ xs) all = by (test x) (each_kept P test xs all.1)
+  where
+    by : (b : Bool) → Each P (filter test xs) → Each P (cond b (x ∷ filter test xs) (filter test xs))
+    by true rest = (all.0, rest)
+    by false rest = rest
+
 module _ (d : Definition) where
   abbrev There : Channel → Type 0
   There c = is_channel d c ≡ true
+
+  readable_each : (place n : ℕ) (specs : List Spec) → ((i : ℕ) → spec_at d place (n + i) ≡ slice_get specs i) → Each There (readable_from place n specs)
+  readable_each place n [] at = tt
+  readable_each place n (s ∷ specs) at =
+      each_append There (cond (is_readable s) (property place n ∷ []) []) (readable_from place (suc n) specs) (go (is_readable s) refl)
+      (readable_each place (suc n) specs (λ i. (let e : suc n + i ≡ n + suc i = omega arith in ap (spec_at d place) e ∙ at (suc i))))
+    where
+      here : spec_at d place n ≡ Some s
+      here = let e : n ≡ n + 0 = omega arith in ap (spec_at d place) e ∙ at 0
+
+      go : (b : Bool) → is_readable s ≡ b → Each There (cond b (property place n ∷ []) [])
+      go true e = (ap is_readable_one here ∙ e, tt)
+      go false e = tt
+
+  specs_there : (place : ℕ) (o : Option ℕ) → class_at d place ≡ o → Each There (readable_from place 0 (of_class (specs_of d) o))
+  specs_there place None e = tt
+  specs_there place (Some class) e =
+      readable_each place 0 (specs_of d class) (λ i. (let z : 0 + i ≡ i = omega arith in ap (spec_at d place) z ∙ ap (spec_if d i) e))
+
+  pub readable_there : (place : ℕ) → Each There (readable_at d place)
+  readable_there place = specs_there place (class_at d place) refl
+
+  paired_there : (places : List ℕ) → Each There (flat_map (λ (cs : List Channel). cs) (map (paired_at d) places))
+  paired_there [] = tt
+  paired_there (place ∷ places) =
+      each_append There (paired_at d place) (flat_map (λ (cs : List Channel). cs) (map (paired_at d) places))
+      (each_kept There (is_paired d) (readable_at d place) (readable_there place)) (paired_there places)
 
   made_there : (place : ℕ) (ps : List Place) (n : ℕ) → Each There (read [] (makings_from d place ps) n)
   made_there place [] n = tt
@@ -138,6 +181,7 @@ module _ (d : Definition) where
   start_there ks (words.notify object name) = over_there (λ class. slot_of d class name) property (places d (kind_in ks object))
   start_there ks (words.emit into object name detail args) = over_there (λ class. signal_number d class name) signal (places d (kind_in ks object))
   start_there ks (words.new to id) = making_there (place_of d id)
+  start_there ks (words.thaw object) = paired_there (places d (kind_in ks object))
   start_there ks _ = tt
 
   starts_there : (p : Program) (ks : Kinds) (code : List Instruction) → Each There (flat_map started (starts_of d p ks code))

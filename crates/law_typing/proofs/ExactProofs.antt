@@ -8,7 +8,7 @@ use Rattle.law_typing.specs.Graph.Channels.{Entry, Link}
 use Rattle.law_typing.specs.Rules.Sites.{typing_faults}
 use Rattle.law_typing.specs.Rules.Handlers.{handler_faults}
 use Rattle.law_typing.specs.Rules.BindingRules.{binding_faults, pair_faults}
-use Rattle.law_typing.specs.Rules.Brackets.{freeze_faults, bracket_faults}
+use Rattle.law_typing.specs.Rules.Brackets.{bracket_faults}
 use Rattle.law_typing.specs.Graph.{Graph, graph}
 use Rattle.law_typing.specs.Graph.Tables.{Table, Tables}
 use Rattle.law_typing.specs.Graph.Ranks.{ranks, IsRanking, is_cycle}
@@ -70,11 +70,10 @@ no_two xs ys e f = ap (λ zs. zs ++ ys) e ∙ f
 
 no_faults : (d : Definition) → Accepted d → local_faults d ≡ []
 no_faults d a =
-    no_two (typing_faults d) (handler_faults d ++ (binding_faults d ++ (pair_faults d ++ (freeze_faults d ++ bracket_faults d)))) a.typed
-    (no_two (handler_faults d) (binding_faults d ++ (pair_faults d ++ (freeze_faults d ++ bracket_faults d))) a.handlers
-    (no_two (binding_faults d) (pair_faults d ++ (freeze_faults d ++ bracket_faults d)) a.bindings
-    (no_two (pair_faults d) (freeze_faults d ++ bracket_faults d) a.pairs
-    (no_two (freeze_faults d) (bracket_faults d) a.freezes a.brackets))))
+    no_two (typing_faults d) (handler_faults d ++ (binding_faults d ++ (pair_faults d ++ bracket_faults d))) a.typed
+    (no_two (handler_faults d) (binding_faults d ++ (pair_faults d ++ bracket_faults d)) a.handlers
+    (no_two (binding_faults d) (pair_faults d ++ bracket_faults d) a.bindings
+    (no_two (pair_faults d) (bracket_faults d) a.pairs a.brackets)))
 
 module _ (d : Definition) (g : Graph) (r : Table) (c p : Tables) where
   judged_by : ranks g ≡ Some r → costs g ≡ Some c → depths g ≡ Some p → too_large g c ≡ None → by_graph d g ≡ accepted (report d g r c p)
@@ -119,8 +118,8 @@ module _ (d : Definition) (g : Graph) (paired : IsPaired g) where
 pub cycle_is_real : CycleIsReal
 cycle_is_real d e =
     let n = no_fault d (local_faults d) e in
-    let a = both_empty (typing_faults d) (handler_faults d ++ (binding_faults d ++ (pair_faults d ++ (freeze_faults d ++ bracket_faults d)))) n.0 in
-    let b = both_empty (handler_faults d) (binding_faults d ++ (pair_faults d ++ (freeze_faults d ++ bracket_faults d))) a.1 in
-    let c = both_empty (binding_faults d) (pair_faults d ++ (freeze_faults d ++ bracket_faults d)) b.1 in
-    let p = both_empty (pair_faults d) (freeze_faults d ++ bracket_faults d) c.1 in
+    let a = both_empty (typing_faults d) (handler_faults d ++ (binding_faults d ++ (pair_faults d ++ bracket_faults d))) n.0 in
+    let b = both_empty (handler_faults d) (binding_faults d ++ (pair_faults d ++ bracket_faults d)) a.1 in
+    let c = both_empty (binding_faults d) (pair_faults d ++ bracket_faults d) b.1 in
+    let p = both_empty (pair_faults d) (bracket_faults d) c.1 in
     cycle_by d (graph d) (paired_by d c.0 p.0) (ranks (graph d)) refl n.1

@@ -9,7 +9,7 @@ use Rattle.law_typing.specs.Rules.Faults.{Fault}
 use Rattle.law_typing.specs.Rules.Sites.{typing_faults}
 use Rattle.law_typing.specs.Rules.Handlers.{handler_faults}
 use Rattle.law_typing.specs.Rules.BindingRules.{binding_faults, pair_faults}
-use Rattle.law_typing.specs.Rules.Brackets.{freeze_faults, bracket_faults}
+use Rattle.law_typing.specs.Rules.Brackets.{bracket_faults}
 use Rattle.law_typing.specs.Graph.{Graph, graph}
 use Rattle.law_typing.specs.Graph.Tables.{Table, Tables}
 use Rattle.law_typing.specs.Graph.Ranks.{ranks}
@@ -88,18 +88,16 @@ judged_is_accepted d lines inherits e =
     let n = no_faults d lines (local_faults d) e in
     let g = graph d in
     let told = by_ranking d g lines (ranks g) refl n.1 in
-    let a = both_empty (typing_faults d) (handler_faults d ++ (binding_faults d ++ (pair_faults d ++ (freeze_faults d ++ bracket_faults d)))) n.0 in
-    let b = both_empty (handler_faults d) (binding_faults d ++ (pair_faults d ++ (freeze_faults d ++ bracket_faults d))) a.1 in
-    let c = both_empty (binding_faults d) (pair_faults d ++ (freeze_faults d ++ bracket_faults d)) b.1 in
-    let p = both_empty (pair_faults d) (freeze_faults d ++ bracket_faults d) c.1 in
-    let f = both_empty (freeze_faults d) (bracket_faults d) p.1 in (
+    let a = both_empty (typing_faults d) (handler_faults d ++ (binding_faults d ++ (pair_faults d ++ bracket_faults d))) n.0 in
+    let b = both_empty (handler_faults d) (binding_faults d ++ (pair_faults d ++ bracket_faults d)) a.1 in
+    let c = both_empty (binding_faults d) (pair_faults d ++ bracket_faults d) b.1 in
+    let p = both_empty (pair_faults d) (bracket_faults d) c.1 in (
       record {
         typed = a.0;
         handlers = b.0;
         bindings = c.0;
         pairs = p.0;
-        freezes = f.0;
-        brackets = f.1;
+        brackets = p.1;
         acyclic = ranked_is_acyclic g told.weighed.ranks told.weighed.ranking;
         weighed = told.weighed;
         inherits = inherits;

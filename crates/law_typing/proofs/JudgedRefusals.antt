@@ -5,10 +5,10 @@ use Rattle.law_typing.specs.Examples.SetConstructOnly as setconstructonly_case
 use Rattle.law_typing.specs.Examples.UnfitHandler as unfithandler_case
 use Rattle.law_typing.specs.Examples.UnfitBinding as unfitbinding_case
 use Rattle.law_typing.specs.Examples.SecondPair as secondpair_case
-use Rattle.law_typing.specs.Examples.FrozenPair as frozenpair_case
 use Rattle.law_typing.specs.Examples.OpenFreeze as openfreeze_case
 use Rattle.law_typing.specs.Examples.LabelCycle as labelcycle_case
 use Rattle.law_typing.specs.Examples.TooLarge as toolarge_case
+use Rattle.law_typing.specs.Examples.UnfitPass as unfitpass_case
 
 pub setconstructonly_holds : setconstructonly_case.Holds
 unfolding data_in passing two_numbers two_passing moving reckoning comparing sameness negating combining joining converting property_of get_property changing_none set_property place_for look_up_object adopting arguments emitting program_named connecting on_handlers attaching methods_for method_named calling entering branching branching_null returning
@@ -26,10 +26,6 @@ pub secondpair_holds : secondpair_case.Holds
 unfolding data_in passing two_numbers two_passing moving reckoning comparing sameness negating combining joining converting property_of get_property changing_none set_property place_for look_up_object adopting arguments emitting program_named connecting on_handlers attaching methods_for method_named calling entering branching branching_null returning
 secondpair_holds = refl
 
-pub frozenpair_holds : frozenpair_case.Holds
-unfolding data_in passing two_numbers two_passing moving reckoning comparing sameness negating combining joining converting property_of get_property changing_none set_property place_for look_up_object adopting arguments emitting program_named connecting on_handlers attaching methods_for method_named calling entering branching branching_null returning
-frozenpair_holds = refl
-
 pub openfreeze_holds : openfreeze_case.Holds
 unfolding data_in passing two_numbers two_passing moving reckoning comparing sameness negating combining joining converting property_of get_property changing_none set_property place_for look_up_object adopting arguments emitting program_named connecting on_handlers attaching methods_for method_named calling entering branching branching_null returning
 openfreeze_holds = refl
@@ -41,3 +37,7 @@ labelcycle_holds = (refl, refl)
 pub toolarge_holds : toolarge_case.Holds
 unfolding data_in passing two_numbers two_passing moving reckoning comparing sameness negating combining joining converting property_of get_property changing_none set_property place_for look_up_object adopting arguments emitting program_named connecting on_handlers attaching methods_for method_named calling entering branching branching_null returning
 toolarge_holds = refl
+
+pub unfitpass_holds : unfitpass_case.Holds
+unfolding data_in passing two_numbers two_passing moving reckoning comparing sameness negating combining joining converting property_of get_property changing_none set_property place_for look_up_object adopting arguments emitting program_named connecting on_handlers attaching methods_for method_named calling entering branching branching_null returning
+unfitpass_holds = refl

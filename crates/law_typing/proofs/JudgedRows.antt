@@ -15,6 +15,8 @@ use Rattle.law_typing.specs.Examples.LabelsRenamed as stickers_case
 use Rattle.law_typing.specs.Examples.ClassHandlers as classhandlers_case
 use Rattle.law_typing.specs.Examples.Chain as chain_case
 use Rattle.law_typing.specs.Examples.AllParts as knobs_case
+use Rattle.law_typing.specs.Examples.RepeatedBlock as repeatedblock_case
+use Rattle.law_typing.specs.Examples.MostPasses as mostpasses_case
 
 pub firstrun_holds : firstrun_case.Holds
 unfolding digits data_in passing two_numbers two_passing moving reckoning comparing sameness negating combining joining converting property_of get_property changing_none set_property place_for look_up_object adopting arguments emitting program_named connecting on_handlers attaching methods_for method_named calling entering branching branching_null returning
@@ -67,3 +69,11 @@ chain_holds = refl
 pub knobs_holds : knobs_case.Holds
 unfolding digits data_in passing two_numbers two_passing moving reckoning comparing sameness negating combining joining converting property_of get_property changing_none set_property place_for look_up_object adopting arguments emitting program_named connecting on_handlers attaching methods_for method_named calling entering branching branching_null returning
 knobs_holds = refl
+
+pub repeatedblock_holds : repeatedblock_case.Holds
+unfolding digits data_in passing two_numbers two_passing moving reckoning comparing sameness negating combining joining converting property_of get_property changing_none set_property place_for look_up_object adopting arguments emitting program_named connecting on_handlers attaching methods_for method_named calling entering branching branching_null returning
+repeatedblock_holds = refl
+
+pub mostpasses_holds : mostpasses_case.Holds
+unfolding digits data_in passing two_numbers two_passing moving reckoning comparing sameness negating combining joining converting property_of get_property changing_none set_property place_for look_up_object adopting arguments emitting program_named connecting on_handlers attaching methods_for method_named calling entering branching branching_null returning
+mostpasses_holds = refl

@@ -62,7 +62,7 @@ first_run_value zero spec e = subst (ValueIf first_run.definition (standing firs
 first_run_value (suc n) spec e = absurd (cc)
 
 first_run_object : ObjectGood first_run.definition case.at_notification.world (standing first_run_os) 1 (case.box (case.int 5 ∷ []) 0 [])
-first_run_object = record { place = _; is = refl; class = refl; values = first_run_value; children = tt; parent = tt; queue = tt; peer = refl }
+first_run_object = record { place = _; is = refl; class = refl; values = first_run_value; children = tt; parent = tt; queue = tt; apart = refl; peer = refl }
 
 first_run_held : HeldGood (standing first_run_os) case.at_notification.world.builder
 first_run_held zero id e = subst (HeldAt (standing first_run_os) 0) e refl
@@ -93,7 +93,7 @@ first_run_good = record {
   held = first_run_held;
   floating = tt;
   sets = record { alone = refl; first = refl; held = λ h. absurd (omega (arith, h)) };
-  pairs = record { frozen = λ id o e paired h. absurd (cc); before = λ h. absurd (omega (arith, h)); one = omega arith };
+  pairs = record { before = λ h. absurd (omega (arith, h)); one = omega arith };
   budget = 1;
   agenda = (1, 1, 0, (tt, record { due = record { place = 0; is = refl; spec = _; has = refl; cheap = leb-true _ 1 refl; shallow = leb-true _ 1 refl }; readable = refl }), leb-true 1 1 refl, leb-true 1 1 refl, tt);
   queues = λ id x e. (let o = first_run_only id x e in
@@ -120,7 +120,7 @@ freezes_value (suc zero) spec e = subst (ValueIf freezes.definition (standing fr
 freezes_value (suc (suc n)) spec e = absurd (cc)
 
 freezes_object : ObjectGood freezes.definition case.at_freeze.world (standing freezes_os) 1 (case.box (case.int 1 ∷ case.int 0 ∷ []) 1 (0 ∷ []))
-freezes_object = record { place = _; is = refl; class = refl; values = freezes_value; children = tt; parent = tt; queue = ((_, refl, refl), tt); peer = refl }
+freezes_object = record { place = _; is = refl; class = refl; values = freezes_value; children = tt; parent = tt; queue = ((_, refl, refl), tt); apart = refl; peer = refl }
 
 freezes_held : HeldGood (standing freezes_os) case.at_freeze.world.builder
 freezes_held zero id e = subst (HeldAt (standing freezes_os) 0) e refl
@@ -156,7 +156,7 @@ freezes_good = record {
   held = freezes_held;
   floating = tt;
   sets = record { alone = refl; first = refl; held = λ h. absurd (omega (arith, h)) };
-  pairs = record { frozen = λ id o e paired h. absurd (cc); before = λ h. absurd (omega (arith, h)); one = omega arith };
+  pairs = record { before = λ h. absurd (omega (arith, h)); one = omega arith };
   budget = 8;
   agenda = (
     8,
@@ -170,7 +170,7 @@ freezes_good = record {
         b = _;
         in_block = refl;
         inside = leb-true 4 9 refl;
-        once = refl;
+        few = leb-true 1 1 refl;
         counted = refl;
         ks = kinds.some 2 ∷ kinds.plain (kinds.whole kinds.int) ∷ [];
         fit = registers_fit;

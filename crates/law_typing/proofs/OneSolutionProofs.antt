@@ -1,13 +1,13 @@
 -- The equations of ranks, costs and depths have one solution.
-use Rattle.std.proofs.Common.{◌≡◌, inl, inr, refl, sym, ap, subst, ◌∙◌, ℕ, zero, suc, ◌+◌, ◌-◌, ◌≤◌, ◌<◌, Bool, true, false, cond, List, [], ◌∷◌, ◌++◌, map, Option, None, Some, arith}
+use Rattle.std.proofs.Common.{◌≡◌, inl, inr, refl, sym, ap, subst, ◌∙◌, ℕ, zero, suc, ◌+◌, ◌-◌, ◌*◌, ◌≤◌, ◌<◌, Bool, true, false, cond, List, [], ◌∷◌, ◌++◌, map, Option, None, Some, arith}
 use Rattle.std.specs.List.{filter, flat_map, find}
 use Rattle.ui_machine.specs.Seq.{read, total}
 use Rattle.law_typing.specs.Graph.Channels.{Channel, constructed, property, signal, same_channel}
 use Rattle.law_typing.specs.Graph.Channels as causes
-use Rattle.law_typing.specs.Graph.{Graph, Raised, Start, nothing, raises, makes, Stretch}
+use Rattle.law_typing.specs.Graph.{Graph, Raised, Start, nothing, raises, makes, thaws, Stretch}
 use Rattle.law_typing.specs.Graph.Tables.{Table, entry, Tables, of_program, greatest}
 use Rattle.law_typing.specs.Graph.Ranks.{Arrow, arrow, arrows, arrows_by, arrows_from, is_raised, node, nodes, running_at, started, started_by, above, rank_by, IsRanking}
-use Rattle.law_typing.specs.Graph.Costs.{other_end, with_other, node_cost, start_cost, starts_cost, path_costs, program_cost, programs_cost, emission_cost, cost_at, channel_cost}
+use Rattle.law_typing.specs.Graph.Costs.{other_end, with_other, node_cost, start_cost, starts_cost, before_last, only_last, stretch_cost, path_costs, program_cost, programs_cost, emission_cost, cost_at, channel_cost}
 use Rattle.law_typing.specs.Graph.Depths.{deepest, raised_of, start_depth, program_depth, depth_within, depth_within_if, property_depth, depth_at, channel_depth}
 use Rattle.law_typing.specs.Laws.{IsIn}
 use Rattle.law_typing.specs.Laws.OneSolution.{IsPaired, OneRanking, OneCost, OneDepth}
@@ -258,21 +258,41 @@ module _ (g : Graph) (t u : Tables) where
   start_cost_same : (i : Start) → ((k : Channel) → IsIn k (started i) → SameNode g t u k) → start_cost g t i ≡ start_cost g u i
   start_cost_same nothing same = refl
   start_cost_same (raises cs) same = greatest_same (node_cost g t) (node_cost g u) cs (λ k h. node_cost_same k (same k h))
+  start_cost_same (thaws css) same =
+      greatest_same (λ cs. total (node_cost g t) cs) (λ cs. total (node_cost g u) cs) css
+      (λ cs h. total_same (node_cost g t) (node_cost g u) cs (λ k there. node_cost_same k (same k (flat_in (λ (cs : List Channel). cs) css cs k h there))))
   start_cost_same (makes cs) same = ap (λ n. 1 + n) (total_same (node_cost g t) (node_cost g u) cs (λ k h. node_cost_same k (same k h)))
 
   starts_cost_same : (starts : List Start) → ((i : Start) → IsIn i starts → (k : Channel) → IsIn k (started i) → SameNode g t u k) → starts_cost g t starts ≡ starts_cost g u starts
   starts_cost_same starts same =
       total_same (λ i. 1 + start_cost g t i) (λ i. 1 + start_cost g u i) starts (λ i h. ap (λ n. 1 + n) (start_cost_same i (same i h)))
 
+  before_in : (starts : List Start) (i : Start) → IsIn i (before_last starts) → IsIn i starts
+  before_in [] i h = h
+  before_in (s ∷ []) i h = absurd h
+  before_in (s ∷ r ∷ more) i (inl e) = inl e
+  before_in (s ∷ r ∷ more) i (inr h) = inr (before_in (r ∷ more) i h)
+
+  last_in : (starts : List Start) (i : Start) → IsIn i (only_last starts) → IsIn i starts
+  last_in [] i h = h
+  last_in (s ∷ []) i h = h
+  last_in (s ∷ r ∷ more) i h = inr (last_in (r ∷ more) i h)
+
+  stretch_cost_same : (s : Stretch) → ((i : Start) → IsIn i s.starts → (k : Channel) → IsIn k (started i) → SameNode g t u k) → stretch_cost g t s ≡ stretch_cost g u s
+  stretch_cost_same s same =
+      let before = starts_cost_same (before_last s.starts) (λ i h. same i (before_in s.starts i h)) in
+      let last = starts_cost_same (only_last s.starts) (λ i h. same i (last_in s.starts i h)) in
+      ap (λ n. s.passes * n + starts_cost g t (only_last s.starts)) before ∙ ap (λ n. s.passes * starts_cost g u (before_last s.starts) + n) last
+
   path_costs_same : (n : ℕ) (stretches : List Stretch) →
       ((s : Stretch) → IsIn s stretches → (i : Start) → IsIn i s.starts → (k : Channel) → IsIn k (started i) → SameNode g t u k) →
       path_costs g t n stretches ≡ path_costs g u n stretches
   path_costs_same n [] same = refl
   path_costs_same n (s ∷ more) same =
-      let here = starts_cost_same s.starts (same s (inl refl)) in
+      let here = stretch_cost_same s (same s (inl refl)) in
       let later = path_costs_same (suc n) more (λ x h. same x (inr h)) in
       ap (λ c. (c + greatest (λ to. read 0 (path_costs g t (suc n) more) (to - suc n)) s.next) ∷ path_costs g t (suc n) more) here
-      ∙ ap (λ (ls : List ℕ). (starts_cost g u s.starts + greatest (λ to. read 0 ls (to - suc n)) s.next) ∷ ls) later
+      ∙ ap (λ (ls : List ℕ). (stretch_cost g u s + greatest (λ to. read 0 ls (to - suc n)) s.next) ∷ ls) later
 
   pub program_cost_same : (stretches : List Stretch) →
       ((s : Stretch) → IsIn s stretches → (i : Start) → IsIn i s.starts → (k : Channel) → IsIn k (started i) → SameNode g t u k) →
@@ -321,6 +341,8 @@ module _ (g : Graph) (t u : Tables) where
   start_depth_same : (i : Start) → ((k : Channel) → IsIn k (started i) → SameNode g t u k) → start_depth t i ≡ start_depth u i
   start_depth_same nothing same = refl
   start_depth_same (raises cs) same = deepest_same cs same
+  start_depth_same (thaws css) same =
+      greatest_same (deepest t) (deepest u) css (λ cs h. deepest_same cs (λ k there. same k (flat_in (λ (cs : List Channel). cs) css cs k h there)))
   start_depth_same (makes cs) same = ap (λ n. 1 + n) (deepest_same cs same)
 
   pub program_depth_same : (stretches : List Stretch) →

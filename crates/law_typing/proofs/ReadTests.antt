@@ -13,7 +13,7 @@ use Rattle.ui_machine.specs.Rules.Validation.{is_valid}
 use Rattle.ui_machine.specs.Definition.Properties.{Spec, is_writable, is_construct, is_construct_only}
 use Rattle.ui_machine.specs.Definition.{Definition, Class}
 use Rattle.ui_machine.specs.Definition.Signals.{Signal, Shape, Method}
-use Rattle.ui_machine.specs.Definition.Programs.{Instruction, Block, Program, passes_in}
+use Rattle.ui_machine.specs.Definition.Programs.{Instruction, Block, Program}
 use Rattle.ui_machine.specs.Definition.Places.{Given, value, named, GivenProperty, Attached, Place, Bind}
 use Rattle.ui_machine.specs.Definition.Programs as words
 use Rattle.ui_machine.specs.Definition.Lookups.{type_of, spec_of, place_at}
@@ -23,7 +23,7 @@ use Rattle.law_typing.specs.Rules.RegisterKinds.{Kinds}
 use Rattle.law_typing.specs.Rules.Brackets.{written, is_empty}
 use Rattle.law_typing.specs.Graph.{next_of}
 use Rattle.law_typing.specs.Verdict.Inherits.{inherits}
-use Rattle.law_typing.specs.Laws.WellRead.{has_few_bits, no_class_of, no_two, is_range, has_values, result_has_values, ends, is_set, is_plain, objects_of}
+use Rattle.law_typing.specs.Laws.WellRead.{has_few_bits, no_class_of, no_two, is_range, has_values, result_has_values, ends, is_jump, is_set, is_plain, objects_of}
 use Rattle.law_typing.proofs.Numbered.{all_from}
 
 -- b holds wherever a does
@@ -118,6 +118,15 @@ is_ended [] = false
 is_ended (i ∷ []) = ends i
 is_ended (i ∷ j ∷ rest) = not (ends i) && is_ended (j ∷ rest)
 
+abbrev pub is_ended_by_jump : List Instruction → Bool
+is_ended_by_jump [] = false
+is_ended_by_jump (i ∷ []) = is_jump i
+is_ended_by_jump (i ∷ j ∷ rest) = is_ended_by_jump (j ∷ rest)
+
+abbrev pub is_repeat_read : Option ℕ → List Instruction → Bool
+is_repeat_read None code = true
+is_repeat_read (Some n) code = nat_lt 0 n && (nat_le n 65_535 && is_ended_by_jump code)
+
 abbrev pub is_constant_fit : Definition → Instruction → Bool
 is_constant_fit d (words.const to kind v) = kind_fits no_class_of d.types v kind
 is_constant_fit d (words.convert to a kind) = has_values d kind
@@ -130,7 +139,7 @@ is_within registers (Some r) = nat_lt r registers
 abbrev pub is_block_read : Definition → Program → ℕ → Block → Bool
 is_block_read d p number b =
     nat_eq (length b.entry) p.registers
-    && (nat_eq (passes_in b) 1
+    && (is_repeat_read b.repeat b.code
     && (is_ended b.code
     && (list_all (is_constant_fit d) b.code
     && (list_all (λ i. is_within p.registers (written i)) b.code

@@ -56,6 +56,7 @@ resting_as d costs depths w moment transcript result r = record {
     children = g.children;
     parent = g.parent;
     queue = g.queue;
+    apart = g.apart;
     peer = g.peer;
   });
   handlers = r.handlers;
@@ -78,7 +79,7 @@ rests d costs depths most_counted most c g ended =
     record {
       objects = g.objects;
       handlers = subst (λ ts. HandlersGood d costs depths (standing w.objects) ts w.last_handler w.handlers) none g.handlers;
-      bindings = subst (λ ts. BindingsGood d (standing w.objects) ts w.objects w.bindings) none g.bindings;
+      bindings = subst (λ ts. BindingsGood d (standing w.objects) ts w.bindings) none g.bindings;
       sources = g.sources;
       peers = (let all : length w.builder + total is_for_builder [] ≡ length w.builder = omega arith in
           subst (PeersGood d w.peers) all (subst (λ ts. PeersGood d w.peers (length w.builder + total is_for_builder ts)) none g.peers));

@@ -1,6 +1,6 @@
 -- What the tests find is so, and they find it of each worked definition.
 use Rattle.std.proofs.Common.{◌≡◌, inl, inr, ◌⊎◌, refl, sym, subst, ap, ◌∙◌, ℕ, zero, suc, ◌<◌, Bool, true, false, cond, List, [], ◌∷◌, ◌++◌, length, Option, None, Some, slice_get}
-use Rattle.std.specs.Prelude.{not, ◌&&◌, nat_eq, nat_lt, is_none, codes}
+use Rattle.std.specs.Prelude.{not, ◌&&◌, nat_eq, nat_lt, nat_le, is_none, codes}
 use Rattle.std.specs.List.{list_any, list_all, flat_map}
 use Rattle.std.proofs.lemmas.Bool.{and_from, leb-true, ltb-true, eqb-true}
 use Rattle.ui_machine.specs.Seq.{read}
@@ -27,7 +27,7 @@ use Rattle.law_typing.specs.Rules.RegisterKinds.{Kinds}
 use Rattle.law_typing.specs.Rules.Brackets.{written, is_empty}
 use Rattle.law_typing.specs.Graph.{next_of}
 use Rattle.law_typing.specs.Verdict.Accepted.{Each}
-use Rattle.law_typing.specs.Laws.WellRead.{SpecRead, HasNotify, TypesRead, Ends, ends, Within, ConstantFits, BlockRead, ProgramRead, GivenFits, GivenRead, IsObject, IsObjectIf, PlaceRead, WellRead}
+use Rattle.law_typing.specs.Laws.WellRead.{SpecRead, HasNotify, TypesRead, Ends, ends, Within, ConstantFits, EndsInJump, RepeatRead, BlockRead, ProgramRead, GivenFits, GivenRead, IsObject, IsObjectIf, PlaceRead, WellRead}
 use Rattle.law_typing.proofs.Lists.{both_parts, either_part}
 use Rattle.law_typing.proofs.Numbered.{all_from, all_from_get, all_from_read, all_from_below, all_get}
 use Rattle.law_typing.proofs.BuildBegins.{each_all}
@@ -299,6 +299,18 @@ ended [] e = absurd (cc)
 ended (i ∷ []) e = e
 ended (i ∷ j ∷ rest) e = let a = both_parts (not (ends i)) (tests.is_ended (j ∷ rest)) e in (not_true (ends i) a.0, ended (j ∷ rest) a.1)
 
+ended_by_jump : (code : List Instruction) → tests.is_ended_by_jump code ≡ true → EndsInJump code
+ended_by_jump [] e = absurd (cc)
+ended_by_jump (i ∷ []) e = e
+ended_by_jump (i ∷ j ∷ rest) e = ended_by_jump (j ∷ rest) e
+
+repeat_read : (o : Option ℕ) (code : List Instruction) → tests.is_repeat_read o code ≡ true → RepeatRead o code
+repeat_read None code e = tt
+repeat_read (Some n) code e =
+    let a = both_parts (nat_lt 0 n) (nat_le n 65_535 && tests.is_ended_by_jump code) e in
+    let b = both_parts (nat_le n 65_535) (tests.is_ended_by_jump code) a.1 in
+    (ltb-true 0 n a.0, leb-true n 65_535 b.0, ended_by_jump code b.1)
+
 constant_fits : (d : Definition) (i : Instruction) → tests.is_constant_fit d i ≡ true → ConstantFits d i
 constant_fits d (words.const to kind v) e = e
 constant_fits d (words.convert to a kind) e = e
@@ -317,7 +329,7 @@ block_read d p number b e =
     let v = both_parts _ _ u.1 in
     record {
       entry = eqb-true _ _ r.0;
-      once = eqb-true _ _ s.0;
+      repeat = repeat_read b.repeat b.code s.0;
       ends = ended b.code t.0;
       constants = each_all _ _ (constant_fits d) b.code u.0;
       written = each_all _ _ (λ i. within p.registers (written i)) b.code v.0;

@@ -18,4 +18,6 @@ worked_read = record {
   class_handlers = well_read _ refl;
   chain = well_read _ refl;
   knobs = well_read _ refl;
+  repeated_block = well_read _ refl;
+  most_passes = well_read _ refl;
 }

@@ -13,10 +13,12 @@ pub mod SetConstructOnly
 pub mod UnfitHandler
 pub mod UnfitBinding
 pub mod SecondPair
-pub mod FrozenPair
 pub mod OpenFreeze
 pub mod LabelCycle
 pub mod TooLarge
 pub mod LabelsRenamed
 pub mod LabelChain
 pub mod ClassHandlers
+pub mod RepeatedBlock
+pub mod MostPasses
+pub mod UnfitPass

@@ -36,7 +36,7 @@ pub record Good (d : Definition) (costs depths : Tables) (most_counted most : â„
   pub objects : ObjectsGood d c.world
   -- handlers, bindings and sources name what lives, and their programs take what they are given
   pub handlers : HandlersGood d costs depths (standing c.world.objects) c.agenda c.world.last_handler c.world.handlers
-  pub bindings : BindingsGood d (standing c.world.objects) c.agenda c.world.objects c.world.bindings
+  pub bindings : BindingsGood d (standing c.world.objects) c.agenda c.world.bindings
   pub sources : Each (SourceGood d (standing c.world.objects)) c.world.sources
   -- the peers of the pool are there for those that want them
   pub peers : PeersGood d c.world.peers (length c.world.builder + total is_for_builder c.agenda)
@@ -47,8 +47,8 @@ pub record Good (d : Definition) (costs depths : Tables) (most_counted most : â„
   pub floating : Each (Lives (standing c.world.objects)) c.world.floating
   -- a set is due only as the first task
   pub sets : SetsGood d c
-  -- a paired property stands frozen only before there are bindings
-  pub pairs : PairsGood d c.agenda c.world.objects c.world.bindings
+  -- while the builder makes an object there is no binding
+  pub pairs : PairsGood c.agenda c.world.bindings
   -- the agenda, and the steps that it may still take
   pub budget : â„•
   pub agenda : AgendaGood d costs depths (view c.world) most none c.agenda budget
@@ -57,7 +57,7 @@ pub record Good (d : Definition) (costs depths : Tables) (most_counted most : â„
   -- what lives and what the builder has still to make are no more than may live
   pub few : live c.world.objects + to_make c.agenda â‰¤ d.most_objects
   -- what was counted, what the agenda and the queues may still cost, and the finalisation of each object that lives or is still to be made
-  pub spent : c.counted + (budget + (total (carried d costs) c.world.objects + (live c.world.objects + to_make c.agenda))) â‰¤ most_counted
+  pub spent : c.counted + (budget + (total (carried d costs (total is_for_builder c.agenda)) c.world.objects + (live c.world.objects + to_make c.agenda))) â‰¤ most_counted
 
 -- ** between dispatches
 
@@ -67,7 +67,7 @@ pub record Resting (d : Definition) (costs depths : Tables) (w : World) : Type 0
   pub objects : ObjectsGood d w
   -- handlers, bindings and sources name what lives
   pub handlers : HandlersGood d costs depths (standing w.objects) [] w.last_handler w.handlers
-  pub bindings : BindingsGood d (standing w.objects) [] w.objects w.bindings
+  pub bindings : BindingsGood d (standing w.objects) [] w.bindings
   pub sources : Each (SourceGood d (standing w.objects)) w.sources
   -- the peers of the pool are there for those that want them
   pub peers : PeersGood d w.peers (length w.builder)

@@ -11,7 +11,7 @@ use Rattle.ui_machine.specs.Definition.Properties.{Spec, has_flags}
 use Rattle.ui_machine.specs.Definition.{Definition}
 use Rattle.ui_machine.specs.Definition.Signals.{Signal}
 use Rattle.ui_machine.specs.Definition.Places.{Attached, Place, Bind, GivenProperty}
-use Rattle.ui_machine.specs.Definition.Programs.{Instruction, Block, Program}
+use Rattle.ui_machine.specs.Definition.Programs.{Instruction, Block, Program, passes_in}
 use Rattle.ui_machine.specs.Definition.Programs as words
 use Rattle.ui_machine.specs.Definition.Lookups.{slot_of, specs_of, place_at, place_of, program_of}
 use Rattle.ui_machine.specs.Rules.EmissionPlan.{signal_of, class_handler_of}
@@ -20,7 +20,7 @@ use Rattle.ui_machine.specs.Rules.Connections.{signal_number}
 use Rattle.ui_machine.specs.Rules.Construction.{is_at_construction, is_forward}
 use Rattle.law_typing.specs.Rules.RegisterKinds.{Kinds, kind_in, class_at, places}
 use Rattle.law_typing.specs.Rules.Typing.{after}
-use Rattle.law_typing.specs.Graph.Channels.{Channel, constructed, property, signal, same_channel, of_class, constructed_at, channels, present, is_pair, source_of, target_of}
+use Rattle.law_typing.specs.Graph.Channels.{Channel, constructed, property, signal, same_channel, of_class, constructed_at, channels, present, readable_at, is_paired, is_pair, source_of, target_of}
 use Rattle.law_typing.specs.Rules.Sites.{Site, sites}
 
 -- what runs at a channel
@@ -37,10 +37,12 @@ pub data Start : Type 0 where
   nothing : Start
   raises : List Channel → Start  -- one of these
   makes : List Channel → Start  -- an object: its construction, and the notifications of its built properties
+  thaws : List (List Channel) → Start  -- all of one of these lists: what may wait in the queue of an object
 
 -- a block: what each instruction may start, and which blocks come next
 pub record Stretch : Type 0 where
   pub starts : List Start
+  pub passes : ℕ  -- how often those before the last are taken
   pub next : List ℕ
 
 pub record Graph : Type 0 where
@@ -211,6 +213,10 @@ abbrev pub making_of : Definition → Option ℕ → List Channel
 making_of d None = []
 making_of d (Some place) = read [] (makings_from d 0 d.places) place
 
+-- the paired properties of a place, which a thaw of its object may notify
+abbrev pub paired_at : Definition → ℕ → List Channel
+paired_at d place = filter (is_paired d) (readable_at d place)
+
 -- what an instruction may start
 abbrev pub start_of : Definition → Kinds → Instruction → Start
 start_of d ks (words.set object name from) = raises (over d (λ class. slot_of d class name) property (places d (kind_in ks object)))
@@ -218,6 +224,7 @@ start_of d ks (words.notify object name) = raises (over d (λ class. slot_of d c
 start_of d ks (words.emit into object name detail args) =
     raises (over d (λ class. signal_number d class name) signal (places d (kind_in ks object)))
 start_of d ks (words.new to id) = makes (making_of d (place_of d id))
+start_of d ks (words.thaw object) = thaws (map (paired_at d) (places d (kind_in ks object)))
 start_of d ks _ = nothing
 
 -- the blocks that an instruction may go to
@@ -234,7 +241,7 @@ starts_of d p ks (i ∷ rest) = start_of d ks i ∷ starts_of d p (after d p ks 
 
 -- a block's stretch
 abbrev pub stretch_of : Definition → Program → Block → Stretch
-stretch_of d p b = record { starts = starts_of d p b.entry b.code; next = flat_map next_of b.code }
+stretch_of d p b = record { starts = starts_of d p b.entry b.code; passes = passes_in b; next = flat_map next_of b.code }
 
 -- a program's stretches
 abbrev pub stretches_of : Definition → Program → List Stretch

@@ -11,7 +11,7 @@ use Rattle.law_typing.specs.Rules.Faults.{Fault, bound_too_large}
 use Rattle.law_typing.specs.Rules.Sites.{typing_faults}
 use Rattle.law_typing.specs.Rules.Handlers.{handler_faults}
 use Rattle.law_typing.specs.Rules.BindingRules.{binding_faults, pair_faults}
-use Rattle.law_typing.specs.Rules.Brackets.{freeze_faults, bracket_faults}
+use Rattle.law_typing.specs.Rules.Brackets.{bracket_faults}
 use Rattle.law_typing.specs.Graph.{Graph, Raised, graph}
 use Rattle.law_typing.specs.Graph.Tables.{Table, Tables}
 use Rattle.law_typing.specs.Graph.Ranks.{ranks}
@@ -27,7 +27,7 @@ pub data Verdict : Type 0 where
 -- all faults but cycles and bounds that are too large, phase by phase, each in document order
 abbrev pub local_faults : Definition → List Fault
 local_faults d =
-    typing_faults d ++ (handler_faults d ++ (binding_faults d ++ (pair_faults d ++ (freeze_faults d ++ bracket_faults d))))
+    typing_faults d ++ (handler_faults d ++ (binding_faults d ++ (pair_faults d ++ bracket_faults d)))
 
 -- ** bounds
 

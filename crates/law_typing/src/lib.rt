@@ -2,7 +2,7 @@
 #![tactic(auto)]
 
 ghost use Rattle.law_typing.specs.Laws.{RanksRise, EdgesLeadToNodes, RankedIsAcyclic, UnrankedHasCycle, JudgedIsAccepted, AcceptedIsJudged, CycleIsReal, NamesDoNotCount};
-ghost use Rattle.law_typing.specs.Laws.Costs.{CostsSolved, DepthsSolved, EmissionsCover, PairsCover, StartsCover, CodeCovers, BlocksCover, SetsCover, EmitsCover, DepthsCover};
+ghost use Rattle.law_typing.specs.Laws.Costs.{CostsSolved, DepthsSolved, EmissionsCover, PairsCover, StartsCover, CodeCovers, BlocksCover, PassesCover, SetsCover, EmitsCover, DepthsCover};
 ghost use Rattle.law_typing.specs.Laws.Beginnings.{WorkedBegin};
 ghost use Rattle.law_typing.specs.Laws.StepsKeepGood.{GoodIsWithin, EndsRest, TurnsRest};
 ghost use Rattle.law_typing.specs.Laws.MidRun.{MidRun};
@@ -25,12 +25,14 @@ ghost use Rattle.law_typing.specs.Examples.LabelChain as label_chain_case;
 ghost use Rattle.law_typing.specs.Examples.LabelsRenamed as stickers_case;
 ghost use Rattle.law_typing.specs.Examples.ClassHandlers as class_handlers_case;
 ghost use Rattle.law_typing.specs.Examples.Chain as chain_case;
+ghost use Rattle.law_typing.specs.Examples.RepeatedBlock as repeated_block_case;
+ghost use Rattle.law_typing.specs.Examples.MostPasses as most_passes_case;
+ghost use Rattle.law_typing.specs.Examples.UnfitPass as unfit_pass_case;
 ghost use Rattle.law_typing.specs.Examples.AllParts as knobs_case;
 ghost use Rattle.law_typing.specs.Examples.SetConstructOnly as set_construct_only_case;
 ghost use Rattle.law_typing.specs.Examples.UnfitHandler as unfit_handler_case;
 ghost use Rattle.law_typing.specs.Examples.UnfitBinding as unfit_binding_case;
 ghost use Rattle.law_typing.specs.Examples.SecondPair as second_pair_case;
-ghost use Rattle.law_typing.specs.Examples.FrozenPair as frozen_pair_case;
 ghost use Rattle.law_typing.specs.Examples.OpenFreeze as open_freeze_case;
 ghost use Rattle.law_typing.specs.Examples.LabelCycle as label_cycle_case;
 ghost use Rattle.law_typing.specs.Examples.TooLarge as too_large_case;
@@ -50,15 +52,17 @@ pub fn reports()
     ensures class_handlers { class_handlers_case.Holds }
     ensures chain { chain_case.Holds }
     ensures knobs { knobs_case.Holds }
+    ensures repeated_block { repeated_block_case.Holds }
+    ensures most_passes { most_passes_case.Holds }
 {}
 
 /// Definitions that are refused, one for each word of refusal.
 pub fn refusals()
     ensures set_construct_only { set_construct_only_case.Holds }
+    ensures unfit_pass { unfit_pass_case.Holds }
     ensures unfit_handler { unfit_handler_case.Holds }
     ensures unfit_binding { unfit_binding_case.Holds }
     ensures second_pair { second_pair_case.Holds }
-    ensures frozen_pair { frozen_pair_case.Holds }
     ensures open_freeze { open_freeze_case.Holds }
     ensures label_cycle { label_cycle_case.Holds }
     ensures too_large { too_large_case.Holds }
@@ -120,6 +124,7 @@ pub fn costs()
     ensures starts { StartsCover }
     ensures code { CodeCovers }
     ensures blocks { BlocksCover }
+    ensures passes { PassesCover }
     ensures sets { SetsCover }
     ensures emits { EmitsCover }
 {}

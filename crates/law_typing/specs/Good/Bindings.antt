@@ -1,19 +1,16 @@
 -- Bindings and sources that stand, and what the builder holds.
-use Rattle.std.specs.Prelude.{⊤, ◌≡◌, ◌⊎◌, ℕ, ◌+◌, ◌<◌, true, cond, List, length, Some, slice_get}
+use Rattle.std.specs.Prelude.{⊤, ◌≡◌, ℕ, ◌+◌, ◌<◌, true, cond, List, length, Some, slice_get}
 use Rattle.ui_machine.specs.Seq.{read, total}
 use Rattle.ui_machine.specs.Definition.Kinds as kinds
 use Rattle.ui_machine.specs.Definition.{Definition}
 use Rattle.ui_machine.specs.Definition.Places.{Bind}
 use Rattle.ui_machine.specs.Definition.Lookups.{program_at}
-use Rattle.ui_machine.specs.State.Objects.{Object, Objects}
 use Rattle.ui_machine.specs.State.Bindings.{Binding}
 use Rattle.ui_machine.specs.State.Sources.{Source}
 use Rattle.ui_machine.specs.State.Config.{BuilderEntry, unbuilt, built}
 use Rattle.ui_machine.specs.State.Tasks.{Item, binds, Task}
-use Rattle.ui_machine.specs.State.Objects as heap
 use Rattle.ui_machine.specs.Rules.Build.{of_items}
 use Rattle.law_typing.specs.Rules.Signatures.{is_taken_by, data_kinds}
-use Rattle.law_typing.specs.Graph.Channels.{is_pair}
 use Rattle.law_typing.specs.Graph.{graph}
 use Rattle.law_typing.specs.Verdict.Accepted.{Each}
 use Rattle.law_typing.specs.Laws.{IsIn}
@@ -23,15 +20,14 @@ use Rattle.law_typing.specs.Good.DueCosts.{unsets}
 use Rattle.law_typing.specs.Good.Handlers.{data_kind}
 
 -- a binding that stands: it is the definition's of that number, its ends live at their places, and it is setting just while it is to be
--- set free; the ends of a pair are not frozen
-pub record BindingGood (d : Definition) (s : Standing) (agenda : List Task) (os : Objects) (b : Binding) : Type 0 where
+-- set free
+pub record BindingGood (d : Definition) (s : Standing) (agenda : List Task) (b : Binding) : Type 0 where
   pub bind : Bind
   pub is : slice_get d.bindings b.number ≡ Some bind
   pub slots : (b.source_slot ≡ bind.source_slot) × (b.target_slot ≡ bind.target_slot) × (b.flags ≡ bind.flags)
   pub source : s b.source ≡ Some bind.source
   pub target : s b.target ≡ Some bind.target
   pub setting : total (unsets b.number) agenda ≡ cond b.busy 1 0
-  pub thawed : is_pair bind ≡ true → (o : Object) → (heap.living os b.source ≡ Some o) ⊎ (heap.living os b.target ≡ Some o) → o.freezes ≡ 0
 
 -- 1 where an item makes a binding
 abbrev pub is_binding : Item → ℕ
@@ -39,9 +35,9 @@ is_binding (binds number) = 1
 is_binding item = 0
 
 -- the bindings of a world
-pub record BindingsGood (d : Definition) (s : Standing) (agenda : List Task) (os : Objects) (bs : List Binding) : Type 0 where
+pub record BindingsGood (d : Definition) (s : Standing) (agenda : List Task) (bs : List Binding) : Type 0 where
   -- each is the definition's, between two objects of its places
-  pub each : Each (BindingGood d s agenda os) bs
+  pub each : Each (BindingGood d s agenda) bs
   -- their numbers rise
   pub rising : Rising (λ (b : Binding). b.number) 0 bs
   -- and are below the number of those that the build has made

@@ -13,6 +13,7 @@ use Rattle.ui_machine.specs.State.Tasks.{ConstructStep, sets, runs, thaws, Item,
 use Rattle.ui_machine.specs.Rules.Sets.{has_kind}
 use Rattle.ui_machine.specs.Rules.Build.{is_making, build_items}
 use Rattle.law_typing.specs.Rules.Signatures.{is_taken_by}
+use Rattle.law_typing.specs.Rules.Brackets.{has_pair}
 use Rattle.law_typing.specs.Graph.Channels.{property, spec_at}
 use Rattle.law_typing.specs.Graph.{graph}
 use Rattle.law_typing.specs.Graph.Tables.{Tables, entry, of_program}
@@ -51,6 +52,8 @@ pub record ConstructingGood (d : Definition) (costs depths : Tables) (w : View) 
   pub is : w.stands id ≡ Some place
   -- what the builder makes is of the place that it comes to next
   pub for_builder : held ≡ true → place ≡ length w.builder
+  -- what a program makes has no paired property
+  pub for_program : held ≡ false → has_pair d place ≡ false
   pub fits : Each (MakingGood d w.stands w.builder place) todo
   pub cheap : total (step_cost d costs place) todo ≤ steps
   pub shallow : Each (λ m. 1 + step_depth depths place m ≤ frames) todo

@@ -87,6 +87,8 @@ turn_depth d depths w below (handler number) = of (handler_of number w.handlers)
     of (Some h) = of_program depths h.program
 turn_depth d depths w below (config.transfer number back) = transfer_depth d depths below back (slice_get d.bindings number)
 
--- what a queued notification may still cost: its node
-abbrev pub queued_cost : Definition → Tables → (place slot : ℕ) → ℕ
-queued_cost d costs place slot = node_cost (graph d) costs (property place slot)
+-- What a queued notification carries of what it may cost, where the builder is making so many objects. While it makes one the whole node:
+-- then nothing goes over a pair. Later the channel's own part alone: the thaw pays for the node of each paired property.
+abbrev pub queued_cost : Definition → Tables → (making : ℕ) → (place slot : ℕ) → ℕ
+queued_cost d costs making place slot =
+    cond (nat_eq making 0) (entry costs.channels (property place slot)) (node_cost (graph d) costs (property place slot))

@@ -1,5 +1,5 @@
 -- Freezes, and what waits in the queues.
-use Rattle.std.specs.Prelude.{◌≡◌, ℕ, suc, ◌+◌, ◌≤◌, ◌<◌, true, cond, ◌&&◌, nat_eq, List, [], ◌∷◌, drop, Option, None, Some}
+use Rattle.std.specs.Prelude.{◌≡◌, ℕ, suc, ◌+◌, ◌≤◌, ◌<◌, cond, nat_eq, List, [], ◌∷◌, drop, Option, None, Some}
 use Rattle.ui_machine.specs.Seq.{read, total}
 use Rattle.ui_machine.specs.Definition.Values.{Value}
 use Rattle.ui_machine.specs.Definition.Values as values
@@ -11,7 +11,7 @@ use Rattle.ui_machine.specs.State.Config.{Config}
 use Rattle.ui_machine.specs.State.References.{next_unheld, mentions}
 use Rattle.ui_machine.specs.State.Objects as heap
 use Rattle.law_typing.specs.Graph.Channels.{property}
-use Rattle.law_typing.specs.Rules.Brackets.{opened, has_pair}
+use Rattle.law_typing.specs.Rules.Brackets.{opened}
 use Rattle.law_typing.specs.Graph.Tables.{Tables, entry}
 use Rattle.law_typing.specs.Verdict.Accepted.{Each}
 use Rattle.law_typing.specs.Good.DueCosts.{queued_cost}
@@ -55,17 +55,12 @@ abbrev pub QueuesGood : Definition → Tables → ℕ → List Task → ℕ → 
 QueuesGood d depths most agenda counted os = (id : ℕ) (o : Object) → heap.living os id ≡ Some o →
     QueueGood d depths most agenda counted id o
 
--- what the queued notifications of an object may still cost
-abbrev pub carried : Definition → Tables → Option Object → ℕ
-carried d costs None = 0
-carried d costs (Some o) = total (λ slot. queued_cost d costs o.place slot) o.queue
+-- what the queued notifications of an object carry of what they may still cost
+abbrev pub carried : Definition → Tables → (making : ℕ) → Option Object → ℕ
+carried d costs making None = 0
+carried d costs making (Some o) = total (λ slot. queued_cost d costs making o.place slot) o.queue
 
--- ** pairs
-
--- 1 where the builder's construction of an object is under way
-abbrev pub constructs_held : ℕ → Task → ℕ
-constructs_held id (Constructing object todo held) = cond (held && nat_eq object id) 1 0
-constructs_held id task = 0
+-- ** objects before bindings
 
 -- 1 where a binding's transfer is due, or the binding is to be set free
 abbrev pub is_carrying_over : Task → ℕ
@@ -73,11 +68,8 @@ is_carrying_over (Transferring number back) = 1
 is_carrying_over (Unsetting number) = 1
 is_carrying_over task = 0
 
-pub record PairsGood (d : Definition) (agenda : List Task) (os : Objects) (bs : List Binding) : Type 0 where
-  -- an object with a paired property is frozen only while the builder makes it
-  pub frozen : (id : ℕ) (o : Object) → heap.living os id ≡ Some o → has_pair d o.place ≡ true → 0 < o.freezes →
-      0 < total (constructs_held id) agenda
-  -- while the builder makes one there is no binding, and no transfer is under way
+pub record PairsGood (agenda : List Task) (bs : List Binding) : Type 0 where
+  -- while the builder makes an object there is no binding, and no transfer is under way
   pub before : 0 < total is_for_builder agenda → (bs ≡ []) × (total is_carrying_over agenda ≡ 0)
   -- it makes one at a time
   pub one : total is_for_builder agenda ≤ 1

@@ -1,5 +1,5 @@
 -- Living objects, and the peers of the pool.
-use Rattle.std.specs.Prelude.{◌≡◌, ℕ, ◌≤◌, ⊤, true, false, cond, List, [], Option, None, Some, slice_get}
+use Rattle.std.specs.Prelude.{◌≡◌, ℕ, ◌≤◌, ⊤, true, false, cond, nat_eq, List, [], Option, None, Some, slice_get}
 use Rattle.ui_machine.specs.Definition.Values.{Value}
 use Rattle.ui_machine.specs.Rules.Validation.{is_valid}
 use Rattle.ui_machine.specs.Definition.Properties.{Spec, is_readable}
@@ -14,6 +14,7 @@ use Rattle.ui_machine.specs.State.Objects as heap
 use Rattle.ui_machine.specs.Rules.Construction.{nearest_shape}
 use Rattle.law_typing.specs.Verdict.Accepted.{Each}
 use Rattle.law_typing.specs.Laws.{IsIn}
+use Rattle.law_typing.specs.Laws.WellRead.{no_two}
 use Rattle.law_typing.specs.Good.Standing.{Standing, standing, Lives, class_by}
 
 -- ** objects
@@ -53,8 +54,9 @@ pub record ObjectGood (d : Definition) (w : World) (s : Standing) (id : ℕ) (o 
   -- its children live, and its parent knows it
   pub children : Each (Lives s) o.children
   pub parent : FamilyGood w.objects id o.parent
-  -- only readable properties are queued
+  -- only readable properties are queued, each once
   pub queue : Each (λ slot. (spec : Spec) × (spec_of d o.class slot ≡ Some spec) × (is_readable spec ≡ true)) o.queue
+  pub apart : no_two nat_eq o.queue ≡ true
   -- its peer is its own, and closed where it is disposed
   pub peer : PeerGood d w.peers id o
 

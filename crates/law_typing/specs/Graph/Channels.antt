@@ -81,6 +81,10 @@ abbrev pub readable_from : (place slot : ℕ) → List Spec → List Channel
 readable_from place slot [] = []
 readable_from place slot (s ∷ specs) = cond (is_readable s) (property place slot ∷ []) [] ++ readable_from place (suc slot) specs
 
+-- the readable properties of a place
+abbrev pub readable_at : Definition → ℕ → List Channel
+readable_at d place = readable_from place 0 (of_class (specs_of d) (class_at d place))
+
 -- one channel for each of some signals, where the first has this number
 abbrev pub signals_from : (place number : ℕ) → List Signal → List Channel
 signals_from place number [] = []
@@ -100,7 +104,7 @@ is_filled (x ∷ xs) = true
 abbrev pub channels_at : Definition → ℕ → List Channel
 channels_at d place =
     cond (is_filled (constructed_at d place)) (constructed place ∷ []) []
-    ++ (readable_from place 0 (of_class (specs_of d) (class_at d place)) ++ emitted_at place (signals_at d place))
+    ++ (readable_at d place ++ emitted_at place (signals_at d place))
 
 -- all channels, in the order of the report
 abbrev pub channels : Definition → List Channel

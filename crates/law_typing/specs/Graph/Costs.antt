@@ -4,7 +4,7 @@ use Rattle.std.specs.Prelude.{◌≡◌, ℕ, suc, ◌+◌, ◌*◌, ◌-◌, co
 use Rattle.ui_machine.specs.Seq.{read, total}
 use Rattle.law_typing.specs.Graph.Channels.{Channel, same_channel, constructed, property, signal, Entry}
 use Rattle.law_typing.specs.Graph.Channels as entries
-use Rattle.law_typing.specs.Graph.{Graph, Raised, Start, nothing, raises, makes, Stretch}
+use Rattle.law_typing.specs.Graph.{Graph, Raised, Start, nothing, raises, makes, thaws, Stretch}
 use Rattle.law_typing.specs.Graph.Tables.{entry, Tables, of_program, greatest, same_tables, settled}
 
 -- ** nodes
@@ -30,19 +30,40 @@ node_cost g t c = with_other t (entry t.channels c) (other_end g c)
 -- ** programs
 
 -- what an instruction may start costs, beside the instruction itself: the costliest channel; for a new object its finalisation, its
--- construction and its notifications
+-- construction and its notifications; for a thaw the costliest of the lists, each channel with its node
 abbrev pub start_cost : Graph → Tables → Start → ℕ
 start_cost g t nothing = 0
 start_cost g t (raises cs) = greatest (node_cost g t) cs
 start_cost g t (makes cs) = 1 + total (node_cost g t) cs
+start_cost g t (thaws css) = greatest (λ cs. total (node_cost g t) cs) css
 
 -- each instruction of a block, with what it may start
 abbrev pub starts_cost : Graph → Tables → List Start → ℕ
 starts_cost g t starts = total (λ s. 1 + start_cost g t s) starts
 
+-- what comes before the last of some
+abbrev pub before_last : {A : Type 0} → List A → List A
+before_last [] = []
+before_last (x ∷ []) = []
+before_last (x ∷ y ∷ more) = x ∷ before_last (y ∷ more)
+
+-- the last of some, as a list of one; none of none
+abbrev pub only_last : {A : Type 0} → List A → List A
+only_last [] = []
+only_last (x ∷ []) = x ∷ []
+only_last (x ∷ y ∷ more) = only_last (y ∷ more)
+
+-- what so many passes over a block's instructions before its last one cost
+abbrev pub passes_cost : Graph → Tables → ℕ → Stretch → ℕ
+passes_cost g t passes s = passes * starts_cost g t (before_last s.starts)
+
+-- a block's own cost: its instructions before the last as often as it is passed, and the last one
+abbrev pub stretch_cost : Graph → Tables → Stretch → ℕ
+stretch_cost g t s = passes_cost g t s.passes s + starts_cost g t (only_last s.starts)
+
 -- a block's own cost and the costliest of the next ones, in front of the costs of the blocks after it, where this one has the number n
 abbrev pub with_next : Graph → Tables → ℕ → Stretch → List ℕ → List ℕ
-with_next g t n s later = (starts_cost g t s.starts + greatest (λ to. read 0 later (to - suc n)) s.next) ∷ later
+with_next g t n s later = (stretch_cost g t s + greatest (λ to. read 0 later (to - suc n)) s.next) ∷ later
 
 -- the costs from each of some blocks to a return, where the first has the number n; a block goes to later ones alone
 abbrev pub path_costs : Graph → Tables → ℕ → List Stretch → List ℕ

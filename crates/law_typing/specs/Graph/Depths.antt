@@ -2,7 +2,7 @@
 use Rattle.std.specs.Prelude.{◌≡◌, ℕ, max, ◌+◌, List, length, map, Option, None, Some}
 use Rattle.std.specs.List.{find}
 use Rattle.law_typing.specs.Graph.Channels.{Channel, same_channel, constructed, property, signal}
-use Rattle.law_typing.specs.Graph.{Graph, Raised, Start, nothing, raises, makes, Stretch}
+use Rattle.law_typing.specs.Graph.{Graph, Raised, Start, nothing, raises, makes, thaws, Stretch}
 use Rattle.law_typing.specs.Graph.Tables.{entry, Tables, of_program, greatest, same_tables, settled}
 use Rattle.law_typing.specs.Graph.Ranks.{running_at}
 use Rattle.law_typing.specs.Graph.Costs.{other_end, no_tables}
@@ -18,6 +18,7 @@ abbrev pub start_depth : Tables → Start → ℕ
 start_depth t nothing = 0
 start_depth t (raises cs) = deepest t cs
 start_depth t (makes cs) = 1 + deepest t cs
+start_depth t (thaws css) = greatest (deepest t) css
 
 -- a program's frame, and the most that an instruction of it needs
 abbrev pub program_depth : Tables → List Stretch → ℕ

@@ -4,7 +4,7 @@ use Rattle.std.specs.List.{filter, flat_map, list_any}
 use Rattle.ui_machine.specs.Seq.{read}
 use Rattle.law_typing.specs.Graph.Channels.{Channel, same_channel, Cause, Link}
 use Rattle.law_typing.specs.Graph.Channels as causes
-use Rattle.law_typing.specs.Graph.{Graph, Raised, Start, nothing, raises, makes, Stretch}
+use Rattle.law_typing.specs.Graph.{Graph, Raised, Start, nothing, raises, makes, thaws, Stretch}
 use Rattle.law_typing.specs.Graph.Tables.{Table, entry, greatest, settled, same_table}
 
 -- ** nodes
@@ -28,6 +28,7 @@ abbrev pub started : Start → List Channel
 started nothing = []
 started (raises cs) = cs
 started (makes cs) = cs
+started (thaws css) = flat_map (λ cs. cs) css
 
 -- the channels that a program may start
 abbrev pub started_by : Graph → ℕ → List Channel

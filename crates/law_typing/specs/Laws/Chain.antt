@@ -17,6 +17,7 @@ abbrev pub sets_next : ℕ → List Stretch
 sets_next slot = record {
   starts = nothing ∷ raises (property 0 (suc slot) ∷ []) ∷ raises (property 0 (suc slot) ∷ []) ∷ nothing
       ∷ [];
+  passes = 1;
   next = [];
 } ∷ []
 

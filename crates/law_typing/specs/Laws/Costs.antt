@@ -1,5 +1,5 @@
 -- What the equations of costs and depths give: a number of a table is at least each part that is added to it.
-use Rattle.std.specs.Prelude.{◌≡◌, ℕ, ◌+◌, ◌*◌, ◌≤◌, ◌<◌, true, List, ◌∷◌, Option, None, Some, slice_get}
+use Rattle.std.specs.Prelude.{◌≡◌, ℕ, suc, ◌+◌, ◌*◌, ◌≤◌, ◌<◌, true, List, ◌∷◌, Option, None, Some, slice_get}
 use Rattle.ui_machine.specs.Seq.{total}
 use Rattle.ui_machine.specs.Definition.{Definition}
 use Rattle.ui_machine.specs.Definition.Programs.{Instruction}
@@ -9,9 +9,9 @@ use Rattle.ui_machine.specs.Rules.Connections.{signal_number}
 use Rattle.law_typing.specs.Rules.RegisterKinds.{Kinds, kind_in, class_at, covers}
 use Rattle.law_typing.specs.Graph.Channels.{Channel, property, signal, is_channel}
 use Rattle.law_typing.specs.Graph.{Graph, Raised, Start, raises, makes, Stretch, start_of}
-use Rattle.law_typing.specs.Graph.Tables.{entry, Tables, of_program}
+use Rattle.law_typing.specs.Graph.Tables.{entry, Tables, of_program, greatest}
 use Rattle.law_typing.specs.Graph.Ranks.{running_at}
-use Rattle.law_typing.specs.Graph.Costs.{SolvesCosts, other_end, node_cost, start_cost, program_cost, block_cost, code_cost, emission_cost, channel_cost}
+use Rattle.law_typing.specs.Graph.Costs.{SolvesCosts, other_end, node_cost, start_cost, starts_cost, passes_cost, stretch_cost, program_cost, block_cost, code_cost, emission_cost, channel_cost}
 use Rattle.law_typing.specs.Graph.Depths.{SolvesDepths, raised_of, start_depth, program_depth, channel_depth, making_depth}
 use Rattle.law_typing.specs.Verdict.Accepted.{Each}
 use Rattle.law_typing.specs.Laws.{IsIn}
@@ -64,11 +64,18 @@ CodeCovers =
     (g : Graph) (t : Tables) (stretches : List Stretch) (s : Start) (starts : List Start) (next : List ℕ) →
     code_cost g t stretches (s ∷ starts) next ≡ 1 + start_cost g t s + code_cost g t stretches starts next
 
--- a block costs all of its instructions and each next block, where these are later ones
+-- a block costs its own part and each next block, where these are later ones
 abbrev pub BlocksCover : Type 0
 BlocksCover =
     (g : Graph) (t : Tables) (stretches : List Stretch) (block : ℕ) (s : Stretch) → slice_get stretches block ≡ Some s →
-    Each (λ to. block < to) s.next → code_cost g t stretches s.starts s.next ≤ block_cost g t stretches block
+    Each (λ to. block < to) s.next →
+    stretch_cost g t s + greatest (block_cost g t stretches) s.next ≤ block_cost g t stretches block
+
+-- a block's own part is that of all its instructions, each once, and of its further passes
+abbrev pub PassesCover : Type 0
+PassesCover =
+    (g : Graph) (t : Tables) (s : Stretch) (further : ℕ) → s.passes ≡ suc further →
+    stretch_cost g t s ≡ passes_cost g t further s + starts_cost g t s.starts
 
 -- ** what programs raise
 

@@ -14,7 +14,7 @@ use Rattle.ui_machine.specs.Rules.Validation.{is_valid}
 use Rattle.ui_machine.specs.Definition.Properties.{Spec, is_writable, is_construct, is_construct_only}
 use Rattle.ui_machine.specs.Definition.{Definition, Class}
 use Rattle.ui_machine.specs.Definition.Signals.{Signal, Shape, Method}
-use Rattle.ui_machine.specs.Definition.Programs.{Instruction, Block, Program, passes_in}
+use Rattle.ui_machine.specs.Definition.Programs.{Instruction, Block, Program}
 use Rattle.ui_machine.specs.Definition.Places.{Given, value, named, GivenProperty, Attached, Place, Bind}
 use Rattle.ui_machine.specs.Definition.Programs as words
 use Rattle.ui_machine.specs.Definition.Lookups.{type_of, spec_of, place_at, program_at}
@@ -130,6 +130,22 @@ Ends [] = ⊥
 Ends (i ∷ []) = ends i ≡ true
 Ends (i ∷ j ∷ rest) = (ends i ≡ false) × Ends (j ∷ rest)
 
+-- whether an instruction is a jump
+abbrev pub is_jump : Instruction → Bool
+is_jump (words.jump to) = true
+is_jump _ = false
+
+-- the last instruction of a block is a jump
+abbrev pub EndsInJump : List Instruction → Type 0
+EndsInJump [] = ⊥
+EndsInJump (i ∷ []) = is_jump i ≡ true
+EndsInJump (i ∷ j ∷ rest) = EndsInJump (j ∷ rest)
+
+-- a block that says how often its instructions before the last are taken, says so often, and ends in a jump
+abbrev pub RepeatRead : Option ℕ → List Instruction → Type 0
+RepeatRead None code = ⊤
+RepeatRead (Some n) code = (0 < n) × (n ≤ 65_535) × EndsInJump code
+
 -- a register, if one is named, is one of the program's
 abbrev pub Within : ℕ → Option ℕ → Type 0
 Within registers None = ⊤
@@ -144,8 +160,7 @@ ConstantFits d _ = ⊤
 -- a block of a program, by its number
 pub record BlockRead (d : Definition) (p : Program) (number : ℕ) (b : Block) : Type 0 where
   pub entry : length b.entry ≡ p.registers
-  -- its instructions are taken once: a block with more passes is of a later format
-  pub once : passes_in b ≡ 1
+  pub repeat : RepeatRead b.repeat b.code
   pub ends : Ends b.code
   pub constants : Each (ConstantFits d) b.code
   pub written : Each (λ i. Within p.registers (written i)) b.code

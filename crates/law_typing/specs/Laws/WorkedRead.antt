@@ -12,6 +12,8 @@ use Rattle.law_typing.specs.Examples.LabelsRenamed as stickers
 use Rattle.law_typing.specs.Examples.ClassHandlers as class_handlers
 use Rattle.law_typing.specs.Examples.Chain as chain
 use Rattle.law_typing.specs.Examples.AllParts as knobs
+use Rattle.law_typing.specs.Examples.RepeatedBlock as repeated_block
+use Rattle.law_typing.specs.Examples.MostPasses as most_passes
 use Rattle.law_typing.specs.Laws.WellRead.{WellRead}
 
 pub record WorkedRead : Type 0 where
@@ -28,3 +30,5 @@ pub record WorkedRead : Type 0 where
   pub class_handlers : WellRead class_handlers.definition
   pub chain : WellRead chain.definition
   pub knobs : WellRead knobs.definition
+  pub repeated_block : WellRead repeated_block.definition
+  pub most_passes : WellRead most_passes.definition

@@ -1,15 +1,13 @@
 -- Freezes and thaws. What is frozen in a block is thawed in it, by the same register, which is not written between. Which brackets are
 -- open at an instruction can be read from the code that follows it: those that are still to be closed.
 use Rattle.std.specs.Prelude.{ℕ, suc, Bool, true, false, cond, not, ◌&&◌, nat_eq, List, [], ◌∷◌, ◌++◌, Option, None, Some}
-use Rattle.std.specs.List.{list_any, flat_map}
+use Rattle.std.specs.List.{list_any}
 use Rattle.ui_machine.specs.Definition.{Definition}
 use Rattle.ui_machine.specs.Definition.Programs.{Instruction, Block, Program}
 use Rattle.ui_machine.specs.Definition.Places.{Bind}
 use Rattle.ui_machine.specs.Definition.Programs as words
-use Rattle.law_typing.specs.Rules.RegisterKinds.{Kinds, kind_in, places}
 use Rattle.law_typing.specs.Graph.Channels.{is_pair}
-use Rattle.law_typing.specs.Rules.Sites.{Site, sites}
-use Rattle.law_typing.specs.Rules.Faults.{Fault, freeze_paired, unbalanced}
+use Rattle.law_typing.specs.Rules.Faults.{Fault, unbalanced}
 
 -- the register that an instruction writes
 abbrev pub written : Instruction → Option ℕ
@@ -90,21 +88,8 @@ unbalanced_from program (p ∷ programs) = balance_faults program 0 p.blocks ++ 
 abbrev pub bracket_faults : Definition → List Fault
 bracket_faults d = unbalanced_from 0 d.programs
 
--- ** freezes over pairs
+-- ** pairs
 
 -- whether a place has a property that is bound both ways
 abbrev pub has_pair : Definition → ℕ → Bool
 has_pair d place = list_any (λ (b : Bind). is_pair b && is_among (b.source ∷ b.target ∷ []) place) d.bindings
-
--- whether an instruction freezes an object that may be at such a place
-abbrev pub freezes_pair : Definition → Kinds → Instruction → Bool
-freezes_pair d ks (words.freeze r) = list_any (has_pair d) (places d (kind_in ks r))
-freezes_pair d ks _ = false
-
--- a site whose instruction does
-abbrev pub freeze_at : Definition → Site → List Fault
-freeze_at d s = cond (freezes_pair d s.kinds s.instruction) (freeze_paired s.program s.block s.at ∷ []) []
-
--- the freezes over paired properties, in document order
-abbrev pub freeze_faults : Definition → List Fault
-freeze_faults d = flat_map (freeze_at d) (sites d)

@@ -24,7 +24,6 @@ pub data Fault : Type 0 where
   handler_signature : Handling → Fault
   binding_rule : (binding : ℕ) (word : BindingWord) → Fault
   second_pair : (binding : ℕ) → Fault
-  freeze_paired : (program block at : ℕ) → Fault
   unbalanced : (program block : ℕ) → Fault
   cycle : List Link → Fault
   bound_too_large : Entry → Fault

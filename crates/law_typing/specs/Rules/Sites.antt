@@ -5,7 +5,7 @@ use Rattle.ui_machine.specs.Definition.Programs.{Instruction, Block, Program}
 use Rattle.ui_machine.specs.Definition.Lookups.{program_at}
 use Rattle.law_typing.specs.Rules.RegisterKinds.{Kinds}
 use Rattle.law_typing.specs.Rules.Answers.{Rule}
-use Rattle.law_typing.specs.Rules.Typing.{after, first_broken}
+use Rattle.law_typing.specs.Rules.Typing.{after, block_broken}
 use Rattle.law_typing.specs.Rules.Faults.{Fault, ill_typed}
 
 -- an instruction, where it stands, and the kinds before it
@@ -57,7 +57,7 @@ broken_at program block (Some first) = ill_typed program block first.0 first.1 �
 abbrev pub block_faults : Definition → Program → (program block : ℕ) → List Block → List Fault
 block_faults d p program block [] = []
 block_faults d p program block (b ∷ blocks) =
-    broken_at program block (first_broken d p 0 b.entry b.code) ++ block_faults d p program (suc block) blocks
+    broken_at program block (block_broken d p b) ++ block_faults d p program (suc block) blocks
 
 -- the same of each program
 abbrev pub program_faults : Definition → ℕ → List Program → List Fault

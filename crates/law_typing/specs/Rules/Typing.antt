@@ -1,6 +1,6 @@
 -- Typing of instructions: the first rule that one breaks, or the kinds of the registers after it. The tests go in this order: the object
 -- operands, the names, the other operands from left to right, the count of arguments, the signature, and the result or the next block.
-use Rattle.std.specs.Prelude.{◌≡◌, ℕ, suc, Bool, true, false, cond, not, ◌&&◌, ◌||◌, nat_lt, List, [], ◌∷◌, Option, None, Some, Ok, Err, is_none, slice_get}
+use Rattle.std.specs.Prelude.{◌≡◌, ℕ, suc, Bool, true, false, cond, not, ◌&&◌, ◌||◌, nat_lt, List, [], ◌∷◌, Option, None, Some, Ok, Err, is_none, option_map, slice_get}
 use Rattle.std.specs.List.{list_any}
 use Rattle.ui_machine.specs.Seq.{write}
 use Rattle.ui_machine.specs.Definition.Names.{same_name, place_named}
@@ -415,17 +415,32 @@ after d p ks i = or_before ks (typed d p ks i)
 
 -- ** blocks
 
+-- the kinds that a block begins with again, where it says how often it is passed
+abbrev pub again : Block → Option Kinds
+again b = option_map (λ (n : ℕ). b.entry) b.repeat
+
+-- The same as `typed` in a block that is passed again with these kinds, if it is: at its jump the registers fit them, which is looked at
+-- before the next block.
+abbrev pub typed_in : Definition → Program → Option Kinds → Kinds → Instruction → Typing Kinds
+typed_in d p (Some entry) ks (words.jump to) = only_if (kinds_fit d ks entry) rules.block (typed d p ks (words.jump to))
+typed_in d p own ks i = typed d p ks i
+
 -- what follows an instruction that breaks no rule
 abbrev pub unless_broken : {A : Type 0} → (Rule → A) → (Kinds → A) → Typing Kinds → A
 unless_broken broken next (Err rule) = broken rule
 unless_broken broken next (Ok ks) = next ks
 
--- the first instruction of these that breaks a rule, by its number, where the first has the number `at`
-abbrev pub first_broken : Definition → Program → ℕ → Kinds → List Instruction → Option (ℕ × Rule)
-first_broken d p at ks [] = None
-first_broken d p at ks (i ∷ rest) =
-    unless_broken (λ rule. Some (at, rule)) (λ after. first_broken d p (suc at) after rest) (typed d p ks i)
+-- the first instruction of these that breaks a rule, by its number, where the first has the number `at`, in a block that is passed again
+-- with these kinds, if it is
+abbrev pub first_broken : Definition → Program → Option Kinds → ℕ → Kinds → List Instruction → Option (ℕ × Rule)
+first_broken d p own at ks [] = None
+first_broken d p own at ks (i ∷ rest) =
+    unless_broken (λ rule. Some (at, rule)) (λ after. first_broken d p own (suc at) after rest) (typed_in d p own ks i)
+
+-- the same of a whole block
+abbrev pub block_broken : Definition → Program → Block → Option (ℕ × Rule)
+block_broken d p b = first_broken d p (again b) 0 b.entry b.code
 
 -- each instruction of a block keeps its rule
 abbrev pub WellTypedBlock : Definition → Program → Block → Type 0
-WellTypedBlock d p b = first_broken d p 0 b.entry b.code ≡ None
+WellTypedBlock d p b = block_broken d p b ≡ None

@@ -4,7 +4,7 @@ use Rattle.ui_machine.specs.Definition.{Definition}
 use Rattle.law_typing.specs.Rules.Sites.{typing_faults}
 use Rattle.law_typing.specs.Rules.Handlers.{handler_faults}
 use Rattle.law_typing.specs.Rules.BindingRules.{binding_faults, pair_faults}
-use Rattle.law_typing.specs.Rules.Brackets.{freeze_faults, bracket_faults}
+use Rattle.law_typing.specs.Rules.Brackets.{bracket_faults}
 use Rattle.law_typing.specs.Graph.{Graph, graph}
 use Rattle.law_typing.specs.Graph.Tables.{Table, Tables}
 use Rattle.law_typing.specs.Graph.Ranks.{IsRanking, IsAcyclic}
@@ -36,8 +36,7 @@ pub record Accepted (d : Definition) : Type 0 where
   -- each binding keeps the rules, and no property is in two pairs
   pub bindings : binding_faults d ≡ []
   pub pairs : pair_faults d ≡ []
-  -- no object with a paired property is frozen by a program, and freezes and thaws match
-  pub freezes : freeze_faults d ≡ []
+  -- freezes and thaws match
   pub brackets : bracket_faults d ≡ []
   -- nothing that is raised may raise itself again
   pub acyclic : IsAcyclic (graph d)
