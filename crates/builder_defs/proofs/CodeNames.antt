@@ -5,13 +5,13 @@ use Rattle.serde_json.specs.Data.{Data, Items}
 use Rattle.ui_machine.specs.Definition.Programs.{Program}
 use Rattle.ui_machine.specs.Definition.Types.{GType}
 use Rattle.ui_machine.specs.Outcome.{◌>>=◌}
-use Rattle.handler_code.specs.Reading.RegisterKinds.{Names}
-use Rattle.builder_defs.specs.declared.fault.ReadError.{ReadError}
-use Rattle.builder_defs.specs.Refusals.{Refusal, Fails}
-use Rattle.builder_defs.specs.Document.{entries_at, each, at_entry}
-use Rattle.builder_defs.specs.Denoted.Entries.{place_with_id}
-use Rattle.builder_defs.specs.Denoted.Programs.{code_names, program_at, programs_in}
-use Rattle.builder_defs.proofs.Chains.{fails_as}
+use Rattle.bytecode.specs.Reading.RegisterKinds.{Names}
+use Rattle.definition_format.specs.declared.faults.ReadError.{ReadError}
+use Rattle.definition_format.specs.Refusals.{Refusal, Fails}
+use Rattle.definition_format.specs.Document.{entries_at, each, at_entry}
+use Rattle.definition_format.specs.Denoted.Entries.{place_with_id}
+use Rattle.definition_format.specs.Denoted.Programs.{code_names, program_at, programs_in}
+use Rattle.definition_types.proofs.Chains.{fails_as}
 
 with_places : List GType → (List ℕ → Option ℕ) → Names
 with_places types place = record { types = types; place = place }

@@ -11,11 +11,11 @@ use Rattle.ui_machine.specs.Definition.Types.{GType}
 use Rattle.g_values.specs.declared.kind.Kind.{Kind}
 use Rattle.g_values.specs.declared.kind.Kind.TheVariants as code
 use Rattle.g_values.specs.View.{kind_view, IsKnown}
-use Rattle.builder_defs.specs.declared.event_fault.EventError.{EventError}
-use Rattle.builder_defs.specs.declared.event_fault.EventError.TheVariants as errors
-use Rattle.builder_defs.specs.Meaning.{IsKnownKind}
-use Rattle.builder_defs.specs.EventMeaning.{EventRefusal, Fails, count, each_of}
-use Rattle.builder_defs.proofs.Each.{one_more}
+use Rattle.definition_format.specs.declared.event_faults.EventError.{EventError}
+use Rattle.definition_format.specs.declared.event_faults.EventError.TheVariants as errors
+use Rattle.definition_format.specs.Meaning.{IsKnownKind}
+use Rattle.definition_format.specs.EventMeaning.{EventRefusal, Fails, count, each_of}
+use Rattle.definition_types.proofs.Each.{one_more}
 
 pub params_are : (ks : List Kind) → length (map kind_view ks) ≡ length ks
 params_are ks = length-map ks kind_view

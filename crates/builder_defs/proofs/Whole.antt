@@ -11,20 +11,20 @@ use Rattle.ui_machine.specs.Definition.Programs.{Program}
 use Rattle.ui_machine.specs.declared.limits.Limits.{Limits}
 use Rattle.param_specs.specs.Table.{own_of, specs_of}
 use Rattle.signal_core.specs.Sources.{declared_of}
-use Rattle.builder_defs.specs.Meaning.{Parts, meaning, plain_object, plain_prototype, plain_program, places_of}
+use Rattle.definition_format.specs.Meaning.{Parts, meaning, plain_object, plain_prototype, plain_program, places_of}
 use Rattle.signal_core.specs.Table.{Declared}
 use Rattle.ui_machine.specs.Outcome.{◌>>=◌}
-use Rattle.builder_defs.specs.declared.fault.ReadError.{ReadError}
-use Rattle.builder_defs.specs.Refusals.{Refusal, Fails}
-use Rattle.builder_defs.specs.Document.{members_at, only_at}
-use Rattle.builder_defs.specs.Denoted.Properties.{specs_by}
-use Rattle.builder_defs.specs.Denoted.Entries.{ProgramNames, TypeNames, program_names, type_names}
-use Rattle.builder_defs.specs.Denoted.Drafts.{ClassDraft, Draft, answers_of, class_draft_of, draft_of, no_answers, with_answers}
-use Rattle.builder_defs.specs.Denoted.SessionLimits.{limits_in}
-use Rattle.builder_defs.specs.Denoted.Programs.{programs_in}
-use Rattle.builder_defs.specs.Denoted.Prototypes.{prototypes_in}
-use Rattle.builder_defs.specs.Denoted.{format_of, enums_in, flags_in, interfaces_in, classes_in, draft_in, objects_in, definition_in, definition_with, keys_of_definition}
-use Rattle.builder_defs.proofs.Chains.{fails_as, fails_first}
+use Rattle.definition_format.specs.declared.faults.ReadError.{ReadError}
+use Rattle.definition_format.specs.Refusals.{Refusal, Fails}
+use Rattle.definition_format.specs.Document.{members_at, only_at}
+use Rattle.definition_format.specs.Denoted.Properties.{specs_by}
+use Rattle.definition_format.specs.Denoted.Entries.{ProgramNames, TypeNames, program_names, type_names}
+use Rattle.definition_format.specs.Denoted.Drafts.{ClassDraft, Draft, answers_of, class_draft_of, draft_of, no_answers, with_answers}
+use Rattle.definition_format.specs.Denoted.SessionLimits.{limits_in}
+use Rattle.definition_format.specs.Denoted.Programs.{programs_in}
+use Rattle.definition_format.specs.Denoted.Prototypes.{prototypes_in}
+use Rattle.definition_format.specs.Denoted.{format_of, enums_in, flags_in, interfaces_in, classes_in, draft_in, objects_in, definition_in, definition_with, keys_of_definition}
+use Rattle.definition_types.proofs.Chains.{fails_as, fails_first}
 
 -- ** its types
 

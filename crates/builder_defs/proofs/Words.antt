@@ -2,7 +2,7 @@
 use Rattle.std.proofs.Common.{◌≡◌, ◌≢◌, List, [], ◌∷◌, length, None, refl}
 use Rattle.serde_json.specs.declared.value.Value.{Value}
 use Rattle.serde_json.specs.View.{items_view}
-use Rattle.builder_defs.specs.EventMeaning.{words_of_set, words_of_get, words_of_emit}
+use Rattle.definition_format.specs.EventMeaning.{words_of_set, words_of_get, words_of_emit}
 
 pub not_two : (vs : List Value) → length vs ≢ 2 → None ≡ words_of_get (items_view vs)
 not_two [] other = refl

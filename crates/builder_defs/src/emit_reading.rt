@@ -8,16 +8,14 @@ ghost use Rattle.g_values.specs.View.{kind_view, IsKnown};
 ghost use Rattle.ui_machine.specs.Rules.Connections.{signal_number};
 ghost use Rattle.ui_machine.specs.Rules.EmissionPlan.{signal_of};
 ghost use Rattle.signal_core.specs.SignalView.{declared_view};
-ghost use Rattle.builder_defs.specs.Meaning.{IsKnownKind, class_at, event_of, given_view};
-ghost use Rattle.builder_defs.specs.EventMeaning.{Gives, Leads, detail_word, emitted, words_of_emit, but_notify, signal_target, count, check_count, check_detail, each_of, id_known, argument, emit_event};
+ghost use Rattle.definition_format.specs.Meaning.{IsKnownKind, class_at, event_of, given_view};
+ghost use Rattle.definition_format.specs.EventMeaning.{Gives, Leads, detail_word, emitted, words_of_emit, but_notify, signal_target, count, check_count, check_detail, each_of, id_known, argument, emit_event};
 
-use crate::definition::Definition;
-use crate::event::Event;
-use crate::event_fault::{EventError, EventFault};
 use crate::event_reading::{given_by, object_named};
-use crate::names::is_name;
-use crate::object_entry::Given;
 use bitflags::Flags;
+use definition_format::{Event, EventError, EventFault, Given};
+use definition_types::names::is_name;
+use definitions::Definition;
 use g_values::Kind;
 use serde_json::Value;
 use signal_core::{DeclaredSignal, SignalFlags};
@@ -121,7 +119,7 @@ fn param_at(params: &[Kind], index: usize) -> Option<Kind>
 }
 
 // Tests that the object that a value names, if it names one, is known.
-#[tactic(auto, unfolding(crate::specs::EventMeaning::id_known))]
+#[tactic(auto, unfolding(definition_format::specs::EventMeaning::id_known))]
 fn check_id(
     alloc: Global,
     definition: &Definition,
@@ -153,7 +151,7 @@ fn check_ids(
 }
 
 // Adds an argument of a kind.
-#[tactic(auto, unfolding(crate::specs::EventMeaning::argument))]
+#[tactic(auto, unfolding(definition_format::specs::EventMeaning::argument))]
 fn add_argument(
     alloc: Global,
     definition: &Definition,
@@ -209,7 +207,7 @@ struct Target<'a> {
 }
 
 // The signal of an object that an id and a name name, if an event may emit it.
-#[tactic(auto, unfolding(crate::specs::EventMeaning::signal_target))]
+#[tactic(auto, unfolding(definition_format::specs::EventMeaning::signal_target))]
 fn target_of<'a>(
     alloc: Global,
     definition: &'a Definition,
@@ -263,7 +261,7 @@ fn check_count(signal: &DeclaredSignal<'_>, args: &[Value]) -> Result<(), EventE
 }
 
 // The emission that a list of words asks for.
-#[tactic(auto, unfolding(crate::specs::EventMeaning::emit_event))]
+#[tactic(auto, unfolding(definition_format::specs::EventMeaning::emit_event))]
 pub(crate) fn emit_in(
     alloc: Global,
     definition: &Definition,

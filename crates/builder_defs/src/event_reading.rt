@@ -6,18 +6,16 @@ ghost use Rattle.serde_json.specs.View.{view, items_view};
 ghost use Rattle.g_values.specs.View.{kind_view, value_view, IsKnown};
 ghost use Rattle.g_values.specs.Reading.{json_value};
 ghost use Rattle.ui_machine.specs.Definition.Lookups.{spec_of};
-ghost use Rattle.builder_defs.specs.Meaning.{event_of, given_view, class_at};
-ghost use Rattle.builder_defs.specs.Denoted.Given.{reference};
+ghost use Rattle.definition_format.specs.Meaning.{event_of, given_view, class_at};
+ghost use Rattle.definition_format.specs.Denoted.Given.{reference};
 ghost use Rattle.param_specs.specs.View.{spec_view};
-ghost use Rattle.builder_defs.specs.EventMeaning.{Gives, event_denoted, event_meant, line_value, has_one_member, words_of_set, words_of_get, set_event, get_event, release_event, target, object_of, object_named, is_of_kind, object_given, given_by, readable, writable, or_value_fault};
+ghost use Rattle.definition_format.specs.EventMeaning.{Gives, event_denoted, event_meant, line_value, has_one_member, words_of_set, words_of_get, set_event, get_event, release_event, target, object_of, object_named, is_of_kind, object_given, given_by, readable, writable, or_value_fault};
 
-use crate::definition::Definition;
 use crate::emit_reading::emit_in;
-use crate::event::Event;
-use crate::event_fault::{EventError, EventFault};
-use crate::given::reference;
-use crate::object_entry::Given;
 use bitflags::Flags;
+use definition_format::{Event, EventError, EventFault, Given};
+use definition_objects::reference;
+use definitions::Definition;
 use g_values::{JsonError, Kind, from_json};
 use param_specs::{PropertyFlags, Spec};
 use serde_json::Value;
@@ -29,7 +27,7 @@ use ui_machine::{Place, Slot};
 pub const MAX_LINE_BYTES: usize = 65_536;
 
 /// Reads an event of a definition. A fault is the first one in the order of `EventFault`.
-#[tactic(auto, unfolding(crate::specs::EventMeaning::event_denoted))]
+#[tactic(auto, unfolding(definition_format::specs::EventMeaning::event_denoted))]
 pub fn read_event(alloc: Global, definition: &Definition, bytes: &[u8]) -> Result<Event, EventError>
     ensures exact { Gives event_of result (event_denoted definition.now bytes.now) }
 {
@@ -39,7 +37,7 @@ pub fn read_event(alloc: Global, definition: &Definition, bytes: &[u8]) -> Resul
 }
 
 // The JSON value that a line holds.
-#[tactic(auto, unfolding(crate::specs::EventMeaning::line_value))]
+#[tactic(auto, unfolding(definition_format::specs::EventMeaning::line_value))]
 fn parsed_line(alloc: Global, bytes: &[u8]) -> Result<Value, EventError>
     ensures { Gives view result (line_value bytes.now) }
 {
@@ -57,7 +55,7 @@ fn parsed_line(alloc: Global, bytes: &[u8]) -> Result<Value, EventError>
 }
 
 // Whether a value is an object of exactly one member.
-#[tactic(auto, using(crate::proofs::Values::one_member_is))]
+#[tactic(auto, using(definition_types::proofs::Values::one_member_is))]
 fn has_one_member(value: &Value) -> bool
     ensures { result ≡ has_one_member (view value.now) }
 {
@@ -68,7 +66,7 @@ fn has_one_member(value: &Value) -> bool
 }
 
 // The event that a value asks for.
-#[tactic(auto, unfolding(crate::specs::EventMeaning::event_meant))]
+#[tactic(auto, unfolding(definition_format::specs::EventMeaning::event_meant))]
 fn event_in(alloc: Global, definition: &Definition, value: &Value) -> Result<Event, EventError>
     ensures { Gives event_of result (event_meant definition.now (view value.now)) }
 {
@@ -120,7 +118,7 @@ fn words_of_get(items: &[Value]) -> Option<(&str, &str)>
 }
 
 // The set that a list of words asks for.
-#[tactic(auto, unfolding(crate::specs::EventMeaning::set_event))]
+#[tactic(auto, unfolding(definition_format::specs::EventMeaning::set_event))]
 fn set_in(alloc: Global, definition: &Definition, words: &Value) -> Result<Event, EventError>
     ensures { Gives event_of result (set_event definition.now (view words.now)) }
 {
@@ -144,7 +142,7 @@ fn set_in(alloc: Global, definition: &Definition, words: &Value) -> Result<Event
 }
 
 // The get that a list of words asks for.
-#[tactic(auto, unfolding(crate::specs::EventMeaning::get_event))]
+#[tactic(auto, unfolding(definition_format::specs::EventMeaning::get_event))]
 fn get_in(alloc: Global, definition: &Definition, words: &Value) -> Result<Event, EventError>
     ensures { Gives event_of result (get_event definition.now (view words.now)) }
 {
@@ -163,7 +161,7 @@ fn get_in(alloc: Global, definition: &Definition, words: &Value) -> Result<Event
 }
 
 // The release that a word asks for.
-#[tactic(auto, unfolding(crate::specs::EventMeaning::release_event))]
+#[tactic(auto, unfolding(definition_format::specs::EventMeaning::release_event))]
 fn release_in(alloc: Global, definition: &Definition, word: &Value) -> Result<Event, EventError>
     ensures { Gives event_of result (release_event definition.now (view word.now)) }
 {
@@ -185,7 +183,7 @@ struct Target<'a> {
 }
 
 // The property of an object that an id and a name name.
-#[tactic(auto, unfolding(crate::specs::EventMeaning::target))]
+#[tactic(auto, unfolding(definition_format::specs::EventMeaning::target))]
 fn target_of<'a>(
     alloc: Global,
     definition: &'a Definition,
@@ -232,7 +230,7 @@ fn check_readable(spec: &Spec) -> Result<(), EventError>
 }
 
 // The object that a value refers to, if it refers to one.
-#[tactic(auto, unfolding(crate::specs::EventMeaning::object_of))]
+#[tactic(auto, unfolding(definition_format::specs::EventMeaning::object_of))]
 pub(crate) fn object_named(
     alloc: Global,
     definition: &Definition,

@@ -4,14 +4,14 @@ ghost use Rattle.std.specs.Prelude.{◌≡◌, ◌≤◌, [], pos, codes, IfOk};
 ghost use Rattle.serde_json.specs.View.{view};
 ghost use Rattle.serde_json.specs.Find.{get};
 ghost use Rattle.g_values.specs.Reading.{whole_number};
-ghost use Rattle.builder_defs.specs.Meaning.{AreLimits, default_limits};
-ghost use Rattle.builder_defs.specs.Refusals.{Gives};
-ghost use Rattle.builder_defs.specs.Document.{path_of, under};
-ghost use Rattle.builder_defs.specs.Denoted.SessionLimits.{limit_within, given_limit, limit_or, given_limits, limits_in};
+ghost use Rattle.definition_format.specs.Meaning.{AreLimits, default_limits};
+ghost use Rattle.definition_format.specs.Refusals.{Gives};
+ghost use Rattle.definition_format.specs.Document.{path_of, under};
+ghost use Rattle.definition_format.specs.Denoted.SessionLimits.{limit_within, given_limit, limit_or, given_limits, limits_in};
 
-use crate::document::{Part, Path, bad_shape};
-use crate::fault::{DefinitionFault, DefinitionLimit, ReadError};
-use crate::numbers::whole_number;
+use definition_format::{DefinitionFault, DefinitionLimit, Path, ReadError};
+use definition_types::document::{Part, bad_shape};
+use definition_types::numbers::whole_number;
 use serde_json::Value;
 use ui_machine::{LEAST_OBJECTS, Limits, MOST_HANDLERS, MOST_OBJECTS};
 
@@ -41,7 +41,7 @@ fn limit_within(bounds: Bounds, number: i128) -> Result<u32, ReadError>
 }
 
 // The limit that a member gives.
-#[tactic(auto, unfolding(crate::specs::Denoted::SessionLimits::given_limit))]
+#[tactic(auto, unfolding(definition_format::specs::Denoted::SessionLimits::given_limit))]
 fn given_limit(part: Part<'_>, key: &str, bounds: Bounds, value: &Value) -> Result<u32, ReadError>
     ensures limit { Gives (λ n. n) result (given_limit (under (path_of part.entry.path) key.now) bounds.which (pos bounds.least) (pos bounds.most) (view value.now)) }
     ensures low { IfOk result (λ n. bounds.least ≤ n) }
@@ -69,7 +69,7 @@ fn limit_or(part: Part<'_>, key: &str, bounds: Bounds, own: u32) -> Result<u32, 
 }
 
 // The limits that a value declares.
-#[tactic(auto, unfolding(crate::specs::Denoted::SessionLimits::given_limits))]
+#[tactic(auto, unfolding(definition_format::specs::Denoted::SessionLimits::given_limits))]
 fn given_limits(part: Part<'_>) -> Result<Limits, ReadError>
     ensures limits { Gives (λ l. l) result (given_limits (path_of part.entry.path) (view part.entry.value.now)) }
     ensures checked { IfOk result (λ l. AreLimits l) }

@@ -5,32 +5,29 @@ ghost use Rattle.serde_json.specs.Find.{get, as_number, as_u64};
 ghost use Rattle.std.specs.List.{AllByRecursion};
 ghost use Rattle.serde_json.specs.View.{view};
 ghost use Rattle.ui_machine.specs.Definition.Types.{predeclared};
-ghost use Rattle.builder_defs.specs.Meaning.{ArePlain, HasOwnName, IsSoundProgram, plain_object, plain_program, plain_prototype};
-ghost use Rattle.builder_defs.specs.Refusals.{Gives, Leads};
-ghost use Rattle.builder_defs.specs.Document.{path_of};
+ghost use Rattle.definition_format.specs.Meaning.{ArePlain, HasOwnName, IsSound, IsSoundProgram, meaning, plain_object, plain_program, plain_prototype};
+ghost use Rattle.definitions.specs.PartsView.{parts_of};
+ghost use Rattle.definition_format.specs.Refusals.{Gives, Leads};
+ghost use Rattle.definition_format.specs.Document.{path_of};
 ghost use Rattle.param_specs.specs.Table.{own_of};
-ghost use Rattle.builder_defs.specs.Denoted.Properties.{specs_by};
-ghost use Rattle.builder_defs.specs.Denoted.Drafts.{class_draft_of, draft_of};
-ghost use Rattle.builder_defs.specs.Denoted.Programs.{programs_in};
-ghost use Rattle.builder_defs.specs.Denoted.Prototypes.{prototypes_in};
-ghost use Rattle.builder_defs.specs.Denoted.{format_of, enums_in, flags_in, interfaces_in, classes_in, draft_in, objects_in, definition_in, denoted};
+ghost use Rattle.definition_format.specs.Denoted.Properties.{specs_by};
+ghost use Rattle.definition_format.specs.Denoted.Drafts.{class_draft_of, draft_of};
+ghost use Rattle.definition_format.specs.Denoted.Programs.{programs_in};
+ghost use Rattle.definition_format.specs.Denoted.Prototypes.{prototypes_in};
+ghost use Rattle.definition_format.specs.Denoted.{format_of, enums_in, flags_in, interfaces_in, classes_in, draft_in, objects_in, definition_in, denoted};
 
-use crate::classes::read_classes;
-use crate::definition::Definition;
-use crate::document::{Entries, Part, Path, listed_ahead, parsed};
-use crate::drafts::{ClassDraft, Draft};
-use crate::entries::{ProgramNames, TypeNames};
-use crate::enums::{read_enums, read_flags_types};
-use crate::fault::{DefinitionFault, ReadError};
-use crate::interfaces::read_interfaces;
 use crate::limits::limits_of;
-use crate::object_entry::ObjectBody;
-use crate::objects::read_objects;
-use crate::places::read_places;
-use crate::programs::{Programs, read_programs};
-use crate::prototypes::{Prototypes, read_prototypes};
+use definition_format::{DefinitionFault, Path, ReadError};
+use definition_objects::{read_objects, read_places, read_programs, read_prototypes};
+use definition_types::document::{Entries, Part, listed_ahead, parsed};
+use definition_types::entries::{ProgramNames, TypeNames};
+use definition_types::{
+    ClassDraft, Draft, read_classes, read_enums, read_flags_types, read_interfaces,
+};
+use definitions::places::{Objects, Prototypes};
+use definitions::programs::Programs;
+use definitions::{Definition, Parts};
 use handler_code::Names;
-use indexmap::IndexMap;
 use param_specs::SpecTable;
 use serde_json::Value;
 use signal_core::SignalTable;
@@ -70,7 +67,7 @@ fn format_in(value: &Value) -> Option<u64>
 }
 
 // Adds the enums of a definition to the types that are there from the beginning.
-#[tactic(auto, unfolding(crate::specs::Denoted::enums_in))]
+#[tactic(auto, unfolding(definition_format::specs::Denoted::enums_in))]
 fn enums_of(part: Part<'_>, types: &mut TypeTree) -> Result<(), ReadError>
     requires root { path_of part.path ≡ [] }
     requires first { types.old ≡ predeclared }
@@ -87,7 +84,7 @@ fn enums_of(part: Part<'_>, types: &mut TypeTree) -> Result<(), ReadError>
 }
 
 // Adds the flags types of a definition.
-#[tactic(auto, unfolding(crate::specs::Denoted::flags_in))]
+#[tactic(auto, unfolding(definition_format::specs::Denoted::flags_in))]
 fn flags_of(part: Part<'_>, types: &mut TypeTree) -> Result<(), ReadError>
     requires { path_of part.path ≡ [] }
     ensures { Leads result (flags_in types.old (view part.entry.value.now)) types.new }
@@ -103,7 +100,7 @@ fn flags_of(part: Part<'_>, types: &mut TypeTree) -> Result<(), ReadError>
 }
 
 // Adds the interfaces of a definition.
-#[tactic(auto, unfolding(crate::specs::Denoted::interfaces_in))]
+#[tactic(auto, unfolding(definition_format::specs::Denoted::interfaces_in))]
 fn interfaces_of(part: Part<'_>, names: &TypeNames<'_>, draft: &mut Draft) -> Result<(), ReadError>
     requires root { path_of part.path ≡ [] }
     requires bare { draft.old.specs ≡ [] }
@@ -122,7 +119,7 @@ fn interfaces_of(part: Part<'_>, names: &TypeNames<'_>, draft: &mut Draft) -> Re
 }
 
 // Adds the classes of a definition.
-#[tactic(auto, unfolding(crate::specs::Denoted::classes_in))]
+#[tactic(auto, unfolding(definition_format::specs::Denoted::classes_in))]
 fn classes_of(
     part: Part<'_>,
     names: &TypeNames<'_>,
@@ -144,7 +141,7 @@ fn classes_of(
 }
 
 // The types of a definition, with all that they have.
-#[tactic(auto, unfolding(crate::specs::Denoted::draft_in))]
+#[tactic(auto, unfolding(definition_format::specs::Denoted::draft_in))]
 fn read_draft(part: Part<'_>) -> Result<ClassDraft, ReadError>
     requires { path_of part.path ≡ [] }
     ensures { Gives (λ draft. class_draft_of draft.types draft.specs draft.signals draft.constructed.items) result (draft_in (view part.entry.value.now)) }
@@ -173,7 +170,7 @@ fn read_draft(part: Part<'_>) -> Result<ClassDraft, ReadError>
 }
 
 // The programs of a definition whose types are these.
-#[tactic(auto, unfolding(crate::specs::Denoted::Programs::programs_in))]
+#[tactic(auto, unfolding(definition_format::specs::Denoted::Programs::programs_in))]
 fn programs_of(part: Part<'_>, types: &TypeTree) -> Result<Programs, ReadError>
     requires { path_of part.path ≡ [] }
     ensures read { Gives (λ programs. map plain_program programs.entries) result (programs_in types.now (view part.entry.value.now)) }
@@ -197,7 +194,7 @@ fn programs_of(part: Part<'_>, types: &TypeTree) -> Result<Programs, ReadError>
 }
 
 // The prototypes of a definition.
-#[tactic(auto, unfolding(crate::specs::Denoted::Prototypes::prototypes_in))]
+#[tactic(auto, unfolding(definition_format::specs::Denoted::Prototypes::prototypes_in))]
 fn prototypes_of(
     part: Part<'_>,
     types: &TypeTree,
@@ -218,7 +215,7 @@ fn prototypes_of(
 }
 
 // The objects of a definition beside these prototypes, where so many may live.
-#[tactic(auto, unfolding(crate::specs::Denoted::objects_in))]
+#[tactic(auto, unfolding(definition_format::specs::Denoted::objects_in))]
 fn objects_of<'a>(
     part: Part<'a>,
     types: &'a TypeTree,
@@ -226,7 +223,7 @@ fn objects_of<'a>(
     programs: &'a Programs,
     prototypes: &'a Prototypes,
     most: usize,
-) -> Result<IndexMap<String, ObjectBody>, ReadError>
+) -> Result<Objects, ReadError>
     requires root { path_of part.path ≡ [] }
     requires plain { ArePlain types.now specs.now }
     requires named { AllByRecursion HasOwnName programs.now.entries }
@@ -244,10 +241,11 @@ fn objects_of<'a>(
     Ok(objects)
 }
 
-// The definition of a JSON value.
-#[tactic(auto, unfolding(crate::specs::Denoted::definition_in))]
-fn definition_of(alloc: Global, value: &Value) -> Result<Definition, ReadError>
-    ensures { Gives (λ d. d) result (definition_in (view value.now)) }
+// The parts of the definition of a JSON value.
+#[tactic(auto, unfolding(definition_format::specs::Denoted::definition_in))]
+fn parts_in(alloc: Global, value: &Value) -> Result<Parts, ReadError>
+    ensures read { Gives (λ p. meaning (parts_of p)) result (definition_in (view value.now)) }
+    ensures sound { IfOk result (λ p. IsSound (parts_of p)) }
 {
     let part = Part {
         alloc,
@@ -273,7 +271,7 @@ fn definition_of(alloc: Global, value: &Value) -> Result<Definition, ReadError>
         most,
     )?;
     part.check_only(members, &MEMBERS)?;
-    Ok(Definition {
+    Ok(Parts {
         types: draft.types,
         specs: draft.specs,
         signals: draft.signals,
@@ -286,11 +284,11 @@ fn definition_of(alloc: Global, value: &Value) -> Result<Definition, ReadError>
 }
 
 /// Reads a definition. A fault is the first one in document order.
-#[tactic(auto, unfolding(crate::specs::Denoted::denoted))]
+#[tactic(auto, unfolding(definition_format::specs::Denoted::denoted))]
 pub fn read_definition(alloc: Global, bytes: &[u8]) -> Result<Definition, ReadError>
     ensures exact { Gives (λ d. d) result (denoted bytes.now) }
 {
     let value = parsed(alloc, bytes)?;
-    let definition = definition_of(alloc, &value)?;
-    Ok(definition)
+    let parts = parts_in(alloc, &value)?;
+    Ok(Definition::new(parts))
 }

@@ -3,8 +3,8 @@ use Rattle.std.proofs.Common.{◌≡◌, ℕ, Bool, true, false, List, [], ◌�
 use Rattle.ui_machine.specs.State.Tasks.{Event}
 use Rattle.ui_machine.specs.Rules.Events.{Refusal, gone, clock_back, refusal}
 use Rattle.builder_defs.specs.EventMeaning.{event_refusal, event_denoted, Fails}
-use Rattle.builder_defs.specs.declared.event_fault.EventError.{EventError}
-use Rattle.builder_defs.specs.declared.event_fault.EventError.TheVariants as errors
+use Rattle.definition_format.specs.declared.event_faults.EventError.{EventError}
+use Rattle.definition_format.specs.declared.event_faults.EventError.TheVariants as errors
 use Rattle.ui_machine.specs.Prefix.{IsPrefix}
 use Rattle.ui_engine.specs.declared.dispatch.Reply.{Reply}
 use Rattle.ui_engine.specs.declared.session.SessionFault.{SessionFault}

@@ -2,8 +2,8 @@
 use Rattle.std.specs.Prelude.{ℕ, List, Result, Ok, Err}
 use Rattle.ui_machine.specs.declared.arm.Halt.TheVariants as halts
 use Rattle.builder_defs.specs.EventMeaning.{event_refusal}
-use Rattle.builder_defs.specs.declared.event_fault.EventError.{EventError}
-use Rattle.builder_defs.specs.declared.event_fault.EventError.TheVariants as errors
+use Rattle.definition_format.specs.declared.event_faults.EventError.{EventError}
+use Rattle.definition_format.specs.declared.event_faults.EventError.TheVariants as errors
 use Rattle.ui_engine.specs.declared.session.SessionFault.{SessionFault}
 use Rattle.ui_engine.specs.declared.session.SessionFault.TheVariants as ends
 use Rattle.event_lines.specs.Texts.{line_refusal}

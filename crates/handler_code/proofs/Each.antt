@@ -6,7 +6,7 @@ use Rattle.serde_json.specs.declared.value.Value.{Value}
 use Rattle.serde_json.specs.Data.{Data}
 use Rattle.serde_json.specs.View.{items_of, view, items_view}
 use Rattle.ui_machine.specs.Outcome.{◌>>=◌}
-use Rattle.handler_code.specs.Reading.Each.{entries_of, each}
+use Rattle.bytecode.specs.Reading.Each.{entries_of, each}
 
 listed : (ds : List Data) → entries_of (items_of ds) ≡ ds
 listed [] = refl

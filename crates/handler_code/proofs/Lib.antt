@@ -1,11 +1,5 @@
-pub mod RegisterReads
-pub mod FrameRegisters
-pub mod FrameSteps
-pub mod MachineSteps
-pub mod FromRegisters
-pub mod Shapes
+pub use Rattle.frames.proofs.FrameSteps
 pub mod OperandLists
 pub mod Each
 pub mod Members
 pub mod Stopping
-pub mod Positions

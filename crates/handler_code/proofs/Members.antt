@@ -6,7 +6,7 @@ use Rattle.std.specs.Str.{bytes_eq}
 use Rattle.std.proofs.Common.{ℕ}
 use Rattle.serde_json.specs.declared.value.Value.{Value}
 use Rattle.serde_json.specs.View.{members_view}
-use Rattle.handler_code.specs.Reading.Outline.{first_other}
+use Rattle.bytecode.specs.Reading.Outline.{first_other}
 
 found_or : (known : Bool) (key : String Global) (rest : Option (List ℕ)) (later : Option (String Global)) → rest ≡ option_map string_bytes later → cond known rest (Some (string_bytes key)) ≡ option_map string_bytes (cond (not known) (Some key) later)
 found_or true key rest later e = e

@@ -4,7 +4,7 @@ use Rattle.std.specs.List.{list_any, list_all}
 use Rattle.serde_json.specs.declared.value.Value.{Value}
 use Rattle.serde_json.specs.View.{view, items_view}
 use Rattle.serde_json.specs.Find.{as_str}
-use Rattle.handler_code.specs.Reading.Operands.{is_word, has_word, is_option, are_options}
+use Rattle.bytecode.specs.Reading.Operands.{is_word, has_word, is_option, are_options}
 
 pub word_listed : (word : List ℕ) (vs : List Value) → has_word word (items_view vs) ≡ list_any (λ v. is_word word (as_str (view v))) vs
 word_listed word [] = refl

@@ -1,14 +1,14 @@
 -- Where the reading of a list stops: the first entry that is refused decides, unless memory ran out.
 use Rattle.std.proofs.Common.{◌≡◌, ℕ, ◌<◌, List, map, length, drop, get_or, Result, Ok}
 use Rattle.ui_machine.specs.Outcome.{◌>>=◌}
-use Rattle.handler_code.specs.declared.fault.ProgramFault.{ProgramFault}
-use Rattle.handler_code.specs.declared.error.ProgramError.{ProgramError}
-use Rattle.handler_code.specs.declared.error.ProgramError.TheVariants as program_errors
-use Rattle.handler_code.specs.declared.reading.outline_fault.OutlineError.{OutlineError}
-use Rattle.handler_code.specs.declared.reading.outline_fault.OutlineError.TheVariants as outline_errors
-use Rattle.handler_code.specs.Reading.Each.{each}
-use Rattle.handler_code.specs.Reading.OutlineFaults as outlines
-use Rattle.handler_code.specs.Reading.Programs as programs
+use Rattle.bytecode.specs.declared.faults.ProgramFault.{ProgramFault}
+use Rattle.bytecode.specs.declared.errors.ProgramError.{ProgramError}
+use Rattle.bytecode.specs.declared.errors.ProgramError.TheVariants as program_errors
+use Rattle.bytecode.specs.declared.outline_faults.OutlineError.{OutlineError}
+use Rattle.bytecode.specs.declared.outline_faults.OutlineError.TheVariants as outline_errors
+use Rattle.bytecode.specs.Reading.Each.{each}
+use Rattle.bytecode.specs.Reading.OutlineFaults as outlines
+use Rattle.bytecode.specs.Reading.Programs as programs
 use Rattle.handler_code.proofs.Each.{stops}
 
 pub stops_outline : {S X V A : Type 0} (step : ℕ → S → X → Result S outlines.OutlineFault) (view : V → X) (vs : List V) (i : ℕ) (s : S) (total : Result S outlines.OutlineFault)

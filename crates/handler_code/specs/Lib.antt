@@ -1,8 +1,8 @@
-pub mod Computing
-pub mod Operand
-pub mod View
-pub mod FrameView
-pub mod Shape
-pub mod Known
+pub use Rattle.bytecode.specs.Computing
+pub use Rattle.bytecode.specs.View
+pub use Rattle.bytecode.specs.Shape
+pub use Rattle.bytecode.specs.Known
+pub use Rattle.bytecode.specs.Later
+pub use Rattle.frames.specs.Operand
+pub use Rattle.frames.specs.FrameView
 pub mod Reading
-pub mod Later

@@ -14,7 +14,6 @@ mod operand_lists;
 mod operand_shapes;
 mod operand_words;
 mod outline;
-mod outline_fault;
 mod outline_parts;
 mod outlines;
 mod programs;
@@ -26,7 +25,6 @@ mod source_rows;
 
 pub use instructions::read_instruction;
 pub use names::Names;
-pub use outline_fault::{OutlineError, OutlineFault, ProgramPart};
 pub use outlines::check_outline;
 pub use programs::read_program;
 pub use scope::Scope;

@@ -13,12 +13,12 @@ use Rattle.type_tree.specs.Tree.{IsTree}
 use Rattle.type_tree.proofs.Entries.{read-last}
 use Rattle.param_specs.specs.declared.error.SpecFault.{SpecFault}
 use Rattle.param_specs.specs.Table.{install_fault, canonical_spec}
-use Rattle.builder_defs.specs.Refusals.{Refusal, shape}
-use Rattle.builder_defs.specs.Document.{each, at_entry, under, nth, entries, entries_at, items_or_none}
-use Rattle.builder_defs.specs.Denoted.Entries.{TypeNames}
-use Rattle.builder_defs.specs.Denoted.Drafts.{properties_at}
-use Rattle.builder_defs.specs.Denoted.Overrides.{Own, is_own, own_name, own_with, if_read, own_at, own_ahead}
-use Rattle.builder_defs.specs.Denoted.Properties.{specs_by, inherited_of, inherited_by, spec_at, add_own, installed_or, property_at}
+use Rattle.definition_format.specs.Refusals.{Refusal, shape}
+use Rattle.definition_format.specs.Document.{each, at_entry, under, nth, entries, entries_at, items_or_none}
+use Rattle.definition_format.specs.Denoted.Entries.{TypeNames}
+use Rattle.definition_format.specs.Denoted.Drafts.{properties_at}
+use Rattle.definition_format.specs.Denoted.Overrides.{Own, is_own, own_name, own_with, if_read, own_at, own_ahead}
+use Rattle.definition_format.specs.Denoted.Properties.{specs_by, inherited_of, inherited_by, spec_at, add_own, installed_or, property_at}
 use Rattle.law_typing.specs.Verdict.Accepted.{Each}
 use Rattle.law_typing.proofs.Lists.{each_append}
 use Rattle.law_reading.proofs.Ancestors.{Implements, itself, child_specs}

@@ -15,7 +15,7 @@ use Rattle.type_tree.specs.Tree.{IsTree}
 use Rattle.type_tree.specs.Adding.{sort_of}
 use Rattle.type_tree.proofs.Lines.{parent_within, line_from-parent, line_from-root, is_a-here, is_a-up, is_a-root}
 use Rattle.type_tree.proofs.Entries.{read-past, read-front}
-use Rattle.builder_defs.specs.Denoted.Properties.{specs_by, add_own}
+use Rattle.definition_format.specs.Denoted.Properties.{specs_by, add_own}
 
 -- these are interfaces
 abbrev pub AreInterfaces : List GType → List ℕ → Type 0

@@ -4,11 +4,11 @@ use Rattle.serde_json.specs.Data.{Data}
 use Rattle.serde_json.specs.Find.{get, as_str}
 use Rattle.ui_machine.specs.Definition.Places.{Attached}
 use Rattle.ui_machine.specs.Definition.Programs.{Program}
-use Rattle.builder_defs.specs.Refusals.{unknown, or_refused}
-use Rattle.builder_defs.specs.Document.{at_entry, entries_at, members_at, nth, only_at, text_at, truth_at, under}
-use Rattle.builder_defs.specs.Denoted.Attached.{all_attached, attached_at, attached_in, data_or, detail_or, keys_of_attached, name_of, program_under, some_data, truth_if}
-use Rattle.builder_defs.specs.Denoted.Entries.{ObjectNames, at_most, number_from}
-use Rattle.builder_defs.proofs.Soundness.{OnRead, on_all, on_bind, on_each}
+use Rattle.definition_format.specs.Refusals.{unknown, or_refused}
+use Rattle.definition_format.specs.Document.{at_entry, entries_at, members_at, nth, only_at, text_at, truth_at, under}
+use Rattle.definition_format.specs.Denoted.Attached.{all_attached, attached_at, attached_in, data_or, detail_or, keys_of_attached, name_of, program_under, some_data, truth_if}
+use Rattle.definition_format.specs.Denoted.Entries.{ObjectNames, at_most, number_from}
+use Rattle.definition_format.proofs.Soundness.{OnRead, on_all, on_bind, on_each}
 use Rattle.law_typing.specs.Verdict.Accepted.{Each}
 use Rattle.law_typing.proofs.Lists.{each_append}
 use Rattle.law_reading.proofs.GivenProofs.{number_within}

@@ -7,8 +7,8 @@ use Rattle.std.proofs.lemmas.Bool.{ltb-true}
 use Rattle.std.proofs.lemmas.Option.{none-some}
 use Rattle.ui_machine.specs.Definition.Programs.{Block, Instruction}
 use Rattle.ui_machine.specs.Definition.Programs as words
-use Rattle.handler_code.specs.Reading.Each.{each}
-use Rattle.handler_code.specs.Shape.{ends_block, first_backward, first_open, is_ended, leads_back}
+use Rattle.bytecode.specs.Reading.Each.{each}
+use Rattle.bytecode.specs.Shape.{ends_block, first_backward, first_open, is_ended, leads_back}
 use Rattle.law_typing.specs.Graph.{next_of}
 use Rattle.law_typing.specs.Laws.WellRead.{Ends, ends}
 use Rattle.law_typing.specs.Verdict.Accepted.{Each}

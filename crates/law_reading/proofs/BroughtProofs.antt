@@ -17,11 +17,11 @@ use Rattle.signal_core.proofs.Walks.{any_brought}
 use Rattle.signal_core.specs.Sources.{each_once, number_named, sources_of}
 use Rattle.type_tree.specs.Adding.{sort_of}
 use Rattle.type_tree.specs.Tree.{IsTree}
-use Rattle.builder_defs.specs.Refusals.{duplicate}
-use Rattle.builder_defs.specs.Denoted.Brought.{own_signals_ahead, is_brought, is_again}
-use Rattle.builder_defs.specs.Denoted.Drafts.{Draft}
-use Rattle.builder_defs.specs.Denoted.Implements.{Heir, brings_again, check_brought}
-use Rattle.builder_defs.specs.Denoted.Signals.{signals_by}
+use Rattle.definition_format.specs.Refusals.{duplicate}
+use Rattle.definition_format.specs.Denoted.Brought.{own_signals_ahead, is_brought, is_again}
+use Rattle.definition_format.specs.Denoted.Drafts.{Draft}
+use Rattle.definition_format.specs.Denoted.Implements.{Heir, brings_again, check_brought}
+use Rattle.definition_format.specs.Denoted.Signals.{signals_by}
 use Rattle.law_reading.proofs.Ancestors.{Implements}
 use Rattle.law_reading.proofs.ListProofs.{each_get}
 use Rattle.law_reading.proofs.NameProofs.{AreApart, is_named, neither, none_called, signal_name, unnamed_parts, unnamed_both, apart_joined, apart_rest}

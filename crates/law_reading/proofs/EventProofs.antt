@@ -23,10 +23,10 @@ use Rattle.ui_machine.specs.Definition.Values.{Value}
 use Rattle.ui_machine.specs.Output.Text.{members_of}
 use Rattle.ui_machine.specs.Rules.Ancestry.{is_a}
 use Rattle.ui_machine.specs.Rules.Transform.{kind_fits}
-use Rattle.builder_defs.specs.Meaning as code
-use Rattle.builder_defs.specs.Meaning.{is_object_there, if_object, object_place}
-use Rattle.builder_defs.specs.Denoted.Given.{reference}
-use Rattle.builder_defs.specs.EventMeaning.{EventRefusal, unknown, shape, not_readable, construct_only, not_writable, value_fault, or_refused, line_value, has_one_member, words_of_set, words_of_get, Target, target, object_of, object_named, is_of_kind, itself, given_by, or_value_fault, writable, readable, set_event, get_event, release_event, release_by, event_by, event_meant, event_denoted, words_of_emit, SignalTarget, but_notify, signal_target, count, check_count, check_detail, each_of, id_known, argument, emit_event, emit_by}
+use Rattle.definition_format.specs.Meaning as code
+use Rattle.definition_format.specs.Meaning.{is_object_there, if_object, object_place}
+use Rattle.definition_format.specs.Denoted.Given.{reference}
+use Rattle.definition_format.specs.EventMeaning.{EventRefusal, unknown, shape, not_readable, construct_only, not_writable, value_fault, or_refused, line_value, has_one_member, words_of_set, words_of_get, Target, target, object_of, object_named, is_of_kind, itself, given_by, or_value_fault, writable, readable, set_event, get_event, release_event, release_by, event_by, event_meant, event_denoted, words_of_emit, SignalTarget, but_notify, signal_target, count, check_count, check_detail, each_of, id_known, argument, emit_event, emit_by}
 use Rattle.law_typing.specs.Rules.RegisterKinds.{class_at}
 use Rattle.law_typing.specs.Graph.Channels.{spec_at}
 use Rattle.law_typing.specs.Laws.WellRead.{no_class_of, GivenFits, IsObject}

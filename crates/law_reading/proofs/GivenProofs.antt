@@ -17,13 +17,13 @@ use Rattle.ui_machine.specs.Definition.Types.{GType}
 use Rattle.ui_machine.specs.Definition.Values.{Value}
 use Rattle.ui_machine.specs.Output.Text.{members_of}
 use Rattle.ui_machine.specs.Rules.Transform.{kind_fits}
-use Rattle.builder_defs.specs.Causes.{not_writable}
-use Rattle.builder_defs.specs.Refusals.{Refusal, shape, unknown, duplicate, bad_spec, value_fault, forward_construct_only, or_refused, or_value_fault}
-use Rattle.builder_defs.specs.Document.{at_entry, under, nth, members_at, text_at, entries_at, absent_at, only_at}
-use Rattle.builder_defs.specs.Denoted.Entries.{ObjectNames, name_under, number_from, at_most, is_called}
-use Rattle.builder_defs.specs.Denoted.Names.{is_name}
-use Rattle.builder_defs.specs.Denoted.Given.{property_named, is_given, named_once, takes_value, reference, class_ahead, may_be, place_called, referred, itself, given_by, value_or_bind, value_at, spec_ahead, place_ahead, is_from, is_too_late, in_time, keys_of_given, given_at, givens_at}
-use Rattle.builder_defs.proofs.Soundness.{OnRead, on_bind, on_all, on_each}
+use Rattle.definition_format.specs.Causes.{not_writable}
+use Rattle.definition_format.specs.Refusals.{Refusal, shape, unknown, duplicate, bad_spec, value_fault, forward_construct_only, or_refused, or_value_fault}
+use Rattle.definition_format.specs.Document.{at_entry, under, nth, members_at, text_at, entries_at, absent_at, only_at}
+use Rattle.definition_format.specs.Denoted.Entries.{ObjectNames, name_under, number_from, at_most, is_called}
+use Rattle.definition_format.specs.Denoted.Names.{is_name}
+use Rattle.definition_format.specs.Denoted.Given.{property_named, is_given, named_once, takes_value, reference, class_ahead, may_be, place_called, referred, itself, given_by, value_or_bind, value_at, spec_ahead, place_ahead, is_from, is_too_late, in_time, keys_of_given, given_at, givens_at}
+use Rattle.definition_format.proofs.Soundness.{OnRead, on_bind, on_all, on_each}
 use Rattle.law_typing.specs.Verdict.Accepted.{Each}
 use Rattle.law_typing.specs.Laws.WellRead.{no_two, no_class_of}
 use Rattle.law_typing.proofs.Lists.{each_append}

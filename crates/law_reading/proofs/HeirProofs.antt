@@ -8,15 +8,15 @@ use Rattle.ui_machine.specs.Definition.Types.{GType}
 use Rattle.ui_machine.specs.Definition.Types as sorts
 use Rattle.type_tree.specs.Tree.{IsTree}
 use Rattle.type_tree.specs.Adding.{find_type, sort_of, is_interface, of_sort}
-use Rattle.builder_defs.specs.Refusals.{Refusal, shape, unknown, bad_spec, or_refused, refused_if}
-use Rattle.builder_defs.specs.Document.{each, at_entry, under, nth, entries_at}
-use Rattle.builder_defs.specs.Denoted.Entries.{TypeNames}
-use Rattle.builder_defs.specs.Denoted.Drafts.{Draft}
-use Rattle.builder_defs.specs.Denoted.Brought.{own_signals_ahead}
-use Rattle.builder_defs.specs.Denoted.Overrides.{Own, own_ahead, override_cause}
-use Rattle.builder_defs.specs.Denoted.Properties.{specs_by}
-use Rattle.builder_defs.specs.Denoted.Implements.{Heir, heir_with, heir_at, check_brought, check_prerequisites, check_overrides, newly_implemented, interface_at_entry, implemented_at, named_at, implements_listed, implements_of, implements_at}
-use Rattle.builder_defs.proofs.Soundness.{OnRead, on_bind, on_all, on_each}
+use Rattle.definition_format.specs.Refusals.{Refusal, shape, unknown, bad_spec, or_refused, refused_if}
+use Rattle.definition_format.specs.Document.{each, at_entry, under, nth, entries_at}
+use Rattle.definition_format.specs.Denoted.Entries.{TypeNames}
+use Rattle.definition_format.specs.Denoted.Drafts.{Draft}
+use Rattle.definition_format.specs.Denoted.Brought.{own_signals_ahead}
+use Rattle.definition_format.specs.Denoted.Overrides.{Own, own_ahead, override_cause}
+use Rattle.definition_format.specs.Denoted.Properties.{specs_by}
+use Rattle.definition_format.specs.Denoted.Implements.{Heir, heir_with, heir_at, check_brought, check_prerequisites, check_overrides, newly_implemented, interface_at_entry, implemented_at, named_at, implements_listed, implements_of, implements_at}
+use Rattle.definition_format.proofs.Soundness.{OnRead, on_bind, on_all, on_each}
 use Rattle.std.specs.List.{list_any}
 use Rattle.law_reading.proofs.Ancestors.{AreInterfaces, Implements}
 use Rattle.law_reading.proofs.BroughtProofs.{Brings, BringsAhead, AreBrought, first_brought, one_brought, none_brought}

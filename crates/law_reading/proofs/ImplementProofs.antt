@@ -8,11 +8,11 @@ use Rattle.ui_machine.specs.Output.Text.{no_type}
 use Rattle.ui_machine.specs.Rules.Ancestry.{implemented}
 use Rattle.type_tree.specs.Tree.{IsTree}
 use Rattle.type_tree.proofs.Entries.{read-last}
-use Rattle.builder_defs.specs.Denoted.Entries.{TypeNames}
-use Rattle.builder_defs.specs.Denoted.Drafts.{properties_at}
-use Rattle.builder_defs.specs.Denoted.Overrides.{Own, own_ahead, override_cause}
-use Rattle.builder_defs.specs.Denoted.Properties.{specs_by, inherited_by}
-use Rattle.builder_defs.proofs.Soundness.{OnRead}
+use Rattle.definition_format.specs.Denoted.Entries.{TypeNames}
+use Rattle.definition_format.specs.Denoted.Drafts.{properties_at}
+use Rattle.definition_format.specs.Denoted.Overrides.{Own, own_ahead, override_cause}
+use Rattle.definition_format.specs.Denoted.Properties.{specs_by, inherited_by}
+use Rattle.definition_format.proofs.Soundness.{OnRead}
 use Rattle.law_reading.proofs.Ancestors.{AreInterfaces, Implements, is_interface}
 use Rattle.law_reading.proofs.ListProofs.{each_get, get_front}
 use Rattle.law_reading.proofs.PropertyProofs.{IsKept, OnlyAt, OwnRead, properties_only}

@@ -20,17 +20,17 @@ use Rattle.ui_machine.specs.Definition.Values.{Value}
 use Rattle.ui_machine.specs.Rules.Transform.{kind_fits}
 use Rattle.type_tree.specs.Adding.{find_type, of_sort, required_named, sort_of}
 use Rattle.g_values.specs.Reading.{json_value}
-use Rattle.handler_code.specs.Reading.KindWords.{enum_named, flags_named, is_enum, kind_by, kind_named, or_no_kind, or_unknown, parted}
-use Rattle.handler_code.specs.Reading.Operands.{Refusal, bad_instruction, below, detail_at, expected, interval_at, kind_at, name_at, no_operand, number_at, number_below, operand, priority_at, register_or_null, register_or_null_at, registers_at, taken, value_at}
-use Rattle.handler_code.specs.Reading.OperandShapes.{comparison_at, connect_at, one_name, one_register, register_and_blocks, register_and_name, three_registers, two_registers}
-use Rattle.handler_code.specs.Reading.Scopes.{Scope}
-use Rattle.handler_code.specs.Reading.RegisterRows.{and_row, arithmetic_row, clear_row, compare_row, const_row, convert_row, join_row, move_row, not_row, or_row, same_row}
-use Rattle.handler_code.specs.Reading.ObjectRows.{adopt_row, dispose_row, freeze_row, get_row, new_row, notify_row, object_row, orphan_row, set_row, sink_row, thaw_row}
-use Rattle.handler_code.specs.Reading.SignalRows.{block_row, connect_row, disconnect_row, emit_row, stop_row, unbind_row, unblock_row}
-use Rattle.handler_code.specs.Reading.SourceRows.{call_row, idle_row, remove_row, timeout_row}
-use Rattle.handler_code.specs.Reading.JumpRows.{branch_null_row, branch_row, jump_row, return_row}
-use Rattle.handler_code.specs.Reading.Words.{instruction_at, jump_word, object_word, register_word, signal_word, source_word, unless_later}
-use Rattle.handler_code.specs.Later.{is_later}
+use Rattle.bytecode.specs.Reading.KindWords.{enum_named, flags_named, is_enum, kind_by, kind_named, or_no_kind, or_unknown, parted}
+use Rattle.bytecode.specs.Reading.Operands.{Refusal, bad_instruction, below, detail_at, expected, interval_at, kind_at, name_at, no_operand, number_at, number_below, operand, priority_at, register_or_null, register_or_null_at, registers_at, taken, value_at}
+use Rattle.bytecode.specs.Reading.OperandShapes.{comparison_at, connect_at, one_name, one_register, register_and_blocks, register_and_name, three_registers, two_registers}
+use Rattle.bytecode.specs.Reading.Scopes.{Scope}
+use Rattle.bytecode.specs.Reading.RegisterRows.{and_row, arithmetic_row, clear_row, compare_row, const_row, convert_row, join_row, move_row, not_row, or_row, same_row}
+use Rattle.bytecode.specs.Reading.ObjectRows.{adopt_row, dispose_row, freeze_row, get_row, new_row, notify_row, object_row, orphan_row, set_row, sink_row, thaw_row}
+use Rattle.bytecode.specs.Reading.SignalRows.{block_row, connect_row, disconnect_row, emit_row, stop_row, unbind_row, unblock_row}
+use Rattle.bytecode.specs.Reading.SourceRows.{call_row, idle_row, remove_row, timeout_row}
+use Rattle.bytecode.specs.Reading.JumpRows.{branch_null_row, branch_row, jump_row, return_row}
+use Rattle.bytecode.specs.Reading.Words.{instruction_at, jump_word, object_word, register_word, signal_word, source_word, unless_later}
+use Rattle.bytecode.specs.Later.{is_later}
 use Rattle.law_typing.specs.Rules.Brackets.{written}
 use Rattle.law_typing.specs.Graph.{next_of}
 use Rattle.law_typing.specs.Verdict.Accepted.{Each}

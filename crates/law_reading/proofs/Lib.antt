@@ -32,5 +32,6 @@ pub mod PrototypeProofs
 pub mod PlaceProofs
 pub mod EventProofs
 pub mod Whole
+pub mod Held
 pub mod RunProofs
 pub mod WorkedReadingProofs

@@ -8,13 +8,13 @@ use Rattle.g_values.specs.Reading.{whole_number}
 use Rattle.ui_machine.specs.Seq.{total}
 use Rattle.ui_machine.specs.Definition.Places.{Place}
 use Rattle.ui_machine.specs.declared.limits.Limits.{Limits}
-use Rattle.builder_defs.specs.declared.fault.DefinitionLimit.{DefinitionLimit}
-use Rattle.builder_defs.specs.declared.fault.DefinitionLimit.TheVariants.{Objects, Handlers}
-use Rattle.builder_defs.specs.Meaning.{default_limits}
-use Rattle.builder_defs.specs.Refusals.{shape, limit, or_refused}
-use Rattle.builder_defs.specs.Document.{under, members_at, only_at}
-use Rattle.builder_defs.specs.Denoted.SessionLimits.{limit_within, given_limit, limit_or, keys_of_limits, given_limits, limits_or, limits_in}
-use Rattle.builder_defs.proofs.Soundness.{OnRead, on_bind, on_all}
+use Rattle.definition_format.specs.declared.faults.DefinitionLimit.{DefinitionLimit}
+use Rattle.definition_format.specs.declared.faults.DefinitionLimit.TheVariants.{Objects, Handlers}
+use Rattle.definition_format.specs.Meaning.{default_limits}
+use Rattle.definition_format.specs.Refusals.{shape, limit, or_refused}
+use Rattle.definition_format.specs.Document.{under, members_at, only_at}
+use Rattle.definition_format.specs.Denoted.SessionLimits.{limit_within, given_limit, limit_or, keys_of_limits, given_limits, limits_or, limits_in}
+use Rattle.definition_format.proofs.Soundness.{OnRead, on_bind, on_all}
 use Rattle.law_typing.specs.Laws.WellRead.{is_object}
 use Rattle.law_typing.specs.Verdict.Accepted.{Each}
 

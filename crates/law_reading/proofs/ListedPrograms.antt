@@ -7,14 +7,14 @@ use Rattle.ui_machine.specs.Seq.{read}
 use Rattle.ui_machine.specs.Output.Text.{no_type}
 use Rattle.ui_machine.specs.Definition.{Definition}
 use Rattle.ui_machine.specs.Definition.Programs.{Program}
-use Rattle.handler_code.specs.declared.fault.ProgramFault.{ProgramFault}
-use Rattle.handler_code.specs.Reading.Outline.{Outline, outline_in}
-use Rattle.handler_code.specs.Reading.OutlineFaults.{OutlineFault}
-use Rattle.handler_code.specs.Reading.Programs.{program_of}
-use Rattle.builder_defs.specs.Document.{at_entry, entries_at, members_at, text_at, under}
-use Rattle.builder_defs.specs.Denoted.Entries.{place_with_id}
-use Rattle.builder_defs.specs.Denoted.Programs.{code_names, new_program, or_bad_program, program_at, program_in, programs_in, read_ahead, room_for_program, unless_refused}
-use Rattle.builder_defs.proofs.Soundness.{OnRead, on_all, on_bind, on_each}
+use Rattle.bytecode.specs.declared.faults.ProgramFault.{ProgramFault}
+use Rattle.bytecode.specs.Reading.Outline.{Outline, outline_in}
+use Rattle.bytecode.specs.Reading.OutlineFaults.{OutlineFault}
+use Rattle.bytecode.specs.Reading.Programs.{program_of}
+use Rattle.definition_format.specs.Document.{at_entry, entries_at, members_at, text_at, under}
+use Rattle.definition_format.specs.Denoted.Entries.{place_with_id}
+use Rattle.definition_format.specs.Denoted.Programs.{code_names, new_program, or_bad_program, program_at, program_in, programs_in, read_ahead, room_for_program, unless_refused}
+use Rattle.definition_format.proofs.Soundness.{OnRead, on_all, on_bind, on_each}
 use Rattle.law_typing.specs.Laws.WellRead.{ProgramRead}
 use Rattle.law_typing.specs.Verdict.Accepted.{Each}
 use Rattle.law_typing.proofs.Lists.{each_append}

@@ -11,10 +11,10 @@ use Rattle.ui_machine.specs.Definition.Kinds.{int, uint}
 use Rattle.ui_machine.specs.Definition.Types.{GType, Member}
 use Rattle.ui_machine.specs.Definition.Types as sorts
 use Rattle.ui_machine.specs.Rules.Transform.{least, greatest, is_between, has_number}
-use Rattle.builder_defs.specs.Refusals.{Refusal, shape, or_refused}
-use Rattle.builder_defs.specs.Document.{each, at_entry, under, nth}
-use Rattle.builder_defs.specs.Denoted.Enums.{parts_at, name_at, number_if, number_at, unless_there, has_name, member_with, enum_member_at, flags_member_at, some_items, some_entries_at, members_with}
-use Rattle.builder_defs.proofs.Soundness.{OnRead, on_bind, on_all, on_each}
+use Rattle.definition_format.specs.Refusals.{Refusal, shape, or_refused}
+use Rattle.definition_format.specs.Document.{each, at_entry, under, nth}
+use Rattle.definition_format.specs.Denoted.Enums.{parts_at, name_at, number_if, number_at, unless_there, has_name, member_with, enum_member_at, flags_member_at, some_items, some_entries_at, members_with}
+use Rattle.definition_format.proofs.Soundness.{OnRead, on_bind, on_all, on_each}
 use Rattle.law_typing.specs.Graph.Channels.{is_filled}
 use Rattle.law_typing.specs.Laws.WellRead.{has_few_bits}
 use Rattle.law_reading.proofs.ValueProofs.{AreBits, HaveFewBits, few_between, both_true}

@@ -8,10 +8,10 @@ use Rattle.serde_json.specs.Data.{Data, Items, no_items, item}
 use Rattle.ui_machine.specs.Definition.Names.{same_name}
 use Rattle.ui_machine.specs.Definition.Types.{GType}
 use Rattle.type_tree.specs.Adding.{find_type}
-use Rattle.builder_defs.specs.Refusals.{Refusal}
-use Rattle.builder_defs.specs.Document.{each}
-use Rattle.builder_defs.specs.Denoted.Entries.{TypeNames, name_under, names_under, number_from, later_type}
-use Rattle.builder_defs.proofs.Soundness.{OnRead, on_bind}
+use Rattle.definition_format.specs.Refusals.{Refusal}
+use Rattle.definition_format.specs.Document.{each}
+use Rattle.definition_format.specs.Denoted.Entries.{TypeNames, name_under, names_under, number_from, later_type}
+use Rattle.definition_format.proofs.Soundness.{OnRead, on_bind}
 use Rattle.law_reading.proofs.NameProofs.{name_refl}
 use Rattle.law_reading.proofs.OverrideProofs.{bytes_same}
 use Rattle.law_reading.proofs.ReadAheadProofs.{place_more}

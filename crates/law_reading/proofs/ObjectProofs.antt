@@ -12,16 +12,16 @@ use Rattle.ui_machine.specs.Definition.Properties.{Spec}
 use Rattle.ui_machine.specs.Definition.Types.{GType}
 use Rattle.ui_machine.specs.Definition.Types as sorts
 use Rattle.ui_machine.specs.Output.Text.{no_type, members_of}
-use Rattle.builder_defs.specs.Causes.{abstract_class}
-use Rattle.builder_defs.specs.declared.fault.DefinitionLimit.TheVariants.{Places, Objects}
-use Rattle.builder_defs.specs.Refusals.{shape, unknown, bad_type, limit, or_refused}
-use Rattle.builder_defs.specs.Document.{each, at_entry, under, nth, members_at, text_at, entries_at, absent_at, only_at}
-use Rattle.builder_defs.specs.Denoted.Attached.{all_attached}
-use Rattle.builder_defs.specs.Denoted.Objects.{Scope, room_for_object, new_id, unless_abstract, class_at_key, keys_of_object, place_at, added_at, object_at}
-use Rattle.builder_defs.specs.Denoted.Entries.{ObjectNames, names_of, name_under, section, with_all, in_order, most_levels}
-use Rattle.builder_defs.specs.Denoted.Given.{class_ahead, givens_at}
-use Rattle.builder_defs.specs.Denoted.{objects_in}
-use Rattle.builder_defs.proofs.Soundness.{OnRead, on_bind, on_all}
+use Rattle.definition_format.specs.Causes.{abstract_class}
+use Rattle.definition_format.specs.declared.faults.DefinitionLimit.TheVariants.{Places, Objects}
+use Rattle.definition_format.specs.Refusals.{shape, unknown, bad_type, limit, or_refused}
+use Rattle.definition_format.specs.Document.{each, at_entry, under, nth, members_at, text_at, entries_at, absent_at, only_at}
+use Rattle.definition_format.specs.Denoted.Attached.{all_attached}
+use Rattle.definition_format.specs.Denoted.Objects.{Scope, room_for_object, new_id, unless_abstract, class_at_key, keys_of_object, place_at, added_at, object_at}
+use Rattle.definition_format.specs.Denoted.Entries.{ObjectNames, names_of, name_under, section, with_all, in_order, most_levels}
+use Rattle.definition_format.specs.Denoted.Given.{class_ahead, givens_at}
+use Rattle.definition_format.specs.Denoted.{objects_in}
+use Rattle.definition_format.proofs.Soundness.{OnRead, on_bind, on_all}
 use Rattle.law_typing.specs.Verdict.Accepted.{Each}
 use Rattle.law_reading.proofs.AttachedProofs.{HasData, attached_read}
 use Rattle.law_reading.proofs.GivenProofs.{AreGiven, all_given}

@@ -9,8 +9,8 @@ use Rattle.ui_machine.specs.Definition.Properties.{Spec}
 use Rattle.ui_machine.specs.Rules.Transform.{same_kind, same_value, same_bool}
 use Rattle.param_specs.specs.Table.{slot_named, canonical_spec}
 use Rattle.param_specs.specs.Overriding.{same_range, same_rest, same_spec, spec_named}
-use Rattle.builder_defs.specs.Causes.{override_missing, override_differs}
-use Rattle.builder_defs.specs.Denoted.Overrides.{Own, is_own, Override, fine, missing, different, compared, override_by, override_of, is_missing, is_different, cause_or, override_cause}
+use Rattle.definition_format.specs.Causes.{override_missing, override_differs}
+use Rattle.definition_format.specs.Denoted.Overrides.{Own, is_own, Override, fine, missing, different, compared, override_by, override_of, is_missing, is_different, cause_or, override_cause}
 use Rattle.law_typing.specs.Verdict.Inherits as inherits
 use Rattle.law_typing.specs.Verdict.Accepted.{Each}
 use Rattle.law_typing.proofs.Lists.{both_parts}

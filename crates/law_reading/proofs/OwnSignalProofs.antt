@@ -13,13 +13,13 @@ use Rattle.signal_core.specs.Table.{canonical_signal}
 use Rattle.signal_core.specs.declared.fault.SignalFault.TheVariants.{BadName}
 use Rattle.type_tree.specs.Adding.{sort_of}
 use Rattle.type_tree.specs.PropertyName.{is_property_name}
-use Rattle.builder_defs.specs.Refusals.{shape, not_declared}
-use Rattle.builder_defs.specs.Document.{each, at_entry, under, nth, members_at, text_at, entries_at, only_at}
-use Rattle.builder_defs.specs.Denoted.Brought.{names_with, own_signal_at, own_signals_ahead}
-use Rattle.builder_defs.specs.Denoted.Entries.{TypeNames}
-use Rattle.builder_defs.specs.Denoted.Overrides.{own_name}
-use Rattle.builder_defs.specs.Denoted.Signals.{signals_by, count_by, params_at, result_at, flags_at, accumulator_at, room_for_signal, told_twice, new_signal, keys_of_signal, signal_of_entry, add_signal, signal_at, signals_at}
-use Rattle.builder_defs.proofs.Soundness.{OnRead, on_bind, on_all}
+use Rattle.definition_format.specs.Refusals.{shape, not_declared}
+use Rattle.definition_format.specs.Document.{each, at_entry, under, nth, members_at, text_at, entries_at, only_at}
+use Rattle.definition_format.specs.Denoted.Brought.{names_with, own_signal_at, own_signals_ahead}
+use Rattle.definition_format.specs.Denoted.Entries.{TypeNames}
+use Rattle.definition_format.specs.Denoted.Overrides.{own_name}
+use Rattle.definition_format.specs.Denoted.Signals.{signals_by, count_by, params_at, result_at, flags_at, accumulator_at, room_for_signal, told_twice, new_signal, keys_of_signal, signal_of_entry, add_signal, signal_at, signals_at}
+use Rattle.definition_format.proofs.Soundness.{OnRead, on_bind, on_all}
 use Rattle.law_typing.specs.Verdict.Accepted.{Each}
 use Rattle.law_typing.proofs.Lists.{each_append}
 use Rattle.law_reading.proofs.AheadProofs.{bound, listed_is}

@@ -7,16 +7,16 @@ use Rattle.ui_machine.specs.Definition.{Definition}
 use Rattle.ui_machine.specs.Definition.Programs.{Program}
 use Rattle.ui_machine.specs.Definition.Places.{Place}
 use Rattle.ui_machine.specs.declared.limits.Limits.{Limits}
-use Rattle.builder_defs.specs.Refusals.{Refusal, shape, or_refused}
-use Rattle.builder_defs.specs.Document.{document, under, members_at, entries, entries_at, only_at}
-use Rattle.builder_defs.specs.Denoted.Entries.{listed, section}
-use Rattle.builder_defs.specs.Denoted.Properties.{specs_by}
-use Rattle.builder_defs.specs.Denoted.Drafts.{ClassDraft}
-use Rattle.builder_defs.specs.Denoted.SessionLimits.{limits_in}
-use Rattle.builder_defs.specs.Denoted.Programs.{programs_in}
-use Rattle.builder_defs.specs.Denoted.Prototypes.{prototypes_in}
-use Rattle.builder_defs.specs.Denoted.{keys_of_definition, format_of, draft_in, objects_in, definition_in, definition_with, denoted}
-use Rattle.builder_defs.proofs.Soundness.{OnRead}
+use Rattle.definition_format.specs.Refusals.{Refusal, shape, or_refused}
+use Rattle.definition_format.specs.Document.{document, under, members_at, entries, entries_at, only_at}
+use Rattle.definition_format.specs.Denoted.Entries.{listed, section}
+use Rattle.definition_format.specs.Denoted.Properties.{specs_by}
+use Rattle.definition_format.specs.Denoted.Drafts.{ClassDraft}
+use Rattle.definition_format.specs.Denoted.SessionLimits.{limits_in}
+use Rattle.definition_format.specs.Denoted.Programs.{programs_in}
+use Rattle.definition_format.specs.Denoted.Prototypes.{prototypes_in}
+use Rattle.definition_format.specs.Denoted.{keys_of_definition, format_of, draft_in, objects_in, definition_in, definition_with, denoted}
+use Rattle.definition_format.proofs.Soundness.{OnRead}
 
 -- what follows one reading, where it gives something
 pub on_read : {A B : Type 0} (P : B → Type 0) (r : Result A Refusal) (f : A → Result B Refusal)

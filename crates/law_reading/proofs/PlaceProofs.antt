@@ -14,11 +14,11 @@ use Rattle.ui_machine.specs.Definition.Types.{GType}
 use Rattle.ui_machine.specs.Definition.Kinds.{Kind}
 use Rattle.ui_machine.specs.Rules.Construction.{is_forward}
 use Rattle.ui_machine.specs.declared.limits.Limits.{Limits}
-use Rattle.builder_defs.specs.Denoted.Drafts.{ClassDraft}
-use Rattle.builder_defs.specs.Denoted.Entries.{at_most}
-use Rattle.builder_defs.specs.Denoted.Given.{may_be}
-use Rattle.builder_defs.specs.Denoted.Properties.{specs_by}
-use Rattle.builder_defs.specs.Denoted.{definition_with}
+use Rattle.definition_format.specs.Denoted.Drafts.{ClassDraft}
+use Rattle.definition_format.specs.Denoted.Entries.{at_most}
+use Rattle.definition_format.specs.Denoted.Given.{may_be}
+use Rattle.definition_format.specs.Denoted.Properties.{specs_by}
+use Rattle.definition_format.specs.Denoted.{definition_with}
 use Rattle.law_typing.specs.Verdict.Accepted.{Each}
 use Rattle.law_typing.specs.Laws.WellRead.{no_two, is_plain, GivenFits, GivenRead, IsObject, IsObjectIf, PlaceRead}
 use Rattle.law_reading.proofs.AttachedProofs.{HasData, IsEntry}

@@ -18,18 +18,18 @@ use Rattle.ui_machine.specs.Definition.Kinds.{Kind, RegisterKind}
 use Rattle.ui_machine.specs.Definition.Kinds as kinds
 use Rattle.ui_machine.specs.Definition.Programs.{Block, Instruction, Program}
 use Rattle.type_tree.specs.Adding.{required_named}
-use Rattle.handler_code.specs.declared.fault.ProgramFault.{ProgramFault}
-use Rattle.handler_code.specs.declared.fault.ProgramFault.TheVariants as faults
-use Rattle.handler_code.specs.declared.fault.ProgramLimit.TheVariants as limits
-use Rattle.handler_code.specs.Reading.Each.{each, entries_of}
-use Rattle.handler_code.specs.Reading.KindWords.{KindFault, kind_named, kind_of_type, or_no_kind, or_unknown, parted}
-use Rattle.handler_code.specs.Reading.Operands.{Refusal, named}
-use Rattle.handler_code.specs.Reading.RegisterKinds.{Names, place_in, plain, register_kind_by, register_kind_in, register_kind_of}
-use Rattle.handler_code.specs.Reading.OutlineFaults.{Part, all_of, bad_shape, entry_of, kind_there, member_of, shaped}
-use Rattle.handler_code.specs.Reading.Outline.{BlockOutline, Outline, block_at, block_step, blocks_at, entries_or_none, entry_at, first_entry, fit_registers, keys_of_block, keys_of_program, kind_step, kinds_at, only_at, outline_in, registers_of, result_at, some_entries, some_entries_at}
-use Rattle.handler_code.specs.Reading.Programs.{blocks_in, code_in, code_step, filled, good_at, instruction_behind, with_next_instruction, program_of, program_with, scope_of, unless_fault}
-use Rattle.handler_code.specs.Reading.Words.{instruction_at}
-use Rattle.handler_code.specs.Shape.{at_block, first_backward, first_limit, first_open, instructions_in, is_ended, leads_back, or_next, shape_fault}
+use Rattle.bytecode.specs.declared.faults.ProgramFault.{ProgramFault}
+use Rattle.bytecode.specs.declared.faults.ProgramFault.TheVariants as faults
+use Rattle.bytecode.specs.declared.faults.ProgramLimit.TheVariants as limits
+use Rattle.bytecode.specs.Reading.Each.{each, entries_of}
+use Rattle.bytecode.specs.Reading.KindWords.{KindFault, kind_named, kind_of_type, or_no_kind, or_unknown, parted}
+use Rattle.bytecode.specs.Reading.Operands.{Refusal, named}
+use Rattle.bytecode.specs.Reading.RegisterKinds.{Names, place_in, plain, register_kind_by, register_kind_in, register_kind_of}
+use Rattle.bytecode.specs.Reading.OutlineFaults.{Part, all_of, bad_shape, entry_of, kind_there, member_of, shaped}
+use Rattle.bytecode.specs.Reading.Outline.{BlockOutline, Outline, block_at, block_step, blocks_at, entries_or_none, entry_at, first_entry, fit_registers, keys_of_block, keys_of_program, kind_step, kinds_at, only_at, outline_in, registers_of, result_at, some_entries, some_entries_at}
+use Rattle.bytecode.specs.Reading.Programs.{blocks_in, code_in, code_step, filled, good_at, instruction_behind, with_next_instruction, program_of, program_with, scope_of, unless_fault}
+use Rattle.bytecode.specs.Reading.Words.{instruction_at}
+use Rattle.bytecode.specs.Shape.{at_block, first_backward, first_limit, first_open, instructions_in, is_ended, leads_back, or_next, shape_fault}
 use Rattle.law_typing.specs.Rules.Brackets.{written}
 use Rattle.law_typing.specs.Graph.{next_of}
 use Rattle.law_typing.specs.Laws.WellRead.{BlockRead, ConstantFits, ProgramRead, RepeatRead, Within, is_set}

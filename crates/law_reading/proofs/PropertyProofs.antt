@@ -15,16 +15,16 @@ use Rattle.param_specs.specs.declared.error.SpecFault.{SpecFault}
 use Rattle.param_specs.specs.Table.{fault_if, ◌or_else◌, install_fault, slot_named, canonical_spec}
 use Rattle.type_tree.specs.PropertyName.{is_property_name}
 use Rattle.param_specs.specs.declared.error.SpecFault.TheVariants.{BadName, Duplicate, FlagsClash, RangeEmpty, DefaultInvalid, Limit}
-use Rattle.builder_defs.specs.Denoted.Drafts.{properties_at}
-use Rattle.builder_defs.specs.Refusals.{Refusal, shape, or_refused}
-use Rattle.builder_defs.specs.Document.{each, at_entry, under, nth, members_at, text_at, entries_at, only_at}
-use Rattle.builder_defs.specs.Denoted.Entries.{TypeNames}
-use Rattle.builder_defs.specs.Denoted.Kinds.{kind_at}
-use Rattle.builder_defs.specs.Denoted.PropertyFlags.{flag_if, flag_at, check_flags, listed_flags, flags_or, flags_at}
-use Rattle.builder_defs.specs.Denoted.Ranges.{whole_range, range_at}
-use Rattle.builder_defs.specs.Denoted.Defaults.{default_at, check_default, check_unranged}
-use Rattle.builder_defs.specs.Denoted.Properties.{specs_by, inherited_by, property_spec, room_for_property, new_property, weak_at, keys_of_property, valued_at, spec_at, add_own, installed_or, installed, property_at}
-use Rattle.builder_defs.proofs.Soundness.{OnRead, on_bind, on_all, on_each}
+use Rattle.definition_format.specs.Denoted.Drafts.{properties_at}
+use Rattle.definition_format.specs.Refusals.{Refusal, shape, or_refused}
+use Rattle.definition_format.specs.Document.{each, at_entry, under, nth, members_at, text_at, entries_at, only_at}
+use Rattle.definition_format.specs.Denoted.Entries.{TypeNames}
+use Rattle.definition_format.specs.Denoted.Kinds.{kind_at}
+use Rattle.definition_format.specs.Denoted.PropertyFlags.{flag_if, flag_at, check_flags, listed_flags, flags_or, flags_at}
+use Rattle.definition_format.specs.Denoted.Ranges.{whole_range, range_at}
+use Rattle.definition_format.specs.Denoted.Defaults.{default_at, check_default, check_unranged}
+use Rattle.definition_format.specs.Denoted.Properties.{specs_by, inherited_by, property_spec, room_for_property, new_property, weak_at, keys_of_property, valued_at, spec_at, add_own, installed_or, installed, property_at}
+use Rattle.definition_format.proofs.Soundness.{OnRead, on_bind, on_all, on_each}
 use Rattle.type_tree.specs.Tree.{IsTree}
 use Rattle.law_typing.specs.Verdict.Accepted.{Each}
 use Rattle.law_typing.proofs.Lists.{each_append}

@@ -12,13 +12,13 @@ use Rattle.ui_machine.specs.Definition.Types.{GType}
 use Rattle.ui_machine.specs.Definition.Values.{Value}
 use Rattle.ui_machine.specs.Output.Text.{members_of}
 use Rattle.ui_machine.specs.Rules.Transform.{kind_fits}
-use Rattle.builder_defs.specs.Causes.{not_writable}
-use Rattle.builder_defs.specs.Refusals.{bad_spec, or_value_fault}
-use Rattle.builder_defs.specs.Document.{at_entry, under, nth, members_at, text_at, entries_at, absent_at, only_at}
-use Rattle.builder_defs.specs.Denoted.Given.{property_named, is_given, named_once, itself}
-use Rattle.builder_defs.specs.Denoted.Objects.{new_id, class_at_key}
-use Rattle.builder_defs.specs.Denoted.Prototypes.{if_writable, plain_value, keys_of_plain, plain_at, all_plain_at, room_for_prototype, keys_of_prototype, prototype_in, prototype_at, prototypes_in}
-use Rattle.builder_defs.proofs.Soundness.{OnRead, on_bind, on_all, on_each}
+use Rattle.definition_format.specs.Causes.{not_writable}
+use Rattle.definition_format.specs.Refusals.{bad_spec, or_value_fault}
+use Rattle.definition_format.specs.Document.{at_entry, under, nth, members_at, text_at, entries_at, absent_at, only_at}
+use Rattle.definition_format.specs.Denoted.Given.{property_named, is_given, named_once, itself}
+use Rattle.definition_format.specs.Denoted.Objects.{new_id, class_at_key}
+use Rattle.definition_format.specs.Denoted.Prototypes.{if_writable, plain_value, keys_of_plain, plain_at, all_plain_at, room_for_prototype, keys_of_prototype, prototype_in, prototype_at, prototypes_in}
+use Rattle.definition_format.proofs.Soundness.{OnRead, on_bind, on_all, on_each}
 use Rattle.law_typing.specs.Verdict.Accepted.{Each}
 use Rattle.law_typing.specs.Laws.WellRead.{no_two, no_class_of}
 use Rattle.law_typing.proofs.Lists.{each_append}

@@ -10,7 +10,7 @@ use Rattle.ui_machine.specs.Rules.Ancestry.{parent_of, is_a, is_or_implements, i
 use Rattle.type_tree.specs.Tree.{IsTree}
 use Rattle.type_tree.specs.Adding.{sort_of}
 use Rattle.type_tree.proofs.Entries.{read-past, read-front}
-use Rattle.builder_defs.specs.Denoted.Properties.{specs_by}
+use Rattle.definition_format.specs.Denoted.Properties.{specs_by}
 use Rattle.law_reading.proofs.Ancestors.{Implements, is_interface, reached, root_specs, child_specs, unchanged_specs, front_specs}
 use Rattle.law_reading.proofs.ListProofs.{get_front}
 

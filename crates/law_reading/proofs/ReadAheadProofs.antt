@@ -26,19 +26,19 @@ use Rattle.type_tree.proofs.Entries.{read-front, read-last}
 use Rattle.param_specs.specs.Table.{slot_named}
 use Rattle.type_tree.specs.PropertyName.{is_property_name}
 use Rattle.param_specs.specs.declared.error.SpecFault.TheVariants.{Duplicate, BadName, DefaultInvalid}
-use Rattle.builder_defs.specs.declared.fault.DefinitionLimit.TheVariants.{Properties}
-use Rattle.builder_defs.specs.Refusals.{Refusal, shape, duplicate, not_installed, limit, or_value_fault}
-use Rattle.builder_defs.specs.Document.{under, members_at, text_at, only_at}
-use Rattle.builder_defs.specs.Denoted.Entries.{TypeNames, later_type, at_most}
-use Rattle.builder_defs.specs.Denoted.Kinds.{is_enum, is_flags, object_type, parted, kind_by, kind_at}
-use Rattle.builder_defs.specs.Denoted.PropertyFlags.{flags_at}
-use Rattle.builder_defs.specs.Denoted.Ranges.{whole_range, range_at}
-use Rattle.builder_defs.specs.Denoted.Defaults.{default_or_zero, default_at, check_default, check_unranged}
-use Rattle.builder_defs.specs.Denoted.Overrides.{own_name}
-use Rattle.builder_defs.specs.Denoted.Properties.{specs_by, inherited_of, inherited_by, property_spec, room_for_property, new_name, new_property, weak_at, keys_of_property, valued_at, spec_at}
-use Rattle.builder_defs.proofs.LaterTypes.{kept_but_class, IsKept, valid_later}
-use Rattle.builder_defs.specs.Meaning.{IsKnownKind}
-use Rattle.builder_defs.proofs.Soundness.{OnRead, on_bind, on_all, kind_open}
+use Rattle.definition_format.specs.declared.faults.DefinitionLimit.TheVariants.{Properties}
+use Rattle.definition_format.specs.Refusals.{Refusal, shape, duplicate, not_installed, limit, or_value_fault}
+use Rattle.definition_format.specs.Document.{under, members_at, text_at, only_at}
+use Rattle.definition_format.specs.Denoted.Entries.{TypeNames, later_type, at_most}
+use Rattle.definition_format.specs.Denoted.Kinds.{is_enum, is_flags, object_type, parted, kind_by, kind_at}
+use Rattle.definition_format.specs.Denoted.PropertyFlags.{flags_at}
+use Rattle.definition_format.specs.Denoted.Ranges.{whole_range, range_at}
+use Rattle.definition_format.specs.Denoted.Defaults.{default_or_zero, default_at, check_default, check_unranged}
+use Rattle.definition_format.specs.Denoted.Overrides.{own_name}
+use Rattle.definition_format.specs.Denoted.Properties.{specs_by, inherited_of, inherited_by, property_spec, room_for_property, new_name, new_property, weak_at, keys_of_property, valued_at, spec_at}
+use Rattle.definition_format.proofs.LaterTypes.{kept_but_class, IsKept, valid_later}
+use Rattle.definition_format.specs.Meaning.{IsKnownKind}
+use Rattle.definition_format.proofs.Soundness.{OnRead, on_bind, on_all, kind_open}
 use Rattle.law_static.proofs.Same.{names_same}
 use Rattle.law_reading.proofs.Ancestors.{child_specs}
 use Rattle.law_reading.proofs.AheadProofs.{IsReadAhead}

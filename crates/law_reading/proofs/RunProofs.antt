@@ -2,8 +2,8 @@
 use Rattle.std.proofs.Common.{◌≡◌, ℕ, List, Result, Ok, Err, refl}
 use Rattle.ui_machine.specs.Definition.{Definition}
 use Rattle.ui_machine.specs.State.Tasks.{Event}
-use Rattle.builder_defs.specs.Denoted.{denoted}
-use Rattle.builder_defs.specs.EventMeaning.{EventRefusal, event_denoted}
+use Rattle.definition_format.specs.Denoted.{denoted}
+use Rattle.definition_format.specs.EventMeaning.{EventRefusal, event_denoted}
 use Rattle.law_typing.specs.Verdict.Accepted.{Each}
 use Rattle.law_typing.proofs.Lists.{each_flat}
 use Rattle.law_sessions.specs.Sessions.{EventRead}

@@ -22,12 +22,12 @@ use Rattle.ui_machine.specs.declared.limits.Limits.{Limits}
 use Rattle.ui_machine.proofs.Listed.{read-listed, length-listed}
 use Rattle.ui_machine.specs.Words.{notify}
 use Rattle.signal_core.specs.Sources.{sources_of}
-use Rattle.builder_defs.specs.Meaning.{type_with, IsKnownKind, HasKnownKinds}
-use Rattle.builder_defs.specs.Denoted.Signals.{signals_by}
-use Rattle.builder_defs.specs.Denoted.Properties.{specs_by}
-use Rattle.builder_defs.specs.Denoted.Drafts.{ClassDraft}
-use Rattle.builder_defs.specs.Denoted.{definition_with}
-use Rattle.builder_defs.proofs.Soundness.{AllSignals}
+use Rattle.definition_format.specs.Meaning.{type_with, IsKnownKind, HasKnownKinds}
+use Rattle.definition_format.specs.Denoted.Signals.{signals_by}
+use Rattle.definition_format.specs.Denoted.Properties.{specs_by}
+use Rattle.definition_format.specs.Denoted.Drafts.{ClassDraft}
+use Rattle.definition_format.specs.Denoted.{definition_with}
+use Rattle.definition_format.proofs.Soundness.{AllSignals}
 use Rattle.law_typing.specs.Laws.WellRead.{HasNotify, has_values, result_has_values}
 use Rattle.law_reading.proofs.Ancestors.{transitive}
 use Rattle.law_reading.proofs.ListProofs.{all_entries, all_listed, each_get, get_front, read_past}

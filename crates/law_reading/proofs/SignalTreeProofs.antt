@@ -10,10 +10,10 @@ use Rattle.ui_machine.specs.Rules.Ancestry.{implemented}
 use Rattle.ui_machine.specs.Words.{notify}
 use Rattle.type_tree.proofs.Entries.{read-last}
 use Rattle.type_tree.specs.Tree.{IsTree}
-use Rattle.builder_defs.specs.Denoted.Brought.{own_signals_ahead}
-use Rattle.builder_defs.specs.Denoted.Drafts.{Draft}
-use Rattle.builder_defs.specs.Denoted.Entries.{TypeNames}
-use Rattle.builder_defs.specs.Denoted.Signals.{signals_by, signals_at}
+use Rattle.definition_format.specs.Denoted.Brought.{own_signals_ahead}
+use Rattle.definition_format.specs.Denoted.Drafts.{Draft}
+use Rattle.definition_format.specs.Denoted.Entries.{TypeNames}
+use Rattle.definition_format.specs.Denoted.Signals.{signals_by, signals_at}
 use Rattle.law_typing.specs.Verdict.Accepted.{Each}
 use Rattle.law_reading.proofs.Ancestors.{AreInterfaces, Implements}
 use Rattle.law_reading.proofs.BroughtProofs.{Brings}

@@ -20,7 +20,7 @@ use Rattle.type_tree.proofs.Lines.{parent_within, line_from-parent, line_from-ro
 use Rattle.type_tree.proofs.Lookups.{nat_eq-comm}
 use Rattle.type_tree.specs.Adding.{sort_of}
 use Rattle.type_tree.specs.Tree.{IsTree}
-use Rattle.builder_defs.specs.Denoted.Signals.{signals_by}
+use Rattle.definition_format.specs.Denoted.Signals.{signals_by}
 use Rattle.law_reading.proofs.Ancestors.{AreInterfaces, Implements, is_interface, along, last_own}
 use Rattle.law_reading.proofs.NameProofs.{neither, none_holds}
 use Rattle.law_reading.proofs.PropertyProofs.{OnlyAt}

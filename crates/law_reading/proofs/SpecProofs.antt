@@ -18,12 +18,12 @@ use Rattle.ui_machine.specs.Rules.Ancestry.{lineage, is_a}
 use Rattle.ui_machine.specs.Output.Text.{no_type}
 use Rattle.ui_machine.specs.Seq.{read}
 use Rattle.ui_machine.specs.declared.limits.Limits.{Limits}
-use Rattle.builder_defs.specs.Meaning.{type_with, IsPlain, IsPlainKind}
-use Rattle.builder_defs.specs.Denoted.Properties.{specs_by}
-use Rattle.builder_defs.specs.Denoted.Signals.{signals_by}
-use Rattle.builder_defs.specs.Denoted.Drafts.{ClassDraft, unanswered}
-use Rattle.builder_defs.specs.Denoted.{definition_with}
-use Rattle.builder_defs.proofs.Soundness.{PlainDraft, plain_flat, plain_get}
+use Rattle.definition_format.specs.Meaning.{type_with, IsPlain, IsPlainKind}
+use Rattle.definition_format.specs.Denoted.Properties.{specs_by}
+use Rattle.definition_format.specs.Denoted.Signals.{signals_by}
+use Rattle.definition_format.specs.Denoted.Drafts.{ClassDraft, unanswered}
+use Rattle.definition_format.specs.Denoted.{definition_with}
+use Rattle.definition_format.proofs.Soundness.{PlainDraft, plain_flat, plain_get}
 use Rattle.law_typing.specs.Laws.WellRead.{no_two, is_range, has_values, SpecRead}
 use Rattle.law_typing.specs.Verdict.Inherits.{has_all_of, inherits}
 use Rattle.law_typing.proofs.Lists.{each_flat}

@@ -21,21 +21,21 @@ use Rattle.type_tree.specs.declared.entry.TypeFlags.{TypeFlags}
 use Rattle.type_tree.specs.declared.error.TypeFault.TheVariants.{BadName, Duplicate}
 use Rattle.type_tree.specs.TypeName.{is_type_name}
 use Rattle.type_tree.proofs.Entries.{IsTree-append, read-front, read-past, read-last}
-use Rattle.builder_defs.specs.Causes.{unknown_parent, final_parent, named_cause}
-use Rattle.builder_defs.specs.Refusals.{Refusal, limit, shape, unknown, duplicate, bad_type, or_refused, refused_if}
-use Rattle.builder_defs.specs.declared.fault.DefinitionLimit.TheVariants.{Types}
-use Rattle.builder_defs.specs.Document.{each, at_entry, under, nth, members_at, text_at, entries_at, listed_ahead, nothing_at, only_at}
-use Rattle.builder_defs.specs.Denoted.Types.{is_declared, is_from, room_for_type, new_type_name}
-use Rattle.builder_defs.specs.Denoted.Enums.{enum_at, flags_at, enum_member_at, flags_member_at, members_with, keys_of_members}
-use Rattle.builder_defs.specs.Denoted.Entries.{ProgramNames, TypeNames, program_names, type_names, name_under, names_under, number_from, section}
-use Rattle.builder_defs.specs.Denoted.Drafts.{Answers, ClassDraft, Draft, bare_draft, no_answers, properties_at, given_at, type_at, unanswered, with_answers}
-use Rattle.builder_defs.specs.Denoted.Signals.{signals_at}
-use Rattle.builder_defs.specs.Denoted.Implements.{implements_at}
-use Rattle.builder_defs.specs.Denoted.Interfaces.{requires_at, interface_type_at, keys_of_interface, interface_at}
-use Rattle.builder_defs.specs.Denoted.Classes.{parent_found, parent_called, named_parent, parent_or, parent_at, parent_ahead, check_depth, keys_of_class, declared_at, answers_at, answering_at, class_at}
-use Rattle.builder_defs.specs.Denoted.Classes as classes
-use Rattle.builder_defs.specs.Denoted.{unset_before_classes, enums_in, flags_in, interfaces_in, classes_in, draft_in}
-use Rattle.builder_defs.proofs.Soundness.{OnRead, on_bind, on_all, on_each}
+use Rattle.definition_format.specs.Causes.{unknown_parent, final_parent, named_cause}
+use Rattle.definition_format.specs.Refusals.{Refusal, limit, shape, unknown, duplicate, bad_type, or_refused, refused_if}
+use Rattle.definition_format.specs.declared.faults.DefinitionLimit.TheVariants.{Types}
+use Rattle.definition_format.specs.Document.{each, at_entry, under, nth, members_at, text_at, entries_at, listed_ahead, nothing_at, only_at}
+use Rattle.definition_format.specs.Denoted.Types.{is_declared, is_from, room_for_type, new_type_name}
+use Rattle.definition_format.specs.Denoted.Enums.{enum_at, flags_at, enum_member_at, flags_member_at, members_with, keys_of_members}
+use Rattle.definition_format.specs.Denoted.Entries.{ProgramNames, TypeNames, program_names, type_names, name_under, names_under, number_from, section}
+use Rattle.definition_format.specs.Denoted.Drafts.{Answers, ClassDraft, Draft, bare_draft, no_answers, properties_at, given_at, type_at, unanswered, with_answers}
+use Rattle.definition_format.specs.Denoted.Signals.{signals_at}
+use Rattle.definition_format.specs.Denoted.Implements.{implements_at}
+use Rattle.definition_format.specs.Denoted.Interfaces.{requires_at, interface_type_at, keys_of_interface, interface_at}
+use Rattle.definition_format.specs.Denoted.Classes.{parent_found, parent_called, named_parent, parent_or, parent_at, parent_ahead, check_depth, keys_of_class, declared_at, answers_at, answering_at, class_at}
+use Rattle.definition_format.specs.Denoted.Classes as classes
+use Rattle.definition_format.specs.Denoted.{unset_before_classes, enums_in, flags_in, interfaces_in, classes_in, draft_in}
+use Rattle.definition_format.proofs.Soundness.{OnRead, on_bind, on_all, on_each}
 use Rattle.std.specs.List.{flat_map, list_any}
 use Rattle.ui_machine.specs.Definition.Properties.{Spec}
 use Rattle.ui_machine.specs.Definition.Signals.{Signal}

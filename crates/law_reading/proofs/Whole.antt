@@ -6,11 +6,11 @@ use Rattle.ui_machine.specs.Definition.Programs.{Program}
 use Rattle.ui_machine.specs.Definition.Places.{Place}
 use Rattle.ui_machine.specs.Output.Text.{no_type, members_of}
 use Rattle.ui_machine.specs.declared.limits.Limits.{Limits}
-use Rattle.builder_defs.specs.Denoted.{definition_with}
-use Rattle.builder_defs.specs.Denoted.Drafts.{ClassDraft, unanswered}
-use Rattle.builder_defs.specs.Denoted.Properties.{specs_by}
-use Rattle.builder_defs.proofs.Soundness as soundness
-use Rattle.builder_defs.proofs.Soundness.{OnRead, AreFew, AreWithin, PlainDraft, draft_plain, prototypes_within, PlainClasses}
+use Rattle.definition_format.specs.Denoted.{definition_with}
+use Rattle.definition_format.specs.Denoted.Drafts.{ClassDraft, unanswered}
+use Rattle.definition_format.specs.Denoted.Properties.{specs_by}
+use Rattle.definition_format.proofs.Soundness as soundness
+use Rattle.definition_format.proofs.Soundness.{OnRead, AreFew, AreWithin, PlainDraft, draft_plain, prototypes_within, PlainClasses}
 use Rattle.law_typing.specs.Laws.WellRead.{ProgramRead, TypesRead, WellRead}
 use Rattle.law_typing.specs.Verdict.Accepted.{Each}
 use Rattle.law_reading.specs.Reading.{ReadingIsWell, EventsAreRead}

@@ -5,24 +5,24 @@ use Rattle.std.specs.Fmt.{digits}
 use Rattle.std.specs.Str.{is_utf8, chars}
 use Rattle.serde_json.proofs.OnLiterals.{serde_json_on_literals}
 use Rattle.ui_machine.specs.Definition.Places.{Place}
-use Rattle.builder_defs.specs.Document.{each, document}
-use Rattle.builder_defs.specs.Denoted.{enums_in, flags_in, interfaces_in, classes_in, draft_in, objects_in, definition_in, denoted}
-use Rattle.builder_defs.specs.Denoted.Classes.{named_parent, flags_at, declared_at, answers_at, answering_at}
-use Rattle.builder_defs.specs.Denoted.ClassHandlers.{class_handlers_at}
-use Rattle.builder_defs.specs.Denoted.Constructed.{constructed_at}
-use Rattle.builder_defs.specs.Denoted.Drafts.{properties_at, type_at}
-use Rattle.builder_defs.specs.Denoted.Drafts as drafts
-use Rattle.builder_defs.specs.Denoted.Signals.{param_at, params_at, signal_of_entry, signal_at, signals_at}
+use Rattle.definition_format.specs.Document.{each, document}
+use Rattle.definition_format.specs.Denoted.{enums_in, flags_in, interfaces_in, classes_in, draft_in, objects_in, definition_in, denoted}
+use Rattle.definition_format.specs.Denoted.Classes.{named_parent, flags_at, declared_at, answers_at, answering_at}
+use Rattle.definition_format.specs.Denoted.ClassHandlers.{class_handlers_at}
+use Rattle.definition_format.specs.Denoted.Constructed.{constructed_at}
+use Rattle.definition_format.specs.Denoted.Drafts.{properties_at, type_at}
+use Rattle.definition_format.specs.Denoted.Drafts as drafts
+use Rattle.definition_format.specs.Denoted.Signals.{param_at, params_at, signal_of_entry, signal_at, signals_at}
 use Rattle.signal_core.specs.Sources.{sources_of}
-use Rattle.builder_defs.specs.Denoted.Implements.{implements_at}
-use Rattle.builder_defs.specs.Denoted.Attached.{all_attached}
-use Rattle.builder_defs.specs.Denoted.Programs.{programs_in}
-use Rattle.builder_defs.specs.Denoted.Prototypes.{plain_at, all_plain_at, prototype_in, prototype_at, prototypes_in}
-use Rattle.builder_defs.specs.Denoted.Given.{property_named, given_at, givens_at}
-use Rattle.builder_defs.specs.Denoted.Objects.{place_at, added_at, object_at}
-use Rattle.builder_defs.specs.Denoted.Properties.{valued_at, spec_at, property_at}
-use Rattle.builder_defs.specs.Denoted.Ranges.{range_at}
-use Rattle.builder_defs.specs.EventMeaning.{line_value, target, signal_target, object_of, each_of, id_known, argument, set_event, get_event, release_event, emit_event, event_meant, event_denoted}
+use Rattle.definition_format.specs.Denoted.Implements.{implements_at}
+use Rattle.definition_format.specs.Denoted.Attached.{all_attached}
+use Rattle.definition_format.specs.Denoted.Programs.{programs_in}
+use Rattle.definition_format.specs.Denoted.Prototypes.{plain_at, all_plain_at, prototype_in, prototype_at, prototypes_in}
+use Rattle.definition_format.specs.Denoted.Given.{property_named, given_at, givens_at}
+use Rattle.definition_format.specs.Denoted.Objects.{place_at, added_at, object_at}
+use Rattle.definition_format.specs.Denoted.Properties.{valued_at, spec_at, property_at}
+use Rattle.definition_format.specs.Denoted.Ranges.{range_at}
+use Rattle.definition_format.specs.EventMeaning.{line_value, target, signal_target, object_of, each_of, id_known, argument, set_event, get_event, release_event, emit_event, event_meant, event_denoted}
 use Rattle.law_typing.specs.Laws.StepsKeepGood.{PeerReady, PoolReady}
 use Rattle.law_typing.specs.Verdict.{verdict, accepted}
 use Rattle.law_typing.specs.Verdict.Accepted.{Each}

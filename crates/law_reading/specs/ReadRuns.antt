@@ -9,7 +9,7 @@ use Rattle.ui_machine.specs.State.Peers.{Peer, Reply}
 use Rattle.ui_machine.specs.State.Tasks.{Event}
 use Rattle.ui_machine.specs.State.Config.{World}
 use Rattle.ui_machine.specs.Runs.{Fits, Tally, IsRun, HaltsIn}
-use Rattle.builder_defs.specs.EventMeaning.{EventRefusal, event_denoted}
+use Rattle.definition_format.specs.EventMeaning.{EventRefusal, event_denoted}
 use Rattle.law_typing.specs.Graph.{graph}
 use Rattle.law_typing.specs.Verdict.{verdict, accepted}
 use Rattle.law_typing.specs.Verdict.Accepted.{Each, Accepted}

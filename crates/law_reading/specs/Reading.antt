@@ -2,8 +2,9 @@
 use Rattle.std.specs.Prelude.{◌≡◌, ℕ, List, Ok}
 use Rattle.ui_machine.specs.Definition.{Definition}
 use Rattle.ui_machine.specs.State.Tasks.{Event}
-use Rattle.builder_defs.specs.Denoted.{denoted}
-use Rattle.builder_defs.specs.EventMeaning.{event_denoted}
+use Rattle.definition_format.specs.Denoted.{denoted}
+use Rattle.definition_format.specs.Origin.{IsDenoted}
+use Rattle.definition_format.specs.EventMeaning.{event_denoted}
 use Rattle.law_typing.specs.Laws.WellRead.{WellRead}
 use Rattle.law_sessions.specs.Sessions.{EventRead}
 
@@ -18,3 +19,11 @@ ReadingIsWell = OfEachRead WellRead
 -- each event that a line denotes for it is one that the laws take
 abbrev pub EventsAreRead : Type 0
 EventsAreRead = OfEachRead (λ d. (line : List ℕ) (event : Event) → event_denoted d line ≡ Ok event → EventRead d event)
+
+-- what is so of each definition of which it is known that some bytes denote it: of each that the code holds
+abbrev pub OfEachHeld : (Definition → Type 0) → Type 0
+OfEachHeld P = (d : Definition) → IsDenoted d → P d
+
+-- each of these is well read
+abbrev pub HeldIsWell : Type 0
+HeldIsWell = OfEachHeld WellRead

@@ -9,7 +9,7 @@ use Rattle.ui_machine.specs.Definition.Signals.{Signal}
 use Rattle.ui_machine.specs.Definition.Values.{whole}
 use Rattle.ui_machine.specs.State.Tasks.{request, set, emit, get, release}
 use Rattle.ui_machine.specs.Words.{bare, class_with, notify, object, property, prototype, signal}
-use Rattle.builder_defs.specs.Denoted.{denoted}
+use Rattle.definition_format.specs.Denoted.{denoted}
 use Rattle.law_typing.specs.Examples.FirstRun as first_run
 use Rattle.law_typing.specs.Laws.StepsKeepGood.{PoolReady}
 use Rattle.law_typing.specs.Verdict.{verdict, accepted}

@@ -1,14 +1,16 @@
 //! What reading gives is what the laws of runs take.
 #![tactic(auto)]
 
-ghost use Rattle.law_reading.specs.Reading.{ReadingIsWell, EventsAreRead};
+ghost use Rattle.law_reading.specs.Reading.{ReadingIsWell, EventsAreRead, HeldIsWell};
 ghost use Rattle.law_reading.specs.ReadRuns.{ReadNeverStuck, ReadReportIsKept, ReadRunsRest, ReadRunsAreThere, ReadHaltsForMemory};
 ghost use Rattle.law_reading.specs.WorkedReading.{PremisesMet};
 
-/// Each definition that bytes denote is well read, and each event that a line denotes for it names what is there and fits.
+/// Each definition that bytes denote is well read, so each that is held is, and each event that a line denotes for it names what is there and
+/// fits.
 pub fn reading()
     ensures well { ReadingIsWell }
     ensures events { EventsAreRead }
+    ensures held { HeldIsWell }
 {}
 
 /// So what is promised of runs of an accepted definition is so of each that bytes denote, over the events that lines denote: each dispatch

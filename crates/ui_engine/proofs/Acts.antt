@@ -30,8 +30,8 @@ use Rattle.ui_machine.specs.Rules.Connections.{Connection, detail_at, is_too_lat
 use Rattle.ui_machine.specs.Rules.Children.{adopted}
 use Rattle.ui_machine.specs.Rules.Events.{set_from_event, get_from_event, emit_from_event, release_from_event}
 use Rattle.g_values.specs.View.{value_view}
-use Rattle.builder_defs.specs.declared.event.Event.{Event}
-use Rattle.builder_defs.specs.declared.event.Event.TheVariants as events
+use Rattle.definition_format.specs.declared.events.Event.{Event}
+use Rattle.definition_format.specs.declared.events.Event.TheVariants as events
 use Rattle.builder_defs.specs.Meaning.{IsBasic, given_view, is_object, object_count, request_of}
 use Rattle.ui_engine.specs.declared.task.Task.TheVariants as tasks
 use Rattle.ui_engine.specs.declared.task.Task as code

@@ -9,7 +9,7 @@ use Rattle.ui_machine.specs.State.Tasks.{Item}
 use Rattle.ui_machine.specs.Outcome.{Answer, ◌>>=◌}
 use Rattle.ui_machine.specs.Rules.Sets.{if_settable}
 use Rattle.ui_machine.specs.Rules.Build.{forward_of}
-use Rattle.builder_defs.specs.declared.object_entry.GivenValue.{GivenValue}
+use Rattle.definition_format.specs.declared.objects.GivenValue.{GivenValue}
 use Rattle.builder_defs.specs.Meaning.{given_property}
 use Rattle.ui_engine.specs.declared.task.Forward.{Forward}
 use Rattle.ui_engine.specs.TaskView.{item_of, items_of}

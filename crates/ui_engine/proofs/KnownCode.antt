@@ -9,12 +9,12 @@ use Rattle.ui_machine.specs.State.Tasks as config
 use Rattle.g_values.specs.View.{IsKnown, kind_view}
 use Rattle.g_values.specs.declared.kind.Kind.{Kind}
 use Rattle.g_values.specs.declared.kind.Kind.TheVariants as kinds
-use Rattle.handler_code.specs.declared.computation.Computation.{Computation}
-use Rattle.handler_code.specs.declared.computation.Computation.TheVariants as computations
-use Rattle.handler_code.specs.declared.instruction.Instruction.{Instruction}
-use Rattle.handler_code.specs.declared.instruction.Instruction.TheVariants as instructions
-use Rattle.handler_code.specs.declared.program.Block.{Block}
-use Rattle.handler_code.specs.declared.program.Program.{Program}
+use Rattle.bytecode.specs.declared.computations.Computation.{Computation}
+use Rattle.bytecode.specs.declared.computations.Computation.TheVariants as computations
+use Rattle.bytecode.specs.declared.instructions.Instruction.{Instruction}
+use Rattle.bytecode.specs.declared.instructions.Instruction.TheVariants as instructions
+use Rattle.bytecode.specs.declared.programs.Block.{Block}
+use Rattle.bytecode.specs.declared.programs.Program.{Program}
 use Rattle.handler_code.specs.Computing.{HasKnownKind, instruction_of}
 use Rattle.handler_code.specs.FrameView.{Taken, taken_in, taken_of}
 use Rattle.handler_code.specs.Known.{HasKnownBlocks, HasKnownCode, HasKnownKinds, IsKnownInstruction}

@@ -8,7 +8,7 @@ use Rattle.ui_machine.specs.State.Config.{World}
 use Rattle.ui_machine.specs.State.Tasks.{ConstructStep}
 use Rattle.ui_machine.specs.Rules.Construction.{is_forward, given_value, given_at, construct_sets, given_sets}
 use Rattle.ui_machine.specs.Definition.Values.{Value}
-use Rattle.builder_defs.specs.declared.object_entry.GivenValue.{GivenValue}
+use Rattle.definition_format.specs.declared.objects.GivenValue.{GivenValue}
 use Rattle.builder_defs.specs.Meaning.{given_view, given_property}
 use Rattle.ui_engine.specs.MakingView.{early, construct_set, later_set, early_set}
 use Rattle.ui_engine.proofs.Building.{drop_at}

@@ -9,7 +9,7 @@ use Rattle.ui_machine.specs.Outcome.{Answer, known, ◌>>=◌}
 use Rattle.ui_machine.specs.Rules.Construction.{given_value}
 use Rattle.ui_machine.specs.Rules.Events.{given_values}
 use Rattle.ui_machine.specs.State.Config.{World}
-use Rattle.builder_defs.specs.declared.object_entry.Given.{Given}
+use Rattle.definition_format.specs.declared.objects.Given.{Given}
 use Rattle.builder_defs.specs.Meaning.{given_view}
 
 module _ (w : World) (gs : List Given) (i : ℕ) (vs : List Value) (total : Answer (List Value)) where

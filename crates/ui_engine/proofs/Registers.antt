@@ -28,7 +28,7 @@ use Rattle.ui_engine.specs.declared.engine.Engine.{Engine}
 use Rattle.ui_engine.specs.declared.task.Stack.{Stack}
 use Rattle.ui_engine.specs.declared.task.Task as code
 use Rattle.ui_engine.specs.declared.task.Task.TheVariants as tasks
-use Rattle.handler_code.specs.declared.frame.Frame as frames
+use Rattle.handler_code.specs.FrameView as frames
 
 -- ** registers
 

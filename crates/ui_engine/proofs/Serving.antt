@@ -7,7 +7,7 @@ use Rattle.ui_machine.specs.Runs.{beginning}
 use Rattle.ui_machine.specs.State.Config.{World}
 use Rattle.ui_machine.specs.State.Tasks as config
 use Rattle.ui_machine.specs.State.Tasks.{Handling, Request}
-use Rattle.builder_defs.specs.declared.event.Event as code
+use Rattle.definition_format.specs.declared.events.Event as code
 use Rattle.builder_defs.specs.Meaning.{request_of, event_of}
 use Rattle.ui_engine.specs.declared.dispatch.Reply.{Reply}
 use Rattle.ui_engine.specs.declared.session.SessionFault.{SessionFault}

@@ -1,6 +1,6 @@
 -- Which instructions are left where others are carried out already.
-use Rattle.handler_code.specs.declared.instruction.Instruction.{Instruction}
-use Rattle.handler_code.specs.declared.instruction.Instruction.TheVariants as instructions
+use Rattle.bytecode.specs.declared.instructions.Instruction.{Instruction}
+use Rattle.bytecode.specs.declared.instructions.Instruction.TheVariants as instructions
 
 -- an instruction that disconnects no handler
 abbrev pub DisconnectsNone : Instruction → Type 0

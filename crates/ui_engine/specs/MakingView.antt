@@ -9,7 +9,7 @@ use Rattle.ui_machine.specs.State.Tasks as config
 use Rattle.ui_machine.specs.State.Config.{World}
 use Rattle.ui_machine.specs.Rules.Construction.{is_forward, not_forward, is_at_construction, given_value, given_at, or_default, set_of, no_spec, construct_sets, constructed_runs, given_sets}
 use Rattle.g_values.specs.View.{value_view}
-use Rattle.builder_defs.specs.declared.object_entry.GivenValue.{GivenValue}
+use Rattle.definition_format.specs.declared.objects.GivenValue.{GivenValue}
 use Rattle.builder_defs.specs.Meaning.{given_property}
 use Rattle.ui_engine.specs.declared.task.ConstructStep.{ConstructStep}
 use Rattle.ui_engine.specs.declared.task.ConstructStep.TheVariants as makings

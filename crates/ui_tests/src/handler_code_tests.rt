@@ -6,7 +6,7 @@ use g_values::{Kind, Value};
 use handler_code::{
     Arithmetic, Block, BlockNumber, Comparison, Computation, Computed, Frame, Instruction,
     InstructionError, Names, OutlineError, Program, ProgramError, ProgramFault, ProgramLimit,
-    Register, Scope, check_outline, data_at, identity_at, read_instruction, read_program,
+    Register, Scope, check_outline, compute, data_at, identity_at, read_instruction, read_program,
     values_at,
 };
 use std::alloc::Global;
@@ -46,13 +46,13 @@ fn computes_numbers(seen: &mut Seen) -> Result<(), Fail> {
     let numbers = registers(alloc, Value::Int(2147483647), Value::Int(1))?;
     let numbers = numbers.as_slice();
     let got = [
-        number(Computation::Arithmetic(Arithmetic::Add, A, B).compute(alloc, &tree, numbers)),
-        number(Computation::Arithmetic(Arithmetic::Sub, B, A).compute(alloc, &tree, numbers)),
-        number(Computation::Compare(Comparison::Less, A, A).compute(alloc, &tree, numbers)),
-        number(Computation::Compare(Comparison::AtMost, A, A).compute(alloc, &tree, numbers)),
-        number(Computation::Convert(A, Kind::Bool).compute(alloc, &tree, numbers)),
-        number(Computation::Move(UNSET).compute(alloc, &tree, numbers)),
-        number(Computation::Not(A).compute(alloc, &tree, numbers)),
+        number(compute(alloc, &tree, numbers, &Computation::Arithmetic(Arithmetic::Add, A, B))),
+        number(compute(alloc, &tree, numbers, &Computation::Arithmetic(Arithmetic::Sub, B, A))),
+        number(compute(alloc, &tree, numbers, &Computation::Compare(Comparison::Less, A, A))),
+        number(compute(alloc, &tree, numbers, &Computation::Compare(Comparison::AtMost, A, A))),
+        number(compute(alloc, &tree, numbers, &Computation::Convert(A, Kind::Bool))),
+        number(compute(alloc, &tree, numbers, &Computation::Move(UNSET))),
+        number(compute(alloc, &tree, numbers, &Computation::Not(A))),
     ];
     let stuck = Err(Halt::Stuck(Arm::Register));
     let want = [
@@ -77,8 +77,8 @@ fn compares_objects(seen: &mut Seen) -> Result<(), Fail> {
     let objects = objects.as_slice();
     let to_objects = Computation::Convert(B, Kind::Object(TypeId::new(0)));
     let got = [
-        number(Computation::Same(A, B).compute(alloc, &tree, objects)),
-        number(to_objects.compute(alloc, &tree, objects)),
+        number(compute(alloc, &tree, objects, &Computation::Same(A, B))),
+        number(compute(alloc, &tree, objects, &to_objects)),
     ];
     let want = [Ok(Some(1)), Err(Halt::Stuck(Arm::Register))];
     seen.same(got.as_slice(), want.as_slice())?;
@@ -110,7 +110,7 @@ fn joins_texts(seen: &mut Seen) -> Result<(), Fail> {
     for (length, is_too_long) in [(4096, false), (4097, true)] {
         let long = RcStr::from_str(alloc, times(alloc, "a", length)?.as_str())?;
         let registers = registers(alloc, Value::Text(None), Value::Text(Some(long)))?;
-        let got = Computation::Join(A, B).compute(alloc, &tree, registers.as_slice());
+        let got = compute(alloc, &tree, registers.as_slice(), &Computation::Join(A, B));
         seen.same(matches!(got, Ok(Computed::TooLong)), is_too_long)?;
     }
     Ok(())

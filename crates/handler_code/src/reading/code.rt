@@ -2,20 +2,18 @@
 
 ghost use Rattle.std.specs.Prelude.{◌≡◌, All, IfOk, map};
 ghost use Rattle.serde_json.specs.View.{view};
-ghost use Rattle.handler_code.specs.View.{block_view, instruction_view, register_kind_view};
-ghost use Rattle.handler_code.specs.Known.{IsKnownInstruction, HasKnownCode};
-ghost use Rattle.handler_code.specs.Reading.Scopes.{scope_view};
-ghost use Rattle.handler_code.specs.Reading.OutlineView.{block_outline_view};
-ghost use Rattle.handler_code.specs.Reading.Programs.{Gives, blocks_in, code_in, filled, instruction_behind};
+ghost use Rattle.bytecode.specs.View.{block_view, instruction_view, register_kind_view};
+ghost use Rattle.bytecode.specs.Known.{IsKnownInstruction, HasKnownCode};
+ghost use Rattle.handler_code.specs.Reading.ReaderViews.{scope_view, block_outline_view};
+ghost use Rattle.bytecode.specs.Reading.Programs.{Gives, blocks_in, code_in, filled, instruction_behind};
 
-use crate::error::{InstructionError, ProgramError};
-use crate::fault::ProgramFault;
-use crate::instruction::{BlockNumber, Instruction};
-use crate::program::{Block, RegisterKind};
 use crate::reading::instructions::read_instruction;
 use crate::reading::outline::BlockOutline;
 use crate::reading::scope::Scope;
-use crate::shape::{MOST_REGISTERS, is_ended};
+use bytecode::{
+    Block, BlockNumber, Instruction, InstructionError, MOST_REGISTERS, ProgramError, ProgramFault,
+    RegisterKind, is_ended,
+};
 use serde_json::Value;
 use std::alloc::{AllocError, Global};
 

@@ -4,16 +4,13 @@
 
 ghost use Rattle.std.specs.Prelude.{◌≡◌, IfOk, false};
 ghost use Rattle.serde_json.specs.View.{view};
-ghost use Rattle.handler_code.specs.View.{instruction_view};
-ghost use Rattle.handler_code.specs.Known.{HasKnownKinds, IsKnownInstruction};
-ghost use Rattle.handler_code.specs.Later.{is_later};
-ghost use Rattle.handler_code.specs.Reading.Operands.{Gives};
-ghost use Rattle.handler_code.specs.Reading.Scopes.{scope_view};
-ghost use Rattle.handler_code.specs.Reading.Words.{register_word, object_word, signal_word, source_word, jump_word, unless_later, instruction_at};
+ghost use Rattle.bytecode.specs.View.{instruction_view};
+ghost use Rattle.bytecode.specs.Known.{HasKnownKinds, IsKnownInstruction};
+ghost use Rattle.bytecode.specs.Later.{is_later};
+ghost use Rattle.bytecode.specs.Reading.Operands.{Gives};
+ghost use Rattle.handler_code.specs.Reading.ReaderViews.{scope_view};
+ghost use Rattle.bytecode.specs.Reading.Words.{register_word, object_word, signal_word, source_word, jump_word, unless_later, instruction_at};
 
-use crate::computation::Arithmetic;
-use crate::error::InstructionError;
-use crate::instruction::Instruction;
 use crate::reading::jump_rows::{read_branch, read_branch_null, read_jump, read_return};
 use crate::reading::object_rows::{
     read_adopt, read_dispose, read_freeze, read_get, read_new, read_notify, read_object,
@@ -29,6 +26,7 @@ use crate::reading::signal_rows::{
     read_block, read_connect, read_disconnect, read_emit, read_stop, read_unbind, read_unblock,
 };
 use crate::reading::source_rows::{read_call, read_idle, read_remove, read_timeout};
+use bytecode::{Arithmetic, Instruction, InstructionError};
 use serde_json::Value;
 use std::alloc::Global;
 
@@ -40,7 +38,7 @@ use std::alloc::Global;
 ///
 /// `BadInstruction` where the value is no array, its first entry is no word, or its operands are not those of the word: too few, too many, or
 /// of another sort. `unbind`, `idle`, `timeout`, `remove` and `call` are BadInstruction too, since no program has them so far. `OutOfMemory` where a name, a text or a list can't be made.
-#[tactic(auto, unfolding(crate::specs::Reading::Words::instruction_at))]
+#[tactic(auto, unfolding(bytecode::specs::Reading::Words::instruction_at))]
 pub fn read_instruction(
     alloc: Global,
     scope: &Scope<'_>,
@@ -82,7 +80,7 @@ fn unless_later(instruction: Instruction) -> Result<Instruction, InstructionErro
 }
 
 // Instructions on registers alone.
-#[tactic(auto, unfolding(crate::specs::Reading::Words::register_word))]
+#[tactic(auto, unfolding(bytecode::specs::Reading::Words::register_word))]
 fn read_register_word(
     alloc: Global,
     scope: &Scope<'_>,
@@ -135,7 +133,7 @@ fn read_register_word(
 }
 
 // Instructions on properties and objects.
-#[tactic(auto, unfolding(crate::specs::Reading::Words::object_word))]
+#[tactic(auto, unfolding(bytecode::specs::Reading::Words::object_word))]
 fn read_object_word(
     alloc: Global,
     scope: &Scope<'_>,
@@ -182,7 +180,7 @@ fn read_object_word(
 }
 
 // Instructions on signals, handlers and bindings.
-#[tactic(auto, unfolding(crate::specs::Reading::Words::signal_word))]
+#[tactic(auto, unfolding(bytecode::specs::Reading::Words::signal_word))]
 fn read_signal_word(
     alloc: Global,
     scope: &Scope<'_>,
@@ -217,7 +215,7 @@ fn read_signal_word(
 }
 
 // Instructions on sources and peers.
-#[tactic(auto, unfolding(crate::specs::Reading::Words::source_word))]
+#[tactic(auto, unfolding(bytecode::specs::Reading::Words::source_word))]
 fn read_source_word(
     alloc: Global,
     scope: &Scope<'_>,
@@ -243,7 +241,7 @@ fn read_source_word(
 }
 
 // Instructions that end a block.
-#[tactic(auto, unfolding(crate::specs::Reading::Words::jump_word))]
+#[tactic(auto, unfolding(bytecode::specs::Reading::Words::jump_word))]
 fn read_jump_word(
     scope: &Scope<'_>,
     word: &str,

@@ -2,21 +2,20 @@
 
 ghost use Rattle.std.specs.Prelude.{IfOk};
 ghost use Rattle.serde_json.specs.View.{view};
-ghost use Rattle.handler_code.specs.View.{instruction_view};
-ghost use Rattle.handler_code.specs.Known.{HasKnownKinds};
-ghost use Rattle.handler_code.specs.Reading.Operands.{Gives};
-ghost use Rattle.handler_code.specs.Reading.Scopes.{scope_view};
-ghost use Rattle.handler_code.specs.Reading.JumpRows.{jump_row, branch_row, branch_null_row, return_row};
+ghost use Rattle.bytecode.specs.View.{instruction_view};
+ghost use Rattle.bytecode.specs.Known.{HasKnownKinds};
+ghost use Rattle.bytecode.specs.Reading.Operands.{Gives};
+ghost use Rattle.handler_code.specs.Reading.ReaderViews.{scope_view};
+ghost use Rattle.bytecode.specs.Reading.JumpRows.{jump_row, branch_row, branch_null_row, return_row};
 
-use crate::error::InstructionError;
-use crate::instruction::Instruction;
 use crate::reading::operand_shapes::register_and_blocks;
 use crate::reading::operand_words::{block_at, check_none, register_or_null_at};
 use crate::reading::scope::Scope;
+use bytecode::{Instruction, InstructionError};
 use serde_json::Value;
 
 // `jump b`
-#[tactic(auto, unfolding(crate::specs::Reading::JumpRows::jump_row))]
+#[tactic(auto, unfolding(bytecode::specs::Reading::JumpRows::jump_row))]
 pub(crate) fn read_jump(scope: &Scope<'_>, json: &Value) -> Result<Instruction, InstructionError>
     ensures read { Gives instruction_view result (jump_row (scope_view scope.now) (view json.now)) }
     ensures known { IfOk result (λ i. HasKnownKinds scope.now.types.now i) }
@@ -27,7 +26,7 @@ pub(crate) fn read_jump(scope: &Scope<'_>, json: &Value) -> Result<Instruction, 
 }
 
 // `if a b b`
-#[tactic(auto, unfolding(crate::specs::Reading::JumpRows::branch_row))]
+#[tactic(auto, unfolding(bytecode::specs::Reading::JumpRows::branch_row))]
 pub(crate) fn read_branch(scope: &Scope<'_>, json: &Value) -> Result<Instruction, InstructionError>
     ensures read { Gives instruction_view result (branch_row (scope_view scope.now) (view json.now)) }
     ensures known { IfOk result (λ i. HasKnownKinds scope.now.types.now i) }
@@ -41,7 +40,7 @@ pub(crate) fn read_branch(scope: &Scope<'_>, json: &Value) -> Result<Instruction
 }
 
 // `ifnull a b b`
-#[tactic(auto, unfolding(crate::specs::Reading::JumpRows::branch_null_row))]
+#[tactic(auto, unfolding(bytecode::specs::Reading::JumpRows::branch_null_row))]
 pub(crate) fn read_branch_null(
     scope: &Scope<'_>,
     json: &Value,
@@ -58,7 +57,7 @@ pub(crate) fn read_branch_null(
 }
 
 // `return z`
-#[tactic(auto, unfolding(crate::specs::Reading::JumpRows::return_row))]
+#[tactic(auto, unfolding(bytecode::specs::Reading::JumpRows::return_row))]
 pub(crate) fn read_return(scope: &Scope<'_>, json: &Value) -> Result<Instruction, InstructionError>
     ensures read { Gives instruction_view result (return_row (scope_view scope.now) (view json.now)) }
     ensures known { IfOk result (λ i. HasKnownKinds scope.now.types.now i) }

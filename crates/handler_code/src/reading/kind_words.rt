@@ -4,9 +4,9 @@ ghost use Rattle.std.specs.Prelude.{◌≡◌, List, option_map, IfOk, IfSome};
 ghost use Rattle.ui_machine.specs.Definition.Types.{GType, enum, flags};
 ghost use Rattle.type_tree.specs.Adding.{sort_of};
 ghost use Rattle.g_values.specs.View.{kind_view, IsKnown};
-ghost use Rattle.handler_code.specs.Reading.KindWords.{kind_named, enum_named, flags_named, parted, or_no_kind, kind_of_type, kind_by};
-ghost use Rattle.handler_code.specs.Reading.RegisterKinds.{kind_fault};
-ghost use Rattle.handler_code.specs.Reading.Views.{seen};
+ghost use Rattle.bytecode.specs.Reading.KindWords.{kind_named, enum_named, flags_named, parted, or_no_kind, kind_of_type, kind_by};
+ghost use Rattle.handler_code.specs.Reading.ReaderViews.{kind_fault};
+ghost use Rattle.bytecode.specs.Reading.Views.{seen};
 
 use g_values::Kind;
 use type_tree::{TypeId, TypeTree};

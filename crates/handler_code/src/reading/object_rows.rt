@@ -2,22 +2,21 @@
 
 ghost use Rattle.std.specs.Prelude.{IfOk};
 ghost use Rattle.serde_json.specs.View.{view};
-ghost use Rattle.handler_code.specs.View.{instruction_view};
-ghost use Rattle.handler_code.specs.Known.{HasKnownKinds};
-ghost use Rattle.handler_code.specs.Reading.Operands.{Gives};
-ghost use Rattle.handler_code.specs.Reading.Scopes.{scope_view};
-ghost use Rattle.handler_code.specs.Reading.ObjectRows.{get_row, set_row, object_row, new_row, sink_row, orphan_row, dispose_row, freeze_row, thaw_row, adopt_row, notify_row};
+ghost use Rattle.bytecode.specs.View.{instruction_view};
+ghost use Rattle.bytecode.specs.Known.{HasKnownKinds};
+ghost use Rattle.bytecode.specs.Reading.Operands.{Gives};
+ghost use Rattle.handler_code.specs.Reading.ReaderViews.{scope_view};
+ghost use Rattle.bytecode.specs.Reading.ObjectRows.{get_row, set_row, object_row, new_row, sink_row, orphan_row, dispose_row, freeze_row, thaw_row, adopt_row, notify_row};
 
-use crate::error::InstructionError;
-use crate::instruction::Instruction;
 use crate::reading::operand_shapes::{one_register, register_and_name, three_registers};
 use crate::reading::operand_words::{check_none, name_at, register_at};
 use crate::reading::scope::Scope;
+use bytecode::{Instruction, InstructionError};
 use serde_json::Value;
 use std::alloc::Global;
 
 // `get d o p`
-#[tactic(auto, unfolding(crate::specs::Reading::ObjectRows::get_row))]
+#[tactic(auto, unfolding(bytecode::specs::Reading::ObjectRows::get_row))]
 pub(crate) fn read_get(
     alloc: Global,
     scope: &Scope<'_>,
@@ -38,7 +37,7 @@ pub(crate) fn read_get(
 }
 
 // `set o p s`
-#[tactic(auto, unfolding(crate::specs::Reading::ObjectRows::set_row))]
+#[tactic(auto, unfolding(bytecode::specs::Reading::ObjectRows::set_row))]
 pub(crate) fn read_set(
     alloc: Global,
     scope: &Scope<'_>,
@@ -59,7 +58,7 @@ pub(crate) fn read_set(
 }
 
 // `object d id`
-#[tactic(auto, unfolding(crate::specs::Reading::ObjectRows::object_row))]
+#[tactic(auto, unfolding(bytecode::specs::Reading::ObjectRows::object_row))]
 pub(crate) fn read_object(
     alloc: Global,
     scope: &Scope<'_>,
@@ -73,7 +72,7 @@ pub(crate) fn read_object(
 }
 
 // `new d c`
-#[tactic(auto, unfolding(crate::specs::Reading::ObjectRows::new_row))]
+#[tactic(auto, unfolding(bytecode::specs::Reading::ObjectRows::new_row))]
 pub(crate) fn read_new(
     alloc: Global,
     scope: &Scope<'_>,
@@ -87,7 +86,7 @@ pub(crate) fn read_new(
 }
 
 // `sink o`
-#[tactic(auto, unfolding(crate::specs::Reading::ObjectRows::sink_row))]
+#[tactic(auto, unfolding(bytecode::specs::Reading::ObjectRows::sink_row))]
 pub(crate) fn read_sink(scope: &Scope<'_>, json: &Value) -> Result<Instruction, InstructionError>
     ensures read { Gives instruction_view result (sink_row (scope_view scope.now) (view json.now)) }
     ensures known { IfOk result (λ i. HasKnownKinds scope.now.types.now i) }
@@ -97,7 +96,7 @@ pub(crate) fn read_sink(scope: &Scope<'_>, json: &Value) -> Result<Instruction, 
 }
 
 // `orphan o`
-#[tactic(auto, unfolding(crate::specs::Reading::ObjectRows::orphan_row))]
+#[tactic(auto, unfolding(bytecode::specs::Reading::ObjectRows::orphan_row))]
 pub(crate) fn read_orphan(scope: &Scope<'_>, json: &Value) -> Result<Instruction, InstructionError>
     ensures read { Gives instruction_view result (orphan_row (scope_view scope.now) (view json.now)) }
     ensures known { IfOk result (λ i. HasKnownKinds scope.now.types.now i) }
@@ -107,7 +106,7 @@ pub(crate) fn read_orphan(scope: &Scope<'_>, json: &Value) -> Result<Instruction
 }
 
 // `dispose o`
-#[tactic(auto, unfolding(crate::specs::Reading::ObjectRows::dispose_row))]
+#[tactic(auto, unfolding(bytecode::specs::Reading::ObjectRows::dispose_row))]
 pub(crate) fn read_dispose(scope: &Scope<'_>, json: &Value) -> Result<Instruction, InstructionError>
     ensures read { Gives instruction_view result (dispose_row (scope_view scope.now) (view json.now)) }
     ensures known { IfOk result (λ i. HasKnownKinds scope.now.types.now i) }
@@ -117,7 +116,7 @@ pub(crate) fn read_dispose(scope: &Scope<'_>, json: &Value) -> Result<Instructio
 }
 
 // `freeze o`
-#[tactic(auto, unfolding(crate::specs::Reading::ObjectRows::freeze_row))]
+#[tactic(auto, unfolding(bytecode::specs::Reading::ObjectRows::freeze_row))]
 pub(crate) fn read_freeze(scope: &Scope<'_>, json: &Value) -> Result<Instruction, InstructionError>
     ensures read { Gives instruction_view result (freeze_row (scope_view scope.now) (view json.now)) }
     ensures known { IfOk result (λ i. HasKnownKinds scope.now.types.now i) }
@@ -127,7 +126,7 @@ pub(crate) fn read_freeze(scope: &Scope<'_>, json: &Value) -> Result<Instruction
 }
 
 // `thaw o`
-#[tactic(auto, unfolding(crate::specs::Reading::ObjectRows::thaw_row))]
+#[tactic(auto, unfolding(bytecode::specs::Reading::ObjectRows::thaw_row))]
 pub(crate) fn read_thaw(scope: &Scope<'_>, json: &Value) -> Result<Instruction, InstructionError>
     ensures read { Gives instruction_view result (thaw_row (scope_view scope.now) (view json.now)) }
     ensures known { IfOk result (λ i. HasKnownKinds scope.now.types.now i) }
@@ -137,7 +136,7 @@ pub(crate) fn read_thaw(scope: &Scope<'_>, json: &Value) -> Result<Instruction, 
 }
 
 // `adopt d o o`
-#[tactic(auto, unfolding(crate::specs::Reading::ObjectRows::adopt_row))]
+#[tactic(auto, unfolding(bytecode::specs::Reading::ObjectRows::adopt_row))]
 pub(crate) fn read_adopt(scope: &Scope<'_>, json: &Value) -> Result<Instruction, InstructionError>
     ensures read { Gives instruction_view result (adopt_row (scope_view scope.now) (view json.now)) }
     ensures known { IfOk result (λ i. HasKnownKinds scope.now.types.now i) }
@@ -151,7 +150,7 @@ pub(crate) fn read_adopt(scope: &Scope<'_>, json: &Value) -> Result<Instruction,
 }
 
 // `notify o p`
-#[tactic(auto, unfolding(crate::specs::Reading::ObjectRows::notify_row))]
+#[tactic(auto, unfolding(bytecode::specs::Reading::ObjectRows::notify_row))]
 pub(crate) fn read_notify(
     alloc: Global,
     scope: &Scope<'_>,

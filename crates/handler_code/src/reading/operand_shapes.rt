@@ -2,25 +2,23 @@
 
 ghost use Rattle.std.specs.Prelude.{◌≡◌, option_map, string_bytes};
 ghost use Rattle.serde_json.specs.View.{view};
-ghost use Rattle.handler_code.specs.View.{number_of, connect_view};
-ghost use Rattle.handler_code.specs.Computing.{comparison_of};
-ghost use Rattle.handler_code.specs.Reading.Operands.{Gives};
-ghost use Rattle.handler_code.specs.Reading.Scopes.{scope_view};
-ghost use Rattle.handler_code.specs.Reading.OperandShapes.{one_register, two_registers, three_registers, register_and_name, one_name, register_and_blocks, comparison_named, comparison_at, connect_at};
+ghost use Rattle.bytecode.specs.View.{number_of, connect_view};
+ghost use Rattle.bytecode.specs.Computing.{comparison_of};
+ghost use Rattle.bytecode.specs.Reading.Operands.{Gives};
+ghost use Rattle.handler_code.specs.Reading.ReaderViews.{scope_view};
+ghost use Rattle.bytecode.specs.Reading.OperandShapes.{one_register, two_registers, three_registers, register_and_name, one_name, register_and_blocks, comparison_named, comparison_at, connect_at};
 
-use crate::computation::{Comparison, Register};
-use crate::error::InstructionError;
-use crate::instruction::{BlockNumber, Connection};
 use crate::reading::operand_lists::options_at;
 use crate::reading::operand_words::{
     block_at, check_none, detail_at, name_at, register_at, register_or_null_at, text_at,
 };
 use crate::reading::scope::Scope;
+use bytecode::{BlockNumber, Comparison, Connection, InstructionError, Register};
 use serde_json::Value;
 use std::alloc::Global;
 
 // One register.
-#[tactic(auto, unfolding(crate::specs::Reading::OperandShapes::one_register))]
+#[tactic(auto, unfolding(bytecode::specs::Reading::OperandShapes::one_register))]
 pub(crate) fn one_register(scope: &Scope<'_>, json: &Value) -> Result<Register, InstructionError>
     ensures { Gives number_of result (one_register (scope_view scope.now) (view json.now)) }
 {
@@ -30,7 +28,7 @@ pub(crate) fn one_register(scope: &Scope<'_>, json: &Value) -> Result<Register, 
 }
 
 // Two registers.
-#[tactic(auto, unfolding(crate::specs::Reading::OperandShapes::two_registers))]
+#[tactic(auto, unfolding(bytecode::specs::Reading::OperandShapes::two_registers))]
 pub(crate) fn two_registers(
     scope: &Scope<'_>,
     json: &Value,
@@ -44,7 +42,7 @@ pub(crate) fn two_registers(
 }
 
 // Three registers.
-#[tactic(auto, unfolding(crate::specs::Reading::OperandShapes::three_registers))]
+#[tactic(auto, unfolding(bytecode::specs::Reading::OperandShapes::three_registers))]
 pub(crate) fn three_registers(
     scope: &Scope<'_>,
     json: &Value,
@@ -59,7 +57,7 @@ pub(crate) fn three_registers(
 }
 
 // A register and a name.
-#[tactic(auto, unfolding(crate::specs::Reading::OperandShapes::register_and_name))]
+#[tactic(auto, unfolding(bytecode::specs::Reading::OperandShapes::register_and_name))]
 pub(crate) fn register_and_name(
     alloc: Global,
     scope: &Scope<'_>,
@@ -74,7 +72,7 @@ pub(crate) fn register_and_name(
 }
 
 // One name.
-#[tactic(auto, unfolding(crate::specs::Reading::OperandShapes::one_name))]
+#[tactic(auto, unfolding(bytecode::specs::Reading::OperandShapes::one_name))]
 pub(crate) fn one_name(alloc: Global, json: &Value) -> Result<String, InstructionError>
     ensures { Gives string_bytes result (one_name (view json.now)) }
 {
@@ -84,7 +82,7 @@ pub(crate) fn one_name(alloc: Global, json: &Value) -> Result<String, Instructio
 }
 
 // A register and two blocks.
-#[tactic(auto, unfolding(crate::specs::Reading::OperandShapes::register_and_blocks))]
+#[tactic(auto, unfolding(bytecode::specs::Reading::OperandShapes::register_and_blocks))]
 pub(crate) fn register_and_blocks(
     scope: &Scope<'_>,
     json: &Value,
@@ -124,7 +122,7 @@ pub(crate) fn comparison_at(json: &Value, at: usize) -> Result<Comparison, Instr
 }
 
 // What stands in `connect` behind the object.
-#[tactic(auto, unfolding(crate::specs::Reading::OperandShapes::connect_at))]
+#[tactic(auto, unfolding(bytecode::specs::Reading::OperandShapes::connect_at))]
 pub(crate) fn connection_at(
     alloc: Global,
     scope: &Scope<'_>,

@@ -7,13 +7,11 @@ ghost use Rattle.serde_json.specs.Find.{as_str};
 ghost use Rattle.type_tree.specs.TypeName.{is_within};
 ghost use Rattle.g_values.specs.View.{kind_view, value_view, value_kind, IsKnown};
 ghost use Rattle.g_values.specs.Reading.{whole_number};
-ghost use Rattle.handler_code.specs.View.{number_of};
-ghost use Rattle.handler_code.specs.Reading.Operands.{Gives, operand, no_operand, number_below, number_at, register_or_null, register_or_null_at, between, priority_at, interval_at, name_at, is_name_byte, is_name, named, detail_or_null, detail_at, kind_at, value_at};
+ghost use Rattle.bytecode.specs.View.{number_of};
+ghost use Rattle.bytecode.specs.Reading.Operands.{Gives, operand, no_operand, number_below, number_at, register_or_null, register_or_null_at, between, priority_at, interval_at, name_at, is_name_byte, is_name, named, detail_or_null, detail_at, kind_at, value_at};
 
-use crate::computation::Register;
-use crate::error::InstructionError;
-use crate::instruction::BlockNumber;
 use crate::reading::kind_words::kind_of_word;
+use bytecode::{BlockNumber, InstructionError, Register};
 use g_values::{JsonError, Kind, from_json};
 use serde_json::Value;
 use std::alloc::Global;

@@ -1,6 +1,6 @@
 //! What a program's value says beside its instructions.
 
-use crate::program::RegisterKind;
+use bytecode::RegisterKind;
 use g_values::Kind;
 use serde_json::Value;
 

@@ -6,18 +6,18 @@ ghost use Rattle.std.specs.Str.{bytes_eq};
 ghost use Rattle.std.specs.BTreeMap.{keys};
 ghost use Rattle.serde_json.specs.View.{view, members_view};
 ghost use Rattle.serde_json.specs.Find.{as_array, as_object, as_str};
-ghost use Rattle.handler_code.specs.Known.{IsKnownRegister};
-ghost use Rattle.handler_code.specs.View.{register_kind_view};
-ghost use Rattle.handler_code.specs.Reading.RegisterKinds.{kind_fault, names_view, register_kind_in};
-ghost use Rattle.handler_code.specs.Reading.Each.{entries_of, each};
-ghost use Rattle.handler_code.specs.Reading.OutlineFaults.{Gives, all_of, fault_view, kind_refusal, kind_there, part_view, shaped};
-ghost use Rattle.handler_code.specs.Reading.Outline.{entries_or_none, fit_registers, kind_step, kinds_at, only_at};
+ghost use Rattle.bytecode.specs.Known.{IsKnownRegister};
+ghost use Rattle.bytecode.specs.View.{register_kind_view};
+ghost use Rattle.bytecode.specs.Reading.RegisterKinds.{register_kind_in};
+ghost use Rattle.bytecode.specs.Reading.Each.{entries_of, each};
+ghost use Rattle.bytecode.specs.Reading.OutlineFaults.{Gives, all_of, fault_view, kind_refusal, kind_there, part_view, shaped};
+ghost use Rattle.bytecode.specs.Reading.Outline.{entries_or_none, fit_registers, kind_step, kinds_at, only_at};
+ghost use Rattle.handler_code.specs.Reading.ReaderViews.{kind_fault, names_view};
 
-use crate::program::RegisterKind;
 use crate::reading::kind_words::KindFault;
 use crate::reading::names::Names;
-use crate::reading::outline_fault::{OutlineError, OutlineFault, ProgramPart};
 use crate::reading::register_kinds::register_kind_in;
+use bytecode::{OutlineError, OutlineFault, ProgramPart, RegisterKind};
 use serde_json::{Map, Value};
 use std::alloc::Global;
 
@@ -122,7 +122,7 @@ fn kinds_of<'a>(
 }
 
 // The kinds of registers that a list gives.
-#[tactic(auto, unfolding(crate::specs::Reading::Outline::kinds_at))]
+#[tactic(auto, unfolding(bytecode::specs::Reading::Outline::kinds_at))]
 pub(crate) fn kinds_at<'a>(
     alloc: Global,
     names: &Names<'_>,

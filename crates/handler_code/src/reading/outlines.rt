@@ -4,23 +4,21 @@ ghost use Rattle.std.specs.Prelude.{◌≡◌, [], All, IfOk, IfSome, codes, map
 ghost use Rattle.serde_json.specs.View.{view};
 ghost use Rattle.serde_json.specs.Find.{as_array, as_str, get};
 ghost use Rattle.g_values.specs.View.{kind_view, IsKnown};
-ghost use Rattle.handler_code.specs.Known.{IsKnownRegister};
-ghost use Rattle.handler_code.specs.View.{register_kind_view};
-ghost use Rattle.handler_code.specs.Reading.Views.{seen};
-ghost use Rattle.handler_code.specs.Reading.Operands.{named};
-ghost use Rattle.handler_code.specs.Reading.RegisterKinds.{kind_fault, names_view};
-ghost use Rattle.handler_code.specs.Reading.Each.{entries_of, each};
-ghost use Rattle.handler_code.specs.Reading.OutlineFaults.{Gives, member_of, shaped};
-ghost use Rattle.handler_code.specs.Reading.Outline.{IsWellFormed, block_at, block_step, blocks_at, entry_at, first_entry, outline_in, registers_of, result_at, result_of, result_word, some_entries, some_entries_at, tested};
-ghost use Rattle.handler_code.specs.Reading.OutlineView.{block_outline_view, outline_view};
+ghost use Rattle.bytecode.specs.Known.{IsKnownRegister};
+ghost use Rattle.bytecode.specs.View.{register_kind_view};
+ghost use Rattle.bytecode.specs.Reading.Views.{seen};
+ghost use Rattle.bytecode.specs.Reading.Operands.{named};
+ghost use Rattle.handler_code.specs.Reading.ReaderViews.{kind_fault, names_view, block_outline_view, outline_view};
+ghost use Rattle.bytecode.specs.Reading.Each.{entries_of, each};
+ghost use Rattle.bytecode.specs.Reading.OutlineFaults.{Gives, member_of, shaped};
+ghost use Rattle.bytecode.specs.Reading.Outline.{IsWellFormed, block_at, block_step, blocks_at, entry_at, first_entry, outline_in, registers_of, result_at, result_of, result_word, some_entries, some_entries_at, tested};
 
-use crate::program::RegisterKind;
 use crate::reading::kind_words::{KindFault, kind_of_word};
 use crate::reading::names::Names;
 use crate::reading::operand_words::name_in;
 use crate::reading::outline::{BlockOutline, Outline};
-use crate::reading::outline_fault::{OutlineError, OutlineFault, ProgramPart};
 use crate::reading::outline_parts::{check_only, entries_of, kind_refusal, kinds_at, members_of};
+use bytecode::{OutlineError, OutlineFault, ProgramPart, RegisterKind};
 use g_values::Kind;
 use serde_json::Value;
 use std::alloc::Global;
@@ -153,7 +151,7 @@ fn code_at<'a>(block: usize, json: &'a Value) -> Result<&'a [Value], OutlineErro
 }
 
 // A block, by its number.
-#[tactic(auto, unfolding(crate::specs::Reading::Outline::block_at))]
+#[tactic(auto, unfolding(bytecode::specs::Reading::Outline::block_at))]
 fn block_at<'a>(
     alloc: Global,
     names: &Names<'_>,
@@ -207,7 +205,7 @@ fn some_entries_at<'a>(json: &'a Value, key: &'a str) -> Result<&'a [Value], Out
 }
 
 // The blocks of the program.
-#[tactic(auto, unfolding(crate::specs::Reading::Outline::blocks_at))]
+#[tactic(auto, unfolding(bytecode::specs::Reading::Outline::blocks_at))]
 fn blocks_at<'a>(
     alloc: Global,
     names: &Names<'_>,
@@ -223,7 +221,7 @@ fn blocks_at<'a>(
 }
 
 // What the value says beside its instructions, or the first fault in document order.
-#[tactic(auto, unfolding(crate::specs::Reading::Outline::outline_in))]
+#[tactic(auto, unfolding(bytecode::specs::Reading::Outline::outline_in))]
 pub(crate) fn read_outline<'a>(
     alloc: Global,
     json: &'a Value,

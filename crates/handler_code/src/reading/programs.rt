@@ -2,29 +2,26 @@
 
 ghost use Rattle.std.specs.Prelude.{◌≡◌, All, IfOk, IfSome, None};
 ghost use Rattle.serde_json.specs.View.{view};
-ghost use Rattle.handler_code.specs.View.{program_view};
+ghost use Rattle.bytecode.specs.View.{program_view};
 ghost use Rattle.g_values.specs.View.{IsKnown};
-ghost use Rattle.handler_code.specs.Known.{HasKnownBlocks, IsKnownRegister};
-ghost use Rattle.handler_code.specs.Reading.RegisterKinds.{names_view};
-ghost use Rattle.handler_code.specs.Reading.Outline.{IsWellFormed, outline_in};
-ghost use Rattle.handler_code.specs.Reading.Outline as outlines;
-ghost use Rattle.handler_code.specs.Reading.OutlineView.{outline_view};
-ghost use Rattle.handler_code.specs.Reading.Programs.{Gives, program_of};
-ghost use Rattle.handler_code.specs.Shape.{shape_fault};
+ghost use Rattle.bytecode.specs.Known.{HasKnownBlocks, IsKnownRegister};
+ghost use Rattle.handler_code.specs.Reading.ReaderViews.{names_view, outline_view};
+ghost use Rattle.bytecode.specs.Reading.Outline.{IsWellFormed, outline_in};
+ghost use Rattle.bytecode.specs.Reading.Outline as outlines;
+ghost use Rattle.bytecode.specs.Reading.Programs.{Gives, program_of};
+ghost use Rattle.bytecode.specs.Shape.{shape_fault};
 
-use crate::error::ProgramError;
-use crate::program::Program;
 use crate::reading::code::blocks_of;
 use crate::reading::names::Names;
 use crate::reading::outline::Outline;
-use crate::reading::outline_fault::OutlineError;
 use crate::reading::outlines::read_outline;
 use crate::reading::scope::Scope;
+use bytecode::{OutlineError, Program, ProgramError};
 use serde_json::Value;
 use std::alloc::Global;
 
 // The program of an outline.
-#[tactic(auto, unfolding(crate::specs::Reading::Programs::program_of))]
+#[tactic(auto, unfolding(bytecode::specs::Reading::Programs::program_of))]
 fn program_of(
     alloc: Global,
     outline: Outline<'_>,

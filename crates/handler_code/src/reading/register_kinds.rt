@@ -3,16 +3,17 @@
 ghost use Rattle.std.specs.Prelude.{◌≡◌, IfOk};
 ghost use Rattle.serde_json.specs.View.{view};
 ghost use Rattle.serde_json.specs.Find.{as_str};
-ghost use Rattle.handler_code.specs.Known.{IsKnownRegister};
-ghost use Rattle.handler_code.specs.Reading.KindWords.{parted};
-ghost use Rattle.handler_code.specs.Reading.RegisterKinds.{names_view, kind_fault, place_in, register_kind_of, register_kind_by, register_kind, register_kind_in};
-ghost use Rattle.handler_code.specs.View.{register_kind_view};
-ghost use Rattle.handler_code.specs.Reading.Views.{seen};
+ghost use Rattle.bytecode.specs.Known.{IsKnownRegister};
+ghost use Rattle.bytecode.specs.Reading.KindWords.{parted};
+ghost use Rattle.bytecode.specs.Reading.RegisterKinds.{place_in, register_kind_of, register_kind_by, register_kind, register_kind_in};
+ghost use Rattle.bytecode.specs.View.{register_kind_view};
+ghost use Rattle.bytecode.specs.Reading.Views.{seen};
+ghost use Rattle.handler_code.specs.Reading.ReaderViews.{names_view, kind_fault};
 
-use crate::program::RegisterKind;
 use crate::reading::kind_words::{KindFault, kind_of_type, parted, plain_kind};
 use crate::reading::names::Names;
 use crate::reading::operand_words::is_name;
+use bytecode::RegisterKind;
 use serde_json::Value;
 use ui_machine::Place;
 

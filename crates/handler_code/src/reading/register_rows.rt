@@ -2,24 +2,22 @@
 
 ghost use Rattle.std.specs.Prelude.{IfOk};
 ghost use Rattle.serde_json.specs.View.{view};
-ghost use Rattle.handler_code.specs.View.{instruction_view};
-ghost use Rattle.handler_code.specs.Known.{HasKnownKinds};
-ghost use Rattle.handler_code.specs.Reading.Operands.{Gives};
-ghost use Rattle.handler_code.specs.Reading.Scopes.{scope_view};
-ghost use Rattle.handler_code.specs.Reading.RegisterRows.{const_row, move_row, clear_row, arithmetic_row, compare_row, same_row, not_row, and_row, or_row, join_row, convert_row};
-ghost use Rattle.handler_code.specs.Computing.{operation_of};
+ghost use Rattle.bytecode.specs.View.{instruction_view};
+ghost use Rattle.bytecode.specs.Known.{HasKnownKinds};
+ghost use Rattle.bytecode.specs.Reading.Operands.{Gives};
+ghost use Rattle.handler_code.specs.Reading.ReaderViews.{scope_view};
+ghost use Rattle.bytecode.specs.Reading.RegisterRows.{const_row, move_row, clear_row, arithmetic_row, compare_row, same_row, not_row, and_row, or_row, join_row, convert_row};
+ghost use Rattle.bytecode.specs.Computing.{operation_of};
 
-use crate::computation::{Arithmetic, Computation};
-use crate::error::InstructionError;
-use crate::instruction::Instruction;
 use crate::reading::operand_shapes::{comparison_at, one_register, three_registers, two_registers};
 use crate::reading::operand_words::{check_none, kind_at, register_at, value_at};
 use crate::reading::scope::Scope;
+use bytecode::{Arithmetic, Computation, Instruction, InstructionError};
 use serde_json::Value;
 use std::alloc::Global;
 
 // `const d k v`
-#[tactic(auto, unfolding(crate::specs::Reading::RegisterRows::const_row))]
+#[tactic(auto, unfolding(bytecode::specs::Reading::RegisterRows::const_row))]
 pub(crate) fn read_const(
     alloc: Global,
     scope: &Scope<'_>,
@@ -39,7 +37,7 @@ pub(crate) fn read_const(
 }
 
 // `move d s`
-#[tactic(auto, unfolding(crate::specs::Reading::RegisterRows::move_row))]
+#[tactic(auto, unfolding(bytecode::specs::Reading::RegisterRows::move_row))]
 pub(crate) fn read_move(scope: &Scope<'_>, json: &Value) -> Result<Instruction, InstructionError>
     ensures read { Gives instruction_view result (move_row (scope_view scope.now) (view json.now)) }
     ensures known { IfOk result (λ i. HasKnownKinds scope.now.types.now i) }
@@ -52,7 +50,7 @@ pub(crate) fn read_move(scope: &Scope<'_>, json: &Value) -> Result<Instruction, 
 }
 
 // `clear d`
-#[tactic(auto, unfolding(crate::specs::Reading::RegisterRows::clear_row))]
+#[tactic(auto, unfolding(bytecode::specs::Reading::RegisterRows::clear_row))]
 pub(crate) fn read_clear(scope: &Scope<'_>, json: &Value) -> Result<Instruction, InstructionError>
     ensures read { Gives instruction_view result (clear_row (scope_view scope.now) (view json.now)) }
     ensures known { IfOk result (λ i. HasKnownKinds scope.now.types.now i) }
@@ -65,7 +63,7 @@ pub(crate) fn read_clear(scope: &Scope<'_>, json: &Value) -> Result<Instruction,
 }
 
 // `add d a b`, `sub` and `mul`
-#[tactic(auto, unfolding(crate::specs::Reading::RegisterRows::arithmetic_row))]
+#[tactic(auto, unfolding(bytecode::specs::Reading::RegisterRows::arithmetic_row))]
 pub(crate) fn read_arithmetic(
     operation: Arithmetic,
     scope: &Scope<'_>,
@@ -82,7 +80,7 @@ pub(crate) fn read_arithmetic(
 }
 
 // `cmp d op a b`
-#[tactic(auto, unfolding(crate::specs::Reading::RegisterRows::compare_row))]
+#[tactic(auto, unfolding(bytecode::specs::Reading::RegisterRows::compare_row))]
 pub(crate) fn read_compare(scope: &Scope<'_>, json: &Value) -> Result<Instruction, InstructionError>
     ensures read { Gives instruction_view result (compare_row (scope_view scope.now) (view json.now)) }
     ensures known { IfOk result (λ i. HasKnownKinds scope.now.types.now i) }
@@ -99,7 +97,7 @@ pub(crate) fn read_compare(scope: &Scope<'_>, json: &Value) -> Result<Instructio
 }
 
 // `same d a b`
-#[tactic(auto, unfolding(crate::specs::Reading::RegisterRows::same_row))]
+#[tactic(auto, unfolding(bytecode::specs::Reading::RegisterRows::same_row))]
 pub(crate) fn read_same(scope: &Scope<'_>, json: &Value) -> Result<Instruction, InstructionError>
     ensures read { Gives instruction_view result (same_row (scope_view scope.now) (view json.now)) }
     ensures known { IfOk result (λ i. HasKnownKinds scope.now.types.now i) }
@@ -112,7 +110,7 @@ pub(crate) fn read_same(scope: &Scope<'_>, json: &Value) -> Result<Instruction, 
 }
 
 // `not d a`
-#[tactic(auto, unfolding(crate::specs::Reading::RegisterRows::not_row))]
+#[tactic(auto, unfolding(bytecode::specs::Reading::RegisterRows::not_row))]
 pub(crate) fn read_not(scope: &Scope<'_>, json: &Value) -> Result<Instruction, InstructionError>
     ensures read { Gives instruction_view result (not_row (scope_view scope.now) (view json.now)) }
     ensures known { IfOk result (λ i. HasKnownKinds scope.now.types.now i) }
@@ -125,7 +123,7 @@ pub(crate) fn read_not(scope: &Scope<'_>, json: &Value) -> Result<Instruction, I
 }
 
 // `and d a b`
-#[tactic(auto, unfolding(crate::specs::Reading::RegisterRows::and_row))]
+#[tactic(auto, unfolding(bytecode::specs::Reading::RegisterRows::and_row))]
 pub(crate) fn read_and(scope: &Scope<'_>, json: &Value) -> Result<Instruction, InstructionError>
     ensures read { Gives instruction_view result (and_row (scope_view scope.now) (view json.now)) }
     ensures known { IfOk result (λ i. HasKnownKinds scope.now.types.now i) }
@@ -138,7 +136,7 @@ pub(crate) fn read_and(scope: &Scope<'_>, json: &Value) -> Result<Instruction, I
 }
 
 // `or d a b`
-#[tactic(auto, unfolding(crate::specs::Reading::RegisterRows::or_row))]
+#[tactic(auto, unfolding(bytecode::specs::Reading::RegisterRows::or_row))]
 pub(crate) fn read_or(scope: &Scope<'_>, json: &Value) -> Result<Instruction, InstructionError>
     ensures read { Gives instruction_view result (or_row (scope_view scope.now) (view json.now)) }
     ensures known { IfOk result (λ i. HasKnownKinds scope.now.types.now i) }
@@ -151,7 +149,7 @@ pub(crate) fn read_or(scope: &Scope<'_>, json: &Value) -> Result<Instruction, In
 }
 
 // `join d a b`
-#[tactic(auto, unfolding(crate::specs::Reading::RegisterRows::join_row))]
+#[tactic(auto, unfolding(bytecode::specs::Reading::RegisterRows::join_row))]
 pub(crate) fn read_join(scope: &Scope<'_>, json: &Value) -> Result<Instruction, InstructionError>
     ensures read { Gives instruction_view result (join_row (scope_view scope.now) (view json.now)) }
     ensures known { IfOk result (λ i. HasKnownKinds scope.now.types.now i) }
@@ -164,7 +162,7 @@ pub(crate) fn read_join(scope: &Scope<'_>, json: &Value) -> Result<Instruction, 
 }
 
 // `convert d a k`
-#[tactic(auto, unfolding(crate::specs::Reading::RegisterRows::convert_row))]
+#[tactic(auto, unfolding(bytecode::specs::Reading::RegisterRows::convert_row))]
 pub(crate) fn read_convert(scope: &Scope<'_>, json: &Value) -> Result<Instruction, InstructionError>
     ensures read { Gives instruction_view result (convert_row (scope_view scope.now) (view json.now)) }
     ensures known { IfOk result (λ i. HasKnownKinds scope.now.types.now i) }

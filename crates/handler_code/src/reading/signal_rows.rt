@@ -2,25 +2,24 @@
 
 ghost use Rattle.std.specs.Prelude.{IfOk};
 ghost use Rattle.serde_json.specs.View.{view};
-ghost use Rattle.handler_code.specs.View.{instruction_view};
-ghost use Rattle.handler_code.specs.Known.{HasKnownKinds};
-ghost use Rattle.handler_code.specs.Reading.Operands.{Gives};
-ghost use Rattle.handler_code.specs.Reading.Scopes.{scope_view};
-ghost use Rattle.handler_code.specs.Reading.SignalRows.{emit_row, connect_row, disconnect_row, block_row, unblock_row, stop_row, unbind_row};
+ghost use Rattle.bytecode.specs.View.{instruction_view};
+ghost use Rattle.bytecode.specs.Known.{HasKnownKinds};
+ghost use Rattle.bytecode.specs.Reading.Operands.{Gives};
+ghost use Rattle.handler_code.specs.Reading.ReaderViews.{scope_view};
+ghost use Rattle.bytecode.specs.Reading.SignalRows.{emit_row, connect_row, disconnect_row, block_row, unblock_row, stop_row, unbind_row};
 
-use crate::error::InstructionError;
-use crate::instruction::Instruction;
 use crate::reading::operand_lists::registers_at;
 use crate::reading::operand_shapes::{connection_at, one_name, register_and_name};
 use crate::reading::operand_words::{
     check_none, detail_at, name_at, register_at, register_or_null_at,
 };
 use crate::reading::scope::Scope;
+use bytecode::{Instruction, InstructionError};
 use serde_json::Value;
 use std::alloc::Global;
 
 // `emit z o s D [a..]`
-#[tactic(auto, unfolding(crate::specs::Reading::SignalRows::emit_row))]
+#[tactic(auto, unfolding(bytecode::specs::Reading::SignalRows::emit_row))]
 pub(crate) fn read_emit(
     alloc: Global,
     scope: &Scope<'_>,
@@ -45,7 +44,7 @@ pub(crate) fn read_emit(
 }
 
 // `connect d o s D p [options] z`
-#[tactic(auto, unfolding(crate::specs::Reading::SignalRows::connect_row))]
+#[tactic(auto, unfolding(bytecode::specs::Reading::SignalRows::connect_row))]
 pub(crate) fn read_connect(
     alloc: Global,
     scope: &Scope<'_>,
@@ -66,7 +65,7 @@ pub(crate) fn read_connect(
 }
 
 // `disconnect o p`
-#[tactic(auto, unfolding(crate::specs::Reading::SignalRows::disconnect_row))]
+#[tactic(auto, unfolding(bytecode::specs::Reading::SignalRows::disconnect_row))]
 pub(crate) fn read_disconnect(
     alloc: Global,
     scope: &Scope<'_>,
@@ -80,7 +79,7 @@ pub(crate) fn read_disconnect(
 }
 
 // `block o p`
-#[tactic(auto, unfolding(crate::specs::Reading::SignalRows::block_row))]
+#[tactic(auto, unfolding(bytecode::specs::Reading::SignalRows::block_row))]
 pub(crate) fn read_block(
     alloc: Global,
     scope: &Scope<'_>,
@@ -94,7 +93,7 @@ pub(crate) fn read_block(
 }
 
 // `unblock o p`
-#[tactic(auto, unfolding(crate::specs::Reading::SignalRows::unblock_row))]
+#[tactic(auto, unfolding(bytecode::specs::Reading::SignalRows::unblock_row))]
 pub(crate) fn read_unblock(
     alloc: Global,
     scope: &Scope<'_>,
@@ -108,7 +107,7 @@ pub(crate) fn read_unblock(
 }
 
 // `stop`
-#[tactic(auto, unfolding(crate::specs::Reading::SignalRows::stop_row))]
+#[tactic(auto, unfolding(bytecode::specs::Reading::SignalRows::stop_row))]
 pub(crate) fn read_stop(scope: &Scope<'_>, json: &Value) -> Result<Instruction, InstructionError>
     ensures read { Gives instruction_view result (stop_row (scope_view scope.now) (view json.now)) }
     ensures known { IfOk result (λ i. HasKnownKinds scope.now.types.now i) }
@@ -118,7 +117,7 @@ pub(crate) fn read_stop(scope: &Scope<'_>, json: &Value) -> Result<Instruction, 
 }
 
 // `unbind name`
-#[tactic(auto, unfolding(crate::specs::Reading::SignalRows::unbind_row))]
+#[tactic(auto, unfolding(bytecode::specs::Reading::SignalRows::unbind_row))]
 pub(crate) fn read_unbind(
     alloc: Global,
     scope: &Scope<'_>,

@@ -2,25 +2,24 @@
 
 ghost use Rattle.std.specs.Prelude.{IfOk};
 ghost use Rattle.serde_json.specs.View.{view};
-ghost use Rattle.handler_code.specs.View.{instruction_view};
-ghost use Rattle.handler_code.specs.Known.{HasKnownKinds};
-ghost use Rattle.handler_code.specs.Reading.Operands.{Gives};
-ghost use Rattle.handler_code.specs.Reading.Scopes.{scope_view};
-ghost use Rattle.handler_code.specs.Reading.SourceRows.{idle_row, timeout_row, remove_row, call_row};
+ghost use Rattle.bytecode.specs.View.{instruction_view};
+ghost use Rattle.bytecode.specs.Known.{HasKnownKinds};
+ghost use Rattle.bytecode.specs.Reading.Operands.{Gives};
+ghost use Rattle.handler_code.specs.Reading.ReaderViews.{scope_view};
+ghost use Rattle.bytecode.specs.Reading.SourceRows.{idle_row, timeout_row, remove_row, call_row};
 
-use crate::error::InstructionError;
-use crate::instruction::Instruction;
 use crate::reading::operand_lists::registers_at;
 use crate::reading::operand_shapes::one_name;
 use crate::reading::operand_words::{
     check_none, interval_at, name_at, priority_at, register_at, register_or_null_at,
 };
 use crate::reading::scope::Scope;
+use bytecode::{Instruction, InstructionError};
 use serde_json::Value;
 use std::alloc::Global;
 
 // `idle d p n z`
-#[tactic(auto, unfolding(crate::specs::Reading::SourceRows::idle_row))]
+#[tactic(auto, unfolding(bytecode::specs::Reading::SourceRows::idle_row))]
 pub(crate) fn read_idle(
     alloc: Global,
     scope: &Scope<'_>,
@@ -43,7 +42,7 @@ pub(crate) fn read_idle(
 }
 
 // `timeout d p n i z`
-#[tactic(auto, unfolding(crate::specs::Reading::SourceRows::timeout_row))]
+#[tactic(auto, unfolding(bytecode::specs::Reading::SourceRows::timeout_row))]
 pub(crate) fn read_timeout(
     alloc: Global,
     scope: &Scope<'_>,
@@ -68,7 +67,7 @@ pub(crate) fn read_timeout(
 }
 
 // `remove p`
-#[tactic(auto, unfolding(crate::specs::Reading::SourceRows::remove_row))]
+#[tactic(auto, unfolding(bytecode::specs::Reading::SourceRows::remove_row))]
 pub(crate) fn read_remove(
     alloc: Global,
     scope: &Scope<'_>,
@@ -82,7 +81,7 @@ pub(crate) fn read_remove(
 }
 
 // `call d o m [a..]`
-#[tactic(auto, unfolding(crate::specs::Reading::SourceRows::call_row))]
+#[tactic(auto, unfolding(bytecode::specs::Reading::SourceRows::call_row))]
 pub(crate) fn read_call(
     alloc: Global,
     scope: &Scope<'_>,

@@ -19,7 +19,7 @@ use crate::engine::Engine;
 use crate::frames::put;
 use builder_defs::Definition;
 use g_values::Value;
-use handler_code::{Computation, Computed, Frame, Register};
+use handler_code::{Computation, Computed, Frame, Register, compute};
 use ui_machine::Halt;
 
 impl Engine {
@@ -86,7 +86,7 @@ impl Engine {
         ensures counted { OnOk result (Counts definition.now nothing self.new) }
     {
         let types = definition.types();
-        let computed = computation.compute(self.alloc, types, frame.registers.as_slice())?;
+        let computed = compute(self.alloc, types, frame.registers.as_slice(), computation)?;
         match computed {
             Computed::Value(value) => self.writing(definition, frame, to, Some(value)),
             Computed::Unset => self.writing(definition, frame, to, None),

@@ -2,8 +2,8 @@ use Rattle.std.proofs.Common.{◌≡◌, ◌∙◌, [], Some, map, slice_get, sy
 use Rattle.std.proofs.lemmas.Result.{err_from_is_err_and}
 use Rattle.serde_json.specs.View.{items_view}
 use Rattle.g_values.specs.View.{kind_view}
-use Rattle.builder_defs.specs.Meaning.{given_view}
-use Rattle.builder_defs.specs.EventMeaning.{argument, each_of}
+use Rattle.definition_format.specs.Meaning.{given_view}
+use Rattle.definition_format.specs.EventMeaning.{argument, each_of}
 use Rattle.builder_defs.proofs.EachOf.{known_at, goes_on, ends, kinds_done, is_done}
 use Rattle.builder_defs.proofs.emit_reading.arguments_of.Goals as goal
 

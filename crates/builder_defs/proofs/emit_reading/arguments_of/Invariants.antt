@@ -1,8 +1,8 @@
 use Rattle.std.proofs.Common.{◌≡◌, [], map}
 use Rattle.serde_json.specs.View.{items_view}
 use Rattle.g_values.specs.View.{kind_view}
-use Rattle.builder_defs.specs.Meaning.{given_view}
-use Rattle.builder_defs.specs.EventMeaning.{argument, each_of}
+use Rattle.definition_format.specs.Meaning.{given_view}
+use Rattle.definition_format.specs.EventMeaning.{argument, each_of}
 use Rattle.builder_defs.proofs.EachOf.{left}
 use Rattle.builder_defs.proofs.emit_reading.arguments_of.Given as goal
 

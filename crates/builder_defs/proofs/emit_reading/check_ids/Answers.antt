@@ -2,7 +2,7 @@ use Rattle.std.proofs.Common.{◌≡◌, ◌∙◌, Some, map, slice_get, refl, 
 use Rattle.std.proofs.lemmas.Result.{err_from_is_err_and}
 use Rattle.serde_json.specs.View.{items_view}
 use Rattle.g_values.specs.View.{kind_view}
-use Rattle.builder_defs.specs.EventMeaning.{id_known, each_of}
+use Rattle.definition_format.specs.EventMeaning.{id_known, each_of}
 use Rattle.builder_defs.proofs.EachOf.{goes_on, ends, kinds_done, is_done}
 use Rattle.builder_defs.proofs.emit_reading.check_ids.Goals as goal
 

@@ -1,7 +1,7 @@
 use Rattle.std.proofs.Common.{◌≡◌, map}
 use Rattle.serde_json.specs.View.{items_view}
 use Rattle.g_values.specs.View.{kind_view}
-use Rattle.builder_defs.specs.EventMeaning.{id_known, each_of}
+use Rattle.definition_format.specs.EventMeaning.{id_known, each_of}
 use Rattle.builder_defs.proofs.EachOf.{left}
 use Rattle.builder_defs.proofs.emit_reading.check_ids.Given as goal
 

@@ -1,5 +1,5 @@
 use Rattle.signal_core.specs.SignalView.{declared_view}
-use Rattle.builder_defs.specs.Meaning.{class_at}
+use Rattle.definition_format.specs.Meaning.{class_at}
 use Rattle.builder_defs.proofs.emit_reading.emit_in.Goals as goal
 
 pub arguments_of-requires : goal.arguments_of-requires

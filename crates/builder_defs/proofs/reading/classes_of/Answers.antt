@@ -1,10 +1,10 @@
 use Rattle.std.proofs.Common.{◌≡◌, Ok, codes, subst}
 use Rattle.std.proofs.lemmas.Result.{err_from_is_err_and}
 use Rattle.serde_json.specs.View.{view, items_view}
-use Rattle.builder_defs.specs.Document.{nothing_at, entries_at}
-use Rattle.builder_defs.specs.Denoted.{unset_before_classes}
-use Rattle.builder_defs.specs.Denoted.Drafts.{class_draft_of}
-use Rattle.builder_defs.proofs.Sections.{classes_fail}
+use Rattle.definition_format.specs.Document.{nothing_at, entries_at}
+use Rattle.definition_format.specs.Denoted.{unset_before_classes}
+use Rattle.definition_format.specs.Denoted.Drafts.{class_draft_of}
+use Rattle.definition_types.proofs.Sections.{classes_fail}
 use Rattle.builder_defs.proofs.reading.classes_of.Goals as goal
 
 pub returns-in_err-read_classes : goal.returns-in_err-read_classes

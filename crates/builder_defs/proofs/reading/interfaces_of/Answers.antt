@@ -4,11 +4,11 @@ use Rattle.serde_json.specs.Data.{Items}
 use Rattle.serde_json.specs.View.{view, items_view}
 use Rattle.ui_machine.specs.Definition.Properties.{Spec}
 use Rattle.ui_machine.specs.Definition.Signals.{Signal}
-use Rattle.builder_defs.specs.Refusals.{Fails}
-use Rattle.builder_defs.specs.Document.{entries_at, listed_ahead, each, at_entry}
-use Rattle.builder_defs.specs.Denoted.Drafts.{draft_of}
-use Rattle.builder_defs.specs.Denoted.Interfaces.{interface_at}
-use Rattle.builder_defs.proofs.Sections.{interfaces_fail}
+use Rattle.definition_format.specs.Refusals.{Fails}
+use Rattle.definition_format.specs.Document.{entries_at, listed_ahead, each, at_entry}
+use Rattle.definition_format.specs.Denoted.Drafts.{draft_of}
+use Rattle.definition_format.specs.Denoted.Interfaces.{interface_at}
+use Rattle.definition_types.proofs.Sections.{interfaces_fail}
 use Rattle.builder_defs.proofs.reading.interfaces_of.Goals as goal
 
 pub returns-in_err-read_interfaces-clause-draft : goal.returns-in_err-read_interfaces-clause-draft

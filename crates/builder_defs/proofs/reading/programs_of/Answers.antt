@@ -2,9 +2,9 @@ use Rattle.std.proofs.Common.{◌≡◌, Ok, codes, map, subst}
 use Rattle.std.specs.BTreeMap.{get_by_text}
 use Rattle.std.proofs.lemmas.Result.{err_from_is_err_and}
 use Rattle.serde_json.specs.View.{view, items_view}
-use Rattle.handler_code.specs.Reading.RegisterKinds.{number_of_place}
-use Rattle.builder_defs.specs.Meaning.{plain_program}
-use Rattle.builder_defs.specs.Document.{entries_at}
+use Rattle.bytecode.specs.Reading.RegisterKinds.{number_of_place}
+use Rattle.definition_format.specs.Meaning.{plain_program}
+use Rattle.definition_format.specs.Document.{entries_at}
 use Rattle.builder_defs.proofs.CodeNames.{programs_fail, programs_done}
 use Rattle.builder_defs.proofs.reading.programs_of.Goals as goal
 

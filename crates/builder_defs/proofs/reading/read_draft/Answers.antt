@@ -2,7 +2,7 @@ use Rattle.std.proofs.Common.{ap, ◌∙◌}
 use Rattle.std.proofs.lemmas.Result.{err_from_is_err_and}
 use Rattle.serde_json.specs.View.{view}
 use Rattle.signal_core.specs.Table.{Declared}
-use Rattle.builder_defs.specs.Denoted.Drafts.{class_draft_of}
+use Rattle.definition_format.specs.Denoted.Drafts.{class_draft_of}
 use Rattle.builder_defs.proofs.Whole.{draft_fails, draft_with}
 use Rattle.builder_defs.proofs.reading.read_draft.Goals as goal
 

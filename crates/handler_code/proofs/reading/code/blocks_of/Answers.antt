@@ -3,13 +3,12 @@ use Rattle.std.proofs.lemmas.List.Elements.{All-push}
 use Rattle.std.proofs.lemmas.Result.{err_from_is_err_and}
 use Rattle.serde_json.specs.View.{view}
 use Rattle.ui_machine.specs.Definition.Programs as machine
-use Rattle.handler_code.specs.View.{block_view, instruction_view, register_kind_view}
-use Rattle.handler_code.specs.declared.program.Block.{Block}
-use Rattle.handler_code.specs.Known.{HasKnownCode}
-use Rattle.handler_code.specs.Reading.Each.{each}
-use Rattle.handler_code.specs.Reading.Scopes.{scope_view}
-use Rattle.handler_code.specs.Reading.OutlineView.{block_outline_view}
-use Rattle.handler_code.specs.Reading.Programs.{blocks_in, code_in, code_step, filled}
+use Rattle.bytecode.specs.View.{block_view, instruction_view, register_kind_view}
+use Rattle.bytecode.specs.declared.programs.Block.{Block}
+use Rattle.bytecode.specs.Known.{HasKnownCode}
+use Rattle.bytecode.specs.Reading.Each.{each}
+use Rattle.handler_code.specs.Reading.ReaderViews.{scope_view, block_outline_view}
+use Rattle.bytecode.specs.Reading.Programs.{blocks_in, code_in, code_step, filled}
 use Rattle.handler_code.proofs.Each.{adds, is_done, pushed}
 use Rattle.handler_code.proofs.Stopping.{stops_program}
 use Rattle.handler_code.proofs.reading.code.blocks_of.Goals as goal

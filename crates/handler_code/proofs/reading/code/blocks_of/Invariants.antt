@@ -1,10 +1,9 @@
 use Rattle.std.proofs.Common.{◌≡◌, [], All, map, drop}
-use Rattle.handler_code.specs.View.{block_view}
-use Rattle.handler_code.specs.Known.{HasKnownCode}
-use Rattle.handler_code.specs.Reading.Each.{each}
-use Rattle.handler_code.specs.Reading.Scopes.{scope_view}
-use Rattle.handler_code.specs.Reading.OutlineView.{block_outline_view}
-use Rattle.handler_code.specs.Reading.Programs.{code_step}
+use Rattle.bytecode.specs.View.{block_view}
+use Rattle.bytecode.specs.Known.{HasKnownCode}
+use Rattle.bytecode.specs.Reading.Each.{each}
+use Rattle.handler_code.specs.Reading.ReaderViews.{scope_view, block_outline_view}
+use Rattle.bytecode.specs.Reading.Programs.{code_step}
 use Rattle.handler_code.proofs.reading.code.blocks_of.Given as goal
 
 abbrev pub invariant-outlines : goal.invariant-outlines

@@ -3,12 +3,12 @@ use Rattle.std.proofs.Common.{List}
 use Rattle.std.proofs.lemmas.List.Elements.{All-push}
 use Rattle.std.proofs.lemmas.Result.{err_from_is_err_and}
 use Rattle.serde_json.specs.View.{view}
-use Rattle.handler_code.specs.View.{instruction_view}
-use Rattle.handler_code.specs.declared.instruction.Instruction.{Instruction}
-use Rattle.handler_code.specs.Known.{IsKnownInstruction}
-use Rattle.handler_code.specs.Reading.Each.{each}
-use Rattle.handler_code.specs.Reading.Scopes.{scope_view}
-use Rattle.handler_code.specs.Reading.Programs.{code_in, instruction_behind, with_next_instruction}
+use Rattle.bytecode.specs.View.{instruction_view}
+use Rattle.bytecode.specs.declared.instructions.Instruction.{Instruction}
+use Rattle.bytecode.specs.Known.{IsKnownInstruction}
+use Rattle.bytecode.specs.Reading.Each.{each}
+use Rattle.handler_code.specs.Reading.ReaderViews.{scope_view}
+use Rattle.bytecode.specs.Reading.Programs.{code_in, instruction_behind, with_next_instruction}
 use Rattle.handler_code.proofs.Each.{adds, is_done, pushed}
 use Rattle.handler_code.proofs.Stopping.{stops_program}
 use Rattle.handler_code.proofs.reading.code.code_of.Goals as goal

@@ -1,10 +1,10 @@
 use Rattle.std.proofs.Common.{◌≡◌, [], All, map, drop}
 use Rattle.serde_json.specs.View.{view}
-use Rattle.handler_code.specs.View.{instruction_view}
-use Rattle.handler_code.specs.Known.{IsKnownInstruction}
-use Rattle.handler_code.specs.Reading.Each.{each}
-use Rattle.handler_code.specs.Reading.Scopes.{scope_view}
-use Rattle.handler_code.specs.Reading.Programs.{with_next_instruction}
+use Rattle.bytecode.specs.View.{instruction_view}
+use Rattle.bytecode.specs.Known.{IsKnownInstruction}
+use Rattle.bytecode.specs.Reading.Each.{each}
+use Rattle.handler_code.specs.Reading.ReaderViews.{scope_view}
+use Rattle.bytecode.specs.Reading.Programs.{with_next_instruction}
 use Rattle.handler_code.proofs.reading.code.code_of.Given as goal
 
 abbrev pub invariant-items : goal.invariant-items

@@ -1,6 +1,6 @@
 use Rattle.std.proofs.Common.{◌≡◌, ◌++◌, map, replicate}
 use Rattle.ui_machine.specs.Definition.Kinds.{unset}
-use Rattle.handler_code.specs.View.{register_kind_view}
+use Rattle.bytecode.specs.View.{register_kind_view}
 use Rattle.handler_code.proofs.reading.code.filled.Given as goal
 
 abbrev pub invariant-filling : goal.invariant-filling

@@ -3,13 +3,14 @@ use Rattle.std.proofs.lemmas.List.Elements.{All-push}
 use Rattle.std.proofs.lemmas.Result.{err_from_is_err_and}
 use Rattle.serde_json.specs.View.{view}
 use Rattle.serde_json.specs.Find.{as_str}
-use Rattle.handler_code.specs.declared.program.RegisterKind.{RegisterKind}
-use Rattle.handler_code.specs.Known.{IsKnownRegister}
-use Rattle.handler_code.specs.View.{register_kind_view}
-use Rattle.handler_code.specs.Reading.RegisterKinds.{names_view, register_kind_in}
-use Rattle.handler_code.specs.Reading.Each.{each}
-use Rattle.handler_code.specs.Reading.OutlineFaults.{entry_of, kind_there, part_view}
-use Rattle.handler_code.specs.Reading.Outline.{kind_step}
+use Rattle.bytecode.specs.declared.programs.RegisterKind.{RegisterKind}
+use Rattle.bytecode.specs.Known.{IsKnownRegister}
+use Rattle.bytecode.specs.View.{register_kind_view}
+use Rattle.bytecode.specs.Reading.RegisterKinds.{register_kind_in}
+use Rattle.bytecode.specs.Reading.Each.{each}
+use Rattle.bytecode.specs.Reading.OutlineFaults.{entry_of, kind_there, part_view}
+use Rattle.bytecode.specs.Reading.Outline.{kind_step}
+use Rattle.handler_code.specs.Reading.ReaderViews.{names_view}
 use Rattle.handler_code.proofs.Each.{adds, is_done, pushed}
 use Rattle.handler_code.proofs.Stopping.{stops_outline}
 use Rattle.handler_code.proofs.reading.outline_parts.kinds_of.Goals as goal

@@ -1,11 +1,11 @@
 use Rattle.std.proofs.Common.{◌≡◌, [], All, map, drop}
 use Rattle.serde_json.specs.View.{view}
-use Rattle.handler_code.specs.Known.{IsKnownRegister}
-use Rattle.handler_code.specs.View.{register_kind_view}
-use Rattle.handler_code.specs.Reading.RegisterKinds.{names_view}
-use Rattle.handler_code.specs.Reading.Each.{each}
-use Rattle.handler_code.specs.Reading.OutlineFaults.{part_view}
-use Rattle.handler_code.specs.Reading.Outline.{kind_step}
+use Rattle.bytecode.specs.Known.{IsKnownRegister}
+use Rattle.bytecode.specs.View.{register_kind_view}
+use Rattle.handler_code.specs.Reading.ReaderViews.{names_view}
+use Rattle.bytecode.specs.Reading.Each.{each}
+use Rattle.bytecode.specs.Reading.OutlineFaults.{part_view}
+use Rattle.bytecode.specs.Reading.Outline.{kind_step}
 use Rattle.handler_code.proofs.reading.outline_parts.kinds_of.Given as goal
 
 abbrev pub invariant-items : goal.invariant-items

@@ -1,11 +1,10 @@
 use Rattle.std.proofs.Common.{[], ◌∷◌, ◌++◌, map, refl}
 use Rattle.std.proofs.lemmas.Result.{err_from_is_err_and}
 use Rattle.serde_json.specs.View.{view}
-use Rattle.handler_code.specs.View.{register_kind_view}
-use Rattle.handler_code.specs.Reading.RegisterKinds.{names_view}
-use Rattle.handler_code.specs.Reading.Each.{each}
-use Rattle.handler_code.specs.Reading.Outline.{block_at, block_step}
-use Rattle.handler_code.specs.Reading.OutlineView.{block_outline_view}
+use Rattle.bytecode.specs.View.{register_kind_view}
+use Rattle.handler_code.specs.Reading.ReaderViews.{names_view, block_outline_view}
+use Rattle.bytecode.specs.Reading.Each.{each}
+use Rattle.bytecode.specs.Reading.Outline.{block_at, block_step}
 use Rattle.handler_code.proofs.Each.{adds, is_done, pushed}
 use Rattle.handler_code.proofs.Stopping.{stops_outline}
 use Rattle.handler_code.proofs.reading.outlines.blocks_of.Goals as goal

@@ -1,10 +1,9 @@
 use Rattle.std.proofs.Common.{◌≡◌, [], map, drop}
 use Rattle.serde_json.specs.View.{view}
-use Rattle.handler_code.specs.View.{register_kind_view}
-use Rattle.handler_code.specs.Reading.RegisterKinds.{names_view}
-use Rattle.handler_code.specs.Reading.Each.{each}
-use Rattle.handler_code.specs.Reading.Outline.{block_step}
-use Rattle.handler_code.specs.Reading.OutlineView.{block_outline_view}
+use Rattle.bytecode.specs.View.{register_kind_view}
+use Rattle.handler_code.specs.Reading.ReaderViews.{names_view, block_outline_view}
+use Rattle.bytecode.specs.Reading.Each.{each}
+use Rattle.bytecode.specs.Reading.Outline.{block_step}
 use Rattle.handler_code.proofs.reading.outlines.blocks_of.Given as goal
 
 abbrev pub invariant-items : goal.invariant-items

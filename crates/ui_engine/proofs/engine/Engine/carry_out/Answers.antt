@@ -1,6 +1,6 @@
 use Rattle.std.proofs.Common.{◌≡◌, refl}
-use Rattle.handler_code.specs.declared.instruction.Instruction.{Instruction}
-use Rattle.handler_code.specs.declared.instruction.Instruction.TheVariants as instructions
+use Rattle.bytecode.specs.declared.instructions.Instruction.{Instruction}
+use Rattle.bytecode.specs.declared.instructions.Instruction.TheVariants as instructions
 use Rattle.ui_engine.specs.Groups.{DisconnectsNone}
 use Rattle.ui_engine.proofs.Whole.{goes_whole}
 use Rattle.ui_engine.proofs.engine.Engine.carry_out.Goals as goal

@@ -2,7 +2,7 @@ use Rattle.std.proofs.Common.{◌≡◌, ap, subst, sym}
 use Rattle.std.proofs.lemmas.Result.{err_from_is_err_and}
 use Rattle.ui_machine.specs.Instructions.{in_front, instruction_step}
 use Rattle.handler_code.specs.Computing.{instruction_of, registers_of, writes}
-use Rattle.handler_code.specs.declared.computation.Computed.{Computed}
+use Rattle.bytecode.specs.declared.computations.Computed.{Computed}
 use Rattle.handler_code.specs.FrameView.{frame_view}
 use Rattle.ui_engine.specs.TaskView.{agenda_of}
 use Rattle.ui_engine.specs.View.{world_of}

@@ -1,6 +1,6 @@
 use Rattle.std.proofs.Common.{◌≡◌, refl, subst}
-use Rattle.handler_code.specs.declared.instruction.Instruction.{Instruction}
-use Rattle.handler_code.specs.declared.instruction.Instruction.TheVariants as instructions
+use Rattle.bytecode.specs.declared.instructions.Instruction.{Instruction}
+use Rattle.bytecode.specs.declared.instructions.Instruction.TheVariants as instructions
 use Rattle.ui_engine.specs.Groups.{ActsOnObjects, DisconnectsNone}
 use Rattle.ui_engine.proofs.engine.Engine.instruct.Goals as goal
 

@@ -5,8 +5,8 @@ use Rattle.ui_machine.specs.Steps.{left}
 use Rattle.handler_code.specs.FrameView.{frame_view}
 use Rattle.handler_code.specs.Later.{is_later}
 use Rattle.handler_code.specs.View.{instruction_view}
-use Rattle.handler_code.specs.declared.instruction.Instruction.{Instruction}
-use Rattle.handler_code.specs.declared.instruction.Instruction.TheVariants as instructions
+use Rattle.bytecode.specs.declared.instructions.Instruction.{Instruction}
+use Rattle.bytecode.specs.declared.instructions.Instruction.TheVariants as instructions
 use Rattle.ui_engine.specs.Groups.{ActsOnSignals}
 use Rattle.ui_engine.specs.TaskView.{agenda_of}
 use Rattle.ui_engine.specs.View.{world_of}

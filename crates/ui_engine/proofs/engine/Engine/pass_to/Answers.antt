@@ -6,7 +6,7 @@ use Rattle.ui_machine.specs.State.Tasks.{Task}
 use Rattle.g_values.specs.View.{value_view}
 use Rattle.handler_code.specs.FrameView.{frame_view}
 use Rattle.handler_code.specs.View.{number_of}
-use Rattle.handler_code.specs.declared.computation.Register.{Register}
+use Rattle.bytecode.specs.declared.computations.Register.{Register}
 use Rattle.ui_engine.specs.TaskView.{agenda_of}
 use Rattle.ui_engine.proofs.engine.Engine.pass_to.Goals as goal
 

@@ -4,7 +4,7 @@ use Rattle.ui_machine.specs.Instructions.Jumps.{given_by}
 use Rattle.g_values.specs.View.{value_view}
 use Rattle.handler_code.specs.FrameView.{frame_view}
 use Rattle.handler_code.specs.View.{number_of}
-use Rattle.handler_code.specs.declared.computation.Register.{Register}
+use Rattle.bytecode.specs.declared.computations.Register.{Register}
 use Rattle.ui_engine.proofs.Returning.{gives_nothing, gives_register, gives_unset}
 use Rattle.ui_engine.proofs.Starting.{stops_as}
 use Rattle.ui_engine.proofs.instructions.returns.given_by.Goals as goal

@@ -2,7 +2,7 @@ use Rattle.std.proofs.Common.{◌≡◌, [], ◌∷◌, ◌++◌, true, cond, na
 use Rattle.std.proofs.lemmas.Bool.Decides.{nat_tests}
 use Rattle.ui_machine.specs.State.Tasks.{forwards}
 use Rattle.ui_machine.specs.Rules.Build.{forward_given}
-use Rattle.builder_defs.specs.declared.object_entry.Given.{Given}
+use Rattle.definition_format.specs.declared.objects.Given.{Given}
 use Rattle.builder_defs.specs.Meaning.{given_view}
 use Rattle.ui_engine.specs.declared.task.Forward.{Forward}
 use Rattle.ui_engine.specs.TaskView.{items_of}

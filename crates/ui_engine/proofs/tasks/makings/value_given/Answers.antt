@@ -4,7 +4,7 @@ use Rattle.std.specs.List.{find}
 use Rattle.ui_machine.specs.Definition.Values.{Value}
 use Rattle.ui_machine.specs.Rules.Construction.{is_forward}
 use Rattle.g_values.specs.View.{value_view}
-use Rattle.builder_defs.specs.declared.object_entry.GivenValue.{GivenValue}
+use Rattle.definition_format.specs.declared.objects.GivenValue.{GivenValue}
 use Rattle.builder_defs.specs.Meaning.{given_view}
 use Rattle.ui_engine.specs.View.{world_of}
 use Rattle.ui_engine.proofs.MakingSteps.{value_of, found_first}

@@ -1,0 +1,2 @@
+pub mod BlockShapes
+pub mod ViewedLists

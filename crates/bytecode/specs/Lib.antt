@@ -1,0 +1,6 @@
+pub mod Computing
+pub mod View
+pub mod Shape
+pub mod Known
+pub mod Reading
+pub mod Later

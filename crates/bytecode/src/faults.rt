@@ -1,0 +1,27 @@
+//! Why a program is refused.
+
+use crate::instructions::BlockNumber;
+
+/// What a program has too much of.
+#[derive(Clone, Copy, Debug, PartialEq, Eq)]
+pub enum ProgramLimit {
+    /// More than 32 registers.
+    Registers,
+    /// More than 64 blocks.
+    Blocks,
+    /// More than 512 instructions in all its blocks together.
+    Instructions,
+}
+
+/// Why a value stands for no program.
+#[derive(Clone, Copy, Debug, PartialEq, Eq)]
+pub enum ProgramFault {
+    /// The entry of this number in this block's code is no instruction, or stands behind the last.
+    BadInstruction(BlockNumber, usize),
+    /// This block leads to itself or to an earlier one.
+    BackwardJump(BlockNumber),
+    /// This block does not end with a jump or a return.
+    NoReturn(BlockNumber),
+    /// There is too much of something.
+    Limit(ProgramLimit),
+}

@@ -1,0 +1,23 @@
+//! Programs as they are kept: their instructions and blocks, what is wrong with them, and which of them JSON stands for.
+//!
+//! A program is a handler in bytecode. It has up to 32 registers, each unset or with a value, and its instructions read and write them.
+//! A contract sees a program as the machine's. The specs of this crate also say which program a JSON value stands for, or why it stands for
+//! none; the crate that reads programs has them as its contracts.
+#![tactic(auto)]
+
+mod computations;
+mod errors;
+mod faults;
+mod instructions;
+mod outline_faults;
+mod positions;
+mod programs;
+mod shapes;
+
+pub use computations::{Arithmetic, Comparison, Computation, Computed, Register};
+pub use errors::{InstructionError, ProgramError};
+pub use faults::{ProgramFault, ProgramLimit};
+pub use instructions::{BlockNumber, Connection, Instruction};
+pub use outline_faults::{OutlineError, OutlineFault, ProgramPart};
+pub use programs::{Block, Program, RegisterKind};
+pub use shapes::{MOST_BLOCKS, MOST_INSTRUCTIONS, MOST_REGISTERS, is_ended};

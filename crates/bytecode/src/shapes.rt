@@ -1,0 +1,169 @@
+//! Whether the blocks of a program fit together.
+//!
+//! Blocks lead to later blocks alone, and each ends with a jump or a return. So a program ends, and its steps have a bound.
+
+ghost use Rattle.std.specs.Prelude.{◌≡◌, not, map, length, nat_lt};
+ghost use Rattle.std.specs.List.{list_any, enumerate_from, position_from};
+ghost use Rattle.ui_machine.specs.Seq.{total};
+ghost use Rattle.bytecode.specs.View.{instruction_view, block_view, program_view};
+ghost use Rattle.bytecode.specs.Shape.{ends_block, leads_back, is_ended, first_backward, first_open, first_limit, instructions_in, shape_fault};
+
+use crate::faults::{ProgramFault, ProgramLimit};
+use crate::instructions::{BlockNumber, Instruction};
+use crate::programs::{Block, Program};
+
+/// The most registers of a program.
+pub const MOST_REGISTERS: usize = 32;
+
+/// The most blocks of a program.
+pub const MOST_BLOCKS: usize = 64;
+
+/// The most instructions of a program, those of all its blocks together.
+pub const MOST_INSTRUCTIONS: usize = 512;
+
+impl Program {
+    /// Why the blocks of the program don't fit together, if they don't.
+    ///
+    /// `BackwardJump` with the first block that leads to itself or to an earlier one, else `NoReturn` with the first block that does not end
+    /// with a jump or a return, else `Limit` with what there is too much of: registers, then blocks, then instructions.
+    pub fn shape_fault(&self) -> Option<ProgramFault>
+        ensures { result ≡ shape_fault (program_view self.now) }
+    {
+        let blocks = self.blocks.as_slice();
+        if let Some(block) = first_backward(blocks) {
+            return Some(ProgramFault::BackwardJump(BlockNumber(block)));
+        }
+        if let Some(block) = first_open(blocks) {
+            return Some(ProgramFault::NoReturn(BlockNumber(block)));
+        }
+        first_limit(self).map(ProgramFault::Limit)
+    }
+}
+
+// Whether an instruction leads away from its block.
+#[tactic(auto, using(crate::proofs::BlockShapes::stays))]
+fn ends_block(instruction: &Instruction) -> bool
+    ensures { result ≡ ends_block (instruction_view instruction.now) }
+{
+    matches!(
+        instruction,
+        Instruction::Jump(_)
+            | Instruction::Branch { .. }
+            | Instruction::BranchNull { .. }
+            | Instruction::Return(_)
+    )
+}
+
+// Whether an instruction of a block leads to this block or to an earlier one.
+#[tactic(auto, using(crate::proofs::BlockShapes::leads_nowhere))]
+fn leads_back(instruction: &Instruction, from: usize) -> bool
+    ensures { result ≡ leads_back from (instruction_view instruction.now) }
+{
+    match instruction {
+        Instruction::Jump(to) => to.0 <= from,
+        Instruction::Branch {
+            then_to,
+            else_to,
+            ..
+        } => then_to.0 <= from || else_to.0 <= from,
+        Instruction::BranchNull {
+            then_to,
+            else_to,
+            ..
+        } => then_to.0 <= from || else_to.0 <= from,
+        _ => false,
+    }
+}
+
+// Whether one of a block's instructions does.
+fn has_backward(block: &Block, number: usize) -> bool
+    ensures { result ≡ list_any (λ i. leads_back number (instruction_view i)) block.now.code.items }
+{
+    block
+        .code
+        .iter()
+        .any(|instruction| leads_back(instruction, number))
+}
+
+fn backward_in(blocks: &[Block]) -> Option<usize>
+    ensures { result ≡ position_from (λ e. list_any (λ i. leads_back e.0 (instruction_view i)) (e.1).code.items) 0 (enumerate_from 0 blocks.now) }
+{
+    blocks
+        .iter()
+        .enumerate()
+        .position(|(number, block)| has_backward(block, number))
+}
+
+// The first block that leads to itself or to an earlier one.
+#[tactic(auto, using(crate::proofs::BlockShapes::backward_viewed))]
+fn first_backward(blocks: &[Block]) -> Option<usize>
+    ensures { result ≡ first_backward (map block_view blocks.now) }
+{
+    backward_in(blocks)
+}
+
+/// Whether the last instruction leads away.
+pub fn is_ended(code: &[Instruction]) -> bool
+    ensures { result ≡ is_ended (map instruction_view code.now) }
+{
+    match code.last() {
+        Some(last) => ends_block(last),
+        None => false,
+    }
+}
+
+fn open_in(blocks: &[Block]) -> Option<usize>
+    ensures { result ≡ position_from (λ b. not (is_ended (map instruction_view b.code.items))) 0 blocks.now }
+{
+    blocks
+        .iter()
+        .position(|block| !is_ended(block.code.as_slice()))
+}
+
+// The first block that leads nowhere.
+#[tactic(auto, using(crate::proofs::BlockShapes::open_viewed))]
+fn first_open(blocks: &[Block]) -> Option<usize>
+    ensures { result ≡ first_open (map block_view blocks.now) }
+{
+    open_in(blocks)
+}
+
+// Whether blocks have more instructions than a program may have.
+fn has_too_many(blocks: &[Block]) -> bool
+    ensures { result ≡ nat_lt 512 (total (λ b. length b.code.items) blocks.now) }
+{
+    let mut room = MOST_INSTRUCTIONS;
+    for block in blocks {
+        let taken = block.code.len();
+        if taken > room {
+            return true;
+        }
+        room -= taken;
+    }
+    false
+}
+
+// The same of the blocks that a contract sees.
+#[tactic(auto, using(crate::proofs::BlockShapes::counted_viewed))]
+fn has_too_many_instructions(blocks: &[Block]) -> bool
+    ensures { result ≡ nat_lt 512 (instructions_in (map block_view blocks.now)) }
+{
+    has_too_many(blocks)
+}
+
+// What there is too much of.
+#[tactic(auto, using(crate::proofs::BlockShapes::length_viewed))]
+fn first_limit(program: &Program) -> Option<ProgramLimit>
+    ensures { result ≡ first_limit (program_view program.now) }
+{
+    if program.registers > MOST_REGISTERS {
+        return Some(ProgramLimit::Registers);
+    }
+    if program.blocks.len() > MOST_BLOCKS {
+        return Some(ProgramLimit::Blocks);
+    }
+    if has_too_many_instructions(program.blocks.as_slice()) {
+        return Some(ProgramLimit::Instructions);
+    }
+    None
+}

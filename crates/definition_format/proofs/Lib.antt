@@ -1,0 +1,9 @@
+pub mod Elements
+pub mod AllPlaces
+pub mod Registers
+pub mod Tables
+pub mod Installing
+pub mod LaterTypes
+pub mod Soundness
+pub mod Printing
+pub mod Origins

@@ -1,0 +1,86 @@
+-- The objects of a definition.
+use Rattle.std.specs.Prelude.{ℕ, zero, suc, ◌+◌, List, [], ◌∷◌, ◌++◌, length, codes, Bool, nat_le, if◌then◌else◌, Option, Some, is_some, Result, Ok, Err}
+use Rattle.serde_json.specs.Data.{Data}
+use Rattle.ui_machine.specs.Outcome.{◌>>=◌}
+use Rattle.ui_machine.specs.Definition.Types.{GType}
+use Rattle.ui_machine.specs.Definition.Properties.{Spec}
+use Rattle.ui_machine.specs.Definition.Names.{place_named}
+use Rattle.ui_machine.specs.Definition.Places as machine
+use Rattle.ui_machine.specs.Definition.Programs.{Program}
+use Rattle.ui_machine.specs.Seq.{read}
+use Rattle.ui_machine.specs.Output.Text.{no_type}
+use Rattle.type_tree.specs.Adding.{class_named}
+use Rattle.definition_format.specs.Causes.{abstract_class}
+use Rattle.definition_format.specs.declared.faults.DefinitionLimit.TheVariants.{Places, Objects}
+use Rattle.definition_format.specs.Meaning.{plain_place}
+use Rattle.definition_format.specs.Refusals.{Refusal, shape, unknown, duplicate, bad_type, limit, or_refused}
+use Rattle.definition_format.specs.Document.{under, members_at, text_at, entries_at, absent_at, only_at, each, at_entry}
+use Rattle.definition_format.specs.Denoted.Names.{is_name}
+use Rattle.definition_format.specs.Denoted.Entries.{ObjectNames}
+use Rattle.definition_format.specs.Denoted.Given.{givens_at}
+use Rattle.definition_format.specs.Denoted.Attached.{all_attached}
+
+-- there is a place for one more beside these prototypes and objects, and it may live
+abbrev pub room_for_object : ℕ → List machine.Place → List machine.Place → Result (Unit {0}) Refusal
+room_for_object most prototypes places =
+    if nat_le 512 (length places + length prototypes) then Err (limit Places) else (if nat_le most (length places) then Err (limit Objects) else Ok tt)
+
+-- a name that is not taken
+abbrev pub unless_taken : List ℕ → List ℕ → Bool → Result (Unit {0}) Refusal
+unless_taken path id taken = if is_name id then (if taken then Err (duplicate path) else Ok tt) else Err (shape path)
+
+-- an id beside those of these places
+abbrev pub new_id : List ℕ → List machine.Place → List ℕ → Result (Unit {0}) Refusal
+new_id path places id = unless_taken path id (is_some (place_named (λ (p : machine.Place). p.id) places id))
+
+-- a class that has objects
+abbrev pub unless_abstract : List ℕ → List GType → ℕ → Result ℕ Refusal
+unless_abstract path types t = if (read no_type types t).is_abstract then Err (bad_type path abstract_class) else Ok t
+
+abbrev pub class_at_key : List ℕ → List GType → Data → Result ℕ Refusal
+class_at_key path types d = do
+  name ← text_at path d (codes "class")
+  class ← or_refused (unknown (under path (codes "class")) name) (class_named types name)
+  unless_abstract (under path (codes "class")) types class
+
+abbrev pub keys_of_object : List (List ℕ)
+keys_of_object = codes "id" ∷ codes "class" ∷ codes "peer" ∷ codes "properties" ∷ codes "signals" ∷ codes "children" ∷ []
+
+-- what is known where objects are read: the types with their properties, the programs, the prototypes, how many objects may live, and the names
+-- of all objects
+pub record Scope : Type 0 where
+  pub types : List GType
+  pub specs : ℕ → List Spec
+  pub programs : List Program
+  pub prototypes : List machine.Place
+  pub most : ℕ
+  pub names : ObjectNames
+
+-- The object that an entry gives beside these, the child of the object at a place, if it is a child. It has no peer so far.
+unfoldable pub place_at : List ℕ → Scope → Option ℕ → List machine.Place → Data → Result machine.Place Refusal
+place_at path scope parent places d = do
+  room ← room_for_object scope.most scope.prototypes places
+  id ← text_at path d (codes "id")
+  new ← new_id (under path (codes "id")) (places ++ scope.prototypes) id
+  class ← class_at_key path scope.types d
+  peer ← absent_at path d (codes "peer" ∷ [])
+  given ← givens_at path scope.types scope.names (length places) (scope.specs class) d
+  signals ← all_attached path scope.programs scope.names d
+  Ok (plain_place id class parent given signals)
+
+-- these objects, with the one that an entry gives
+unfoldable pub added_at : List ℕ → Scope → Option ℕ → List machine.Place → Data → Result (List machine.Place) Refusal
+added_at path scope parent places d = do
+  place ← place_at path scope parent places d
+  Ok (places ++ place ∷ [])
+
+-- The same, with its children behind it. Lists nest so many levels deep.
+unfoldable pub object_at : (levels : ℕ) → Scope → Option ℕ → List ℕ → List machine.Place → Data → Result (List machine.Place) Refusal
+object_at zero scope parent path places d = Err (shape path)
+object_at (suc levels) scope parent path places d = do
+  members ← members_at path d
+  more ← added_at path scope parent places d
+  list ← entries_at path d (codes "children")
+  all ← each (at_entry (object_at levels scope (Some (length places))) (under path (codes "children"))) 0 more list
+  only ← only_at path members keys_of_object
+  Ok all

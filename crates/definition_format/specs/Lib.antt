@@ -1,0 +1,9 @@
+pub mod Meaning
+pub mod Causes
+pub mod Refusals
+pub mod FaultText
+pub mod Document
+pub mod EventWords
+pub mod EventMeaning
+pub mod Denoted
+pub mod Origin

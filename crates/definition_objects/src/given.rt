@@ -1,0 +1,379 @@
+//! The values that are given to an object's properties, read from a definition.
+
+ghost use Rattle.std.specs.Prelude.{◌≡◌, codes, map, nat_eq, slice_get, Some, option_map, IfOk};
+ghost use Rattle.std.specs.List.{list_any};
+ghost use Rattle.serde_json.specs.Find.{get, as_str};
+ghost use Rattle.serde_json.specs.View.{view};
+ghost use Rattle.g_values.specs.View.{kind_view, IsKnown};
+ghost use Rattle.param_specs.specs.View.{spec_view};
+ghost use Rattle.param_specs.specs.Table.{own_of, specs_of};
+ghost use Rattle.definition_format.specs.Meaning.{ArePlain, given_view, given_property};
+ghost use Rattle.definition_format.specs.Refusals.{Gives, Leads};
+ghost use Rattle.definition_format.specs.Document.{under, path_of};
+ghost use Rattle.definition_format.specs.Denoted.Properties.{specs_by};
+ghost use Rattle.definition_format.specs.Denoted.Entries.{name_under};
+ghost use Rattle.definition_format.specs.Denoted.Given.{property_named, is_given, named_once, takes_value, reference, class_ahead, may_be, place_called, of_type, referred, given_by, value_at, spec_ahead, place_ahead, is_too_late, in_time, given_at, givens_at};
+
+use definition_format::{DefinitionFault, Given, GivenValue, ReadError, SpecCause};
+use definition_types::document::{
+    Entries, Part, bad_shape, bad_value, path_text, path_under, unknown_name,
+};
+use definition_types::entries::{ObjectNames, at_most, name_under};
+use definition_types::names::is_name;
+use definition_types::reads::{Reads, read_each};
+use definition_types::value_of;
+use g_values::{JsonFault, Kind};
+use param_specs::{Spec, SpecTable};
+use type_tree::{TypeId, TypeTree};
+use ui_machine::{Place, Slot};
+
+const MEMBERS: [&str; 3] = ["name", "value", "bind"];
+
+// A property of a class, by its slot.
+#[derive(Clone, Copy)]
+pub(crate) struct Property<'a> {
+    pub(crate) slot: Slot,
+    pub(crate) spec: &'a Spec,
+}
+
+// The property of a class that a name names.
+#[tactic(auto, unfolding(definition_format::specs::Denoted::Given::property_named))]
+pub(crate) fn property_named<'a>(
+    part: Part<'_>,
+    types: &TypeTree,
+    specs: &'a SpecTable,
+    class: TypeId,
+    name: &str,
+) -> Result<Property<'a>, ReadError>
+    ensures property { Gives (λ p. record { slot = p.slot; spec = spec_view p.spec.now }) result (property_named (under (path_of part.entry.path) (codes "name")) (specs_of types.now specs.now class) name.now) }
+    ensures spec { IfOk result (λ p. slice_get (specs_of types.now specs.now class) p.slot ≡ Some (spec_view p.spec.now)) }
+{
+    let Some(slot) = specs.find(types, class, name) else {
+        return Err(unknown_name(part, "name", name)?);
+    };
+    if usize::from(slot) >= specs.slots_of(types, class) {
+        return Err(unknown_name(part, "name", name)?);
+    }
+    let spec = specs.spec(types, class, slot);
+    Ok(Property { slot, spec })
+}
+
+// Whether one of these values is for a slot.
+fn has_value(given: &[GivenValue], slot: Slot) -> bool
+    ensures { result ≡ list_any (λ g. nat_eq g.slot slot) given.now }
+{
+    given.iter().any(|other| other.slot == slot)
+}
+
+// Whether a property is among the given ones.
+fn is_given(given: &[GivenValue], slot: Slot) -> bool
+    ensures { result ≡ is_given (map given_property given.now) slot }
+{
+    has_value(given, slot)
+}
+
+// Tests that a property is named once.
+pub(crate) fn check_once(part: Part<'_>, given: &[GivenValue], slot: Slot) -> Result<(), ReadError>
+    ensures { Gives (λ _. tt) result (named_once (under (path_of part.entry.path) (codes "name")) (map given_property given.now) slot) }
+{
+    if is_given(given, slot) {
+        return Err(ReadError::Refused(DefinitionFault::Duplicate(path_under(
+            part.alloc, part.path, "name",
+        )?)));
+    }
+    Ok(())
+}
+
+// Tests that a property can be written, where a value is given.
+fn check_writable(part: Part<'_>, spec: &Spec) -> Result<(), ReadError>
+    ensures { Gives (λ _. tt) result (takes_value (under (path_of part.entry.path) (codes "name")) (get (codes "value") (view part.entry.value.now)) (spec_view spec.now)) }
+{
+    if part.value.get("value").is_some() && !spec.is_writable() {
+        let path = path_under(part.alloc, part.path, "name")?;
+        return Err(ReadError::Refused(DefinitionFault::BadSpec(path, SpecCause::NotWritable)));
+    }
+    Ok(())
+}
+
+// The class that the entry of an object names, if there is one of the name.
+fn class_ahead(types: &TypeTree, objects: &ObjectNames<'_>, place: usize) -> Option<TypeId>
+    ensures { result ≡ class_ahead types.now objects.now place }
+{
+    types.find_class(objects.class(place)?)
+}
+
+// Whether an object of a class, if that is known, is one of a type.
+fn may_be(types: &TypeTree, t: TypeId, class: Option<TypeId>) -> bool
+    ensures { result ≡ may_be types.now t class }
+{
+    match class {
+        Some(class) => types.is_a(class, t),
+        None => true,
+    }
+}
+
+// The place of the object of an id, which may come later.
+fn place_called(part: Part<'_>, objects: &ObjectNames<'_>, id: &str) -> Result<usize, ReadError>
+    ensures { Gives (λ n. n) result (place_called (under (path_of part.entry.path) (codes "value")) objects.now id.now) }
+{
+    if !is_name(id) {
+        return Err(bad_shape(part.alloc, part.path, "value")?);
+    }
+    match objects.place(id) {
+        Some(place) => Ok(place),
+        None => Err(unknown_name(part, "value", id)?),
+    }
+}
+
+// The object of a place, which must be of a type.
+fn object_of_type(
+    part: Part<'_>,
+    types: &TypeTree,
+    objects: &ObjectNames<'_>,
+    t: TypeId,
+    place: usize,
+) -> Result<Given, ReadError>
+    ensures { Gives given_view result (of_type (under (path_of part.entry.path) (codes "value")) types.now objects.now t place) }
+{
+    if !may_be(types, t, class_ahead(types, objects, place)) {
+        return Err(bad_value(part.alloc, part.path, "value", JsonFault::WrongJson)?);
+    }
+    Ok(Given::Object(Place(at_most(512, place))))
+}
+
+/// The type of the object and the id, where a text stands for an object.
+pub fn reference<'a>(kind: &Kind, value: &'a serde_json::Value) -> Option<(TypeId, &'a str)>
+    ensures { option_map (λ r. (r.0, r.1.now)) result ≡ reference (kind_view kind.now) (as_str (view value.now)) }
+{
+    match kind {
+        Kind::Object(t) => Some((*t, value.as_str()?)),
+        _ => None,
+    }
+}
+
+// The object that is referred to.
+#[tactic(auto, unfolding(definition_format::specs::Denoted::Given::referred))]
+fn referred(
+    part: Part<'_>,
+    types: &TypeTree,
+    objects: &ObjectNames<'_>,
+    t: TypeId,
+    id: &str,
+) -> Result<Given, ReadError>
+    ensures { Gives given_view result (referred (under (path_of part.entry.path) (codes "value")) types.now objects.now (t, id.now)) }
+{
+    let place = place_called(part, objects, id)?;
+    let given = object_of_type(part, types, objects, t, place)?;
+    Ok(given)
+}
+
+// A value of a kind, or the object that it refers to.
+fn given_by(
+    part: Part<'_>,
+    types: &TypeTree,
+    objects: &ObjectNames<'_>,
+    kind: Kind,
+    value: &serde_json::Value,
+) -> Result<Given, ReadError>
+    requires { IsKnown types.now kind }
+    ensures { Gives given_view result (given_by (under (path_of part.entry.path) (codes "value")) types.now objects.now (kind_view kind) (view value.now) (reference (kind_view kind) (as_str (view value.now)))) }
+{
+    if let Some((t, id)) = reference(&kind, value) {
+        return referred(part, types, objects, t, id);
+    }
+    let value = value_of(part, "value", types, kind, value)?;
+    Ok(Given::Value(value))
+}
+
+// The value that an entry gives.
+fn value_in(
+    part: Part<'_>,
+    types: &TypeTree,
+    objects: &ObjectNames<'_>,
+    kind: Kind,
+) -> Result<Given, ReadError>
+    requires { IsKnown types.now kind }
+    ensures { Gives given_view result (value_at (path_of part.entry.path) types.now objects.now (kind_view kind) (view part.entry.value.now)) }
+{
+    match (part.value.get("value"), part.value.get("bind")) {
+        (Some(value), _) => given_by(part, types, objects, kind, value),
+        (None, None) => Err(bad_shape(part.alloc, part.path, "value")?),
+        (None, Some(_)) => Err(bad_shape(part.alloc, part.path, "bind")?),
+    }
+}
+
+// The property that an entry names, if there is one.
+fn spec_ahead<'a>(
+    value: &serde_json::Value,
+    types: &TypeTree,
+    specs: &'a SpecTable,
+    class: TypeId,
+) -> Option<&'a Spec>
+    ensures { option_map (λ s. spec_view s.now) result ≡ spec_ahead (specs_of types.now specs.now class) (view value.now) }
+{
+    let slot = specs.find(types, class, name_under(value, "name")?)?;
+    if usize::from(slot) >= specs.slots_of(types, class) {
+        return None;
+    }
+    Some(specs.spec(types, class, slot))
+}
+
+// The reference that an entry gives, if it gives one.
+fn reference_under<'a>(entry: &'a serde_json::Value, kind: &Kind) -> Option<(TypeId, &'a str)>
+    ensures { option_map (λ r. (r.0, r.1.now)) result ≡ reference (kind_view kind.now) (name_under (codes "value") (view entry.now)) }
+{
+    match entry.get("value") {
+        Some(value) => reference(kind, value),
+        None => None,
+    }
+}
+
+// The place of the object that an entry gives, if it gives one.
+fn place_ahead(value: &serde_json::Value, objects: &ObjectNames<'_>, kind: &Kind) -> Option<usize>
+    ensures { result ≡ place_ahead objects.now (reference (kind_view kind.now) (name_under (codes "value") (view value.now))) }
+{
+    match reference_under(value, kind) {
+        Some((_, id)) if is_name(id) => objects.place(id),
+        _ => None,
+    }
+}
+
+// Whether an entry gives an object that is not there yet to a property that constructions alone set.
+fn is_too_late(
+    value: &serde_json::Value,
+    objects: &ObjectNames<'_>,
+    place: usize,
+    spec: &Spec,
+) -> bool
+    ensures { result ≡ is_too_late place objects.now (view value.now) (spec_view spec.now) }
+{
+    if !spec.is_construct_only() {
+        return false;
+    }
+    match place_ahead(value, objects, &spec.kind) {
+        Some(to) => place <= to,
+        None => false,
+    }
+}
+
+// Tests that an entry gives no object too late.
+fn check_in_time(
+    part: Part<'_>,
+    objects: &ObjectNames<'_>,
+    place: usize,
+    spec: Option<&Spec>,
+) -> Result<(), ReadError>
+    ensures { Gives (λ _. tt) result (in_time (path_of part.entry.path) place objects.now (view part.entry.value.now) (option_map (λ s. spec_view s.now) spec.entry)) }
+{
+    match spec {
+        Some(spec) if is_too_late(part.value, objects, place, spec) => Err(ReadError::Refused(
+            DefinitionFault::ForwardConstructOnly(path_text(part.alloc, part.path)?),
+        )),
+        _ => Ok(()),
+    }
+}
+
+// Adds the value that an entry gives to a property of a class.
+#[tactic(auto, unfolding(definition_format::specs::Denoted::Given::given_at))]
+fn read_given(
+    part: Part<'_>,
+    types: &TypeTree,
+    objects: &ObjectNames<'_>,
+    place: usize,
+    specs: &SpecTable,
+    class: TypeId,
+    given: &mut Vec<GivenValue>,
+) -> Result<(), ReadError>
+    requires { ArePlain types.now specs.now }
+    ensures { Leads result (given_at (path_of part.entry.path) types.now objects.now place (specs_of types.now specs.now class) (map given_property given.old.items) (view part.entry.value.now)) (map given_property given.new.items) }
+{
+    let members = part.members()?;
+    let named = spec_ahead(part.value, types, specs, class);
+    check_in_time(part, objects, place, named)?;
+    let name = part.text("name")?;
+    let property = property_named(part, types, specs, class, name)?;
+    check_once(part, given.as_slice(), property.slot)?;
+    check_writable(part, property.spec)?;
+    let value = value_in(part, types, objects, property.spec.kind)?;
+    part.check_absent(&["bind"])?;
+    part.check_only(members, &MEMBERS)?;
+    given.push(GivenValue {
+        slot: property.slot,
+        given: value,
+    })?;
+    Ok(())
+}
+
+// How the entries of an object's properties are read, where the object is of this class and stands at this place.
+#[derive(Clone, Copy)]
+struct GivenEntries<'a> {
+    types: &'a TypeTree,
+    objects: &'a ObjectNames<'a>,
+    place: usize,
+    specs: &'a SpecTable,
+    class: TypeId,
+}
+
+impl<'a> Reads<Vec<GivenValue>> for GivenEntries<'a> {
+    ghost use Rattle.std.specs.Prelude.{List, map};
+    ghost use Rattle.ui_machine.specs.Definition.Places as machine;
+    ghost use Rattle.param_specs.specs.Table.{specs_of};
+    ghost use Rattle.definition_format.specs.Meaning.{ArePlain, given_property};
+    ghost use Rattle.definition_format.specs.Denoted.Given.{given_at};
+
+    ghost State = { List machine.GivenProperty };
+
+    ghost seen = { λ given. map given_property given.items };
+
+    ghost Unchanged = { Unit {0} };
+
+    ghost kept = { λ given. tt };
+
+    ghost known = { λ r. ArePlain r.types.now r.specs.now };
+
+    ghost step = { λ r path given d. given_at path r.types.now r.objects.now r.place (specs_of r.types.now r.specs.now r.class) given d };
+
+    fn read(&self, part: Part<'_>, given: &mut Vec<GivenValue>) -> Result<(), ReadError> {
+        read_given(
+            part,
+            self.types,
+            self.objects,
+            self.place,
+            self.specs,
+            self.class,
+            given,
+        )
+    }
+}
+
+// The values that an object of a class is given.
+#[tactic(auto, unfolding(definition_format::specs::Denoted::Given::givens_at, param_specs::specs::Table::specs_of))]
+pub(crate) fn read_givens(
+    part: Part<'_>,
+    types: &TypeTree,
+    objects: &ObjectNames<'_>,
+    place: usize,
+    specs: &SpecTable,
+    class: TypeId,
+) -> Result<Vec<GivenValue>, ReadError>
+    requires { ArePlain types.now specs.now }
+    ensures { Gives (λ v. map given_property v.items) result (givens_at (path_of part.entry.path) types.now objects.now place (specs_by types.now (own_of specs.now) class) (view part.entry.value.now)) }
+{
+    let items = part.entries("properties")?;
+    let path = path_under(part.alloc, part.path, "properties")?;
+    let list = Entries {
+        alloc: part.alloc,
+        path: path.as_str(),
+        items,
+    };
+    let mut given = Vec::new(part.alloc);
+    let reader = GivenEntries {
+        types,
+        objects,
+        place,
+        specs,
+        class,
+    };
+    read_each(&reader, list, &mut given)?;
+    Ok(given)
+}

@@ -1,0 +1,2 @@
+pub mod EntryViews
+pub mod OverrideView

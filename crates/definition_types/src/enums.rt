@@ -1,0 +1,376 @@
+//! The enums and flags types of a definition.
+
+ghost use Rattle.std.specs.Prelude.{◌≡◌, ◌≤ℤ◌, ◌∷◌, ◌++◌, [], codes, pos, map, length, option_and_then, option_map, None, IfOk, IfSome, OnOk, string_bytes};
+ghost use Rattle.std.specs.List.{list_any};
+ghost use Rattle.std.specs.Str.{bytes_eq};
+ghost use Rattle.serde_json.specs.View.{view, items_view};
+ghost use Rattle.serde_json.specs.Find.{get, as_array, as_str};
+ghost use Rattle.type_tree.specs.Adding.{new_enum, new_flags};
+ghost use Rattle.type_tree.specs.Entry.{enum_member, flags_member};
+ghost use Rattle.g_values.specs.Reading.{whole_number};
+ghost use Rattle.definition_format.specs.Refusals.{Gives, Leads, IsRefusal, shape};
+ghost use Rattle.definition_format.specs.Document.{path_of, nth, under, each, at_entry};
+ghost use Rattle.definition_format.specs.Denoted.Enums.{three_in, parts_at, name_if, name_at, number_if, number_at, unless_there, has_name, some_items, some_entries_at, enum_member_at, flags_member_at, members_with, enum_at, flags_at};
+
+use crate::document::{Entries, Part, bad_shape, path_text, path_under, path_within};
+use crate::names::is_name;
+use crate::numbers::whole_number;
+use crate::reads::{Reads, read_each};
+use crate::types::{check_room, check_type_name};
+use definition_format::{DefinitionFault, ReadError};
+use g_values::has_number;
+use serde_json::Value;
+use type_tree::{EnumMember, FlagsMember, TypeTree};
+
+const MEMBERS: [&str; 2] = ["name", "members"];
+
+// A name, a nick and a number, of just three values.
+fn three_in(items: &[Value]) -> Option<(&Value, &Value, &Value)>
+    ensures { option_map (λ w. (view w.0.now, view w.1.now, view w.2.now)) result ≡ three_in (items_view items.now) }
+{
+    match items {
+        [name, nick, number] => Some((name, nick, number)),
+        [] => None,
+        [_] => None,
+        [_, _] => None,
+        [_, _, _, _, ..] => None,
+    }
+}
+
+// The parts of a member.
+fn parts_of<'a>(part: Part<'a>) -> Result<(&'a Value, &'a Value, &'a Value), ReadError>
+    ensures { Gives (λ w. (view w.0.now, view w.1.now, view w.2.now)) result (parts_at (path_of part.entry.path) (view part.entry.value.now)) }
+{
+    if let Some(items) = part.value.as_array() {
+        if let Some(parts) = three_in(items.as_slice()) {
+            return Ok(parts);
+        }
+    }
+    Err(ReadError::Refused(DefinitionFault::Shape(path_text(part.alloc, part.path)?)))
+}
+
+// A fault of shape at a part of an entry.
+pub(crate) fn bad_part(part: Part<'_>, index: usize) -> Result<ReadError, ReadError>
+    ensures { IsRefusal (shape (nth (path_of part.entry.path) index)) result }
+{
+    Ok(ReadError::Refused(DefinitionFault::Shape(path_within(part.alloc, part.path, index)?)))
+}
+
+// A name, if the value is one.
+pub(crate) fn name_in(value: &Value) -> Option<&str>
+    ensures { option_map (λ s. s.now) result ≡ name_if (as_str (view value.now)) }
+{
+    let name = value.as_str()?;
+    if is_name(name) { Some(name) } else { None }
+}
+
+// A name, the part of an entry with this index.
+pub(crate) fn name_part<'a>(
+    part: Part<'_>,
+    index: usize,
+    value: &'a Value,
+) -> Result<&'a str, ReadError>
+    ensures { Gives (λ s. s.now) result (name_at (nth (path_of part.entry.path) index) (view value.now)) }
+{
+    match name_in(value) {
+        Some(name) => Ok(name),
+        None => Err(bad_part(part, index)?),
+    }
+}
+
+// A whole number between two others, both included, if the value is one.
+fn number_in(value: &Value, low: i128, high: i128) -> Option<i128>
+    ensures number { result ≡ number_if low high (whole_number (view value.now)) }
+    ensures low { IfSome result (λ n. low ≤ℤ n) }
+    ensures high { IfSome result (λ n. n ≤ℤ high) }
+{
+    let number = whole_number(value)?;
+    if number < low || number > high {
+        return None;
+    }
+    Some(number)
+}
+
+// The number of a member, its last part.
+fn number_part(part: Part<'_>, value: &Value, low: i128, high: i128) -> Result<i128, ReadError>
+    ensures number { Gives (λ n. n) result (number_at (nth (path_of part.entry.path) 2) low high (view value.now)) }
+    ensures low { IfOk result (λ n. low ≤ℤ n) }
+    ensures high { IfOk result (λ n. n ≤ℤ high) }
+{
+    match number_in(value, low, high) {
+        Some(number) => Ok(number),
+        None => Err(bad_part(part, 2)?),
+    }
+}
+
+// Whether one of these members has the name.
+#[tactic(auto, using(crate::proofs::Members::any_mapped))]
+fn has_name(members: &[EnumMember], name: &str) -> bool
+    ensures { result ≡ has_name (map enum_member members.now) name.now }
+{
+    any_named(members, name)
+}
+
+fn any_named(members: &[EnumMember], name: &str) -> bool
+    ensures { result ≡ list_any (λ m. bytes_eq (string_bytes m.name) name.now) members.now }
+{
+    members.iter().any(|member| member.name.as_str() == name)
+}
+
+// Refuses a part of an entry that an earlier entry has.
+pub(crate) fn check_new(part: Part<'_>, index: usize, there: bool) -> Result<(), ReadError>
+    ensures { Gives (λ _. tt) result (unless_there (nth (path_of part.entry.path) index) there) }
+{
+    if there {
+        return Err(ReadError::Refused(DefinitionFault::Duplicate(path_within(
+            part.alloc, part.path, index,
+        )?)));
+    }
+    Ok(())
+}
+
+// A member of an enum, beside those before.
+#[tactic(auto, unfolding(definition_format::specs::Denoted::Enums::enum_member_at))]
+fn enum_member_of(part: Part<'_>, members: &[EnumMember]) -> Result<EnumMember, ReadError>
+    ensures { Gives (λ m. map enum_member members.now ++ enum_member m ∷ []) result (enum_member_at (path_of part.entry.path) (map enum_member members.now) (view part.entry.value.now)) }
+{
+    let (name, nick, number) = parts_of(part)?;
+    let name = name_part(part, 0, name)?;
+    check_new(part, 0, has_name(members, name))?;
+    let nick = name_part(part, 1, nick)?;
+    let number = number_part(part, number, i128::from(i32::MIN), i128::from(i32::MAX))?;
+    check_new(part, 2, has_number(members, number))?;
+    let name = String::from_str(part.alloc, name)?;
+    let nick = String::from_str(part.alloc, nick)?;
+    let number = number as i32;
+    Ok(EnumMember { name, nick, number })
+}
+
+// How the members of an enum are read.
+#[derive(Clone, Copy)]
+struct EnumMembers;
+
+impl Reads<Vec<EnumMember>> for EnumMembers {
+    ghost use Rattle.std.specs.Prelude.{List, map};
+    ghost use Rattle.ui_machine.specs.Definition.Types.{Member};
+    ghost use Rattle.type_tree.specs.Entry.{enum_member};
+    ghost use Rattle.definition_format.specs.Denoted.Enums.{enum_member_at};
+
+    ghost State = { List Member };
+
+    ghost seen = { λ members. map enum_member members.items };
+
+    ghost Unchanged = { Unit {0} };
+
+    ghost kept = { λ members. tt };
+
+    ghost known = { λ r. Unit {0} };
+
+    ghost step = { λ r path members d. enum_member_at path members d };
+
+    #[tactic(auto, using(std::proofs::lemmas::List::map_push))]
+    fn read(&self, part: Part<'_>, members: &mut Vec<EnumMember>) -> Result<(), ReadError> {
+        let member = enum_member_of(part, members.as_slice())?;
+        members.push(member)?;
+        Ok(())
+    }
+}
+
+// A member of a flags type, beside those before.
+#[tactic(auto, unfolding(definition_format::specs::Denoted::Enums::flags_member_at))]
+fn flags_member_of(part: Part<'_>, members: &[FlagsMember]) -> Result<FlagsMember, ReadError>
+    ensures { Gives (λ m. map flags_member members.now ++ flags_member m ∷ []) result (flags_member_at (path_of part.entry.path) (map flags_member members.now) (view part.entry.value.now)) }
+{
+    let (name, nick, bits) = parts_of(part)?;
+    let name = name_part(part, 0, name)?;
+    let nick = name_part(part, 1, nick)?;
+    let bits = number_part(part, bits, 1, i128::from(u32::MAX))?;
+    let name = String::from_str(part.alloc, name)?;
+    let nick = String::from_str(part.alloc, nick)?;
+    let bits = bits as u32;
+    Ok(FlagsMember { name, nick, bits })
+}
+
+// How the members of a flags type are read.
+#[derive(Clone, Copy)]
+struct FlagsMembers;
+
+impl Reads<Vec<FlagsMember>> for FlagsMembers {
+    ghost use Rattle.std.specs.Prelude.{List, map};
+    ghost use Rattle.ui_machine.specs.Definition.Types.{Member};
+    ghost use Rattle.type_tree.specs.Entry.{flags_member};
+    ghost use Rattle.definition_format.specs.Denoted.Enums.{flags_member_at};
+
+    ghost State = { List Member };
+
+    ghost seen = { λ members. map flags_member members.items };
+
+    ghost Unchanged = { Unit {0} };
+
+    ghost kept = { λ members. tt };
+
+    ghost known = { λ r. Unit {0} };
+
+    ghost step = { λ r path members d. flags_member_at path members d };
+
+    #[tactic(auto, using(std::proofs::lemmas::List::map_push))]
+    fn read(&self, part: Part<'_>, members: &mut Vec<FlagsMember>) -> Result<(), ReadError> {
+        let member = flags_member_of(part, members.as_slice())?;
+        members.push(member)?;
+        Ok(())
+    }
+}
+
+// The entries of the list of members, if it is there.
+fn listed_members(value: &Value) -> Option<&[Value]>
+    ensures { option_map (λ s. items_view s.now) result ≡ option_and_then as_array (get (codes "members") (view value.now)) }
+{
+    let list = value.get("members")?;
+    let items = list.as_array()?;
+    Some(items.as_slice())
+}
+
+// The same, where there is one at least.
+fn some_entries<'a>(part: Part<'a>) -> Result<&'a [Value], ReadError>
+    ensures { Gives (λ s. items_view s.now) result (some_entries_at (path_of part.entry.path) (view part.entry.value.now) (codes "members")) }
+{
+    match listed_members(part.value) {
+        Some([]) => Err(bad_shape(part.alloc, part.path, "members")?),
+        Some(items) => Ok(items),
+        None => Err(bad_shape(part.alloc, part.path, "members")?),
+    }
+}
+
+// The members of an enum.
+fn enum_members(part: Part<'_>) -> Result<Vec<EnumMember>, ReadError>
+    ensures { Gives (λ v. map enum_member v.items) result (members_with enum_member_at (path_of part.entry.path) (view part.entry.value.now)) }
+{
+    let items = some_entries(part)?;
+    let path = path_under(part.alloc, part.path, "members")?;
+    let list = Entries {
+        alloc: part.alloc,
+        path: path.as_str(),
+        items,
+    };
+    let mut members = Vec::new(part.alloc);
+    read_each(&EnumMembers, list, &mut members)?;
+    Ok(members)
+}
+
+// The members of a flags type.
+fn flags_members(part: Part<'_>) -> Result<Vec<FlagsMember>, ReadError>
+    ensures { Gives (λ v. map flags_member v.items) result (members_with flags_member_at (path_of part.entry.path) (view part.entry.value.now)) }
+{
+    let items = some_entries(part)?;
+    let path = path_under(part.alloc, part.path, "members")?;
+    let list = Entries {
+        alloc: part.alloc,
+        path: path.as_str(),
+        items,
+    };
+    let mut members = Vec::new(part.alloc);
+    read_each(&FlagsMembers, list, &mut members)?;
+    Ok(members)
+}
+
+// Adds the enum of an entry, where the enums begin with the first.
+#[tactic(auto, unfolding(definition_format::specs::Denoted::Enums::enum_at))]
+fn read_enum(part: Part<'_>, first: usize, types: &mut TypeTree) -> Result<(), ReadError>
+    ensures { Leads result (enum_at (path_of part.entry.path) first types.old (view part.entry.value.now)) types.new }
+{
+    let members = part.members()?;
+    check_room(types)?;
+    let name = part.text("name")?;
+    check_type_name(part, first, types, name)?;
+    let listed = enum_members(part)?;
+    part.check_only(members, &MEMBERS)?;
+    types.append_enum(name, listed)?;
+    Ok(())
+}
+
+// Adds the flags type of an entry, where the flags types begin with the first.
+#[tactic(auto, unfolding(definition_format::specs::Denoted::Enums::flags_at))]
+fn read_flags(part: Part<'_>, first: usize, types: &mut TypeTree) -> Result<(), ReadError>
+    ensures { Leads result (flags_at (path_of part.entry.path) first types.old (view part.entry.value.now)) types.new }
+{
+    let members = part.members()?;
+    check_room(types)?;
+    let name = part.text("name")?;
+    check_type_name(part, first, types, name)?;
+    let listed = flags_members(part)?;
+    part.check_only(members, &MEMBERS)?;
+    types.append_flags(name, listed)?;
+    Ok(())
+}
+
+// How the entries of the enums are read.
+#[derive(Clone, Copy)]
+struct EnumEntries {
+    first: usize,
+}
+
+impl Reads<TypeTree> for EnumEntries {
+    ghost use Rattle.std.specs.Prelude.{List};
+    ghost use Rattle.ui_machine.specs.Definition.Types.{GType};
+    ghost use Rattle.definition_format.specs.Denoted.Enums.{enum_at};
+
+    ghost State = { List GType };
+
+    ghost seen = { λ types. types };
+
+    ghost Unchanged = { Unit {0} };
+
+    ghost kept = { λ types. tt };
+
+    ghost known = { λ r. Unit {0} };
+
+    ghost step = { λ r path types d. enum_at path r.first types d };
+
+    fn read(&self, part: Part<'_>, types: &mut TypeTree) -> Result<(), ReadError> {
+        read_enum(part, self.first, types)
+    }
+}
+
+// How the entries of the flags types are read.
+#[derive(Clone, Copy)]
+struct FlagsEntries {
+    first: usize,
+}
+
+impl Reads<TypeTree> for FlagsEntries {
+    ghost use Rattle.std.specs.Prelude.{List};
+    ghost use Rattle.ui_machine.specs.Definition.Types.{GType};
+    ghost use Rattle.definition_format.specs.Denoted.Enums.{flags_at};
+
+    ghost State = { List GType };
+
+    ghost seen = { λ types. types };
+
+    ghost Unchanged = { Unit {0} };
+
+    ghost kept = { λ types. tt };
+
+    ghost known = { λ r. Unit {0} };
+
+    ghost step = { λ r path types d. flags_at path r.first types d };
+
+    fn read(&self, part: Part<'_>, types: &mut TypeTree) -> Result<(), ReadError> {
+        read_flags(part, self.first, types)
+    }
+}
+
+/// Adds the enums of a list.
+pub fn read_enums(list: Entries<'_>, types: &mut TypeTree) -> Result<(), ReadError>
+    ensures { Leads result (each (at_entry (λ path. enum_at path (length types.old)) list.entry.path.now) 0 types.old (items_view list.entry.items.now)) types.new }
+{
+    let reader = EnumEntries { first: types.len() };
+    read_each(&reader, list, types)
+}
+
+/// Adds the flags types of a list.
+pub fn read_flags_types(list: Entries<'_>, types: &mut TypeTree) -> Result<(), ReadError>
+    ensures { Leads result (each (at_entry (λ path. flags_at path (length types.old)) list.entry.path.now) 0 types.old (items_view list.entry.items.now)) types.new }
+{
+    let reader = FlagsEntries { first: types.len() };
+    read_each(&reader, list, types)
+}

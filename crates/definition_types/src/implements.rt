@@ -1,0 +1,311 @@
+//! The interfaces that a class implements, and the types that are listed by their names.
+
+ghost use Rattle.std.specs.Prelude.{◌≡◌, [], ◌∷◌, nat_eq, Some, OnOk};
+ghost use Rattle.std.specs.List.{list_any};
+ghost use Rattle.serde_json.specs.View.{view, items_view};
+ghost use Rattle.serde_json.specs.Find.{as_str};
+ghost use Rattle.type_tree.specs.Adding.{interface_named};
+ghost use Rattle.signal_core.specs.SignalView.{signal_view};
+ghost use Rattle.signal_core.specs.Sources.{signals_of};
+ghost use Rattle.definition_format.specs.Refusals.{Gives, Leads, IsRefusal, shape, unknown, or_refused};
+ghost use Rattle.definition_format.specs.Document.{path_of, each, at_entry};
+ghost use Rattle.definition_types.specs.OverrideView.{heir_of, names_of};
+ghost use Rattle.definition_format.specs.Denoted.Brought.{is_brought, is_again};
+ghost use Rattle.definition_format.specs.Denoted.Drafts.{draft_of};
+ghost use Rattle.definition_format.specs.Denoted.Implements.{type_with, named_at, brings_again, check_brought, check_prerequisites, check_overrides, implemented_once, implemented_at, implements_listed, implements_at, interface_at_entry};
+
+use crate::document::{Entries, Part, path_text, path_under};
+use crate::entries::TypeNames;
+use crate::overrides::{Heir, read_own};
+use crate::own_signals::{has_own_signal, read_own_signals};
+use crate::reads::{Reads, read_each};
+use definition_format::{DefinitionFault, ReadError, TypeCause};
+use definitions::types::type_name;
+use param_specs::SpecTable;
+use serde_json::Value;
+use signal_core::{Signal, SignalTable};
+use std::alloc::AllocError;
+use type_tree::{TypeId, TypeTree};
+
+// Whether a type is among these.
+pub(crate) fn is_listed(types: &[TypeId], t: TypeId) -> bool
+    ensures { result ≡ list_any (nat_eq t) types.now }
+{
+    types.iter().any(|other| t == *other)
+}
+
+// Adds a type to others, unless it is among them.
+pub(crate) fn add_type(types: &mut Vec<TypeId>, t: TypeId) -> Result<(), AllocError>
+    ensures { OnOk result (types.new.items ≡ type_with types.old.items (Some t)) }
+{
+    if is_listed(types.as_slice(), t) {
+        return Ok(());
+    }
+    types.push(t)?;
+    Ok(())
+}
+
+// A name that is an entry of a list.
+pub(crate) fn entry_name<'a>(part: Part<'a>) -> Result<&'a str, ReadError>
+    ensures { Gives (λ s. s.now) result (or_refused (shape (path_of part.entry.path)) (as_str (view part.entry.value.now))) }
+{
+    match part.value.as_str() {
+        Some(name) => Ok(name),
+        None => Err(ReadError::Refused(DefinitionFault::Shape(path_text(part.alloc, part.path)?))),
+    }
+}
+
+// A name that is an entry of a list, which nothing has.
+pub(crate) fn unknown_entry(part: Part<'_>, name: &str) -> Result<ReadError, ReadError>
+    ensures { IsRefusal (unknown (path_of part.entry.path) name.now) result }
+{
+    let path = path_text(part.alloc, part.path)?;
+    let name = String::from_str(part.alloc, name)?;
+    Ok(ReadError::Refused(DefinitionFault::Unknown(path, name)))
+}
+
+// How the interfaces that entries name are read ahead.
+#[derive(Clone, Copy)]
+struct NamedEntries<'a> {
+    types: &'a TypeTree,
+}
+
+impl<'a> Reads<Vec<TypeId>> for NamedEntries<'a> {
+    ghost use Rattle.std.specs.Prelude.{ℕ, List};
+    ghost use Rattle.definition_format.specs.Denoted.Implements.{named_at};
+
+    ghost State = { List ℕ };
+
+    ghost seen = { λ named. named.items };
+
+    ghost Unchanged = { Unit {0} };
+
+    ghost kept = { λ named. tt };
+
+    ghost known = { λ r. Unit {0} };
+
+    ghost step = { λ r path named d. named_at path r.types.now named d };
+
+    fn read(&self, part: Part<'_>, named: &mut Vec<TypeId>) -> Result<(), ReadError> {
+        if let Some(name) = part.value.as_str() {
+            if let Some(interface) = self.types.find_interface(name) {
+                add_type(named, interface)?;
+            }
+        }
+        Ok(())
+    }
+}
+
+// The interfaces that entries name, each once.
+fn read_named(list: Entries<'_>, types: &TypeTree) -> Result<Vec<TypeId>, ReadError>
+    ensures { Gives (λ v. v.items) result (each (at_entry (λ entry. named_at entry types.now) list.entry.path.now) 0 [] (items_view list.entry.items.now)) }
+{
+    let mut named = Vec::new(list.alloc);
+    let reader = NamedEntries { types };
+    read_each(&reader, list, &mut named)?;
+    Ok(named)
+}
+
+// The interface that an entry names.
+#[tactic(auto, unfolding(definition_format::specs::Denoted::Implements::interface_at_entry))]
+fn interface_of(part: Part<'_>, types: &TypeTree) -> Result<TypeId, ReadError>
+    ensures { Gives (λ i. i) result (interface_at_entry (path_of part.entry.path) types.now (view part.entry.value.now)) }
+{
+    let name = entry_name(part)?;
+    match types.find_interface(name) {
+        Some(interface) => Ok(interface),
+        None => Err(unknown_entry(part, name)?),
+    }
+}
+
+// Tests that a class is all that an interface requires.
+fn check_prerequisites(part: Part<'_>, heir: &Heir<'_>, interface: TypeId) -> Result<(), ReadError>
+    ensures { Gives (λ _. tt) result (check_prerequisites (path_of part.entry.path) (heir_of heir.now) interface) }
+{
+    match heir
+        .types
+        .missing_prerequisite(heir.parent, heir.named, interface)
+    {
+        None => Ok(()),
+        Some(missing) => {
+            let path = path_text(part.alloc, part.path)?;
+            let name = String::from_str(part.alloc, type_name(heir.types, missing))?;
+            Err(ReadError::Refused(DefinitionFault::BadType(path, TypeCause::Prerequisite(name))))
+        }
+    }
+}
+
+// Tests that a class has the properties of an interface.
+fn check_overrides(part: Part<'_>, heir: &Heir<'_>, interface: TypeId) -> Result<(), ReadError>
+    ensures { Gives (λ _. tt) result (check_overrides (path_of part.entry.path) (heir_of heir.now) interface) }
+{
+    let found = heir.override_cause(part.alloc, interface)?;
+    match found {
+        None => Ok(()),
+        Some(cause) => {
+            let path = path_text(part.alloc, part.path)?;
+            Err(ReadError::Refused(DefinitionFault::BadSpec(path, cause)))
+        }
+    }
+}
+
+// Whether one of some types has a signal of a name.
+fn is_brought(types: &TypeTree, signals: &SignalTable, ts: &[TypeId], name: &str) -> bool
+    ensures { result ≡ is_brought (signals_of types.now signals.now.signals) ts.now name.now }
+{
+    ts.iter().any(|t| signals.find(types, *t, name).is_some())
+}
+
+// Whether a signal of an interface has the name of one that the class's parent or one of some interfaces has.
+fn is_again(heir: &Heir<'_>, implemented: &[TypeId], signal: &Signal) -> bool
+    ensures { result ≡ is_again (signals_of heir.now.types.now heir.now.signals.now.signals) (names_of heir.now.own_signals.now.entries) (heir.now.parent ∷ implemented.now) (signal_view signal.now) }
+{
+    let name = signal.name.as_str();
+    !has_own_signal(heir.own_signals, name)
+        && (heir.signals.find(heir.types, heir.parent, name).is_some()
+            || is_brought(heir.types, heir.signals, implemented, name))
+}
+
+// The same of one of some signals.
+fn any_again(heir: &Heir<'_>, implemented: &[TypeId], signals: &[Signal]) -> bool
+    ensures { result ≡ list_any (λ s. is_again (signals_of heir.now.types.now heir.now.signals.now.signals) (names_of heir.now.own_signals.now.entries) (heir.now.parent ∷ implemented.now) (signal_view s)) signals.now }
+{
+    signals
+        .iter()
+        .any(|signal| is_again(heir, implemented, signal))
+}
+
+// Whether an interface brings a signal again.
+fn brings_again(heir: &Heir<'_>, implemented: &[TypeId], interface: TypeId) -> bool
+    ensures { result ≡ brings_again (heir_of heir.now) interface implemented.now }
+{
+    any_again(heir, implemented, heir.signals.own(interface))
+}
+
+// Tests that an interface brings no signal that is there already. One that an ancestor implements brings nothing.
+fn check_brought(
+    part: Part<'_>,
+    heir: &Heir<'_>,
+    interface: TypeId,
+    implemented: &[TypeId],
+) -> Result<(), ReadError>
+    ensures { Gives (λ _. tt) result (check_brought (path_of part.entry.path) (heir_of heir.now) interface implemented.now) }
+{
+    if heir.types.is_a(heir.parent, interface) {
+        return Ok(());
+    }
+    if brings_again(heir, implemented, interface) {
+        let path = path_text(part.alloc, part.path)?;
+        return Err(ReadError::Refused(DefinitionFault::Duplicate(path)));
+    }
+    Ok(())
+}
+
+// Adds an interface to those before, unless it is among them.
+#[tactic(auto, unfolding(definition_format::specs::Denoted::Implements::newly_implemented))]
+fn implement(
+    part: Part<'_>,
+    heir: &Heir<'_>,
+    interface: TypeId,
+    implemented: &mut Vec<TypeId>,
+) -> Result<(), ReadError>
+    ensures { Leads result (implemented_once (path_of part.entry.path) (heir_of heir.now) interface implemented.old.items) implemented.new.items }
+{
+    if is_listed(implemented.as_slice(), interface) {
+        return Ok(());
+    }
+    check_brought(part, heir, interface, implemented.as_slice())?;
+    check_prerequisites(part, heir, interface)?;
+    check_overrides(part, heir, interface)?;
+    implemented.push(interface)?;
+    Ok(())
+}
+
+impl<'a> Reads<Vec<TypeId>> for Heir<'a> {
+    ghost use Rattle.std.specs.Prelude.{ℕ, List};
+    ghost use Rattle.definition_types.specs.OverrideView.{heir_of};
+    ghost use Rattle.definition_format.specs.Denoted.Implements.{implemented_at};
+
+    ghost State = { List ℕ };
+
+    ghost seen = { λ implemented. implemented.items };
+
+    ghost Unchanged = { Unit {0} };
+
+    ghost kept = { λ implemented. tt };
+
+    ghost known = { λ r. Unit {0} };
+
+    ghost step = { λ r path implemented d. implemented_at path (heir_of r) implemented d };
+
+    #[tactic(auto, unfolding(definition_format::specs::Denoted::Implements::implemented_at))]
+    fn read(&self, part: Part<'_>, implemented: &mut Vec<TypeId>) -> Result<(), ReadError> {
+        let interface = interface_of(part, self.types)?;
+        implement(part, self, interface, implemented)?;
+        Ok(())
+    }
+}
+
+// The interfaces of a list, which a class implements.
+fn read_heir(list: Entries<'_>, heir: &Heir<'_>) -> Result<Vec<TypeId>, ReadError>
+    ensures { Gives (λ v. v.items) result (each (at_entry (λ entry. implemented_at entry (heir_of heir.now)) list.entry.path.now) 0 [] (items_view list.entry.items.now)) }
+{
+    let mut implemented = Vec::new(list.alloc);
+    read_each(heir, list, &mut implemented)?;
+    Ok(implemented)
+}
+
+// The interfaces of these entries, which a class of this parent implements.
+#[tactic(auto, unfolding(definition_format::specs::Denoted::Implements::implements_listed, definition_format::specs::Denoted::Implements::heir_at))]
+fn read_listed(
+    part: Part<'_>,
+    types: &TypeTree,
+    names: &TypeNames<'_>,
+    specs: &SpecTable,
+    signals: &SignalTable,
+    parent: TypeId,
+    items: &[Value],
+) -> Result<Vec<TypeId>, ReadError>
+    ensures { Gives (λ v. v.items) result (implements_listed (path_of part.entry.path) names.now (draft_of types.now specs.now signals.now.signals) parent (view part.entry.value.now) (items_view items.now)) }
+{
+    let path = path_under(part.alloc, part.path, "implements")?;
+    let list = Entries {
+        alloc: part.alloc,
+        path: path.as_str(),
+        items,
+    };
+    let named = read_named(list, types)?;
+    let own = read_own(part, types, names, specs, parent)?;
+    let own_signals = read_own_signals(part)?;
+    let heir = Heir {
+        types,
+        specs,
+        signals,
+        parent,
+        named: named.as_slice(),
+        own: &own,
+        own_signals: &own_signals,
+    };
+    let implemented = read_heir(list, &heir)?;
+    Ok(implemented)
+}
+
+// The interfaces that a class of this parent implements.
+#[tactic(auto, unfolding(definition_format::specs::Denoted::Implements::implements_at))]
+pub(crate) fn read_implements(
+    part: Part<'_>,
+    types: &TypeTree,
+    names: &TypeNames<'_>,
+    specs: &SpecTable,
+    signals: &SignalTable,
+    parent: TypeId,
+) -> Result<Vec<TypeId>, ReadError>
+    ensures { Gives (λ v. v.items) result (implements_at (path_of part.entry.path) names.now (draft_of types.now specs.now signals.now.signals) parent (view part.entry.value.now)) }
+{
+    let items = part.entries("implements")?;
+    if items.is_empty() {
+        return Ok(Vec::new(part.alloc));
+    }
+    let implemented = read_listed(part, types, names, specs, signals, parent, items)?;
+    Ok(implemented)
+}

@@ -1,0 +1,82 @@
+//! The names of the signals that a class itself declares, read ahead for its interfaces.
+
+ghost use Rattle.std.specs.Prelude.{◌≡◌, []};
+ghost use Rattle.std.specs.List.{list_any};
+ghost use Rattle.std.specs.Str.{bytes_eq};
+ghost use Rattle.serde_json.specs.View.{view, items_view};
+ghost use Rattle.definition_format.specs.Refusals.{Gives};
+ghost use Rattle.definition_format.specs.Document.{path_of, each, at_entry};
+ghost use Rattle.definition_types.specs.OverrideView.{names_of};
+ghost use Rattle.definition_format.specs.Denoted.Brought.{own_signal_at, own_signals_ahead};
+
+use crate::document::{Entries, Part, listed_ahead, path_under};
+use crate::overrides::own_name;
+use crate::reads::{Reads, read_each};
+use definition_format::ReadError;
+use indexmap::IndexMap;
+
+/// The names of a class's own signals, in canonical spelling.
+pub(crate) type OwnSignals = IndexMap<String, ()>;
+
+// Whether a name is among these.
+pub(crate) fn has_own_signal(own: &OwnSignals, name: &str) -> bool
+    ensures { result ≡ list_any (bytes_eq name.now) (names_of own.now.entries) }
+{
+    own.contains_key(name)
+}
+
+// How the own signals of a class are read ahead.
+#[derive(Clone, Copy)]
+struct OwnSignalEntries;
+
+impl Reads<OwnSignals> for OwnSignalEntries {
+    ghost use Rattle.std.specs.Prelude.{ℕ, List};
+    ghost use Rattle.definition_format.specs.Denoted.Brought.{own_signal_at};
+    ghost use Rattle.definition_types.specs.OverrideView.{names_of};
+
+    ghost State = { List (List ℕ) };
+
+    ghost seen = { λ own. names_of own.entries };
+
+    ghost Unchanged = { Unit {0} };
+
+    ghost kept = { λ own. tt };
+
+    ghost known = { λ r. Unit {0} };
+
+    ghost step = { λ r path own d. own_signal_at path own d };
+
+    fn read(&self, part: Part<'_>, own: &mut OwnSignals) -> Result<(), ReadError> {
+        let Some(name) = own_name(part.alloc, part.value)? else {
+            return Ok(());
+        };
+        if has_own_signal(own, name.as_str()) {
+            return Ok(());
+        }
+        own.insert(name, ())?;
+        Ok(())
+    }
+}
+
+// The names of the signals of a list.
+fn read_own_entries(list: Entries<'_>) -> Result<OwnSignals, ReadError>
+    ensures { Gives (λ own. names_of own.entries) result (each (at_entry own_signal_at list.entry.path.now) 0 [] (items_view list.entry.items.now)) }
+{
+    let mut own = IndexMap::new(list.alloc);
+    read_each(&OwnSignalEntries, list, &mut own)?;
+    Ok(own)
+}
+
+// The names of the signals that the entry of a class declares.
+pub(crate) fn read_own_signals(part: Part<'_>) -> Result<OwnSignals, ReadError>
+    ensures { Gives (λ own. names_of own.entries) result (own_signals_ahead (path_of part.entry.path) (view part.entry.value.now)) }
+{
+    let path = path_under(part.alloc, part.path, "signals")?;
+    let list = Entries {
+        alloc: part.alloc,
+        path: path.as_str(),
+        items: listed_ahead(part.value, "signals"),
+    };
+    let own = read_own_entries(list)?;
+    Ok(own)
+}

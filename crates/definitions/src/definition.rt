@@ -1,0 +1,295 @@
+//! What a definition says.
+
+ghost use Rattle.std.specs.Prelude.{◌≡◌, ◌<◌, ◌≤◌, ◌+◌, None, ℕ, length, option_map, slice_get, string_bytes, IfSome, map};
+ghost use Rattle.ui_machine.specs.Definition.Names.{place_named};
+ghost use Rattle.ui_machine.specs.Definition.Lookups.{class_of, place_of, program_at, program_of, spec_of, specs_of, slot_of, type_of};
+ghost use Rattle.ui_machine.specs.Seq.{read};
+ghost use Rattle.ui_machine.specs.Rules.Connections.{signal_number};
+ghost use Rattle.ui_machine.specs.Rules.EmissionPlan.{signal_of};
+ghost use Rattle.bytecode.specs.Known.{HasKnownBlocks};
+ghost use Rattle.bytecode.specs.View.{program_view};
+ghost use Rattle.param_specs.specs.View.{spec_view};
+ghost use Rattle.signal_core.specs.Emission.{begun};
+ghost use Rattle.signal_core.specs.Laws.{walk_for};
+ghost use Rattle.signal_core.specs.SignalView.{declared_view};
+ghost use Rattle.definition_format.specs.Meaning.{AreLimits, IsBasic, attached_view, bare_place, place_number, places_of, class_at, object_count, object_place, plain_object, plain_prototype, planned, given_property, meaning};
+ghost use Rattle.definition_format.specs.Origin.{IsDenoted};
+ghost use Rattle.definitions.specs.PartsView.{AreRead, parts_of};
+
+use crate::object_entries::ObjectEntry;
+use crate::parts::Parts;
+use crate::places::{Objects, Prototypes, place_in, position_of};
+use crate::programs::{Programs, number_of};
+use crate::types::type_name;
+use bytecode::Program;
+use param_specs::{Spec, SpecTable};
+use signal_core::{DeclaredSignal, Emission, SignalTable};
+use std::marker::Model;
+use type_tree::{TypeId, TypeTree};
+use ui_machine::{Limits, ObjectId, Place, ProgramId, SignalId, Slot};
+
+/// A definition: its types with their properties and signals, and the programs that classes name; its programs, its prototypes and its objects
+/// in document order; and its limits. Its places are its objects and, behind them, its prototypes. It is seen as the machine's.
+#[derive(Drop)]
+pub struct Definition {
+    types: TypeTree,
+    specs: SpecTable,
+    signals: SignalTable,
+    // The programs that classes name for their objects once they are constructed, by class.
+    constructed: Vec<Option<ProgramId>>,
+    programs: Programs,
+    prototypes: Prototypes,
+    objects: Objects,
+    limits: Limits,
+}
+
+impl Model for Definition {
+    ghost use Rattle.ui_machine.specs.Definition as machine;
+
+    ghost Value = { machine.Definition };
+
+    ghost use Rattle.definition_format.specs.Meaning.{meaning, parts};
+    ghost use Rattle.definitions.specs.PartsView.{AreRead};
+
+    ghost view = { λ d. meaning (parts d.types d.specs d.signals d.constructed.items d.programs.entries d.prototypes.entries d.objects.entries d.limits) };
+
+    ghost invariant = { λ d. AreRead (parts d.types d.specs d.signals d.constructed.items d.programs.entries d.prototypes.entries d.objects.entries d.limits) };
+}
+
+impl Definition {
+    /// The definition of these parts. They have to be sound, and some bytes have to denote what they mean.
+    pub fn new(parts: Parts) -> Definition
+        requires { AreRead (parts_of parts) }
+        ensures { result ≡ meaning (parts_of parts) }
+    {
+        Definition {
+            types: parts.types,
+            specs: parts.specs,
+            signals: parts.signals,
+            constructed: parts.constructed,
+            programs: parts.programs,
+            prototypes: parts.prototypes,
+            objects: parts.objects,
+            limits: parts.limits,
+        }
+    }
+
+    /// Its types. Some bytes denote the definition, which has no bindings or peers.
+    pub fn types(&self) -> &TypeTree
+        ensures types { result.now ≡ self.now.types }
+        ensures basic { IsBasic self.now }
+        ensures denoted { IsDenoted self.now }
+    {
+        &self.types
+    }
+
+    /// How many objects may live at a time, and how many handlers programs may connect. `Limits::check` accepts them.
+    pub fn limits(&self) -> Limits
+        ensures objects { result.objects ≡ self.now.most_objects }
+        ensures handlers { result.handlers ≡ self.now.most_handlers }
+        ensures checked { AreLimits result }
+    {
+        self.limits
+    }
+
+    /// How many objects it has: not more than may live. They are its first places, and all others are prototypes.
+    pub fn object_count(&self) -> usize
+        ensures count { result ≡ object_count self.now }
+        ensures few { result ≤ self.now.most_objects }
+    {
+        self.objects.len()
+    }
+
+    /// How many places it has: its objects and its prototypes.
+    pub fn place_count(&self) -> usize
+        ensures count { result ≡ length self.now.places }
+        ensures few { result ≤ 512 }
+    {
+        self.objects.len() + self.prototypes.len()
+    }
+
+    /// The object or prototype at a place, if there is one.
+    pub fn object(&self, place: usize) -> Option<ObjectEntry<'_>>
+        ensures { option_map (λ o. bare_place o.id.now o.class o.is_prototype (place_number o.parent) (map given_property o.given.now) (map attached_view o.signals.now)) result ≡ slice_get self.now.places place }
+    {
+        let count = self.objects.len();
+        if place < count {
+            return object_entry(&self.objects, place);
+        }
+        prototype_entry(&self.prototypes, place - count)
+    }
+
+    /// The place of the object or prototype of an id.
+    pub fn place(&self, id: &str) -> Option<Place>
+        ensures { option_map (λ p. p.0) result ≡ place_of self.now id.now }
+    {
+        let place = place_in(&self.objects, &self.prototypes, id)?;
+        Some(Place(place as u16))
+    }
+
+    /// The place of the object of an id.
+    pub fn object_place(&self, id: &str) -> Option<Place>
+        ensures { option_map (λ p. p.0) result ≡ object_place self.now id.now }
+    {
+        let number = position_of(&self.objects, id)?;
+        Some(Place(number as u16))
+    }
+
+    /// The class of the object or prototype at a place, and the first class where there is none.
+    pub fn class_at(&self, place: Place) -> TypeId
+        ensures { result ≡ class_at self.now place.0 }
+    {
+        match self.object(usize::from(place.0)) {
+            Some(entry) => entry.class,
+            None => TypeId::new(0),
+        }
+    }
+
+    /// The spec of a property of a class by its slot, if there is one.
+    pub fn spec(&self, class: TypeId, slot: Slot) -> Option<&Spec>
+        ensures { option_map (λ s. spec_view s.now) result ≡ spec_of self.now class slot }
+    {
+        if usize::from(slot) >= self.slots(class) {
+            return None;
+        }
+        Some(self.specs.spec(&self.types, class, slot))
+    }
+
+    /// How many properties a class has, inherited ones among them.
+    pub fn slots(&self, class: TypeId) -> usize
+        ensures slots { result ≡ length (specs_of self.now class) }
+        ensures known { 0 < result → class < length self.now.types }
+        ensures few { result ≤ 16448 }
+    {
+        if class.index() >= self.types.len() {
+            return 0;
+        }
+        self.specs.slots_of(&self.types, class)
+    }
+
+    /// The slot of the property of a class that a name names, in either spelling.
+    pub fn slot(&self, class: TypeId, name: &str) -> Option<Slot>
+        ensures { result ≡ slot_of self.now class name.now }
+    {
+        if class.index() >= self.types.len() {
+            return None;
+        }
+        self.specs.find(&self.types, class, name)
+    }
+
+    /// The number of the signal of a class that a name names, in either spelling.
+    pub fn signal_number(&self, class: TypeId, name: &str) -> Option<SignalId>
+        ensures { result ≡ signal_number self.now class name.now }
+    {
+        if class.index() >= self.types.len() {
+            return None;
+        }
+        self.signals.find(&self.types, class, name)
+    }
+
+    /// The signal of a class by its number, if it has so many. Number 0 is `notify`.
+    pub fn signal(&self, class: TypeId, number: SignalId) -> Option<DeclaredSignal<'_>>
+        ensures { option_map declared_view result ≡ signal_of self.now class number }
+    {
+        if class.index() >= self.types.len() {
+            return None;
+        }
+        self.signals.signal(&self.types, class, number)
+    }
+
+    /// What an emission by an object begins with: of the signal of its class of a number, with a detail. `None` where the class has no signal of
+    /// the number.
+    pub fn emission(
+        &self,
+        class: TypeId,
+        object: ObjectId,
+        number: SignalId,
+        detail: Option<String>,
+    ) -> Option<Emission>
+        ensures { (greatest : ℕ) → option_map (λ e. begun e greatest) result
+            ≡ option_map (λ s. walk_for greatest s.accumulator
+            (planned self.now class object.0 number (option_map (λ text. string_bytes text) detail) s))
+            (signal_of self.now class number) }
+    {
+        if class.index() >= self.types.len() {
+            return None;
+        }
+        self.signals
+            .emission(&self.types, class, object, number, detail)
+    }
+
+    /// The program that a class itself names for its objects once they are constructed.
+    pub fn constructed(&self, class: TypeId) -> Option<ProgramId>
+        ensures { result ≡ (class_of self.now class).constructed }
+    {
+        if class.index() >= self.types.len() {
+            return None;
+        }
+        number_at(self.constructed.as_slice(), class.index())
+    }
+
+    /// The program of a number, if there is one. The kinds in its code are known, and it has at most 32 registers.
+    pub fn program(&self, number: ProgramId) -> Option<&Program>
+        ensures program { option_map (λ p. program_view p.now) result ≡ program_at self.now number }
+        ensures known { IfSome result (λ p. HasKnownBlocks self.now.types p.now) }
+        ensures few { IfSome result (λ p. p.now.registers ≤ 32) }
+    {
+        let (_, program) = self.programs.get_index(usize::from(number))?;
+        Some(program)
+    }
+
+    /// The number of the program of a name.
+    pub fn program_number(&self, name: &str) -> Option<ProgramId>
+        ensures { result ≡ program_of self.now name.now }
+    {
+        number_of(&self.programs, name)
+    }
+
+    /// The name of a class, and nothing where there is none.
+    pub fn class_name(&self, class: TypeId) -> &str
+        ensures { result.now ≡ (type_of self.now class).name }
+    {
+        type_name(&self.types, class)
+    }
+}
+
+// The object of a number, if there is one.
+fn object_entry(objects: &Objects, number: usize) -> Option<ObjectEntry<'_>>
+    ensures { option_map (λ o. bare_place o.id.now o.class o.is_prototype (place_number o.parent) (map given_property o.given.now) (map attached_view o.signals.now)) result ≡ slice_get (map plain_object objects.now.entries) number }
+{
+    let (id, body) = objects.get_index(number)?;
+    Some(ObjectEntry {
+        id: id.as_str(),
+        class: body.class,
+        is_prototype: false,
+        parent: body.parent,
+        given: body.given.as_slice(),
+        signals: body.signals.as_slice(),
+    })
+}
+
+// The prototype of a number, if there is one.
+fn prototype_entry(prototypes: &Prototypes, number: usize) -> Option<ObjectEntry<'_>>
+    ensures { option_map (λ o. bare_place o.id.now o.class o.is_prototype (place_number o.parent) (map given_property o.given.now) (map attached_view o.signals.now)) result ≡ slice_get (map plain_prototype prototypes.now.entries) number }
+{
+    let (id, body) = prototypes.get_index(number)?;
+    Some(ObjectEntry {
+        id: id.as_str(),
+        class: body.class,
+        is_prototype: true,
+        parent: None,
+        given: body.given.as_slice(),
+        signals: &[],
+    })
+}
+
+// The number that stands at a place, if one stands there.
+fn number_at(numbers: &[Option<ProgramId>], place: usize) -> Option<ProgramId>
+    ensures { result ≡ read None numbers.now place }
+{
+    if place < numbers.len() {
+        numbers[place]
+    } else {
+        None
+    }
+}

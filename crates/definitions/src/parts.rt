@@ -1,0 +1,22 @@
+//! What definitions are made of.
+
+use crate::places::{Objects, Prototypes};
+use crate::programs::Programs;
+use param_specs::SpecTable;
+use signal_core::SignalTable;
+use type_tree::TypeTree;
+use ui_machine::{Limits, ProgramId};
+
+/// The parts of a definition.
+#[derive(Drop)]
+pub struct Parts {
+    pub types: TypeTree,
+    pub specs: SpecTable,
+    pub signals: SignalTable,
+    /// The programs that classes name for their objects once they are constructed, by class.
+    pub constructed: Vec<Option<ProgramId>>,
+    pub programs: Programs,
+    pub prototypes: Prototypes,
+    pub objects: Objects,
+    pub limits: Limits,
+}

@@ -1,0 +1,98 @@
+-- The registers of a frame: as a program begins, as one is written, and as several are read.
+use Rattle.std.proofs.Common.{◌≡◌, ℕ, zero, suc, ◌+◌, ◌<◌, ◌≤◌, ◌++◌, List, [], ◌∷◌, Option, None, Some, option_map, map, length, drop, get_or, slice_set, nat_lt, true, Ok, Err, refl, sym, ap, subst, ◌∙◌, arith}
+use Rattle.std.proofs.Math.Seq.{drop-cons}
+use Rattle.std.proofs.lemmas.Bool.{lt-ltb}
+use Rattle.std.proofs.lemmas.List.{append-nil, append_assoc, drop_all}
+use Rattle.ui_machine.specs.Definition.Values as values
+use Rattle.ui_machine.specs.declared.arm.Arm.TheVariants as arms
+use Rattle.ui_machine.specs.State.Tasks.{Frame, Registers}
+use Rattle.ui_machine.specs.Seq.{read, write}
+use Rattle.ui_machine.specs.Outcome.{Answer, known, only_if, ◌>>=◌}
+use Rattle.ui_machine.specs.Instructions.Registers.{value_in, values_in, with_register}
+use Rattle.g_values.specs.View.{value_view}
+use Rattle.g_values.specs.declared.value.Value.{Value}
+use Rattle.bytecode.specs.declared.computations.Register.{Register}
+use Rattle.bytecode.specs.Computing.{registers_of}
+use Rattle.bytecode.specs.View.{number_of}
+use Rattle.bytecode.proofs.BlockShapes.{length_viewed}
+
+-- one more value was given to a register
+pub set_more : (rs : List (Option Value)) (vs : List Value) (v : Value) → registers_of rs ≡ map (λ v. Some v) (map value_view vs)
+    → registers_of (rs ++ Some v ∷ []) ≡ map (λ v. Some v) (map value_view (vs ++ v ∷ []))
+set_more rs vs v h = pushed rs ∙ ap (λ l. l ++ Some (value_view v) ∷ []) h ∙ sym (given vs)
+  where
+    pushed : (rs : List (Option Value)) → registers_of (rs ++ Some v ∷ []) ≡ registers_of rs ++ Some (value_view v) ∷ []
+    pushed [] = refl
+    pushed (r ∷ rs) = ap (λ l. option_map value_view r ∷ l) (pushed rs)
+
+    given : (vs : List Value) → map (λ v. Some v) (map value_view (vs ++ v ∷ [])) ≡ map (λ v. Some v) (map value_view vs) ++ Some (value_view v) ∷ []
+    given [] = refl
+    given (u ∷ us) = ap (λ l. Some (value_view u) ∷ l) (given us)
+
+-- what a register holds
+pub held_in : (rs : List (Option Value)) (i : ℕ) (r : Option Value) → i < length rs → r ≡ get_or rs i r → option_map value_view r ≡ read None (registers_of rs) i
+held_in [] i r h e = absurd (omega (arith, h))
+held_in (x ∷ rs) zero r h e = ap (option_map value_view) e
+held_in (x ∷ rs) (suc i) r h e = held_in rs i r (omega (arith, h)) e
+
+-- a register that is written
+pub set_in : (rs : List (Option Value)) (i : ℕ) (r : Option Value) → i < length rs
+    → write None (registers_of rs) i (option_map value_view r) ≡ registers_of (slice_set rs i r)
+set_in [] i r h = absurd (omega (arith, h))
+set_in (x ∷ rs) zero r h = refl
+set_in (x ∷ rs) (suc i) r h = ap (λ l. option_map value_view x ∷ l) (set_in rs i r (omega (arith, h)))
+
+-- a register as the frame is seen, before and after it is written
+pub put_in : (rs : List (Option Value)) (i : ℕ) (r : Option Value) → i < length rs
+    → with_register i (option_map value_view r) (registers_of rs) ≡ Ok (registers_of (slice_set rs i r))
+put_in rs i r h =
+    let inside : nat_lt i (length (registers_of rs)) ≡ true = subst (λ n. nat_lt i n ≡ true) (sym (length_viewed (option_map value_view) rs)) (lt-ltb i (length rs) h) in
+    ap (λ b. only_if b arms.Code (Ok (write None (registers_of rs) i (option_map value_view r)))) inside
+    ∙ ap (λ (l : Registers). Ok l) (set_in rs i r h)
+
+module _ (f : Frame) where
+  -- the values of the registers from one on
+  abbrev from_on : List Register → ℕ → Answer (List values.Value)
+  from_on from i = values_in f (map number_of (drop i from))
+
+  -- the register of a number, of some
+  abbrev at : List Register → ℕ → ℕ
+  at from i = (get_or from i (record { 0 = 0 })).0
+
+  taken : (from : List Register) (i : ℕ) → i < length from → from_on from i ≡ (value_in f (at from i) >>= λ v. from_on from (i + 1) >>= λ vs. Ok (v ∷ vs))
+  unfolding values_in
+  taken from i h =
+      let none : Register = record { 0 = 0 } in
+      let e : drop i from ≡ get_or from i none ∷ drop (suc i) from = drop-cons from i none h in
+      let one : suc i ≡ i + 1 = omega arith in
+      ap (λ l. values_in f (map number_of l)) e
+      ∙ ap (λ n. value_in f (at from i) >>= λ v. from_on from n >>= λ vs. Ok (v ∷ vs)) one
+
+  -- one of the registers is unset
+  pub unset_in : (from : List Register) (i : ℕ) (all : Answer (List values.Value)) (so_far : List values.Value) → i < length from
+      → all ≡ (from_on from i >>= λ vs. Ok (so_far ++ vs)) → read None f.registers (at from i) ≡ None → all ≡ Err arms.Register
+  unset_in from i all so_far h e unset =
+      e ∙ ap (λ (a : Answer (List values.Value)). a >>= λ vs. Ok (so_far ++ vs)) (taken from i h)
+      ∙ ap (λ o. (known arms.Register o >>= λ v. from_on from (i + 1) >>= λ vs. Ok (v ∷ vs)) >>= λ vs. Ok (so_far ++ vs)) unset
+
+  behind : (so_far : List values.Value) (v : values.Value) (rest : Answer (List values.Value))
+      → ((rest >>= λ vs. Ok (v ∷ vs)) >>= λ vs. Ok (so_far ++ vs)) ≡ (rest >>= λ vs. Ok ((so_far ++ v ∷ []) ++ vs))
+  behind so_far v (Ok vs) = ap (λ (l : List values.Value). Ok l) (sym (append_assoc so_far (v ∷ []) vs))
+  behind so_far v (Err arm) = refl
+
+  -- one more of them is read
+  pub read_more : (from : List Register) (i : ℕ) (all : Answer (List values.Value)) (so_far : List values.Value) (v : values.Value) → i < length from
+      → all ≡ (from_on from i >>= λ vs. Ok (so_far ++ vs)) → read None f.registers (at from i) ≡ Some v
+      → all ≡ (from_on from (i + 1) >>= λ vs. Ok ((so_far ++ v ∷ []) ++ vs))
+  read_more from i all so_far v h e held =
+      e ∙ ap (λ (a : Answer (List values.Value)). a >>= λ vs. Ok (so_far ++ vs)) (taken from i h)
+      ∙ ap (λ o. (known arms.Register o >>= λ v. from_on from (i + 1) >>= λ vs. Ok (v ∷ vs)) >>= λ vs. Ok (so_far ++ vs)) held
+      ∙ behind so_far v (from_on from (i + 1))
+
+  -- all are read
+  pub read_all : (from : List Register) (i : ℕ) (all : Answer (List values.Value)) (so_far : List values.Value) → length from ≤ i
+      → all ≡ (from_on from i >>= λ vs. Ok (so_far ++ vs)) → all ≡ Ok so_far
+  unfolding values_in
+  read_all from i all so_far h e =
+      e ∙ ap (λ l. values_in f (map number_of l) >>= λ vs. Ok (so_far ++ vs)) (drop_all i from h)
+      ∙ ap (λ (l : List values.Value). Ok l) (append-nil so_far)

@@ -1,0 +1,134 @@
+//! Frames: programs that run.
+//!
+//! A frame says to which instruction a program has come, and what its registers hold. It is the machine's frame. What the registers name is held
+//! by whoever keeps the frame: nothing is counted here, so that a register that is written gives back what it held.
+
+ghost use Rattle.std.specs.Prelude.{◌≡◌, None, Some, option_map, map, slice_get, IfErr, IfOk, OnErr, OnOk};
+ghost use Rattle.ui_machine.specs.declared.arm.Arm.TheVariants as arms;
+ghost use Rattle.ui_machine.specs.Instructions.Jumps.{is_again};
+ghost use Rattle.ui_machine.specs.Instructions.Registers.{with_register};
+ghost use Rattle.ui_machine.specs.Rules.Programs.{first_frame, first_registers};
+ghost use Rattle.ui_machine.specs.Seq.{read};
+ghost use Rattle.g_values.specs.View.{value_view};
+ghost use Rattle.bytecode.specs.Computing.{registers_of};
+ghost use Rattle.frames.specs.FrameView.{Puts, Takes, at_block, frame_view, taken_in};
+ghost use Rattle.bytecode.specs.View.{block_view, instruction_view, program_view};
+
+use bytecode::{Block, BlockNumber, Instruction, Program, Register};
+use g_values::Value;
+use std::alloc::{AllocError, Global};
+use std::mem;
+use ui_machine::{Arm, ProgramId};
+
+/// A program that runs.
+#[derive(Debug, Drop)]
+pub struct Frame {
+    /// The program, by its number.
+    pub program: ProgramId,
+    pub block: BlockNumber,
+    /// The number of the instruction of the block that comes next.
+    pub at: usize,
+    /// How often the instructions before the block's last are still carried out, this time among them.
+    pub passes: u32,
+    /// The register that waits for the result of an emission.
+    pub into: Option<Register>,
+    pub registers: Vec<Option<Value>>,
+}
+
+// Registers that have these values.
+#[tactic(auto, using(crate::proofs::FrameRegisters::set_more))]
+fn set_registers(alloc: Global, args: Vec<Value>) -> Result<Vec<Option<Value>>, AllocError>
+    ensures { IfOk result (λ rs. registers_of rs.items ≡ map (λ v. Some v) (map value_view args.items)) }
+{
+    let mut registers = Vec::new(alloc);
+    for arg in args {
+        registers.push(Some(arg))?;
+    }
+    Ok(registers)
+}
+
+// The registers of a program that begins: the first have these values, the others are unset.
+fn first_registers(
+    alloc: Global,
+    program: &Program,
+    args: Vec<Value>,
+) -> Result<Vec<Option<Value>>, AllocError>
+    ensures { IfOk result (λ rs. registers_of rs.items ≡ first_registers (program_view program.now) (map value_view args.items)) }
+{
+    let unset = program.registers.saturating_sub(args.len());
+    let mut registers = set_registers(alloc, args)?;
+    'filling: for _added in 0..unset {
+        registers.push(None)?;
+    }
+    Ok(registers)
+}
+
+impl Frame {
+    /// A program at its first instruction. Its parameters are given these values.
+    pub fn new(
+        alloc: Global,
+        number: ProgramId,
+        program: &Program,
+        args: Vec<Value>,
+    ) -> Result<Frame, AllocError>
+        ensures { IfOk result (λ f. frame_view f ≡ first_frame number (program_view program.now) (map value_view args.items)) }
+    {
+        let registers = first_registers(alloc, program, args)?;
+        Ok(Frame {
+            program: number,
+            block: BlockNumber(0),
+            at: 0,
+            passes: program.first_passes(),
+            into: None,
+            registers,
+        })
+    }
+
+    // Whether the block's last instruction is due after its body, and the body is carried out again before that.
+    fn is_again(&self, block: &Block) -> bool
+        ensures { result ≡ is_again (block_view block.now) (frame_view self.now) }
+    {
+        self.at > 0 && self.passes > 1 && block.is_last(self.at)
+    }
+
+    /// Takes the next instruction of the frame's program. `None` where the program has none there.
+    pub fn take<'a>(&mut self, program: &'a Program) -> Option<&'a Instruction>
+        ensures { Takes (option_map (λ i. instruction_view i.now) result) (taken_in (program_view program.now) (frame_view self.old)) (frame_view self.new) }
+    {
+        let block = program.block(self.block)?;
+        if self.is_again(block) {
+            self.at = 0;
+            self.passes -= 1;
+        }
+        let instruction = block.instruction(self.at)?;
+        self.at += 1;
+        Some(instruction)
+    }
+
+    /// Goes on at the first instruction of a block. `Arm::Code` where the frame's program has no such block; then nothing is changed.
+    pub fn jump(&mut self, program: &Program, to: BlockNumber) -> Result<(), Arm>
+        ensures ok { OnOk result (option_map (at_block to.0 (frame_view self.old)) (slice_get (program_view program.now).blocks to.0) ≡ Some (frame_view self.new)) }
+        ensures err { OnErr result (slice_get (program_view program.now).blocks to.0 ≡ None) }
+        ensures arm { IfErr result (λ arm. arm ≡ arms.Code) }
+        ensures same { OnErr result (self.new ≡ self.old) }
+    {
+        let Some(block) = program.block(to) else {
+            return Err(Arm::Code);
+        };
+        self.block = to;
+        self.at = 0;
+        self.passes = block.passes();
+        Ok(())
+    }
+
+    /// Writes a register, or unsets it, and answers what it held. `Arm::Code` where there is no such register; then nothing is changed.
+    pub fn put(&mut self, to: Register, value: Option<Value>) -> Result<Option<Value>, Arm>
+        ensures { Puts result (with_register to.0 (option_map value_view value) (frame_view self.old).registers) (read None (frame_view self.old).registers to.0) (frame_view self.old) (frame_view self.new) }
+    {
+        if to.0 >= self.registers.len() {
+            return Err(Arm::Code);
+        }
+        let old = mem::replace(&mut self.registers[to.0], value);
+        Ok(old)
+    }
+}
