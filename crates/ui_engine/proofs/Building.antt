@@ -24,7 +24,7 @@ use Rattle.ui_machine.specs.Steps.{uncounted}
 use Rattle.g_values.specs.declared.value.Value.{Value}
 use Rattle.g_values.specs.View.{value_view}
 use Rattle.builder_defs.specs.Meaning.{IsPlain, IsBasic, is_object, object_count}
-use Rattle.ui_engine.specs.declared.task.Forward.{Forward}
+use Rattle.ui_engine.specs.declared.task.ForwardReference.{ForwardReference}
 use Rattle.ui_engine.specs.TaskView.{forwards_of_place, forwards_at, adopts_of, build_from, build_end, build_behind}
 use Rattle.ui_engine.specs.declared.task.ConstructStep as code
 use Rattle.ui_engine.specs.MakingView.{making_of_code, making_steps, later_steps, making_of_object}
@@ -109,7 +109,7 @@ module _ (d : Definition) (basic : IsBasic d) where
     unfolding making
     abstract_there held abstract = rw (at, abstract) refl
 
-    pub next_made : p.is_prototype ≡ false → (fs : List Forward) → build_from d place fs ≡ makes place ∷ build_behind d place fs
+    pub next_made : p.is_prototype ≡ false → (fs : List ForwardReference) → build_from d place fs ≡ makes place ∷ build_behind d place fs
     next_made object fs =
         let others = made_items (suc place) (drop (suc place) d.places) in
         ap (λ ps. made_items place ps ++ build_end d fs) (drop_at d.places place p at)
@@ -128,7 +128,7 @@ module _ (d : Definition) (basic : IsBasic d) where
     below rest n items (Ok s) = ap (λ tasks. Ok (record { world = s.world; agenda = tasks; counted = n })) (one_more s.tasks (Building items) rest)
     below rest n items (Err arm) = refl
 
-    pub builds_next : p.is_prototype ≡ false → (fs : List Forward) (rest : List Task) (n : ℕ)
+    pub builds_next : p.is_prototype ≡ false → (fs : List ForwardReference) (rest : List Task) (n : ℕ)
         → uncounted rest n (building d w (build_from d place fs)) ≡ uncounted (Building (build_behind d place fs) ∷ rest) n (making d w place None true)
     unfolding building_object
     builds_next object fs rest n =
@@ -151,7 +151,7 @@ forwards_before d place p at object =
     ∙ ap (λ (found : Option Place). forwards_of_place place found ++ others) (sym at)
 
 -- where all objects are made, the forward references are left
-pub only_forwards : (d : Definition) → IsBasic d → (place : ℕ) (fs : List Forward) → object_count d ≤ place → build_from d place fs ≡ build_end d fs
+pub only_forwards : (d : Definition) → IsBasic d → (place : ℕ) (fs : List ForwardReference) → object_count d ≤ place → build_from d place fs ≡ build_end d fs
 only_forwards d basic place fs past = ap (λ items. items ++ build_end d fs) (made_past d basic place past)
 
 -- ** the steps of a construction

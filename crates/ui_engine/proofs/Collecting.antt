@@ -21,7 +21,7 @@ use Rattle.ui_machine.specs.State.Tasks.{Emission, Emitting, PlanEntry, Task}
 use Rattle.g_values.specs.declared.value.Value as values
 use Rattle.instances.specs.Store.{Store, count_of}
 use Rattle.signal_core.specs.Emission.{Walk, is_over, stopped}
-use Rattle.ui_engine.specs.BegunView.{AllBegun}
+use Rattle.ui_engine.specs.KnownHandlers.{AllTakeKnownHandlers}
 use Rattle.ui_engine.specs.CollectView.{TestsNone, collects, gives_none}
 use Rattle.ui_engine.specs.Counting.{Counts, OnlyCounts}
 use Rattle.ui_engine.specs.TaskView.{agenda_of, emission_of, entries_to_come, task_of, tasks_of}
@@ -179,7 +179,7 @@ pub collected_counts : (d : Definition) (e : Engine) (t : Store) (s : Stack) (ta
     → ((o : ℕ) → count_of t.counts o + in_register o old.value ≡ count_of e.world.table.counts o + in_register o new.value)
     → new.object ≡ old.object → new.args ≡ old.args
     → tasks_of d e.world.handlers.handlers s ≡ Emitting new entries ∷ agenda_of d e
-    → (AllBegun e.world.handlers.last e.stack → AllBegun e.world.handlers.last s) → Counts d (λ o. taken o + in_emission o old) e → Counts d taken (record e { world = record e.world { table = t }; stack = s })
+    → (AllTakeKnownHandlers e.world.handlers.last e.stack → AllTakeKnownHandlers e.world.handlers.last s) → Counts d (λ o. taken o + in_emission o old) e → Counts d taken (record e { world = record e.world { table = t }; stack = s })
 collected_counts d e t s taken old new entries only counts object args first begun h = record {
   knows = h.knows;
   connects = record { most = h.connects.most; to_come = h.connects.to_come; begun = begun h.connects.begun };
@@ -200,7 +200,7 @@ leaves_as w v ts us world agenda = rw (world, agenda) refl
 
 -- what an emission that was taken off is counted for
 pub popped_emission : (d : Definition) (e : Engine) (s : Stack) (taken : ℕ → ℕ) (m : Emission) (entries : List PlanEntry) → agenda_of d e ≡ Emitting m entries ∷ tasks_of d e.world.handlers.handlers s
-    → ((last : ℕ) → AllBegun last e.stack → AllBegun last s) → Counts d taken e → Counts d (λ o. taken o + in_emission o m) (record e { stack = s })
+    → ((last : ℕ) → AllTakeKnownHandlers last e.stack → AllTakeKnownHandlers last s) → Counts d taken e → Counts d (λ o. taken o + in_emission o m) (record e { stack = s })
 popped_emission d e s taken m entries first begun h = record {
   knows = h.knows;
   connects = restacked d e s begun h.connects;

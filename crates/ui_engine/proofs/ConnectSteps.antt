@@ -21,8 +21,8 @@ use Rattle.ui_engine.specs.ConnectView.{connection_in, is_connected, is_full, le
 use Rattle.ui_engine.specs.EngineView.{config_of}
 use Rattle.ui_engine.specs.TaskView.{agenda_of}
 use Rattle.ui_engine.specs.View.{world_of}
-use Rattle.ui_engine.specs.declared.connecting.Outcome.{Outcome}
-use Rattle.ui_engine.specs.declared.connecting.Outcome.TheVariants as outcomes
+use Rattle.ui_engine.specs.declared.connections.Outcome.{Outcome}
+use Rattle.ui_engine.specs.declared.connections.Outcome.TheVariants as outcomes
 use Rattle.ui_engine.specs.declared.engine.Engine.{Engine}
 use Rattle.ui_engine.proofs.Emits.{stops_on}
 use Rattle.ui_engine.proofs.Signals.{bind_same}

@@ -39,7 +39,7 @@ use Rattle.machine_laws.proofs.GoneProofs.{hold_as}
 use Rattle.ui_engine.proofs.Left.{same_agenda}
 use Rattle.signal_core.specs.Connected.{Connected}
 use Rattle.ui_machine.specs.State.Handlers.{Handler}
-use Rattle.ui_engine.specs.BegunView.{AllBegun}
+use Rattle.ui_engine.specs.KnownHandlers.{AllTakeKnownHandlers}
 use Rattle.ui_engine.specs.Counting.{OnlyCounts, Connects, Counts, KeepsCounts, in_emitted, in_subject, nothing}
 use Rattle.ui_engine.proofs.Floats.{if_ok_at, bind_ok}
 
@@ -198,8 +198,8 @@ stays d e new handlers stack h = record {
   most = ap (λ (c : Connected). c.most) handlers ∙ h.most;
   to_come = ap (λ (c : Connected). c.to_come) handlers ∙ h.to_come;
   begun =
-      subst (λ (c : Connected). AllBegun c.last new.stack) (sym handlers)
-      (subst (λ (s : Stack). AllBegun e.world.handlers.last s) (sym stack) h.begun);
+      subst (λ (c : Connected). AllTakeKnownHandlers c.last new.stack) (sym handlers)
+      (subst (λ (s : Stack). AllTakeKnownHandlers e.world.handlers.last s) (sym stack) h.begun);
 }
 
 -- nothing but the list of handlers differs
@@ -213,12 +213,12 @@ handled d e new hs is only stack h = record {
   most = ap (λ (c : Connected). c.most) (is ∙ only) ∙ h.most;
   to_come = ap (λ (c : Connected). c.to_come) (is ∙ only) ∙ h.to_come;
   begun =
-      subst (λ (last : ℕ). AllBegun last new.stack) (sym (ap (λ (c : Connected). c.last) (is ∙ only)))
-      (subst (λ (s : Stack). AllBegun e.world.handlers.last s) (sym stack) h.begun);
+      subst (λ (last : ℕ). AllTakeKnownHandlers last new.stack) (sym (ap (λ (c : Connected). c.last) (is ∙ only)))
+      (subst (λ (s : Stack). AllTakeKnownHandlers e.world.handlers.last s) (sym stack) h.begun);
 }
 
 -- the same handlers with other tasks
-pub restacked : (d : Definition) (e : Engine) (s : Stack) → ((last : ℕ) → AllBegun last e.stack → AllBegun last s) → Connects d e → Connects d (record e { stack = s })
+pub restacked : (d : Definition) (e : Engine) (s : Stack) → ((last : ℕ) → AllTakeKnownHandlers last e.stack → AllTakeKnownHandlers last s) → Connects d e → Connects d (record e { stack = s })
 restacked d e s begun h = record { most = h.most; to_come = h.to_come; begun = begun e.world.handlers.last h.begun }
 
 module _ (d : Definition) (e new : Engine) where
@@ -298,7 +298,7 @@ config_same d e t only =
 
 -- a task that was taken off counts on
 pub taken_off : (d : Definition) (e : Engine) (s : Stack) (t : Task) → agenda_of d e ≡ t ∷ tasks_of d e.world.handlers.handlers s
-    → ((last : ℕ) → AllBegun last e.stack → AllBegun last s) → Counts d nothing e → Counts d (λ o. in_task o t) (record e { stack = s })
+    → ((last : ℕ) → AllTakeKnownHandlers last e.stack → AllTakeKnownHandlers last s) → Counts d nothing e → Counts d (λ o. in_task o t) (record e { stack = s })
 taken_off d e s t first begun h = record {
   knows = h.knows;
   connects = restacked d e s begun h.connects;
@@ -320,7 +320,7 @@ given_back d e t gone only counts h = record {
 
 -- another stack of the same tasks
 pub same_tasks : (d : Definition) (e : Engine) (s : Stack) → tasks_of d e.world.handlers.handlers s ≡ agenda_of d e
-    → ((last : ℕ) → AllBegun last e.stack → AllBegun last s) → Counts d nothing e → Counts d nothing (record e { stack = s })
+    → ((last : ℕ) → AllTakeKnownHandlers last e.stack → AllTakeKnownHandlers last s) → Counts d nothing e → Counts d nothing (record e { stack = s })
 same_tasks d e s is begun h = record {
   knows = h.knows;
   connects = restacked d e s begun h.connects;
@@ -379,7 +379,7 @@ taken_alike d e more less alike h = record { knows = h.knows; connects = h.conne
 -- the rest of an emission goes on with what it was given, and holds its object
 pub pushed_rest : (d : Definition) (e : Engine) (t : Store) (s : Stack) (taken : ℕ → ℕ) (m : Emission) (entries : List PlanEntry) → OnlyCounts e.world.table t
     → ((o : ℕ) → count_of t.counts o ≡ count_of e.world.table.counts o + same o m.object)
-    → tasks_of d e.world.handlers.handlers s ≡ Emitting m entries ∷ agenda_of d e → (AllBegun e.world.handlers.last e.stack → AllBegun e.world.handlers.last s)
+    → tasks_of d e.world.handlers.handlers s ≡ Emitting m entries ∷ agenda_of d e → (AllTakeKnownHandlers e.world.handlers.last e.stack → AllTakeKnownHandlers e.world.handlers.last s)
     → Counts d (λ o. taken o + in_emitted o m) e → Counts d taken (record e { world = record e.world { table = t }; stack = s })
 pushed_rest d e t s taken m entries only counts first begun h = record {
   knows = h.knows;

@@ -30,7 +30,7 @@ use Rattle.ui_engine.specs.EngineView.{config_of}
 use Rattle.ui_engine.specs.TaskView.{agenda_of, build_end, build_from, connects_from, item_of, signals_of}
 use Rattle.ui_engine.specs.View.{world_of}
 use Rattle.ui_engine.specs.declared.engine.Engine.{Engine}
-use Rattle.ui_engine.specs.declared.task.Forward.{Forward}
+use Rattle.ui_engine.specs.declared.task.ForwardReference.{ForwardReference}
 use Rattle.ui_engine.proofs.Building.{no_shape}
 use Rattle.ui_engine.proofs.Emits.{stops_on}
 use Rattle.ui_engine.proofs.Lists.{total-append}
@@ -188,7 +188,7 @@ none_connected k [] = refl
 none_connected k (p ∷ ps) =
     omega (arith, total-append is_making (numbered (connects k) 0 p.signals) (connected_items (suc k) ps), none_numbered k 0 p.signals, none_connected (suc k) ps)
 
-none_forward : (fs : List Forward) → total is_making (map item_of fs) ≡ 0
+none_forward : (fs : List ForwardReference) → total is_making (map item_of fs) ≡ 0
 none_forward [] = refl
 none_forward (f ∷ fs) = omega (arith, none_forward fs)
 
@@ -229,7 +229,7 @@ module _ (d : Definition) where
 
   module _ (basic : IsBasic d) where
     -- the build from a place on makes the objects from there on
-    pub making_from : (place : ℕ) (fs : List Forward) → total is_making (build_from d place fs) ≡ object_count d - place
+    pub making_from : (place : ℕ) (fs : List ForwardReference) → total is_making (build_from d place fs) ≡ object_count d - place
     making_from place fs =
         omega (
           arith,
@@ -242,7 +242,7 @@ module _ (d : Definition) where
         )
 
     -- and so where an object is still to become its parent's child
-    pub making_behind : (place : ℕ) (fs : List Forward) → total is_making (adopts place ∷ build_from d (suc place) fs) ≡ (object_count d - place) - 1
+    pub making_behind : (place : ℕ) (fs : List ForwardReference) → total is_making (adopts place ∷ build_from d (suc place) fs) ≡ (object_count d - place) - 1
     making_behind place fs = omega (arith, making_from (suc place) fs)
 
 -- as far as a number of 32 bits goes

@@ -29,7 +29,7 @@ use Rattle.machine_laws.specs.GoneLaws.{gone_in, pruned}
 use Rattle.machine_laws.proofs.GoneProofs.{hold_as}
 use Rattle.ui_engine.specs.Counting.{KeepsCounts}
 use Rattle.ui_engine.specs.EngineView.{config_of}
-use Rattle.ui_engine.specs.Standing.{GoesPruned}
+use Rattle.ui_engine.specs.Standing.{GoesWithoutGone}
 use Rattle.ui_engine.specs.TaskView.{agenda_of, tasks_of}
 use Rattle.ui_engine.specs.View.{held_of, world_of}
 use Rattle.ui_engine.specs.declared.engine.Engine.{Engine}
@@ -92,12 +92,12 @@ module _ (d : Definition) (e b new : Engine) (f : Frame) (object id : ℕ) (is :
 
   pub disposes_behind : {X : Type 0} (result : Result X Halt) → Goes result (disposed d (world_of b.world) id) (world_of new.world)
       → OnOk result (agenda_of d new ≡ map (pruned (gone_in (world_of new.world))) (agenda_of d b)) → OnOk result (new.counted ≡ b.counted)
-      → GoesPruned result (left e.counted (in_front (agenda_of d e) (disposing d (world_of e.world) f object))) (config_of d new)
+      → GoesWithoutGone result (left e.counted (in_front (agenda_of d e) (disposing d (world_of e.world) f object))) (config_of d new)
   disposes_behind {X} result goes tasks count = by result (subst (λ (w : World). Goes result (disposed d w id) (world_of new.world)) (world_pushed d e b f beside) goes) tasks count
     where
       by : (result : Result X Halt) → Goes result (disposed d (world_of e.world) id) (world_of new.world)
           → OnOk result (agenda_of d new ≡ map (pruned (gone_in (world_of new.world))) (agenda_of d b)) → OnOk result (new.counted ≡ b.counted)
-          → GoesPruned result (left e.counted (in_front (agenda_of d e) (disposing d (world_of e.world) f object))) (config_of d new)
+          → GoesWithoutGone result (left e.counted (in_front (agenda_of d e) (disposing d (world_of e.world) f object))) (config_of d new)
       by (Ok x) done tasks count = (
         record { world = world_of new.world; agenda = Running f ∷ agenda_of d e; counted = e.counted },
         started_left e.counted (agenda_of d e) (disposing d (world_of e.world) f object) (world_of new.world) [] f _ _ _

@@ -11,11 +11,11 @@ use Rattle.ui_machine.specs.Rules.Sets.{if_settable}
 use Rattle.ui_machine.specs.Rules.Build.{forward_of}
 use Rattle.builder_defs.specs.declared.object_entry.GivenValue.{GivenValue}
 use Rattle.builder_defs.specs.Meaning.{given_property}
-use Rattle.ui_engine.specs.declared.task.Forward.{Forward}
+use Rattle.ui_engine.specs.declared.task.ForwardReference.{ForwardReference}
 use Rattle.ui_engine.specs.TaskView.{item_of, items_of}
 use Rattle.ui_engine.proofs.Building.{drop_at}
 
-pub one_forward_more : (fs : List Forward) (f : Forward) → items_of (fs ++ f ∷ []) ≡ item_of f ∷ items_of fs
+pub one_forward_more : (fs : List ForwardReference) (f : ForwardReference) → items_of (fs ++ f ∷ []) ≡ item_of f ∷ items_of fs
 one_forward_more fs f = ap (map item_of) (reverse-append fs (f ∷ []))
 
 -- one entry less

@@ -20,7 +20,7 @@ use Rattle.signal_core.proofs.Numbers.{numbered_lower, numbered_within}
 use Rattle.ui_engine.specs.declared.task.Stack.{Stack}
 use Rattle.ui_engine.specs.declared.task.Task as code
 use Rattle.ui_engine.specs.declared.task.Task.TheVariants as tasks
-use Rattle.ui_engine.specs.Standing.{GoneStay, come_first, with_first}
+use Rattle.ui_engine.specs.Standing.{GoneStay, past_skipped_turns, with_first}
 use Rattle.ui_engine.specs.TaskView.{emission_of, entries_to_come, task_of, tasks_of}
 use Rattle.ui_engine.proofs.Notified.{reverse-map}
 
@@ -80,7 +80,7 @@ module _ (w : config.World) where
       by true so rest = ap (λ b. filter (stays (gone_in w)) (cond b (entries_left w.handlers entries) (handler number ∷ entries))) (gone_passed w number so) ∙ rest
       by false not_so rest = standing (is_passed_over (handler_of number w.handlers)) not_so rest
 
-  pub first_stays : (task : Task) → pruned (gone_in w) (come_first w.handlers task) ≡ come_first w.handlers (pruned (gone_in w) task)
+  pub first_stays : (task : Task) → pruned (gone_in w) (past_skipped_turns w.handlers task) ≡ past_skipped_turns w.handlers (pruned (gone_in w) task)
   first_stays (Emitting e entries) = ap (Emitting e) (left_stays entries)
   first_stays task = refl
 

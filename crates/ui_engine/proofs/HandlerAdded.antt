@@ -10,12 +10,12 @@ use Rattle.ui_machine.specs.State.Config.{World}
 use Rattle.ui_machine.specs.State.References.{in_task}
 use Rattle.ui_machine.specs.State.Tasks.{Task}
 use Rattle.signal_core.specs.Connected.{Connected, has_room, with_connection}
-use Rattle.ui_engine.specs.BegunView.{AllBegun}
+use Rattle.ui_engine.specs.KnownHandlers.{AllTakeKnownHandlers}
 use Rattle.ui_engine.specs.ConnectView.{told_by}
 use Rattle.ui_engine.specs.Counting.{Connects, KeepsCounts}
 use Rattle.ui_engine.specs.TaskView.{agenda_of, tasks_of}
 use Rattle.ui_engine.specs.View.{world_of}
-use Rattle.ui_engine.specs.declared.connecting.Outcome.TheVariants as outcomes
+use Rattle.ui_engine.specs.declared.connections.Outcome.TheVariants as outcomes
 use Rattle.ui_engine.specs.declared.engine.Engine.{Engine}
 use Rattle.ui_engine.proofs.Connections.{with_handlers}
 use Rattle.ui_engine.proofs.Counts.{keeps_by}
@@ -42,7 +42,7 @@ module _ (d : Definition) (e : Engine) (hs : Connected) (c : Connection) (is : h
       (λ h. record {
         most = ap (λ (x : Connected). x.most) is ∙ h.most;
         to_come = ap (λ (x : Connected). x.to_come) is ∙ none_to_come c.by_code e.world.handlers.to_come h.to_come;
-        begun = subst (λ n. AllBegun n e.stack) (sym (ap (λ (x : Connected). x.last) is)) (begun_more e.world.handlers.last (suc e.world.handlers.last) (omega arith) e.stack h.begun);
+        begun = subst (λ n. AllTakeKnownHandlers n e.stack) (sym (ap (λ (x : Connected). x.last) is)) (begun_more e.world.handlers.last (suc e.world.handlers.last) (omega arith) e.stack h.begun);
       })
       (λ taken _ h o. omega (arith, h o, ap (λ (ts : List Task). total (in_task o) ts) (connect_leaves connects)))
 

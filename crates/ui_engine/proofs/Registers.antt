@@ -1,5 +1,5 @@
 -- What the registers of a program hold as one is written, and the results that programs take.
-use Rattle.ui_engine.specs.BegunView.{AllBegun}
+use Rattle.ui_engine.specs.KnownHandlers.{AllTakeKnownHandlers}
 use Rattle.ui_engine.proofs.Counts.{stays, restacked}
 use Rattle.std.proofs.Common.{◌≡◌, ◌∙◌, refl, sym, ap, ℕ, ◌+◌, Bool, true, false, nat_lt, length, List, [], ◌∷◌, Option, None, Result, Ok, Err, zero, suc, arith}
 use Rattle.std.specs.Prelude.{OnOk}
@@ -74,7 +74,7 @@ passes_by d hs (tasks.Handling event) rest v other = refl
 
 -- the rest of a program goes on to hold what its registers name
 pub pushed_frame : (d : Definition) (e : Engine) (s : Stack) (taken : ℕ → ℕ) (f : Frame) → tasks_of d e.world.handlers.handlers s ≡ Running f ∷ agenda_of d e
-    → ((last : ℕ) → AllBegun last e.stack → AllBegun last s) → Counts d (λ o. taken o + in_frame o f) e → Counts d taken (record e { stack = s })
+    → ((last : ℕ) → AllTakeKnownHandlers last e.stack → AllTakeKnownHandlers last s) → Counts d (λ o. taken o + in_frame o f) e → Counts d taken (record e { stack = s })
 pushed_frame d e s taken f first begun h = record {
   knows = h.knows;
   connects = restacked d e s begun h.connects;
@@ -108,7 +108,7 @@ receive_stops f rest to v halt s = stops_on halt (with_register to v f.registers
 
 -- other tasks that hold the same
 pub stack_same : (d : Definition) (e : Engine) (s : Stack) → tasks_of d e.world.handlers.handlers s ≡ agenda_of d e
-    → ((last : ℕ) → AllBegun last e.stack → AllBegun last s) → KeepsCounts d e (record e { stack = s })
+    → ((last : ℕ) → AllTakeKnownHandlers last e.stack → AllTakeKnownHandlers last s) → KeepsCounts d e (record e { stack = s })
 stack_same d e s same_tasks begun = record {
   at = λ taken h. record {
     knows = h.knows;
@@ -119,7 +119,7 @@ stack_same d e s same_tasks begun = record {
 
 -- a program that was taken off
 pub popped_frame : (d : Definition) (e : Engine) (s : Stack) (taken : ℕ → ℕ) (f : Frame) → agenda_of d e ≡ Running f ∷ tasks_of d e.world.handlers.handlers s
-    → ((last : ℕ) → AllBegun last e.stack → AllBegun last s) → Counts d taken e → Counts d (λ o. taken o + in_frame o f) (record e { stack = s })
+    → ((last : ℕ) → AllTakeKnownHandlers last e.stack → AllTakeKnownHandlers last s) → Counts d taken e → Counts d (λ o. taken o + in_frame o f) (record e { stack = s })
 popped_frame d e s taken f first begun h = record {
   knows = h.knows;
   connects = restacked d e s begun h.connects;

@@ -4,7 +4,7 @@ use Rattle.std.proofs.lemmas.Bool.Decides.{nat_tests}
 use Rattle.std.proofs.lemmas.List.Elements.{All-cons, All-head, All-nil, All-tail}
 use Rattle.std.specs.Prelude.{All}
 use Rattle.ui_machine.specs.Rules.EmissionPlan.{runs_for}
-use Rattle.ui_engine.specs.BegunView.{AllBegun, HasBegun}
+use Rattle.ui_engine.specs.KnownHandlers.{AllTakeKnownHandlers, TakesKnownHandlers}
 use Rattle.std.specs.List.{flat_map, filter}
 use Rattle.ui_machine.specs.Definition.{Definition}
 use Rattle.ui_machine.specs.Definition.Properties.{has_flags}
@@ -179,11 +179,11 @@ module _ (w : Walk) (h : Handler) (later : w.greatest < h.number) (given : ℕ) 
 
 -- the tasks stay
 module _ (d : Definition) (h : Handler) (hs : List Handler) (last : ℕ) (later : last < h.number) where
-  begun_turns : (ts : List code.Task) → All (HasBegun last) ts → OfEmissions (Same d (hs ++ h ∷ []) hs) ts
+  begun_turns : (ts : List code.Task) → All (TakesKnownHandlers last) ts → OfEmissions (Same d (hs ++ h ∷ []) hs) ts
   begun_turns [] begun = tt
-  begun_turns (t ∷ ts) begun = (by t (All-head (HasBegun last) t ts begun), begun_turns ts (All-tail (HasBegun last) t ts begun))
+  begun_turns (t ∷ ts) begun = (by t (All-head (TakesKnownHandlers last) t ts begun), begun_turns ts (All-tail (TakesKnownHandlers last) t ts begun))
     where
-      by : (t : code.Task) → HasBegun last t → OfEmission (Same d (hs ++ h ∷ []) hs) t
+      by : (t : code.Task) → TakesKnownHandlers last t → OfEmission (Same d (hs ++ h ∷ []) hs) t
       by (tasks.Emitting cursor args by_event) begun =
           entries_same cursor (hs ++ h ∷ []) hs (λ given after stage. later_same cursor h (omega (arith, later, begun)) given after stage hs)
       by (tasks.Setting id slot v) begun = tt
@@ -197,14 +197,14 @@ module _ (d : Definition) (h : Handler) (hs : List Handler) (last : ℕ) (later 
       by (tasks.Connecting place number) begun = tt
       by (tasks.Handling event) begun = tt
 
-  pub connected_same : (s : Stack) → AllBegun last s → tasks_of d (hs ++ h ∷ []) s ≡ tasks_of d hs s
+  pub connected_same : (s : Stack) → AllTakeKnownHandlers last s → tasks_of d (hs ++ h ∷ []) s ≡ tasks_of d hs s
   connected_same s begun = tasks_same d (hs ++ h ∷ []) hs s (begun_turns s.tasks.items begun)
 
 -- what was begun with numbers up to one was so with numbers up to a greater one
-pub begun_more : (last more : ℕ) → last ≤ more → (s : Stack) → AllBegun last s → AllBegun more s
+pub begun_more : (last more : ℕ) → last ≤ more → (s : Stack) → AllTakeKnownHandlers last s → AllTakeKnownHandlers more s
 begun_more last more few s begun = all_more s.tasks.items begun
   where
-    one_more : (t : code.Task) → HasBegun last t → HasBegun more t
+    one_more : (t : code.Task) → TakesKnownHandlers last t → TakesKnownHandlers more t
     one_more (tasks.Emitting cursor args by_event) begun = let b : cursor.greatest ≤ last = begun in omega (arith, few, b)
     one_more (tasks.Setting id slot v) begun = tt
     one_more (tasks.Notifying id slot) begun = tt
@@ -217,6 +217,6 @@ begun_more last more few s begun = all_more s.tasks.items begun
     one_more (tasks.Connecting place number) begun = tt
     one_more (tasks.Handling event) begun = tt
 
-    all_more : (ts : List code.Task) → All (HasBegun last) ts → All (HasBegun more) ts
-    all_more [] begun = All-nil (HasBegun more)
-    all_more (t ∷ ts) begun = All-cons (HasBegun more) t ts (one_more t (All-head (HasBegun last) t ts begun)) (all_more ts (All-tail (HasBegun last) t ts begun))
+    all_more : (ts : List code.Task) → All (TakesKnownHandlers last) ts → All (TakesKnownHandlers more) ts
+    all_more [] begun = All-nil (TakesKnownHandlers more)
+    all_more (t ∷ ts) begun = All-cons (TakesKnownHandlers more) t ts (one_more t (All-head (TakesKnownHandlers last) t ts begun)) (all_more ts (All-tail (TakesKnownHandlers last) t ts begun))

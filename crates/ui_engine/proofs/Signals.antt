@@ -20,7 +20,7 @@ use Rattle.ui_machine.specs.State.Config.{Started, World, starts}
 use Rattle.ui_machine.specs.State.Tasks.{Building, Item, Task, connects}
 use Rattle.ui_machine.specs.State.Tasks as tasks
 use Rattle.ui_engine.specs.TaskView.{build_end, build_from, connects_from, item_of, signals_of}
-use Rattle.ui_engine.specs.declared.task.Forward.{Forward}
+use Rattle.ui_engine.specs.declared.task.ForwardReference.{ForwardReference}
 use Rattle.builder_defs.specs.Meaning.{IsBasic, object_count}
 use Rattle.ui_engine.proofs.Prototypes.{connected_past, signals_past}
 
@@ -132,7 +132,7 @@ taken_step t c rest next is more =
 -- ** of the tasks that are left
 
 -- the builder is to connect all signals, where it has still to make objects
-pub build_count : (d : Definition) (place : ℕ) (fs : List Forward) → total is_connecting (build_from d place fs) ≡ total is_connecting (connects_from d 0 0)
+pub build_count : (d : Definition) (place : ℕ) (fs : List ForwardReference) → total is_connecting (build_from d place fs) ≡ total is_connecting (connects_from d 0 0)
 build_count d place fs =
     omega (
       arith,
@@ -161,12 +161,12 @@ build_count d place fs =
           none_made (suc place) ps,
         )
 
-    none_forward : (fs : List Forward) → total is_connecting (map item_of fs) ≡ 0
+    none_forward : (fs : List ForwardReference) → total is_connecting (map item_of fs) ≡ 0
     none_forward [] = refl
     none_forward (f ∷ fs) = omega (arith, none_forward fs)
 
 -- and so where an object is still to become its parent's child
-pub adopt_count : (d : Definition) (at place : ℕ) (fs : List Forward)
+pub adopt_count : (d : Definition) (at place : ℕ) (fs : List ForwardReference)
     → total is_connecting (tasks.adopts at ∷ build_from d place fs) ≡ total is_connecting (connects_from d 0 0)
 adopt_count d at place fs = omega (arith, build_count d place fs)
 

@@ -1,5 +1,5 @@
 -- What a stop leaves of an emission, and of the tasks.
-use Rattle.ui_engine.specs.BegunView.{AllBegun}
+use Rattle.ui_engine.specs.KnownHandlers.{AllTakeKnownHandlers}
 use Rattle.ui_engine.proofs.Counts.{restacked}
 use Rattle.std.proofs.Common.{◌≡◌, ◌∙◌, refl, sym, ap, subst, ℕ, ◌++◌, Bool, true, false, cond, map, nat_eq, List, [], ◌∷◌, Option, None, Some, arith}
 use Rattle.std.specs.List.{filter}
@@ -166,7 +166,7 @@ stopped_holds d o (config.Handling request ∷ rest) = refl
 stopped_holds d o (config.Due source ∷ rest) = refl
 
 pub stop_counts : (d : Definition) (e mid : Engine) (taken : ℕ → ℕ) → mid ≡ record e { stack = mid.stack } → agenda_of d mid ≡ machine.stopped (agenda_of d e)
-    → ((last : ℕ) → AllBegun last e.stack → AllBegun last mid.stack) → Counts d taken e → Counts d taken mid
+    → ((last : ℕ) → AllTakeKnownHandlers last e.stack → AllTakeKnownHandlers last mid.stack) → Counts d taken e → Counts d taken mid
 stop_counts d e mid taken beside is begun h = subst (λ (x : Engine). Counts d taken x) (sym beside) (record {
   knows = h.knows;
   connects = restacked d e mid.stack begun h.connects;

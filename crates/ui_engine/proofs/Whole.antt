@@ -8,7 +8,7 @@ use Rattle.ui_machine.specs.State.Tasks.{Task}
 use Rattle.machine_laws.specs.GoneLaws.{gone_in}
 use Rattle.machine_laws.proofs.GoneProofs.{given_are_gone}
 use Rattle.ui_engine.specs.EngineView.{config_of}
-use Rattle.ui_engine.specs.Standing.{GoesPruned, without_gone}
+use Rattle.ui_engine.specs.Standing.{GoesWithoutGone, without_gone}
 use Rattle.ui_engine.specs.View.{world_of}
 use Rattle.ui_engine.specs.declared.engine.Engine.{Engine}
 use Rattle.ui_engine.proofs.Gone.{none_gone}
@@ -18,6 +18,6 @@ engine_whole d e =
     ap (λ (ts : List Task). record (config_of d e) { agenda = ts }) (none_gone d (gone_in (world_of e.world)) e.world.handlers.handlers e.stack (given_are_gone (world_of e.world)))
 
 -- what code leads to exactly has none of them
-pub goes_whole : {X : Type 0} (d : Definition) (e : Engine) (r : Result X Halt) (a : Answer Config) → Goes r a (config_of d e) → GoesPruned r a (config_of d e)
+pub goes_whole : {X : Type 0} (d : Definition) (e : Engine) (r : Result X Halt) (a : Answer Config) → Goes r a (config_of d e) → GoesWithoutGone r a (config_of d e)
 goes_whole d e (Ok x) a goes = (config_of d e, goes, engine_whole d e)
 goes_whole d e (Err halt) a goes = goes

@@ -13,8 +13,8 @@ use Rattle.ui_machine.specs.Rules.Build.{connection, held_data, held_object}
 use Rattle.ui_machine.specs.Rules.Connections.{Connection, detail_at, detail_in, greatest_handler, signal_number, with_handler}
 use Rattle.ui_machine.specs.State.Config.{World, said}
 use Rattle.ui_machine.specs.State.Tasks.{Frame}
-use Rattle.ui_engine.specs.declared.connecting.Outcome.{Outcome}
-use Rattle.ui_engine.specs.declared.connecting.Outcome.TheVariants as outcomes
+use Rattle.ui_engine.specs.declared.connections.Outcome.{Outcome}
+use Rattle.ui_engine.specs.declared.connections.Outcome.TheVariants as outcomes
 
 -- ** the signals of a definition's objects
 

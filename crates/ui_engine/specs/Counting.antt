@@ -8,7 +8,7 @@ use Rattle.ui_engine.specs.declared.engine.Engine.{Engine}
 use Rattle.instances.specs.Weak.{Knows}
 use Rattle.ui_machine.specs.Seq.{total}
 use Rattle.ui_engine.specs.View.{world_of}
-use Rattle.ui_engine.specs.BegunView.{AllBegun}
+use Rattle.ui_engine.specs.KnownHandlers.{AllTakeKnownHandlers}
 use Rattle.ui_engine.specs.EngineView.{config_of}
 use Rattle.ui_engine.specs.TaskView.{agenda_of}
 
@@ -22,7 +22,7 @@ pub record OnlyCounts (old new : Store) : Type 0 where
 pub record Connects (d : Definition) (e : Engine) : Type 0 where
   pub most : e.world.handlers.most ≡ d.most_handlers
   pub to_come : e.world.handlers.to_come ≡ 0
-  pub begun : AllBegun e.world.handlers.last e.stack
+  pub begun : AllTakeKnownHandlers e.world.handlers.last e.stack
 
 -- Each object is counted as often as it is mentioned, and so often more as is said: so much holds a task that was taken off and is not done yet.
 -- It is known which properties are weak, and what may be connected.

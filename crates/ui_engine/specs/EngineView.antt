@@ -7,8 +7,8 @@ use Rattle.ui_machine.specs.State.Tasks.{Beginning, Notifying, Running}
 use Rattle.ui_engine.specs.View.{world_of}
 use Rattle.ui_engine.specs.TaskView.{agenda_of}
 use Rattle.ui_engine.specs.declared.engine.Engine.{Engine}
-use Rattle.ui_engine.specs.declared.engine.Made.{Made}
-use Rattle.ui_engine.specs.declared.engine.Made.TheVariants as mades
+use Rattle.ui_engine.specs.declared.engine.StepKind.{StepKind}
+use Rattle.ui_engine.specs.declared.engine.StepKind.TheVariants as mades
 
 abbrev pub config_of : machine.Definition → Engine → config.Config
 config_of d e = record { world = world_of e.world; agenda = agenda_of d e; counted = e.counted }
@@ -21,7 +21,7 @@ is_counted (Running frame) = true
 is_counted _ = false
 
 -- what the step of a task was
-abbrev pub IsMade : Made → tasks.Task → Type 0
-IsMade mades.Nothing task = ⊥
-IsMade mades.Uncounted task = is_counted task ≡ false
-IsMade mades.Counted task = is_counted task ≡ true
+abbrev pub IsOfKind : StepKind → tasks.Task → Type 0
+IsOfKind mades.Nothing task = ⊥
+IsOfKind mades.Uncounted task = is_counted task ≡ false
+IsOfKind mades.Counted task = is_counted task ≡ true

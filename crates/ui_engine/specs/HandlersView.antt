@@ -7,7 +7,7 @@ use Rattle.ui_machine.specs.Instructions.Registers.{operand_in}
 use Rattle.ui_machine.specs.Outcome.{Answer, known, ◌>>=◌}
 use Rattle.ui_machine.specs.State.Config.{World}
 use Rattle.ui_machine.specs.State.Tasks.{Frame}
-use Rattle.ui_engine.specs.declared.instructions.connections.Matched as code
+use Rattle.ui_engine.specs.declared.instructions.matched_handlers.Matched as code
 
 -- those of a program on an object
 pub record Matched : Type 0 where

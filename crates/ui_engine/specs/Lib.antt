@@ -10,7 +10,7 @@ pub mod View
 pub mod MakingView
 pub mod LineView
 pub mod TaskView
-pub mod BegunView
+pub mod KnownHandlers
 pub mod ConnectView
 pub mod TurnView
 pub mod Measure

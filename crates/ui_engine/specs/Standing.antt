@@ -36,17 +36,17 @@ pub record Breaks (d : Definition) (old : Config) (halt : Halt) (shown : List (L
 -- ** what code leads to
 
 -- the machine's configuration, without the turns of handlers that are gone by then; or code stops where the machine is stuck
-abbrev pub GoesPruned : {X : Type 0} → Result X Halt → Answer Config → Config → Type 0
-GoesPruned (Ok x) answer new = (e : Config) × (answer ≡ Ok e) × (without_gone e ≡ new)
-GoesPruned (Err halt) answer new = Stops halt answer
+abbrev pub GoesWithoutGone : {X : Type 0} → Result X Halt → Answer Config → Config → Type 0
+GoesWithoutGone (Ok x) answer new = (e : Config) × (answer ≡ Ok e) × (without_gone e ≡ new)
+GoesWithoutGone (Err halt) answer new = Stops halt answer
 
 -- ** turns that are passed over
 
 -- a task as it comes first: an emission is past the turns of handlers that are gone or blocked
-abbrev pub come_first : List Handler → Task → Task
-come_first hs (Emitting e entries) = Emitting e (entries_left hs entries)
-come_first hs task = task
+abbrev pub past_skipped_turns : List Handler → Task → Task
+past_skipped_turns hs (Emitting e entries) = Emitting e (entries_left hs entries)
+past_skipped_turns hs task = task
 
 abbrev pub with_first : List Handler → List Task → List Task
 with_first hs [] = []
-with_first hs (task ∷ rest) = come_first hs task ∷ rest
+with_first hs (task ∷ rest) = past_skipped_turns hs task ∷ rest

@@ -16,18 +16,18 @@ use Rattle.builder_defs.specs.Meaning.{request_of}
 use Rattle.handler_code.specs.FrameView.{frame_view}
 use Rattle.ui_engine.specs.declared.task.Task.{Task}
 use Rattle.ui_engine.specs.declared.task.Task.TheVariants as tasks
-use Rattle.ui_engine.specs.declared.task.Forward.{Forward}
+use Rattle.ui_engine.specs.declared.task.ForwardReference.{ForwardReference}
 use Rattle.ui_engine.specs.declared.task.NewEmission.{NewEmission}
 use Rattle.ui_engine.specs.declared.engine.Engine.{Engine}
 use Rattle.ui_engine.specs.declared.task.Stack.{Stack}
 pub use Rattle.ui_engine.specs.MakingView.{making_of_code}
 
 -- the item of the build that sets a forward reference
-abbrev pub item_of : Forward → config.Item
+abbrev pub item_of : ForwardReference → config.Item
 item_of f = config.forwards f.object.0 f.slot f.to.0
 
 -- the items of forward references that are listed from the last one on
-abbrev pub items_of : List Forward → List config.Item
+abbrev pub items_of : List ForwardReference → List config.Item
 items_of forwards = map item_of (reverse forwards)
 
 -- the forward references of the object at a place
@@ -49,11 +49,11 @@ connects_from d place number =
     numbered (config.connects place) number (drop number (signals_of (place_at d place))) ++ connected_items (suc place) (drop (suc place) d.places)
 
 -- what the build does once all objects stand: these forward references, and the signals of the objects
-abbrev pub build_end : machine.Definition → List Forward → List config.Item
+abbrev pub build_end : machine.Definition → List ForwardReference → List config.Item
 build_end d forwards = map item_of forwards ++ connected_items 0 d.places
 
 -- the build of the objects from a place on, and what comes behind them
-abbrev pub build_from : machine.Definition → ℕ → List Forward → List config.Item
+abbrev pub build_from : machine.Definition → ℕ → List ForwardReference → List config.Item
 build_from d place forwards = made_items place (drop place d.places) ++ build_end d forwards
 
 -- an object that was made becomes its parent's child, if it is one
@@ -62,7 +62,7 @@ adopts_of place None = []
 adopts_of place (Some p) = adopts_if place p.parent
 
 -- what the build does behind the making of the object at a place
-abbrev pub build_behind : machine.Definition → ℕ → List Forward → List config.Item
+abbrev pub build_behind : machine.Definition → ℕ → List ForwardReference → List config.Item
 build_behind d place forwards = adopts_of place (place_at d place) ++ build_from d (suc place) forwards
 
 -- ** emissions

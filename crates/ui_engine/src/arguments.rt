@@ -91,90 +91,88 @@ fn takes_details(flags: SignalFlags) -> bool
     flags.contains(SignalFlags::DETAILED)
 }
 
-impl Engine {
-    /// The values that an event gives, and the objects of the builder.
-    pub(crate) fn operands(&self, given: &[Given]) -> Result<Vec<Value>, Halt>
-        ensures { Finds (λ values. map value_view values.items) result (given_values (world_of self.now.world) (map given_view given.now)) }
-    {
-        let mut values = Vec::new(self.alloc);
-        for one in given {
-            let Some(value) = self.world.given(one)? else {
-                return Err(Halt::Stuck(Arm::Operand));
-            };
-            values.push(value)?;
-        }
-        Ok(values)
-    }
-
-    // The name of the property that a detail of a notification names.
-    fn property_named(
-        &self,
-        definition: &Definition,
-        class: TypeId,
-        name: &str,
-    ) -> Result<String, Halt>
-        ensures { Finds string_bytes result (detail_named definition.now class name.now) }
-    {
-        let Some(slot) = definition.slot(class, name) else {
-            return Err(Halt::Stuck(Arm::Code));
+/// The values that an event gives, and the objects of the builder.
+pub(crate) fn operands(engine: &Engine, given: &[Given]) -> Result<Vec<Value>, Halt>
+    ensures { Finds (λ values. map value_view values.items) result (given_values (world_of engine.now.world) (map given_view given.now)) }
+{
+    let mut values = Vec::new(engine.alloc);
+    for one in given {
+        let Some(value) = engine.world.given(one)? else {
+            return Err(Halt::Stuck(Arm::Operand));
         };
-        let Some(spec) = definition.spec(class, slot) else {
-            return Err(Halt::Stuck(Arm::Code));
-        };
-        Ok(String::from_str(self.alloc, spec.name.as_str())?)
+        values.push(value)?;
     }
+    Ok(values)
+}
 
-    // A detail as it stands at a signal of a class with these flags, by the signal's number.
-    fn detail_at(
-        &self,
-        definition: &Definition,
-        class: TypeId,
-        signal: SignalId,
-        flags: SignalFlags,
-        detail: Option<&str>,
-    ) -> Result<Option<String>, Halt>
-        ensures { (s : Signal) → s.flags ≡ flags.0 → Finds detail_of result (standing definition.now class signal s (option_map (λ text. text.now) detail.entry)) }
-    {
-        let Some(detail) = detail else {
-            return Ok(None);
-        };
-        if !takes_details(flags) {
-            return Err(Halt::Stuck(Arm::Code));
-        }
-        if signal != 0 {
-            return Ok(Some(String::from_str(self.alloc, detail)?));
-        }
-        let name = self.property_named(definition, class, detail)?;
-        Ok(Some(name))
-    }
+// The name of the property that a detail of a notification names.
+fn property_named(
+    engine: &Engine,
+    definition: &Definition,
+    class: TypeId,
+    name: &str,
+) -> Result<String, Halt>
+    ensures { Finds string_bytes result (detail_named definition.now class name.now) }
+{
+    let Some(slot) = definition.slot(class, name) else {
+        return Err(Halt::Stuck(Arm::Code));
+    };
+    let Some(spec) = definition.spec(class, slot) else {
+        return Err(Halt::Stuck(Arm::Code));
+    };
+    Ok(String::from_str(engine.alloc, spec.name.as_str())?)
+}
 
-    /// A detail as it stands at a signal of a class, by the signal's number. The signal is detailed, and a detail of `notify` names a property.
-    pub(crate) fn detail_for(
-        &self,
-        definition: &Definition,
-        class: TypeId,
-        signal: SignalId,
-        detail: Option<&str>,
-    ) -> Result<Option<String>, Halt>
-        ensures { Finds detail_of result (detail_at definition.now class signal (option_map (λ text. text.now) detail.entry)) }
-    {
-        let Some(declared) = definition.signal(class, signal) else {
-            return Err(Halt::Stuck(Arm::Code));
-        };
-        self.detail_at(definition, class, signal, declared.flags, detail)
+// A detail as it stands at a signal of a class with these flags, by the signal's number.
+fn detail_at(
+    engine: &Engine,
+    definition: &Definition,
+    class: TypeId,
+    signal: SignalId,
+    flags: SignalFlags,
+    detail: Option<&str>,
+) -> Result<Option<String>, Halt>
+    ensures { (s : Signal) → s.flags ≡ flags.0 → Finds detail_of result (standing definition.now class signal s (option_map (λ text. text.now) detail.entry)) }
+{
+    let Some(detail) = detail else {
+        return Ok(None);
+    };
+    if !takes_details(flags) {
+        return Err(Halt::Stuck(Arm::Code));
     }
+    if signal != 0 {
+        return Ok(Some(String::from_str(engine.alloc, detail)?));
+    }
+    let name = property_named(engine, definition, class, detail)?;
+    Ok(Some(name))
+}
 
-    /// The same at a signal of an object.
-    pub(crate) fn detail_in(
-        &self,
-        definition: &Definition,
-        object: ObjectId,
-        signal: SignalId,
-        detail: Option<&str>,
-    ) -> Result<Option<String>, Halt>
-        ensures { Finds detail_of result (detail_in definition.now (world_of self.now.world) object.0 signal (option_map (λ text. text.now) detail.entry)) }
-    {
-        let class = self.world.table.class_of(object)?;
-        self.detail_for(definition, class, signal, detail)
-    }
+/// A detail as it stands at a signal of a class, by the signal's number. The signal is detailed, and a detail of `notify` names a property.
+pub(crate) fn detail_for(
+    engine: &Engine,
+    definition: &Definition,
+    class: TypeId,
+    signal: SignalId,
+    detail: Option<&str>,
+) -> Result<Option<String>, Halt>
+    ensures { Finds detail_of result (detail_at definition.now class signal (option_map (λ text. text.now) detail.entry)) }
+{
+    let Some(declared) = definition.signal(class, signal) else {
+        return Err(Halt::Stuck(Arm::Code));
+    };
+    detail_at(engine, definition, class, signal, declared.flags, detail)
+}
+
+/// The same at a signal of an object.
+pub(crate) fn detail_in(
+    engine: &Engine,
+    definition: &Definition,
+    object: ObjectId,
+    signal: SignalId,
+    detail: Option<&str>,
+) -> Result<Option<String>, Halt>
+    ensures { Finds detail_of result (detail_in definition.now (world_of engine.now.world) object.0 signal (option_map (λ text. text.now) detail.entry)) }
+{
+    let class = engine.world.table.class_of(object)?;
+    detail_for(engine, definition, class, signal, detail)
 }

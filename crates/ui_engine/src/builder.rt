@@ -55,14 +55,22 @@ impl BuilderEntry {
 }
 
 /// The builder has this of a place from now on. A place that it has not come to yet has nothing.
-pub fn set_builder_entry(builder: &mut Vec<BuilderEntry>, place: Place, held: BuilderEntry) -> Result<(), AllocError>
+pub fn set_builder_entry(
+    builder: &mut Vec<BuilderEntry>,
+    place: Place,
+    held: BuilderEntry,
+) -> Result<(), AllocError>
     ensures { OnOk result (map held_of builder.new.items ≡ write unbuilt (map held_of builder.old.items) place.0 (held_of held)) }
 {
     put_at(builder, usize::from(place.0), held)
 }
 
 // The same by the place's number.
-fn put_at(builder: &mut Vec<BuilderEntry>, place: usize, held: BuilderEntry) -> Result<(), AllocError>
+fn put_at(
+    builder: &mut Vec<BuilderEntry>,
+    place: usize,
+    held: BuilderEntry,
+) -> Result<(), AllocError>
     ensures { OnOk result (map held_of builder.new.items ≡ write unbuilt (map held_of builder.old.items) place (held_of held)) }
 {
     'growing: while builder.len() <= place {

@@ -16,7 +16,7 @@ pub struct Engine {
 
 /// What a step was.
 #[derive(Clone, Copy, Debug, PartialEq, Eq)]
-pub enum Made {
+pub enum StepKind {
     /// None was left to make.
     Nothing,
     Uncounted,

@@ -14,7 +14,7 @@ ghost use Rattle.ui_engine.specs.TaskView.{agenda_of};
 ghost use Rattle.ui_engine.specs.Counting.{Counts, HoldsTasks, KeepsCounts, OnlyCounts, OnlyTasks, in_frame};
 
 use crate::engine::Engine;
-use crate::holding::{hold_any, let_go_any, register_named};
+use crate::references::{hold_any, let_go_any, register_named};
 use crate::task::Task;
 use builder_defs::Definition;
 use g_values::Value;
@@ -43,73 +43,71 @@ pub(crate) fn put(
     Ok(())
 }
 
-impl Engine {
-    /// Puts the rest of a program before the other tasks. It goes on to hold what its registers name.
-    #[inline(always)]
-    pub(crate) fn push_frame(&mut self, frame: Frame) -> Result<(), AllocError>
-        ensures agenda { OnOk result ((d : machine.Definition) → agenda_of d self.new ≡ Running (frame_view frame) ∷ agenda_of d self.old) }
-        ensures beside { self.new ≡ record self.old { stack = self.new.stack } }
-        ensures counted { OnOk result ((d : machine.Definition) (taken : ℕ → ℕ)
-            → Counts d (λ o. taken o + in_frame o (frame_view frame)) self.old → Counts d taken self.new) }
-    {
-        self.stack.push(Task::Running(frame))?;
-        Ok(())
-    }
+/// Puts the rest of a program before the other tasks. It goes on to hold what its registers name.
+#[inline(always)]
+pub(crate) fn push_frame(engine: &mut Engine, frame: Frame) -> Result<(), AllocError>
+    ensures agenda { OnOk result ((d : machine.Definition) → agenda_of d engine.new ≡ Running (frame_view frame) ∷ agenda_of d engine.old) }
+    ensures beside { engine.new ≡ record engine.old { stack = engine.new.stack } }
+    ensures counted { OnOk result ((d : machine.Definition) (taken : ℕ → ℕ)
+        → Counts d (λ o. taken o + in_frame o (frame_view frame)) engine.old → Counts d taken engine.new) }
+{
+    engine.stack.push(Task::Running(frame))?;
+    Ok(())
+}
 
-    // A program goes on with a result in the register that waited for it.
-    fn receive(&mut self, mut frame: Frame, to: Register, value: Value) -> Result<(), Halt>
-        requires held { (o : ℕ) → in_frame o (frame_view frame) ≤ count_of self.now.world.table.counts o }
-        ensures agenda { (d : machine.Definition) → Goes result (received_by (frame_view frame) (agenda_of d self.old) to.0 (Some (value_view value))) (agenda_of d self.new) }
-        ensures only { OnlyTasks self.old self.new }
-        ensures counted { OnOk result ((d : machine.Definition) (taken : ℕ → ℕ)
-            → Counts d (λ o. taken o + in_frame o (frame_view frame)) self.old → Counts d taken self.new) }
-    {
-        frame.into = None;
-        put(&mut self.world.table, &mut frame, to, Some(value))?;
-        self.push_frame(frame)?;
-        Ok(())
-    }
+// A program goes on with a result in the register that waited for it.
+fn receive(engine: &mut Engine, mut frame: Frame, to: Register, value: Value) -> Result<(), Halt>
+    requires held { (o : ℕ) → in_frame o (frame_view frame) ≤ count_of engine.now.world.table.counts o }
+    ensures agenda { (d : machine.Definition) → Goes result (received_by (frame_view frame) (agenda_of d engine.old) to.0 (Some (value_view value))) (agenda_of d engine.new) }
+    ensures only { OnlyTasks engine.old engine.new }
+    ensures counted { OnOk result ((d : machine.Definition) (taken : ℕ → ℕ)
+        → Counts d (λ o. taken o + in_frame o (frame_view frame)) engine.old → Counts d taken engine.new) }
+{
+    frame.into = None;
+    put(&mut engine.world.table, &mut frame, to, Some(value))?;
+    push_frame(engine, frame)?;
+    Ok(())
+}
 
-    // A program takes the result of the emission above it, if it waits for one.
-    fn pass_to(&mut self, frame: Frame, value: &Option<Value>) -> Result<(), Halt>
-        requires held { (o : ℕ) → in_frame o (frame_view frame) ≤ count_of self.now.world.table.counts o }
-        ensures agenda { (d : machine.Definition)
-            → Goes result (taken (option_map number_of frame.into) (frame_view frame) (agenda_of d self.old) (option_map value_view value.now)) (agenda_of d self.new) }
-        ensures only { OnlyTasks self.old self.new }
-        ensures counted { OnOk result ((d : machine.Definition) (taken : ℕ → ℕ)
-            → Counts d (λ o. taken o + in_frame o (frame_view frame)) self.old → Counts d taken self.new) }
-    {
-        let Some(to) = frame.into else {
-            self.push_frame(frame)?;
-            return Ok(());
-        };
-        let Some(value) = value else {
-            return Err(Halt::Stuck(Arm::Result));
-        };
-        let value = value.copied()?;
-        self.receive(frame, to, value)
-    }
+// A program takes the result of the emission above it, if it waits for one.
+fn pass_to(engine: &mut Engine, frame: Frame, value: &Option<Value>) -> Result<(), Halt>
+    requires held { (o : ℕ) → in_frame o (frame_view frame) ≤ count_of engine.now.world.table.counts o }
+    ensures agenda { (d : machine.Definition)
+        → Goes result (taken (option_map number_of frame.into) (frame_view frame) (agenda_of d engine.old) (option_map value_view value.now)) (agenda_of d engine.new) }
+    ensures only { OnlyTasks engine.old engine.new }
+    ensures counted { OnOk result ((d : machine.Definition) (taken : ℕ → ℕ)
+        → Counts d (λ o. taken o + in_frame o (frame_view frame)) engine.old → Counts d taken engine.new) }
+{
+    let Some(to) = frame.into else {
+        push_frame(engine, frame)?;
+        return Ok(());
+    };
+    let Some(value) = value else {
+        return Err(Halt::Stuck(Arm::Result));
+    };
+    let value = value.copied()?;
+    receive(engine, frame, to, value)
+}
 
-    /// The result of an emission goes to the task below it: a program that waits for it takes it.
-    pub(crate) fn pass_down(
-        &mut self,
-        definition: &Definition,
-        value: &Option<Value>,
-    ) -> Result<(), Halt>
-        requires held { HoldsTasks definition.now self.now }
-        ensures agenda { Goes result (passed_down (agenda_of definition.now self.old) (option_map value_view value.now)) (agenda_of definition.now self.new) }
-        ensures only { OnlyTasks self.old self.new }
-        ensures counted { OnOk result (KeepsCounts definition.now self.old self.new) }
-    {
-        // For the proof: the clauses speak of the definition.
-        let _ = definition;
-        let Some(task) = self.stack.pop() else {
-            return Ok(());
-        };
-        let Task::Running(frame) = task else {
-            self.stack.push(task)?;
-            return Ok(());
-        };
-        self.pass_to(frame, value)
-    }
+/// The result of an emission goes to the task below it: a program that waits for it takes it.
+pub(crate) fn pass_down(
+    engine: &mut Engine,
+    definition: &Definition,
+    value: &Option<Value>,
+) -> Result<(), Halt>
+    requires held { HoldsTasks definition.now engine.now }
+    ensures agenda { Goes result (passed_down (agenda_of definition.now engine.old) (option_map value_view value.now)) (agenda_of definition.now engine.new) }
+    ensures only { OnlyTasks engine.old engine.new }
+    ensures counted { OnOk result (KeepsCounts definition.now engine.old engine.new) }
+{
+    // For the proof: the clauses speak of the definition.
+    let _ = definition;
+    let Some(task) = engine.stack.pop() else {
+        return Ok(());
+    };
+    let Task::Running(frame) = task else {
+        engine.stack.push(task)?;
+        return Ok(());
+    };
+    pass_to(engine, frame, value)
 }

@@ -14,6 +14,7 @@ ghost use Rattle.ui_engine.specs.GivenView.{held_value, settable_at};
 ghost use Rattle.ui_engine.specs.View.{world_of};
 
 use crate::engine::Engine;
+use crate::tasks::sets::spec_of;
 use crate::world::World;
 use builder_defs::{Definition, Given};
 use g_values::Value;
@@ -43,51 +44,49 @@ impl World {
     }
 }
 
-impl Engine {
-    // The object that the builder has of a place.
-    pub(crate) fn held(&self, place: Place) -> Result<ObjectId, Arm>
-        ensures { Shows (λ (id : ObjectId). id.0) result (held_object (world_of self.now.world) place.0) }
-    {
-        self.world.built(place).ok_or(Arm::Operand)
-    }
+// The object that the builder has of a place.
+pub(crate) fn held_object(engine: &Engine, place: Place) -> Result<ObjectId, Arm>
+    ensures { Shows (λ (id : ObjectId). id.0) result (held_object (world_of engine.now.world) place.0) }
+{
+    engine.world.built(place).ok_or(Arm::Operand)
+}
 
-    // The same as a value.
-    pub(crate) fn held_value(&self, place: Place) -> Result<Value, Arm>
-        ensures { Shows value_view result (held_value (world_of self.now.world) place.0) }
-    {
-        let object = self.held(place)?;
-        Ok(object_value(object))
-    }
+// The same as a value.
+pub(crate) fn held_value(engine: &Engine, place: Place) -> Result<Value, Arm>
+    ensures { Shows value_view result (held_value (world_of engine.now.world) place.0) }
+{
+    let object = held_object(engine, place)?;
+    Ok(object_value(object))
+}
 
-    // A given value, or the object of the builder.
-    pub(crate) fn operand(&self, given: Given) -> Result<Value, Arm>
-        ensures { Shows value_view result (known arms.Operand (given_value (world_of self.now.world) (given_view given))) }
-    {
-        match given {
-            Given::Value(value) => Ok(value),
-            Given::Object(place) => self.held_value(place),
-        }
+// A given value, or the object of the builder.
+pub(crate) fn operand(engine: &Engine, given: Given) -> Result<Value, Arm>
+    ensures { Shows value_view result (known arms.Operand (given_value (world_of engine.now.world) (given_view given))) }
+{
+    match given {
+        Given::Value(value) => Ok(value),
+        Given::Object(place) => held_value(engine, place),
     }
+}
 
-    // The object that the builder has of a place, whose property may be set.
-    pub(crate) fn settable(
-        &self,
-        definition: &Definition,
-        place: Place,
-        slot: Slot,
-    ) -> Result<ObjectId, Arm>
-        ensures { Shows (λ (id : ObjectId). id.0) result (settable_at definition.now (world_of self.now.world) place.0 slot) }
-    {
-        let object = self.held(place)?;
-        let spec = self.spec_of(definition, object, slot)?;
-        if !spec.is_writable() {
-            return Err(Arm::Flags);
-        }
-        if spec.is_construct_only() {
-            return Err(Arm::ConstructOnly);
-        }
-        Ok(object)
+// The object that the builder has of a place, whose property may be set.
+pub(crate) fn settable(
+    engine: &Engine,
+    definition: &Definition,
+    place: Place,
+    slot: Slot,
+) -> Result<ObjectId, Arm>
+    ensures { Shows (λ (id : ObjectId). id.0) result (settable_at definition.now (world_of engine.now.world) place.0 slot) }
+{
+    let object = held_object(engine, place)?;
+    let spec = spec_of(engine, definition, object, slot)?;
+    if !spec.is_writable() {
+        return Err(Arm::Flags);
     }
+    if spec.is_construct_only() {
+        return Err(Arm::ConstructOnly);
+    }
+    Ok(object)
 }
 
 /// An object as a value, or the null object.

@@ -6,15 +6,15 @@
 
 mod arguments;
 mod builder;
-mod connecting;
+mod connections;
 mod dispatch;
 mod engine;
 mod frames;
 mod given;
-mod holding;
 mod instructions;
 mod lines;
 mod places;
+mod references;
 mod refusals;
 mod session;
 mod task;

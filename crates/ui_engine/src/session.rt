@@ -4,15 +4,15 @@ ghost use Rattle.std.specs.Prelude.{◌≡◌, [], map, string_bytes, IfOk, IfEr
 ghost use Rattle.ui_machine.specs.Runs.{beginning};
 ghost use Rattle.builder_defs.specs.Meaning.{event_of};
 ghost use Rattle.ui_machine.specs.Prefix.{IsPrefix};
-ghost use Rattle.ui_engine.specs.BegunView.{HasBegun};
+ghost use Rattle.ui_engine.specs.KnownHandlers.{TakesKnownHandlers};
 ghost use Rattle.ui_engine.specs.TaskView.{task_of};
 ghost use Rattle.ui_engine.specs.SessionView.{AnswersEvent, Comes, building, carrying_out, without_lines};
 
-use crate::dispatch::Reply;
+use crate::dispatch::{Reply, announce, dispatch};
 use crate::engine::Engine;
 use crate::places::FIRST_PLACE;
 use crate::task::Task;
-use crate::tasks::forwards::forwards;
+use crate::tasks::forward_references::forward_references;
 use crate::weak_slots::weak_slots;
 use builder_defs::{Definition, Event};
 use std::alloc::Global;
@@ -110,13 +110,13 @@ impl Session {
             });
         };
         let mut engine = Engine::new(alloc, weak, definition.limits());
-        let Ok(()) = engine.announce() else {
+        let Ok(()) = announce(&mut engine) else {
             return Err(Refused {
                 fault: StartFault::OutOfMemory,
                 definition,
             });
         };
-        let Ok(forwards) = forwards(alloc, &definition) else {
+        let Ok(forwards) = forward_references(alloc, &definition) else {
             return Err(Refused {
                 fault: StartFault::OutOfMemory,
                 definition,
@@ -127,7 +127,7 @@ impl Session {
             engine,
             stopped: false,
         };
-        let build = session.carry_out(Task::Building {
+        let build = session.run_task(Task::Building {
             place: FIRST_PLACE,
             forwards,
         });
@@ -146,17 +146,17 @@ impl Session {
         if self.engine.world.names_released(&event) {
             return Err(SessionFault::Released);
         }
-        self.carry_out(Task::Handling(event))
+        self.run_task(Task::Handling(event))
     }
 
     // Carries out a task with all that it leads to. Where that halts the session stops.
-    fn carry_out(&mut self, task: Task) -> Result<Reply, SessionFault>
+    fn run_task(&mut self, task: Task) -> Result<Reply, SessionFault>
         requires goes_on { self.now.stopped ≡ false }
-        requires begun { HasBegun self.now.world.last_handler task }
+        requires begun { TakesKnownHandlers self.now.world.last_handler task }
         ensures comes { Comes result (carrying_out self.old.definition (beginning self.old.world (task_of self.old.definition self.old.world.handlers task))) self.old.definition self.new }
         ensures grows { IsPrefix self.old.world.transcript self.new.world.transcript }
     {
-        match self.engine.dispatch(&self.definition, task) {
+        match dispatch(&mut self.engine, &self.definition, task) {
             Ok(reply) => return Ok(reply),
             Err(halt) => {
                 self.stopped = true;

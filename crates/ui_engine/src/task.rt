@@ -55,11 +55,11 @@ pub enum ConstructStep {
 
 /// The steps of a construction that are to come, the last of the list first.
 #[derive(Drop)]
-pub struct Makings {
+pub struct ConstructSteps {
     steps: Vec<ConstructStep>,
 }
 
-impl Model for Makings {
+impl Model for ConstructSteps {
     ghost use Rattle.std.specs.Prelude.{List, map, reverse};
     ghost use Rattle.ui_machine.specs.State.Tasks as config;
     ghost use Rattle.ui_engine.specs.MakingView.{making_of_code};
@@ -69,12 +69,12 @@ impl Model for Makings {
     ghost view = { λ m. reverse (map making_of_code m.steps.items) };
 }
 
-impl Makings {
+impl ConstructSteps {
     /// The steps of a list, from its end.
     pub fn new(steps: Vec<ConstructStep>) -> Self
         ensures { result ≡ reverse (map making_of_code steps.items) }
     {
-        Makings { steps }
+        ConstructSteps { steps }
     }
 
     /// Takes the next one.
@@ -87,7 +87,7 @@ impl Makings {
 
 /// What is given to a property of an object of the builder: an object that comes later, or the object itself.
 #[derive(Clone, Copy, Debug)]
-pub struct Forward {
+pub struct ForwardReference {
     /// The place of the object whose property it is.
     pub object: Place,
     pub slot: Slot,
@@ -96,29 +96,29 @@ pub struct Forward {
 
 /// The forward references that are to be set, the last of the list first.
 #[derive(Drop)]
-pub struct Forwards {
-    references: Vec<Forward>,
+pub struct ForwardReferences {
+    references: Vec<ForwardReference>,
 }
 
-impl Model for Forwards {
+impl Model for ForwardReferences {
     ghost use Rattle.std.specs.Prelude.{List, reverse};
-    ghost use Rattle.ui_engine.specs.declared.task.Forward.{Forward};
+    ghost use Rattle.ui_engine.specs.declared.task.ForwardReference.{ForwardReference};
 
-    ghost Value = { List Forward };
+    ghost Value = { List ForwardReference };
 
     ghost view = { λ f. reverse f.references.items };
 }
 
-impl Forwards {
+impl ForwardReferences {
     /// The references of a list, from its end.
-    pub fn new(references: Vec<Forward>) -> Self
+    pub fn new(references: Vec<ForwardReference>) -> Self
         ensures { result ≡ reverse references.items }
     {
-        Forwards { references }
+        ForwardReferences { references }
     }
 
     /// Takes the next one.
-    pub fn take(&mut self) -> Option<Forward>
+    pub fn take(&mut self) -> Option<ForwardReference>
         ensures { MatchOption result ((self.old ≡ []) × (self.new ≡ [])) (λ forward. self.old ≡ forward ∷ self.new) }
     {
         self.references.pop()
@@ -171,20 +171,20 @@ pub enum Task {
     /// The rest of a construction.
     Constructing {
         object: ObjectId,
-        steps: Makings,
+        steps: ConstructSteps,
         /// Whether the builder holds the object at its end.
         held: bool,
     },
     /// The rest of the build: the objects from a place on, and then the forward references.
     Building {
         place: Place,
-        forwards: Forwards,
+        forwards: ForwardReferences,
     },
     /// The object at a place becomes its parent's child, and then comes the rest of the build: the objects behind it, and the forward
     /// references.
     Adopting {
         place: Place,
-        forwards: Forwards,
+        forwards: ForwardReferences,
     },
     /// The signals of an object are connected from one on, and then those of the objects behind it.
     Connecting {
@@ -204,13 +204,13 @@ pub struct Stack {
 impl Stack {
     ghost use Rattle.ui_machine.specs.Definition as machine;
     ghost use Rattle.ui_machine.specs.State.Handlers.{Handler};
-    ghost use Rattle.ui_engine.specs.BegunView.{AllBegun, HasBegun};
+    ghost use Rattle.ui_engine.specs.KnownHandlers.{AllTakeKnownHandlers, TakesKnownHandlers};
     ghost use Rattle.ui_engine.specs.TaskView.{task_of, tasks_of};
 
     /// Nothing to do.
     pub fn new(alloc: Global) -> Self
         ensures tasks { (d : machine.Definition) (hs : List Handler) → tasks_of d hs result ≡ [] }
-        ensures begun { (last : ℕ) → AllBegun last result }
+        ensures begun { (last : ℕ) → AllTakeKnownHandlers last result }
     {
         Stack {
             tasks: Vec::new(alloc),
@@ -220,7 +220,7 @@ impl Stack {
     /// Puts a task before the others.
     pub fn push(&mut self, task: Task) -> Result<(), AllocError>
         ensures tasks { OnOk result ((d : machine.Definition) (hs : List Handler) → tasks_of d hs self.new ≡ task_of d hs task ∷ tasks_of d hs self.old) }
-        ensures begun { OnOk result ((last : ℕ) → HasBegun last task → AllBegun last self.old → AllBegun last self.new) }
+        ensures begun { OnOk result ((last : ℕ) → TakesKnownHandlers last task → AllTakeKnownHandlers last self.old → AllTakeKnownHandlers last self.new) }
     {
         self.tasks.push(task)?;
         Ok(())
@@ -231,8 +231,8 @@ impl Stack {
         ensures tasks { (d : machine.Definition) (hs : List Handler) → MatchOption result
             ((tasks_of d hs self.old ≡ []) × (tasks_of d hs self.new ≡ []))
             (λ task. tasks_of d hs self.old ≡ task_of d hs task ∷ tasks_of d hs self.new) }
-        ensures begun { (last : ℕ) → AllBegun last self.old → AllBegun last self.new }
-        ensures first { IfSome result (λ task. (last : ℕ) → AllBegun last self.old → HasBegun last task) }
+        ensures begun { (last : ℕ) → AllTakeKnownHandlers last self.old → AllTakeKnownHandlers last self.new }
+        ensures first { IfSome result (λ task. (last : ℕ) → AllTakeKnownHandlers last self.old → TakesKnownHandlers last task) }
     {
         self.tasks.pop()
     }
@@ -240,7 +240,7 @@ impl Stack {
     /// Leaves nothing to do.
     pub fn clear(&mut self)
         ensures tasks { (d : machine.Definition) (hs : List Handler) → tasks_of d hs self.new ≡ [] }
-        ensures begun { (last : ℕ) → AllBegun last self.new }
+        ensures begun { (last : ℕ) → AllTakeKnownHandlers last self.new }
     {
         self.tasks.clear();
     }

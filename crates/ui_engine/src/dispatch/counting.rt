@@ -11,16 +11,14 @@ use ui_machine::{Arm, Halt};
 /// The most counted steps of a dispatch.
 pub const MOST_STEPS: u64 = 1_000_000_000_000;
 
-impl Engine {
-    // One more counted step, of which a dispatch has only so many.
-    pub(crate) fn count(&mut self) -> Result<(), Halt>
-        ensures ok { OnOk result ((self.old.counted < most_steps) × (self.new ≡ record self.old { counted = suc self.old.counted })) }
-        ensures err { IfErr result (λ halt. (most_steps ≤ self.old.counted) × (halt ≡ halts.Stuck arms.Steps) × (self.new ≡ self.old)) }
-    {
-        if self.counted >= MOST_STEPS {
-            return Err(Halt::Stuck(Arm::Steps));
-        }
-        self.counted += 1;
-        Ok(())
+// One more counted step, of which a dispatch has only so many.
+pub(crate) fn count(engine: &mut Engine) -> Result<(), Halt>
+    ensures ok { OnOk result ((engine.old.counted < most_steps) × (engine.new ≡ record engine.old { counted = suc engine.old.counted })) }
+    ensures err { IfErr result (λ halt. (most_steps ≤ engine.old.counted) × (halt ≡ halts.Stuck arms.Steps) × (engine.new ≡ engine.old)) }
+{
+    if engine.counted >= MOST_STEPS {
+        return Err(Halt::Stuck(Arm::Steps));
     }
+    engine.counted += 1;
+    Ok(())
 }

@@ -17,6 +17,7 @@ ghost use Rattle.ui_engine.specs.EngineView.{config_of};
 ghost use Rattle.ui_engine.specs.JumpView.{is_null};
 
 use crate::engine::Engine;
+use crate::frames::push_frame;
 use builder_defs::Definition;
 use g_values::Value;
 use handler_code::{BlockNumber, Frame, Program, Register, truth_at, value_at};
@@ -33,81 +34,79 @@ fn null_at(registers: &[Option<Value>], at: Register) -> Option<bool>
     }
 }
 
-impl Engine {
-    /// The program goes on at a block.
-    pub(crate) fn jumping(
-        &mut self,
-        definition: &Definition,
-        program: &Program,
-        mut frame: Frame,
-        to: BlockNumber,
-    ) -> Result<(), Halt>
-        requires program { program_at definition.now (frame_view frame).program ≡ Some (program_view program.now) }
-        requires counted { Counts definition.now (λ o. in_frame o (frame_view frame)) self.now }
-        ensures step { Goes result
-            (left self.old.counted (in_front (agenda_of definition.now self.old) (jumping definition.now (world_of self.old.world) (frame_view frame) to.0)))
-            (config_of definition.now self.new) }
-        ensures quiet { OnErr result ((world_of self.new.world).transcript ≡ (world_of self.old.world).transcript) }
-        ensures counted { OnOk result (Counts definition.now nothing self.new) }
-    {
-        // For the proof: the clauses speak of the definition.
-        let _ = definition;
-        frame.jump(program, to)?;
-        self.push_frame(frame)?;
-        Ok(())
-    }
+/// The program goes on at a block.
+pub(crate) fn jump(
+    engine: &mut Engine,
+    definition: &Definition,
+    program: &Program,
+    mut frame: Frame,
+    to: BlockNumber,
+) -> Result<(), Halt>
+    requires program { program_at definition.now (frame_view frame).program ≡ Some (program_view program.now) }
+    requires counted { Counts definition.now (λ o. in_frame o (frame_view frame)) engine.now }
+    ensures step { Goes result
+        (left engine.old.counted (in_front (agenda_of definition.now engine.old) (jumping definition.now (world_of engine.old.world) (frame_view frame) to.0)))
+        (config_of definition.now engine.new) }
+    ensures quiet { OnErr result ((world_of engine.new.world).transcript ≡ (world_of engine.old.world).transcript) }
+    ensures counted { OnOk result (Counts definition.now nothing engine.new) }
+{
+    // For the proof: the clauses speak of the definition.
+    let _ = definition;
+    frame.jump(program, to)?;
+    push_frame(engine, frame)?;
+    Ok(())
+}
 
-    /// The program goes on at one of two blocks, by the truth value in a register.
-    pub(crate) fn branching(
-        &mut self,
-        definition: &Definition,
-        program: &Program,
-        frame: Frame,
-        on: Register,
-        then_to: BlockNumber,
-        else_to: BlockNumber,
-    ) -> Result<(), Halt>
-        requires program { program_at definition.now (frame_view frame).program ≡ Some (program_view program.now) }
-        requires counted { Counts definition.now (λ o. in_frame o (frame_view frame)) self.now }
-        ensures step { Goes result
-            (left self.old.counted (in_front (agenda_of definition.now self.old) (branching definition.now (world_of self.old.world) (frame_view frame) on.0 then_to.0 else_to.0)))
-            (config_of definition.now self.new) }
-        ensures quiet { OnErr result ((world_of self.new.world).transcript ≡ (world_of self.old.world).transcript) }
-        ensures counted { OnOk result (Counts definition.now nothing self.new) }
-    {
-        let Some(truth) = truth_at(frame.registers.as_slice(), on) else {
-            return Err(Halt::Stuck(Arm::Register));
-        };
-        if truth {
-            return self.jumping(definition, program, frame, then_to);
-        }
-        self.jumping(definition, program, frame, else_to)
+/// The program goes on at one of two blocks, by the truth value in a register.
+pub(crate) fn branch(
+    engine: &mut Engine,
+    definition: &Definition,
+    program: &Program,
+    frame: Frame,
+    on: Register,
+    then_to: BlockNumber,
+    else_to: BlockNumber,
+) -> Result<(), Halt>
+    requires program { program_at definition.now (frame_view frame).program ≡ Some (program_view program.now) }
+    requires counted { Counts definition.now (λ o. in_frame o (frame_view frame)) engine.now }
+    ensures step { Goes result
+        (left engine.old.counted (in_front (agenda_of definition.now engine.old) (branching definition.now (world_of engine.old.world) (frame_view frame) on.0 then_to.0 else_to.0)))
+        (config_of definition.now engine.new) }
+    ensures quiet { OnErr result ((world_of engine.new.world).transcript ≡ (world_of engine.old.world).transcript) }
+    ensures counted { OnOk result (Counts definition.now nothing engine.new) }
+{
+    let Some(truth) = truth_at(frame.registers.as_slice(), on) else {
+        return Err(Halt::Stuck(Arm::Register));
+    };
+    if truth {
+        return jump(engine, definition, program, frame, then_to);
     }
+    jump(engine, definition, program, frame, else_to)
+}
 
-    /// The same, by whether the text or the object in the register is null.
-    pub(crate) fn branching_null(
-        &mut self,
-        definition: &Definition,
-        program: &Program,
-        frame: Frame,
-        on: Register,
-        then_to: BlockNumber,
-        else_to: BlockNumber,
-    ) -> Result<(), Halt>
-        requires program { program_at definition.now (frame_view frame).program ≡ Some (program_view program.now) }
-        requires counted { Counts definition.now (λ o. in_frame o (frame_view frame)) self.now }
-        ensures step { Goes result
-            (left self.old.counted (in_front (agenda_of definition.now self.old) (branching_null definition.now (world_of self.old.world) (frame_view frame) on.0 then_to.0 else_to.0)))
-            (config_of definition.now self.new) }
-        ensures quiet { OnErr result ((world_of self.new.world).transcript ≡ (world_of self.old.world).transcript) }
-        ensures counted { OnOk result (Counts definition.now nothing self.new) }
-    {
-        let Some(is_null) = null_at(frame.registers.as_slice(), on) else {
-            return Err(Halt::Stuck(Arm::Register));
-        };
-        if is_null {
-            return self.jumping(definition, program, frame, then_to);
-        }
-        self.jumping(definition, program, frame, else_to)
+/// The same, by whether the text or the object in the register is null.
+pub(crate) fn branch_null(
+    engine: &mut Engine,
+    definition: &Definition,
+    program: &Program,
+    frame: Frame,
+    on: Register,
+    then_to: BlockNumber,
+    else_to: BlockNumber,
+) -> Result<(), Halt>
+    requires program { program_at definition.now (frame_view frame).program ≡ Some (program_view program.now) }
+    requires counted { Counts definition.now (λ o. in_frame o (frame_view frame)) engine.now }
+    ensures step { Goes result
+        (left engine.old.counted (in_front (agenda_of definition.now engine.old) (branching_null definition.now (world_of engine.old.world) (frame_view frame) on.0 then_to.0 else_to.0)))
+        (config_of definition.now engine.new) }
+    ensures quiet { OnErr result ((world_of engine.new.world).transcript ≡ (world_of engine.old.world).transcript) }
+    ensures counted { OnOk result (Counts definition.now nothing engine.new) }
+{
+    let Some(is_null) = null_at(frame.registers.as_slice(), on) else {
+        return Err(Halt::Stuck(Arm::Register));
+    };
+    if is_null {
+        return jump(engine, definition, program, frame, then_to);
     }
+    jump(engine, definition, program, frame, else_to)
 }

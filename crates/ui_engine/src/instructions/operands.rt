@@ -14,17 +14,15 @@ use builder_defs::Definition;
 use handler_code::{Frame, Register, identity_at};
 use ui_machine::{Arm, Halt, ObjectId, ProgramId};
 
-impl Engine {
-    /// The living object that a register names.
-    pub(crate) fn object_in(&self, frame: &Frame, from: Register) -> Result<ObjectId, Halt>
-        ensures { Finds number_of_object result (operand_in (world_of self.now.world) (frame_view frame.now) from.0) }
-    {
-        let object = identity_at(frame.registers.as_slice(), from)?;
-        if !self.world.table.is_live(object) {
-            return Err(Halt::Stuck(Arm::Operand));
-        }
-        Ok(object)
+/// The living object that a register names.
+pub(crate) fn object_in(engine: &Engine, frame: &Frame, from: Register) -> Result<ObjectId, Halt>
+    ensures { Finds number_of_object result (operand_in (world_of engine.now.world) (frame_view frame.now) from.0) }
+{
+    let object = identity_at(frame.registers.as_slice(), from)?;
+    if !engine.world.table.is_live(object) {
+        return Err(Halt::Stuck(Arm::Operand));
     }
+    Ok(object)
 }
 
 /// The number of the program of a name.

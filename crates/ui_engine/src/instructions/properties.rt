@@ -18,7 +18,12 @@ ghost use Rattle.ui_engine.specs.Counting.{Counts, KeepsCounts, in_frame, nothin
 ghost use Rattle.ui_engine.specs.EngineView.{config_of};
 
 use crate::engine::Engine;
+use crate::frames::push_frame;
+use crate::instructions::operands::object_in;
+use crate::instructions::registers::write_register;
+use crate::references::push_task;
 use crate::task::Task;
+use crate::tasks::sets::spec_of;
 use builder_defs::Definition;
 use g_values::Value;
 use handler_code::{Frame, Register, value_at};
@@ -34,150 +39,156 @@ pub(crate) fn value_in(frame: &Frame, from: Register) -> Result<Value, Halt>
     Ok(value.copied()?)
 }
 
-impl Engine {
-    // The slot of an object's property by its name.
-    fn slot_at(
-        &self,
-        definition: &Definition,
-        object: ObjectId,
-        property: &str,
-    ) -> Result<Slot, Arm>
-        ensures { Shows (λ slot. slot) result (slot_at definition.now (world_of self.now.world) object.0 property.now) }
-    {
-        let class = self.world.table.class_of(object)?;
-        let Some(slot) = definition.slot(class, property) else {
-            return Err(Arm::Code);
-        };
-        Ok(slot)
-    }
+// The slot of an object's property by its name.
+fn slot_at(
+    engine: &Engine,
+    definition: &Definition,
+    object: ObjectId,
+    property: &str,
+) -> Result<Slot, Arm>
+    ensures { Shows (λ slot. slot) result (slot_at definition.now (world_of engine.now.world) object.0 property.now) }
+{
+    let class = engine.world.table.class_of(object)?;
+    let Some(slot) = definition.slot(class, property) else {
+        return Err(Arm::Code);
+    };
+    Ok(slot)
+}
 
-    // The value of an object's property, which may be read.
-    fn readable_value(
-        &self,
-        definition: &Definition,
-        object: ObjectId,
-        property: &str,
-    ) -> Result<Value, Halt>
-        ensures { Finds value_view result (readable_value definition.now (world_of self.now.world) object.0 property.now) }
-    {
-        let slot = self.slot_at(definition, object, property)?;
-        let spec = self.spec_of(definition, object, slot)?;
-        let value = self.world.table.read(object, slot)?;
-        if !spec.is_readable() {
-            return Err(Halt::Stuck(Arm::Flags));
-        }
-        Ok(value.copied()?)
+// The value of an object's property, which may be read.
+fn readable_value(
+    engine: &Engine,
+    definition: &Definition,
+    object: ObjectId,
+    property: &str,
+) -> Result<Value, Halt>
+    ensures { Finds value_view result (readable_value definition.now (world_of engine.now.world) object.0 property.now) }
+{
+    let slot = slot_at(engine, definition, object, property)?;
+    let spec = spec_of(engine, definition, object, slot)?;
+    let value = engine.world.table.read(object, slot)?;
+    if !spec.is_readable() {
+        return Err(Halt::Stuck(Arm::Flags));
     }
+    Ok(value.copied()?)
+}
 
-    // The slot of an object's property, which may be set.
-    fn settable_slot(
-        &self,
-        definition: &Definition,
-        object: ObjectId,
-        property: &str,
-    ) -> Result<Slot, Arm>
-        ensures { Shows (λ slot. slot) result (settable_slot definition.now (world_of self.now.world) object.0 property.now) }
-    {
-        let slot = self.slot_at(definition, object, property)?;
-        let spec = self.spec_of(definition, object, slot)?;
-        if !spec.is_writable() {
-            return Err(Arm::Flags);
-        }
-        if spec.is_construct_only() {
-            return Err(Arm::ConstructOnly);
-        }
-        Ok(slot)
+// The slot of an object's property, which may be set.
+fn settable_slot(
+    engine: &Engine,
+    definition: &Definition,
+    object: ObjectId,
+    property: &str,
+) -> Result<Slot, Arm>
+    ensures { Shows (λ slot. slot) result (settable_slot definition.now (world_of engine.now.world) object.0 property.now) }
+{
+    let slot = slot_at(engine, definition, object, property)?;
+    let spec = spec_of(engine, definition, object, slot)?;
+    if !spec.is_writable() {
+        return Err(Arm::Flags);
     }
-
-    /// A register is written with the value of an object's property.
-    pub(crate) fn get_property(
-        &mut self,
-        definition: &Definition,
-        frame: Frame,
-        to: Register,
-        object: Register,
-        property: &str,
-    ) -> Result<(), Halt>
-        requires counted { Counts definition.now (λ o. in_frame o (frame_view frame)) self.now }
-        ensures step { Goes result
-            (left self.old.counted (in_front (agenda_of definition.now self.old) (get_property definition.now (world_of self.old.world) (frame_view frame) to.0 object.0 property.now)))
-            (config_of definition.now self.new) }
-        ensures quiet { OnErr result ((world_of self.new.world).transcript ≡ (world_of self.old.world).transcript) }
-        ensures counted { OnOk result (Counts definition.now nothing self.new) }
-    {
-        let object = self.object_in(&frame, object)?;
-        let value = self.readable_value(definition, object, property)?;
-        self.writing(definition, frame, to, Some(value))
+    if spec.is_construct_only() {
+        return Err(Arm::ConstructOnly);
     }
+    Ok(slot)
+}
 
-    /// An object's property is set to the value of a register, before the program goes on.
-    pub(crate) fn set_property(
-        &mut self,
-        definition: &Definition,
-        frame: Frame,
-        object: Register,
-        property: &str,
-        from: Register,
-    ) -> Result<(), Halt>
-        requires counted { Counts definition.now (λ o. in_frame o (frame_view frame)) self.now }
-        ensures step { Goes result
-            (left self.old.counted (in_front (agenda_of definition.now self.old) (set_property definition.now (world_of self.old.world) (frame_view frame) object.0 property.now from.0)))
-            (config_of definition.now self.new) }
-        ensures quiet { OnErr result ((world_of self.new.world).transcript ≡ (world_of self.old.world).transcript) }
-        ensures counted { OnOk result (Counts definition.now nothing self.new) }
-    {
-        let object = self.object_in(&frame, object)?;
-        let slot = self.settable_slot(definition, object, property)?;
-        let value = value_in(&frame, from)?;
-        self.push_frame(frame)?;
-        self.push(Task::Setting {
+/// A register is written with the value of an object's property.
+pub(crate) fn get_property(
+    engine: &mut Engine,
+    definition: &Definition,
+    frame: Frame,
+    to: Register,
+    object: Register,
+    property: &str,
+) -> Result<(), Halt>
+    requires counted { Counts definition.now (λ o. in_frame o (frame_view frame)) engine.now }
+    ensures step { Goes result
+        (left engine.old.counted (in_front (agenda_of definition.now engine.old) (get_property definition.now (world_of engine.old.world) (frame_view frame) to.0 object.0 property.now)))
+        (config_of definition.now engine.new) }
+    ensures quiet { OnErr result ((world_of engine.new.world).transcript ≡ (world_of engine.old.world).transcript) }
+    ensures counted { OnOk result (Counts definition.now nothing engine.new) }
+{
+    let object = object_in(engine, &frame, object)?;
+    let value = readable_value(engine, definition, object, property)?;
+    write_register(engine, definition, frame, to, Some(value))
+}
+
+/// An object's property is set to the value of a register, before the program goes on.
+pub(crate) fn set_property(
+    engine: &mut Engine,
+    definition: &Definition,
+    frame: Frame,
+    object: Register,
+    property: &str,
+    from: Register,
+) -> Result<(), Halt>
+    requires counted { Counts definition.now (λ o. in_frame o (frame_view frame)) engine.now }
+    ensures step { Goes result
+        (left engine.old.counted (in_front (agenda_of definition.now engine.old) (set_property definition.now (world_of engine.old.world) (frame_view frame) object.0 property.now from.0)))
+        (config_of definition.now engine.new) }
+    ensures quiet { OnErr result ((world_of engine.new.world).transcript ≡ (world_of engine.old.world).transcript) }
+    ensures counted { OnOk result (Counts definition.now nothing engine.new) }
+{
+    let object = object_in(engine, &frame, object)?;
+    let slot = settable_slot(engine, definition, object, property)?;
+    let value = value_in(&frame, from)?;
+    push_frame(engine, frame)?;
+    push_task(
+        engine,
+        Task::Setting {
             object,
             slot,
             value,
-        })?;
-        Ok(())
-    }
+        },
+    )?;
+    Ok(())
+}
 
-    // The notification of a property is raised: it waits on a frozen object, and comes first on any other.
-    #[tactic(auto, unfolding(ui_machine::specs::Rules::Sets::raising))]
-    fn raise(&mut self, definition: &Definition, object: ObjectId, slot: Slot) -> Result<(), Halt>
-        ensures step { Goes result
-            (uncounted (agenda_of definition.now self.old) self.old.counted (raising (world_of self.old.world) object.0 slot))
-            (config_of definition.now self.new) }
-        ensures quiet { OnErr result ((world_of self.new.world).transcript ≡ (world_of self.old.world).transcript) }
-        ensures counted { OnOk result (KeepsCounts definition.now self.old self.new) }
-    {
-        // For the proof: the clauses speak of the definition.
-        let _ = definition;
-        if self.world.table.add(object, slot)? {
-            self.push(Task::Notifying { object, slot })?;
-            return Ok(());
-        }
-        Ok(())
+// The notification of a property is raised: it waits on a frozen object, and comes first on any other.
+#[tactic(auto, unfolding(ui_machine::specs::Rules::Sets::raising))]
+fn raise(
+    engine: &mut Engine,
+    definition: &Definition,
+    object: ObjectId,
+    slot: Slot,
+) -> Result<(), Halt>
+    ensures step { Goes result
+        (uncounted (agenda_of definition.now engine.old) engine.old.counted (raising (world_of engine.old.world) object.0 slot))
+        (config_of definition.now engine.new) }
+    ensures quiet { OnErr result ((world_of engine.new.world).transcript ≡ (world_of engine.old.world).transcript) }
+    ensures counted { OnOk result (KeepsCounts definition.now engine.old engine.new) }
+{
+    // For the proof: the clauses speak of the definition.
+    let _ = definition;
+    if engine.world.table.add(object, slot)? {
+        push_task(engine, Task::Notifying { object, slot })?;
+        return Ok(());
     }
+    Ok(())
+}
 
-    /// The notification of an object's property is raised before the program goes on, if the property may be read.
-    pub(crate) fn notify_from_program(
-        &mut self,
-        definition: &Definition,
-        frame: Frame,
-        object: Register,
-        property: &str,
-    ) -> Result<(), Halt>
-        requires counted { Counts definition.now (λ o. in_frame o (frame_view frame)) self.now }
-        ensures step { Goes result
-            (left self.old.counted (in_front (agenda_of definition.now self.old) (notify_from_program definition.now (world_of self.old.world) (frame_view frame) object.0 property.now)))
-            (config_of definition.now self.new) }
-        ensures quiet { OnErr result ((world_of self.new.world).transcript ≡ (world_of self.old.world).transcript) }
-        ensures counted { OnOk result (Counts definition.now nothing self.new) }
-    {
-        let object = self.object_in(&frame, object)?;
-        let slot = self.slot_at(definition, object, property)?;
-        let spec = self.spec_of(definition, object, slot)?;
-        self.push_frame(frame)?;
-        if !spec.is_readable() {
-            return Ok(());
-        }
-        self.raise(definition, object, slot)
+/// The notification of an object's property is raised before the program goes on, if the property may be read.
+pub(crate) fn notify_from_program(
+    engine: &mut Engine,
+    definition: &Definition,
+    frame: Frame,
+    object: Register,
+    property: &str,
+) -> Result<(), Halt>
+    requires counted { Counts definition.now (λ o. in_frame o (frame_view frame)) engine.now }
+    ensures step { Goes result
+        (left engine.old.counted (in_front (agenda_of definition.now engine.old) (notify_from_program definition.now (world_of engine.old.world) (frame_view frame) object.0 property.now)))
+        (config_of definition.now engine.new) }
+    ensures quiet { OnErr result ((world_of engine.new.world).transcript ≡ (world_of engine.old.world).transcript) }
+    ensures counted { OnOk result (Counts definition.now nothing engine.new) }
+{
+    let object = object_in(engine, &frame, object)?;
+    let slot = slot_at(engine, definition, object, property)?;
+    let spec = spec_of(engine, definition, object, slot)?;
+    push_frame(engine, frame)?;
+    if !spec.is_readable() {
+        return Ok(());
     }
+    raise(engine, definition, object, slot)
 }

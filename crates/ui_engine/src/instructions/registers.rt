@@ -16,83 +16,82 @@ ghost use Rattle.ui_engine.specs.Counting.{Counts, in_frame, nothing};
 ghost use Rattle.ui_engine.specs.EngineView.{config_of};
 
 use crate::engine::Engine;
-use crate::frames::put;
+use crate::frames::{push_frame, put};
+use crate::tasks::children::say_limit;
 use builder_defs::Definition;
 use g_values::Value;
 use handler_code::{Computation, Computed, Frame, Register};
 use ui_machine::Halt;
 
-impl Engine {
-    /// A register is written, or unset, and the program goes on.
-    #[inline(always)]
-    pub(crate) fn writing(
-        &mut self,
-        definition: &Definition,
-        mut frame: Frame,
-        to: Register,
-        value: Option<Value>,
-    ) -> Result<(), Halt>
-        requires counted { Counts definition.now (λ o. in_frame o (frame_view frame)) self.now }
-        ensures step { Goes result
-            (left self.old.counted (in_front (agenda_of definition.now self.old) (written_to (world_of self.old.world) to.0 (option_map value_view value) (frame_view frame))))
-            (config_of definition.now self.new) }
-        ensures quiet { OnErr result ((world_of self.new.world).transcript ≡ (world_of self.old.world).transcript) }
-        ensures counted { OnOk result (Counts definition.now nothing self.new) }
-    {
-        // For the proof: the clauses speak of the definition.
-        let _ = definition;
-        put(&mut self.world.table, &mut frame, to, value)?;
-        self.push_frame(frame)?;
-        Ok(())
-    }
+/// A register is written, or unset, and the program goes on.
+#[inline(always)]
+pub(crate) fn write_register(
+    engine: &mut Engine,
+    definition: &Definition,
+    mut frame: Frame,
+    to: Register,
+    value: Option<Value>,
+) -> Result<(), Halt>
+    requires counted { Counts definition.now (λ o. in_frame o (frame_view frame)) engine.now }
+    ensures step { Goes result
+        (left engine.old.counted (in_front (agenda_of definition.now engine.old) (written_to (world_of engine.old.world) to.0 (option_map value_view value) (frame_view frame))))
+        (config_of definition.now engine.new) }
+    ensures quiet { OnErr result ((world_of engine.new.world).transcript ≡ (world_of engine.old.world).transcript) }
+    ensures counted { OnOk result (Counts definition.now nothing engine.new) }
+{
+    // For the proof: the clauses speak of the definition.
+    let _ = definition;
+    put(&mut engine.world.table, &mut frame, to, value)?;
+    push_frame(engine, frame)?;
+    Ok(())
+}
 
-    /// A limit was reached, of what the word says: a line says so, and a register gets a value all the same.
-    pub(crate) fn writing_at_limit(
-        &mut self,
-        definition: &Definition,
-        mut frame: Frame,
-        to: Register,
-        value: Value,
-        word: &str,
-    ) -> Result<(), Halt>
-        requires counted { Counts definition.now (λ o. in_frame o (frame_view frame)) self.now }
-        ensures step { Goes result
-            (left self.old.counted (in_front (agenda_of definition.now self.old)
-            (written_to (said definition.now (world_of self.old.world) (lines.limit word.now)) to.0 (Some (value_view value)) (frame_view frame))))
-            (config_of definition.now self.new) }
-        ensures quiet { OnErr result ((world_of self.new.world).transcript ≡ (world_of self.old.world).transcript) }
-        ensures counted { OnOk result (Counts definition.now nothing self.new) }
-    {
-        put(&mut self.world.table, &mut frame, to, Some(value))?;
-        self.push_frame(frame)?;
-        self.tell_limit(definition, word)?;
-        Ok(())
-    }
+/// A limit was reached, of what the word says: a line says so, and a register gets a value all the same.
+pub(crate) fn write_null_and_say_limit(
+    engine: &mut Engine,
+    definition: &Definition,
+    mut frame: Frame,
+    to: Register,
+    value: Value,
+    word: &str,
+) -> Result<(), Halt>
+    requires counted { Counts definition.now (λ o. in_frame o (frame_view frame)) engine.now }
+    ensures step { Goes result
+        (left engine.old.counted (in_front (agenda_of definition.now engine.old)
+        (written_to (said definition.now (world_of engine.old.world) (lines.limit word.now)) to.0 (Some (value_view value)) (frame_view frame))))
+        (config_of definition.now engine.new) }
+    ensures quiet { OnErr result ((world_of engine.new.world).transcript ≡ (world_of engine.old.world).transcript) }
+    ensures counted { OnOk result (Counts definition.now nothing engine.new) }
+{
+    put(&mut engine.world.table, &mut frame, to, Some(value))?;
+    push_frame(engine, frame)?;
+    say_limit(engine, definition, word)?;
+    Ok(())
+}
 
-    /// A register is written with what comes of others.
-    pub(crate) fn computing(
-        &mut self,
-        definition: &Definition,
-        frame: Frame,
-        to: Register,
-        computation: &Computation,
-    ) -> Result<(), Halt>
-        requires known { HasKnownKind definition.now.types computation.now }
-        requires counted { Counts definition.now (λ o. in_frame o (frame_view frame)) self.now }
-        ensures step { Goes result
-            (left self.old.counted (instruction_step definition.now (world_of self.old.world) (agenda_of definition.now self.old) (frame_view frame) (instruction_of computation.now to.0)))
-            (config_of definition.now self.new) }
-        ensures quiet { OnErr result ((world_of self.new.world).transcript ≡ (world_of self.old.world).transcript) }
-        ensures counted { OnOk result (Counts definition.now nothing self.new) }
-    {
-        let types = definition.types();
-        let computed = computation.compute(self.alloc, types, frame.registers.as_slice())?;
-        match computed {
-            Computed::Value(value) => self.writing(definition, frame, to, Some(value)),
-            Computed::Unset => self.writing(definition, frame, to, None),
-            Computed::TooLong => {
-                self.writing_at_limit(definition, frame, to, Value::Text(None), "join")
-            }
+/// A register is written with what comes of others.
+pub(crate) fn compute(
+    engine: &mut Engine,
+    definition: &Definition,
+    frame: Frame,
+    to: Register,
+    computation: &Computation,
+) -> Result<(), Halt>
+    requires known { HasKnownKind definition.now.types computation.now }
+    requires counted { Counts definition.now (λ o. in_frame o (frame_view frame)) engine.now }
+    ensures step { Goes result
+        (left engine.old.counted (instruction_step definition.now (world_of engine.old.world) (agenda_of definition.now engine.old) (frame_view frame) (instruction_of computation.now to.0)))
+        (config_of definition.now engine.new) }
+    ensures quiet { OnErr result ((world_of engine.new.world).transcript ≡ (world_of engine.old.world).transcript) }
+    ensures counted { OnOk result (Counts definition.now nothing engine.new) }
+{
+    let types = definition.types();
+    let computed = computation.compute(engine.alloc, types, frame.registers.as_slice())?;
+    match computed {
+        Computed::Value(value) => write_register(engine, definition, frame, to, Some(value)),
+        Computed::Unset => write_register(engine, definition, frame, to, None),
+        Computed::TooLong => {
+            write_null_and_say_limit(engine, definition, frame, to, Value::Text(None), "join")
         }
     }
 }

@@ -15,9 +15,9 @@ ghost use Rattle.ui_engine.specs.TaskView.{agenda_of};
 ghost use Rattle.ui_engine.specs.View.{world_of};
 
 use crate::engine::Engine;
-use crate::holding::let_go_registers;
 use crate::instructions::properties::value_in;
-use crate::tasks::collections::suits;
+use crate::references::let_go_registers;
+use crate::tasks::accumulation::{give_down, suits};
 use builder_defs::Definition;
 use g_values::Value;
 use handler_code::{Frame, Program, Register};
@@ -34,47 +34,45 @@ fn given_by(frame: &Frame, from: Option<Register>) -> Result<Option<Value>, Halt
     Ok(Some(value))
 }
 
-impl Engine {
-    // What a program gives, of the kind that it says.
-    fn returned(
-        &self,
-        definition: &Definition,
-        program: &Program,
-        frame: &Frame,
-        from: Option<Register>,
-    ) -> Result<Option<Value>, Halt>
-        requires program { program_at definition.now (frame_view frame.now).program ≡ Some (program_view program.now) }
-        requires known { IfSome program.now.result (IsKnown definition.now.types) }
-        ensures { Finds (λ given. option_map value_view given) result (returned definition.now (world_of self.now.world) (frame_view frame.now) (option_map number_of from)) }
-    {
-        let types = definition.types();
-        let given = given_by(frame, from)?;
-        if !suits(&self.world.table, types, &given, program.result) {
-            return Err(Halt::Stuck(Arm::Result));
-        }
-        Ok(given)
+// What a program gives, of the kind that it says.
+fn returned(
+    engine: &Engine,
+    definition: &Definition,
+    program: &Program,
+    frame: &Frame,
+    from: Option<Register>,
+) -> Result<Option<Value>, Halt>
+    requires program { program_at definition.now (frame_view frame.now).program ≡ Some (program_view program.now) }
+    requires known { IfSome program.now.result (IsKnown definition.now.types) }
+    ensures { Finds (λ given. option_map value_view given) result (returned definition.now (world_of engine.now.world) (frame_view frame.now) (option_map number_of from)) }
+{
+    let types = definition.types();
+    let given = given_by(frame, from)?;
+    if !suits(&engine.world.table, types, &given, program.result) {
+        return Err(Halt::Stuck(Arm::Result));
     }
+    Ok(given)
+}
 
-    /// The program ends. What its registers name is let go.
-    pub(crate) fn returning(
-        &mut self,
-        definition: &Definition,
-        program: &Program,
-        frame: Frame,
-        from: Option<Register>,
-    ) -> Result<(), Halt>
-        requires program { program_at definition.now (frame_view frame).program ≡ Some (program_view program.now) }
-        requires known { IfSome program.now.result (IsKnown definition.now.types) }
-        requires counted { Counts definition.now (λ o. in_frame o (frame_view frame)) self.now }
-        ensures step { Goes result
-            (left self.old.counted (returning definition.now (world_of self.old.world) (frame_view frame) (agenda_of definition.now self.old) (option_map number_of from)))
-            (config_of definition.now self.new) }
-        ensures quiet { OnErr result ((world_of self.new.world).transcript ≡ (world_of self.old.world).transcript) }
-        ensures counted { OnOk result (Counts definition.now nothing self.new) }
-    {
-        let given = self.returned(definition, program, &frame, from)?;
-        self.give_down(definition, given)?;
-        let_go_registers(&mut self.world.table, frame.registers.as_slice());
-        Ok(())
-    }
+/// The program ends. What its registers name is let go.
+pub(crate) fn return_from_program(
+    engine: &mut Engine,
+    definition: &Definition,
+    program: &Program,
+    frame: Frame,
+    from: Option<Register>,
+) -> Result<(), Halt>
+    requires program { program_at definition.now (frame_view frame).program ≡ Some (program_view program.now) }
+    requires known { IfSome program.now.result (IsKnown definition.now.types) }
+    requires counted { Counts definition.now (λ o. in_frame o (frame_view frame)) engine.now }
+    ensures step { Goes result
+        (left engine.old.counted (returning definition.now (world_of engine.old.world) (frame_view frame) (agenda_of definition.now engine.old) (option_map number_of from)))
+        (config_of definition.now engine.new) }
+    ensures quiet { OnErr result ((world_of engine.new.world).transcript ≡ (world_of engine.old.world).transcript) }
+    ensures counted { OnOk result (Counts definition.now nothing engine.new) }
+{
+    let given = returned(engine, definition, program, &frame, from)?;
+    give_down(engine, definition, given)?;
+    let_go_registers(&mut engine.world.table, frame.registers.as_slice());
+    Ok(())
 }

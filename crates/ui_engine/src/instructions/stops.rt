@@ -8,60 +8,63 @@ ghost use Rattle.ui_machine.specs.Outcome.{Goes};
 ghost use Rattle.ui_machine.specs.Rules.Accumulation.{stopped};
 ghost use Rattle.ui_machine.specs.Steps.{left};
 ghost use Rattle.handler_code.specs.FrameView.{frame_view};
-ghost use Rattle.ui_engine.specs.BegunView.{AllBegun};
+ghost use Rattle.ui_engine.specs.KnownHandlers.{AllTakeKnownHandlers};
 ghost use Rattle.ui_engine.specs.Counting.{Counts, in_frame, nothing};
 ghost use Rattle.ui_engine.specs.EngineView.{config_of};
 ghost use Rattle.ui_engine.specs.TaskView.{agenda_of};
 ghost use Rattle.ui_engine.specs.View.{world_of};
 
 use crate::engine::Engine;
+use crate::frames::push_frame;
 use crate::task::Task;
 use builder_defs::Definition;
 use handler_code::Frame;
 use std::alloc::AllocError;
 use ui_machine::Halt;
 
-impl Engine {
-    // The emission that runs the program stops: what is left of it is its cleanup stage.
-    fn stop_emission(&mut self) -> Result<(), AllocError>
-        ensures agenda { OnOk result ((d : machine.Definition) → agenda_of d self.new ≡ stopped (agenda_of d self.old)) }
-        ensures beside { self.new ≡ record self.old { stack = self.new.stack } }
-        ensures begun { OnOk result ((last : ℕ) → AllBegun last self.old.stack → AllBegun last self.new.stack) }
-    {
-        let Some(task) = self.stack.pop() else {
-            return Ok(());
-        };
-        let Task::Emitting {
-            mut cursor,
-            args,
-            by_event,
-        } = task
-        else {
-            self.stack.push(task)?;
-            return Ok(());
-        };
-        cursor.stop();
-        self.stack.push(Task::Emitting {
-            cursor,
-            args,
-            by_event,
-        })?;
-        Ok(())
-    }
+// The emission that runs the program stops: what is left of it is its cleanup stage.
+fn stop_emission(engine: &mut Engine) -> Result<(), AllocError>
+    ensures agenda { OnOk result ((d : machine.Definition) → agenda_of d engine.new ≡ stopped (agenda_of d engine.old)) }
+    ensures beside { engine.new ≡ record engine.old { stack = engine.new.stack } }
+    ensures begun { OnOk result ((last : ℕ) → AllTakeKnownHandlers last engine.old.stack → AllTakeKnownHandlers last engine.new.stack) }
+{
+    let Some(task) = engine.stack.pop() else {
+        return Ok(());
+    };
+    let Task::Emitting {
+        mut cursor,
+        args,
+        by_event,
+    } = task
+    else {
+        engine.stack.push(task)?;
+        return Ok(());
+    };
+    cursor.stop();
+    engine.stack.push(Task::Emitting {
+        cursor,
+        args,
+        by_event,
+    })?;
+    Ok(())
+}
 
-    /// The emission that runs the program stops, and the program goes on.
-    pub(crate) fn stopping(&mut self, definition: &Definition, frame: Frame) -> Result<(), Halt>
-        requires counted { Counts definition.now (λ o. in_frame o (frame_view frame)) self.now }
-        ensures step { Goes result
-            (left self.old.counted (instruction_step definition.now (world_of self.old.world) (agenda_of definition.now self.old) (frame_view frame) words.stop))
-            (config_of definition.now self.new) }
-        ensures quiet { OnErr result ((world_of self.new.world).transcript ≡ (world_of self.old.world).transcript) }
-        ensures counted { OnOk result (Counts definition.now nothing self.new) }
-    {
-        // For the proof: the clauses speak of the definition.
-        let _ = definition;
-        self.stop_emission()?;
-        self.push_frame(frame)?;
-        Ok(())
-    }
+/// The emission that runs the program stops, and the program goes on.
+pub(crate) fn stop_from_program(
+    engine: &mut Engine,
+    definition: &Definition,
+    frame: Frame,
+) -> Result<(), Halt>
+    requires counted { Counts definition.now (λ o. in_frame o (frame_view frame)) engine.now }
+    ensures step { Goes result
+        (left engine.old.counted (instruction_step definition.now (world_of engine.old.world) (agenda_of definition.now engine.old) (frame_view frame) words.stop))
+        (config_of definition.now engine.new) }
+    ensures quiet { OnErr result ((world_of engine.new.world).transcript ≡ (world_of engine.old.world).transcript) }
+    ensures counted { OnOk result (Counts definition.now nothing engine.new) }
+{
+    // For the proof: the clauses speak of the definition.
+    let _ = definition;
+    stop_emission(engine)?;
+    push_frame(engine, frame)?;
+    Ok(())
 }

@@ -19,14 +19,17 @@ ghost use Rattle.ui_engine.specs.View.{world_of, with_line};
 ghost use Rattle.ui_engine.specs.TaskView.{new_of, emission_of, entries_to_come, agenda_of};
 ghost use Rattle.ui_engine.specs.Counting.{Counts, KeepsCounts, in_emitted};
 ghost use Rattle.ui_engine.specs.EngineView.{config_of};
-ghost use Rattle.ui_engine.specs.Standing.{come_first};
+ghost use Rattle.ui_engine.specs.Standing.{past_skipped_turns};
 ghost use Rattle.ui_engine.specs.TurnView.{RunsProgram, given_by, program_of_turn};
 
 use crate::arguments::all_fit;
+use crate::dispatch::counting::count;
 use crate::engine::Engine;
-use crate::holding::{accumulated, hold_any, let_go_any, let_go_values};
+use crate::frames::pass_down;
 use crate::lines::Line;
+use crate::references::{accumulated, hold_any, let_go_any, let_go_values};
 use crate::task::{NewEmission, Task};
+use crate::tasks::programs::begin_program;
 use crate::tasks::turns::Invocation;
 use builder_defs::Definition;
 use g_values::{Kind, Value, zero_of};
@@ -59,7 +62,7 @@ fn next_program(handlers: &Handlers, cursor: &mut Cursor) -> Option<Turn>
 }
 
 /// The text of a detail, if there is one.
-pub(crate) fn text_of(detail: &Option<String>) -> Option<&str>
+pub(crate) fn as_text(detail: &Option<String>) -> Option<&str>
     ensures { option_map (λ text. text.now) result ≡ option_map (λ text. string_bytes text) detail.now }
 {
     match detail {
@@ -69,7 +72,7 @@ pub(crate) fn text_of(detail: &Option<String>) -> Option<&str>
 }
 
 // The line with which an emission of a signal begins.
-fn told_of(
+fn emission_line(
     alloc: Global,
     types: &TypeTree,
     emission: &NewEmission,
@@ -78,7 +81,7 @@ fn told_of(
     ensures { IfOk result (λ line. string_bytes line ≡ text_of_line types.now
         (lines.emit emission.now.object.0 signal.now (new_of emission.now).detail (new_of emission.now).args)) }
 {
-    let detail = text_of(&emission.detail);
+    let detail = as_text(&emission.detail);
     let args = emission.args.as_slice();
     let told = Line::Emit {
         object: emission.object,
@@ -89,213 +92,215 @@ fn told_of(
     told.text(alloc, types)
 }
 
-impl Engine {
-    // Puts the rest of an emission before the other tasks. It goes on to hold what it was given, and holds its object from then on.
-    fn push_rest(
-        &mut self,
-        cursor: Cursor,
-        args: Vec<Value>,
-        by_event: bool,
-    ) -> Result<(), AllocError>
-        requires { cursor.greatest ≤ self.now.world.handlers.last }
-        ensures agenda { OnOk result ((d : machine.Definition) → agenda_of d self.new
-            ≡ Emitting (emission_of cursor args.items by_event) (entries_to_come cursor self.old.world.handlers.handlers) ∷ agenda_of d self.old) }
-        ensures world { world_of self.new.world ≡ world_of self.old.world }
-        ensures same { self.new.counted ≡ self.old.counted }
-        ensures counted { OnOk result ((d : machine.Definition) (taken : ℕ → ℕ)
-            → Counts d (λ o. taken o + in_emitted o (emission_of cursor args.items by_event)) self.old → Counts d taken self.new) }
-    {
-        hold_any(&mut self.world.table, Some(cursor.object()))?;
-        self.stack.push(Task::Emitting {
-            cursor,
-            args,
-            by_event,
-        })?;
-        Ok(())
-    }
+// Puts the rest of an emission before the other tasks. It goes on to hold what it was given, and holds its object from then on.
+fn push_rest(
+    engine: &mut Engine,
+    cursor: Cursor,
+    args: Vec<Value>,
+    by_event: bool,
+) -> Result<(), AllocError>
+    requires { cursor.greatest ≤ engine.now.world.handlers.last }
+    ensures agenda { OnOk result ((d : machine.Definition) → agenda_of d engine.new
+        ≡ Emitting (emission_of cursor args.items by_event) (entries_to_come cursor engine.old.world.handlers.handlers) ∷ agenda_of d engine.old) }
+    ensures world { world_of engine.new.world ≡ world_of engine.old.world }
+    ensures same { engine.new.counted ≡ engine.old.counted }
+    ensures counted { OnOk result ((d : machine.Definition) (taken : ℕ → ℕ)
+        → Counts d (λ o. taken o + in_emitted o (emission_of cursor args.items by_event)) engine.old → Counts d taken engine.new) }
+{
+    hold_any(&mut engine.world.table, Some(cursor.object()))?;
+    engine.stack.push(Task::Emitting {
+        cursor,
+        args,
+        by_event,
+    })?;
+    Ok(())
+}
 
-    /// An emission begins that is counted already. Its line is said, and what is connected later has no turn in it.
-    pub(crate) fn start(
-        &mut self,
-        emission: Emission,
-        args: Vec<Value>,
-        by_event: bool,
-        line: String,
-    ) -> Result<(), AllocError>
-        ensures agenda { OnOk result ((d : machine.Definition) → agenda_of d self.new
-            ≡ Emitting (emission_of (begun emission self.old.world.handlers.last) args.items by_event)
-            (entries_to_come (begun emission self.old.world.handlers.last) self.old.world.handlers.handlers)
-            ∷ agenda_of d self.old) }
-        ensures world { OnOk result (world_of self.new.world ≡ with_line (string_bytes line) (world_of self.old.world)) }
-        ensures quiet { OnErr result ((world_of self.new.world).transcript ≡ (world_of self.old.world).transcript) }
-        ensures same { self.new.counted ≡ self.old.counted }
-        ensures counted { OnOk result ((d : machine.Definition) (taken : ℕ → ℕ)
-            → Counts d (λ o. taken o + total (in_value o) (map value_view args.items)) self.old → Counts d taken self.new) }
-    {
-        let cursor = self.world.handlers.begin_emission(emission);
-        self.push_rest(cursor, args, by_event)?;
-        self.world.say(line)?;
-        Ok(())
-    }
+/// An emission begins that is counted already. Its line is said, and what is connected later has no turn in it.
+pub(crate) fn start_emission(
+    engine: &mut Engine,
+    emission: Emission,
+    args: Vec<Value>,
+    by_event: bool,
+    line: String,
+) -> Result<(), AllocError>
+    ensures agenda { OnOk result ((d : machine.Definition) → agenda_of d engine.new
+        ≡ Emitting (emission_of (begun emission engine.old.world.handlers.last) args.items by_event)
+        (entries_to_come (begun emission engine.old.world.handlers.last) engine.old.world.handlers.handlers)
+        ∷ agenda_of d engine.old) }
+    ensures world { OnOk result (world_of engine.new.world ≡ with_line (string_bytes line) (world_of engine.old.world)) }
+    ensures quiet { OnErr result ((world_of engine.new.world).transcript ≡ (world_of engine.old.world).transcript) }
+    ensures same { engine.new.counted ≡ engine.old.counted }
+    ensures counted { OnOk result ((d : machine.Definition) (taken : ℕ → ℕ)
+        → Counts d (λ o. taken o + total (in_value o) (map value_view args.items)) engine.old → Counts d taken engine.new) }
+{
+    let cursor = engine.world.handlers.begin_emission(emission);
+    push_rest(engine, cursor, args, by_event)?;
+    engine.world.say(line)?;
+    Ok(())
+}
 
-    /// An emission that is due begins. It is counted and told of. Its arguments fit the signal.
-    #[tactic(auto, unfolding(ui_machine::specs::Rules::EmissionPlan::beginning_emission))]
-    pub(crate) fn beginning(
-        &mut self,
-        definition: &Definition,
-        emission: NewEmission,
-    ) -> Result<(), Halt>
-        requires counted { Counts definition.now (λ o. in_task o (Beginning (new_of emission))) self.now }
-        ensures step { Goes result
-            (counted (agenda_of definition.now self.old) self.old.counted (beginning_emission definition.now (world_of self.old.world) (new_of emission)))
-            (config_of definition.now self.new) }
-        ensures quiet { OnErr result ((world_of self.new.world).transcript ≡ (world_of self.old.world).transcript) }
-        ensures counted { OnOk result (Counts definition.now (λ o. same o emission.object.0) self.new) }
-    {
-        // For the proof: what is known of the numbers of handlers.
-        let _last = self.world.handlers.last();
-        self.count()?;
-        let types = definition.types();
-        let class = self.world.table.class_of(emission.object)?;
-        let Some(declared) = definition.signal(class, emission.signal) else {
-            return Err(Halt::Stuck(Arm::Code));
-        };
-        let args = emission.args.as_slice();
-        if !all_fit(&self.world.table, types, args, declared.params) {
-            return Err(Halt::Stuck(Arm::Argument));
-        }
-        let line = told_of(self.alloc, types, &emission, declared.name)?;
-        let NewEmission {
-            object,
-            signal,
-            detail,
-            args,
-            by_event,
-        } = emission;
-        let Some(planned) = definition.emission(class, object, signal, detail) else {
-            return Err(Halt::Stuck(Arm::Code));
-        };
-        self.start(planned, args, by_event, line)?;
-        Ok(())
+/// An emission that is due begins. It is counted and told of. Its arguments fit the signal.
+#[tactic(auto, unfolding(ui_machine::specs::Rules::EmissionPlan::beginning_emission))]
+pub(crate) fn begin_emission(
+    engine: &mut Engine,
+    definition: &Definition,
+    emission: NewEmission,
+) -> Result<(), Halt>
+    requires counted { Counts definition.now (λ o. in_task o (Beginning (new_of emission))) engine.now }
+    ensures step { Goes result
+        (counted (agenda_of definition.now engine.old) engine.old.counted (beginning_emission definition.now (world_of engine.old.world) (new_of emission)))
+        (config_of definition.now engine.new) }
+    ensures quiet { OnErr result ((world_of engine.new.world).transcript ≡ (world_of engine.old.world).transcript) }
+    ensures counted { OnOk result (Counts definition.now (λ o. same o emission.object.0) engine.new) }
+{
+    // For the proof: what is known of the numbers of handlers.
+    let _last = engine.world.handlers.last();
+    count(engine)?;
+    let types = definition.types();
+    let class = engine.world.table.class_of(emission.object)?;
+    let Some(declared) = definition.signal(class, emission.signal) else {
+        return Err(Halt::Stuck(Arm::Code));
+    };
+    let args = emission.args.as_slice();
+    if !all_fit(&engine.world.table, types, args, declared.params) {
+        return Err(Halt::Stuck(Arm::Argument));
     }
+    let line = emission_line(engine.alloc, types, &emission, declared.name)?;
+    let NewEmission {
+        object,
+        signal,
+        detail,
+        args,
+        by_event,
+    } = emission;
+    let Some(planned) = definition.emission(class, object, signal, detail) else {
+        return Err(Halt::Stuck(Arm::Code));
+    };
+    start_emission(engine, planned, args, by_event, line)?;
+    Ok(())
+}
 
-    // An event tells of its emission's result, if there is one.
-    fn tell(&mut self, definition: &Definition, value: Option<Value>) -> Result<(), AllocError>
-        ensures world { OnOk result (world_of self.new.world ≡ told definition.now (world_of self.old.world) true (option_map value_view value)) }
-        ensures quiet { OnErr result ((world_of self.new.world).transcript ≡ (world_of self.old.world).transcript) }
-        ensures same { (self.new.stack ≡ self.old.stack) × (self.new.counted ≡ self.old.counted) }
-        ensures handlers { self.new.world.handlers ≡ self.old.world.handlers }
-        ensures counted { OnOk result (KeepsCounts definition.now self.old self.new) }
-    {
-        let Some(value) = value else {
-            return Ok(());
-        };
-        let line = Line::Result { value: &value }.text(self.alloc, definition.types())?;
-        self.world.say(line)?;
-        self.world.result = Some(value);
-        Ok(())
-    }
+// An event tells of its emission's result, if there is one.
+fn say_result(
+    engine: &mut Engine,
+    definition: &Definition,
+    value: Option<Value>,
+) -> Result<(), AllocError>
+    ensures world { OnOk result (world_of engine.new.world ≡ told definition.now (world_of engine.old.world) true (option_map value_view value)) }
+    ensures quiet { OnErr result ((world_of engine.new.world).transcript ≡ (world_of engine.old.world).transcript) }
+    ensures same { (engine.new.stack ≡ engine.old.stack) × (engine.new.counted ≡ engine.old.counted) }
+    ensures handlers { engine.new.world.handlers ≡ engine.old.world.handlers }
+    ensures counted { OnOk result (KeepsCounts definition.now engine.old engine.new) }
+{
+    let Some(value) = value else {
+        return Ok(());
+    };
+    let line = Line::Result { value: &value }.text(engine.alloc, definition.types())?;
+    engine.world.say(line)?;
+    engine.world.result = Some(value);
+    Ok(())
+}
 
-    // The same of an emission that may not be an event's.
-    fn tell_if(
-        &mut self,
-        definition: &Definition,
-        by_event: bool,
-        value: Option<Value>,
-    ) -> Result<(), AllocError>
-        ensures world { OnOk result (world_of self.new.world ≡ told definition.now (world_of self.old.world) by_event (option_map value_view value)) }
-        ensures quiet { OnErr result ((world_of self.new.world).transcript ≡ (world_of self.old.world).transcript) }
-        ensures same { (self.new.stack ≡ self.old.stack) × (self.new.counted ≡ self.old.counted) }
-        ensures handlers { self.new.world.handlers ≡ self.old.world.handlers }
-        ensures counted { OnOk result (KeepsCounts definition.now self.old self.new) }
-    {
-        if !by_event {
-            return Ok(());
-        }
-        self.tell(definition, value)
+// The same of an emission that may not be an event's.
+fn say_result_if(
+    engine: &mut Engine,
+    definition: &Definition,
+    by_event: bool,
+    value: Option<Value>,
+) -> Result<(), AllocError>
+    ensures world { OnOk result (world_of engine.new.world ≡ told definition.now (world_of engine.old.world) by_event (option_map value_view value)) }
+    ensures quiet { OnErr result ((world_of engine.new.world).transcript ≡ (world_of engine.old.world).transcript) }
+    ensures same { (engine.new.stack ≡ engine.old.stack) × (engine.new.counted ≡ engine.old.counted) }
+    ensures handlers { engine.new.world.handlers ≡ engine.old.world.handlers }
+    ensures counted { OnOk result (KeepsCounts definition.now engine.old engine.new) }
+{
+    if !by_event {
+        return Ok(());
     }
+    say_result(engine, definition, value)
+}
 
-    // An emission ends. A program that waits for its result takes it, and what it was given is let go.
-    #[tactic(auto, unfolding(ui_machine::specs::Rules::Accumulation::ending, ui_machine::specs::Rules::Accumulation::resulting, ui_machine::specs::Rules::EmissionPlan::signal_at, ui_machine::specs::Steps::left))]
-    fn ending(
-        &mut self,
-        definition: &Definition,
-        cursor: Cursor,
-        args: Vec<Value>,
-        by_event: bool,
-    ) -> Result<(), Halt>
-        requires counted { Counts definition.now (λ o. same o cursor.object + in_emitted o (emission_of cursor args.items by_event)) self.now }
-        ensures step { Goes result
-            (left self.old.counted (ending definition.now (world_of self.old.world) (emission_of cursor args.items by_event) (agenda_of definition.now self.old)))
-            (config_of definition.now self.new) }
-        ensures quiet { OnErr result ((world_of self.new.world).transcript ≡ (world_of self.old.world).transcript) }
-        ensures counted { OnOk result (Counts definition.now (λ o. same o cursor.object) self.new) }
-    {
-        // For the proof: what is known of a definition's signals.
-        let _types = definition.types();
-        let object = cursor.object();
-        let number = cursor.signal();
-        let class = self.world.table.class_of(object)?;
-        let Some(signal) = definition.signal(class, number) else {
-            return Err(Halt::Stuck(Arm::Code));
-        };
-        let held = accumulated(&cursor);
-        let value = result_of(definition, signal.result, cursor.value());
-        self.pass_down(definition, &value)?;
-        self.tell_if(definition, by_event, value)?;
-        let_go_values(&mut self.world.table, args.as_slice());
-        let_go_any(&mut self.world.table, held);
-        Ok(())
-    }
+// An emission ends. A program that waits for its result takes it, and what it was given is let go.
+#[tactic(auto, unfolding(ui_machine::specs::Rules::Accumulation::ending, ui_machine::specs::Rules::Accumulation::resulting, ui_machine::specs::Rules::EmissionPlan::signal_at, ui_machine::specs::Steps::left))]
+fn end_emission(
+    engine: &mut Engine,
+    definition: &Definition,
+    cursor: Cursor,
+    args: Vec<Value>,
+    by_event: bool,
+) -> Result<(), Halt>
+    requires counted { Counts definition.now (λ o. same o cursor.object + in_emitted o (emission_of cursor args.items by_event)) engine.now }
+    ensures step { Goes result
+        (left engine.old.counted (ending definition.now (world_of engine.old.world) (emission_of cursor args.items by_event) (agenda_of definition.now engine.old)))
+        (config_of definition.now engine.new) }
+    ensures quiet { OnErr result ((world_of engine.new.world).transcript ≡ (world_of engine.old.world).transcript) }
+    ensures counted { OnOk result (Counts definition.now (λ o. same o cursor.object) engine.new) }
+{
+    // For the proof: what is known of a definition's signals.
+    let _types = definition.types();
+    let object = cursor.object();
+    let number = cursor.signal();
+    let class = engine.world.table.class_of(object)?;
+    let Some(signal) = definition.signal(class, number) else {
+        return Err(Halt::Stuck(Arm::Code));
+    };
+    let held = accumulated(&cursor);
+    let value = result_of(definition, signal.result, cursor.value());
+    pass_down(engine, definition, &value)?;
+    say_result_if(engine, definition, by_event, value)?;
+    let_go_values(&mut engine.world.table, args.as_slice());
+    let_go_any(&mut engine.world.table, held);
+    Ok(())
+}
 
-    // The program of a turn begins, in front of the rest of the emission.
-    fn taking(
-        &mut self,
-        definition: &Definition,
-        turn: Turn,
-        cursor: Cursor,
-        args: Vec<Value>,
-        by_event: bool,
-    ) -> Result<(), Halt>
-        requires runs { RunsProgram turn }
-        requires begun { cursor.greatest ≤ self.now.world.handlers.last }
-        requires counted { Counts definition.now (λ o. same o cursor.object + in_emitted o (emission_of cursor args.items by_event)) self.now }
-        ensures step { Goes result
-            (uncounted (Emitting (emission_of cursor args.items by_event) (entries_to_come cursor self.old.world.handlers.handlers) ∷ agenda_of definition.now self.old) self.old.counted
-            (beginning_program definition.now (world_of self.old.world) (program_of_turn turn) (given_by (emission_of cursor args.items by_event) turn)))
-            (config_of definition.now self.new) }
-        ensures quiet { OnErr result ((world_of self.new.world).transcript ≡ (world_of self.old.world).transcript) }
-        ensures counted { OnOk result (Counts definition.now (λ o. same o cursor.object) self.new) }
-    {
-        let runs = Invocation::new(turn, cursor.object());
-        let given = runs.given(self.alloc, args.as_slice())?;
-        self.push_rest(cursor, args, by_event)?;
-        self.begin_program(definition, runs.program, given)
-    }
+// The program of a turn begins, in front of the rest of the emission.
+fn take_turn(
+    engine: &mut Engine,
+    definition: &Definition,
+    turn: Turn,
+    cursor: Cursor,
+    args: Vec<Value>,
+    by_event: bool,
+) -> Result<(), Halt>
+    requires runs { RunsProgram turn }
+    requires begun { cursor.greatest ≤ engine.now.world.handlers.last }
+    requires counted { Counts definition.now (λ o. same o cursor.object + in_emitted o (emission_of cursor args.items by_event)) engine.now }
+    ensures step { Goes result
+        (uncounted (Emitting (emission_of cursor args.items by_event) (entries_to_come cursor engine.old.world.handlers.handlers) ∷ agenda_of definition.now engine.old) engine.old.counted
+        (beginning_program definition.now (world_of engine.old.world) (program_of_turn turn) (given_by (emission_of cursor args.items by_event) turn)))
+        (config_of definition.now engine.new) }
+    ensures quiet { OnErr result ((world_of engine.new.world).transcript ≡ (world_of engine.old.world).transcript) }
+    ensures counted { OnOk result (Counts definition.now (λ o. same o cursor.object) engine.new) }
+{
+    let runs = Invocation::new(turn, cursor.object());
+    let given = runs.given(engine.alloc, args.as_slice())?;
+    push_rest(engine, cursor, args, by_event)?;
+    begin_program(engine, definition, runs.program, given)
+}
 
-    /// An emission takes its next turn, or ends where there is none. What is blocked has none.
-    pub(crate) fn emitting(
-        &mut self,
-        definition: &Definition,
-        mut cursor: Cursor,
-        args: Vec<Value>,
-        by_event: bool,
-    ) -> Result<(), Halt>
-        requires begun { cursor.greatest ≤ self.now.world.handlers.last }
-        requires counted { Counts definition.now (λ o. same o cursor.object + in_emitted o (emission_of cursor args.items by_event)) self.now }
-        ensures step { Goes result
-            (act definition.now (world_of self.old.world) None
-            (come_first self.old.world.handlers.handlers (Emitting (emission_of cursor args.items by_event) (entries_to_come cursor self.old.world.handlers.handlers))
-            ∷ agenda_of definition.now self.old) self.old.counted)
-            (config_of definition.now self.new) }
-        ensures quiet { OnErr result ((world_of self.new.world).transcript ≡ (world_of self.old.world).transcript) }
-        ensures counted { OnOk result (Counts definition.now (λ o. same o cursor.object) self.new) }
-    {
-        // For the proof: what is known of the numbers of handlers.
-        let _last = self.world.handlers.last();
-        let Some(turn) = next_program(&self.world.handlers, &mut cursor) else {
-            return self.ending(definition, cursor, args, by_event);
-        };
-        self.taking(definition, turn, cursor, args, by_event)
-    }
+/// An emission takes its next turn, or ends where there is none. What is blocked has none.
+pub(crate) fn emit(
+    engine: &mut Engine,
+    definition: &Definition,
+    mut cursor: Cursor,
+    args: Vec<Value>,
+    by_event: bool,
+) -> Result<(), Halt>
+    requires begun { cursor.greatest ≤ engine.now.world.handlers.last }
+    requires counted { Counts definition.now (λ o. same o cursor.object + in_emitted o (emission_of cursor args.items by_event)) engine.now }
+    ensures step { Goes result
+        (act definition.now (world_of engine.old.world) None
+        (past_skipped_turns engine.old.world.handlers.handlers (Emitting (emission_of cursor args.items by_event) (entries_to_come cursor engine.old.world.handlers.handlers))
+        ∷ agenda_of definition.now engine.old) engine.old.counted)
+        (config_of definition.now engine.new) }
+    ensures quiet { OnErr result ((world_of engine.new.world).transcript ≡ (world_of engine.old.world).transcript) }
+    ensures counted { OnOk result (Counts definition.now (λ o. same o cursor.object) engine.new) }
+{
+    // For the proof: what is known of the numbers of handlers.
+    let _last = engine.world.handlers.last();
+    let Some(turn) = next_program(&engine.world.handlers, &mut cursor) else {
+        return end_emission(engine, definition, cursor, args, by_event);
+    };
+    take_turn(engine, definition, turn, cursor, args, by_event)
 }

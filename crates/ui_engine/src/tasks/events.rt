@@ -10,143 +10,165 @@ ghost use Rattle.ui_engine.specs.TaskView.{agenda_of};
 ghost use Rattle.ui_engine.specs.Counting.{HoldsBuilt, KeepsCounts};
 ghost use Rattle.ui_engine.specs.EngineView.{config_of};
 
+use crate::arguments::{detail_in, operands};
 use crate::builder::{BuilderEntry, set_builder_entry};
 use crate::engine::Engine;
-use crate::holding::let_go_any;
+use crate::given::{held_object, operand, settable};
 use crate::lines::Line;
 use crate::places::entry_at;
+use crate::references::{let_go_any, push_task};
 use crate::task::{NewEmission, Task};
-use crate::tasks::emission::text_of;
+use crate::tasks::emission::as_text;
+use crate::tasks::sets::spec_of;
 use builder_defs::{Definition, Event, Given};
 use ui_machine::{Arm, Halt, Place, SignalId, Slot};
 
-impl Engine {
-    // A set by an event.
-    #[tactic(auto, unfolding(ui_machine::specs::Rules::Events::set_from_event, ui_machine::specs::Rules::Events::set_given))]
-    fn set_from_event(
-        &mut self,
-        definition: &Definition,
-        place: Place,
-        slot: Slot,
-        given: Given,
-    ) -> Result<(), Halt>
-        ensures step { Goes result
-            (uncounted (agenda_of definition.now self.old) self.old.counted (set_from_event definition.now (world_of self.old.world) place.0 slot (given_view given)))
-            (config_of definition.now self.new) }
-        ensures quiet { OnErr result ((world_of self.new.world).transcript ≡ (world_of self.old.world).transcript) }
-        ensures counted { OnOk result (KeepsCounts definition.now self.old self.new) }
-    {
-        let object = self.settable(definition, place, slot)?;
-        let value = self.operand(given)?;
-        self.push(Task::Setting {
+// A set by an event.
+#[tactic(auto, unfolding(ui_machine::specs::Rules::Events::set_from_event, ui_machine::specs::Rules::Events::set_given))]
+fn set_from_event(
+    engine: &mut Engine,
+    definition: &Definition,
+    place: Place,
+    slot: Slot,
+    given: Given,
+) -> Result<(), Halt>
+    ensures step { Goes result
+        (uncounted (agenda_of definition.now engine.old) engine.old.counted (set_from_event definition.now (world_of engine.old.world) place.0 slot (given_view given)))
+        (config_of definition.now engine.new) }
+    ensures quiet { OnErr result ((world_of engine.new.world).transcript ≡ (world_of engine.old.world).transcript) }
+    ensures counted { OnOk result (KeepsCounts definition.now engine.old engine.new) }
+{
+    let object = settable(engine, definition, place, slot)?;
+    let value = operand(engine, given)?;
+    push_task(
+        engine,
+        Task::Setting {
             object,
             slot,
             value,
-        })?;
-        Ok(())
-    }
+        },
+    )?;
+    Ok(())
+}
 
-    // A get by an event.
-    #[tactic(auto, unfolding(ui_machine::specs::Rules::Events::get_from_event))]
-    fn get_from_event(
-        &mut self,
-        definition: &Definition,
-        place: Place,
-        slot: Slot,
-    ) -> Result<(), Halt>
-        ensures step { Goes result
-            (uncounted (agenda_of definition.now self.old) self.old.counted (get_from_event definition.now (world_of self.old.world) place.0 slot))
-            (config_of definition.now self.new) }
-        ensures quiet { OnErr result ((world_of self.new.world).transcript ≡ (world_of self.old.world).transcript) }
-        ensures counted { OnOk result (KeepsCounts definition.now self.old self.new) }
-    {
-        let object = self.held(place)?;
-        let spec = self.spec_of(definition, object, slot)?;
-        let value = self.world.table.read(object, slot)?;
-        if !spec.is_readable() {
-            return Err(Halt::Stuck(Arm::Flags));
-        }
-        let value = value.copied()?;
-        let told = Line::Get {
-            object,
-            property: spec.name.as_str(),
-            value: &value,
-        };
-        let line = told.text(self.alloc, definition.types())?;
-        self.world.say(line)?;
-        self.world.result = Some(value);
-        Ok(())
+// A get by an event.
+#[tactic(auto, unfolding(ui_machine::specs::Rules::Events::get_from_event))]
+fn get_from_event(
+    engine: &mut Engine,
+    definition: &Definition,
+    place: Place,
+    slot: Slot,
+) -> Result<(), Halt>
+    ensures step { Goes result
+        (uncounted (agenda_of definition.now engine.old) engine.old.counted (get_from_event definition.now (world_of engine.old.world) place.0 slot))
+        (config_of definition.now engine.new) }
+    ensures quiet { OnErr result ((world_of engine.new.world).transcript ≡ (world_of engine.old.world).transcript) }
+    ensures counted { OnOk result (KeepsCounts definition.now engine.old engine.new) }
+{
+    let object = held_object(engine, place)?;
+    let spec = spec_of(engine, definition, object, slot)?;
+    let value = engine.world.table.read(object, slot)?;
+    if !spec.is_readable() {
+        return Err(Halt::Stuck(Arm::Flags));
     }
+    let value = value.copied()?;
+    let told = Line::Get {
+        object,
+        property: spec.name.as_str(),
+        value: &value,
+    };
+    let line = told.text(engine.alloc, definition.types())?;
+    engine.world.say(line)?;
+    engine.world.result = Some(value);
+    Ok(())
+}
 
-    // An emission by an event.
-    #[tactic(auto, unfolding(ui_machine::specs::Rules::Events::emit_from_event))]
-    fn emit_from_event(
-        &mut self,
-        definition: &Definition,
-        place: Place,
-        signal: SignalId,
-        args: &[Given],
-        detail: Option<&str>,
-    ) -> Result<(), Halt>
-        ensures step { Goes result
-            (uncounted (agenda_of definition.now self.old) self.old.counted (emit_from_event definition.now (world_of self.old.world) place.0 signal (map given_view args.now) (option_map (λ text. text.now) detail.entry)))
-            (config_of definition.now self.new) }
-        ensures quiet { OnErr result ((world_of self.new.world).transcript ≡ (world_of self.old.world).transcript) }
-        ensures counted { OnOk result (KeepsCounts definition.now self.old self.new) }
-    {
-        let object = self.held(place)?;
-        let detail = self.detail_in(definition, object, signal, detail)?;
-        let args = self.operands(args)?;
-        self.push(Task::Beginning(NewEmission {
+// An emission by an event.
+#[tactic(auto, unfolding(ui_machine::specs::Rules::Events::emit_from_event))]
+fn emit_from_event(
+    engine: &mut Engine,
+    definition: &Definition,
+    place: Place,
+    signal: SignalId,
+    args: &[Given],
+    detail: Option<&str>,
+) -> Result<(), Halt>
+    ensures step { Goes result
+        (uncounted (agenda_of definition.now engine.old) engine.old.counted (emit_from_event definition.now (world_of engine.old.world) place.0 signal (map given_view args.now) (option_map (λ text. text.now) detail.entry)))
+        (config_of definition.now engine.new) }
+    ensures quiet { OnErr result ((world_of engine.new.world).transcript ≡ (world_of engine.old.world).transcript) }
+    ensures counted { OnOk result (KeepsCounts definition.now engine.old engine.new) }
+{
+    let object = held_object(engine, place)?;
+    let detail = detail_in(engine, definition, object, signal, detail)?;
+    let args = operands(engine, args)?;
+    push_task(
+        engine,
+        Task::Beginning(NewEmission {
             object,
             signal,
             detail,
             args,
             by_event: true,
-        }))?;
-        Ok(())
-    }
+        }),
+    )?;
+    Ok(())
+}
 
-    // The builder lets an object go.
-    #[tactic(auto, unfolding(ui_machine::specs::Rules::Events::release_from_event))]
-    fn release_from_event(&mut self, definition: &Definition, place: Place) -> Result<(), Halt>
-        requires holds { HoldsBuilt self.now }
-        ensures step { Goes result
-            (uncounted (agenda_of definition.now self.old) self.old.counted (release_from_event definition.now (world_of self.old.world) place.0))
-            (config_of definition.now self.new) }
-        ensures quiet { OnErr result ((world_of self.new.world).transcript ≡ (world_of self.old.world).transcript) }
-        ensures counted { OnOk result (KeepsCounts definition.now self.old self.new) }
-    {
-        let Some(entry) = entry_at(definition, place) else {
-            return Err(Halt::Stuck(Arm::Code));
-        };
-        let object = self.held(place)?;
-        let line = Line::Release { id: entry.id }.text(self.alloc, definition.types())?;
-        set_builder_entry(&mut self.world.builder, place, BuilderEntry::Released)?;
-        let_go_any(&mut self.world.table, Some(object));
-        self.world.say(line)?;
-        Ok(())
-    }
+// The builder lets an object go.
+#[tactic(auto, unfolding(ui_machine::specs::Rules::Events::release_from_event))]
+fn release_from_event(
+    engine: &mut Engine,
+    definition: &Definition,
+    place: Place,
+) -> Result<(), Halt>
+    requires holds { HoldsBuilt engine.now }
+    ensures step { Goes result
+        (uncounted (agenda_of definition.now engine.old) engine.old.counted (release_from_event definition.now (world_of engine.old.world) place.0))
+        (config_of definition.now engine.new) }
+    ensures quiet { OnErr result ((world_of engine.new.world).transcript ≡ (world_of engine.old.world).transcript) }
+    ensures counted { OnOk result (KeepsCounts definition.now engine.old engine.new) }
+{
+    let Some(entry) = entry_at(definition, place) else {
+        return Err(Halt::Stuck(Arm::Code));
+    };
+    let object = held_object(engine, place)?;
+    let line = Line::Release { id: entry.id }.text(engine.alloc, definition.types())?;
+    set_builder_entry(&mut engine.world.builder, place, BuilderEntry::Released)?;
+    let_go_any(&mut engine.world.table, Some(object));
+    engine.world.say(line)?;
+    Ok(())
+}
 
-    // What an event does.
-    pub(crate) fn handle_event(&mut self, definition: &Definition, event: Event) -> Result<(), Halt>
-        requires holds { HoldsBuilt self.now }
-        ensures step { Goes result
-            (uncounted (agenda_of definition.now self.old) self.old.counted (request_step definition.now (world_of self.old.world) (request_of event)))
-            (config_of definition.now self.new) }
-        ensures quiet { OnErr result ((world_of self.new.world).transcript ≡ (world_of self.old.world).transcript) }
-        ensures counted { OnOk result (KeepsCounts definition.now self.old self.new) }
-    {
-        match event {
-            Event::Set { place, slot, given } => self.set_from_event(definition, place, slot, given),
-            Event::Get { place, slot } => self.get_from_event(definition, place, slot),
-            Event::Emit {
-                place,
-                signal,
-                args,
-                detail,
-            } => self.emit_from_event(definition, place, signal, args.as_slice(), text_of(&detail)),
-            Event::Release { place } => self.release_from_event(definition, place),
-        }
+// What an event does.
+pub(crate) fn handle_event(
+    engine: &mut Engine,
+    definition: &Definition,
+    event: Event,
+) -> Result<(), Halt>
+    requires holds { HoldsBuilt engine.now }
+    ensures step { Goes result
+        (uncounted (agenda_of definition.now engine.old) engine.old.counted (request_step definition.now (world_of engine.old.world) (request_of event)))
+        (config_of definition.now engine.new) }
+    ensures quiet { OnErr result ((world_of engine.new.world).transcript ≡ (world_of engine.old.world).transcript) }
+    ensures counted { OnOk result (KeepsCounts definition.now engine.old engine.new) }
+{
+    match event {
+        Event::Set { place, slot, given } => set_from_event(engine, definition, place, slot, given),
+        Event::Get { place, slot } => get_from_event(engine, definition, place, slot),
+        Event::Emit {
+            place,
+            signal,
+            args,
+            detail,
+        } => emit_from_event(
+            engine,
+            definition,
+            place,
+            signal,
+            args.as_slice(),
+            as_text(&detail),
+        ),
+        Event::Release { place } => release_from_event(engine, definition, place),
     }
 }

@@ -14,43 +14,46 @@ ghost use Rattle.ui_engine.specs.TaskView.{agenda_of};
 ghost use Rattle.ui_engine.specs.Counting.{KeepsCounts};
 ghost use Rattle.ui_engine.specs.Standing.{GoneStay};
 
+use crate::dispatch::counting::count;
 use crate::engine::Engine;
 use crate::lines::Line;
 use builder_defs::Definition;
 use ui_machine::{Arm, Halt, ObjectId};
 
-impl Engine {
-    // An object that nothing holds is disposed, again if it was, and taken out. Its handlers go, and have no more turns in the emissions that
-    // go on. It is a counted step.
-    pub(crate) fn finalise(&mut self, definition: &Definition, object: ObjectId) -> Result<(), Halt>
-        requires live { IsSome (living self.now.world.table.objects object.0) }
-        requires unheld { count_of self.now.world.table.counts object.0 ≡ 0 }
-        requires knows { Knows definition.now self.now.world.weak }
-        ensures step { (rest : List Task) → Goes result
-            (counted rest self.old.counted (finalising definition.now (world_of self.old.world) object.0))
-            (record { world = world_of self.new.world; agenda = rest; counted = self.new.counted }) }
-        ensures agenda { OnOk result (agenda_of definition.now self.new ≡ map (pruned (gone_in (world_of self.new.world))) (agenda_of definition.now self.old)) }
-        ensures gone { OnOk result (GoneStay (world_of self.old.world) (world_of self.new.world)) }
-        ensures quiet { OnErr result ((world_of self.new.world).transcript ≡ (world_of self.old.world).transcript) }
-        ensures counts { OnOk result ((self.old.counted < most_steps) × (self.new.counted ≡ suc self.old.counted)) }
-        ensures same { OnOk result ((self.new.stack ≡ self.old.stack) × (self.new.world.table.floating ≡ self.old.world.table.floating)) }
-        ensures grows { OnOk result (IsPrefix (world_of self.old.world).transcript (world_of self.new.world).transcript) }
-        ensures counted { OnOk result (KeepsCounts definition.now self.old self.new) }
-    {
-        self.count()?;
-        // No peer is lent so far.
-        if self.world.table.peer_of(object).is_some() {
-            return Err(Halt::Stuck(Arm::Code));
-        }
-        let types = definition.types();
-        let disposed = Line::Dispose { object }.text(self.alloc, types)?;
-        let finalised = Line::Final { object }.text(self.alloc, types)?;
-        let is_first = !self.world.table.is_disposed(object);
-        // For the proof: what is known of the numbers of handlers.
-        let _last = self.world.handlers.last();
-        self.world.table.finalise(&self.world.weak, object);
-        self.world.handlers.disconnect_object(object);
-        self.world.say_both(is_first, disposed, finalised)?;
-        Ok(())
+// An object that nothing holds is disposed, again if it was, and taken out. Its handlers go, and have no more turns in the emissions that
+// go on. It is a counted step.
+pub(crate) fn finalise(
+    engine: &mut Engine,
+    definition: &Definition,
+    object: ObjectId,
+) -> Result<(), Halt>
+    requires live { IsSome (living engine.now.world.table.objects object.0) }
+    requires unheld { count_of engine.now.world.table.counts object.0 ≡ 0 }
+    requires knows { Knows definition.now engine.now.world.weak }
+    ensures step { (rest : List Task) → Goes result
+        (counted rest engine.old.counted (finalising definition.now (world_of engine.old.world) object.0))
+        (record { world = world_of engine.new.world; agenda = rest; counted = engine.new.counted }) }
+    ensures agenda { OnOk result (agenda_of definition.now engine.new ≡ map (pruned (gone_in (world_of engine.new.world))) (agenda_of definition.now engine.old)) }
+    ensures gone { OnOk result (GoneStay (world_of engine.old.world) (world_of engine.new.world)) }
+    ensures quiet { OnErr result ((world_of engine.new.world).transcript ≡ (world_of engine.old.world).transcript) }
+    ensures counts { OnOk result ((engine.old.counted < most_steps) × (engine.new.counted ≡ suc engine.old.counted)) }
+    ensures same { OnOk result ((engine.new.stack ≡ engine.old.stack) × (engine.new.world.table.floating ≡ engine.old.world.table.floating)) }
+    ensures grows { OnOk result (IsPrefix (world_of engine.old.world).transcript (world_of engine.new.world).transcript) }
+    ensures counted { OnOk result (KeepsCounts definition.now engine.old engine.new) }
+{
+    count(engine)?;
+    // No peer is lent so far.
+    if engine.world.table.peer_of(object).is_some() {
+        return Err(Halt::Stuck(Arm::Code));
     }
+    let types = definition.types();
+    let disposed = Line::Dispose { object }.text(engine.alloc, types)?;
+    let finalised = Line::Final { object }.text(engine.alloc, types)?;
+    let is_first = !engine.world.table.is_disposed(object);
+    // For the proof: what is known of the numbers of handlers.
+    let _last = engine.world.handlers.last();
+    engine.world.table.finalise(&engine.world.weak, object);
+    engine.world.handlers.disconnect_object(object);
+    engine.world.say_both(is_first, disposed, finalised)?;
+    Ok(())
 }

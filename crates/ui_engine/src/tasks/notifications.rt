@@ -10,70 +10,71 @@ ghost use Rattle.ui_engine.specs.TaskView.{agenda_of};
 ghost use Rattle.ui_engine.specs.Counting.{KeepsCounts};
 ghost use Rattle.ui_engine.specs.EngineView.{config_of};
 
+use crate::dispatch::counting::count;
 use crate::engine::Engine;
 use crate::lines::Line;
+use crate::references::push_task;
 use crate::task::{Slots, Task};
+use crate::tasks::emission::start_emission;
 use builder_defs::Definition;
 use ui_machine::{Arm, Halt, ObjectId, SignalId, Slot};
 
 // The number of the signal `notify`.
 const NOTIFY: SignalId = 0;
 
-impl Engine {
-    // A due notification begins. It is counted and told of.
-    #[tactic(auto, unfolding(ui_machine::specs::Rules::EmissionPlan::notifying))]
-    pub(crate) fn notifying(
-        &mut self,
-        definition: &Definition,
-        object: ObjectId,
-        slot: Slot,
-    ) -> Result<(), Halt>
-        ensures step { Goes result
-            (counted (agenda_of definition.now self.old) self.old.counted (notifying definition.now (world_of self.old.world) object.0 slot))
-            (config_of definition.now self.new) }
-        ensures quiet { OnErr result ((world_of self.new.world).transcript ≡ (world_of self.old.world).transcript) }
-        ensures counted { OnOk result (KeepsCounts definition.now self.old self.new) }
-    {
-        // For the proof: what is known of the numbers of handlers.
-        let _last = self.world.handlers.last();
-        self.count()?;
-        let class = self.world.table.class_of(object)?;
-        let Some(spec) = definition.spec(class, slot) else {
-            return Err(Halt::Stuck(Arm::Code));
-        };
-        let name = String::from_str(self.alloc, spec.name.as_str())?;
-        let Some(emission) = definition.emission(class, object, NOTIFY, Some(name)) else {
-            return Err(Halt::Stuck(Arm::Code));
-        };
-        let told = Line::Notify {
-            object,
-            property: spec.name.as_str(),
-        };
-        let line = told.text(self.alloc, definition.types())?;
-        self.start(emission, Vec::new(self.alloc), false, line)?;
-        Ok(())
-    }
+// A due notification begins. It is counted and told of.
+#[tactic(auto, unfolding(ui_machine::specs::Rules::EmissionPlan::notifying))]
+pub(crate) fn notify(
+    engine: &mut Engine,
+    definition: &Definition,
+    object: ObjectId,
+    slot: Slot,
+) -> Result<(), Halt>
+    ensures step { Goes result
+        (counted (agenda_of definition.now engine.old) engine.old.counted (notifying definition.now (world_of engine.old.world) object.0 slot))
+        (config_of definition.now engine.new) }
+    ensures quiet { OnErr result ((world_of engine.new.world).transcript ≡ (world_of engine.old.world).transcript) }
+    ensures counted { OnOk result (KeepsCounts definition.now engine.old engine.new) }
+{
+    // For the proof: what is known of the numbers of handlers.
+    let _last = engine.world.handlers.last();
+    count(engine)?;
+    let class = engine.world.table.class_of(object)?;
+    let Some(spec) = definition.spec(class, slot) else {
+        return Err(Halt::Stuck(Arm::Code));
+    };
+    let name = String::from_str(engine.alloc, spec.name.as_str())?;
+    let Some(emission) = definition.emission(class, object, NOTIFY, Some(name)) else {
+        return Err(Halt::Stuck(Arm::Code));
+    };
+    let told = Line::Notify {
+        object,
+        property: spec.name.as_str(),
+    };
+    let line = told.text(engine.alloc, definition.types())?;
+    start_emission(engine, emission, Vec::new(engine.alloc), false, line)?;
+    Ok(())
+}
 
-    // The next of the notifications that are left of a thaw.
-    pub(crate) fn thawing(
-        &mut self,
-        definition: &Definition,
-        object: ObjectId,
-        mut slots: Slots,
-    ) -> Result<(), Halt>
-        ensures step { Goes result
-            (uncounted (agenda_of definition.now self.old) self.old.counted (thawing (world_of self.old.world) object.0 slots))
-            (config_of definition.now self.new) }
-        ensures quiet { OnErr result ((world_of self.new.world).transcript ≡ (world_of self.old.world).transcript) }
-        ensures counted { OnOk result (KeepsCounts definition.now self.old self.new) }
-    {
-        // For the proof: the clauses speak of the definition.
-        let _ = definition;
-        let Some(slot) = slots.take() else {
-            return Ok(());
-        };
-        self.push(Task::Thawing { object, slots })?;
-        self.push(Task::Notifying { object, slot })?;
-        Ok(())
-    }
+// The next of the notifications that are left of a thaw.
+pub(crate) fn notify_thawed(
+    engine: &mut Engine,
+    definition: &Definition,
+    object: ObjectId,
+    mut slots: Slots,
+) -> Result<(), Halt>
+    ensures step { Goes result
+        (uncounted (agenda_of definition.now engine.old) engine.old.counted (thawing (world_of engine.old.world) object.0 slots))
+        (config_of definition.now engine.new) }
+    ensures quiet { OnErr result ((world_of engine.new.world).transcript ≡ (world_of engine.old.world).transcript) }
+    ensures counted { OnOk result (KeepsCounts definition.now engine.old engine.new) }
+{
+    // For the proof: the clauses speak of the definition.
+    let _ = definition;
+    let Some(slot) = slots.take() else {
+        return Ok(());
+    };
+    push_task(engine, Task::Thawing { object, slots })?;
+    push_task(engine, Task::Notifying { object, slot })?;
+    Ok(())
 }

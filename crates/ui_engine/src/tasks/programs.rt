@@ -18,6 +18,7 @@ ghost use Rattle.ui_engine.specs.EngineView.{config_of};
 use crate::arguments::{fits, is_of_type};
 use crate::engine::Engine;
 use crate::lines::Line;
+use crate::references::push_task;
 use crate::task::Task;
 use builder_defs::Definition;
 use g_values::Value;
@@ -85,37 +86,35 @@ fn all_fit(table: &Table, definition: &Definition, values: &[Value], kinds: &[Re
     }
 }
 
-impl Engine {
-    /// The program of a number begins before the other tasks, with these values as its parameters. Its line is said, and what its registers
-    /// name is held from then on.
-    pub(crate) fn begin_program(
-        &mut self,
-        definition: &Definition,
-        number: ProgramId,
-        args: Vec<Value>,
-    ) -> Result<(), Halt>
-        ensures step { Goes result
-            (uncounted (agenda_of definition.now self.old) self.old.counted (beginning_program definition.now (world_of self.old.world) number (map value_view args.items)))
-            (config_of definition.now self.new) }
-        ensures quiet { OnErr result ((world_of self.new.world).transcript ≡ (world_of self.old.world).transcript) }
-        ensures handlers { self.new.world.handlers ≡ self.old.world.handlers }
-        ensures counted { OnOk result (KeepsCounts definition.now self.old self.new) }
-    {
-        let Some(program) = definition.program(number) else {
-            return Err(Halt::Stuck(Arm::Code));
-        };
-        let values = args.as_slice();
-        let params = program.params.as_slice();
-        if !all_fit(&self.world.table, definition, values, params) {
-            return Err(Halt::Stuck(Arm::Parameters));
-        }
-        let run = Line::Run {
-            program: program.name.as_str(),
-        };
-        let line = run.text(self.alloc, definition.types())?;
-        let frame = Frame::new(self.alloc, number, program, args)?;
-        self.push(Task::Running(frame))?;
-        self.world.say(line)?;
-        Ok(())
+/// The program of a number begins before the other tasks, with these values as its parameters. Its line is said, and what its registers
+/// name is held from then on.
+pub(crate) fn begin_program(
+    engine: &mut Engine,
+    definition: &Definition,
+    number: ProgramId,
+    args: Vec<Value>,
+) -> Result<(), Halt>
+    ensures step { Goes result
+        (uncounted (agenda_of definition.now engine.old) engine.old.counted (beginning_program definition.now (world_of engine.old.world) number (map value_view args.items)))
+        (config_of definition.now engine.new) }
+    ensures quiet { OnErr result ((world_of engine.new.world).transcript ≡ (world_of engine.old.world).transcript) }
+    ensures handlers { engine.new.world.handlers ≡ engine.old.world.handlers }
+    ensures counted { OnOk result (KeepsCounts definition.now engine.old engine.new) }
+{
+    let Some(program) = definition.program(number) else {
+        return Err(Halt::Stuck(Arm::Code));
+    };
+    let values = args.as_slice();
+    let params = program.params.as_slice();
+    if !all_fit(&engine.world.table, definition, values, params) {
+        return Err(Halt::Stuck(Arm::Parameters));
     }
+    let run = Line::Run {
+        program: program.name.as_str(),
+    };
+    let line = run.text(engine.alloc, definition.types())?;
+    let frame = Frame::new(engine.alloc, number, program, args)?;
+    push_task(engine, Task::Running(frame))?;
+    engine.world.say(line)?;
+    Ok(())
 }

@@ -20,8 +20,8 @@ ghost use Rattle.ui_engine.specs.Counting.{KeepsCounts};
 ghost use Rattle.ui_engine.specs.EngineView.{config_of};
 
 use crate::engine::Engine;
-use crate::holding::{can_hold_named, named};
 use crate::lines::Line;
+use crate::references::{can_hold_named, named, push_task};
 use crate::task::Task;
 use builder_defs::Definition;
 use g_values::{Kind, Value, is_same};
@@ -111,162 +111,160 @@ fn without_disposed(table: &Table, spec: &Spec, value: Value) -> Value
     unless_disposed(table, value)
 }
 
-impl Engine {
-    // The spec of a living object's property.
-    #[tactic(auto, unfolding(ui_machine::specs::Rules::Sets::spec_at))]
-    pub(crate) fn spec_of<'a>(
-        &self,
-        definition: &'a Definition,
-        object: ObjectId,
-        slot: Slot,
-    ) -> Result<&'a Spec, Arm>
-        ensures spec { Shows (λ s. spec_view s.now) result (spec_at definition.now (world_of self.now.world).objects object.0 slot) }
-        ensures plain { IfOk result (λ s. IsPlain definition.now.types (spec_view s.now)) }
-    {
-        // For the proof: what is known of a definition's types.
-        let _types = definition.types();
-        let class = self.world.table.class_of(object)?;
-        let Some(spec) = definition.spec(class, slot) else {
-            return Err(Arm::Code);
-        };
-        Ok(spec)
-    }
+// The spec of a living object's property.
+#[tactic(auto, unfolding(ui_machine::specs::Rules::Sets::spec_at))]
+pub(crate) fn spec_of<'a>(
+    engine: &Engine,
+    definition: &'a Definition,
+    object: ObjectId,
+    slot: Slot,
+) -> Result<&'a Spec, Arm>
+    ensures spec { Shows (λ s. spec_view s.now) result (spec_at definition.now (world_of engine.now.world).objects object.0 slot) }
+    ensures plain { IfOk result (λ s. IsPlain definition.now.types (spec_view s.now)) }
+{
+    // For the proof: what is known of a definition's types.
+    let _types = definition.types();
+    let class = engine.world.table.class_of(object)?;
+    let Some(spec) = definition.spec(class, slot) else {
+        return Err(Arm::Code);
+    };
+    Ok(spec)
+}
 
-    // Says a line, and raises the notification of a property if it is to be told.
-    #[tactic(auto, unfolding(ui_machine::specs::Rules::Sets::raising))]
-    fn say_and_raise(
-        &mut self,
-        definition: &Definition,
-        object: ObjectId,
-        slot: Slot,
-        line: String,
-        is_told: bool,
-    ) -> Result<(), Halt>
-        ensures step { Goes result
-            (uncounted (agenda_of definition.now self.old) self.old.counted (raising_if is_told (with_line (string_bytes line) (world_of self.old.world)) object.0 slot))
-            (config_of definition.now self.new) }
-        ensures quiet { OnErr result ((world_of self.new.world).transcript ≡ (world_of self.old.world).transcript) }
-        ensures counted { OnOk result (KeepsCounts definition.now self.old self.new) }
-    {
-        // For the proof: the clauses speak of the definition.
-        let _ = definition;
-        if !is_told {
-            self.world.say(line)?;
-            return Ok(());
-        }
-        if self.world.table.add(object, slot)? {
-            self.push(Task::Notifying { object, slot })?;
-            self.world.say(line)?;
-            return Ok(());
-        }
-        self.world.say(line)?;
-        Ok(())
+// Says a line, and raises the notification of a property if it is to be told.
+#[tactic(auto, unfolding(ui_machine::specs::Rules::Sets::raising))]
+fn say_and_raise(
+    engine: &mut Engine,
+    definition: &Definition,
+    object: ObjectId,
+    slot: Slot,
+    line: String,
+    is_told: bool,
+) -> Result<(), Halt>
+    ensures step { Goes result
+        (uncounted (agenda_of definition.now engine.old) engine.old.counted (raising_if is_told (with_line (string_bytes line) (world_of engine.old.world)) object.0 slot))
+        (config_of definition.now engine.new) }
+    ensures quiet { OnErr result ((world_of engine.new.world).transcript ≡ (world_of engine.old.world).transcript) }
+    ensures counted { OnOk result (KeepsCounts definition.now engine.old engine.new) }
+{
+    // For the proof: the clauses speak of the definition.
+    let _ = definition;
+    if !is_told {
+        engine.world.say(line)?;
+        return Ok(());
     }
+    if engine.world.table.add(object, slot)? {
+        push_task(engine, Task::Notifying { object, slot })?;
+        engine.world.say(line)?;
+        return Ok(());
+    }
+    engine.world.say(line)?;
+    Ok(())
+}
 
-    // Writes a property, and answers what it was.
-    fn write(
-        &mut self,
-        definition: &Definition,
-        object: ObjectId,
-        slot: Slot,
-        value: Value,
-    ) -> Result<Value, Halt>
-        ensures changes { Follows value_view result (changed (world_of self.old.world).objects object.0 (with_value slot (value_view value))) (world_of self.new.world).objects }
-        ensures world { world_of self.new.world ≡ with_objects (world_of self.old.world) (world_of self.new.world).objects }
-        ensures same { (self.new.stack ≡ self.old.stack) × (self.new.counted ≡ self.old.counted) }
-        ensures handlers { self.new.world.handlers ≡ self.old.world.handlers }
-        ensures counted { OnOk result (KeepsCounts definition.now self.old self.new) }
-    {
-        // For the proof: the clauses speak of the definition.
-        let _ = definition;
-        if !can_hold_named(&self.world.table, &value) {
-            return Err(Halt::OutOfMemory);
-        }
-        let old = self
-            .world
-            .table
-            .write(&self.world.weak, object, slot, value)?;
-        Ok(old)
+// Writes a property, and answers what it was.
+fn write(
+    engine: &mut Engine,
+    definition: &Definition,
+    object: ObjectId,
+    slot: Slot,
+    value: Value,
+) -> Result<Value, Halt>
+    ensures changes { Follows value_view result (changed (world_of engine.old.world).objects object.0 (with_value slot (value_view value))) (world_of engine.new.world).objects }
+    ensures world { world_of engine.new.world ≡ with_objects (world_of engine.old.world) (world_of engine.new.world).objects }
+    ensures same { (engine.new.stack ≡ engine.old.stack) × (engine.new.counted ≡ engine.old.counted) }
+    ensures handlers { engine.new.world.handlers ≡ engine.old.world.handlers }
+    ensures counted { OnOk result (KeepsCounts definition.now engine.old engine.new) }
+{
+    // For the proof: the clauses speak of the definition.
+    let _ = definition;
+    if !can_hold_named(&engine.world.table, &value) {
+        return Err(Halt::OutOfMemory);
     }
+    let old = engine
+        .world
+        .table
+        .write(&engine.world.weak, object, slot, value)?;
+    Ok(old)
+}
 
-    // Writes a value and tells of it, and raises the notification.
-    #[tactic(auto, unfolding(ui_machine::specs::Rules::Sets::written))]
-    fn put(
-        &mut self,
-        definition: &Definition,
-        object: ObjectId,
-        slot: Slot,
-        spec: &Spec,
-        value: Value,
-    ) -> Result<(), Halt>
-        ensures step { Goes result
-            (uncounted (agenda_of definition.now self.old) self.old.counted (written definition.now (world_of self.old.world) object.0 slot (spec_view spec.now) (value_view value)))
-            (config_of definition.now self.new) }
-        ensures quiet { OnErr result ((world_of self.new.world).transcript ≡ (world_of self.old.world).transcript) }
-        ensures counted { OnOk result (KeepsCounts definition.now self.old self.new) }
-    {
-        let told = Line::Set {
-            object,
-            property: spec.name.as_str(),
-            value: &value,
-        };
-        let line = told.text(self.alloc, definition.types())?;
-        let old = self.write(definition, object, slot, value.copied()?)?;
-        let is_told = notifies(spec, &old, &value);
-        self.say_and_raise(definition, object, slot, line, is_told)
-    }
+// Writes a value and tells of it, and raises the notification.
+#[tactic(auto, unfolding(ui_machine::specs::Rules::Sets::written))]
+fn write_and_notify(
+    engine: &mut Engine,
+    definition: &Definition,
+    object: ObjectId,
+    slot: Slot,
+    spec: &Spec,
+    value: Value,
+) -> Result<(), Halt>
+    ensures step { Goes result
+        (uncounted (agenda_of definition.now engine.old) engine.old.counted (written definition.now (world_of engine.old.world) object.0 slot (spec_view spec.now) (value_view value)))
+        (config_of definition.now engine.new) }
+    ensures quiet { OnErr result ((world_of engine.new.world).transcript ≡ (world_of engine.old.world).transcript) }
+    ensures counted { OnOk result (KeepsCounts definition.now engine.old engine.new) }
+{
+    let told = Line::Set {
+        object,
+        property: spec.name.as_str(),
+        value: &value,
+    };
+    let line = told.text(engine.alloc, definition.types())?;
+    let old = write(engine, definition, object, slot, value.copied()?)?;
+    let is_told = notifies(spec, &old, &value);
+    say_and_raise(engine, definition, object, slot, line, is_told)
+}
 
-    // Tells of a value that the property does not take.
-    pub(crate) fn refuse(
-        &mut self,
-        definition: &Definition,
-        object: ObjectId,
-        name: &str,
-        value: &Value,
-    ) -> Result<(), AllocError>
-        ensures ok { OnOk result (world_of self.new.world ≡ said definition.now (world_of self.old.world) (lines.refused object.0 name.now (value_view value.now))) }
-        ensures err { OnErr result (world_of self.new.world ≡ world_of self.old.world) }
-        ensures counted { OnOk result (KeepsCounts definition.now self.old self.new) }
-        ensures same { (self.new.stack ≡ self.old.stack) × (self.new.counted ≡ self.old.counted) }
-        ensures handlers { self.new.world.handlers ≡ self.old.world.handlers }
-    {
-        let told = Line::Refused {
-            object,
-            property: name,
-            value,
-        };
-        let line = told.text(self.alloc, definition.types())?;
-        self.world.say(line)?;
-        Ok(())
-    }
+// Tells of a value that the property does not take.
+pub(crate) fn refuse(
+    engine: &mut Engine,
+    definition: &Definition,
+    object: ObjectId,
+    name: &str,
+    value: &Value,
+) -> Result<(), AllocError>
+    ensures ok { OnOk result (world_of engine.new.world ≡ said definition.now (world_of engine.old.world) (lines.refused object.0 name.now (value_view value.now))) }
+    ensures err { OnErr result (world_of engine.new.world ≡ world_of engine.old.world) }
+    ensures counted { OnOk result (KeepsCounts definition.now engine.old engine.new) }
+    ensures same { (engine.new.stack ≡ engine.old.stack) × (engine.new.counted ≡ engine.old.counted) }
+    ensures handlers { engine.new.world.handlers ≡ engine.old.world.handlers }
+{
+    let told = Line::Refused {
+        object,
+        property: name,
+        value,
+    };
+    let line = told.text(engine.alloc, definition.types())?;
+    engine.world.say(line)?;
+    Ok(())
+}
 
-    // A set writes the value. Where validation would change it, the set is refused with a line, unless the property is lax.
-    pub(crate) fn setting(
-        &mut self,
-        definition: &Definition,
-        object: ObjectId,
-        slot: Slot,
-        value: Value,
-    ) -> Result<(), Halt>
-        ensures step { Goes result
-            (uncounted (agenda_of definition.now self.old) self.old.counted (setting definition.now (world_of self.old.world) object.0 slot (value_view value)))
-            (config_of definition.now self.new) }
-        ensures quiet { OnErr result ((world_of self.new.world).transcript ≡ (world_of self.old.world).transcript) }
-        ensures counted { OnOk result (KeepsCounts definition.now self.old self.new) }
-    {
-        let spec = self.spec_of(definition, object, slot)?;
-        if !has_kind(&value, spec.kind) {
-            return Err(Halt::Stuck(Arm::Value));
-        }
-        let known = with_own_class(&self.world.table, value)?;
-        let original = known.copied()?;
-        let (valid, is_changed) = validate(definition.types(), spec, known);
-        if refuses(spec, is_changed) {
-            self.refuse(definition, object, spec.name.as_str(), &original)?;
-            return Ok(());
-        }
-        let without_disposed = without_disposed(&self.world.table, spec, valid);
-        self.put(definition, object, slot, spec, without_disposed)?;
-        Ok(())
+// A set writes the value. Where validation would change it, the set is refused with a line, unless the property is lax.
+pub(crate) fn validate_and_set(
+    engine: &mut Engine,
+    definition: &Definition,
+    object: ObjectId,
+    slot: Slot,
+    value: Value,
+) -> Result<(), Halt>
+    ensures step { Goes result
+        (uncounted (agenda_of definition.now engine.old) engine.old.counted (setting definition.now (world_of engine.old.world) object.0 slot (value_view value)))
+        (config_of definition.now engine.new) }
+    ensures quiet { OnErr result ((world_of engine.new.world).transcript ≡ (world_of engine.old.world).transcript) }
+    ensures counted { OnOk result (KeepsCounts definition.now engine.old engine.new) }
+{
+    let spec = spec_of(engine, definition, object, slot)?;
+    if !has_kind(&value, spec.kind) {
+        return Err(Halt::Stuck(Arm::Value));
     }
+    let known = with_own_class(&engine.world.table, value)?;
+    let original = known.copied()?;
+    let (valid, is_changed) = validate(definition.types(), spec, known);
+    if refuses(spec, is_changed) {
+        refuse(engine, definition, object, spec.name.as_str(), &original)?;
+        return Ok(());
+    }
+    let without_disposed = without_disposed(&engine.world.table, spec, valid);
+    write_and_notify(engine, definition, object, slot, spec, without_disposed)?;
+    Ok(())
 }

@@ -20,10 +20,14 @@ ghost use Rattle.ui_engine.specs.GivenView.{Finds};
 ghost use Rattle.ui_engine.specs.TaskView.{agenda_of, connects_from, signals_of, task_of};
 ghost use Rattle.ui_engine.specs.View.{world_of};
 
+use crate::arguments::detail_for;
+use crate::connections::connect_signal;
 use crate::engine::Engine;
+use crate::given::held_object;
 use crate::places::{FIRST_PLACE, entry_at, place_numbered};
+use crate::references::push_task;
 use crate::task::Task;
-use crate::tasks::emission::text_of;
+use crate::tasks::emission::as_text;
 use builder_defs::Definition;
 use signal_core::Connection;
 use ui_machine::{Arm, Halt, ObjectId, Place};
@@ -105,73 +109,80 @@ fn data_of(engine: &Engine, with: Option<Place>) -> Result<Option<ObjectId>, Arm
     let Some(place) = with else {
         return Ok(None);
     };
-    let object = engine.held(place)?;
+    let object = held_object(engine, place)?;
     Ok(Some(object))
 }
 
-impl Engine {
-    /// Whether a number is left for one more handler, beside those that the builder is still to connect.
-    pub(crate) fn has_number(&self, definition: &Definition) -> bool
-        ensures { result ≡ nat_lt (self.now.world.handlers.last + to_connect (agenda_of definition.now self.now)) greatest_handler }
-    {
-        let mut taken = self.world.handlers.last();
-        for task in &self.stack.tasks {
-            taken = task.taken_by(definition, taken);
-        }
-        taken < u64::MAX
+/// Whether a number is left for one more handler, beside those that the builder is still to connect.
+pub(crate) fn has_handler_number(engine: &Engine, definition: &Definition) -> bool
+    ensures { result ≡ nat_lt (engine.now.world.handlers.last + to_connect (agenda_of definition.now engine.now)) greatest_handler }
+{
+    let mut taken = engine.world.handlers.last();
+    for task in &engine.stack.tasks {
+        taken = task.taken_by(definition, taken);
     }
+    taken < u64::MAX
+}
 
-    // What a signal of the definition is connected with.
-    fn attached(&self, definition: &Definition, at: Position) -> Result<Connection, Halt>
-        ensures { Finds connection_of result (attached_at definition.now (world_of self.now.world) at.place.0 at.number) }
-    {
-        let Some(entry) = entry_at(definition, at.place) else {
-            return Err(Halt::Stuck(Arm::Code));
-        };
-        let Some(attached) = entry.signals.get(at.number) else {
-            return Err(Halt::Stuck(Arm::Code));
-        };
-        let object = self.held(at.place)?;
-        let data = data_of(self, attached.with)?;
-        let Some(signal) = definition.signal_number(entry.class, attached.signal.as_str()) else {
-            return Err(Halt::Stuck(Arm::Code));
-        };
-        let detail = self.detail_for(definition, entry.class, signal, text_of(&attached.detail))?;
-        Ok(Connection {
-            object,
-            signal,
-            detail,
-            program: attached.program,
-            after: attached.after,
-            swapped: attached.swapped,
-            data,
-            by_code: false,
-        })
-    }
+// What a signal of the definition is connected with.
+fn attached(engine: &Engine, definition: &Definition, at: Position) -> Result<Connection, Halt>
+    ensures { Finds connection_of result (attached_at definition.now (world_of engine.now.world) at.place.0 at.number) }
+{
+    let Some(entry) = entry_at(definition, at.place) else {
+        return Err(Halt::Stuck(Arm::Code));
+    };
+    let Some(attached) = entry.signals.get(at.number) else {
+        return Err(Halt::Stuck(Arm::Code));
+    };
+    let object = held_object(engine, at.place)?;
+    let data = data_of(engine, attached.with)?;
+    let Some(signal) = definition.signal_number(entry.class, attached.signal.as_str()) else {
+        return Err(Halt::Stuck(Arm::Code));
+    };
+    let detail = detail_for(
+        engine,
+        definition,
+        entry.class,
+        signal,
+        as_text(&attached.detail),
+    )?;
+    Ok(Connection {
+        object,
+        signal,
+        detail,
+        program: attached.program,
+        after: attached.after,
+        swapped: attached.swapped,
+        data,
+        by_code: false,
+    })
+}
 
-    /// The next signal of the definition's objects is connected, from one of an object on.
-    pub(crate) fn connecting(
-        &mut self,
-        definition: &Definition,
-        place: Place,
-        number: usize,
-    ) -> Result<(), Halt>
-        requires connects { Connects definition.now self.now }
-        ensures step { Goes result
-            (uncounted (agenda_of definition.now self.old) self.old.counted (building definition.now (world_of self.old.world) (connects_from definition.now place.0 number)))
-            (config_of definition.now self.new) }
-        ensures quiet { OnErr result ((world_of self.new.world).transcript ≡ (world_of self.old.world).transcript) }
-        ensures counted { OnOk result (KeepsCounts definition.now self.old self.new) }
-    {
-        let Some(at) = next_signal(definition, place, number) else {
-            return Ok(());
-        };
-        let connection = self.attached(definition, at)?;
-        self.push(Task::Connecting {
+/// The next signal of the definition's objects is connected, from one of an object on.
+pub(crate) fn connect_from_build(
+    engine: &mut Engine,
+    definition: &Definition,
+    place: Place,
+    number: usize,
+) -> Result<(), Halt>
+    requires connects { Connects definition.now engine.now }
+    ensures step { Goes result
+        (uncounted (agenda_of definition.now engine.old) engine.old.counted (building definition.now (world_of engine.old.world) (connects_from definition.now place.0 number)))
+        (config_of definition.now engine.new) }
+    ensures quiet { OnErr result ((world_of engine.new.world).transcript ≡ (world_of engine.old.world).transcript) }
+    ensures counted { OnOk result (KeepsCounts definition.now engine.old engine.new) }
+{
+    let Some(at) = next_signal(definition, place, number) else {
+        return Ok(());
+    };
+    let connection = attached(engine, definition, at)?;
+    push_task(
+        engine,
+        Task::Connecting {
             place: at.place,
             number: at.number + 1,
-        })?;
-        self.connect_signal(definition, connection)?;
-        Ok(())
-    }
+        },
+    )?;
+    connect_signal(engine, definition, connection)?;
+    Ok(())
 }
