@@ -5,8 +5,8 @@ use Rattle.ui_machine.specs.Definition.Places.{Bind}
 use Rattle.ui_machine.specs.State.Tasks.{binds}
 use Rattle.ui_machine.specs.Rules.Build.{made_items, forward_items, numbered, connected_items, build_items}
 use Rattle.builder_defs.specs.Meaning.{IsBasic}
-use Rattle.ui_engine.specs.declared.task.ForwardReference.{ForwardReference}
-use Rattle.ui_engine.specs.TaskView.{item_of, build_from}
+use Rattle.engine_world.specs.declared.task.ForwardReference.{ForwardReference}
+use Rattle.engine_world.specs.TaskView.{item_of, build_from}
 
 -- objects, and then forward references and signals
 pub only_objects : (d : Definition) → IsBasic d → (fs : List ForwardReference) → map item_of fs ≡ forward_items 0 d.places → build_items d ≡ build_from d 0 fs

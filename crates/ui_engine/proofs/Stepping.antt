@@ -11,24 +11,24 @@ use Rattle.ui_machine.specs.State.Config.{World, Config, sunk}
 use Rattle.ui_machine.specs.Outcome.{Stops}
 use Rattle.ui_machine.specs.State.References.{mentions, next_unheld}
 use Rattle.ui_machine.specs.Seq.{total}
-use Rattle.ui_engine.specs.Measure.{weight, waiting, work}
+use Rattle.engine_world.specs.Measure.{weight, waiting, work}
 use Rattle.ui_machine.specs.Steps.{act, sink_first_floating, counted, finalising, most_steps, first_of, step, asked_first}
 use Rattle.builder_defs.specs.Meaning.{IsBasic}
-use Rattle.ui_engine.specs.declared.task.Task as code
-use Rattle.ui_engine.specs.declared.task.Task.TheVariants as tasks
-use Rattle.ui_engine.specs.declared.task.Stack.{Stack}
-use Rattle.ui_engine.specs.declared.engine.StepKind.{StepKind}
-use Rattle.ui_engine.specs.declared.engine.StepKind.TheVariants as mades
-use Rattle.ui_engine.specs.TaskView.{task_of, tasks_of}
-use Rattle.ui_engine.specs.EngineView.{IsOfKind}
+use Rattle.engine_world.specs.declared.task.Task as code
+use Rattle.engine_world.specs.declared.task.Task.TheVariants as tasks
+use Rattle.engine_world.specs.declared.task.Stack.{Stack}
+use Rattle.engine_world.specs.declared.engine.StepKind.{StepKind}
+use Rattle.engine_world.specs.declared.engine.StepKind.TheVariants as mades
+use Rattle.engine_world.specs.TaskView.{task_of, tasks_of}
+use Rattle.engine_world.specs.EngineView.{IsOfKind}
 use Rattle.ui_machine.specs.Prefix.{IsPrefix}
 use Rattle.ui_machine.proofs.Prefixes.{prefix_by}
-use Rattle.ui_engine.specs.Standing.{Breaks, Follows, GoesWithoutGone, GoneStay, past_skipped_turns, with_first, without_gone}
+use Rattle.engine_world.specs.Standing.{Breaks, Follows, GoesWithoutGone, GoneStay, past_skipped_turns, with_first, without_gone}
 use Rattle.ui_engine.specs.Stepping.{NoneUnheld, Stepped}
-use Rattle.ui_engine.proofs.Gone.{same_stay}
+use Rattle.engine_world.proofs.Gone.{same_stay}
 use Rattle.ui_engine.proofs.Standing.{first_breaks, first_follows, last_breaks, last_follows}
-use Rattle.ui_engine.proofs.Floats.{if_ok_at, first_gone}
-use Rattle.ui_engine.proofs.Notified.{reverse-map}
+use Rattle.engine_world.proofs.Floats.{if_ok_at, first_gone}
+use Rattle.engine_world.proofs.Notified.{reverse-map}
 use Rattle.ui_engine.proofs.Acts.{Passes, acted}
 
 -- no task of the engine asks a peer

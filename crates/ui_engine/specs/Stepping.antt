@@ -8,13 +8,13 @@ use Rattle.ui_machine.specs.Steps.{most_steps}
 use Rattle.ui_machine.specs.Runs.{HasEnded, Dispatches, Halts}
 use Rattle.g_values.specs.View.{value_view}
 use Rattle.ui_engine.specs.declared.dispatch.Reply.{Reply}
-use Rattle.ui_engine.specs.declared.engine.Engine.{Engine}
-use Rattle.ui_engine.specs.TaskView.{agenda_of}
-use Rattle.ui_engine.specs.Counting.{Counts, nothing}
-use Rattle.ui_engine.specs.Measure.{work}
-use Rattle.ui_engine.specs.Standing.{Breaks, Follows}
-use Rattle.ui_engine.specs.declared.engine.StepKind.{StepKind}
-use Rattle.ui_engine.specs.declared.engine.StepKind.TheVariants as mades
+use Rattle.engine_world.specs.declared.engine.Engine.{Engine}
+use Rattle.engine_world.specs.TaskView.{agenda_of}
+use Rattle.engine_world.specs.Counting.{Counts, nothing}
+use Rattle.engine_world.specs.Measure.{work}
+use Rattle.engine_world.specs.Standing.{Breaks, Follows}
+use Rattle.engine_world.specs.declared.engine.StepKind.{StepKind}
+use Rattle.engine_world.specs.declared.engine.StepKind.TheVariants as mades
 
 -- nothing is to be finalised
 abbrev pub NoneUnheld : Definition → Config → Type 0

@@ -2,32 +2,26 @@
 
 ghost use Rattle.std.specs.Prelude.{◌≡◌, [], ◌∷◌, ◌++◌, codes, option_map, OnOk, OnErr, IfOk};
 ghost use Rattle.g_values.specs.View.{value_view};
-ghost use Rattle.ui_machine.specs.Definition as machine;
-ghost use Rattle.ui_machine.specs.Runs.{beginning, first_world};
-ghost use Rattle.ui_engine.specs.KnownHandlers.{AllTakeKnownHandlers, TakesKnownHandlers};
-ghost use Rattle.signal_core.specs.Connected.{none_connected};
-ghost use Rattle.ui_engine.specs.View.{world_of};
-ghost use Rattle.ui_engine.specs.TaskView.{task_in, agenda_of};
-ghost use Rattle.ui_engine.specs.EngineView.{config_of};
+ghost use Rattle.ui_machine.specs.Runs.{beginning};
+ghost use Rattle.engine_world.specs.KnownHandlers.{TakesKnownHandlers};
+ghost use Rattle.engine_world.specs.View.{world_of};
+ghost use Rattle.engine_world.specs.TaskView.{task_in, agenda_of};
+ghost use Rattle.engine_world.specs.EngineView.{config_of};
 ghost use Rattle.ui_machine.specs.Prefix.{IsPrefix};
-ghost use Rattle.ui_engine.specs.Counting.{KeepsCounts};
+ghost use Rattle.engine_world.specs.Counting.{KeepsCounts};
 ghost use Rattle.ui_engine.specs.Stepping.{Carried, IsAtRest};
 
-pub(crate) mod counting;
 pub(crate) mod runs;
 
 use crate::dispatch::runs::run;
-use crate::engine::Engine;
-use crate::lines::Line;
-use crate::references::push_task;
-use crate::task::{Stack, Task};
-use crate::world::World;
 use builder_defs::Definition;
+use engine_world::engine::Engine;
+use engine_world::lines::Line;
+use engine_world::references::push_task;
+use engine_world::task::Task;
 use g_values::Value;
-use instances::{Table, WeakSlots};
-use signal_core::Handlers;
-use std::alloc::{AllocError, Global};
-use ui_machine::{Halt, Limits};
+use std::alloc::AllocError;
+use ui_machine::Halt;
 
 /// What a dispatch led to.
 #[derive(Drop)]
@@ -38,32 +32,6 @@ pub struct Reply {
     pub dispatches: u32,
     /// The counted steps.
     pub steps: u64,
-}
-
-impl Engine {
-    /// Nothing is built yet, and there is nothing to do.
-    pub fn new(alloc: Global, weak: WeakSlots, limits: Limits) -> Self
-        ensures world { (d : machine.Definition) → world_of result.world ≡ first_world d [] }
-        ensures counts { result.world.table.counts ≡ [] }
-        ensures marks { result.world.weak ≡ weak }
-        ensures handlers { result.world.handlers ≡ none_connected limits.handlers 0 }
-        ensures begun { AllTakeKnownHandlers 0 result.stack }
-        ensures idle { (d : machine.Definition) → agenda_of d result ≡ [] }
-    {
-        Engine {
-            world: World {
-                table: Table::new(alloc, limits.objects),
-                weak,
-                handlers: Handlers::new(alloc, limits.handlers, 0),
-                builder: Vec::new(alloc),
-                transcript: Vec::new(alloc),
-                result: None,
-            },
-            stack: Stack::new(alloc),
-            counted: 0,
-            alloc,
-        }
-    }
 }
 
 // The task is all there is to do, and nothing of its dispatch is counted yet.

@@ -4,17 +4,17 @@ ghost use Rattle.std.specs.Prelude.{◌≡◌, [], map, string_bytes, IfOk, IfEr
 ghost use Rattle.ui_machine.specs.Runs.{beginning};
 ghost use Rattle.builder_defs.specs.Meaning.{event_of};
 ghost use Rattle.ui_machine.specs.Prefix.{IsPrefix};
-ghost use Rattle.ui_engine.specs.KnownHandlers.{TakesKnownHandlers};
-ghost use Rattle.ui_engine.specs.TaskView.{task_of};
+ghost use Rattle.engine_world.specs.KnownHandlers.{TakesKnownHandlers};
+ghost use Rattle.engine_world.specs.TaskView.{task_of};
 ghost use Rattle.ui_engine.specs.SessionView.{AnswersEvent, Comes, building, carrying_out, without_lines};
 
 use crate::dispatch::{Reply, announce, dispatch};
-use crate::engine::Engine;
-use crate::places::FIRST_PLACE;
-use crate::task::Task;
-use crate::tasks::forward_references::forward_references;
-use crate::weak_slots::weak_slots;
 use builder_defs::{Definition, Event};
+use engine_tasks::forward_references::forward_references;
+use engine_world::engine::Engine;
+use engine_world::places::FIRST_PLACE;
+use engine_world::task::Task;
+use engine_world::weak_slots::weak_slots;
 use std::alloc::Global;
 use std::marker::Model;
 use ui_machine::{Arm, Halt};
@@ -33,7 +33,7 @@ pub enum SessionFault {
 }
 
 impl From<Halt> for SessionFault {
-    ghost use Rattle.ui_engine.specs.TaskView.{task_of};
+    ghost use Rattle.engine_world.specs.TaskView.{task_of};
     ghost use Rattle.ui_engine.specs.SessionView.{fault_of};
 
     ghost from_gives = { λ halt fault. fault ≡ fault_of halt };
@@ -56,9 +56,9 @@ pub struct Session {
 
 impl Model for Session {
     ghost use Rattle.std.specs.Prelude.{◌≡◌, false, []};
-    ghost use Rattle.ui_engine.specs.TaskView.{task_of};
+    ghost use Rattle.engine_world.specs.TaskView.{task_of};
     ghost use Rattle.ui_engine.specs.SessionView.{SessionState};
-    ghost use Rattle.ui_engine.specs.View.{world_of};
+    ghost use Rattle.engine_world.specs.View.{world_of};
     ghost use Rattle.ui_engine.specs.Stepping.{IsAtRest};
 
     ghost Value = { SessionState };

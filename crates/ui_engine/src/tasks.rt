@@ -3,42 +3,27 @@
 ghost use Rattle.std.specs.Prelude.{◌≡◌, ◌∷◌, OnOk, OnErr, IfOk};
 ghost use Rattle.ui_machine.specs.State.References.{in_task};
 ghost use Rattle.ui_machine.specs.Steps.{act};
-ghost use Rattle.ui_engine.specs.KnownHandlers.{TakesKnownHandlers};
-ghost use Rattle.ui_engine.specs.View.{world_of};
-ghost use Rattle.ui_engine.specs.TaskView.{task_in, agenda_of};
-ghost use Rattle.ui_engine.specs.Counting.{Counts, in_subject};
-ghost use Rattle.ui_engine.specs.EngineView.{config_of, IsOfKind};
-ghost use Rattle.ui_engine.specs.Standing.{GoesWithoutGone, past_skipped_turns};
+ghost use Rattle.engine_world.specs.KnownHandlers.{TakesKnownHandlers};
+ghost use Rattle.engine_world.specs.View.{world_of};
+ghost use Rattle.engine_world.specs.TaskView.{task_in, agenda_of};
+ghost use Rattle.engine_world.specs.Counting.{Counts, in_subject};
+ghost use Rattle.engine_world.specs.EngineView.{config_of, IsOfKind};
+ghost use Rattle.engine_world.specs.Standing.{GoesWithoutGone, past_skipped_turns};
 
-pub(crate) mod accumulation;
-pub(crate) mod builds;
-pub(crate) mod children;
-pub(crate) mod construct_steps;
-pub(crate) mod emission;
-pub(crate) mod events;
-pub(crate) mod finalisation;
-pub(crate) mod forward_references;
-pub(crate) mod notifications;
-pub(crate) mod program_steps;
-pub(crate) mod programs;
-pub(crate) mod sets;
-pub(crate) mod signals;
-pub(crate) mod turns;
-
-use crate::engine::{Engine, StepKind};
-use crate::task::Task;
-use crate::tasks::builds::{build, construct};
-use crate::tasks::children::adopt_from_build;
-use crate::tasks::emission::{begin_emission, emit};
-use crate::tasks::events::handle_event;
-use crate::tasks::notifications::{notify, notify_thawed};
-use crate::tasks::program_steps::run_program;
-use crate::tasks::sets::validate_and_set;
-use crate::tasks::signals::connect_from_build;
+use crate::program_steps::run_program;
 use builder_defs::Definition;
+use engine_tasks::builds::{build, construct};
+use engine_tasks::children::adopt_from_build;
+use engine_tasks::emission::{begin_emission, emit};
+use engine_tasks::events::handle_event;
+use engine_tasks::notifications::{notify, notify_thawed};
+use engine_tasks::sets::validate_and_set;
+use engine_tasks::signals::connect_from_build;
+use engine_world::engine::{Engine, StepKind};
+use engine_world::task::Task;
 use ui_machine::Halt;
 
-// Does what a task says, and answers whether that was counted. An emission passes over what is blocked.
+/// Does what a task says, and answers whether that was counted. An emission passes over what is blocked.
 pub(crate) fn act(
     engine: &mut Engine,
     definition: &Definition,

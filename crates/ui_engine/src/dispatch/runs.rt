@@ -1,18 +1,18 @@
 //! Runs: steps until nothing is left to do.
 
 ghost use Rattle.std.specs.Prelude.{◌≡◌, [], Ok, OnOk};
-ghost use Rattle.ui_engine.specs.Counting.{Counts, nothing};
-ghost use Rattle.ui_engine.specs.View.{world_of};
-ghost use Rattle.ui_engine.specs.TaskView.{agenda_of};
-ghost use Rattle.ui_engine.specs.EngineView.{config_of};
+ghost use Rattle.engine_world.specs.Counting.{Counts, nothing};
+ghost use Rattle.engine_world.specs.View.{world_of};
+ghost use Rattle.engine_world.specs.TaskView.{agenda_of};
+ghost use Rattle.engine_world.specs.EngineView.{config_of};
 ghost use Rattle.ui_machine.specs.Prefix.{IsPrefix};
 ghost use Rattle.ui_engine.specs.Stepping.{NoneUnheld, Stepped, Advanced, Ran};
 
-use crate::engine::{Engine, StepKind};
-use crate::references::let_go_any;
 use crate::tasks::act;
-use crate::tasks::finalisation::finalise;
 use builder_defs::Definition;
+use engine_tasks::finalisation::finalise;
+use engine_world::engine::{Engine, StepKind};
+use engine_world::references::let_go_any;
 use ui_machine::Halt;
 
 // What has floated longest, if something floats, floats no longer, where nothing else is left to do.

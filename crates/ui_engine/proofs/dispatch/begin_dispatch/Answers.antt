@@ -1,9 +1,9 @@
 use Rattle.std.proofs.Common.{List, ◌∷◌, refl, sym, subst, ap, ◌∙◌}
 use Rattle.ui_machine.specs.State.Tasks.{Task}
-use Rattle.ui_engine.specs.TaskView.{task_in}
+use Rattle.engine_world.specs.TaskView.{task_in}
 use Rattle.std.proofs.Common.{map}
-use Rattle.ui_engine.specs.View.{held_of}
-use Rattle.ui_engine.proofs.Counts.{Exact, keeps_on, keeps_by}
+use Rattle.engine_world.specs.View.{held_of}
+use Rattle.engine_world.proofs.Counts.{Exact, keeps_on, keeps_by}
 use Rattle.ui_engine.proofs.dispatch.begin_dispatch.Goals as goal
 
 pub returns-clause-ok : goal.returns-clause-ok

@@ -2,16 +2,16 @@ use Rattle.std.proofs.Common.{[], ◌∷◌, ◌++◌, refl, sym, ap, subst, ◌
 use Rattle.std.proofs.lemmas.Result.{err_from_is_err_and}
 use Rattle.ui_machine.specs.State.Config.{World, Config}
 use Rattle.ui_machine.specs.Runs.{Reaches, beginning}
-use Rattle.ui_engine.specs.View.{world_of}
-use Rattle.ui_engine.specs.TaskView.{task_in, tasks_of}
+use Rattle.engine_world.specs.View.{world_of}
+use Rattle.engine_world.specs.TaskView.{task_in, tasks_of}
 use Rattle.signal_core.specs.Connected.{Connected}
-use Rattle.ui_engine.specs.EngineView.{config_of}
-use Rattle.ui_engine.specs.Counting.{nothing}
-use Rattle.ui_engine.proofs.Counts.{keeps_said}
+use Rattle.engine_world.specs.EngineView.{config_of}
+use Rattle.engine_world.specs.Counting.{nothing}
+use Rattle.engine_world.proofs.Counts.{keeps_said}
 use Rattle.ui_machine.proofs.Prefixes.{prefix_by, prefix_on}
 use Rattle.ui_engine.proofs.Reaching.{reaches_here}
 use Rattle.ui_engine.proofs.Standing.{breaks_there, ends_there, halts_from}
-use Rattle.ui_engine.proofs.Whole.{engine_whole}
+use Rattle.engine_instructions.proofs.Whole.{engine_whole}
 use Rattle.ui_engine.proofs.dispatch.dispatch.Goals as goal
 
 pub returns-in_err-begin_dispatch-clause-carried : goal.returns-in_err-begin_dispatch-clause-carried

@@ -1,6 +1,6 @@
 use Rattle.std.proofs.Common.{Ok, refl}
-use Rattle.ui_engine.proofs.Counts.{done_plain}
-use Rattle.ui_engine.proofs.Whole.{goes_whole}
+use Rattle.engine_world.proofs.Counts.{done_plain}
+use Rattle.engine_instructions.proofs.Whole.{goes_whole}
 use Rattle.ui_engine.proofs.tasks.act.Goals as goal
 
 pub returns-in-Setting-clause-counted : goal.returns-in-Setting-clause-counted

@@ -1,7 +1,7 @@
 use Rattle.std.proofs.Common.{Ok, refl, ◌∙◌, subst, sym}
 use Rattle.std.proofs.lemmas.Result.{err_from_is_err_and}
-use Rattle.ui_engine.specs.declared.engine.StepKind.{StepKind}
-use Rattle.ui_engine.specs.EngineView.{config_of}
+use Rattle.engine_world.specs.declared.engine.StepKind.{StepKind}
+use Rattle.engine_world.specs.EngineView.{config_of}
 use Rattle.ui_engine.specs.Stepping.{Stepped}
 use Rattle.ui_machine.specs.Steps.{most_steps}
 use Rattle.std.specs.Prelude.{◌<◌}

@@ -1,10 +1,10 @@
 use Rattle.std.proofs.Common.{◌≡◌}
-use Rattle.ui_engine.specs.View.{world_of}
-use Rattle.ui_engine.specs.EngineView.{config_of}
+use Rattle.engine_world.specs.View.{world_of}
+use Rattle.engine_world.specs.EngineView.{config_of}
 use Rattle.ui_machine.specs.Prefix.{IsPrefix}
-use Rattle.ui_engine.specs.Counting.{Counts, nothing}
-use Rattle.ui_engine.specs.Measure.{work}
-use Rattle.ui_engine.specs.Standing.{Follows}
+use Rattle.engine_world.specs.Counting.{Counts, nothing}
+use Rattle.engine_world.specs.Measure.{work}
+use Rattle.engine_world.specs.Standing.{Follows}
 use Rattle.ui_engine.proofs.dispatch.runs.advance.Given as goal
 
 abbrev pub invariant-loop : goal.invariant-loop

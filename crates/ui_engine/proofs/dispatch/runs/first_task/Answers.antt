@@ -1,13 +1,13 @@
 use Rattle.std.proofs.Common.{Ok, Err, ◌∙◌, refl, sym, subst, arith}
 use Rattle.std.proofs.lemmas.Result.{err_from_is_err_and}
 use Rattle.ui_machine.specs.State.Config.{Config}
-use Rattle.ui_engine.specs.Counting.{in_subject}
+use Rattle.engine_world.specs.Counting.{in_subject}
 use Rattle.std.proofs.Common.{List}
 use Rattle.ui_machine.specs.State.Tasks.{Task}
 use Rattle.ui_engine.specs.Stepping.{NoneUnheld, Stepped}
-use Rattle.ui_engine.specs.TaskView.{task_in}
-use Rattle.ui_engine.specs.EngineView.{config_of}
-use Rattle.ui_engine.proofs.Counts.{config_same, taken_off, given_back, same_tasks}
+use Rattle.engine_world.specs.TaskView.{task_in}
+use Rattle.engine_world.specs.EngineView.{config_of}
+use Rattle.engine_world.proofs.Counts.{config_same, taken_off, given_back, same_tasks}
 use Rattle.ui_engine.proofs.Stepping.{first_stepped, first_grows}
 use Rattle.ui_engine.proofs.dispatch.runs.first_task.Goals as goal
 

@@ -1,6 +1,6 @@
 use Rattle.std.proofs.Common.{Bool, Ok, subst}
 use Rattle.std.proofs.lemmas.Result.{err_from_is_err_and}
-use Rattle.ui_engine.specs.EngineView.{config_of}
+use Rattle.engine_world.specs.EngineView.{config_of}
 use Rattle.ui_engine.specs.Stepping.{Advanced}
 use Rattle.ui_machine.proofs.Prefixes.{prefix_on, prefix_same}
 use Rattle.ui_engine.proofs.Standing.{breaks_on, follows_here, follows_on}

@@ -1,11 +1,11 @@
 use Rattle.std.proofs.Common.{refl, ap, map, sym, ◌∙◌}
 use Rattle.instances.specs.Store.{Store, id_of}
-use Rattle.ui_engine.specs.View.{held_of}
-use Rattle.ui_engine.specs.TaskView.{agenda_of}
-use Rattle.ui_engine.specs.EngineView.{config_of}
-use Rattle.ui_engine.specs.Counting.{nothing}
-use Rattle.ui_engine.proofs.Counts.{keeps_by, sunk_exact, with_table, stays}
-use Rattle.ui_engine.proofs.Floats.{floats_first}
+use Rattle.engine_world.specs.View.{held_of}
+use Rattle.engine_world.specs.TaskView.{agenda_of}
+use Rattle.engine_world.specs.EngineView.{config_of}
+use Rattle.engine_world.specs.Counting.{nothing}
+use Rattle.engine_world.proofs.Counts.{keeps_by, sunk_exact, with_table, stays}
+use Rattle.engine_world.proofs.Floats.{floats_first}
 use Rattle.ui_engine.proofs.Stepping.{settle_stepped}
 use Rattle.ui_engine.proofs.dispatch.runs.sink_first_floating.Goals as goal
 

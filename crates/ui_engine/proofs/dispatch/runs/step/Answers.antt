@@ -3,11 +3,11 @@ use Rattle.std.proofs.lemmas.Result.{err_from_is_err_and}
 use Rattle.ui_machine.specs.State.References.{mentions, next_unheld}
 use Rattle.ui_machine.specs.State.Tasks.{Task}
 use Rattle.instances.specs.Store.{id_of, count_of}
-use Rattle.ui_engine.specs.Counting.{nothing}
-use Rattle.ui_engine.specs.EngineView.{config_of}
-use Rattle.ui_engine.specs.TaskView.{agenda_of}
-use Rattle.ui_engine.specs.View.{world_of}
-use Rattle.ui_engine.proofs.Counts.{finds_mentioned}
+use Rattle.engine_world.specs.Counting.{nothing}
+use Rattle.engine_world.specs.EngineView.{config_of}
+use Rattle.engine_world.specs.TaskView.{agenda_of}
+use Rattle.engine_world.specs.View.{world_of}
+use Rattle.engine_world.proofs.Counts.{finds_mentioned}
 use Rattle.ui_engine.proofs.Stepping.{finalise_stepped, finalise_breaks}
 use Rattle.ui_engine.proofs.dispatch.runs.step.Goals as goal
 

@@ -1,15 +1,15 @@
 use Rattle.signal_core.specs.Connected.{Connected}
-use Rattle.ui_engine.specs.Counting.{Connects}
-use Rattle.ui_engine.specs.KnownHandlers.{AllTakeKnownHandlers}
+use Rattle.engine_world.specs.Counting.{Connects}
+use Rattle.engine_world.specs.KnownHandlers.{AllTakeKnownHandlers}
 use Rattle.std.proofs.Common.{[], ap, subst, sym, ◌∙◌}
 use Rattle.ui_machine.specs.State.Config.{Config, said}
 use Rattle.ui_machine.specs.State.Tasks.{Building}
 use Rattle.ui_machine.specs.Output.Lines as lines
 use Rattle.ui_machine.specs.Runs.{beginning, first_world}
-use Rattle.ui_engine.specs.declared.engine.Engine.{Engine}
-use Rattle.ui_engine.specs.TaskView.{agenda_of}
-use Rattle.ui_engine.proofs.Counts.{none_counted}
-use Rattle.ui_engine.specs.TaskView.{build_from}
+use Rattle.engine_world.specs.declared.engine.Engine.{Engine}
+use Rattle.engine_world.specs.TaskView.{agenda_of}
+use Rattle.engine_world.proofs.Counts.{none_counted}
+use Rattle.engine_world.specs.TaskView.{build_from}
 use Rattle.ui_engine.specs.SessionView.{Comes, carrying_out}
 use Rattle.ui_engine.proofs.Beginning.{only_objects}
 use Rattle.ui_engine.proofs.session.Session.start.Goals as goal
