@@ -32,34 +32,34 @@ use Rattle.ui_machine.specs.Rules.Events.{set_from_event, get_from_event, emit_f
 use Rattle.g_values.specs.View.{value_view}
 use Rattle.definition_format.specs.declared.events.Event.{Event}
 use Rattle.definition_format.specs.declared.events.Event.TheVariants as events
-use Rattle.builder_defs.specs.Meaning.{IsBasic, given_view, is_object, object_count, request_of}
-use Rattle.ui_engine.specs.declared.task.Task.TheVariants as tasks
-use Rattle.ui_engine.specs.declared.task.Task as code
-use Rattle.ui_engine.specs.declared.task.Forward.{Forward}
-use Rattle.ui_engine.specs.GivenView.{detail_of}
-use Rattle.ui_engine.specs.TaskView.{task_of, new_of, emission_of, entries_to_come, item_of, build_from, build_end, build_behind, connects_from, signals_of}
-use Rattle.handler_code.specs.FrameView.{frame_view}
+use Rattle.definition_format.specs.Meaning.{IsBasic, given_view, is_object, object_count, request_of}
+use Rattle.engine_world.specs.declared.task.Task.TheVariants as tasks
+use Rattle.engine_world.specs.declared.task.Task as code
+use Rattle.engine_world.specs.declared.task.ForwardReference.{ForwardReference}
+use Rattle.engine_world.specs.GivenView.{detail_of}
+use Rattle.engine_world.specs.TaskView.{task_of, new_of, emission_of, entries_to_come, item_of, build_from, build_end, build_behind, connects_from, signals_of}
+use Rattle.frames.specs.FrameView.{frame_view}
 use Rattle.ui_machine.specs.Instructions.{running}
 use Rattle.ui_machine.specs.Instructions.Registers.{with_register}
-use Rattle.ui_engine.proofs.Gone.{same_stay}
+use Rattle.engine_world.proofs.Gone.{same_stay}
 use Rattle.signal_core.specs.Laws.{entries_left, is_passed_over}
 use Rattle.ui_machine.specs.State.Bindings.{Binding, binding_of}
 use Rattle.ui_machine.specs.State.Handlers.{Handler, handler_of}
-use Rattle.ui_engine.specs.EngineView.{is_counted}
-use Rattle.ui_engine.specs.Standing.{GoneStay, come_first}
+use Rattle.engine_world.specs.EngineView.{is_counted}
+use Rattle.engine_world.specs.Standing.{GoneStay, past_skipped_turns}
 use Rattle.ui_machine.specs.Prefix.{IsPrefix}
 use Rattle.ui_machine.proofs.Prefixes.{prefix_same, prefix_one}
 use Rattle.machine_laws.proofs.KeptProofs.{KeepsGone, connected_kept, running_grows, running_kept}
-use Rattle.ui_engine.specs.Measure.{sets_of_place, weight, waiting_in, waiting}
-use Rattle.ui_engine.specs.MakingView.{making_of_object}
-use Rattle.ui_engine.proofs.Lists.{total-append}
-use Rattle.ui_engine.proofs.Floats.{Quietly, if_ok_at, bind_ok, one_floats, without_less}
+use Rattle.engine_world.specs.Measure.{sets_of_place, weight, waiting_in, waiting}
+use Rattle.engine_world.specs.MakingView.{making_of_object}
+use Rattle.engine_world.proofs.Lists.{total-append}
+use Rattle.engine_world.proofs.Floats.{Quietly, if_ok_at, bind_ok, one_floats, without_less}
 use Rattle.ui_engine.proofs.Quiet.{Calm, notifying_calm, beginning_calm, carrying_emit_calm, setting_calm, building_forward_calm, carrying_set_calm, carrying_get_calm, carrying_release_calm, thawing_calm}
 use Rattle.ui_engine.proofs.Falls.{Falls, setting_falls, thawing_falls, thawing_made_falls, building_forward_falls, carrying_set_falls, carrying_get_falls, carrying_emit_falls, carrying_release_falls}
 use Rattle.ui_engine.proofs.Joining.{Joins, adopted_joins}
-use Rattle.ui_engine.proofs.Signals.{FirstConnects, connected_first, numbered_first}
-use Rattle.ui_engine.proofs.Prototypes.{past_objects}
-use Rattle.ui_engine.proofs.Building.{few_steps, few_early, only_forwards, builds_next, next_made, made_there, abstract_there}
+use Rattle.engine_world.proofs.Signals.{FirstConnects, connected_first, numbered_first}
+use Rattle.engine_world.proofs.Prototypes.{past_objects}
+use Rattle.engine_world.proofs.Building.{few_steps, few_early, only_forwards, builds_next, next_made, made_there, abstract_there}
 
 -- what the step of a task leads to
 pub record Passes (d : Definition) (w : World) (t : Task) (rest : List Task) (n : ℕ) (e : Config) : Type 0 where
@@ -453,7 +453,7 @@ module _ (d : Definition) (w : World) (rest : List Task) (n : ℕ) where
   signals_pass (config.binds number ∷ items) first = absurd first
 
   -- a forward reference is set, or else a signal is connected
-  forward_passes : (fs : List Forward) → IfOk (uncounted rest n (building d w (build_end d fs))) (Passes d w (Building (build_end d fs)) rest n)
+  forward_passes : (fs : List ForwardReference) → IfOk (uncounted rest n (building d w (build_end d fs))) (Passes d w (Building (build_end d fs)) rest n)
   forward_passes [] = signals_pass (connected_items 0 d.places) (connected_first 0 d.places)
   forward_passes (f ∷ fs) =
       steadily (Building (item_of f ∷ build_end d fs)) refl (building_forward d w f.object.0 f.slot f.to.0 (build_end d fs))
@@ -482,7 +482,7 @@ module _ (d : Definition) (w : World) (rest : List Task) (n : ℕ) where
         gone = same_stay w _ joins.handlers joins.last;
       }
 
-  module _ (basic : IsBasic d) (place : ℕ) (fs : List Forward) where
+  module _ (basic : IsBasic d) (place : ℕ) (fs : List ForwardReference) where
     abbrev P : Config → Type 0
     P = Passes d w (Building (build_from d place fs)) rest n
 
@@ -523,13 +523,13 @@ module _ (d : Definition) (w : World) (rest : List Task) (n : ℕ) where
 
   -- what the step of each task of the engine leads to
   pub acted : IsBasic d → (hs : List Handler) → hs ≡ w.handlers → (t : code.Task) (ts : List code.Task) → map (task_of d hs) ts ≡ rest
-      → IfOk (act d w None (come_first hs (task_of d hs t) ∷ rest) n) (Passes d w (task_of d hs t) rest n)
+      → IfOk (act d w None (past_skipped_turns hs (task_of d hs t) ∷ rest) n) (Passes d w (task_of d hs t) rest n)
   acted basic hs own (tasks.Setting id slot v) ts same = setting_passes id.0 slot (value_view v)
   acted basic hs own (tasks.Notifying id slot) ts same = notifying_passes id.0 slot
   acted basic hs own (tasks.Beginning e) ts same = beginning_passes (new_of e)
   acted basic hs own (tasks.Emitting cursor args by_event) ts same =
       let e = emission_of cursor args.items by_event in
-      subst (λ (all : List Handler). IfOk (act d w None (come_first all (Emitting e (entries_to_come cursor hs)) ∷ rest) n) (Passes d w (Emitting e (entries_to_come cursor hs)) rest n)) (sym own)
+      subst (λ (all : List Handler). IfOk (act d w None (past_skipped_turns all (Emitting e (entries_to_come cursor hs)) ∷ rest) n) (Passes d w (Emitting e (entries_to_come cursor hs)) rest n)) (sym own)
       (weaker (act d w None (Emitting e (entries_left w.handlers (entries_to_come cursor hs)) ∷ rest) n) (λ c p. first_passes e (entries_to_come cursor hs) c p)
       (emitting_passes e (entries_left w.handlers (entries_to_come cursor hs))))
     where

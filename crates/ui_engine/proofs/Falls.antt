@@ -24,8 +24,8 @@ use Rattle.ui_machine.specs.Rules.Construction.{thawing_made, given_value}
 use Rattle.ui_machine.specs.Rules.Build.{held_object, set_forward, building_forward}
 use Rattle.ui_machine.specs.Rules.Events.{with_result, set_from_event, get_from_event, emit_from_event, release_from_event, given_values, set_given}
 use Rattle.ui_machine.specs.Rules.Connections.{detail_in}
-use Rattle.ui_engine.specs.Measure.{item_weight, weight, waiting_in, waiting}
-use Rattle.ui_engine.proofs.Floats.{if_ok_at, bind_ok}
+use Rattle.engine_world.specs.Measure.{item_weight, weight, waiting_in, waiting}
+use Rattle.engine_world.proofs.Floats.{if_ok_at, bind_ok}
 
 -- ** what waits, after one object changed
 

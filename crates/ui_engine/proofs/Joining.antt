@@ -10,9 +10,9 @@ use Rattle.ui_machine.specs.Seq.{read}
 use Rattle.ui_machine.specs.State.Config.{World, said}
 use Rattle.ui_machine.specs.State.Objects.{Object, Objects, object_at}
 use Rattle.ui_machine.proofs.Prefixes.{prefix_one}
-use Rattle.instances.proofs.BuilderEntry.{total_put}
-use Rattle.ui_engine.specs.Measure.{waiting, waiting_in}
-use Rattle.ui_engine.proofs.Floats.{bind_ok, without_less}
+use Rattle.instances.proofs.Held.{total_put}
+use Rattle.engine_world.specs.Measure.{waiting, waiting_in}
+use Rattle.engine_world.proofs.Floats.{bind_ok, without_less}
 
 pub record Joins (w new : World) : Type 0 where
   pub waits : waiting new.objects ≡ waiting w.objects

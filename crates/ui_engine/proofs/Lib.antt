@@ -1,60 +1,9 @@
-pub mod Lists
-pub mod Objects
-pub mod Floats
-pub mod Quiet
-pub mod Strings
-pub mod Falls
-pub mod Joining
-pub mod Kin
-pub mod SpecAt
-pub mod PlainSets
-pub mod Left
-pub mod Marks
-pub mod Finalising
-pub mod Counts
-pub mod Notified
-pub mod Parts
-pub mod Turns
-pub mod TurnStages
-pub mod TurnTaking
-pub mod Details
-pub mod Values
-pub mod Emits
-pub mod Registers
-pub mod Programs
-pub mod ProgramStarts
-pub mod KnownCode
-pub mod Jumping
-pub mod Operands
-pub mod Starting
-pub mod Properties
-pub mod ObjectSteps
-pub mod Adopting
-pub mod Pushed
-pub mod Disposing
-pub mod Emitted
-pub mod Built
-pub mod Gone
-pub mod SameTurns
-pub mod Connections
-pub mod Stops
-pub mod Signals
-pub mod Rooms
-pub mod HandlerAdded
-pub mod ConnectSteps
-pub mod Collecting
-pub mod Returning
-pub mod Calling
-pub mod Whole
-pub mod Reaching
-pub mod Standing
-pub mod Acts
-pub mod Prototypes
-pub mod Building
-pub mod MakingSteps
-pub mod ConstructedRuns
-pub mod Stepping
-pub mod Beginning
-pub mod Serving
-pub mod Forwarded
-pub mod Creating
+mod Quiet
+mod Falls
+mod Joining
+mod Reaching
+mod Standing
+mod Acts
+mod Stepping
+mod Beginning
+mod Serving

@@ -24,7 +24,7 @@ use Rattle.ui_machine.specs.Rules.Construction.{given_value}
 use Rattle.ui_machine.specs.Rules.Events.{with_result, set_from_event, get_from_event, emit_from_event, release_from_event, given_values, set_given}
 use Rattle.ui_machine.specs.Rules.Build.{held_object, set_forward, building_forward}
 use Rattle.ui_machine.proofs.Prefixes.{prefix_same, prefix_one}
-use Rattle.ui_engine.proofs.Floats.{Quietly, quietly_on, bind_ok}
+use Rattle.engine_world.proofs.Floats.{Quietly, quietly_on, bind_ok}
 
 -- a part of a step that keeps what floats
 abbrev pub Calm : World → Started → Type 0

@@ -8,7 +8,7 @@ use Rattle.ui_machine.specs.State.Config.{World}
 use Rattle.ui_machine.specs.State.Tasks as config
 use Rattle.ui_machine.specs.State.Tasks.{Handling, Request}
 use Rattle.definition_format.specs.declared.events.Event as code
-use Rattle.builder_defs.specs.Meaning.{request_of, event_of}
+use Rattle.definition_format.specs.Meaning.{request_of, event_of}
 use Rattle.ui_engine.specs.declared.dispatch.Reply.{Reply}
 use Rattle.ui_engine.specs.declared.session.SessionFault.{SessionFault}
 use Rattle.ui_engine.specs.declared.session.SessionFault.TheVariants as faults

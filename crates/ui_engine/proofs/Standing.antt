@@ -17,9 +17,9 @@ use Rattle.machine_laws.specs.FrontLaws.{mapped}
 use Rattle.machine_laws.specs.GoneLaws.{gone_in, is_next, pruned, pruned_at}
 use Rattle.machine_laws.proofs.GoneProofs.{given_are_gone, pruned_again, question_does_without, step_does_without, unheld_as}
 use Rattle.signal_core.specs.Laws.{entries_left, is_passed_over}
-use Rattle.ui_engine.specs.Standing.{Arrives, Breaks, Follows, GoneStay, with_first, without_gone}
+use Rattle.engine_world.specs.Standing.{Arrives, Breaks, Follows, GoneStay, with_first, without_gone}
 use Rattle.ui_engine.specs.Stepping.{NoneUnheld}
-use Rattle.ui_engine.proofs.Gone.{first_stands, with_first_stays}
+use Rattle.engine_world.proofs.Gone.{first_stands, with_first_stays}
 use Rattle.ui_engine.proofs.Reaching.{halts_on, reaches_here, reaches_on, reaches_once}
 
 -- a configuration whose first task is past the turns that are passed over

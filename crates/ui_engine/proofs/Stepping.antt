@@ -11,24 +11,24 @@ use Rattle.ui_machine.specs.State.Config.{World, Config, sunk}
 use Rattle.ui_machine.specs.Outcome.{Stops}
 use Rattle.ui_machine.specs.State.References.{mentions, next_unheld}
 use Rattle.ui_machine.specs.Seq.{total}
-use Rattle.ui_engine.specs.Measure.{weight, waiting, work}
+use Rattle.engine_world.specs.Measure.{weight, waiting, work}
 use Rattle.ui_machine.specs.Steps.{act, sink_first_floating, counted, finalising, most_steps, first_of, step, asked_first}
-use Rattle.builder_defs.specs.Meaning.{IsBasic}
-use Rattle.ui_engine.specs.declared.task.Task as code
-use Rattle.ui_engine.specs.declared.task.Task.TheVariants as tasks
-use Rattle.ui_engine.specs.declared.task.Stack.{Stack}
-use Rattle.ui_engine.specs.declared.engine.Made.{Made}
-use Rattle.ui_engine.specs.declared.engine.Made.TheVariants as mades
-use Rattle.ui_engine.specs.TaskView.{task_of, tasks_of}
-use Rattle.ui_engine.specs.EngineView.{IsMade}
+use Rattle.definition_format.specs.Meaning.{IsBasic}
+use Rattle.engine_world.specs.declared.task.Task as code
+use Rattle.engine_world.specs.declared.task.Task.TheVariants as tasks
+use Rattle.engine_world.specs.declared.task.Stack.{Stack}
+use Rattle.engine_world.specs.declared.engine.StepKind.{StepKind}
+use Rattle.engine_world.specs.declared.engine.StepKind.TheVariants as mades
+use Rattle.engine_world.specs.TaskView.{task_of, tasks_of}
+use Rattle.engine_world.specs.EngineView.{IsOfKind}
 use Rattle.ui_machine.specs.Prefix.{IsPrefix}
 use Rattle.ui_machine.proofs.Prefixes.{prefix_by}
-use Rattle.ui_engine.specs.Standing.{Breaks, Follows, GoesPruned, GoneStay, come_first, with_first, without_gone}
+use Rattle.engine_world.specs.Standing.{Breaks, Follows, GoesWithoutGone, GoneStay, past_skipped_turns, with_first, without_gone}
 use Rattle.ui_engine.specs.Stepping.{NoneUnheld, Stepped}
-use Rattle.ui_engine.proofs.Gone.{same_stay}
+use Rattle.engine_world.proofs.Gone.{same_stay}
 use Rattle.ui_engine.proofs.Standing.{first_breaks, first_follows, last_breaks, last_follows}
-use Rattle.ui_engine.proofs.Floats.{if_ok_at, first_gone}
-use Rattle.ui_engine.proofs.Notified.{reverse-map}
+use Rattle.engine_world.proofs.Floats.{if_ok_at, first_gone}
+use Rattle.engine_world.proofs.Notified.{reverse-map}
 use Rattle.ui_engine.proofs.Acts.{Passes, acted}
 
 -- no task of the engine asks a peer
@@ -76,27 +76,27 @@ pruned_weighs d gone (task ∷ ts) = let rest = pruned_weighs d gone ts in omega
 
 module _ (d : Definition) (basic : IsBasic d) (hs : List Handler) (c e : Config) (own : hs ≡ c.world.handlers) (none : NoneUnheld d c) (task : code.Task) (s : Stack)
     (first : c.agenda ≡ task_of d hs task ∷ tasks_of d hs s) where
-  acts : act d c.world None (with_first c.world.handlers c.agenda) c.counted ≡ act d c.world None (come_first hs (task_of d hs task) ∷ tasks_of d hs s) c.counted
+  acts : act d c.world None (with_first c.world.handlers c.agenda) c.counted ≡ act d c.world None (past_skipped_turns hs (task_of d hs task) ∷ tasks_of d hs s) c.counted
   acts =
       ap (λ (ts : List Task). act d c.world None (with_first c.world.handlers ts) c.counted) first
-      ∙ ap (λ (all : List Handler). act d c.world None (come_first all (task_of d hs task) ∷ tasks_of d hs s) c.counted) (sym own)
+      ∙ ap (λ (all : List Handler). act d c.world None (past_skipped_turns all (task_of d hs task) ∷ tasks_of d hs s) c.counted) (sym own)
 
   asks : asked_first c.world c.agenda ≡ None
   asks = ap (λ (ts : List Task). asked_first c.world ts) first ∙ asks_none d hs c.world task (tasks_of d hs s)
 
-  passes : (x : Config) → act d c.world None (come_first hs (task_of d hs task) ∷ tasks_of d hs s) c.counted ≡ Ok x → Passes d c.world (task_of d hs task) (tasks_of d hs s) c.counted x
+  passes : (x : Config) → act d c.world None (past_skipped_turns hs (task_of d hs task) ∷ tasks_of d hs s) c.counted ≡ Ok x → Passes d c.world (task_of d hs task) (tasks_of d hs s) c.counted x
   passes x is =
-      if_ok_at (Passes d c.world (task_of d hs task) (tasks_of d hs s) c.counted) (act d c.world None (come_first hs (task_of d hs task) ∷ tasks_of d hs s) c.counted) x
+      if_ok_at (Passes d c.world (task_of d hs task) (tasks_of d hs s) c.counted) (act d c.world None (past_skipped_turns hs (task_of d hs task) ∷ tasks_of d hs s) c.counted) x
       (acted d c.world (tasks_of d hs s) c.counted basic hs own task (reverse s.tasks.items) (sym (reverse-map (task_of d hs) s.tasks.items))) is
 
-  follows : (x : Config) → act d c.world None (come_first hs (task_of d hs task) ∷ tasks_of d hs s) c.counted ≡ Ok x → without_gone x ≡ e → Follows d c e
+  follows : (x : Config) → act d c.world None (past_skipped_turns hs (task_of d hs task) ∷ tasks_of d hs s) c.counted ≡ Ok x → without_gone x ≡ e → Follows d c e
   follows x is shows = first_follows d c none x e asks (acts ∙ is) (passes x is).gone shows
 
   -- without the turns of handlers that are gone there is no more to do
   less : (x : Config) → without_gone x ≡ e → work d e ≤ work d x
   less x shows = subst (λ (y : Config). work d y ≤ work d x) shows (let fewer = pruned_weighs d (gone_in x.world) x.agenda in omega (arith, fewer))
 
-  pub first_stepped : (result : Result Made Halt) → GoesPruned result (act d c.world None (come_first hs (task_of d hs task) ∷ tasks_of d hs s) c.counted) e → IfOk result (λ made. IsMade made (task_of d hs task)) → OnErr result (e.world.transcript ≡ c.world.transcript) → Stepped result d c e
+  pub first_stepped : (result : Result StepKind Halt) → GoesWithoutGone result (act d c.world None (past_skipped_turns hs (task_of d hs task) ∷ tasks_of d hs s) c.counted) e → IfOk result (λ made. IsOfKind made (task_of d hs task)) → OnErr result (e.world.transcript ≡ c.world.transcript) → Stepped result d c e
   first_stepped (Ok mades.Nothing) goes made quiet = absurd made
   first_stepped (Ok mades.Uncounted) goes made quiet =
       let p = passes goes.0 goes.1 in
@@ -109,7 +109,7 @@ module _ (d : Definition) (basic : IsBasic d) (hs : List Handler) (c e : Config)
       (follows goes.0 goes.1 goes.2, (p.counts made).0, sym now ∙ (p.counts made).1)
   first_stepped (Err halt) goes made quiet = first_breaks d c none halt e.world.transcript asks (subst (Stops halt) (sym acts) goes) quiet
 
-  pub first_grows : (result : Result Made Halt) → GoesPruned result (act d c.world None (come_first hs (task_of d hs task) ∷ tasks_of d hs s) c.counted) e → OnErr result (e.world.transcript ≡ c.world.transcript) → IsPrefix c.world.transcript e.world.transcript
+  pub first_grows : (result : Result StepKind Halt) → GoesWithoutGone result (act d c.world None (past_skipped_turns hs (task_of d hs task) ∷ tasks_of d hs s) c.counted) e → OnErr result (e.world.transcript ≡ c.world.transcript) → IsPrefix c.world.transcript e.world.transcript
   first_grows (Ok made) goes quiet = subst (λ (y : Config). IsPrefix c.world.transcript y.world.transcript) goes.2 (passes goes.0 goes.1).grows
   first_grows (Err halt) goes quiet = prefix_by quiet
 

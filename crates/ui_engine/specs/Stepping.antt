@@ -8,13 +8,13 @@ use Rattle.ui_machine.specs.Steps.{most_steps}
 use Rattle.ui_machine.specs.Runs.{HasEnded, Dispatches, Halts}
 use Rattle.g_values.specs.View.{value_view}
 use Rattle.ui_engine.specs.declared.dispatch.Reply.{Reply}
-use Rattle.ui_engine.specs.declared.engine.Engine.{Engine}
-use Rattle.ui_engine.specs.TaskView.{agenda_of}
-use Rattle.ui_engine.specs.Counting.{Counts, nothing}
-use Rattle.ui_engine.specs.Measure.{work}
-use Rattle.ui_engine.specs.Standing.{Breaks, Follows}
-use Rattle.ui_engine.specs.declared.engine.Made.{Made}
-use Rattle.ui_engine.specs.declared.engine.Made.TheVariants as mades
+use Rattle.engine_world.specs.declared.engine.Engine.{Engine}
+use Rattle.engine_world.specs.TaskView.{agenda_of}
+use Rattle.engine_world.specs.Counting.{Counts, nothing}
+use Rattle.engine_world.specs.Measure.{work}
+use Rattle.engine_world.specs.Standing.{Breaks, Follows}
+use Rattle.engine_world.specs.declared.engine.StepKind.{StepKind}
+use Rattle.engine_world.specs.declared.engine.StepKind.TheVariants as mades
 
 -- nothing is to be finalised
 abbrev pub NoneUnheld : Definition → Config → Type 0
@@ -27,7 +27,7 @@ pub record IsAtRest (d : Definition) (e : Engine) : Type 0 where
 
 -- One step: an uncounted one leaves less work, and a counted one was still to be had. It is one of the machine's, behind those by which an
 -- emission passes over turns.
-abbrev pub Stepped : Result Made Halt → Definition → Config → Config → Type 0
+abbrev pub Stepped : Result StepKind Halt → Definition → Config → Config → Type 0
 Stepped (Ok mades.Nothing) d c e = HasEnded d c × (e ≡ c)
 Stepped (Ok mades.Uncounted) d c e = Follows d c e × (work d e < work d c) × (e.counted ≡ c.counted)
 Stepped (Ok mades.Counted) d c e = Follows d c e × (c.counted < most_steps) × (e.counted ≡ suc c.counted)

@@ -4,23 +4,10 @@
 //! run of it.
 #![tactic(auto)]
 
-mod arguments;
-mod builder;
-mod connecting;
 mod dispatch;
-mod engine;
-mod frames;
-mod given;
-mod holding;
-mod instructions;
-mod lines;
-mod places;
-mod refusals;
+mod program_steps;
 mod session;
-mod task;
 mod tasks;
-mod weak_slots;
-mod world;
 
 pub use dispatch::Reply;
 pub use session::{Finished, Refused, Session, SessionFault, StartFault, Started};

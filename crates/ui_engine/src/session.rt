@@ -2,19 +2,20 @@
 
 ghost use Rattle.std.specs.Prelude.{◌≡◌, [], map, string_bytes, IfOk, IfErr, false};
 ghost use Rattle.ui_machine.specs.Runs.{beginning};
-ghost use Rattle.builder_defs.specs.Meaning.{event_of};
+ghost use Rattle.definition_format.specs.Meaning.{event_of};
 ghost use Rattle.ui_machine.specs.Prefix.{IsPrefix};
-ghost use Rattle.ui_engine.specs.BegunView.{HasBegun};
-ghost use Rattle.ui_engine.specs.TaskView.{task_of};
+ghost use Rattle.engine_world.specs.KnownHandlers.{TakesKnownHandlers};
+ghost use Rattle.engine_world.specs.TaskView.{task_of};
 ghost use Rattle.ui_engine.specs.SessionView.{AnswersEvent, Comes, building, carrying_out, without_lines};
 
-use crate::dispatch::Reply;
-use crate::engine::Engine;
-use crate::places::FIRST_PLACE;
-use crate::task::Task;
-use crate::tasks::forwards::forwards;
-use crate::weak_slots::weak_slots;
-use builder_defs::{Definition, Event};
+use crate::dispatch::{Reply, announce, dispatch};
+use definition_format::Event;
+use definitions::Definition;
+use engine_tasks::forward_references::forward_references;
+use engine_world::engine::Engine;
+use engine_world::places::FIRST_PLACE;
+use engine_world::task::Task;
+use engine_world::weak_slots::weak_slots;
 use std::alloc::Global;
 use std::marker::Model;
 use ui_machine::{Arm, Halt};
@@ -33,7 +34,7 @@ pub enum SessionFault {
 }
 
 impl From<Halt> for SessionFault {
-    ghost use Rattle.ui_engine.specs.TaskView.{task_of};
+    ghost use Rattle.engine_world.specs.TaskView.{task_of};
     ghost use Rattle.ui_engine.specs.SessionView.{fault_of};
 
     ghost from_gives = { λ halt fault. fault ≡ fault_of halt };
@@ -56,9 +57,9 @@ pub struct Session {
 
 impl Model for Session {
     ghost use Rattle.std.specs.Prelude.{◌≡◌, false, []};
-    ghost use Rattle.ui_engine.specs.TaskView.{task_of};
+    ghost use Rattle.engine_world.specs.TaskView.{task_of};
     ghost use Rattle.ui_engine.specs.SessionView.{SessionState};
-    ghost use Rattle.ui_engine.specs.View.{world_of};
+    ghost use Rattle.engine_world.specs.View.{world_of};
     ghost use Rattle.ui_engine.specs.Stepping.{IsAtRest};
 
     ghost Value = { SessionState };
@@ -110,13 +111,13 @@ impl Session {
             });
         };
         let mut engine = Engine::new(alloc, weak, definition.limits());
-        let Ok(()) = engine.announce() else {
+        let Ok(()) = announce(&mut engine) else {
             return Err(Refused {
                 fault: StartFault::OutOfMemory,
                 definition,
             });
         };
-        let Ok(forwards) = forwards(alloc, &definition) else {
+        let Ok(forwards) = forward_references(alloc, &definition) else {
             return Err(Refused {
                 fault: StartFault::OutOfMemory,
                 definition,
@@ -127,7 +128,7 @@ impl Session {
             engine,
             stopped: false,
         };
-        let build = session.carry_out(Task::Building {
+        let build = session.run_task(Task::Building {
             place: FIRST_PLACE,
             forwards,
         });
@@ -146,17 +147,17 @@ impl Session {
         if self.engine.world.names_released(&event) {
             return Err(SessionFault::Released);
         }
-        self.carry_out(Task::Handling(event))
+        self.run_task(Task::Handling(event))
     }
 
     // Carries out a task with all that it leads to. Where that halts the session stops.
-    fn carry_out(&mut self, task: Task) -> Result<Reply, SessionFault>
+    fn run_task(&mut self, task: Task) -> Result<Reply, SessionFault>
         requires goes_on { self.now.stopped ≡ false }
-        requires begun { HasBegun self.now.world.last_handler task }
+        requires begun { TakesKnownHandlers self.now.world.last_handler task }
         ensures comes { Comes result (carrying_out self.old.definition (beginning self.old.world (task_of self.old.definition self.old.world.handlers task))) self.old.definition self.new }
         ensures grows { IsPrefix self.old.world.transcript self.new.world.transcript }
     {
-        match self.engine.dispatch(&self.definition, task) {
+        match dispatch(&mut self.engine, &self.definition, task) {
             Ok(reply) => return Ok(reply),
             Err(halt) => {
                 self.stopped = true;

@@ -1,0 +1,208 @@
+-- What an emission collects of its programs, and where else a program's result goes.
+use Rattle.std.proofs.Common.{◌≡◌, ◌≤◌, ◌∙◌, refl, sym, ap, subst, ℕ, ◌+◌, Bool, true, false, cond, List, [], ◌∷◌, Option, None, Some, Result, Ok, Err, arith}
+use Rattle.std.specs.Prelude.{OnOk}
+use Rattle.ui_machine.specs.declared.arm.Arm.{Arm}
+use Rattle.ui_machine.specs.declared.arm.Arm.TheVariants as arms
+use Rattle.ui_machine.specs.declared.arm.Halt.{Halt}
+use Rattle.ui_machine.specs.Definition.{Definition}
+use Rattle.ui_machine.specs.Definition.Signals.{Accumulator, Signal}
+use Rattle.ui_machine.specs.Definition.Values.{Value}
+use Rattle.ui_machine.specs.Outcome.{Answer, Goes, known, only_if, ◌>>=◌}
+use Rattle.ui_machine.specs.Rules.Accumulation.{accumulated, collecting, down_to_emission, entries_after, given_down, is_last, left_by_stop, suits}
+use Rattle.ui_machine.specs.Rules.Accumulation as machine
+use Rattle.ui_machine.specs.Rules.EmissionPlan.{signal_at, signal_of}
+use Rattle.ui_machine.specs.Rules.Transform.{kind_fits}
+use Rattle.ui_machine.specs.Seq.{total}
+use Rattle.ui_machine.specs.State.Config.{Left, World, leaves}
+use Rattle.ui_machine.specs.State.Handlers.{Handler}
+use Rattle.ui_machine.specs.State.Objects.{Object, asked, class_in, living}
+use Rattle.ui_machine.specs.State.References.{in_emission, in_object, in_register, in_task, in_value, same}
+use Rattle.ui_machine.specs.State.Tasks.{Emission, Emitting, PlanEntry, Task}
+use Rattle.g_values.specs.declared.value.Value as values
+use Rattle.instances.specs.Store.{Store, count_of}
+use Rattle.signal_core.specs.Emission.{Walk, is_over, stopped}
+use Rattle.engine_world.specs.KnownHandlers.{AllTakeKnownHandlers}
+use Rattle.engine_instructions.specs.CollectView.{TestsNone, collects, gives_none}
+use Rattle.engine_world.specs.Counting.{Counts, OnlyCounts}
+use Rattle.engine_world.specs.TaskView.{agenda_of, emission_of, entries_to_come, task_of, tasks_of}
+use Rattle.engine_world.specs.declared.engine.Engine.{Engine}
+use Rattle.engine_world.specs.declared.task.Stack.{Stack}
+use Rattle.engine_world.specs.declared.task.Task as code
+use Rattle.engine_world.specs.declared.task.Task.TheVariants as tasks
+use Rattle.engine_world.proofs.Counts.{restacked}
+use Rattle.engine_instructions.proofs.StoppedEmissions.{IsOther, stop_leaves, stop_same, turns_alike}
+use Rattle.engine_world.proofs.SameTurns.{entries}
+
+-- ** what an emission takes
+
+module _ (w : Walk) (hs : List Handler) (args : List values.Value) (by_event : Bool) where
+  abbrev own : Emission
+  own = emission_of w args by_event
+
+  abbrev left : List PlanEntry
+  left = entries_to_come w hs
+
+  abbrev rest_of : Walk → Task
+  rest_of u = Emitting (emission_of u args by_event) (entries_to_come u hs)
+
+  module _ (v : Value) where
+    abbrev with_it : Walk
+    with_it = record w { value = Some v }
+
+    same_left : left ≡ entries_to_come with_it hs
+    same_left = sym (ap entries (turns_alike w hs w.stage w.stage (Some v)))
+
+    -- before its cleanup stage it takes a value, which may stop it
+    takes : (last : Bool) → Emitting (record own { value = Some v }) (entries_after last own left) ≡ rest_of (cond last (stopped with_it) with_it)
+    takes false = ap (Emitting (emission_of with_it args by_event)) same_left
+    takes true =
+        ap (λ (es : List PlanEntry). Emitting (emission_of with_it args by_event) (left_by_stop own es)) same_left
+        ∙ ap (Emitting (emission_of with_it args by_event)) (stop_leaves with_it hs args by_event)
+        ∙ ap (λ (e : Emission). Emitting e (entries_to_come (stopped with_it) hs)) (stop_same with_it hs args by_event)
+
+    takes_by : (over last : Bool) → cond over (Emitting own left) (Emitting (record own { value = Some v }) (entries_after last own left)) ≡ rest_of (cond over w (cond last (stopped with_it) with_it))
+    takes_by true last = refl
+    takes_by false last = takes last
+
+  -- what code leaves is the machine's
+  pub collected_as : (s : Signal) (given : Option Value) → machine.collected s own left given ≡ rest_of (collects s.accumulator given w)
+  collected_as s None = refl
+  collected_as s (Some v) = takes_by v (is_over w.stage) (is_last s.accumulator v)
+
+  -- it is an emission by the same object
+  pub collects_object : (a : Option Accumulator) (given : Option Value) → (collects a given w).object ≡ w.object
+  collects_object a None = refl
+  collects_object a (Some v) = by (is_over w.stage) (is_last a v)
+    where
+      by : (over last : Bool) → (cond over w (cond last (stopped (record w { value = Some v })) (record w { value = Some v }))).object ≡ w.object
+      by true last = refl
+      by false true = refl
+      by false false = refl
+
+-- and it takes no handler that it did not take before
+pub still_begun : (last : ℕ) (w : Walk) (a : Option Accumulator) (given : Option Value) (new : Walk) → new ≡ collects a given w → w.greatest ≤ last → new.greatest ≤ last
+still_begun last w a given new is h = subst (λ (u : Walk). u.greatest ≤ last) (sym is) (rw (same_bound given) h)
+  where
+    by : (v : Value) (over last : Bool) → (cond over w (cond last (stopped (record w { value = Some v })) (record w { value = Some v }))).greatest ≡ w.greatest
+    by v true last = refl
+    by v false true = refl
+    by v false false = refl
+
+    same_bound : (given : Option Value) → (collects a given w).greatest ≡ w.greatest
+    same_bound None = refl
+    same_bound (Some v) = by v (is_over w.stage) (is_last a v)
+
+-- ** by the signal
+
+module _ (d : Definition) (w : World) (e : Emission) (entries : List PlanEntry) (rest : List Task) (given : Option Value) where
+  abbrev take_by : Signal → Answer Task
+  take_by s = only_if (suits (kind_fits (class_in w.objects) d.types) given s.result) arms.Result (Ok (machine.collected s e entries given))
+
+  abbrev take : ℕ → Answer Task
+  take class = known arms.Code (signal_of d class e.signal) >>= take_by
+
+  abbrev leave : Answer Task → Answer Left
+  leave a = a >>= λ task. leaves w (task ∷ rest)
+
+  down_by : (r : Answer ℕ) → asked w.objects e.object (λ o. Ok o.class) ≡ r → down_to_emission d w e entries rest given ≡ leave (r >>= take)
+  unfolding asked collecting down_to_emission signal_at
+  down_by r h = ap leave (by (living w.objects e.object) ∙ ap (λ (a : Answer ℕ). a >>= take) h)
+    where
+      by : (o : Option Object) → (known arms.Operand o >>= λ x. take x.class) ≡ ((known arms.Operand o >>= λ x. Ok x.class) >>= take)
+      by None = refl
+      by (Some x) = refl
+
+  pub collect_unheard : (arm : Arm) → asked w.objects e.object (λ o. Ok o.class) ≡ Err arm → down_to_emission d w e entries rest given ≡ Err arm
+  collect_unheard arm h = down_by (Err arm) h
+
+  module _ (class : ℕ) (of : asked w.objects e.object (λ o. Ok o.class) ≡ Ok class) where
+    pub collect_unknown : signal_of d class e.signal ≡ None → down_to_emission d w e entries rest given ≡ Err arms.Code
+    collect_unknown none = down_by (Ok class) of ∙ ap (λ (s : Option Signal). leave (known arms.Code s >>= take_by)) none
+
+    module _ (s : Signal) (some : signal_of d class e.signal ≡ Some s) where
+      collect_by : (fits : Bool) → suits (kind_fits (class_in w.objects) d.types) given s.result ≡ fits
+          → down_to_emission d w e entries rest given ≡ leave (only_if fits arms.Result (Ok (machine.collected s e entries given)))
+      collect_by fits is =
+          down_by (Ok class) of ∙ ap (λ (s : Option Signal). leave (known arms.Code s >>= take_by)) some
+          ∙ ap (λ b. leave (only_if b arms.Result (Ok (machine.collected s e entries given)))) is
+
+      pub collect_unsuited : suits (kind_fits (class_in w.objects) d.types) given s.result ≡ false → down_to_emission d w e entries rest given ≡ Err arms.Result
+      collect_unsuited is = collect_by false is
+
+      pub collect_suited : suits (kind_fits (class_in w.objects) d.types) given s.result ≡ true
+          → down_to_emission d w e entries rest given ≡ leaves w (machine.collected s e entries given ∷ rest)
+      collect_suited is = collect_by true is
+
+-- ** to other tasks
+
+pub gives_last : (d : Definition) (w : World) (given : Option Value) → given_down d w [] given ≡ gives_none w [] given
+gives_last d w None = refl
+gives_last d w (Some v) = refl
+
+module _ (d : Definition) (hs : List Handler) (w : World) (rest : List Task) where
+  abbrev GivesNone : code.Task → Option Value → Type 0
+  GivesNone t given = given_down d w (task_of d hs t ∷ rest) given ≡ gives_none w (task_of d hs t ∷ rest) given
+
+  -- a task that is no emission's is given nothing
+  pub gives_other : (t : code.Task) (given : Option Value) → IsOther t → GivesNone t given
+  gives_other (tasks.Emitting cursor args by_event) given other = absurd other
+  gives_other (tasks.Setting id slot x) None other = refl
+  gives_other (tasks.Setting id slot x) (Some v) other = refl
+  gives_other (tasks.Notifying id slot) None other = refl
+  gives_other (tasks.Notifying id slot) (Some v) other = refl
+  gives_other (tasks.Beginning e) None other = refl
+  gives_other (tasks.Beginning e) (Some v) other = refl
+  gives_other (tasks.Running frame) None other = refl
+  gives_other (tasks.Running frame) (Some v) other = refl
+  gives_other (tasks.Thawing id slots) None other = refl
+  gives_other (tasks.Thawing id slots) (Some v) other = refl
+  gives_other (tasks.Constructing id steps held) None other = refl
+  gives_other (tasks.Constructing id steps held) (Some v) other = refl
+  gives_other (tasks.Building place forwards) None other = refl
+  gives_other (tasks.Building place forwards) (Some v) other = refl
+  gives_other (tasks.Adopting place forwards) None other = refl
+  gives_other (tasks.Adopting place forwards) (Some v) other = refl
+  gives_other (tasks.Connecting place number) None other = refl
+  gives_other (tasks.Connecting place number) (Some v) other = refl
+  gives_other (tasks.Handling event) None other = refl
+  gives_other (tasks.Handling event) (Some v) other = refl
+
+-- code that tests that nothing is given, above the same tasks
+pub goes_none : (d : Definition) (w : World) (r : Result (Unit {0}) Halt) (given : Option Value) (old new tasks : List Task) → TestsNone r given → old ≡ tasks → new ≡ tasks
+    → given_down d w tasks given ≡ gives_none w tasks given → Goes r (given_down d w old given) (record { world = w; agenda = new })
+goes_none d w r given old new tasks tests first back is = rw (first, back, is) (tests w tasks)
+
+-- ** counts
+
+-- an emission that goes on with what it has collected
+pub collected_counts : (d : Definition) (e : Engine) (t : Store) (s : Stack) (taken : ℕ → ℕ) (old new : Emission) (entries : List PlanEntry) → OnlyCounts e.world.table t
+    → ((o : ℕ) → count_of t.counts o + in_register o old.value ≡ count_of e.world.table.counts o + in_register o new.value)
+    → new.object ≡ old.object → new.args ≡ old.args
+    → tasks_of d e.world.handlers.handlers s ≡ Emitting new entries ∷ agenda_of d e
+    → (AllTakeKnownHandlers e.world.handlers.last e.stack → AllTakeKnownHandlers e.world.handlers.last s) → Counts d (λ o. taken o + in_emission o old) e → Counts d taken (record e { world = record e.world { table = t }; stack = s })
+collected_counts d e t s taken old new entries only counts object args first begun h = record {
+  knows = h.knows;
+  connects = record { most = h.connects.most; to_come = h.connects.to_come; begun = begun h.connects.begun };
+  exact = λ o.
+      let objects : total (in_object d o) t.objects ≡ total (in_object d o) e.world.table.objects = ap (total (in_object d o)) only.objects in
+      let floats : total (same o) t.floating ≡ total (same o) e.world.table.floating = ap (total (same o)) only.floating in
+      omega (arith, objects, floats, counts o, ap (λ (ts : List Task). total (in_task o) ts) first, ap (same o) object, ap (total (in_value o)) args, h.exact o);
+}
+
+-- what no memory or no result leaves as it is
+pub on_any : {P : Type 0} (r : Result (Unit {0}) Halt) → P → OnOk r P
+on_any (Ok x) p = p
+on_any (Err e) p = tt
+
+-- the same world and the same tasks
+pub leaves_as : (w v : World) (ts us : List Task) → w ≡ v → ts ≡ us → leaves w ts ≡ leaves v us
+leaves_as w v ts us world agenda = rw (world, agenda) refl
+
+-- what an emission that was taken off is counted for
+pub popped_emission : (d : Definition) (e : Engine) (s : Stack) (taken : ℕ → ℕ) (m : Emission) (entries : List PlanEntry) → agenda_of d e ≡ Emitting m entries ∷ tasks_of d e.world.handlers.handlers s
+    → ((last : ℕ) → AllTakeKnownHandlers last e.stack → AllTakeKnownHandlers last s) → Counts d taken e → Counts d (λ o. taken o + in_emission o m) (record e { stack = s })
+popped_emission d e s taken m entries first begun h = record {
+  knows = h.knows;
+  connects = restacked d e s begun h.connects;
+  exact = λ o. omega (arith, h.exact o, ap (λ (ts : List Task). total (in_task o) ts) first);
+}

@@ -1,0 +1,109 @@
+-- How an object is disposed where there are no peers.
+use Rattle.std.proofs.Common.{◌≡◌, ◌∙◌, refl, sym, ap, subst, ℕ, Bool, true, false, List, [], ◌∷◌, ◌++◌, map, Option, Some, None, is_some, Result, Ok, Err, arith}
+use Rattle.std.specs.Prelude.{OnOk}
+use Rattle.ui_machine.specs.declared.arm.Arm.TheVariants as arms
+use Rattle.ui_machine.specs.declared.arm.Halt.{Halt}
+use Rattle.ui_machine.specs.declared.arm.Halt.TheVariants as halts
+use Rattle.ui_machine.specs.Definition.{Definition}
+use Rattle.ui_machine.specs.Instructions.{in_front}
+use Rattle.ui_machine.specs.Instructions.Objects.{disposing}
+use Rattle.ui_machine.specs.Instructions.Registers.{operand_in}
+use Rattle.ui_machine.specs.Outcome.{Goes, Stops}
+use Rattle.ui_machine.specs.Output.Lines as lines
+use Rattle.ui_machine.specs.Output.Text.{text_of_line}
+use Rattle.ui_machine.specs.Rules.Disposal.{closing, disposed, is_first, objects_disposed, peer_of, said_if}
+use Rattle.ui_machine.specs.Rules.Disposal as disposal
+use Rattle.ui_machine.specs.Rules.Sets.{is_disposed}
+use Rattle.ui_machine.specs.Seq.{total}
+use Rattle.ui_machine.specs.State.Config.{World}
+use Rattle.ui_machine.specs.State.Objects.{living}
+use Rattle.ui_machine.specs.State.References.{in_task}
+use Rattle.ui_machine.specs.State.Tasks.{Frame, Running, Task}
+use Rattle.ui_machine.specs.Steps.{left}
+use Rattle.instances.specs.Release.{Disposes}
+use Rattle.instances.specs.Store.{Store}
+use Rattle.instances.specs.Weak.{Knows}
+use Rattle.instances.proofs.Disposed.{dispose_exact}
+use Rattle.signal_core.specs.Connected.{Connected, without_object}
+use Rattle.machine_laws.specs.GoneLaws.{gone_in, pruned}
+use Rattle.machine_laws.proofs.GoneProofs.{hold_as}
+use Rattle.engine_world.specs.Counting.{KeepsCounts}
+use Rattle.engine_world.specs.EngineView.{config_of}
+use Rattle.engine_world.specs.Standing.{GoesWithoutGone}
+use Rattle.engine_world.specs.TaskView.{agenda_of, tasks_of}
+use Rattle.engine_world.specs.View.{held_of, world_of}
+use Rattle.engine_world.specs.declared.engine.Engine.{Engine}
+use Rattle.engine_world.specs.declared.world.World as code
+use Rattle.engine_world.proofs.Counts.{Exact, beside_of, from_counted, handled, keeps_by, to_counted}
+use Rattle.engine_instructions.proofs.ObjectSteps.{dispose_stuck, disposes}
+use Rattle.engine_instructions.proofs.Pushed.{count_pushed, world_pushed}
+use Rattle.engine_instructions.proofs.Starting.{started_left}
+use Rattle.engine_world.proofs.Registers.{stops_left}
+
+module _ (d : Definition) (v : code.World) (id : ℕ) where
+  -- the world after a dispose
+  abbrev gone : Bool → World
+  gone first = said_if d first (disposal.without_object d (world_of v) id) (lines.dispose id)
+
+  by_peer : (peer : Option ℕ) → peer_of (living v.table.objects id) ≡ peer → disposed d (world_of v) id ≡ closing d peer (gone (is_first (living v.table.objects id)))
+  by_peer peer is = ap (λ (p : Option ℕ). closing d p (gone (is_first (living v.table.objects id)))) is
+
+  pub no_peer_to_close : (peer : Option ℕ) → peer_of (living v.table.objects id) ≡ peer → is_some peer ≡ true → disposed d (world_of v) id ≡ Err arms.Code
+  unfolding closing
+  no_peer_to_close None is some = cc some
+  no_peer_to_close (Some n) is some = by_peer (Some n) is ∙ by (is_first (living v.table.objects id))
+    where
+      by : (first : Bool) → closing d (Some n) (gone first) ≡ Err arms.Code
+      by true = refl
+      by false = refl
+
+  -- what code leaves after it
+  pub disposed_now : (t : Store) (hs : Connected) (x : List ℕ) (new : World) → peer_of (living v.table.objects id) ≡ None → is_first (living v.table.objects id) ≡ true
+      → Disposes d id v.table t → hs ≡ record v.handlers { handlers = without_object id v.handlers.handlers } → x ≡ text_of_line d.types (lines.dispose id)
+      → new ≡ record (world_of (record v { table = t; handlers = hs })) { transcript = (world_of v).transcript ++ x ∷ [] } → disposed d (world_of v) id ≡ Ok new
+  unfolding closing
+  disposed_now t hs x new none first disposes left ex is =
+      let objects = disposes.objects in
+      let floating = disposes.floating in
+      by_peer None none ∙ ap (λ b. closing d None (gone b)) first ∙ rw (is, objects, floating, left, ex) refl
+
+-- what is disposed held what it let go of; its handlers hold nothing
+pub keeps_disposed : (d : Definition) (e : Engine) (t : Store) (hs : Connected) (w : code.World) (gone : ℕ → Bool) (id : ℕ) → (Knows d e.world.weak → Disposes d id e.world.table t)
+    → hs ≡ record e.world.handlers { handlers = hs.handlers }
+    → w ≡ record (record e.world { table = t; handlers = hs }) { transcript = w.transcript } → tasks_of d hs.handlers e.stack ≡ map (pruned gone) (agenda_of d e)
+    → KeepsCounts d e (record e { world = w })
+keeps_disposed d e t hs w gone id disposes only is left =
+    keeps_by d e (record e { world = w }) (ap (λ (v : code.World). v.weak) is)
+    (λ h. handled d e (record e { world = w }) hs (ap (λ (v : code.World). v.handlers) is) only refl h) (λ taken knows h.
+    let b = map held_of e.world.builder.items in
+    let a = agenda_of d e in
+    let after = from_counted d taken t b a (dispose_exact d (beside_of taken b a) e.world.table t id (disposes knows) (to_counted d taken e.world.table b a h)) in
+    let alike : (o : ℕ) → total (in_task o) (tasks_of d hs.handlers e.stack) ≡ total (in_task o) a = λ o. ap (total (in_task o)) left ∙ hold_as gone d o a in
+    subst (λ (v : code.World). Exact d taken v.table (map held_of v.builder.items) (tasks_of d v.handlers.handlers e.stack)) (sym is)
+    (λ o. omega (arith, after o, alike o)))
+
+-- ** by a program
+
+module _ (d : Definition) (e b new : Engine) (f : Frame) (object id : ℕ) (is : operand_in (world_of e.world) f object ≡ Ok id) (first : is_disposed (living e.world.table.objects id) ≡ false)
+    (beside : b ≡ record e { stack = b.stack }) (agenda : agenda_of d b ≡ Running f ∷ agenda_of d e) where
+  stays_stuck : (halt : Halt) → Stops halt (disposed d (world_of e.world) id) → Stops halt (disposing d (world_of e.world) f object)
+  stays_stuck halts.OutOfMemory s = tt
+  stays_stuck (halts.Stuck arm) s = dispose_stuck d (world_of e.world) f object id is first arm s
+
+  pub disposes_behind : {X : Type 0} (result : Result X Halt) → Goes result (disposed d (world_of b.world) id) (world_of new.world)
+      → OnOk result (agenda_of d new ≡ map (pruned (gone_in (world_of new.world))) (agenda_of d b)) → OnOk result (new.counted ≡ b.counted)
+      → GoesWithoutGone result (left e.counted (in_front (agenda_of d e) (disposing d (world_of e.world) f object))) (config_of d new)
+  disposes_behind {X} result goes tasks count = by result (subst (λ (w : World). Goes result (disposed d w id) (world_of new.world)) (world_pushed d e b f beside) goes) tasks count
+    where
+      by : (result : Result X Halt) → Goes result (disposed d (world_of e.world) id) (world_of new.world)
+          → OnOk result (agenda_of d new ≡ map (pruned (gone_in (world_of new.world))) (agenda_of d b)) → OnOk result (new.counted ≡ b.counted)
+          → GoesWithoutGone result (left e.counted (in_front (agenda_of d e) (disposing d (world_of e.world) f object))) (config_of d new)
+      by (Ok x) done tasks count = (
+        record { world = world_of new.world; agenda = Running f ∷ agenda_of d e; counted = e.counted },
+        started_left e.counted (agenda_of d e) (disposing d (world_of e.world) f object) (world_of new.world) [] f _ _ _
+            (disposes d (world_of e.world) f object id is first (world_of new.world) done) refl refl refl,
+        (let left_so = tasks ∙ ap (λ (ts : List Task). map (pruned (gone_in (world_of new.world))) ts) agenda in
+            let counted_so = count ∙ count_pushed d e b f beside in
+            rw (left_so, counted_so) refl),
+      )
+      by (Err halt) s tasks count = stops_left e.counted (agenda_of d e) (disposing d (world_of e.world) f object) halt (stays_stuck halt s)

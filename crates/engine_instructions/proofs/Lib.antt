@@ -1,0 +1,17 @@
+pub mod Programs
+pub mod KnownCode
+mod Jumping
+mod Starting
+mod PropertySteps
+mod ObjectSteps
+mod Adopting
+mod Pushed
+mod Disposing
+mod Connections
+mod StoppedEmissions
+mod ConnectSteps
+mod Collecting
+mod Returning
+mod Calling
+pub mod Whole
+mod Creating

@@ -1,0 +1,64 @@
+-- How a program takes its next instruction.
+use Rattle.std.proofs.Common.{◌≡◌, ◌∙◌, refl, sym, ap, ℕ, suc, ◌<◌, Bool, true, false, cond, nat_lt, List, [], Option, None, Some, option_map, option_and_then, slice_get, ◌-◌, Err, arith}
+use Rattle.std.proofs.lemmas.Bool.Decides.{nat_tests}
+use Rattle.ui_machine.specs.declared.arm.Arm.TheVariants as arms
+use Rattle.ui_machine.specs.declared.arm.Halt.{Halt}
+use Rattle.ui_machine.specs.declared.arm.Halt.TheVariants as halts
+use Rattle.ui_machine.specs.Definition.{Definition}
+use Rattle.ui_machine.specs.Definition.Lookups.{program_at}
+use Rattle.ui_machine.specs.Definition.Programs.{Block, Instruction, Program}
+use Rattle.ui_machine.specs.Instructions.{instruction_step, running}
+use Rattle.ui_machine.specs.Instructions.Jumps.{block_in, in_pass, is_again, past}
+use Rattle.ui_machine.specs.Outcome.{Answer, Stops, known, only_if, ◌>>=◌}
+use Rattle.ui_machine.specs.State.Config.{Left, World}
+use Rattle.ui_machine.specs.State.Tasks.{Frame, Task}
+use Rattle.ui_machine.specs.Steps.{counted_left, left, most_steps}
+use Rattle.frames.specs.FrameView.{Taken, taken_in, taken_of}
+use Rattle.frames.proofs.FrameSteps.{running_taken}
+
+-- a step that is counted
+pub left_counted : (n : ℕ) (a : Answer Left) → n < most_steps → counted_left n a ≡ left (suc n) a
+left_counted n a few = let yet : nat_lt n most_steps ≡ true = grind (arith, nat_tests) in ap (λ (b : Bool). only_if b arms.Steps (left (suc n) a)) yet
+
+-- what stops a step stops it where it is not counted, too
+pub left_stops : (n : ℕ) (a : Answer Left) (halt : Halt) → Stops halt a → Stops halt (left n a)
+unfolding left
+left_stops n a halts.OutOfMemory stops = tt
+left_stops n a (halts.Stuck arm) stops = ap (left n) stops
+
+-- where there are no programs none is found
+pub none_there : (d : Definition) → d.programs ≡ [] → (number : ℕ) (p : Program) → program_at d number ≡ Some p → ⊥
+none_there d none number p is = let gone : ◌≡◌ {A = Option Program} None (Some p) = sym (ap (λ (ps : List Program). slice_get ps number) none) ∙ is in cc gone
+
+module _ (d : Definition) (w : World) (rest : List Task) (f : Frame) where
+  pub unknown_program : program_at d f.program ≡ None → running d w rest f ≡ Err arms.Code
+  unfolding running block_in
+  unknown_program none =
+      ap (λ (o : Option Program). (known arms.Code o >>= λ p. known arms.Code (slice_get p.blocks f.block)) >>= λ b. known arms.Code (slice_get b.code (in_pass b f).at) >>= λ i. instruction_step d w rest (past (in_pass b f)) i) none
+
+  module _ (p : Program) (is : program_at d f.program ≡ Some p) where
+    pub no_instruction : taken_in p f ≡ None → running d w rest f ≡ Err arms.Code
+    no_instruction none = running_taken d w f p is rest ∙ ap (λ (o : Option Taken). known arms.Code o >>= λ t. instruction_step d w rest t.frame t.instruction) none
+
+    pub takes_instruction : (t : Taken) → taken_in p f ≡ Some t → running d w rest f ≡ instruction_step d w rest t.frame t.instruction
+    takes_instruction t some = running_taken d w f p is rest ∙ ap (λ (o : Option Taken). known arms.Code o >>= λ t. instruction_step d w rest t.frame t.instruction) some
+
+-- what is taken changes no register, and the program goes on
+pub taken_keeps : (p : Program) (f : Frame) (t : Taken) → taken_in p f ≡ Some t → (t.frame.registers ≡ f.registers) × (t.frame.program ≡ f.program)
+taken_keeps p f t is = by_block (slice_get p.blocks f.block) is
+  where
+    passed : (b : Bool) → ((cond b (record f { at = 0; passes = f.passes - 1 }) f).registers ≡ f.registers) × ((cond b (record f { at = 0; passes = f.passes - 1 }) f).program ≡ f.program)
+    passed true = (refl, refl)
+    passed false = (refl, refl)
+
+    by_code : (b : Block) (i : Option Instruction) → option_map (λ i. record { instruction = i; frame = past (in_pass b f) }) i ≡ Some t
+        → (t.frame.registers ≡ f.registers) × (t.frame.program ≡ f.program)
+    by_code b None e = absurd (cc e)
+    by_code b (Some i) e =
+        let same : record { instruction = i; frame = past (in_pass b f) } ≡ t = cc e in
+        let kept = passed (is_again b f) in
+        (sym (ap (λ (x : Taken). x.frame.registers) same) ∙ kept.0, sym (ap (λ (x : Taken). x.frame.program) same) ∙ kept.1)
+
+    by_block : (o : Option Block) → option_and_then (taken_of f) o ≡ Some t → (t.frame.registers ≡ f.registers) × (t.frame.program ≡ f.program)
+    by_block None e = absurd (cc e)
+    by_block (Some b) e = by_code b (slice_get b.code (in_pass b f).at) e

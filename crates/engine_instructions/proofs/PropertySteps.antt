@@ -1,0 +1,154 @@
+-- What instructions on properties come to, by what they find.
+use Rattle.std.proofs.Common.{◌≡◌, ◌∙◌, refl, ap, ℕ, Bool, true, false, cond, List, [], ◌∷◌, Option, None, Some, Ok, Err}
+use Rattle.ui_machine.specs.declared.arm.Arm.{Arm}
+use Rattle.ui_machine.specs.declared.arm.Arm.TheVariants as arms
+use Rattle.ui_machine.specs.declared.arm.Halt.{Halt}
+use Rattle.ui_machine.specs.Definition.{Definition}
+use Rattle.ui_machine.specs.Definition.Lookups.{slot_of}
+use Rattle.ui_machine.specs.Definition.Properties.{Spec, is_readable}
+use Rattle.ui_machine.specs.Definition.Values.{Value}
+use Rattle.ui_machine.specs.Instructions.Properties.{set_property, get_property, set_from, slot_at, notify_from_program, then_goes_on}
+use Rattle.ui_machine.specs.Instructions.Registers.{gives, goes_on, operand_in, value_in}
+use Rattle.ui_machine.specs.Outcome.{Answer, Stops, known, only_if, ◌>>=◌}
+use Rattle.ui_machine.specs.Rules.Sets.{if_settable, raising, spec_at}
+use Rattle.ui_machine.specs.State.Config.{Started, World}
+use Rattle.ui_machine.specs.State.Objects.{Object, asked, living, value_at}
+use Rattle.ui_machine.specs.State.Tasks.{Frame, Setting}
+use Rattle.engine_instructions.specs.PropertyView.{readable_value, settable_slot}
+use Rattle.engine_world.proofs.Emits.{stops_on}
+use Rattle.engine_world.proofs.Forwarded.{settable_then}
+use Rattle.engine_instructions.proofs.Starting.{stops_as}
+
+-- ** slots by name
+
+module _ (d : Definition) (w : World) (id : ℕ) (name : List ℕ) where
+  by_class : (r : Answer ℕ) → asked w.objects id (λ o. Ok o.class) ≡ r → slot_at d w id name ≡ (r >>= λ class. known arms.Code (slot_of d class name))
+  unfolding asked slot_at
+  by_class r h = by (living w.objects id) ∙ ap (λ (a : Answer ℕ). a >>= λ class. known arms.Code (slot_of d class name)) h
+    where
+      by : (o : Option Object) → (known arms.Operand o >>= λ x. known arms.Code (slot_of d x.class name)) ≡ ((known arms.Operand o >>= λ x. Ok x.class) >>= λ class. known arms.Code (slot_of d class name))
+      by None = refl
+      by (Some x) = refl
+
+  pub no_class_at : (arm : Arm) → asked w.objects id (λ o. Ok o.class) ≡ Err arm → slot_at d w id name ≡ Err arm
+  no_class_at arm h = by_class (Err arm) h
+
+  pub slot_by : (class : ℕ) (slot : Option ℕ) → asked w.objects id (λ o. Ok o.class) ≡ Ok class → slot_of d class name ≡ slot → slot_at d w id name ≡ known arms.Code slot
+  slot_by class slot h is = by_class (Ok class) h ∙ ap (λ (o : Option ℕ). known arms.Code o) is
+
+  -- ** values that are read
+
+  -- what is done with the value
+  pub read_then : {X : Type 0} (k : Value → Answer X)
+      → (slot_at d w id name >>= λ slot. spec_at d w.objects id slot >>= λ s. asked w.objects id (value_at slot) >>= λ v. only_if (is_readable s) arms.Flags (k v))
+      ≡ (readable_value d w id name >>= k)
+  read_then {X} k = by (slot_at d w id name)
+    where
+      may : (b : Bool) (v : Value) → only_if b arms.Flags (k v) ≡ (only_if b arms.Flags (Ok v) >>= k)
+      may true v = refl
+      may false v = refl
+
+      of_value : (s : Spec) (found : Answer Value) → (found >>= λ v. only_if (is_readable s) arms.Flags (k v)) ≡ ((found >>= λ v. only_if (is_readable s) arms.Flags (Ok v)) >>= k)
+      of_value s (Err arm) = refl
+      of_value s (Ok v) = may (is_readable s) v
+
+      of_spec : (slot : ℕ) (found : Answer Spec)
+          → (found >>= λ s. asked w.objects id (value_at slot) >>= λ v. only_if (is_readable s) arms.Flags (k v))
+          ≡ ((found >>= λ s. asked w.objects id (value_at slot) >>= λ v. only_if (is_readable s) arms.Flags (Ok v)) >>= k)
+      of_spec slot (Err arm) = refl
+      of_spec slot (Ok s) = of_value s (asked w.objects id (value_at slot))
+
+      by : (found : Answer ℕ)
+          → (found >>= λ slot. spec_at d w.objects id slot >>= λ s. asked w.objects id (value_at slot) >>= λ v. only_if (is_readable s) arms.Flags (k v))
+          ≡ ((found >>= λ slot. spec_at d w.objects id slot >>= λ s. asked w.objects id (value_at slot) >>= λ v. only_if (is_readable s) arms.Flags (Ok v)) >>= k)
+      by (Err arm) = refl
+      by (Ok slot) = of_spec slot (spec_at d w.objects id slot)
+
+-- ** `get`
+
+module _ (d : Definition) (w : World) (f : Frame) (to object : ℕ) (name : List ℕ) where
+  abbrev gets_of : ℕ → Answer Started
+  gets_of id = slot_at d w id name >>= λ slot. spec_at d w.objects id slot >>= λ s. asked w.objects id (value_at slot) >>= λ v. only_if (is_readable s) arms.Flags (gives w to v f)
+
+  pub get_none : (halt : Halt) → Stops halt (operand_in w f object) → Stops halt (get_property d w f to object name)
+  unfolding get_property
+  get_none halt s = stops_on halt (operand_in w f object) gets_of s
+
+  module _ (id : ℕ) (is : operand_in w f object ≡ Ok id) where
+    gets_by : get_property d w f to object name ≡ (readable_value d w id name >>= λ v. gives w to v f)
+    unfolding get_property
+    gets_by = ap (λ (a : Answer ℕ). a >>= gets_of) is ∙ read_then d w id name (λ v. gives w to v f)
+
+    pub get_unread : (halt : Halt) → Stops halt (readable_value d w id name) → Stops halt (get_property d w f to object name)
+    get_unread halt s = stops_as halt (get_property d w f to object name) _ gets_by (stops_on halt (readable_value d w id name) (λ v. gives w to v f) s)
+
+    pub gets : (v : Value) → readable_value d w id name ≡ Ok v → get_property d w f to object name ≡ gives w to v f
+    gets v read = gets_by ∙ ap (λ (a : Answer Value). a >>= λ v. gives w to v f) read
+
+-- ** `set`
+
+module _ (d : Definition) (w : World) (f : Frame) (object : ℕ) (name : List ℕ) (from : ℕ) where
+  abbrev sets_of : ℕ → Answer Started
+  sets_of id = slot_at d w id name >>= λ slot. spec_at d w.objects id slot >>= λ s. if_settable s (set_from w f id slot from)
+
+  pub set_none : (halt : Halt) → Stops halt (operand_in w f object) → Stops halt (set_property d w f object name from)
+  unfolding set_property
+  set_none halt s = stops_on halt (operand_in w f object) sets_of s
+
+  module _ (id : ℕ) (is : operand_in w f object ≡ Ok id) where
+    sets_by : set_property d w f object name from ≡ (settable_slot d w id name >>= λ slot. set_from w f id slot from)
+    unfolding set_property
+    sets_by =
+        ap (λ (a : Answer ℕ). a >>= sets_of) is
+        ∙ settable_then (slot_at d w id name) (λ slot. spec_at d w.objects id slot) (λ slot. set_from w f id slot from)
+
+    pub set_unknown : (arm : Arm) → settable_slot d w id name ≡ Err arm → set_property d w f object name from ≡ Err arm
+    set_unknown arm none = sets_by ∙ ap (λ (a : Answer ℕ). a >>= λ slot. set_from w f id slot from) none
+
+    module _ (slot : ℕ) (found : settable_slot d w id name ≡ Ok slot) where
+      sets_value : set_property d w f object name from ≡ (value_in f from >>= λ v. goes_on w (Setting id slot v ∷ []) f)
+      unfolding set_from
+      sets_value = sets_by ∙ ap (λ (a : Answer ℕ). a >>= λ slot. set_from w f id slot from) found
+
+      pub set_unset : (halt : Halt) → Stops halt (value_in f from) → Stops halt (set_property d w f object name from)
+      set_unset halt s = stops_as halt (set_property d w f object name from) _ sets_value (stops_on halt (value_in f from) (λ v. goes_on w (Setting id slot v ∷ []) f) s)
+
+      pub sets : (v : Value) → value_in f from ≡ Ok v → set_property d w f object name from ≡ goes_on w (Setting id slot v ∷ []) f
+      sets v read = sets_value ∙ ap (λ (a : Answer Value). a >>= λ v. goes_on w (Setting id slot v ∷ []) f) read
+
+-- ** `notify`
+
+module _ (d : Definition) (w : World) (f : Frame) (object : ℕ) (name : List ℕ) where
+  abbrev tells_slot : ℕ → ℕ → Answer Started
+  tells_slot id slot = spec_at d w.objects id slot >>= λ s. cond (is_readable s) (then_goes_on f (raising w id slot)) (goes_on w [] f)
+
+  pub tell_none : (halt : Halt) → Stops halt (operand_in w f object) → Stops halt (notify_from_program d w f object name)
+  unfolding notify_from_program
+  tell_none halt s = stops_on halt (operand_in w f object) (λ id. slot_at d w id name >>= tells_slot id) s
+
+  module _ (id : ℕ) (is : operand_in w f object ≡ Ok id) where
+    tells_by : notify_from_program d w f object name ≡ (slot_at d w id name >>= tells_slot id)
+    unfolding notify_from_program
+    tells_by = ap (λ (a : Answer ℕ). a >>= λ id. slot_at d w id name >>= tells_slot id) is
+
+    pub tell_unknown : (arm : Arm) → slot_at d w id name ≡ Err arm → notify_from_program d w f object name ≡ Err arm
+    tell_unknown arm none = tells_by ∙ ap (λ (a : Answer ℕ). a >>= tells_slot id) none
+
+    module _ (slot : ℕ) (found : slot_at d w id name ≡ Ok slot) where
+      tells_at : notify_from_program d w f object name ≡ tells_slot id slot
+      tells_at = tells_by ∙ ap (λ (a : Answer ℕ). a >>= tells_slot id) found
+
+      pub tell_no_spec : (arm : Arm) → spec_at d w.objects id slot ≡ Err arm → notify_from_program d w f object name ≡ Err arm
+      tell_no_spec arm none = tells_at ∙ ap (λ (a : Answer Spec). a >>= λ s. cond (is_readable s) (then_goes_on f (raising w id slot)) (goes_on w [] f)) none
+
+      module _ (s : Spec) (of : spec_at d w.objects id slot ≡ Ok s) where
+        tells_if : (b : Bool) → is_readable s ≡ b → notify_from_program d w f object name ≡ cond b (then_goes_on f (raising w id slot)) (goes_on w [] f)
+        tells_if b readable =
+            tells_at ∙ ap (λ (a : Answer Spec). a >>= λ s. cond (is_readable s) (then_goes_on f (raising w id slot)) (goes_on w [] f)) of
+            ∙ ap (λ c. cond c (then_goes_on f (raising w id slot)) (goes_on w [] f)) readable
+
+        pub tells : is_readable s ≡ true → notify_from_program d w f object name ≡ then_goes_on f (raising w id slot)
+        tells readable = tells_if true readable
+
+        pub tells_nothing : is_readable s ≡ false → notify_from_program d w f object name ≡ goes_on w [] f
+        tells_nothing unreadable = tells_if false unreadable

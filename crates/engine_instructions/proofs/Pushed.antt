@@ -1,0 +1,141 @@
+-- The rest of a program that was put before the other tasks, and what instructions on objects leave behind it.
+use Rattle.std.proofs.Common.{◌≡◌, ◌∙◌, refl, ap, subst, ℕ, suc, ◌+◌, Bool, true, false, not, nat_lt, List, ◌∷◌, map, Option, None, Some, is_some, Result, Ok, Err, arith}
+use Rattle.std.specs.Prelude.{IfOk, is_none}
+use Rattle.ui_machine.specs.declared.arm.Arm.TheVariants as arms
+use Rattle.ui_machine.specs.declared.arm.Halt.{Halt}
+use Rattle.ui_machine.specs.declared.ids.ObjectId.{ObjectId}
+use Rattle.ui_machine.specs.Definition.{Definition}
+use Rattle.ui_machine.specs.Definition.Values as values
+use Rattle.ui_machine.specs.Instructions.{in_front}
+use Rattle.ui_machine.specs.Instructions.Objects.{adopting}
+use Rattle.ui_machine.specs.Instructions.Properties.{then_goes_on}
+use Rattle.ui_machine.specs.Instructions.Registers.{operand_in, written_to}
+use Rattle.ui_machine.specs.Outcome.{After, Answer, Goes, Stops, only_if}
+use Rattle.ui_machine.specs.Rules.Children.{updated, with_parent, without_child}
+use Rattle.ui_machine.specs.Rules.NotifyQueue.{frozen_more, most_freezes}
+use Rattle.ui_machine.specs.State.Config.{Config, Started, World}
+use Rattle.ui_machine.specs.State.Config as config
+use Rattle.ui_machine.specs.State.Objects.{Object, Objects}
+use Rattle.ui_machine.specs.State.References.{in_object}
+use Rattle.ui_machine.specs.State.Tasks.{Frame, Running, Task}
+use Rattle.ui_machine.specs.Steps.{left, uncounted}
+use Rattle.instances.specs.Family.{Leaves, Sinks, refusal_in}
+use Rattle.instances.specs.Store.{Store, id_of, with_objects}
+use Rattle.instances.proofs.Exact.{leave_exact}
+use Rattle.engine_world.specs.Counting.{Counts, KeepsCounts, in_frame, nothing}
+use Rattle.engine_world.specs.EngineView.{config_of}
+use Rattle.engine_world.specs.KinView.{joined}
+use Rattle.engine_world.specs.TaskView.{agenda_of}
+use Rattle.engine_world.specs.View.{held_of, world_of}
+use Rattle.engine_world.specs.declared.engine.Engine.{Engine}
+use Rattle.engine_instructions.proofs.Adopting.{adopt_stops, adopts, adopts_somewhere}
+use Rattle.engine_world.proofs.Counts.{Alike, beside_of, from_counted, keeps_by, sunk_exact, taken_alike, to_counted, with_table, stays}
+use Rattle.engine_world.proofs.Left.{same_agenda}
+use Rattle.engine_world.proofs.Registers.{stops_left}
+use Rattle.engine_instructions.proofs.Starting.{goes_then, stops_as, stops_elsewhere, written_elsewhere}
+
+module _ (d : Definition) (e b : Engine) (f : Frame) where
+  -- it goes on to hold what its registers name
+  pub frame_held : ((taken : ℕ → ℕ) → Counts d (λ o. taken o + in_frame o f) e → Counts d taken b) → Counts d (λ o. in_frame o f) e → Counts d nothing b
+  frame_held pushed h = pushed nothing (taken_alike d e (λ o. in_frame o f) (λ o. nothing o + in_frame o f) (λ o. omega arith) h)
+
+  module _ (beside : b ≡ record e { stack = b.stack }) where
+    pub world_pushed : world_of b.world ≡ world_of e.world
+    world_pushed = ap (λ (x : Engine). world_of x.world) beside
+
+    pub count_pushed : b.counted ≡ e.counted
+    count_pushed = ap (λ (x : Engine). x.counted) beside
+
+    -- what a step before it comes to
+    pub goes_before : {X : Type 0} (result : Result X Halt) (a : World → Answer Started) (new : Config) → agenda_of d b ≡ Running f ∷ agenda_of d e
+        → Goes result (uncounted (agenda_of d b) b.counted (a (world_of b.world))) new
+        → Goes result (left e.counted (in_front (agenda_of d e) (then_goes_on f (a (world_of e.world))))) new
+    goes_before {X} result a new agenda goes =
+        goes_then e.counted (agenda_of d e) result f (a (world_of e.world)) new
+        (subst (λ (w : World). Goes result (uncounted (Running f ∷ agenda_of d e) e.counted (a w)) new) world_pushed
+        (subst (λ n. Goes result (uncounted (Running f ∷ agenda_of d e) n (a (world_of b.world))) new) count_pushed
+        (subst (λ (ts : List Task). Goes result (uncounted ts b.counted (a (world_of b.world))) new) agenda goes)))
+
+-- ** what a change of the table leaves
+
+-- an object that no longer floats
+pub sunk_world : (e : Engine) (t : Store) (id : ℕ) → Sinks id e.world.table t → world_of (with_table e t).world ≡ config.sunk (world_of e.world) id
+sunk_world e t id sinks = ap (λ (s : Store). record (world_of e.world) { objects = s.objects; floating = s.floating }) sinks.beside
+
+pub sunk_keeps : (d : Definition) (e : Engine) (t : Store) (id : ℕ) → Sinks id e.world.table t → KeepsCounts d e (with_table e t)
+sunk_keeps d e t id sinks = keeps_by d e (with_table e t) refl (stays d e (with_table e t) refl refl) (λ taken _ h. sunk_exact d taken e.world.table t (map held_of e.world.builder.items) (agenda_of d e) id sinks h)
+
+-- other objects
+pub objects_world : (e : Engine) (t : Store) → t ≡ with_objects e.world.table t.objects → world_of (with_table e t).world ≡ config.with_objects (world_of e.world) t.objects
+objects_world e t beside = ap (λ (s : Store). record (world_of e.world) { objects = s.objects; floating = s.floating }) beside
+
+-- one more freeze leaves what an object holds
+pub freeze_alike : (d : Definition) → Alike d frozen_more
+freeze_alike d x = by (nat_lt x.freezes most_freezes)
+  where
+    by : (b : Bool) → IfOk (only_if b arms.Freeze (Ok (record { state = record x { freezes = suc x.freezes }; answer = tt }))) (λ (r : After Object (Unit {0})). (o : ℕ) → in_object d o (Some r.state) ≡ in_object d o (Some x))
+    by true = λ o. refl
+    by false = tt
+
+-- ** an object that leaves its parent
+
+-- an identity that is there or not
+pub none_named : (found : Option ObjectId) → is_some found ≡ false → id_of found ≡ None
+none_named None none = refl
+none_named (Some id) none = cc none
+
+pub one_named : (found : Option ObjectId) → is_some found ≡ true → (id : ℕ) × (id_of found ≡ Some id)
+one_named None some = cc some
+one_named (Some id) some = (id.0, refl)
+
+module _ (e : Engine) (t : Store) (parent child : ℕ) (leaves : Leaves parent child e.world.table t) where
+  pub left_world : world_of (with_table e t).world ≡ config.with_objects (world_of e.world) (updated (with_parent None) child (updated (without_child child) parent e.world.table.objects))
+  left_world =
+      ap (λ (os : Objects). record (world_of e.world) { objects = os; floating = t.floating }) leaves.objects
+      ∙ ap (λ floating. record (world_of e.world) { objects = updated (with_parent None) child (updated (without_child child) parent e.world.table.objects); floating = floating }) leaves.floating
+
+  pub left_keeps : (d : Definition) → KeepsCounts d e (with_table e t)
+  left_keeps d = keeps_by d e (with_table e t) refl (stays d e (with_table e t) refl refl) (λ taken _ h.
+      let b = map held_of e.world.builder.items in
+      let a = agenda_of d e in
+      from_counted d taken t b a (leave_exact d (beside_of taken b a) e.world.table t parent child leaves (to_counted d taken e.world.table b a h)))
+
+-- ** an object that becomes another's child
+
+pub none_as : {A : Type 0} (found : Option A) (b : Bool) → is_some found ≡ not b → is_none found ≡ b
+none_as None true so = refl
+none_as None false so = cc so
+none_as (Some x) true so = cc so
+none_as (Some x) false so = refl
+
+module _ (d : Definition) (e mid : Engine) (f : Frame) (to parent child p c : ℕ) (above : operand_in (world_of e.world) f parent ≡ Ok p) (below : operand_in (world_of e.world) f child ≡ Ok c)
+    (free : Bool) (may : is_none (refusal_in e.world.table p c) ≡ free) where
+  abbrev adopting_so : Answer Config
+  adopting_so = left e.counted (in_front (agenda_of d e) (adopting d (world_of e.world) f to parent child))
+
+  abbrev writing_so : Answer Config
+  writing_so = left e.counted (in_front (agenda_of d e) (written_to (world_of e.world) to (Some (values.bool free)) f))
+
+  -- where the register can't be written
+  pub unwritten : (halt : Halt) → Stops halt writing_so → Stops halt adopting_so
+  unwritten halt s =
+      let there = adopts_somewhere d (world_of e.world) f to parent child p above c below free may in
+      stops_as halt adopting_so _ (ap (λ (a : Answer Started). left e.counted (in_front (agenda_of d e) a)) there.1)
+      (stops_elsewhere e.counted (agenda_of d e) to (Some (values.bool free)) f (world_of e.world) there.0 halt s)
+
+  module _ (wrote : writing_so ≡ Ok (config_of d mid)) where
+    pub world_written : world_of mid.world ≡ world_of e.world
+    world_written = (written_elsewhere e.counted (agenda_of d e) to (Some (values.bool free)) f (world_of e.world) (world_of e.world) (config_of d mid) wrote).0
+
+    pub adopts_behind : {X : Type 0} (result : Result X Halt) (new : Engine) → Goes result (joined d (world_of mid.world) p c) (world_of new.world)
+        → (new.stack ≡ mid.stack) × (new.counted ≡ mid.counted) → new.world.handlers ≡ mid.world.handlers → Goes result adopting_so (config_of d new)
+    adopts_behind {X} result new goes same handlers = by result (subst (λ (w : World). Goes result (joined d w p c) (world_of new.world)) world_written goes)
+      where
+        by : (result : Result X Halt) → Goes result (joined d (world_of e.world) p c) (world_of new.world) → Goes result adopting_so (config_of d new)
+        by (Ok x) is =
+            ap (λ (a : Answer Started). left e.counted (in_front (agenda_of d e) a)) (adopts d (world_of e.world) f to parent child p above c below free may (world_of new.world) is)
+            ∙ (written_elsewhere e.counted (agenda_of d e) to (Some (values.bool free)) f (world_of e.world) (world_of new.world) (config_of d mid) wrote).1
+            ∙ rw (same_agenda d mid new same.0 handlers, same.1) refl
+        by (Err halt) s =
+            stops_left e.counted (agenda_of d e) (adopting d (world_of e.world) f to parent child) halt
+            (adopt_stops d (world_of e.world) f to parent child p above c below halt s)

@@ -1,0 +1,176 @@
+-- What a stop leaves of an emission, and of the tasks.
+use Rattle.engine_world.specs.KnownHandlers.{AllTakeKnownHandlers}
+use Rattle.engine_world.proofs.Counts.{restacked}
+use Rattle.std.proofs.Common.{◌≡◌, ◌∙◌, refl, sym, ap, subst, ℕ, ◌++◌, Bool, true, false, cond, map, nat_eq, List, [], ◌∷◌, Option, None, Some, arith}
+use Rattle.std.specs.List.{filter}
+use Rattle.std.proofs.lemmas.List.Elements.{filter-append}
+use Rattle.ui_machine.specs.Definition.{Definition}
+use Rattle.ui_machine.specs.Definition.Properties.{has_flags}
+use Rattle.ui_machine.specs.Definition.Values.{Value}
+use Rattle.ui_machine.specs.Rules.Accumulation.{is_of_cleanup, left_by_stop}
+use Rattle.ui_machine.specs.Rules.Accumulation as machine
+use Rattle.ui_machine.specs.Seq.{total}
+use Rattle.ui_machine.specs.State.Handlers.{Handler}
+use Rattle.ui_machine.specs.State.References.{in_task}
+use Rattle.ui_machine.specs.State.Tasks as config
+use Rattle.ui_machine.specs.State.Tasks.{Emission, Emitting, PlanEntry, Task, class_handler}
+use Rattle.g_values.specs.declared.value.Value as values
+use Rattle.signal_core.specs.Emission.{Due, Walk, due, from_after, from_before, from_cleanup, from_last, from_transfers, is_ahead, is_over, of_bindings, of_class, of_handler, of_handlers, stopped, turns_from}
+use Rattle.signal_core.specs.declared.stage.Stage.{Stage}
+use Rattle.signal_core.specs.declared.stage.Stage.TheVariants as stages
+use Rattle.signal_core.specs.declared.turn.Turn.TheVariants as turns
+use Rattle.engine_world.specs.Counting.{Counts}
+use Rattle.engine_world.specs.TaskView.{agenda_of, emission_of, entries_to_come, task_of, tasks_of}
+use Rattle.engine_world.specs.declared.engine.Engine.{Engine}
+use Rattle.engine_world.specs.declared.task.Task as code
+use Rattle.engine_world.specs.declared.task.Task.TheVariants as tasks
+use Rattle.engine_world.proofs.SameTurns.{both_entries, entries}
+
+-- ** stops
+
+-- those of the cleanup stage
+abbrev of_cleanup : List Due → List PlanEntry
+of_cleanup dues = filter is_of_cleanup (entries dues)
+
+-- what comes before it goes
+goes : (xs ys : List Due) → of_cleanup xs ≡ [] → of_cleanup (xs ++ ys) ≡ of_cleanup ys
+goes xs ys none =
+    ap (filter is_of_cleanup) (both_entries xs ys) ∙ filter-append is_of_cleanup (entries xs) (entries ys) ∙ ap (λ l. l ++ of_cleanup ys) none
+
+handlers_go : (w : Walk) (given : ℕ) (after : Bool) (stage : ℕ → Stage) (hs : List Handler) → of_cleanup (of_handlers w given after stage hs) ≡ []
+handlers_go w given after stage [] = refl
+handlers_go w given after stage (h ∷ hs) = by (is_ahead w given after h) (handlers_go w given after stage hs)
+  where
+    by : (b : Bool) → of_cleanup (of_handlers w given after stage hs) ≡ []
+        → of_cleanup (map (of_handler stage) (cond b (h ∷ filter (is_ahead w given after) hs) (filter (is_ahead w given after) hs))) ≡ []
+    by true rest = rest
+    by false rest = rest
+
+class_goes : (runs : Bool) (program : Option ℕ) (next : Stage) → is_over next ≡ false → of_cleanup (of_class runs program next) ≡ []
+class_goes runs None next early = refl
+class_goes false (Some program) next early = refl
+class_goes true (Some program) next early = ap (λ b. filter is_of_cleanup (entries_with b)) early
+  where
+    entries_with : Bool → List PlanEntry
+    entries_with b = class_handler program b ∷ []
+
+class_stays : (runs : Bool) (program : Option ℕ) → of_cleanup (of_class runs program stages.Over) ≡ entries (of_class runs program stages.Over)
+class_stays runs None = refl
+class_stays false (Some program) = refl
+class_stays true (Some program) = refl
+
+module _ (w : Walk) (hs : List Handler) where
+  cleanup_stays : of_cleanup (from_cleanup w) ≡ entries (from_cleanup w)
+  cleanup_stays = class_stays (has_flags 4 w.flags) w.class_program
+
+  after_left : (given : ℕ) → of_cleanup (from_after given w hs) ≡ entries (from_cleanup w)
+  after_left given = goes (of_handlers w given true stages.After hs) (from_cleanup w) (handlers_go w given true stages.After hs) ∙ cleanup_stays
+
+  last_left : of_cleanup (from_last w hs) ≡ entries (from_cleanup w)
+  last_left =
+      let class = of_class (has_flags 2 w.flags) w.class_program (stages.After 0) in
+      goes class (from_after 0 w hs) (class_goes (has_flags 2 w.flags) w.class_program (stages.After 0) refl) ∙ after_left 0
+
+  before_left : (given : ℕ) → of_cleanup (from_before given w hs) ≡ entries (from_cleanup w)
+  before_left given = goes (of_handlers w given false stages.Before hs) (from_last w hs) (handlers_go w given false stages.Before hs) ∙ last_left
+
+  bindings_go : of_cleanup (of_bindings w) ≡ []
+  bindings_go = by (nat_eq w.signal 0)
+    where
+      by : (b : Bool) → of_cleanup (cond b (due turns.Transfers (stages.Before 0) ∷ []) []) ≡ []
+      by true = refl
+      by false = refl
+
+  transfers_left : of_cleanup (from_transfers w hs) ≡ entries (from_cleanup w)
+  transfers_left = goes (of_bindings w) (from_before 0 w hs) bindings_go ∙ before_left 0
+
+  -- a stop leaves the cleanup stage, and in it does nothing
+  stop_at : (stage : Stage) → cond (is_over stage) (entries (turns_from stage w hs)) (of_cleanup (turns_from stage w hs)) ≡ entries (turns_from (cond (is_over stage) stages.Over stages.Cleanup) w hs)
+  stop_at stages.First =
+      let class = of_class (has_flags 1 w.flags) w.class_program stages.Transfers in
+      goes class (from_transfers w hs) (class_goes (has_flags 1 w.flags) w.class_program stages.Transfers refl) ∙ transfers_left
+  stop_at stages.Transfers = transfers_left
+  stop_at (stages.Before given) = before_left given
+  stop_at stages.Last = last_left
+  stop_at (stages.After given) = after_left given
+  stop_at stages.Cleanup = cleanup_stays
+  stop_at stages.Over = refl
+
+-- where it stands and what it has accumulated make no difference to the turns from a stage on
+pub turns_alike : (w : Walk) (hs : List Handler) (at stage : Stage) (v : Option Value) → turns_from at (record w { stage = stage; value = v }) hs ≡ turns_from at w hs
+turns_alike w hs stages.First stage v = refl
+turns_alike w hs stages.Transfers stage v = refl
+turns_alike w hs (stages.Before given) stage v = refl
+turns_alike w hs stages.Last stage v = refl
+turns_alike w hs (stages.After given) stage v = refl
+turns_alike w hs stages.Cleanup stage v = refl
+turns_alike w hs stages.Over stage v = refl
+
+over_stays : (stage : Stage) → is_over (cond (is_over stage) stages.Over stages.Cleanup) ≡ is_over stage
+over_stays stages.First = refl
+over_stays stages.Transfers = refl
+over_stays (stages.Before given) = refl
+over_stays stages.Last = refl
+over_stays (stages.After given) = refl
+over_stays stages.Cleanup = refl
+over_stays stages.Over = refl
+
+module _ (w : Walk) (hs : List Handler) (args : List values.Value) (by_event : Bool) where
+  abbrev own : Emission
+  own = emission_of w args by_event
+
+  pub stop_leaves : left_by_stop own (entries_to_come w hs) ≡ entries_to_come (stopped w) hs
+  stop_leaves = stop_at w hs w.stage ∙ ap entries (sym (turns_alike w hs (cond (is_over w.stage) stages.Over stages.Cleanup) (cond (is_over w.stage) stages.Over stages.Cleanup) w.value))
+
+  pub stop_same : own ≡ emission_of (stopped w) args by_event
+  stop_same = ap (λ b. record own { cleanup = b }) (sym (over_stays w.stage))
+
+-- ** tasks
+
+-- a task that is no emission's
+abbrev pub IsOther : code.Task → Type 0
+IsOther (tasks.Emitting cursor args by_event) = ⊥
+IsOther _ = Unit {0}
+
+module _ (d : Definition) (hs : List Handler) where
+  -- a stop leaves it
+  pub stops_none : (t : code.Task) (rest : List Task) → IsOther t → machine.stopped (task_of d hs t ∷ rest) ≡ task_of d hs t ∷ rest
+  stops_none (tasks.Emitting cursor args by_event) rest other = absurd other
+  stops_none (tasks.Setting id slot v) rest other = refl
+  stops_none (tasks.Notifying id slot) rest other = refl
+  stops_none (tasks.Beginning e) rest other = refl
+  stops_none (tasks.Running frame) rest other = refl
+  stops_none (tasks.Thawing id slots) rest other = refl
+  stops_none (tasks.Constructing id steps held) rest other = refl
+  stops_none (tasks.Building place forwards) rest other = refl
+  stops_none (tasks.Adopting place forwards) rest other = refl
+  stops_none (tasks.Connecting place number) rest other = refl
+  stops_none (tasks.Handling event) rest other = refl
+
+-- a stop changes what no task holds
+pub stopped_holds : (d : Definition) (o : ℕ) (ts : List Task) → total (in_task o) (machine.stopped ts) ≡ total (in_task o) ts
+stopped_holds d o [] = refl
+stopped_holds d o (Emitting e entries ∷ rest) = refl
+stopped_holds d o (config.Setting id slot v ∷ rest) = refl
+stopped_holds d o (config.Notifying id slot ∷ rest) = refl
+stopped_holds d o (config.Beginning e ∷ rest) = refl
+stopped_holds d o (config.Transferring number back ∷ rest) = refl
+stopped_holds d o (config.Unsetting number ∷ rest) = refl
+stopped_holds d o (config.Thawing id slots ∷ rest) = refl
+stopped_holds d o (config.Running f ∷ rest) = refl
+stopped_holds d o (config.Answering source ∷ rest) = refl
+stopped_holds d o (config.Calling call ∷ rest) = refl
+stopped_holds d o (config.Constructing id steps held ∷ rest) = refl
+stopped_holds d o (config.Building items ∷ rest) = refl
+stopped_holds d o (config.Handling request ∷ rest) = refl
+stopped_holds d o (config.Due source ∷ rest) = refl
+
+pub stop_counts : (d : Definition) (e mid : Engine) (taken : ℕ → ℕ) → mid ≡ record e { stack = mid.stack } → agenda_of d mid ≡ machine.stopped (agenda_of d e)
+    → ((last : ℕ) → AllTakeKnownHandlers last e.stack → AllTakeKnownHandlers last mid.stack) → Counts d taken e → Counts d taken mid
+stop_counts d e mid taken beside is begun h = subst (λ (x : Engine). Counts d taken x) (sym beside) (record {
+  knows = h.knows;
+  connects = restacked d e mid.stack begun h.connects;
+  exact = λ o.
+      let same_tasks : tasks_of d e.world.handlers.handlers mid.stack ≡ machine.stopped (agenda_of d e) = ap (λ (x : Engine). tasks_of d x.world.handlers.handlers mid.stack) (sym beside) ∙ is in
+      omega (arith, h.exact o, ap (λ (ts : List Task). total (in_task o) ts) same_tasks, stopped_holds d o (agenda_of d e));
+})

@@ -1,0 +1,96 @@
+use Rattle.std.proofs.Common.{◌≡◌, List, [], ◌∷◌, option_map, refl, sym, subst, ap, ◌∙◌, arith}
+use Rattle.ui_machine.specs.Outcome.{Goes}
+use Rattle.ui_machine.specs.Rules.Accumulation.{given_down}
+use Rattle.ui_machine.specs.Seq.{total}
+use Rattle.ui_machine.specs.State.References.{in_task}
+use Rattle.ui_machine.specs.State.Tasks.{Task}
+use Rattle.g_values.specs.View.{value_view}
+use Rattle.engine_world.specs.KnownHandlers.{TakesKnownHandlers}
+use Rattle.engine_world.specs.TaskView.{agenda_of, emission_of, entries_to_come, task_of, tasks_of}
+use Rattle.engine_world.specs.View.{world_of}
+use Rattle.engine_world.specs.declared.task.Task as code
+use Rattle.engine_world.specs.declared.task.Task.TheVariants as tasks
+use Rattle.engine_instructions.proofs.Collecting.{goes_none, gives_last, gives_other, on_any, popped_emission}
+use Rattle.engine_world.proofs.Registers.{on_ok, stack_same}
+use Rattle.engine_instructions.proofs.StoppedEmissions.{IsOther}
+use Rattle.engine_instructions.proofs.accumulation.give_down.Goals as goal
+
+pub returns-in_default-clause-step : goal.returns-in_default-clause-step
+returns-in_default-clause-step c =
+    let d = c.args.definition.now in
+    let e = c.args.engine.now in
+    let given = option_map value_view c.args.given in
+    let none = c.in_default.ensures.tasks d e.world.handlers.handlers in
+    goes_none d (world_of e.world) c.check_none.result given (agenda_of d e) _ [] c.check_none.ensures none.0 none.1 (gives_last d (world_of e.world) given)
+
+pub returns-in_default-clause-counted : goal.returns-in_default-clause-counted
+returns-in_default-clause-counted c =
+    let d = c.args.definition.now in
+    let none = c.in_default.ensures.tasks d c.args.engine.now.world.handlers.handlers in
+    on_any c.check_none.result (stack_same d c.args.engine.now c.pop.new.self (none.1 ∙ sym none.0) c.in_default.ensures.begun)
+
+pub returns-in_default-task-clause-step : goal.returns-in_default-task-clause-step
+returns-in_default-task-clause-step c =
+    let d = c.args.definition.now in
+    let e = c.args.engine.now in
+    let hs = e.world.handlers.handlers in
+    let t = c.in-Some.task in
+    let rest = tasks_of d hs c.pop.new.self in
+    let given = option_map value_view c.args.given in
+    goes_none d (world_of e.world) c.check_none-in_default-task.result given (agenda_of d e) _ (task_of d hs t ∷ rest) c.check_none-in_default-task.ensures
+    (c.in-Some.ensures.tasks d hs) (c.in_ok-push.ensures.tasks d hs) (gives_other d hs (world_of e.world) rest t given (other t refl))
+  where
+    other : (t : code.Task) → c.in-Some.task ≡ t → IsOther t
+    other (tasks.Emitting cursor args by_event) is = absurd (c.in_default-task.not-Emitting cursor args by_event is)
+    other (tasks.Setting id slot v) is = tt
+    other (tasks.Notifying id slot) is = tt
+    other (tasks.Beginning e) is = tt
+    other (tasks.Running frame) is = tt
+    other (tasks.Thawing id slots) is = tt
+    other (tasks.Constructing id steps held) is = tt
+    other (tasks.Building place forwards) is = tt
+    other (tasks.Adopting place forwards) is = tt
+    other (tasks.Connecting place number) is = tt
+    other (tasks.Handling event) is = tt
+
+pub returns-in_default-task-clause-counted : goal.returns-in_default-task-clause-counted
+returns-in_default-task-clause-counted c =
+    let d = c.args.definition.now in
+    let e = c.args.engine.now in
+    let hs = e.world.handlers.handlers in
+    on_any c.check_none-in_default-task.result (stack_same d e c.push.new.self (c.in_ok-push.ensures.tasks d hs ∙ sym (c.in-Some.ensures.tasks d hs))
+    (λ last h. c.in_ok-push.ensures.begun last (c.in-Some.ensures.first last h) (c.in-Some.ensures.begun last h)))
+
+pub accumulate-requires : goal.accumulate-requires
+accumulate-requires c = record {
+  held = λ o.
+      let d = c.args.definition.now in
+      let hs = c.args.engine.now.world.handlers.handlers in
+      let first = ap (λ (ts : List Task). total (in_task o) ts) (c.in-Some.ensures.tasks d hs) in
+      let emission = ap (λ (t : code.Task). in_task o (task_of d hs t)) c.in-Emitting.is in
+      omega (arith, c.requires.held.at o, first, emission);
+  begun =
+      let last = c.args.engine.now.world.handlers.last in
+      subst (λ (t : code.Task). TakesKnownHandlers last t) c.in-Emitting.is (c.in-Some.ensures.first last c.requires.begun);
+}
+
+pub returns-clause-step : goal.returns-clause-step
+returns-clause-step c =
+    let d = c.args.definition.now in
+    let e = c.args.engine.now in
+    let hs = e.world.handlers.handlers in
+    let rest = tasks_of d hs c.pop.new.self in
+    let given = option_map value_view c.args.given in
+    let first = c.in-Some.ensures.tasks d hs ∙ ap (λ (t : code.Task). task_of d hs t ∷ rest) c.in-Emitting.is in
+    subst (λ (ts : List Task). Goes c.accumulate.result (given_down d (world_of e.world) ts given) (record { world = world_of c.accumulate.new.engine.world; agenda = agenda_of d c.accumulate.new.engine }))
+    (sym first) c.accumulate.ensures.step
+
+pub returns-clause-counted : goal.returns-clause-counted
+returns-clause-counted c =
+    let d = c.args.definition.now in
+    let e = c.args.engine.now in
+    let hs = e.world.handlers.handlers in
+    let rest = tasks_of d hs c.pop.new.self in
+    let first = c.in-Some.ensures.tasks d hs ∙ ap (λ (t : code.Task). task_of d hs t ∷ rest) c.in-Emitting.is in
+    let m = emission_of c.in-Emitting.cursor c.in-Emitting.args.items c.in-Emitting.by_event in
+    on_ok c.accumulate.result (λ f. record { at = λ taken h. f taken (popped_emission d e c.pop.new.self taken m (entries_to_come c.in-Emitting.cursor hs) first c.in-Some.ensures.begun h) }) c.accumulate.ensures.counted

@@ -1,0 +1,100 @@
+use Rattle.std.proofs.Common.{◌≡◌, true, false, refl, ap, sym, ◌∙◌}
+use Rattle.std.specs.Prelude.{codes}
+use Rattle.std.proofs.lemmas.Result.{err_from_is_err_and}
+use Rattle.ui_machine.specs.Instructions.Signals.{connecting}
+use Rattle.ui_machine.specs.Output.Lines as lines
+use Rattle.ui_machine.specs.State.Config.{World, said}
+use Rattle.frames.specs.FrameView.{frame_view}
+use Rattle.bytecode.specs.View.{connect_view}
+use Rattle.signal_core.specs.Connected.{connection_of}
+use Rattle.engine_world.specs.ConnectView.{is_full}
+use Rattle.engine_world.specs.Counting.{nothing}
+use Rattle.engine_world.specs.TaskView.{agenda_of}
+use Rattle.engine_world.specs.View.{world_of}
+use Rattle.engine_instructions.proofs.ConnectSteps.{connect_unwritten, connect_world_behind, connect_written, connection_stops, left_transcript, told_full, told_quietly}
+use Rattle.engine_world.proofs.Left.{same_agenda}
+use Rattle.engine_world.proofs.Registers.{stops_left}
+use Rattle.engine_instructions.proofs.connects.connect_from_program.Goals as goal
+
+pub returns-in_err-connection-clause-step : goal.returns-in_err-connection-clause-step
+returns-in_err-connection-clause-step c =
+    let d = c.args.definition.now in
+    let e = c.args.engine.now in
+    let f = frame_view c.args.frame in
+    let k = connect_view c.args.connect.now in
+    let p = err_from_is_err_and c.from_residual.result c.from_residual.ensures.1 in
+    rw (p.1, p.2)
+    (stops_left e.counted (agenda_of d e) (connecting d (world_of e.world) (agenda_of d e) f c.args.to.0 c.args.object.0 k) _
+    (connection_stops d (world_of e.world) (agenda_of d e) f c.args.to.0 c.args.object.0 k _ c.in_err-connection.ensures.connection))
+
+pub write_register-requires : goal.write_register-requires
+write_register-requires c = record { counted = c.in_ok-outcome.ensures.counted.at _ c.requires.counted }
+
+pub returns-in_err-write_register-clause-step : goal.returns-in_err-write_register-clause-step
+returns-in_err-write_register-clause-step c =
+    let d = c.args.definition.now in
+    let e = c.args.engine.now in
+    let f = frame_view c.args.frame in
+    let k = connect_view c.args.connect.now in
+    let p = err_from_is_err_and c.from_residual-in_err-write_register.result c.from_residual-in_err-write_register.ensures.1 in
+    rw (p.1, p.2)
+    (connect_unwritten d e c.connect_handler.new.engine f c.args.to.0 c.args.object.0 k (connection_of c.in_ok-connection.connection) c.in_ok-outcome.outcome
+    c.in_ok-connection.ensures.connection c.in_ok-outcome.ensures.outcome c.in_ok-outcome.ensures.agenda c.connect_handler.ensures.same
+    c.is_connected-is_connected.result c.is_connected-is_connected.ensures _ c.in_err-write_register.ensures.step)
+
+pub returns-in_err-write_register-clause-quiet : goal.returns-in_err-write_register-clause-quiet
+returns-in_err-write_register-clause-quiet c =
+    let p = err_from_is_err_and c.from_residual-in_err-write_register.result c.from_residual-in_err-write_register.ensures.1 in
+    rw p.1
+    (c.in_err-write_register.ensures.quiet
+    ∙ ap (λ (w : World). w.transcript) c.in_ok-outcome.ensures.world
+    ∙ left_transcript c.in_ok-outcome.outcome (world_of c.args.engine.now.world) (connection_of c.in_ok-connection.connection))
+
+pub returns-then-not-is_full-clause-step : goal.returns-then-not-is_full-clause-step
+returns-then-not-is_full-clause-step c =
+    let d = c.args.definition.now in
+    let e = c.args.engine.now in
+    let m = c.connect_handler.new.engine in
+    let f = frame_view c.args.frame in
+    let k = connect_view c.args.connect.now in
+    let x = connection_of c.in_ok-connection.connection in
+    let o = c.in_ok-outcome.outcome in
+    let quiet : is_full o ≡ false = sym c.if-not-is_full.ensures in
+    let world = connect_world_behind d e m f c.args.to.0 c.args.object.0 k x o c.in_ok-connection.ensures.connection c.in_ok-outcome.ensures.outcome c.in_ok-outcome.ensures.agenda c.connect_handler.ensures.same
+    c.is_connected-is_connected.result c.is_connected-is_connected.ensures c.write_register.new.engine c.in_ok-write_register.ensures.step in
+    connect_written d e m f c.args.to.0 c.args.object.0 k x o c.in_ok-connection.ensures.connection c.in_ok-outcome.ensures.outcome c.in_ok-outcome.ensures.agenda c.connect_handler.ensures.same
+    c.is_connected-is_connected.result c.is_connected-is_connected.ensures c.write_register.new.engine c.write_register.new.engine c.in_ok-write_register.ensures.step
+    (world ∙ c.in_ok-outcome.ensures.world ∙ sym (told_quietly d o (world_of e.world) x quiet)) refl refl
+
+pub returns-clause-step : goal.returns-clause-step
+returns-clause-step c =
+    let d = c.args.definition.now in
+    let e = c.args.engine.now in
+    let m = c.connect_handler.new.engine in
+    let f = frame_view c.args.frame in
+    let k = connect_view c.args.connect.now in
+    let x = connection_of c.in_ok-connection.connection in
+    let o = c.in_ok-outcome.outcome in
+    let full : is_full o ≡ true = sym c.if-not-is_full.ensures in
+    let world = connect_world_behind d e m f c.args.to.0 c.args.object.0 k x o c.in_ok-connection.ensures.connection c.in_ok-outcome.ensures.outcome c.in_ok-outcome.ensures.agenda c.connect_handler.ensures.same
+    c.is_connected-is_connected.result c.is_connected-is_connected.ensures c.write_register.new.engine c.in_ok-write_register.ensures.step in
+    connect_written d e m f c.args.to.0 c.args.object.0 k x o c.in_ok-connection.ensures.connection c.in_ok-outcome.ensures.outcome c.in_ok-outcome.ensures.agenda c.connect_handler.ensures.same
+    c.is_connected-is_connected.result c.is_connected-is_connected.ensures c.write_register.new.engine c.say_limit.new.engine c.in_ok-write_register.ensures.step
+    (c.in_ok-say_limit.ensures.ok ∙ ap (λ (w : World). said d w (lines.limit (codes "connect"))) (world ∙ c.in_ok-outcome.ensures.world) ∙ sym (told_full d o (world_of e.world) x full))
+    (same_agenda d c.write_register.new.engine c.say_limit.new.engine c.say_limit.ensures.same.0 c.say_limit.ensures.handlers) c.say_limit.ensures.same.1
+
+pub returns-in_err-say_limit-clause-quiet : goal.returns-in_err-say_limit-clause-quiet
+returns-in_err-say_limit-clause-quiet c =
+    let d = c.args.definition.now in
+    let e = c.args.engine.now in
+    let k = connect_view c.args.connect.now in
+    let x = connection_of c.in_ok-connection.connection in
+    let o = c.in_ok-outcome.outcome in
+    let world = connect_world_behind d e c.connect_handler.new.engine (frame_view c.args.frame) c.args.to.0 c.args.object.0 k x o c.in_ok-connection.ensures.connection c.in_ok-outcome.ensures.outcome c.in_ok-outcome.ensures.agenda c.connect_handler.ensures.same
+    c.is_connected-is_connected.result c.is_connected-is_connected.ensures c.write_register.new.engine c.in_ok-write_register.ensures.step in
+    let p = err_from_is_err_and c.from_residual-in_err-say_limit.result c.from_residual-in_err-say_limit.ensures.1 in
+    rw p.1
+    (ap (λ (w : World). w.transcript) (c.in_err-say_limit.ensures.err ∙ world ∙ c.in_ok-outcome.ensures.world) ∙ left_transcript o (world_of e.world) x)
+
+pub returns-clause-counted : goal.returns-clause-counted
+returns-clause-counted c = c.in_ok-say_limit.ensures.counted.at nothing c.in_ok-write_register.ensures.counted

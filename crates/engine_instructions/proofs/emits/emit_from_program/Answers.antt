@@ -1,0 +1,40 @@
+use Rattle.std.proofs.Common.{[], ◌∷◌, List, ap, ◌∙◌}
+use Rattle.std.proofs.lemmas.Result.{err_from_is_err_and}
+use Rattle.ui_machine.specs.State.Tasks.{Beginning, Task}
+use Rattle.frames.specs.FrameView.{frame_view}
+use Rattle.engine_world.specs.Counting.{nothing}
+use Rattle.engine_instructions.specs.EmitView.{emit_of}
+use Rattle.engine_world.specs.TaskView.{agenda_of, new_of}
+use Rattle.engine_world.specs.View.{world_of}
+use Rattle.engine_instructions.proofs.Calling.{emission_begins, emission_stops}
+use Rattle.engine_instructions.proofs.Pushed.{count_pushed, frame_held, world_pushed}
+use Rattle.engine_instructions.proofs.Starting.{started_left}
+use Rattle.engine_instructions.proofs.emits.emit_from_program.Goals as goal
+
+pub returns-in_err-emission-clause-step : goal.returns-in_err-emission-clause-step
+returns-in_err-emission-clause-step c =
+    let d = c.args.definition.now in
+    let e = c.args.engine.now in
+    let p = err_from_is_err_and c.from_residual.result c.from_residual.ensures.1 in
+    rw (p.1, p.2) (emission_stops d (world_of e.world) (frame_view c.args.frame) c.args.object.0 (emit_of c.args.emit) _ c.in_err-emission.ensures e.counted (agenda_of d e))
+
+pub returns-clause-step : goal.returns-clause-step
+returns-clause-step c =
+    let d = c.args.definition.now in
+    let e = c.args.engine.now in
+    let w = world_of e.world in
+    let b = c.push_frame.new.engine in
+    let m = new_of c.in_ok-emission.emission in
+    let f = record (frame_view c.args.frame) { into = (emit_of c.args.emit).into } in
+    started_left e.counted (agenda_of d e) _ w (Beginning m ∷ []) f _ _ _
+    (emission_begins d w (frame_view c.args.frame) c.args.object.0 (emit_of c.args.emit) m c.in_ok-emission.ensures)
+    (c.push_task.ensures.world ∙ world_pushed d e b f c.push_frame.ensures.beside)
+    (c.in_ok-push_task.ensures.agenda d ∙ ap (λ (ts : List Task). Beginning m ∷ ts) (c.in_ok-push_frame.ensures.agenda d))
+    (c.push_task.ensures.same ∙ count_pushed d e b f c.push_frame.ensures.beside)
+
+pub returns-clause-counted : goal.returns-clause-counted
+returns-clause-counted c =
+    let d = c.args.definition.now in
+    let f = record (frame_view c.args.frame) { into = (emit_of c.args.emit).into } in
+    (c.in_ok-push_task.ensures.counted d).at nothing
+    (frame_held d c.args.engine.now c.push_frame.new.engine f (c.in_ok-push_frame.ensures.counted d) c.requires.counted)

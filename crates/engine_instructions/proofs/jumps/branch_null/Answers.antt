@@ -1,0 +1,38 @@
+use Rattle.std.proofs.Common.{Bool, List, Option, None, Some, true, false, ap, subst, sym, ◌∙◌}
+use Rattle.ui_machine.specs.Instructions.{in_front}
+use Rattle.ui_machine.specs.Outcome.{Answer, Goes}
+use Rattle.ui_machine.specs.Seq.{read}
+use Rattle.ui_machine.specs.State.Config.{Started}
+use Rattle.ui_machine.specs.Steps.{left}
+use Rattle.g_values.specs.declared.value.Value.{Value}
+use Rattle.bytecode.specs.Computing.{of_one, registers_of}
+use Rattle.frames.specs.FrameView.{frame_view}
+use Rattle.engine_world.specs.EngineView.{config_of}
+use Rattle.engine_instructions.specs.JumpView.{is_null}
+use Rattle.engine_world.specs.TaskView.{agenda_of}
+use Rattle.engine_world.specs.View.{world_of}
+use Rattle.engine_instructions.proofs.Jumping.{branches_null, no_null, stuck_left}
+use Rattle.engine_instructions.proofs.jumps.branch_null.Goals as goal
+
+pub returns-in_default-clause-step : goal.returns-in_default-clause-step
+returns-in_default-clause-step c =
+    let d = c.args.definition.now in
+    let e = c.args.engine.now in
+    let none = ap (λ (rs : List (Option Value)). of_one is_null (read None (registers_of rs) c.args.on.0)) (sym c.as_slice.ensures.value) ∙ sym c.in_default.ensures in
+    stuck_left d e _ _ (no_null d (world_of e.world) (frame_view c.args.frame) c.args.on.0 c.args.then_to.0 c.args.else_to.0 none)
+
+pub returns-then-is_null-clause-step : goal.returns-then-is_null-clause-step
+returns-then-is_null-clause-step c =
+    let d = c.args.definition.now in
+    let e = c.args.engine.now in
+    let some = ap (λ (rs : List (Option Value)). of_one is_null (read None (registers_of rs) c.args.on.0)) (sym c.as_slice.ensures.value) ∙ sym c.in-Some.ensures ∙ ap (λ (b : Bool). Some b) c.if-is_null.true in
+    subst (λ (a : Answer Started). Goes c.jump.result (left e.counted (in_front (agenda_of d e) a)) (config_of d c.jump.new.engine))
+    (sym (branches_null d (world_of e.world) (frame_view c.args.frame) c.args.on.0 c.args.then_to.0 c.args.else_to.0 true some)) c.jump.ensures.step
+
+pub returns-clause-step : goal.returns-clause-step
+returns-clause-step c =
+    let d = c.args.definition.now in
+    let e = c.args.engine.now in
+    let some = ap (λ (rs : List (Option Value)). of_one is_null (read None (registers_of rs) c.args.on.0)) (sym c.as_slice.ensures.value) ∙ sym c.in-Some.ensures ∙ ap (λ (b : Bool). Some b) c.if-is_null.false in
+    subst (λ (a : Answer Started). Goes c.jump-2.result (left e.counted (in_front (agenda_of d e) a)) (config_of d c.jump-2.new.engine))
+    (sym (branches_null d (world_of e.world) (frame_view c.args.frame) c.args.on.0 c.args.then_to.0 c.args.else_to.0 false some)) c.jump-2.ensures.step

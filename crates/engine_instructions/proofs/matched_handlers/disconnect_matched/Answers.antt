@@ -1,0 +1,43 @@
+use Rattle.std.proofs.Common.{◌+◌, List, ◌∷◌, map, ap, ◌∙◌, arith}
+use Rattle.std.proofs.lemmas.Result.{err_from_is_err_and}
+use Rattle.ui_machine.specs.Rules.Connections.{disconnected}
+use Rattle.ui_machine.specs.State.Config.{World}
+use Rattle.ui_machine.specs.State.Tasks.{Running, Task}
+use Rattle.machine_laws.specs.GoneLaws.{gone_in, pruned}
+use Rattle.frames.specs.FrameView.{frame_view}
+use Rattle.engine_world.specs.Counting.{in_frame, nothing}
+use Rattle.engine_instructions.specs.HandlersView.{matched_of}
+use Rattle.engine_world.specs.TaskView.{agenda_of}
+use Rattle.engine_world.specs.View.{world_of}
+use Rattle.engine_world.specs.declared.engine.Engine.{Engine}
+use Rattle.engine_instructions.proofs.Connections.{matched_goes, matched_stops, pruned_left}
+use Rattle.engine_world.proofs.Counts.{taken_alike}
+use Rattle.engine_instructions.proofs.matched_handlers.disconnect_matched.Goals as goal
+
+pub returns-in_err-matched-clause-step : goal.returns-in_err-matched-clause-step
+returns-in_err-matched-clause-step c =
+    let d = c.args.definition.now in
+    let e = c.args.engine.now in
+    let p = err_from_is_err_and c.from_residual.result c.from_residual.ensures.1 in
+    rw (p.1, p.2) (matched_stops d (world_of e.world) (frame_view c.args.frame) c.args.object.0 c.args.program.now disconnected _ c.in_err-matched.ensures e.counted (agenda_of d e))
+
+pub returns-clause-step : goal.returns-clause-step
+returns-clause-step c =
+    let d = c.args.definition.now in
+    let e = c.args.engine.now in
+    let f = frame_view c.args.frame in
+    let beside = c.push_frame.ensures.beside in
+    let w = disconnected (world_of e.world) c.in_ok-matched.matched.object.0 c.in_ok-matched.matched.program in
+    pruned_left e.counted (agenda_of d e) _ w f _ _ _
+    (matched_goes d (world_of e.world) f c.args.object.0 c.args.program.now disconnected (matched_of c.in_ok-matched.matched) c.in_ok-matched.ensures)
+    (ap (λ (x : Engine). world_of x.world) beside ∙ c.disconnect.ensures.world)
+    (c.in_ok-push_frame.ensures.agenda d ∙ ap (λ (ts : List Task). Running f ∷ ts) (c.disconnect.ensures.agenda ∙ ap (λ (v : World). map (pruned (gone_in v)) (agenda_of d e)) c.disconnect.ensures.world))
+    (ap (λ (x : Engine). x.counted) beside ∙ c.disconnect.ensures.same)
+
+pub returns-clause-counted : goal.returns-clause-counted
+returns-clause-counted c =
+    let d = c.args.definition.now in
+    let e = c.args.engine.now in
+    let f = frame_view c.args.frame in
+    c.in_ok-push_frame.ensures.counted d nothing
+    (taken_alike d c.disconnect.new.engine (λ o. in_frame o f) (λ o. nothing o + in_frame o f) (λ o. omega arith) (c.disconnect.ensures.counted.at _ c.requires.counted))

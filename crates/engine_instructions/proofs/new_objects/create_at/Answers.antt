@@ -1,0 +1,80 @@
+use Rattle.std.proofs.Common.{false, string_bytes, ap, ◌∙◌}
+use Rattle.std.proofs.lemmas.Result.{err_from_is_err_and}
+use Rattle.ui_machine.specs.Definition.Values as values
+use Rattle.std.specs.Prelude.{Some}
+use Rattle.ui_machine.specs.State.Config.{World}
+use Rattle.ui_machine.specs.State.Tasks.{Constructing}
+use Rattle.frames.specs.FrameView.{frame_view}
+use Rattle.g_values.specs.View.{value_view}
+use Rattle.engine_world.specs.Counting.{nothing}
+use Rattle.engine_instructions.specs.CreateView.{created}
+use Rattle.engine_world.specs.TaskView.{agenda_of}
+use Rattle.engine_world.specs.View.{with_line, world_of}
+use Rattle.engine_instructions.proofs.Creating.{create_unwritten, create_world, create_written, created_stops}
+use Rattle.engine_world.proofs.Left.{same_agenda}
+use Rattle.engine_world.proofs.Registers.{stops_left}
+use Rattle.engine_instructions.proofs.new_objects.create_at.Goals as goal
+
+pub returns-in_err-new-clause-step : goal.returns-in_err-new-clause-step
+returns-in_err-new-clause-step c =
+    let d = c.args.definition.now in
+    let e = c.args.engine.now in
+    let f = frame_view c.args.frame in
+    let p = err_from_is_err_and c.from_residual.result c.from_residual.ensures.1 in
+    rw (p.1, p.2)
+    (stops_left e.counted (agenda_of d e) (created d (world_of e.world) f c.args.to.0 c.args.place.0) _
+    (created_stops d (world_of e.world) f c.args.to.0 c.args.place.0 _ (c.in_err-new.ensures.stops false)))
+
+pub write_register-requires : goal.write_register-requires
+write_register-requires c = record { counted = c.in_ok-new.ensures.counted.at _ c.requires.counted }
+
+pub returns-in_err-write_register-clause-step : goal.returns-in_err-write_register-clause-step
+returns-in_err-write_register-clause-step c =
+    let d = c.args.definition.now in
+    let e = c.args.engine.now in
+    let m = c.make.new.engine in
+    let new = c.in_ok-new.new in
+    let u = with_line (string_bytes new.line) (world_of m.world) in
+    let p = err_from_is_err_and c.from_residual-in_err-write_register.result c.from_residual-in_err-write_register.ensures.1 in
+    rw (p.1, p.2)
+    (create_unwritten d e m (frame_view c.args.frame) c.args.to.0 c.args.place.0 u (Constructing new.object.0 new.steps false) (value_view c.object_value.result)
+    (c.in_ok-new.ensures.made false) (same_agenda d e m c.make.ensures.same.0 c.make.ensures.handlers) c.make.ensures.same.1
+    (c.object_value.ensures ∙ ap (λ n. values.object (Some n)) c.in_ok-new.ensures.identity)
+    _ c.in_err-write_register.ensures.step)
+
+pub returns-in_err-write_register-clause-quiet : goal.returns-in_err-write_register-clause-quiet
+returns-in_err-write_register-clause-quiet c =
+    let p = err_from_is_err_and c.from_residual-in_err-write_register.result c.from_residual-in_err-write_register.ensures.1 in
+    rw p.1 (c.in_err-write_register.ensures.quiet ∙ c.make.ensures.quiet)
+
+pub returns-clause-step : goal.returns-clause-step
+returns-clause-step c =
+    let d = c.args.definition.now in
+    let e = c.args.engine.now in
+    let m = c.make.new.engine in
+    let mid = c.write_register.new.engine in
+    let new = c.in_ok-new.new in
+    let f = frame_view c.args.frame in
+    let v = value_view c.object_value.result in
+    let u = with_line (string_bytes new.line) (world_of m.world) in
+    let t = Constructing new.object.0 new.steps false in
+    let agenda = same_agenda d e m c.make.ensures.same.0 c.make.ensures.handlers in
+    let names = c.object_value.ensures ∙ ap (λ n. values.object (Some n)) c.in_ok-new.ensures.identity in
+    let world = create_world d e m f c.args.to.0 c.args.place.0 u t v (c.in_ok-new.ensures.made false) agenda c.make.ensures.same.1 names mid c.in_ok-write_register.ensures.step in
+    create_written d e m f c.args.to.0 c.args.place.0 u t v (c.in_ok-new.ensures.made false) agenda c.make.ensures.same.1 names mid c.in_ok-write_register.ensures.step
+    c.begin_construction.new.engine (c.in_ok-begin_construction.ensures.world ∙ ap (λ (w : World). with_line (string_bytes new.line) w) world) (c.in_ok-begin_construction.ensures.agenda d) c.begin_construction.ensures.same
+
+pub returns-in_err-begin_construction-clause-quiet : goal.returns-in_err-begin_construction-clause-quiet
+returns-in_err-begin_construction-clause-quiet c =
+    let d = c.args.definition.now in
+    let e = c.args.engine.now in
+    let m = c.make.new.engine in
+    let new = c.in_ok-new.new in
+    let world = create_world d e m (frame_view c.args.frame) c.args.to.0 c.args.place.0 (with_line (string_bytes new.line) (world_of m.world)) (Constructing new.object.0 new.steps false)
+    (value_view c.object_value.result) (c.in_ok-new.ensures.made false) (same_agenda d e m c.make.ensures.same.0 c.make.ensures.handlers) c.make.ensures.same.1
+    (c.object_value.ensures ∙ ap (λ n. values.object (Some n)) c.in_ok-new.ensures.identity) c.write_register.new.engine c.in_ok-write_register.ensures.step in
+    let p = err_from_is_err_and c.from_residual-in_err-begin_construction.result c.from_residual-in_err-begin_construction.ensures.1 in
+    rw p.1 (c.in_err-begin_construction.ensures.quiet ∙ ap (λ (w : World). w.transcript) world ∙ c.make.ensures.quiet)
+
+pub returns-clause-counted : goal.returns-clause-counted
+returns-clause-counted c = (c.in_ok-begin_construction.ensures.counted c.args.definition.now).at nothing c.in_ok-write_register.ensures.counted

@@ -1,0 +1,47 @@
+use Rattle.std.proofs.Common.{[], ap, ◌∙◌}
+use Rattle.std.proofs.lemmas.Result.{err_from_is_err_and}
+use Rattle.frames.specs.FrameView.{frame_view}
+use Rattle.ui_machine.specs.Instructions.Objects.{orphaning}
+use Rattle.ui_machine.specs.Rules.Children.{orphaned}
+use Rattle.ui_machine.specs.State.Config.{World}
+use Rattle.ui_machine.specs.State.Objects.{living}
+use Rattle.instances.specs.Family.{parent_in}
+use Rattle.engine_world.specs.Counting.{nothing}
+use Rattle.engine_world.specs.TaskView.{agenda_of}
+use Rattle.engine_world.specs.View.{world_of}
+use Rattle.engine_world.proofs.Left.{same_agenda}
+use Rattle.engine_instructions.proofs.ObjectSteps.{orphan_none, orphans}
+use Rattle.engine_instructions.proofs.Pushed.{count_pushed, frame_held, world_pushed}
+use Rattle.engine_world.proofs.Registers.{stops_left}
+use Rattle.engine_instructions.proofs.Starting.{started_left}
+use Rattle.engine_instructions.proofs.objects.orphan.Goals as goal
+
+pub returns-in_err-object-clause-step : goal.returns-in_err-object-clause-step
+returns-in_err-object-clause-step c =
+    let d = c.args.definition.now in
+    let e = c.args.engine.now in
+    let w = world_of e.world in
+    let f = frame_view c.args.frame in
+    let p = err_from_is_err_and c.from_residual.result c.from_residual.ensures.1 in
+    rw (p.1, p.2)
+    (stops_left e.counted (agenda_of d e) (orphaning d w f c.args.object.0) _ (orphan_none d w f c.args.object.0 _ c.in_err-object.ensures))
+
+pub returns-clause-step : goal.returns-clause-step
+returns-clause-step c =
+    let d = c.args.definition.now in
+    let e = c.args.engine.now in
+    let w = world_of e.world in
+    let f = frame_view c.args.frame in
+    let b = c.push_frame.new.engine in
+    let id = c.in_ok-object.object.0 in
+    started_left e.counted (agenda_of d e) (orphaning d w f c.args.object.0) (orphaned d w id (parent_in (living w.objects id))) [] f _ _ _
+    (orphans d w f c.args.object.0 id c.in_ok-object.ensures)
+    (c.in_ok-leave.ensures.ok ∙ ap (λ (v : World). orphaned d v id (parent_in (living v.objects id))) (world_pushed d e b f c.push_frame.ensures.beside))
+    (same_agenda d b c.leave.new.engine c.leave.ensures.same.0 c.leave.ensures.handlers ∙ c.in_ok-push_frame.ensures.agenda d)
+    (c.leave.ensures.same.1 ∙ count_pushed d e b f c.push_frame.ensures.beside)
+
+pub returns-clause-counted : goal.returns-clause-counted
+returns-clause-counted c =
+    let d = c.args.definition.now in
+    c.in_ok-leave.ensures.counted.at nothing
+    (frame_held d c.args.engine.now c.push_frame.new.engine (frame_view c.args.frame) (c.in_ok-push_frame.ensures.counted d) c.requires.counted)

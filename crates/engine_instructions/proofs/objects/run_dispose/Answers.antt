@@ -1,0 +1,80 @@
+use Rattle.std.proofs.Common.{◌≡◌, [], false, IsSome, ap, subst, sym, ◌∙◌}
+use Rattle.std.specs.Prelude.{OnOk, Result, Ok, Err}
+use Rattle.std.proofs.lemmas.Result.{err_from_is_err_and}
+use Rattle.frames.specs.FrameView.{frame_view}
+use Rattle.ui_machine.specs.declared.arm.Halt.{Halt}
+use Rattle.ui_machine.specs.Instructions.Objects.{disposing}
+use Rattle.ui_machine.specs.Rules.Sets.{is_disposed}
+use Rattle.ui_machine.specs.State.Objects.{living}
+use Rattle.instances.specs.Weak.{Knows}
+use Rattle.engine_world.specs.Counting.{Counts, KeepsCounts, nothing}
+use Rattle.engine_world.specs.TaskView.{agenda_of}
+use Rattle.engine_world.specs.View.{world_of}
+use Rattle.engine_world.specs.declared.engine.Engine.{Engine}
+use Rattle.engine_instructions.proofs.Disposing.{disposes_behind}
+use Rattle.engine_instructions.proofs.ObjectSteps.{dispose_none, disposes_nothing, operand_lives}
+use Rattle.engine_instructions.proofs.Pushed.{count_pushed, frame_held, world_pushed}
+use Rattle.engine_world.proofs.Registers.{stops_left}
+use Rattle.engine_instructions.proofs.Starting.{started_left}
+use Rattle.engine_instructions.proofs.Whole.{goes_whole}
+use Rattle.engine_instructions.proofs.objects.run_dispose.Goals as goal
+
+pub returns-in_err-object-clause-step : goal.returns-in_err-object-clause-step
+returns-in_err-object-clause-step c =
+    let d = c.args.definition.now in
+    let e = c.args.engine.now in
+    let w = world_of e.world in
+    let f = frame_view c.args.frame in
+    let p = err_from_is_err_and c.from_residual.result c.from_residual.ensures.1 in
+    rw (p.1, p.2)
+    (stops_left e.counted (agenda_of d e) (disposing d w f c.args.object.0) _ (dispose_none d w f c.args.object.0 _ c.in_err-object.ensures))
+
+pub returns-then-is_disposed-clause-step : goal.returns-then-is_disposed-clause-step
+returns-then-is_disposed-clause-step c =
+    let d = c.args.definition.now in
+    let e = c.args.engine.now in
+    let w = world_of e.world in
+    let f = frame_view c.args.frame in
+    let b = c.push_frame.new.engine in
+    let id = c.in_ok-object.object.0 in
+    let so = ap (λ (x : Engine). is_disposed (living x.world.table.objects id)) (sym c.push_frame.ensures.beside) ∙ sym c.is_disposed.ensures ∙ c.if-is_disposed.true in
+    goes_whole d b (Ok (tt {0})) _
+    (started_left e.counted (agenda_of d e) (disposing d w f c.args.object.0) w [] f _ _ _
+    (disposes_nothing d w f c.args.object.0 id c.in_ok-object.ensures so)
+    (world_pushed d e b f c.push_frame.ensures.beside) (c.in_ok-push_frame.ensures.agenda d) (count_pushed d e b f c.push_frame.ensures.beside))
+
+pub returns-then-is_disposed-clause-counted : goal.returns-then-is_disposed-clause-counted
+returns-then-is_disposed-clause-counted c =
+    let d = c.args.definition.now in
+    frame_held d c.args.engine.now c.push_frame.new.engine (frame_view c.args.frame) (c.in_ok-push_frame.ensures.counted d) c.requires.counted
+
+pub dispose-requires : goal.dispose-requires
+dispose-requires c =
+    let d = c.args.definition.now in
+    let e = c.args.engine.now in
+    let id = c.in_ok-object.object.0 in
+    let back = sym c.push_frame.ensures.beside in
+    record {
+      live = subst (λ (x : Engine). IsSome (living x.world.table.objects id)) back (operand_lives (world_of e.world) (frame_view c.args.frame) c.args.object.0 id c.in_ok-object.ensures);
+      first = sym c.is_disposed.ensures ∙ c.if-is_disposed.false;
+      knows = subst (λ (x : Engine). Knows d x.world.weak) back c.requires.counted.knows;
+    }
+
+pub returns-clause-step : goal.returns-clause-step
+returns-clause-step c =
+    let d = c.args.definition.now in
+    let e = c.args.engine.now in
+    let f = frame_view c.args.frame in
+    let id = c.in_ok-object.object.0 in
+    let first : is_disposed (living e.world.table.objects id) ≡ false =
+    ap (λ (x : Engine). is_disposed (living x.world.table.objects id)) (sym c.push_frame.ensures.beside) ∙ sym c.is_disposed.ensures ∙ c.if-is_disposed.false in
+    disposes_behind d e c.push_frame.new.engine c.dispose.new.engine f c.args.object.0 id c.in_ok-object.ensures first c.push_frame.ensures.beside (c.in_ok-push_frame.ensures.agenda d)
+    c.dispose.result c.dispose.ensures.step c.dispose.ensures.agenda c.dispose.ensures.same
+
+pub returns-clause-counted : goal.returns-clause-counted
+returns-clause-counted c = on c.dispose.result c.dispose.ensures.counted
+  where
+    on : (result : Result (Unit {0}) Halt) → OnOk result (KeepsCounts c.args.definition.now c.push_frame.new.engine c.dispose.new.engine)
+        → OnOk result (Counts c.args.definition.now nothing c.dispose.new.engine)
+    on (Ok x) k = k.at nothing (frame_held c.args.definition.now c.args.engine.now c.push_frame.new.engine (frame_view c.args.frame) (c.in_ok-push_frame.ensures.counted c.args.definition.now) c.requires.counted)
+    on (Err halt) k = tt

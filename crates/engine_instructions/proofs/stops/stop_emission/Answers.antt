@@ -1,0 +1,57 @@
+use Rattle.std.proofs.Common.{◌≡◌, ◌≤◌, ◌∙◌, refl, sym, ap, subst, List, ◌∷◌}
+use Rattle.ui_machine.specs.Rules.Accumulation.{stopped}
+use Rattle.ui_machine.specs.State.Tasks.{Emission, Emitting, PlanEntry}
+use Rattle.signal_core.specs.Emission.{Walk}
+use Rattle.signal_core.specs.Emission as walks
+use Rattle.engine_world.specs.KnownHandlers.{TakesKnownHandlers}
+use Rattle.engine_world.specs.TaskView.{emission_of, entries_to_come, task_of, tasks_of}
+use Rattle.engine_world.specs.declared.task.Task as code
+use Rattle.engine_world.specs.declared.task.Task.TheVariants as tasks
+use Rattle.engine_instructions.proofs.StoppedEmissions.{IsOther, stop_leaves, stop_same, stops_none}
+use Rattle.engine_instructions.proofs.stops.stop_emission.Goals as goal
+
+pub returns-in_default-clause-agenda : goal.returns-in_default-clause-agenda
+returns-in_default-clause-agenda c d =
+    let none = c.in_default.ensures.tasks d c.args.engine.now.world.handlers.handlers in
+    none.1 ∙ ap stopped (sym none.0)
+
+pub returns-in_default-task : goal.returns-in_default-task
+returns-in_default-task c = record {
+  agenda = λ d.
+      let hs = c.args.engine.now.world.handlers.handlers in
+      let first = c.in-Some.ensures.tasks d hs in
+      c.in_ok-push.ensures.tasks d hs ∙ sym (ap stopped first ∙ stops_none d hs c.in-Some.task (tasks_of d hs c.pop.new.self) (other c.in-Some.task refl));
+  beside = refl;
+  begun = λ last h. c.in_ok-push.ensures.begun last (c.in-Some.ensures.first last h) (c.in-Some.ensures.begun last h);
+}
+  where
+    other : (t : code.Task) → c.in-Some.task ≡ t → IsOther t
+    other (tasks.Emitting cursor args by_event) is = absurd (c.in_default-task.not-Emitting cursor args by_event is)
+    other (tasks.Setting id slot v) is = tt
+    other (tasks.Notifying id slot) is = tt
+    other (tasks.Beginning e) is = tt
+    other (tasks.Running frame) is = tt
+    other (tasks.Thawing id slots) is = tt
+    other (tasks.Constructing id steps held) is = tt
+    other (tasks.Building place forwards) is = tt
+    other (tasks.Adopting place forwards) is = tt
+    other (tasks.Connecting place number) is = tt
+    other (tasks.Handling event) is = tt
+
+pub returns-clause-agenda : goal.returns-clause-agenda
+returns-clause-agenda c d =
+    let hs = c.args.engine.now.world.handlers.handlers in
+    let w = c.in-Emitting.cursor in
+    let args = c.in-Emitting.args.items in
+    let rest = tasks_of d hs c.pop.new.self in
+    let first = c.in-Some.ensures.tasks d hs ∙ ap (λ (t : code.Task). task_of d hs t ∷ rest) c.in-Emitting.is in
+    c.in_ok-push-2.ensures.tasks d hs
+    ∙ ap (λ (u : Walk). Emitting (emission_of u args c.in-Emitting.by_event) (entries_to_come u hs) ∷ rest) c.stop.ensures
+    ∙ ap (λ (e : Emission). Emitting e (entries_to_come (walks.stopped w) hs) ∷ rest) (sym (stop_same w hs args c.in-Emitting.by_event))
+    ∙ ap (λ (entries : List PlanEntry). Emitting (emission_of w args c.in-Emitting.by_event) entries ∷ rest) (sym (stop_leaves w hs args c.in-Emitting.by_event))
+    ∙ ap stopped (sym first)
+
+pub returns-clause-begun : goal.returns-clause-begun
+returns-clause-begun c last h =
+    let was : c.in-Emitting.cursor.greatest ≤ last = subst (λ (t : code.Task). TakesKnownHandlers last t) c.in-Emitting.is (c.in-Some.ensures.first last h) in
+    c.in_ok-push-2.ensures.begun last (subst (λ (u : Walk). u.greatest ≤ last) (sym c.stop.ensures) was) (c.in-Some.ensures.begun last h)

@@ -1,0 +1,15 @@
+pub mod CollectView
+pub mod EmitView
+pub mod HandlersView
+pub mod JumpView
+pub mod PropertyView
+pub mod Groups
+pub mod CreateView
+pub use Rattle.engine_world.specs.ConnectView
+pub use Rattle.engine_world.specs.Counting
+pub use Rattle.engine_world.specs.EngineView
+pub use Rattle.engine_world.specs.GivenView
+pub use Rattle.engine_world.specs.KnownHandlers
+pub use Rattle.engine_world.specs.Standing
+pub use Rattle.engine_world.specs.TaskView
+pub use Rattle.engine_world.specs.View

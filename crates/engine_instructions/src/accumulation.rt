@@ -1,0 +1,151 @@
+//! What programs give: an emission collects it (GObject manual, Signals: GSignalAccumulator).
+
+ghost use Rattle.std.specs.Prelude.{◌≡◌, ℕ, ◌+◌, ◌≤◌, option_map, IfSome, OnOk};
+ghost use Rattle.ui_machine.specs.Outcome.{Goes};
+ghost use Rattle.ui_machine.specs.Rules.Accumulation.{down_to_emission, given_down, suits};
+ghost use Rattle.ui_machine.specs.Rules.Transform.{kind_fits};
+ghost use Rattle.ui_machine.specs.State.Objects.{class_in};
+ghost use Rattle.ui_machine.specs.State.References.{in_emission, in_register};
+ghost use Rattle.g_values.specs.View.{kind_view, value_view};
+ghost use Rattle.signal_core.specs.Emission.{accumulator_of};
+ghost use Rattle.definition_format.specs.Meaning.{IsKnownKind};
+ghost use Rattle.instances.specs.Store.{count_of};
+ghost use Rattle.engine_world.specs.KnownHandlers.{AllTakeKnownHandlers};
+ghost use Rattle.engine_instructions.specs.CollectView.{TestsNone, collects};
+ghost use Rattle.engine_world.specs.Counting.{Counts, HoldsTasks, KeepsCounts, OnlyCounts, OnlyTasks};
+ghost use Rattle.engine_world.specs.TaskView.{agenda_of, emission_of, entries_to_come};
+ghost use Rattle.engine_world.specs.View.{world_of};
+
+use definitions::Definition;
+use engine_world::arguments::fits;
+use engine_world::engine::Engine;
+use engine_world::references::{accumulated, hold_any, let_go_any};
+use engine_world::task::Task;
+use g_values::{Kind, Value};
+use instances::Table;
+use signal_core::{Accumulator, Cursor, is_last};
+use std::alloc::AllocError;
+use type_tree::TypeTree;
+use ui_machine::{Arm, Halt};
+
+/// Whether what a program gave is what is wanted.
+pub(crate) fn suits(
+    table: &Table,
+    types: &TypeTree,
+    given: &Option<Value>,
+    kind: Option<Kind>,
+) -> bool
+    requires known { IfSome (option_map kind_view kind) (IsKnownKind types.now) }
+    ensures { result ≡ suits (kind_fits (class_in table.now.objects) types.now) (option_map value_view given.now) (option_map kind_view kind) }
+{
+    match (given, kind) {
+        (None, None) => true,
+        (Some(value), Some(kind)) => fits(table, types, value, kind),
+        _ => false,
+    }
+}
+
+// An emission takes what its program gave, if it gave something. It holds what that names, and lets go what the value before it named.
+fn collect(
+    table: &mut Table,
+    cursor: &mut Cursor,
+    accumulator: Option<Accumulator>,
+    given: Option<Value>,
+) -> Result<(), AllocError>
+    requires held { (o : ℕ) → in_register o cursor.now.value ≤ count_of table.now.counts o }
+    ensures taken { OnOk result (cursor.new ≡ collects (option_map accumulator_of accumulator) (option_map value_view given) cursor.old) }
+    ensures only { OnlyCounts table.old table.new }
+    ensures counts { OnOk result ((o : ℕ) → count_of table.new.counts o + in_register o cursor.old.value ≡ count_of table.old.counts o + in_register o cursor.new.value) }
+{
+    let Some(value) = given else {
+        return Ok(());
+    };
+    let held = accumulated(cursor);
+    let is_last = is_last(accumulator, &value);
+    cursor.collect(value, is_last);
+    hold_any(table, accumulated(cursor))?;
+    let_go_any(table, held);
+    Ok(())
+}
+
+// Whether a program gives nothing, as it has to where no emission is below it.
+fn check_none(given: &Option<Value>) -> Result<(), Halt>
+    ensures { TestsNone result (option_map value_view given.now) }
+{
+    match given {
+        None => Ok(()),
+        Some(_) => Err(Halt::Stuck(Arm::Result)),
+    }
+}
+
+// An emission collects what its program gave, which may stop it.
+fn accumulate(
+    engine: &mut Engine,
+    definition: &Definition,
+    mut cursor: Cursor,
+    args: Vec<Value>,
+    by_event: bool,
+    given: Option<Value>,
+) -> Result<(), Halt>
+    requires held { (o : ℕ) → in_register o cursor.value ≤ count_of engine.now.world.table.counts o }
+    requires begun { cursor.greatest ≤ engine.now.world.handlers.last }
+    ensures step { Goes result
+        (down_to_emission definition.now (world_of engine.old.world) (emission_of cursor args.items by_event) (entries_to_come cursor engine.old.world.handlers.handlers)
+        (agenda_of definition.now engine.old) (option_map value_view given))
+        (record { world = world_of engine.new.world; agenda = agenda_of definition.now engine.new }) }
+    ensures only { OnlyTasks engine.old engine.new }
+    ensures counted { OnOk result ((taken : ℕ → ℕ)
+        → Counts definition.now (λ o. taken o + in_emission o (emission_of cursor args.items by_event)) engine.old → Counts definition.now taken engine.new) }
+{
+    let types = definition.types();
+    let object = cursor.object();
+    let number = cursor.signal();
+    let class = engine.world.table.class_of(object)?;
+    let Some(signal) = definition.signal(class, number) else {
+        return Err(Halt::Stuck(Arm::Code));
+    };
+    if !suits(&engine.world.table, types, &given, signal.result) {
+        return Err(Halt::Stuck(Arm::Result));
+    }
+    collect(
+        &mut engine.world.table,
+        &mut cursor,
+        signal.accumulator,
+        given,
+    )?;
+    engine.stack.push(Task::Emitting {
+        cursor,
+        args,
+        by_event,
+    })?;
+    Ok(())
+}
+
+/// What a program gives goes to the task below it: an emission collects it, and to all others it gives nothing.
+pub(crate) fn give_down(
+    engine: &mut Engine,
+    definition: &Definition,
+    given: Option<Value>,
+) -> Result<(), Halt>
+    requires held { HoldsTasks definition.now engine.now }
+    requires begun { AllTakeKnownHandlers engine.now.world.handlers.last engine.now.stack }
+    ensures step { Goes result
+        (given_down definition.now (world_of engine.old.world) (agenda_of definition.now engine.old) (option_map value_view given))
+        (record { world = world_of engine.new.world; agenda = agenda_of definition.now engine.new }) }
+    ensures only { OnlyTasks engine.old engine.new }
+    ensures counted { OnOk result (KeepsCounts definition.now engine.old engine.new) }
+{
+    let Some(task) = engine.stack.pop() else {
+        return check_none(&given);
+    };
+    let Task::Emitting {
+        cursor,
+        args,
+        by_event,
+    } = task
+    else {
+        engine.stack.push(task)?;
+        return check_none(&given);
+    };
+    accumulate(engine, definition, cursor, args, by_event, given)
+}

@@ -1,0 +1,107 @@
+//! `connect`: a program connects a handler (GObject manual, Signals: `g_signal_connect_data`).
+
+ghost use Rattle.std.specs.Prelude.{◌≡◌, true, option_map, IfOk, OnOk, OnErr};
+ghost use Rattle.ui_machine.specs.Instructions.{in_front};
+ghost use Rattle.ui_machine.specs.Instructions.Registers.{data_in};
+ghost use Rattle.ui_machine.specs.Instructions.Signals.{connecting};
+ghost use Rattle.ui_machine.specs.Outcome.{Goes};
+ghost use Rattle.ui_machine.specs.Steps.{left};
+ghost use Rattle.frames.specs.FrameView.{frame_view};
+ghost use Rattle.bytecode.specs.View.{connect_view, number_of};
+ghost use Rattle.instances.specs.Store.{id_of};
+ghost use Rattle.signal_core.specs.Connected.{connection_of};
+ghost use Rattle.engine_world.specs.ConnectView.{connection_in};
+ghost use Rattle.engine_world.specs.Counting.{Counts, in_frame, nothing};
+ghost use Rattle.engine_world.specs.EngineView.{config_of};
+ghost use Rattle.engine_world.specs.GivenView.{Finds};
+ghost use Rattle.engine_world.specs.TaskView.{agenda_of};
+ghost use Rattle.engine_world.specs.View.{world_of};
+
+use crate::emits::signal_in;
+use crate::operands::{object_in, program_named};
+use crate::registers::write_register;
+use bytecode::{Connection as Connect, Register};
+use definitions::Definition;
+use engine_world::arguments::{as_text, detail_in};
+use engine_world::children::say_limit;
+use engine_world::connections::connect_handler;
+use engine_world::engine::Engine;
+use frames::Frame;
+use g_values::Value;
+use signal_core::Connection;
+use ui_machine::{Halt, ObjectId};
+
+// The object that is the data, if there is one.
+#[tactic(auto, unfolding(ui_machine::specs::Instructions::Registers::data_in))]
+fn data_in(engine: &Engine, frame: &Frame, with: Option<Register>) -> Result<Option<ObjectId>, Halt>
+    ensures { Finds id_of result (data_in (world_of engine.now.world) (frame_view frame.now) (option_map number_of with)) }
+{
+    let Some(with) = with else {
+        return Ok(None);
+    };
+    let data = object_in(engine, frame, with)?;
+    Ok(Some(data))
+}
+
+// What the object that a register names is connected with.
+fn new_connection(
+    engine: &Engine,
+    definition: &Definition,
+    frame: &Frame,
+    object: Register,
+    connect: &Connect,
+) -> Result<Connection, Halt>
+    ensures connection { Finds connection_of result (connection_in definition.now (world_of engine.now.world) (frame_view frame.now) object.0 (connect_view connect.now)) }
+    ensures by_code { IfOk result (λ c. c.by_code ≡ true) }
+{
+    let object = object_in(engine, frame, object)?;
+    let signal = signal_in(engine, definition, object, connect.signal.as_str())?;
+    let detail = detail_in(engine, definition, object, signal, as_text(&connect.detail))?;
+    let program = program_named(definition, connect.program.as_str())?;
+    let data = data_in(engine, frame, connect.with)?;
+    Ok(Connection {
+        object,
+        signal,
+        detail,
+        program,
+        after: connect.after,
+        swapped: connect.swapped,
+        data,
+        by_code: true,
+    })
+}
+
+/// A handler is connected, unless one of its objects is disposed, or as many are connected as may be, of which a line tells. A register gets
+/// whether it was.
+pub(crate) fn connect_from_program(
+    engine: &mut Engine,
+    definition: &Definition,
+    frame: Frame,
+    to: Register,
+    object: Register,
+    connect: &Connect,
+) -> Result<(), Halt>
+    requires counted { Counts definition.now (λ o. in_frame o (frame_view frame)) engine.now }
+    ensures step { Goes result
+        (left engine.old.counted (in_front (agenda_of definition.now engine.old)
+        (connecting definition.now (world_of engine.old.world) (agenda_of definition.now engine.old) (frame_view frame) to.0 object.0 (connect_view connect.now))))
+        (config_of definition.now engine.new) }
+    ensures quiet { OnErr result ((world_of engine.new.world).transcript ≡ (world_of engine.old.world).transcript) }
+    ensures counted { OnOk result (Counts definition.now nothing engine.new) }
+{
+    let connection = new_connection(engine, definition, &frame, object, connect)?;
+    let outcome = connect_handler(engine, definition, connection)?;
+    let is_connected = outcome.is_connected();
+    write_register(
+        engine,
+        definition,
+        frame,
+        to,
+        Some(Value::Bool(is_connected)),
+    )?;
+    if !outcome.is_full() {
+        return Ok(());
+    }
+    say_limit(engine, definition, "connect")?;
+    Ok(())
+}

@@ -1,0 +1,112 @@
+//! `emit`: a program emits a signal (GObject manual, Signals: `g_signal_emit`).
+
+ghost use Rattle.std.specs.Prelude.{◌≡◌, OnOk, OnErr};
+ghost use Rattle.ui_machine.specs.Instructions.{in_front};
+ghost use Rattle.ui_machine.specs.Instructions.Signals.{emitting, signal_in, signal_to_emit};
+ghost use Rattle.ui_machine.specs.Outcome.{Goes};
+ghost use Rattle.ui_machine.specs.Steps.{left};
+ghost use Rattle.frames.specs.FrameView.{frame_view};
+ghost use Rattle.engine_world.specs.Counting.{Counts, in_frame, nothing};
+ghost use Rattle.engine_world.specs.EngineView.{config_of};
+ghost use Rattle.engine_instructions.specs.EmitView.{emission_by_code, emit_of};
+ghost use Rattle.engine_world.specs.GivenView.{Finds};
+ghost use Rattle.engine_world.specs.TaskView.{agenda_of, new_of};
+ghost use Rattle.engine_world.specs.View.{world_of};
+
+use crate::operands::object_in;
+use bytecode::Register;
+use definitions::Definition;
+use engine_world::arguments::detail_in;
+use engine_world::engine::Engine;
+use engine_world::frames::push_frame;
+use engine_world::references::push_task;
+use engine_world::task::{NewEmission, Task};
+use frames::{Frame, values_at};
+use ui_machine::{Arm, Halt, ObjectId, SignalId};
+
+/// What `emit` says beside the object.
+#[derive(Clone, Copy, Debug)]
+pub(crate) struct Emit<'a> {
+    /// The register that waits for the result.
+    pub(crate) into: Option<Register>,
+    pub(crate) signal: &'a str,
+    pub(crate) detail: Option<&'a str>,
+    pub(crate) args: &'a [Register],
+}
+
+/// The number of an object's signal by name.
+pub(crate) fn signal_in(
+    engine: &Engine,
+    definition: &Definition,
+    object: ObjectId,
+    name: &str,
+) -> Result<SignalId, Halt>
+    ensures { Finds (λ n. n) result (signal_in definition.now (world_of engine.now.world) object.0 name.now) }
+{
+    let class = engine.world.table.class_of(object)?;
+    match definition.signal_number(class, name) {
+        Some(number) => Ok(number),
+        None => Err(Halt::Stuck(Arm::Code)),
+    }
+}
+
+// The signal that a program emits, which is not `notify`.
+fn signal_to_emit(
+    engine: &Engine,
+    definition: &Definition,
+    object: ObjectId,
+    name: &str,
+) -> Result<SignalId, Halt>
+    ensures { Finds (λ n. n) result (signal_to_emit definition.now (world_of engine.now.world) object.0 name.now) }
+{
+    let signal = signal_in(engine, definition, object, name)?;
+    if signal == 0 {
+        return Err(Halt::Stuck(Arm::Code));
+    }
+    Ok(signal)
+}
+
+// The emission that a program is to begin.
+fn new_emission(
+    engine: &Engine,
+    definition: &Definition,
+    frame: &Frame,
+    object: Register,
+    emit: Emit<'_>,
+) -> Result<NewEmission, Halt>
+    ensures { Finds (λ e. new_of e) result (emission_by_code definition.now (world_of engine.now.world) (frame_view frame.now) object.0 (emit_of emit.entry)) }
+{
+    let object = object_in(engine, frame, object)?;
+    let signal = signal_to_emit(engine, definition, object, emit.signal)?;
+    let detail = detail_in(engine, definition, object, signal, emit.detail)?;
+    let args = values_at(engine.alloc, frame.registers.as_slice(), emit.args)?;
+    Ok(NewEmission {
+        object,
+        signal,
+        detail,
+        args,
+        by_event: false,
+    })
+}
+
+/// An emission is to begin, and the program waits for its result where it takes one.
+pub(crate) fn emit_from_program(
+    engine: &mut Engine,
+    definition: &Definition,
+    mut frame: Frame,
+    object: Register,
+    emit: Emit<'_>,
+) -> Result<(), Halt>
+    requires counted { Counts definition.now (λ o. in_frame o (frame_view frame)) engine.now }
+    ensures step { Goes result
+        (left engine.old.counted (in_front (agenda_of definition.now engine.old) (emitting definition.now (world_of engine.old.world) (frame_view frame) object.0 (emit_of emit.entry))))
+        (config_of definition.now engine.new) }
+    ensures quiet { OnErr result ((world_of engine.new.world).transcript ≡ (world_of engine.old.world).transcript) }
+    ensures counted { OnOk result (Counts definition.now nothing engine.new) }
+{
+    let emission = new_emission(engine, definition, &frame, object, emit)?;
+    frame.into = emit.into;
+    push_frame(engine, frame)?;
+    push_task(engine, Task::Beginning(emission))?;
+    Ok(())
+}

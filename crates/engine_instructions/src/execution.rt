@@ -1,0 +1,205 @@
+//! Instructions: what each of them does.
+
+ghost use Rattle.std.specs.Prelude.{◌≡◌, false, Some, IfSome, OnOk, OnErr};
+ghost use Rattle.ui_machine.specs.Definition.Lookups.{program_at};
+ghost use Rattle.ui_machine.specs.Instructions.{instruction_step};
+ghost use Rattle.ui_machine.specs.Outcome.{Goes};
+ghost use Rattle.ui_machine.specs.Steps.{left};
+ghost use Rattle.g_values.specs.View.{IsKnown};
+ghost use Rattle.frames.specs.FrameView.{frame_view};
+ghost use Rattle.bytecode.specs.Known.{IsKnownInstruction};
+ghost use Rattle.bytecode.specs.Later.{is_later};
+ghost use Rattle.bytecode.specs.View.{instruction_view, program_view};
+ghost use Rattle.engine_world.specs.View.{world_of};
+ghost use Rattle.engine_world.specs.TaskView.{agenda_of};
+ghost use Rattle.engine_world.specs.Counting.{Counts, in_frame, nothing};
+ghost use Rattle.engine_world.specs.EngineView.{config_of};
+ghost use Rattle.engine_instructions.specs.Groups.{ActsOnObjects, ActsOnSignals, DisconnectsNone};
+ghost use Rattle.engine_world.specs.Standing.{GoesWithoutGone};
+
+use crate::connects::connect_from_program;
+use crate::emits::{Emit, emit_from_program};
+use crate::jumps::{branch, branch_null, jump};
+use crate::matched_handlers::{block_matched, disconnect_matched, unblock_matched};
+use crate::new_objects::create;
+use crate::objects::{
+    adopt_from_program, freeze_notify, look_up_object, orphan, run_dispose, sink, thaw_notify,
+};
+use crate::properties::{get_property, notify_from_program, set_property};
+use crate::registers::execute_computation;
+use crate::returns::return_from_program;
+use crate::stops::stop_from_program;
+use bytecode::{Instruction, Program};
+use definitions::Definition;
+use engine_world::arguments::as_text;
+use engine_world::engine::Engine;
+use frames::Frame;
+use ui_machine::{Arm, Halt};
+
+/// Does what an instruction says, which is counted already. Handlers that it disconnects have no more turns in the emissions that go on.
+pub fn execute(
+    engine: &mut Engine,
+    definition: &Definition,
+    program: &Program,
+    frame: Frame,
+    instruction: &Instruction,
+) -> Result<(), Halt>
+    requires program { program_at definition.now (frame_view frame).program ≡ Some (program_view program.now) }
+    requires known { IsKnownInstruction definition.now.types instruction.now }
+    requires result { IfSome program.now.result (IsKnown definition.now.types) }
+    requires counted { Counts definition.now (λ o. in_frame o (frame_view frame)) engine.now }
+    ensures step { GoesWithoutGone result
+        (left engine.old.counted (instruction_step definition.now (world_of engine.old.world) (agenda_of definition.now engine.old) (frame_view frame) (instruction_view instruction.now)))
+        (config_of definition.now engine.new) }
+    ensures quiet { OnErr result ((world_of engine.new.world).transcript ≡ (world_of engine.old.world).transcript) }
+    ensures counted { OnOk result (Counts definition.now nothing engine.new) }
+{
+    match instruction {
+        Instruction::Disconnect { object, program } => {
+            disconnect_matched(engine, definition, frame, *object, program.as_str())
+        }
+        Instruction::Dispose(object) => run_dispose(engine, definition, frame, *object),
+        _ => execute_on_registers(engine, definition, program, frame, instruction),
+    }
+}
+
+// Does what an instruction says that disconnects no handler: here, what touches registers alone, and where the program goes on or that it
+// ends.
+fn execute_on_registers(
+    engine: &mut Engine,
+    definition: &Definition,
+    program: &Program,
+    frame: Frame,
+    instruction: &Instruction,
+) -> Result<(), Halt>
+    requires program { program_at definition.now (frame_view frame).program ≡ Some (program_view program.now) }
+    requires acts { DisconnectsNone instruction.now }
+    requires known { IsKnownInstruction definition.now.types instruction.now }
+    requires result { IfSome program.now.result (IsKnown definition.now.types) }
+    requires counted { Counts definition.now (λ o. in_frame o (frame_view frame)) engine.now }
+    ensures step { Goes result
+        (left engine.old.counted (instruction_step definition.now (world_of engine.old.world) (agenda_of definition.now engine.old) (frame_view frame) (instruction_view instruction.now)))
+        (config_of definition.now engine.new) }
+    ensures quiet { OnErr result ((world_of engine.new.world).transcript ≡ (world_of engine.old.world).transcript) }
+    ensures counted { OnOk result (Counts definition.now nothing engine.new) }
+{
+    match instruction {
+        Instruction::Compute { to, computation } => {
+            execute_computation(engine, definition, frame, *to, computation)
+        }
+        Instruction::Jump(to) => jump(engine, definition, program, frame, *to),
+        Instruction::Branch {
+            on,
+            then_to,
+            else_to,
+        } => branch(engine, definition, program, frame, *on, *then_to, *else_to),
+        Instruction::BranchNull {
+            on,
+            then_to,
+            else_to,
+        } => branch_null(engine, definition, program, frame, *on, *then_to, *else_to),
+        Instruction::Return(from) => return_from_program(engine, definition, program, frame, *from),
+        _ => execute_on_objects(engine, definition, program, frame, instruction),
+    }
+}
+
+// The instructions on objects and their properties.
+fn execute_on_objects(
+    engine: &mut Engine,
+    definition: &Definition,
+    program: &Program,
+    frame: Frame,
+    instruction: &Instruction,
+) -> Result<(), Halt>
+    requires program { program_at definition.now (frame_view frame).program ≡ Some (program_view program.now) }
+    requires acts { ActsOnObjects instruction.now }
+    requires later { is_later (instruction_view instruction.now) ≡ false }
+    requires counted { Counts definition.now (λ o. in_frame o (frame_view frame)) engine.now }
+    ensures step { Goes result
+        (left engine.old.counted (instruction_step definition.now (world_of engine.old.world) (agenda_of definition.now engine.old) (frame_view frame) (instruction_view instruction.now)))
+        (config_of definition.now engine.new) }
+    ensures quiet { OnErr result ((world_of engine.new.world).transcript ≡ (world_of engine.old.world).transcript) }
+    ensures counted { OnOk result (Counts definition.now nothing engine.new) }
+{
+    match instruction {
+        Instruction::Get {
+            to,
+            object,
+            property,
+        } => get_property(engine, definition, frame, *to, *object, property.as_str()),
+        Instruction::Set {
+            object,
+            property,
+            from,
+        } => set_property(engine, definition, frame, *object, property.as_str(), *from),
+        Instruction::Notify { object, property } => {
+            notify_from_program(engine, definition, frame, *object, property.as_str())
+        }
+        Instruction::Object { to, id } => look_up_object(
+            engine,
+            definition,
+            frame,
+            *to,
+            id.as_str(),
+        ),
+        Instruction::New { to, id } => create(engine, definition, frame, *to, id.as_str()),
+        Instruction::Sink(object) => sink(engine, definition, frame, *object),
+        Instruction::Orphan(object) => orphan(engine, definition, frame, *object),
+        Instruction::Adopt { to, parent, child } => {
+            adopt_from_program(engine, definition, frame, *to, *parent, *child)
+        }
+        Instruction::Freeze(object) => freeze_notify(engine, definition, frame, *object),
+        Instruction::Thaw(object) => thaw_notify(engine, definition, frame, *object),
+        _ => execute_on_signals(engine, definition, program, frame, instruction),
+    }
+}
+
+// The instructions on signals and handlers. They are the last ones of those that are known so far.
+fn execute_on_signals(
+    engine: &mut Engine,
+    definition: &Definition,
+    program: &Program,
+    frame: Frame,
+    instruction: &Instruction,
+) -> Result<(), Halt>
+    requires program { program_at definition.now (frame_view frame).program ≡ Some (program_view program.now) }
+    requires acts { ActsOnSignals instruction.now }
+    requires later { is_later (instruction_view instruction.now) ≡ false }
+    requires counted { Counts definition.now (λ o. in_frame o (frame_view frame)) engine.now }
+    ensures step { Goes result
+        (left engine.old.counted (instruction_step definition.now (world_of engine.old.world) (agenda_of definition.now engine.old) (frame_view frame) (instruction_view instruction.now)))
+        (config_of definition.now engine.new) }
+    ensures quiet { OnErr result ((world_of engine.new.world).transcript ≡ (world_of engine.old.world).transcript) }
+    ensures counted { OnOk result (Counts definition.now nothing engine.new) }
+{
+    match instruction {
+        Instruction::Stop => stop_from_program(engine, definition, frame),
+        Instruction::Emit {
+            into,
+            object,
+            signal,
+            detail,
+            args,
+        } => {
+            let emit = Emit {
+                into: *into,
+                signal: signal.as_str(),
+                detail: as_text(detail),
+                args: args.as_slice(),
+            };
+            emit_from_program(engine, definition, frame, *object, emit)
+        }
+        Instruction::Connect {
+            to,
+            object,
+            connection,
+        } => connect_from_program(engine, definition, frame, *to, *object, connection),
+        Instruction::Block { object, program } => {
+            block_matched(engine, definition, frame, *object, program.as_str())
+        }
+        Instruction::Unblock { object, program } => {
+            unblock_matched(engine, definition, frame, *object, program.as_str())
+        }
+        _ => Err(Halt::Stuck(Arm::Code)),
+    }
+}

@@ -1,0 +1,113 @@
+//! Jumps and branches: where a program goes on.
+
+ghost use Rattle.std.specs.Prelude.{◌≡◌, None, Some, OnOk, OnErr};
+ghost use Rattle.ui_machine.specs.Definition.Lookups.{program_at};
+ghost use Rattle.ui_machine.specs.Instructions.{in_front};
+ghost use Rattle.ui_machine.specs.Instructions.Jumps.{branching, branching_null, jumping};
+ghost use Rattle.ui_machine.specs.Outcome.{Goes};
+ghost use Rattle.ui_machine.specs.Seq.{read};
+ghost use Rattle.ui_machine.specs.Steps.{left};
+ghost use Rattle.bytecode.specs.Computing.{of_one, registers_of};
+ghost use Rattle.frames.specs.FrameView.{frame_view};
+ghost use Rattle.bytecode.specs.View.{program_view};
+ghost use Rattle.engine_world.specs.View.{world_of};
+ghost use Rattle.engine_world.specs.TaskView.{agenda_of};
+ghost use Rattle.engine_world.specs.Counting.{Counts, in_frame, nothing};
+ghost use Rattle.engine_world.specs.EngineView.{config_of};
+ghost use Rattle.engine_instructions.specs.JumpView.{is_null};
+
+use bytecode::{BlockNumber, Program, Register};
+use definitions::Definition;
+use engine_world::engine::Engine;
+use engine_world::frames::push_frame;
+use frames::{Frame, truth_at, value_at};
+use g_values::Value;
+use ui_machine::{Arm, Halt};
+
+// Whether the text or the object in a register is null, if it has one.
+fn null_at(registers: &[Option<Value>], at: Register) -> Option<bool>
+    ensures { result ≡ of_one is_null (read None (registers_of registers.now) at.0) }
+{
+    match value_at(registers, at)? {
+        Value::Text(text) => Some(text.is_none()),
+        Value::Object(_, object) => Some(object.is_none()),
+        _ => None,
+    }
+}
+
+/// The program goes on at a block.
+pub(crate) fn jump(
+    engine: &mut Engine,
+    definition: &Definition,
+    program: &Program,
+    mut frame: Frame,
+    to: BlockNumber,
+) -> Result<(), Halt>
+    requires program { program_at definition.now (frame_view frame).program ≡ Some (program_view program.now) }
+    requires counted { Counts definition.now (λ o. in_frame o (frame_view frame)) engine.now }
+    ensures step { Goes result
+        (left engine.old.counted (in_front (agenda_of definition.now engine.old) (jumping definition.now (world_of engine.old.world) (frame_view frame) to.0)))
+        (config_of definition.now engine.new) }
+    ensures quiet { OnErr result ((world_of engine.new.world).transcript ≡ (world_of engine.old.world).transcript) }
+    ensures counted { OnOk result (Counts definition.now nothing engine.new) }
+{
+    // For the proof: the clauses speak of the definition.
+    let _ = definition;
+    frame.jump(program, to)?;
+    push_frame(engine, frame)?;
+    Ok(())
+}
+
+/// The program goes on at one of two blocks, by the truth value in a register.
+pub(crate) fn branch(
+    engine: &mut Engine,
+    definition: &Definition,
+    program: &Program,
+    frame: Frame,
+    on: Register,
+    then_to: BlockNumber,
+    else_to: BlockNumber,
+) -> Result<(), Halt>
+    requires program { program_at definition.now (frame_view frame).program ≡ Some (program_view program.now) }
+    requires counted { Counts definition.now (λ o. in_frame o (frame_view frame)) engine.now }
+    ensures step { Goes result
+        (left engine.old.counted (in_front (agenda_of definition.now engine.old) (branching definition.now (world_of engine.old.world) (frame_view frame) on.0 then_to.0 else_to.0)))
+        (config_of definition.now engine.new) }
+    ensures quiet { OnErr result ((world_of engine.new.world).transcript ≡ (world_of engine.old.world).transcript) }
+    ensures counted { OnOk result (Counts definition.now nothing engine.new) }
+{
+    let Some(truth) = truth_at(frame.registers.as_slice(), on) else {
+        return Err(Halt::Stuck(Arm::Register));
+    };
+    if truth {
+        return jump(engine, definition, program, frame, then_to);
+    }
+    jump(engine, definition, program, frame, else_to)
+}
+
+/// The same, by whether the text or the object in the register is null.
+pub(crate) fn branch_null(
+    engine: &mut Engine,
+    definition: &Definition,
+    program: &Program,
+    frame: Frame,
+    on: Register,
+    then_to: BlockNumber,
+    else_to: BlockNumber,
+) -> Result<(), Halt>
+    requires program { program_at definition.now (frame_view frame).program ≡ Some (program_view program.now) }
+    requires counted { Counts definition.now (λ o. in_frame o (frame_view frame)) engine.now }
+    ensures step { Goes result
+        (left engine.old.counted (in_front (agenda_of definition.now engine.old) (branching_null definition.now (world_of engine.old.world) (frame_view frame) on.0 then_to.0 else_to.0)))
+        (config_of definition.now engine.new) }
+    ensures quiet { OnErr result ((world_of engine.new.world).transcript ≡ (world_of engine.old.world).transcript) }
+    ensures counted { OnOk result (Counts definition.now nothing engine.new) }
+{
+    let Some(is_null) = null_at(frame.registers.as_slice(), on) else {
+        return Err(Halt::Stuck(Arm::Register));
+    };
+    if is_null {
+        return jump(engine, definition, program, frame, then_to);
+    }
+    jump(engine, definition, program, frame, else_to)
+}

@@ -1,0 +1,16 @@
+//! Instructions: what each one does, as the machine's.
+#![tactic(auto)]
+
+pub mod accumulation;
+pub mod connects;
+pub mod emits;
+pub mod execution;
+pub mod jumps;
+pub mod matched_handlers;
+pub mod new_objects;
+pub mod objects;
+pub mod operands;
+pub mod properties;
+pub mod registers;
+pub mod returns;
+pub mod stops;

@@ -1,0 +1,157 @@
+//! Instructions on handlers (GObject manual, Signals: `g_signal_connect_data`, `g_signal_handlers_disconnect_matched`,
+//! `g_signal_handlers_block_matched`).
+
+ghost use Rattle.std.specs.Prelude.{◌≡◌, map, OnOk, OnErr};
+ghost use Rattle.ui_machine.specs.Instructions.{in_front};
+ghost use Rattle.ui_machine.specs.Instructions.Signals.{blocking, disconnecting, unblocking};
+ghost use Rattle.ui_machine.specs.Outcome.{Goes};
+ghost use Rattle.ui_machine.specs.Rules.Connections.{blocked, disconnected, unblocked, with_handlers_on};
+ghost use Rattle.ui_machine.specs.Steps.{left};
+ghost use Rattle.frames.specs.FrameView.{frame_view};
+ghost use Rattle.machine_laws.specs.GoneLaws.{gone_in, pruned};
+ghost use Rattle.engine_world.specs.Counting.{Counts, KeepsCounts, in_frame, nothing};
+ghost use Rattle.engine_world.specs.EngineView.{config_of};
+ghost use Rattle.engine_world.specs.GivenView.{Finds};
+ghost use Rattle.engine_instructions.specs.HandlersView.{matched_in, matched_of};
+ghost use Rattle.engine_world.specs.Standing.{GoesWithoutGone};
+ghost use Rattle.engine_world.specs.TaskView.{agenda_of};
+ghost use Rattle.engine_world.specs.View.{world_of};
+
+use crate::operands::{object_in, program_named};
+use bytecode::Register;
+use definitions::Definition;
+use engine_world::engine::Engine;
+use engine_world::frames::push_frame;
+use frames::Frame;
+use ui_machine::{Halt, ObjectId, ProgramId};
+
+/// The handlers of a program on an object.
+#[derive(Clone, Copy, Debug)]
+struct Matched {
+    object: ObjectId,
+    program: ProgramId,
+}
+
+// The handlers of the program of a name, on the object that a register names.
+fn matched_in(
+    engine: &Engine,
+    definition: &Definition,
+    frame: &Frame,
+    object: Register,
+    program: &str,
+) -> Result<Matched, Halt>
+    ensures { Finds matched_of result (matched_in definition.now (world_of engine.now.world) (frame_view frame.now) object.0 program.now) }
+{
+    let object = object_in(engine, frame, object)?;
+    let program = program_named(definition, program)?;
+    Ok(Matched { object, program })
+}
+
+// Disconnects them. They have no more turns in the emissions that go on.
+fn disconnect(engine: &mut Engine, definition: &Definition, matched: Matched)
+    ensures world { world_of engine.new.world ≡ disconnected (world_of engine.old.world) matched.object.0 matched.program }
+    ensures agenda { agenda_of definition.now engine.new ≡ map (pruned (gone_in (world_of engine.new.world))) (agenda_of definition.now engine.old) }
+    ensures same { engine.new.counted ≡ engine.old.counted }
+    ensures counted { KeepsCounts definition.now engine.old engine.new }
+{
+    // For the proof: the clauses speak of the definition, and of the numbers of handlers.
+    let _ = definition;
+    let _last = engine.world.handlers.last();
+    engine
+        .world
+        .handlers
+        .disconnect_matched(matched.object, matched.program);
+}
+
+// Blocks them once more.
+fn block(engine: &mut Engine, definition: &Definition, matched: Matched)
+    ensures world { world_of engine.new.world ≡ with_handlers_on blocked (world_of engine.old.world) matched.object.0 matched.program }
+    ensures agenda { agenda_of definition.now engine.new ≡ agenda_of definition.now engine.old }
+    ensures same { engine.new.counted ≡ engine.old.counted }
+    ensures counted { KeepsCounts definition.now engine.old engine.new }
+{
+    // For the proof: the clauses speak of the definition.
+    let _ = definition;
+    engine
+        .world
+        .handlers
+        .block_matched(matched.object, matched.program);
+}
+
+// Blocks them once less.
+fn unblock(engine: &mut Engine, definition: &Definition, matched: Matched)
+    ensures world { world_of engine.new.world ≡ with_handlers_on unblocked (world_of engine.old.world) matched.object.0 matched.program }
+    ensures agenda { agenda_of definition.now engine.new ≡ agenda_of definition.now engine.old }
+    ensures same { engine.new.counted ≡ engine.old.counted }
+    ensures counted { KeepsCounts definition.now engine.old engine.new }
+{
+    // For the proof: the clauses speak of the definition.
+    let _ = definition;
+    engine
+        .world
+        .handlers
+        .unblock_matched(matched.object, matched.program);
+}
+
+/// The handlers of a program on an object are disconnected.
+pub(crate) fn disconnect_matched(
+    engine: &mut Engine,
+    definition: &Definition,
+    frame: Frame,
+    object: Register,
+    program: &str,
+) -> Result<(), Halt>
+    requires counted { Counts definition.now (λ o. in_frame o (frame_view frame)) engine.now }
+    ensures step { GoesWithoutGone result
+        (left engine.old.counted (in_front (agenda_of definition.now engine.old) (disconnecting definition.now (world_of engine.old.world) (frame_view frame) object.0 program.now)))
+        (config_of definition.now engine.new) }
+    ensures quiet { OnErr result ((world_of engine.new.world).transcript ≡ (world_of engine.old.world).transcript) }
+    ensures counted { OnOk result (Counts definition.now nothing engine.new) }
+{
+    let matched = matched_in(engine, definition, &frame, object, program)?;
+    disconnect(engine, definition, matched);
+    push_frame(engine, frame)?;
+    Ok(())
+}
+
+/// The handlers of a program on an object are blocked once more.
+pub(crate) fn block_matched(
+    engine: &mut Engine,
+    definition: &Definition,
+    frame: Frame,
+    object: Register,
+    program: &str,
+) -> Result<(), Halt>
+    requires counted { Counts definition.now (λ o. in_frame o (frame_view frame)) engine.now }
+    ensures step { Goes result
+        (left engine.old.counted (in_front (agenda_of definition.now engine.old) (blocking definition.now (world_of engine.old.world) (frame_view frame) object.0 program.now)))
+        (config_of definition.now engine.new) }
+    ensures quiet { OnErr result ((world_of engine.new.world).transcript ≡ (world_of engine.old.world).transcript) }
+    ensures counted { OnOk result (Counts definition.now nothing engine.new) }
+{
+    let matched = matched_in(engine, definition, &frame, object, program)?;
+    block(engine, definition, matched);
+    push_frame(engine, frame)?;
+    Ok(())
+}
+
+/// The handlers of a program on an object are blocked once less.
+pub(crate) fn unblock_matched(
+    engine: &mut Engine,
+    definition: &Definition,
+    frame: Frame,
+    object: Register,
+    program: &str,
+) -> Result<(), Halt>
+    requires counted { Counts definition.now (λ o. in_frame o (frame_view frame)) engine.now }
+    ensures step { Goes result
+        (left engine.old.counted (in_front (agenda_of definition.now engine.old) (unblocking definition.now (world_of engine.old.world) (frame_view frame) object.0 program.now)))
+        (config_of definition.now engine.new) }
+    ensures quiet { OnErr result ((world_of engine.new.world).transcript ≡ (world_of engine.old.world).transcript) }
+    ensures counted { OnOk result (Counts definition.now nothing engine.new) }
+{
+    let matched = matched_in(engine, definition, &frame, object, program)?;
+    unblock(engine, definition, matched);
+    push_frame(engine, frame)?;
+    Ok(())
+}

@@ -1,0 +1,142 @@
+//! `new`: an object of a prototype is made (GObject manual, GObject: `g_object_new`).
+
+ghost use Rattle.std.specs.Prelude.{◌≡◌, ◌-◌, List, min, OnOk, OnErr};
+ghost use Rattle.ui_machine.specs.Instructions.{in_front};
+ghost use Rattle.ui_machine.specs.Instructions.Objects.{creating};
+ghost use Rattle.ui_machine.specs.Outcome.{Goes};
+ghost use Rattle.ui_machine.specs.Rules.Build.{is_making, of_items, to_make};
+ghost use Rattle.ui_machine.specs.State.Handlers.{Handler};
+ghost use Rattle.ui_machine.specs.Steps.{left};
+ghost use Rattle.definition_format.specs.Meaning.{object_count};
+ghost use Rattle.frames.specs.FrameView.{frame_view};
+ghost use Rattle.instances.specs.Store.{Shows};
+ghost use Rattle.engine_world.specs.Counting.{Counts, in_frame, nothing};
+ghost use Rattle.engine_instructions.specs.CreateView.{created, has_room, prototype_named};
+ghost use Rattle.engine_world.specs.EngineView.{config_of};
+ghost use Rattle.engine_world.specs.TaskView.{agenda_of, task_of};
+ghost use Rattle.engine_world.specs.View.{world_of};
+
+use crate::registers::{write_null_and_say_limit, write_register};
+use bytecode::Register;
+use definitions::Definition;
+use engine_world::engine::Engine;
+use engine_world::given::{object_or_null, object_value};
+use engine_world::objects::{begin_construction, make};
+use engine_world::places::entry_at;
+use engine_world::task::Task;
+use frames::Frame;
+use ui_machine::{Arm, Halt, Place};
+
+// The place of the prototype of an id.
+fn prototype_named(definition: &Definition, id: &str) -> Result<Place, Arm>
+    ensures { Shows (λ (place : Place). place.0) result (prototype_named definition.now id.now) }
+{
+    let Some(place) = definition.place(id) else {
+        return Err(Arm::Code);
+    };
+    let Some(entry) = entry_at(definition, place) else {
+        return Err(Arm::Code);
+    };
+    if !entry.is_prototype {
+        return Err(Arm::Code);
+    }
+    Ok(place)
+}
+
+// How many objects of a definition stand from a place on.
+fn objects_from(definition: &Definition, place: Place) -> u32
+    ensures { result ≡ object_count definition.now - place.0 }
+{
+    // For the proof: how many objects a definition has at most.
+    let _limits = definition.limits();
+    let first = usize::from(place.0);
+    definition.object_count().saturating_sub(first) as u32
+}
+
+// How many objects the builder makes by a task.
+fn made_by(task: &Task, definition: &Definition) -> u32
+    ensures { (hs : List Handler) → result ≡ of_items is_making (task_of definition.now hs task.now) }
+{
+    // For the proof: what is known of a definition's places.
+    let _types = definition.types();
+    match task {
+        Task::Building { place, .. } => objects_from(definition, *place),
+        Task::Adopting { place, .. } => objects_from(definition, *place).saturating_sub(1),
+        _ => 0,
+    }
+}
+
+// How many objects the builder has still to make, up to the greatest number that there is.
+fn objects_to_make(engine: &Engine, definition: &Definition) -> u32
+    ensures { result ≡ min (to_make (agenda_of definition.now engine.now)) u32.MAX }
+{
+    let mut count: u32 = 0;
+    for task in &engine.stack.tasks {
+        count = count.saturating_add(made_by(task, definition));
+    }
+    count
+}
+
+// Whether one more object may be made, beside those that the builder has still to make: they count in number and in identities.
+fn has_room(engine: &Engine, definition: &Definition) -> bool
+    ensures { result ≡ has_room definition.now (world_of engine.now.world) (to_make (agenda_of definition.now engine.now)) }
+{
+    let to_come = objects_to_make(engine, definition);
+    engine
+        .world
+        .table
+        .has_room_below(definition.limits().objects, to_come)
+}
+
+// A register gets a new object of the prototype at a place. The rest of its construction comes before the program goes on.
+fn create_at(
+    engine: &mut Engine,
+    definition: &Definition,
+    frame: Frame,
+    to: Register,
+    place: Place,
+) -> Result<(), Halt>
+    requires counted { Counts definition.now (λ o. in_frame o (frame_view frame)) engine.now }
+    ensures step { Goes result
+        (left engine.old.counted (in_front (agenda_of definition.now engine.old) (created definition.now (world_of engine.old.world) (frame_view frame) to.0 place.0)))
+        (config_of definition.now engine.new) }
+    ensures quiet { OnErr result ((world_of engine.new.world).transcript ≡ (world_of engine.old.world).transcript) }
+    ensures counted { OnOk result (Counts definition.now nothing engine.new) }
+{
+    let new = make(engine, definition, place)?;
+    write_register(
+        engine,
+        definition,
+        frame,
+        to,
+        Some(object_value(new.object)),
+    )?;
+    begin_construction(engine, new, false)?;
+    Ok(())
+}
+
+/// A register gets a new object of the prototype of an id, or null where no more objects may live, of which a line tells. The rest of the
+/// object's construction comes before the program goes on.
+pub(crate) fn create(
+    engine: &mut Engine,
+    definition: &Definition,
+    frame: Frame,
+    to: Register,
+    id: &str,
+) -> Result<(), Halt>
+    requires counted { Counts definition.now (λ o. in_frame o (frame_view frame)) engine.now }
+    ensures step { Goes result
+        (left engine.old.counted (in_front (agenda_of definition.now engine.old)
+        (creating definition.now (world_of engine.old.world) (agenda_of definition.now engine.old) (frame_view frame) to.0 id.now)))
+        (config_of definition.now engine.new) }
+    ensures quiet { OnErr result ((world_of engine.new.world).transcript ≡ (world_of engine.old.world).transcript) }
+    ensures counted { OnOk result (Counts definition.now nothing engine.new) }
+{
+    // For the proof: what is known of a definition's places.
+    let _types = definition.types();
+    let place = prototype_named(definition, id)?;
+    if !has_room(engine, definition) {
+        return write_null_and_say_limit(engine, definition, frame, to, object_or_null(None), "new");
+    }
+    create_at(engine, definition, frame, to, place)
+}

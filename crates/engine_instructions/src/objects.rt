@@ -1,0 +1,246 @@
+//! Instructions on objects: `object`, `sink`, `orphan`, `adopt`, `dispose`, `freeze` and `thaw`.
+
+ghost use Rattle.std.specs.Prelude.{◌≡◌, false, map, IsSome, OnOk, OnErr};
+ghost use Rattle.ui_machine.specs.Instructions.{in_front};
+ghost use Rattle.ui_machine.specs.Instructions.Objects.{adopting, disposing, freezing, look_up_object, orphaning, sinking, thaw_notify};
+ghost use Rattle.ui_machine.specs.Outcome.{Goes};
+ghost use Rattle.ui_machine.specs.Rules.Children.{orphaned};
+ghost use Rattle.ui_machine.specs.Rules.Disposal.{disposed};
+ghost use Rattle.ui_machine.specs.Rules.Sets.{is_disposed};
+ghost use Rattle.ui_machine.specs.State.Objects.{living};
+ghost use Rattle.ui_machine.specs.Steps.{left};
+ghost use Rattle.frames.specs.FrameView.{frame_view};
+ghost use Rattle.instances.specs.Family.{parent_in};
+ghost use Rattle.instances.specs.Weak.{Knows};
+ghost use Rattle.machine_laws.specs.GoneLaws.{gone_in, pruned};
+ghost use Rattle.engine_world.specs.View.{world_of};
+ghost use Rattle.engine_world.specs.TaskView.{agenda_of};
+ghost use Rattle.engine_world.specs.Counting.{Counts, KeepsCounts, in_frame, nothing};
+ghost use Rattle.engine_world.specs.EngineView.{config_of};
+ghost use Rattle.engine_world.specs.Standing.{GoesWithoutGone};
+
+use crate::operands::object_in;
+use crate::registers::write_register;
+use bytecode::Register;
+use definitions::Definition;
+use engine_world::children::join_objects;
+use engine_world::engine::Engine;
+use engine_world::frames::push_frame;
+use engine_world::given::object_or_null;
+use engine_world::lines::Line;
+use engine_world::places::entry_at;
+use engine_world::references::push_task;
+use engine_world::task::{Slots, Task};
+use frames::Frame;
+use g_values::Value;
+use std::alloc::AllocError;
+use ui_machine::{Arm, Halt, ObjectId};
+
+/// A register is written with the object that the builder has of an id, or with null where it has none.
+pub(crate) fn look_up_object(
+    engine: &mut Engine,
+    definition: &Definition,
+    frame: Frame,
+    to: Register,
+    id: &str,
+) -> Result<(), Halt>
+    requires counted { Counts definition.now (λ o. in_frame o (frame_view frame)) engine.now }
+    ensures step { Goes result
+        (left engine.old.counted (in_front (agenda_of definition.now engine.old) (look_up_object definition.now (world_of engine.old.world) (frame_view frame) to.0 id.now)))
+        (config_of definition.now engine.new) }
+    ensures quiet { OnErr result ((world_of engine.new.world).transcript ≡ (world_of engine.old.world).transcript) }
+    ensures counted { OnOk result (Counts definition.now nothing engine.new) }
+{
+    let Some(place) = definition.place(id) else {
+        return Err(Halt::Stuck(Arm::Code));
+    };
+    let Some(entry) = entry_at(definition, place) else {
+        return Err(Halt::Stuck(Arm::Code));
+    };
+    if entry.is_prototype {
+        return Err(Halt::Stuck(Arm::Code));
+    }
+    let object = object_or_null(engine.world.built(place));
+    write_register(engine, definition, frame, to, Some(object))
+}
+
+/// An object floats no longer.
+pub(crate) fn sink(
+    engine: &mut Engine,
+    definition: &Definition,
+    frame: Frame,
+    object: Register,
+) -> Result<(), Halt>
+    requires counted { Counts definition.now (λ o. in_frame o (frame_view frame)) engine.now }
+    ensures step { Goes result
+        (left engine.old.counted (in_front (agenda_of definition.now engine.old) (sinking (world_of engine.old.world) (frame_view frame) object.0)))
+        (config_of definition.now engine.new) }
+    ensures quiet { OnErr result ((world_of engine.new.world).transcript ≡ (world_of engine.old.world).transcript) }
+    ensures counted { OnOk result (Counts definition.now nothing engine.new) }
+{
+    // For the proof: the clauses speak of the definition.
+    let _ = definition;
+    let object = object_in(engine, &frame, object)?;
+    engine.world.table.sink(object);
+    push_frame(engine, frame)?;
+    Ok(())
+}
+
+/// The notifications of an object wait from now on.
+pub(crate) fn freeze_notify(
+    engine: &mut Engine,
+    definition: &Definition,
+    frame: Frame,
+    object: Register,
+) -> Result<(), Halt>
+    requires counted { Counts definition.now (λ o. in_frame o (frame_view frame)) engine.now }
+    ensures step { Goes result
+        (left engine.old.counted (in_front (agenda_of definition.now engine.old) (freezing (world_of engine.old.world) (frame_view frame) object.0)))
+        (config_of definition.now engine.new) }
+    ensures quiet { OnErr result ((world_of engine.new.world).transcript ≡ (world_of engine.old.world).transcript) }
+    ensures counted { OnOk result (Counts definition.now nothing engine.new) }
+{
+    // For the proof: the clauses speak of the definition.
+    let _ = definition;
+    let object = object_in(engine, &frame, object)?;
+    engine.world.table.freeze(object)?;
+    push_frame(engine, frame)?;
+    Ok(())
+}
+
+/// One freeze of an object is taken off. Where it was the last one, what waited is notified before the program goes on.
+pub(crate) fn thaw_notify(
+    engine: &mut Engine,
+    definition: &Definition,
+    frame: Frame,
+    object: Register,
+) -> Result<(), Halt>
+    requires counted { Counts definition.now (λ o. in_frame o (frame_view frame)) engine.now }
+    ensures step { Goes result
+        (left engine.old.counted (in_front (agenda_of definition.now engine.old) (thaw_notify (world_of engine.old.world) (frame_view frame) object.0)))
+        (config_of definition.now engine.new) }
+    ensures quiet { OnErr result ((world_of engine.new.world).transcript ≡ (world_of engine.old.world).transcript) }
+    ensures counted { OnOk result (Counts definition.now nothing engine.new) }
+{
+    // For the proof: the clauses speak of the definition.
+    let _ = definition;
+    let object = object_in(engine, &frame, object)?;
+    let slots = engine.world.table.thaw(object)?;
+    push_frame(engine, frame)?;
+    push_task(
+        engine,
+        Task::Thawing {
+            object,
+            slots: Slots::new(slots),
+        },
+    )?;
+    Ok(())
+}
+
+// An object leaves its parent, if it has one.
+fn leave(engine: &mut Engine, definition: &Definition, child: ObjectId) -> Result<(), AllocError>
+    ensures ok { let w = world_of engine.old.world in OnOk result (world_of engine.new.world ≡ orphaned definition.now w child.0 (parent_in (living w.objects child.0))) }
+    ensures err { OnErr result ((world_of engine.new.world).transcript ≡ (world_of engine.old.world).transcript) }
+    ensures same { (engine.new.stack ≡ engine.old.stack) × (engine.new.counted ≡ engine.old.counted) }
+    ensures handlers { engine.new.world.handlers ≡ engine.old.world.handlers }
+    ensures counted { OnOk result (KeepsCounts definition.now engine.old engine.new) }
+{
+    if engine.world.table.parent_of(child).is_none() {
+        return Ok(());
+    }
+    let line = Line::Orphan { child }.text(engine.alloc, definition.types())?;
+    engine.world.table.orphan(child);
+    engine.world.say(line)?;
+    Ok(())
+}
+
+/// An object leaves its parent, if it has one.
+pub(crate) fn orphan(
+    engine: &mut Engine,
+    definition: &Definition,
+    frame: Frame,
+    object: Register,
+) -> Result<(), Halt>
+    requires counted { Counts definition.now (λ o. in_frame o (frame_view frame)) engine.now }
+    ensures step { Goes result
+        (left engine.old.counted (in_front (agenda_of definition.now engine.old) (orphaning definition.now (world_of engine.old.world) (frame_view frame) object.0)))
+        (config_of definition.now engine.new) }
+    ensures quiet { OnErr result ((world_of engine.new.world).transcript ≡ (world_of engine.old.world).transcript) }
+    ensures counted { OnOk result (Counts definition.now nothing engine.new) }
+{
+    let object = object_in(engine, &frame, object)?;
+    push_frame(engine, frame)?;
+    leave(engine, definition, object)?;
+    Ok(())
+}
+
+/// An object becomes another's child, or does not, by a limit's line. A register is written with whether it did.
+pub(crate) fn adopt_from_program(
+    engine: &mut Engine,
+    definition: &Definition,
+    frame: Frame,
+    to: Register,
+    parent: Register,
+    child: Register,
+) -> Result<(), Halt>
+    requires counted { Counts definition.now (λ o. in_frame o (frame_view frame)) engine.now }
+    ensures step { Goes result
+        (left engine.old.counted (in_front (agenda_of definition.now engine.old) (adopting definition.now (world_of engine.old.world) (frame_view frame) to.0 parent.0 child.0)))
+        (config_of definition.now engine.new) }
+    ensures quiet { OnErr result ((world_of engine.new.world).transcript ≡ (world_of engine.old.world).transcript) }
+    ensures counted { OnOk result (Counts definition.now nothing engine.new) }
+{
+    let parent = object_in(engine, &frame, parent)?;
+    let child = object_in(engine, &frame, child)?;
+    let is_free = engine.world.table.refusal(parent, child).is_none();
+    write_register(engine, definition, frame, to, Some(Value::Bool(is_free)))?;
+    join_objects(engine, definition, parent, child)
+}
+
+// An object that was not disposed is: it lets go what it holds, and all forget it. Its handlers go, and have no more turns in the
+// emissions that go on.
+fn dispose(engine: &mut Engine, definition: &Definition, object: ObjectId) -> Result<(), Halt>
+    requires live { IsSome (living engine.now.world.table.objects object.0) }
+    requires first { is_disposed (living engine.now.world.table.objects object.0) ≡ false }
+    requires knows { Knows definition.now engine.now.world.weak }
+    ensures step { Goes result (disposed definition.now (world_of engine.old.world) object.0) (world_of engine.new.world) }
+    ensures agenda { OnOk result (agenda_of definition.now engine.new ≡ map (pruned (gone_in (world_of engine.new.world))) (agenda_of definition.now engine.old)) }
+    ensures quiet { OnErr result ((world_of engine.new.world).transcript ≡ (world_of engine.old.world).transcript) }
+    ensures same { OnOk result (engine.new.counted ≡ engine.old.counted) }
+    ensures counted { OnOk result (KeepsCounts definition.now engine.old engine.new) }
+{
+    // No peer is lent so far.
+    if engine.world.table.peer_of(object).is_some() {
+        return Err(Halt::Stuck(Arm::Code));
+    }
+    let line = Line::Dispose { object }.text(engine.alloc, definition.types())?;
+    // For the proof: what is known of the numbers of handlers.
+    let _last = engine.world.handlers.last();
+    engine.world.table.dispose(&engine.world.weak, object);
+    engine.world.handlers.disconnect_object(object);
+    engine.world.say(line)?;
+    Ok(())
+}
+
+/// An object is disposed, unless it was before: it lets go what it holds, and all forget it. Its handlers have no more turns in the
+/// emissions that go on.
+pub(crate) fn run_dispose(
+    engine: &mut Engine,
+    definition: &Definition,
+    frame: Frame,
+    object: Register,
+) -> Result<(), Halt>
+    requires counted { Counts definition.now (λ o. in_frame o (frame_view frame)) engine.now }
+    ensures step { GoesWithoutGone result
+        (left engine.old.counted (in_front (agenda_of definition.now engine.old) (disposing definition.now (world_of engine.old.world) (frame_view frame) object.0)))
+        (config_of definition.now engine.new) }
+    ensures quiet { OnErr result ((world_of engine.new.world).transcript ≡ (world_of engine.old.world).transcript) }
+    ensures counted { OnOk result (Counts definition.now nothing engine.new) }
+{
+    let object = object_in(engine, &frame, object)?;
+    push_frame(engine, frame)?;
+    if engine.world.table.is_disposed(object) {
+        return Ok(());
+    }
+    dispose(engine, definition, object)
+}

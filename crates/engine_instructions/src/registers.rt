@@ -1,0 +1,98 @@
+//! Instructions that touch registers alone.
+
+ghost use Rattle.std.specs.Prelude.{◌≡◌, Some, option_map, OnOk, OnErr};
+ghost use Rattle.ui_machine.specs.Instructions.{in_front, instruction_step};
+ghost use Rattle.ui_machine.specs.Instructions.Registers.{written_to};
+ghost use Rattle.ui_machine.specs.Outcome.{Goes};
+ghost use Rattle.ui_machine.specs.Output.Lines as lines;
+ghost use Rattle.ui_machine.specs.State.Config.{said};
+ghost use Rattle.ui_machine.specs.Steps.{left};
+ghost use Rattle.g_values.specs.View.{value_view};
+ghost use Rattle.bytecode.specs.Computing.{HasKnownKind, instruction_of};
+ghost use Rattle.frames.specs.FrameView.{frame_view};
+ghost use Rattle.engine_world.specs.View.{world_of};
+ghost use Rattle.engine_world.specs.TaskView.{agenda_of};
+ghost use Rattle.engine_world.specs.Counting.{Counts, in_frame, nothing};
+ghost use Rattle.engine_world.specs.EngineView.{config_of};
+
+use bytecode::{Computation, Computed, Register};
+use definitions::Definition;
+use engine_world::children::say_limit;
+use engine_world::engine::Engine;
+use engine_world::frames::{push_frame, put};
+use frames::{Frame, compute};
+use g_values::Value;
+use ui_machine::Halt;
+
+/// A register is written, or unset, and the program goes on.
+#[inline(always)]
+pub(crate) fn write_register(
+    engine: &mut Engine,
+    definition: &Definition,
+    mut frame: Frame,
+    to: Register,
+    value: Option<Value>,
+) -> Result<(), Halt>
+    requires counted { Counts definition.now (λ o. in_frame o (frame_view frame)) engine.now }
+    ensures step { Goes result
+        (left engine.old.counted (in_front (agenda_of definition.now engine.old) (written_to (world_of engine.old.world) to.0 (option_map value_view value) (frame_view frame))))
+        (config_of definition.now engine.new) }
+    ensures quiet { OnErr result ((world_of engine.new.world).transcript ≡ (world_of engine.old.world).transcript) }
+    ensures counted { OnOk result (Counts definition.now nothing engine.new) }
+{
+    // For the proof: the clauses speak of the definition.
+    let _ = definition;
+    put(&mut engine.world.table, &mut frame, to, value)?;
+    push_frame(engine, frame)?;
+    Ok(())
+}
+
+/// A limit was reached, of what the word says: a line says so, and a register gets a value all the same.
+pub(crate) fn write_null_and_say_limit(
+    engine: &mut Engine,
+    definition: &Definition,
+    mut frame: Frame,
+    to: Register,
+    value: Value,
+    word: &str,
+) -> Result<(), Halt>
+    requires counted { Counts definition.now (λ o. in_frame o (frame_view frame)) engine.now }
+    ensures step { Goes result
+        (left engine.old.counted (in_front (agenda_of definition.now engine.old)
+        (written_to (said definition.now (world_of engine.old.world) (lines.limit word.now)) to.0 (Some (value_view value)) (frame_view frame))))
+        (config_of definition.now engine.new) }
+    ensures quiet { OnErr result ((world_of engine.new.world).transcript ≡ (world_of engine.old.world).transcript) }
+    ensures counted { OnOk result (Counts definition.now nothing engine.new) }
+{
+    put(&mut engine.world.table, &mut frame, to, Some(value))?;
+    push_frame(engine, frame)?;
+    say_limit(engine, definition, word)?;
+    Ok(())
+}
+
+/// A register is written with what comes of others.
+pub(crate) fn execute_computation(
+    engine: &mut Engine,
+    definition: &Definition,
+    frame: Frame,
+    to: Register,
+    computation: &Computation,
+) -> Result<(), Halt>
+    requires known { HasKnownKind definition.now.types computation.now }
+    requires counted { Counts definition.now (λ o. in_frame o (frame_view frame)) engine.now }
+    ensures step { Goes result
+        (left engine.old.counted (instruction_step definition.now (world_of engine.old.world) (agenda_of definition.now engine.old) (frame_view frame) (instruction_of computation.now to.0)))
+        (config_of definition.now engine.new) }
+    ensures quiet { OnErr result ((world_of engine.new.world).transcript ≡ (world_of engine.old.world).transcript) }
+    ensures counted { OnOk result (Counts definition.now nothing engine.new) }
+{
+    let types = definition.types();
+    let computed = compute(engine.alloc, types, frame.registers.as_slice(), computation)?;
+    match computed {
+        Computed::Value(value) => write_register(engine, definition, frame, to, Some(value)),
+        Computed::Unset => write_register(engine, definition, frame, to, None),
+        Computed::TooLong => {
+            write_null_and_say_limit(engine, definition, frame, to, Value::Text(None), "join")
+        }
+    }
+}

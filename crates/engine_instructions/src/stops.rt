@@ -1,0 +1,70 @@
+//! `stop`: a program stops the emission that runs it (GObject manual, Signals: `g_signal_stop_emission`).
+
+ghost use Rattle.std.specs.Prelude.{◌≡◌, ℕ, OnOk, OnErr};
+ghost use Rattle.ui_machine.specs.Definition as machine;
+ghost use Rattle.ui_machine.specs.Definition.Programs as words;
+ghost use Rattle.ui_machine.specs.Instructions.{instruction_step};
+ghost use Rattle.ui_machine.specs.Outcome.{Goes};
+ghost use Rattle.ui_machine.specs.Rules.Accumulation.{stopped};
+ghost use Rattle.ui_machine.specs.Steps.{left};
+ghost use Rattle.frames.specs.FrameView.{frame_view};
+ghost use Rattle.engine_world.specs.KnownHandlers.{AllTakeKnownHandlers};
+ghost use Rattle.engine_world.specs.Counting.{Counts, in_frame, nothing};
+ghost use Rattle.engine_world.specs.EngineView.{config_of};
+ghost use Rattle.engine_world.specs.TaskView.{agenda_of};
+ghost use Rattle.engine_world.specs.View.{world_of};
+
+use definitions::Definition;
+use engine_world::engine::Engine;
+use engine_world::frames::push_frame;
+use engine_world::task::Task;
+use frames::Frame;
+use std::alloc::AllocError;
+use ui_machine::Halt;
+
+// The emission that runs the program stops: what is left of it is its cleanup stage.
+fn stop_emission(engine: &mut Engine) -> Result<(), AllocError>
+    ensures agenda { OnOk result ((d : machine.Definition) → agenda_of d engine.new ≡ stopped (agenda_of d engine.old)) }
+    ensures beside { engine.new ≡ record engine.old { stack = engine.new.stack } }
+    ensures begun { OnOk result ((last : ℕ) → AllTakeKnownHandlers last engine.old.stack → AllTakeKnownHandlers last engine.new.stack) }
+{
+    let Some(task) = engine.stack.pop() else {
+        return Ok(());
+    };
+    let Task::Emitting {
+        mut cursor,
+        args,
+        by_event,
+    } = task
+    else {
+        engine.stack.push(task)?;
+        return Ok(());
+    };
+    cursor.stop();
+    engine.stack.push(Task::Emitting {
+        cursor,
+        args,
+        by_event,
+    })?;
+    Ok(())
+}
+
+/// The emission that runs the program stops, and the program goes on.
+pub(crate) fn stop_from_program(
+    engine: &mut Engine,
+    definition: &Definition,
+    frame: Frame,
+) -> Result<(), Halt>
+    requires counted { Counts definition.now (λ o. in_frame o (frame_view frame)) engine.now }
+    ensures step { Goes result
+        (left engine.old.counted (instruction_step definition.now (world_of engine.old.world) (agenda_of definition.now engine.old) (frame_view frame) words.stop))
+        (config_of definition.now engine.new) }
+    ensures quiet { OnErr result ((world_of engine.new.world).transcript ≡ (world_of engine.old.world).transcript) }
+    ensures counted { OnOk result (Counts definition.now nothing engine.new) }
+{
+    // For the proof: the clauses speak of the definition.
+    let _ = definition;
+    stop_emission(engine)?;
+    push_frame(engine, frame)?;
+    Ok(())
+}

@@ -1,0 +1,6 @@
+mod PlainSets
+mod EmissionTurns
+mod TurnStages
+mod TurnTaking
+mod ProgramStarts
+mod Emitted

@@ -1,0 +1,34 @@
+use Rattle.std.proofs.Common.{true, None, Ok, List, ◌∷◌, ap, ◌∙◌}
+use Rattle.std.proofs.lemmas.Result.{err_from_is_err_and}
+use Rattle.ui_machine.specs.Rules.Construction.{making}
+use Rattle.ui_machine.specs.State.Tasks.{Constructing, Task}
+use Rattle.ui_machine.specs.Steps.{before}
+use Rattle.engine_world.specs.View.{world_of}
+use Rattle.engine_world.specs.TaskView.{agenda_of}
+use Rattle.engine_world.proofs.Counts.{keeps_on}
+use Rattle.engine_world.proofs.Emits.{stops_on}
+use Rattle.engine_world.proofs.Left.{left_with, same_agenda}
+use Rattle.engine_tasks.proofs.builds.make_from_build.Goals as goal
+
+pub returns-in_err-new-clause-step : goal.returns-in_err-new-clause-step
+returns-in_err-new-clause-step c =
+    let d = c.args.definition.now in
+    let e = c.args.engine.now in
+    let p = err_from_is_err_and c.from_residual.result c.from_residual.ensures.1 in
+    rw (p.1, p.2) (stops_on _ (making d (world_of e.world) c.args.place.0 None true) (λ s. Ok (before (agenda_of d e) e.counted s)) (c.in_err-new.ensures.stops true))
+
+pub returns-clause-step : goal.returns-clause-step
+returns-clause-step c =
+    let d = c.args.definition.now in
+    let e = c.args.engine.now in
+    let m = c.make.new.engine in
+    let new = c.begin_construction.new.engine in
+    let task = Constructing c.in_ok-new.new.object.0 c.in_ok-new.new.steps true in
+    left_with (world_of new.world) (agenda_of d new) e.counted new.counted (agenda_of d e) _ _ task (c.in_ok-new.ensures.made true) c.in_ok-begin_construction.ensures.world
+    (c.in_ok-begin_construction.ensures.agenda d ∙ ap (λ (ts : List Task). task ∷ ts) (same_agenda d e m c.make.ensures.same.0 c.make.ensures.handlers))
+    (c.begin_construction.ensures.same ∙ c.make.ensures.same.1)
+
+pub returns-clause-counted : goal.returns-clause-counted
+returns-clause-counted c =
+    let d = c.args.definition.now in
+    keeps_on d _ _ _ c.in_ok-new.ensures.counted (c.in_ok-begin_construction.ensures.counted d)

@@ -1,0 +1,30 @@
+use Rattle.std.proofs.Common.{ℕ, [], ◌∷◌, ap, ◌∙◌}
+use Rattle.ui_machine.specs.Definition.Values.{Value}
+use Rattle.ui_machine.specs.State.Tasks.{Setting}
+use Rattle.ui_machine.specs.State.Config.{starts}
+use Rattle.ui_machine.specs.Outcome.{Answer, ◌>>=◌}
+use Rattle.ui_machine.specs.Rules.Build.{held_object}
+use Rattle.ui_machine.specs.Rules.Events.{set_from_event, set_given}
+use Rattle.ui_machine.specs.Rules.Sets.{spec_at}
+use Rattle.g_values.specs.View.{value_view}
+use Rattle.definition_format.specs.Meaning.{given_view}
+use Rattle.engine_world.specs.View.{world_of}
+use Rattle.engine_world.specs.TaskView.{agenda_of}
+use Rattle.engine_world.proofs.Forwarded.{settable_then}
+use Rattle.engine_world.proofs.Left.{left_with}
+use Rattle.engine_tasks.proofs.events.set_from_event.Goals as goal
+
+pub returns-clause-step : goal.returns-clause-step
+unfolding set_from_event set_given
+returns-clause-step c =
+    let a = c.args in
+    let d = a.definition.now in
+    let w = world_of a.engine.now.world in
+    let given = given_view a.given in
+    let set = λ (id : ℕ). set_given w id a.slot given in
+    let object = c.in_ok-object.ensures in
+    let is = settable_then (held_object w a.place.0) (λ (id : ℕ). spec_at d w.objects id a.slot) set
+    ∙ ap (λ (r : Answer ℕ). r >>= set) object
+    ∙ ap (λ (r : Answer Value). r >>= λ v. starts w (Setting c.in_ok-object.object.0 a.slot v ∷ [])) c.in_ok-value.ensures in
+    left_with (world_of c.push_task.new.engine.world) (agenda_of d c.push_task.new.engine) a.engine.now.counted c.push_task.new.engine.counted (agenda_of d a.engine.now) _ w
+    (Setting c.in_ok-object.object.0 a.slot (value_view c.in_ok-value.value)) is c.push_task.ensures.world (c.in_ok-push_task.ensures.agenda d) c.push_task.ensures.same

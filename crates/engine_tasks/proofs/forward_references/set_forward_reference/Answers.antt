@@ -1,0 +1,58 @@
+use Rattle.std.proofs.Common.{◌≡◌, ℕ, List, [], ◌∷◌, refl, sym, ap, subst, ◌∙◌}
+use Rattle.ui_machine.specs.Definition.Values.{Value}
+use Rattle.ui_machine.specs.State.Tasks.{Item, Task, Setting, Building}
+use Rattle.ui_machine.specs.State.Config.{starts}
+use Rattle.ui_machine.specs.Outcome.{Answer, Goes, ◌>>=◌}
+use Rattle.engine_world.specs.EngineView.{config_of}
+use Rattle.engine_world.proofs.Signals.{connects_all}
+use Rattle.ui_machine.specs.Rules.Build.{held_object, building, building_forward, set_forward}
+use Rattle.ui_machine.specs.Rules.Sets.{spec_at}
+use Rattle.ui_machine.specs.Steps.{uncounted}
+use Rattle.g_values.specs.View.{value_view}
+use Rattle.engine_world.specs.declared.task.ForwardReference.{ForwardReference}
+use Rattle.engine_world.specs.View.{world_of}
+use Rattle.engine_world.specs.TaskView.{agenda_of, build_end}
+use Rattle.engine_world.proofs.Building.{only_forwards}
+use Rattle.engine_world.proofs.Forwarded.{settable_then, held_then}
+use Rattle.engine_world.proofs.Counts.{keeps_on}
+use Rattle.engine_tasks.proofs.forward_references.set_forward_reference.Goals as goal
+
+-- no reference is left: the signals come next
+pub returns-in_default-clause-step : goal.returns-in_default-clause-step
+returns-in_default-clause-step c =
+    let d = c.args.definition.now in
+    let w = world_of c.args.engine.now.world in
+    let rest = agenda_of d c.args.engine.now in
+    let n = c.args.engine.now.counted in
+    let items = ap (λ (fs : List ForwardReference). build_end d fs) c.in_default.ensures.0 ∙ connects_all d in
+    subst (λ (its : List Item). Goes c.connect_from_build.result (uncounted rest n (building d w its)) (config_of d c.connect_from_build.new.engine)) (sym items) c.connect_from_build.ensures.step
+
+pub returns-clause-step : goal.returns-clause-step
+unfolding building_forward set_forward
+returns-clause-step c =
+    let a = c.args in
+    let d = a.definition.now in
+    let w = world_of a.engine.now.world in
+    let agenda = agenda_of d a.engine.now in
+    let n = a.engine.now.counted in
+    let f = c.in-Some.forward in
+    let items = build_end d c.take.new.self in
+    let object = c.in_ok-object.object.0 in
+    let v = value_view c.in_ok-value.value in
+    let set = λ (id : ℕ). set_forward w id f.slot f.to.0 items in
+    let to = c.in_ok-value.ensures in
+    let is : building d w (build_end d a.forwards) ≡ starts w (Setting object f.slot v ∷ Building items ∷ []) =
+    ap (λ (fs : List ForwardReference). building d w (build_end d fs)) c.in-Some.ensures
+    ∙ settable_then (held_object w f.object.0) (λ (id : ℕ). spec_at d w.objects id f.slot) set
+    ∙ ap (λ (r : Answer ℕ). r >>= set) c.in_ok-object.ensures
+    ∙ held_then (held_object w f.to.0) (λ (x : Value). starts w (Setting object f.slot x ∷ Building items ∷ [])) v to in
+    let left = c.in_ok-push_task-2.ensures.agenda d
+    ∙ ap (λ (rest : List Task). Setting object f.slot v ∷ rest) (c.in_ok-push_task.ensures.agenda d
+    ∙ ap (λ its. Building its ∷ agenda) (only_forwards d c.types-types.ensures.basic a.place.0 c.take.new.self c.requires.past)) in
+    ap (uncounted agenda n) is
+    ∙ rw (c.push_task-2.ensures.world, c.push_task.ensures.world, c.push_task-2.ensures.same, c.push_task.ensures.same, left) refl
+
+pub returns-clause-counted : goal.returns-clause-counted
+returns-clause-counted c =
+    let d = c.args.definition.now in
+    keeps_on d _ _ _ (c.in_ok-push_task.ensures.counted d) (c.in_ok-push_task-2.ensures.counted d)

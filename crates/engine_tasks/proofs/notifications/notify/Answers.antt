@@ -1,0 +1,95 @@
+use Rattle.std.proofs.Common.{ℕ, suc, List, [], ◌∷◌, map, false, Some, Bor, option_map, string_bytes, refl, sym, ap, subst, ◌∙◌, arith}
+use Rattle.std.proofs.lemmas.Result.{err_from_is_err_and}
+use Rattle.ui_machine.specs.Definition.Types.{GType}
+use Rattle.ui_machine.specs.Definition.Signals.{Signal}
+use Rattle.ui_machine.specs.Output.Lines as lines
+use Rattle.ui_machine.specs.Output.Text.{text_of_line}
+use Rattle.ui_machine.specs.Rules.EmissionPlan.{notifying}
+use Rattle.ui_machine.specs.State.Tasks.{Emitting, Task}
+use Rattle.ui_machine.specs.Steps.{counted, uncounted}
+use Rattle.ui_machine.specs.Seq.{total}
+use Rattle.ui_machine.specs.State.References.{in_value}
+use Rattle.g_values.specs.View.{value_view}
+use Rattle.g_values.specs.declared.value.Value.{Value}
+use Rattle.param_specs.specs.declared.spec.Spec.{Spec}
+use Rattle.param_specs.specs.View.{spec_view}
+use Rattle.signal_core.specs.Connected.{Numbered}
+use Rattle.signal_core.specs.Emission.{begun}
+use Rattle.signal_core.specs.Laws.{walk_for}
+use Rattle.signal_core.specs.declared.emission.Emission.{Emission}
+use Rattle.definition_format.specs.Meaning.{planned}
+use Rattle.engine_world.specs.View.{with_line, world_of}
+use Rattle.engine_world.specs.TaskView.{agenda_of, emission_of, entries_to_come}
+use Rattle.engine_world.specs.declared.engine.Engine.{Engine}
+use Rattle.engine_world.proofs.Counts.{keeps_same, taken_alike}
+use Rattle.engine_tasks.proofs.Emitted.{begun_as, begun_none, begun_some, notifying_starts}
+use Rattle.engine_world.proofs.Left.{left_with}
+use Rattle.engine_world.proofs.Notified.{counted_on, unheard, unnamed, unknown}
+use Rattle.engine_tasks.proofs.notifications.notify.Goals as goal
+
+pub returns-in_err-class-clause-step : goal.returns-in_err-class-clause-step
+returns-in_err-class-clause-step c =
+    let p = err_from_is_err_and c.from_residual-in_err-class.result c.from_residual-in_err-class.ensures.1 in
+    let rest = agenda_of c.args.definition.now c.args.engine.now in
+    let n = c.args.engine.now.counted in
+    rw (p.1, p.2) (counted_on rest n _ c.in_ok-count.ensures.ok.0
+    ∙ ap (uncounted rest (suc n)) (unheard c.args.definition.now (world_of c.args.engine.now.world) c.args.object.0 c.args.slot _ (rw c.in_ok-count.ensures.ok.1 at c.in_err-class.ensures)))
+
+pub returns-in_default-clause-step : goal.returns-in_default-clause-step
+returns-in_default-clause-step c =
+    let rest = agenda_of c.args.definition.now c.args.engine.now in
+    let n = c.args.engine.now.counted in
+    counted_on rest n _ c.in_ok-count.ensures.ok.0
+    ∙ ap (uncounted rest (suc n)) (unnamed c.args.definition.now (world_of c.args.engine.now.world) c.args.object.0 c.args.slot _ (rw c.in_ok-count.ensures.ok.1 at c.in_ok-class.ensures)
+    (sym c.spec.ensures ∙ ap (option_map (λ (s : Bor Spec). spec_view s.now)) c.in_default.is))
+
+pub returns-in_default-emission-clause-step : goal.returns-in_default-emission-clause-step
+returns-in_default-emission-clause-step c =
+    let d = c.args.definition.now in
+    let rest = agenda_of d c.args.engine.now in
+    let n = c.args.engine.now.counted in
+    let some = sym c.spec.ensures ∙ ap (option_map (λ (s : Bor Spec). spec_view s.now)) c.in-Some.is in
+    let g = λ (s : Signal). walk_for 0 s.accumulator (planned d c.in_ok-class.class c.args.object.0 0 (Some (string_bytes c.in_ok-name.name)) s) in
+    let none = begun_none (λ (m : Emission). begun m 0) g _ (ap (option_map (λ (m : Emission). begun m 0)) (sym c.in_default-emission.is) ∙ c.emission.ensures 0) in
+    counted_on rest n _ c.in_ok-count.ensures.ok.0
+    ∙ ap (uncounted rest (suc n)) (unknown d (world_of c.args.engine.now.world) c.args.object.0 c.args.slot _ (rw c.in_ok-count.ensures.ok.1 at c.in_ok-class.ensures) _ some none)
+
+pub returns-clause-step : goal.returns-clause-step
+returns-clause-step c =
+    let d = c.args.definition.now in
+    let e = c.args.engine.now in
+    let f = c.count.new.engine in
+    let is = c.in_ok-count.ensures.ok.1 in
+    let w = world_of f.world in
+    let id = c.args.object.0 in
+    let class = c.in_ok-class.class in
+    let rest = agenda_of d e in
+    let n = e.counted in
+    let p = spec_view c.in-Some.spec.now in
+    let last = f.world.handlers.last in
+    let some = sym c.spec.ensures ∙ ap (option_map (λ (s : Bor Spec). spec_view s.now)) c.in-Some.is in
+    let name = c.in_ok-name.ensures.ok ∙ c.as_str.ensures.value in
+    let g = λ (detail : List ℕ) (s : Signal). walk_for last s.accumulator (planned d class id 0 (Some detail) s) in
+    let found = ap (option_map (λ (m : Emission). begun m last)) (sym c.in-Some-emission.is) ∙ c.emission.ensures last in
+    let declared = begun_some (λ (m : Emission). begun m last) (g (string_bytes c.in_ok-name.name)) c.in-Some-emission.emission _ found in
+    let walk = begun_as (λ (m : Emission). begun m last) (g (string_bytes c.in_ok-name.name)) c.in-Some-emission.emission _ declared.0 found declared.1 ∙ ap (λ (detail : List ℕ). g detail declared.0) name in
+    let rises = subst (λ (h : Engine). Numbered 0 h.world.handlers.handlers h.world.handlers.last) (sym is) c.last-last.ensures.rises in
+    let starts_so = notifying_starts d w rises refl id c.args.slot class c.in_ok-class.ensures p some declared.0 declared.1 (begun c.in-Some-emission.emission last) walk in
+    let line = (rw c.as_str-2.ensures.value at c.in_ok-line.ensures) ∙ ap (λ (types : List GType). text_of_line types (lines.notify id p.name)) c.types.ensures.types in
+    let world = c.in_ok-start_emission.ensures.world ∙ ap (λ (text : List ℕ). with_line text w) line in
+    let agenda = c.in_ok-start_emission.ensures.agenda d
+    ∙ ap (λ (vs : List Value). Emitting (emission_of (begun c.in-Some-emission.emission last) vs false) (entries_to_come (begun c.in-Some-emission.emission last) f.world.handlers.handlers) ∷ agenda_of d f) c.new.ensures.items
+    ∙ ap (λ (ts : List Task). Emitting (emission_of (begun c.in-Some-emission.emission last) [] false) (entries_to_come (begun c.in-Some-emission.emission last) f.world.handlers.handlers) ∷ ts) (ap (λ (h : Engine). agenda_of d h) is) in
+    ap (λ (h : Engine). counted rest n (notifying d (world_of h.world) id c.args.slot)) (sym is)
+    ∙ counted_on rest n _ c.in_ok-count.ensures.ok.0
+    ∙ left_with (world_of c.start_emission.new.engine.world) (agenda_of d c.start_emission.new.engine) (suc n) c.start_emission.new.engine.counted rest (notifying d w id c.args.slot) _ _ starts_so world agenda
+    (c.start_emission.ensures.same ∙ ap (λ (h : Engine). h.counted) is)
+
+pub returns-clause-counted : goal.returns-clause-counted
+returns-clause-counted c =
+    let d = c.args.definition.now in
+    let e = c.args.engine.now in
+    let is = c.in_ok-count.ensures.ok.1 in
+    let same = keeps_same d e c.count.new.engine (ap (λ (f : Engine). f.world.table) is) (ap (λ (f : Engine). f.world.weak) is) (ap (λ (f : Engine). f.world.builder) is) (ap (λ (f : Engine). f.stack) is)
+    (ap (λ (f : Engine). f.world.handlers) is) in
+    record { at = λ taken h. c.in_ok-start_emission.ensures.counted d taken (taken_alike d c.count.new.engine _ _ (λ o. omega (arith, ap (λ (vs : List Value). total (in_value o) (map value_view vs)) c.new.ensures.items)) (same.at taken h)) }

@@ -1,0 +1,50 @@
+use Rattle.std.proofs.Common.{◌≡◌, suc, ◌+◌, [], ◌∷◌, refl, ap, ◌∙◌, arith}
+use Rattle.std.proofs.lemmas.Result.{err_from_is_err_and}
+use Rattle.ui_machine.specs.Outcome.{Answer, ◌>>=◌}
+use Rattle.ui_machine.specs.Rules.Build.{building, with_signal}
+use Rattle.ui_machine.specs.Rules.Connections.{Connection}
+use Rattle.ui_machine.specs.State.Config.{Started, World, starts}
+use Rattle.ui_machine.specs.State.Tasks.{Building}
+use Rattle.ui_machine.specs.Steps.{uncounted}
+use Rattle.signal_core.specs.Connected.{connection_of}
+use Rattle.engine_world.specs.TaskView.{agenda_of, connects_from}
+use Rattle.engine_world.specs.View.{world_of}
+use Rattle.engine_world.proofs.Counts.{keeps_on}
+use Rattle.engine_world.proofs.Signals.{attached_stops, connects_attached}
+use Rattle.engine_tasks.proofs.signals.connect_from_build.Goals as goal
+
+pub returns-in_err-connection-clause-step : goal.returns-in_err-connection-clause-step
+returns-in_err-connection-clause-step c =
+    let p = err_from_is_err_and c.from_residual.result c.from_residual.ensures.1 in
+    let d = c.args.definition.now in
+    let at = c.in-Some.at in
+    rw (p.1, p.2)
+    (attached_stops d (world_of c.args.engine.now.world) at.place.0 at.number _ (connects_from d at.place.0 (suc at.number)) (agenda_of d c.args.engine.now) c.args.engine.now.counted
+    c.in-Some.ensures.next _ c.in_err-connection.ensures)
+
+pub returns-clause-step : goal.returns-clause-step
+returns-clause-step c =
+    let d = c.args.definition.now in
+    let w = world_of c.args.engine.now.world in
+    let rest = agenda_of d c.args.engine.now in
+    let n = c.args.engine.now.counted in
+    let at = c.in-Some.at in
+    let items = connects_from d at.place.0 (suc at.number) in
+    let meant = connection_of c.in_ok-connection.connection in
+    let start : Connection → Answer Started = λ (x : Connection). starts (with_signal w x) (Building items ∷ []) in
+    let is : building d w (connects_from d c.args.place.0 c.args.number) ≡ starts (with_signal w meant) (Building items ∷ []) =
+    ap (building d w) c.in-Some.ensures.next ∙ connects_attached d w at.place.0 at.number items
+    ∙ ap (λ (a : Answer Connection). a >>= start) c.in_ok-connection.ensures in
+    let pushed = c.in_ok-push_task.ensures.agenda d ∙ ap (λ k. Building (connects_from d at.place.0 k) ∷ rest) (let e : at.number + 1 ≡ suc at.number = omega arith in e) in
+    let world = c.in_ok-connect_signal.ensures.world ∙ ap (λ (v : World). with_signal v meant) c.push_task.ensures.world in
+    let agenda = c.in_ok-connect_signal.ensures.agenda ∙ pushed in
+    let count = c.connect_signal.ensures.same ∙ c.push_task.ensures.same in
+    ap (uncounted rest n) is ∙ rw (world, agenda, count) refl
+
+pub connect_signal-requires : goal.connect_signal-requires
+connect_signal-requires c = record { connects = c.in_ok-push_task.ensures.connects c.args.definition.now c.requires.connects }
+
+pub returns-clause-counted : goal.returns-clause-counted
+returns-clause-counted c =
+    let d = c.args.definition.now in
+    keeps_on d _ _ _ (c.in_ok-push_task.ensures.counted d) c.in_ok-connect_signal.ensures.counted

@@ -1,0 +1,274 @@
+//! The build: how objects are made one after the other, and how their construction goes on and ends.
+
+ghost use Rattle.std.specs.Prelude.{◌≡◌, ◌<◌, List, true, ℕ, None, Some, [], ◌∷◌, OnOk, OnErr};
+ghost use Rattle.ui_machine.specs.Outcome.{Goes};
+ghost use Rattle.ui_machine.specs.Definition.Values as machine_values;
+ghost use Rattle.ui_machine.specs.Rules.Programs.{program_before};
+ghost use Rattle.ui_machine.specs.Definition as definition;
+ghost use Rattle.engine_world.specs.KnownHandlers.{TakesKnownHandlers};
+ghost use Rattle.ui_machine.specs.Rules.Construction.{constructed, thawing_made, making, apply_construct_property, constructing};
+ghost use Rattle.ui_machine.specs.State.Handlers.{Handler};
+ghost use Rattle.ui_machine.specs.State.Tasks.{Building, Constructing};
+ghost use Rattle.ui_machine.specs.Steps.{uncounted};
+ghost use Rattle.ui_machine.specs.Rules.Build.{building};
+ghost use Rattle.g_values.specs.View.{value_view};
+ghost use Rattle.definition_format.specs.Meaning.{object_count};
+ghost use Rattle.engine_world.specs.View.{world_of};
+ghost use Rattle.engine_world.specs.TaskView.{task_of, agenda_of, build_from, build_behind};
+ghost use Rattle.engine_world.specs.Counting.{Connects, KeepsCounts};
+ghost use Rattle.engine_world.specs.EngineView.{config_of};
+
+use crate::forward_references::set_forward_reference;
+use crate::programs::begin_program;
+use definitions::Definition;
+use engine_world::builder::{BuilderEntry, set_builder_entry};
+use engine_world::engine::Engine;
+use engine_world::given::object_value;
+use engine_world::objects::{begin_construction, make};
+use engine_world::places::{entry_at, is_object, next_place};
+use engine_world::properties::spec_of;
+use engine_world::references::{hold_any, push_task};
+use engine_world::task::{ConstructStep, ConstructSteps, ForwardReferences, Slots, Task};
+use g_values::Value;
+use ui_machine::{Arm, Halt, ObjectId, Place, ProgramId, Slot};
+
+// The builder holds an object that it has made, which no longer floats.
+#[tactic(auto, unfolding(ui_machine::specs::Rules::Construction::constructed))]
+fn hold_made(engine: &mut Engine, definition: &Definition, object: ObjectId) -> Result<(), Halt>
+    ensures step { Goes result
+        (uncounted (agenda_of definition.now engine.old) engine.old.counted (constructed (world_of engine.old.world) object.0 true))
+        (config_of definition.now engine.new) }
+    ensures quiet { OnErr result ((world_of engine.new.world).transcript ≡ (world_of engine.old.world).transcript) }
+    ensures counted { OnOk result (KeepsCounts definition.now engine.old engine.new) }
+{
+    // For the proof: the clauses speak of the definition.
+    let _ = definition;
+    let place = engine.world.table.place_of(object)?;
+    if !engine.world.held(place).is_unbuilt() {
+        return Err(Halt::Stuck(Arm::Code));
+    }
+    set_builder_entry(
+        &mut engine.world.builder,
+        place,
+        BuilderEntry::Built(object),
+    )?;
+    hold_any(&mut engine.world.table, Some(object))?;
+    engine.world.table.sink(object);
+    Ok(())
+}
+
+// A construction ends: what the builder made is held by it from now on.
+#[tactic(auto, unfolding(ui_machine::specs::Rules::Construction::constructed))]
+fn end_construction(
+    engine: &mut Engine,
+    definition: &Definition,
+    object: ObjectId,
+    held: bool,
+) -> Result<(), Halt>
+    ensures step { Goes result
+        (uncounted (agenda_of definition.now engine.old) engine.old.counted (constructed (world_of engine.old.world) object.0 held))
+        (config_of definition.now engine.new) }
+    ensures quiet { OnErr result ((world_of engine.new.world).transcript ≡ (world_of engine.old.world).transcript) }
+    ensures counted { OnOk result (KeepsCounts definition.now engine.old engine.new) }
+{
+    if held {
+        return hold_made(engine, definition, object);
+    }
+    Ok(())
+}
+
+// The thaw that ends a construction.
+#[tactic(auto, unfolding(ui_machine::specs::Rules::Construction::thawing_made))]
+fn thaw_constructed(
+    engine: &mut Engine,
+    definition: &Definition,
+    object: ObjectId,
+    steps: ConstructSteps,
+    held: bool,
+) -> Result<(), Halt>
+    ensures step { Goes result
+        (uncounted (agenda_of definition.now engine.old) engine.old.counted (thawing_made (world_of engine.old.world) object.0 steps held))
+        (config_of definition.now engine.new) }
+    ensures quiet { OnErr result ((world_of engine.new.world).transcript ≡ (world_of engine.old.world).transcript) }
+    ensures counted { OnOk result (KeepsCounts definition.now engine.old engine.new) }
+{
+    // For the proof: the clauses speak of the definition.
+    let _ = definition;
+    let slots = engine.world.table.thaw(object)?;
+    push_task(
+        engine,
+        Task::Constructing {
+            object,
+            steps,
+            held,
+        },
+    )?;
+    push_task(
+        engine,
+        Task::Thawing {
+            object,
+            slots: Slots::new(slots),
+        },
+    )?;
+    Ok(())
+}
+
+// A set of a construction.
+#[tactic(auto, unfolding(ui_machine::specs::Rules::Construction::apply_construct_property))]
+fn apply_construct_property(
+    engine: &mut Engine,
+    definition: &Definition,
+    object: ObjectId,
+    slot: Slot,
+    value: Value,
+    steps: ConstructSteps,
+    held: bool,
+) -> Result<(), Halt>
+    ensures step { Goes result
+        (uncounted (agenda_of definition.now engine.old) engine.old.counted (apply_construct_property definition.now (world_of engine.old.world) object.0 slot (value_view value) (Constructing object.0 steps held ∷ [])))
+        (config_of definition.now engine.new) }
+    ensures quiet { OnErr result ((world_of engine.new.world).transcript ≡ (world_of engine.old.world).transcript) }
+    ensures counted { OnOk result (KeepsCounts definition.now engine.old engine.new) }
+{
+    let spec = spec_of(engine, definition, object, slot)?;
+    if !spec.is_writable() {
+        return Err(Halt::Stuck(Arm::Flags));
+    }
+    push_task(
+        engine,
+        Task::Constructing {
+            object,
+            steps,
+            held,
+        },
+    )?;
+    push_task(
+        engine,
+        Task::Setting {
+            object,
+            slot,
+            value,
+        },
+    )?;
+    Ok(())
+}
+
+// A program of a construction begins, which is given the object alone.
+fn run_constructed(
+    engine: &mut Engine,
+    definition: &Definition,
+    object: ObjectId,
+    program: ProgramId,
+    steps: ConstructSteps,
+    held: bool,
+) -> Result<(), Halt>
+    ensures step { Goes result
+        (uncounted (agenda_of definition.now engine.old) engine.old.counted (program_before definition.now (world_of engine.old.world) program (machine_values.object (Some object.0) ∷ []) (Constructing object.0 steps held ∷ [])))
+        (config_of definition.now engine.new) }
+    ensures quiet { OnErr result ((world_of engine.new.world).transcript ≡ (world_of engine.old.world).transcript) }
+    ensures counted { OnOk result (KeepsCounts definition.now engine.old engine.new) }
+{
+    let mut args = Vec::new(engine.alloc);
+    args.push(object_value(object))?;
+    push_task(
+        engine,
+        Task::Constructing {
+            object,
+            steps,
+            held,
+        },
+    )?;
+    begin_program(engine, definition, program, args)
+}
+
+/// The next step of a construction.
+pub fn construct(
+    engine: &mut Engine,
+    definition: &Definition,
+    object: ObjectId,
+    mut steps: ConstructSteps,
+    held: bool,
+) -> Result<(), Halt>
+    ensures step { Goes result
+        (uncounted (agenda_of definition.now engine.old) engine.old.counted (constructing definition.now (world_of engine.old.world) object.0 steps held))
+        (config_of definition.now engine.new) }
+    ensures quiet { OnErr result ((world_of engine.new.world).transcript ≡ (world_of engine.old.world).transcript) }
+    ensures counted { OnOk result (KeepsCounts definition.now engine.old engine.new) }
+{
+    let Some(step) = steps.take() else {
+        return end_construction(engine, definition, object, held);
+    };
+    match step {
+        ConstructStep::Set { slot, value } => {
+            apply_construct_property(engine, definition, object, slot, value, steps, held)?;
+            return Ok(());
+        }
+        ConstructStep::Run { program } => {
+            run_constructed(engine, definition, object, program, steps, held)?;
+            return Ok(());
+        }
+        ConstructStep::Thaw => {
+            thaw_constructed(engine, definition, object, steps, held)?;
+            return Ok(());
+        }
+    }
+}
+
+// An object of the build is made. The builder holds it at the end of its construction.
+fn make_from_build(engine: &mut Engine, definition: &Definition, place: Place) -> Result<(), Halt>
+    ensures step { Goes result
+        (uncounted (agenda_of definition.now engine.old) engine.old.counted (making definition.now (world_of engine.old.world) place.0 None true))
+        (config_of definition.now engine.new) }
+    ensures quiet { OnErr result ((world_of engine.new.world).transcript ≡ (world_of engine.old.world).transcript) }
+    ensures counted { OnOk result (KeepsCounts definition.now engine.old engine.new) }
+{
+    let new = make(engine, definition, place)?;
+    begin_construction(engine, new, true)?;
+    Ok(())
+}
+
+/// The next object of the build, or the next forward reference where all objects stand.
+#[tactic(auto, unfolding(ui_machine::specs::Rules::Build::building_object))]
+pub fn build(
+    engine: &mut Engine,
+    definition: &Definition,
+    place: Place,
+    forwards: ForwardReferences,
+) -> Result<(), Halt>
+    requires connects { Connects definition.now engine.now }
+    ensures step { Goes result
+        (uncounted (agenda_of definition.now engine.old) engine.old.counted (building definition.now (world_of engine.old.world) (build_from definition.now place.0 forwards)))
+        (config_of definition.now engine.new) }
+    ensures quiet { OnErr result ((world_of engine.new.world).transcript ≡ (world_of engine.old.world).transcript) }
+    ensures counted { OnOk result (KeepsCounts definition.now engine.old engine.new) }
+{
+    // For the proof: what is known of a definition's types.
+    let _types = definition.types();
+    if !is_object(definition, place) {
+        return set_forward_reference(engine, definition, place, forwards);
+    }
+    push_task(engine, behind(definition, place, forwards))?;
+    make_from_build(engine, definition, place)
+}
+
+// What the build does behind the making of an object: the object becomes its parent's child, if it is one, and then the next place comes.
+fn behind(definition: &Definition, place: Place, forwards: ForwardReferences) -> Task
+    requires within { place.0 < object_count definition.now }
+    ensures task { (hs : List Handler) → task_of definition.now hs result ≡ Building (build_behind definition.now place.0 forwards) }
+    ensures begun { (last : ℕ) → TakesKnownHandlers last result }
+{
+    let next = next_place(definition, place);
+    let Some(entry) = entry_at(definition, place) else {
+        return Task::Building {
+            place: next,
+            forwards,
+        };
+    };
+    if entry.parent.is_some() {
+        return Task::Adopting { place, forwards };
+    }
+    Task::Building {
+        place: next,
+        forwards,
+    }
+}

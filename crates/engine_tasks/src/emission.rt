@@ -1,0 +1,296 @@
+//! Emissions: how one begins, takes its turns and ends (GObject manual, Signals: `g_signal_emit`).
+
+ghost use Rattle.std.specs.Prelude.{◌≡◌, ◌≤◌, ◌+◌, ◌∷◌, ℕ, None, map, option_map, string_bytes, true, IfSome, IfOk, OnOk, OnErr};
+ghost use Rattle.ui_machine.specs.Definition as machine;
+ghost use Rattle.ui_machine.specs.Seq.{total};
+ghost use Rattle.ui_machine.specs.Outcome.{Goes};
+ghost use Rattle.ui_machine.specs.Output.Lines as lines;
+ghost use Rattle.ui_machine.specs.Output.Text.{text_of_line};
+ghost use Rattle.ui_machine.specs.Rules.Accumulation.{ending, result_of, told};
+ghost use Rattle.ui_machine.specs.Rules.EmissionPlan.{beginning_emission};
+ghost use Rattle.ui_machine.specs.Rules.Programs.{beginning_program};
+ghost use Rattle.ui_machine.specs.State.References.{in_task, in_value, same};
+ghost use Rattle.ui_machine.specs.State.Tasks.{Beginning, Emitting};
+ghost use Rattle.ui_machine.specs.Steps.{act, counted, left, uncounted};
+ghost use Rattle.signal_core.specs.Emission.{after_program, begun, program_turn};
+ghost use Rattle.g_values.specs.View.{kind_view, value_view};
+ghost use Rattle.definition_format.specs.Meaning.{IsKnownKind};
+ghost use Rattle.engine_world.specs.View.{world_of, with_line};
+ghost use Rattle.engine_world.specs.TaskView.{new_of, emission_of, entries_to_come, agenda_of};
+ghost use Rattle.engine_world.specs.Counting.{Counts, KeepsCounts, in_emitted};
+ghost use Rattle.engine_world.specs.EngineView.{config_of};
+ghost use Rattle.engine_world.specs.Standing.{past_skipped_turns};
+ghost use Rattle.engine_tasks.specs.TurnView.{RunsProgram, given_by, program_of_turn};
+
+use crate::programs::begin_program;
+use crate::turns::Invocation;
+use definitions::Definition;
+use engine_world::arguments::{all_fit, as_text};
+use engine_world::counted_steps::count;
+use engine_world::engine::Engine;
+use engine_world::frames::pass_down;
+use engine_world::lines::Line;
+use engine_world::references::{accumulated, hold_any, let_go_any, let_go_values};
+use engine_world::task::{NewEmission, Task};
+use g_values::{Kind, Value, zero_of};
+use signal_core::{Cursor, Emission, Handlers, Turn};
+use std::alloc::{AllocError, Global};
+use type_tree::TypeTree;
+use ui_machine::{Arm, Halt};
+
+// What an emission results in: the value that it has accumulated, or else the zero value of the kind.
+fn result_of(definition: &Definition, kind: Option<Kind>, value: Option<Value>) -> Option<Value>
+    requires known { IfSome (option_map kind_view kind) (IsKnownKind definition.now.types) }
+    ensures { option_map value_view result ≡ result_of definition.now (option_map kind_view kind) (option_map value_view value) }
+{
+    let kind = kind?;
+    match value {
+        Some(value) => Some(value),
+        None => Some(zero_of(definition.types(), kind)),
+    }
+}
+
+// The next turn of an emission that runs a program. No binding is there that would transfer a value.
+fn next_program(handlers: &Handlers, cursor: &mut Cursor) -> Option<Turn>
+    ensures turn { result ≡ program_turn cursor.old handlers.now.handlers }
+    ensures goes_on { cursor.new ≡ after_program cursor.old handlers.now.handlers }
+{
+    match handlers.next(cursor) {
+        Some(Turn::Transfers) => handlers.next(cursor),
+        turn => turn,
+    }
+}
+
+// The line with which an emission of a signal begins.
+fn emission_line(
+    alloc: Global,
+    types: &TypeTree,
+    emission: &NewEmission,
+    signal: &str,
+) -> Result<String, AllocError>
+    ensures { IfOk result (λ line. string_bytes line ≡ text_of_line types.now
+        (lines.emit emission.now.object.0 signal.now (new_of emission.now).detail (new_of emission.now).args)) }
+{
+    let detail = as_text(&emission.detail);
+    let args = emission.args.as_slice();
+    let told = Line::Emit {
+        object: emission.object,
+        signal,
+        detail,
+        args,
+    };
+    told.text(alloc, types)
+}
+
+// Puts the rest of an emission before the other tasks. It goes on to hold what it was given, and holds its object from then on.
+fn push_rest(
+    engine: &mut Engine,
+    cursor: Cursor,
+    args: Vec<Value>,
+    by_event: bool,
+) -> Result<(), AllocError>
+    requires { cursor.greatest ≤ engine.now.world.handlers.last }
+    ensures agenda { OnOk result ((d : machine.Definition) → agenda_of d engine.new
+        ≡ Emitting (emission_of cursor args.items by_event) (entries_to_come cursor engine.old.world.handlers.handlers) ∷ agenda_of d engine.old) }
+    ensures world { world_of engine.new.world ≡ world_of engine.old.world }
+    ensures same { engine.new.counted ≡ engine.old.counted }
+    ensures counted { OnOk result ((d : machine.Definition) (taken : ℕ → ℕ)
+        → Counts d (λ o. taken o + in_emitted o (emission_of cursor args.items by_event)) engine.old → Counts d taken engine.new) }
+{
+    hold_any(&mut engine.world.table, Some(cursor.object()))?;
+    engine.stack.push(Task::Emitting {
+        cursor,
+        args,
+        by_event,
+    })?;
+    Ok(())
+}
+
+/// An emission begins that is counted already. Its line is said, and what is connected later has no turn in it.
+pub(crate) fn start_emission(
+    engine: &mut Engine,
+    emission: Emission,
+    args: Vec<Value>,
+    by_event: bool,
+    line: String,
+) -> Result<(), AllocError>
+    ensures agenda { OnOk result ((d : machine.Definition) → agenda_of d engine.new
+        ≡ Emitting (emission_of (begun emission engine.old.world.handlers.last) args.items by_event)
+        (entries_to_come (begun emission engine.old.world.handlers.last) engine.old.world.handlers.handlers)
+        ∷ agenda_of d engine.old) }
+    ensures world { OnOk result (world_of engine.new.world ≡ with_line (string_bytes line) (world_of engine.old.world)) }
+    ensures quiet { OnErr result ((world_of engine.new.world).transcript ≡ (world_of engine.old.world).transcript) }
+    ensures same { engine.new.counted ≡ engine.old.counted }
+    ensures counted { OnOk result ((d : machine.Definition) (taken : ℕ → ℕ)
+        → Counts d (λ o. taken o + total (in_value o) (map value_view args.items)) engine.old → Counts d taken engine.new) }
+{
+    let cursor = engine.world.handlers.begin_emission(emission);
+    push_rest(engine, cursor, args, by_event)?;
+    engine.world.say(line)?;
+    Ok(())
+}
+
+/// An emission that is due begins. It is counted and told of. Its arguments fit the signal.
+#[tactic(auto, unfolding(ui_machine::specs::Rules::EmissionPlan::beginning_emission))]
+pub fn begin_emission(
+    engine: &mut Engine,
+    definition: &Definition,
+    emission: NewEmission,
+) -> Result<(), Halt>
+    requires counted { Counts definition.now (λ o. in_task o (Beginning (new_of emission))) engine.now }
+    ensures step { Goes result
+        (counted (agenda_of definition.now engine.old) engine.old.counted (beginning_emission definition.now (world_of engine.old.world) (new_of emission)))
+        (config_of definition.now engine.new) }
+    ensures quiet { OnErr result ((world_of engine.new.world).transcript ≡ (world_of engine.old.world).transcript) }
+    ensures counted { OnOk result (Counts definition.now (λ o. same o emission.object.0) engine.new) }
+{
+    // For the proof: what is known of the numbers of handlers.
+    let _last = engine.world.handlers.last();
+    count(engine)?;
+    let types = definition.types();
+    let class = engine.world.table.class_of(emission.object)?;
+    let Some(declared) = definition.signal(class, emission.signal) else {
+        return Err(Halt::Stuck(Arm::Code));
+    };
+    let args = emission.args.as_slice();
+    if !all_fit(&engine.world.table, types, args, declared.params) {
+        return Err(Halt::Stuck(Arm::Argument));
+    }
+    let line = emission_line(engine.alloc, types, &emission, declared.name)?;
+    let NewEmission {
+        object,
+        signal,
+        detail,
+        args,
+        by_event,
+    } = emission;
+    let Some(planned) = definition.emission(class, object, signal, detail) else {
+        return Err(Halt::Stuck(Arm::Code));
+    };
+    start_emission(engine, planned, args, by_event, line)?;
+    Ok(())
+}
+
+// An event tells of its emission's result, if there is one.
+fn say_result(
+    engine: &mut Engine,
+    definition: &Definition,
+    value: Option<Value>,
+) -> Result<(), AllocError>
+    ensures world { OnOk result (world_of engine.new.world ≡ told definition.now (world_of engine.old.world) true (option_map value_view value)) }
+    ensures quiet { OnErr result ((world_of engine.new.world).transcript ≡ (world_of engine.old.world).transcript) }
+    ensures same { (engine.new.stack ≡ engine.old.stack) × (engine.new.counted ≡ engine.old.counted) }
+    ensures handlers { engine.new.world.handlers ≡ engine.old.world.handlers }
+    ensures counted { OnOk result (KeepsCounts definition.now engine.old engine.new) }
+{
+    let Some(value) = value else {
+        return Ok(());
+    };
+    let line = Line::Result { value: &value }.text(engine.alloc, definition.types())?;
+    engine.world.say(line)?;
+    engine.world.result = Some(value);
+    Ok(())
+}
+
+// The same of an emission that may not be an event's.
+fn say_result_if(
+    engine: &mut Engine,
+    definition: &Definition,
+    by_event: bool,
+    value: Option<Value>,
+) -> Result<(), AllocError>
+    ensures world { OnOk result (world_of engine.new.world ≡ told definition.now (world_of engine.old.world) by_event (option_map value_view value)) }
+    ensures quiet { OnErr result ((world_of engine.new.world).transcript ≡ (world_of engine.old.world).transcript) }
+    ensures same { (engine.new.stack ≡ engine.old.stack) × (engine.new.counted ≡ engine.old.counted) }
+    ensures handlers { engine.new.world.handlers ≡ engine.old.world.handlers }
+    ensures counted { OnOk result (KeepsCounts definition.now engine.old engine.new) }
+{
+    if !by_event {
+        return Ok(());
+    }
+    say_result(engine, definition, value)
+}
+
+// An emission ends. A program that waits for its result takes it, and what it was given is let go.
+#[tactic(auto, unfolding(ui_machine::specs::Rules::Accumulation::ending, ui_machine::specs::Rules::Accumulation::resulting, ui_machine::specs::Rules::EmissionPlan::signal_at, ui_machine::specs::Steps::left))]
+fn end_emission(
+    engine: &mut Engine,
+    definition: &Definition,
+    cursor: Cursor,
+    args: Vec<Value>,
+    by_event: bool,
+) -> Result<(), Halt>
+    requires counted { Counts definition.now (λ o. same o cursor.object + in_emitted o (emission_of cursor args.items by_event)) engine.now }
+    ensures step { Goes result
+        (left engine.old.counted (ending definition.now (world_of engine.old.world) (emission_of cursor args.items by_event) (agenda_of definition.now engine.old)))
+        (config_of definition.now engine.new) }
+    ensures quiet { OnErr result ((world_of engine.new.world).transcript ≡ (world_of engine.old.world).transcript) }
+    ensures counted { OnOk result (Counts definition.now (λ o. same o cursor.object) engine.new) }
+{
+    // For the proof: what is known of a definition's signals.
+    let _types = definition.types();
+    let object = cursor.object();
+    let number = cursor.signal();
+    let class = engine.world.table.class_of(object)?;
+    let Some(signal) = definition.signal(class, number) else {
+        return Err(Halt::Stuck(Arm::Code));
+    };
+    let held = accumulated(&cursor);
+    let value = result_of(definition, signal.result, cursor.value());
+    pass_down(engine, definition, &value)?;
+    say_result_if(engine, definition, by_event, value)?;
+    let_go_values(&mut engine.world.table, args.as_slice());
+    let_go_any(&mut engine.world.table, held);
+    Ok(())
+}
+
+// The program of a turn begins, in front of the rest of the emission.
+fn take_turn(
+    engine: &mut Engine,
+    definition: &Definition,
+    turn: Turn,
+    cursor: Cursor,
+    args: Vec<Value>,
+    by_event: bool,
+) -> Result<(), Halt>
+    requires runs { RunsProgram turn }
+    requires begun { cursor.greatest ≤ engine.now.world.handlers.last }
+    requires counted { Counts definition.now (λ o. same o cursor.object + in_emitted o (emission_of cursor args.items by_event)) engine.now }
+    ensures step { Goes result
+        (uncounted (Emitting (emission_of cursor args.items by_event) (entries_to_come cursor engine.old.world.handlers.handlers) ∷ agenda_of definition.now engine.old) engine.old.counted
+        (beginning_program definition.now (world_of engine.old.world) (program_of_turn turn) (given_by (emission_of cursor args.items by_event) turn)))
+        (config_of definition.now engine.new) }
+    ensures quiet { OnErr result ((world_of engine.new.world).transcript ≡ (world_of engine.old.world).transcript) }
+    ensures counted { OnOk result (Counts definition.now (λ o. same o cursor.object) engine.new) }
+{
+    let runs = Invocation::new(turn, cursor.object());
+    let given = runs.given(engine.alloc, args.as_slice())?;
+    push_rest(engine, cursor, args, by_event)?;
+    begin_program(engine, definition, runs.program, given)
+}
+
+/// An emission takes its next turn, or ends where there is none. What is blocked has none.
+pub fn emit(
+    engine: &mut Engine,
+    definition: &Definition,
+    mut cursor: Cursor,
+    args: Vec<Value>,
+    by_event: bool,
+) -> Result<(), Halt>
+    requires begun { cursor.greatest ≤ engine.now.world.handlers.last }
+    requires counted { Counts definition.now (λ o. same o cursor.object + in_emitted o (emission_of cursor args.items by_event)) engine.now }
+    ensures step { Goes result
+        (act definition.now (world_of engine.old.world) None
+        (past_skipped_turns engine.old.world.handlers.handlers (Emitting (emission_of cursor args.items by_event) (entries_to_come cursor engine.old.world.handlers.handlers))
+        ∷ agenda_of definition.now engine.old) engine.old.counted)
+        (config_of definition.now engine.new) }
+    ensures quiet { OnErr result ((world_of engine.new.world).transcript ≡ (world_of engine.old.world).transcript) }
+    ensures counted { OnOk result (Counts definition.now (λ o. same o cursor.object) engine.new) }
+{
+    // For the proof: what is known of the numbers of handlers.
+    let _last = engine.world.handlers.last();
+    let Some(turn) = next_program(&engine.world.handlers, &mut cursor) else {
+        return end_emission(engine, definition, cursor, args, by_event);
+    };
+    take_turn(engine, definition, turn, cursor, args, by_event)
+}

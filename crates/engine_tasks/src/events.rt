@@ -1,0 +1,170 @@
+//! What events do.
+
+ghost use Rattle.std.specs.Prelude.{◌≡◌, map, option_map, OnOk, OnErr};
+ghost use Rattle.ui_machine.specs.Outcome.{Goes};
+ghost use Rattle.ui_machine.specs.Steps.{uncounted};
+ghost use Rattle.ui_machine.specs.Rules.Events.{request_step, set_from_event, get_from_event, emit_from_event, release_from_event};
+ghost use Rattle.definition_format.specs.Meaning.{given_view, request_of};
+ghost use Rattle.engine_world.specs.View.{world_of};
+ghost use Rattle.engine_world.specs.TaskView.{agenda_of};
+ghost use Rattle.engine_world.specs.Counting.{HoldsBuilt, KeepsCounts};
+ghost use Rattle.engine_world.specs.EngineView.{config_of};
+
+use definition_format::{Event, Given};
+use definitions::Definition;
+use engine_world::arguments::{as_text, detail_in, operands};
+use engine_world::builder::{BuilderEntry, set_builder_entry};
+use engine_world::engine::Engine;
+use engine_world::given::{held_object, operand, settable};
+use engine_world::lines::Line;
+use engine_world::places::entry_at;
+use engine_world::properties::spec_of;
+use engine_world::references::{let_go_any, push_task};
+use engine_world::task::{NewEmission, Task};
+use ui_machine::{Arm, Halt, Place, SignalId, Slot};
+
+// A set by an event.
+#[tactic(auto, unfolding(ui_machine::specs::Rules::Events::set_from_event, ui_machine::specs::Rules::Events::set_given))]
+fn set_from_event(
+    engine: &mut Engine,
+    definition: &Definition,
+    place: Place,
+    slot: Slot,
+    given: Given,
+) -> Result<(), Halt>
+    ensures step { Goes result
+        (uncounted (agenda_of definition.now engine.old) engine.old.counted (set_from_event definition.now (world_of engine.old.world) place.0 slot (given_view given)))
+        (config_of definition.now engine.new) }
+    ensures quiet { OnErr result ((world_of engine.new.world).transcript ≡ (world_of engine.old.world).transcript) }
+    ensures counted { OnOk result (KeepsCounts definition.now engine.old engine.new) }
+{
+    let object = settable(engine, definition, place, slot)?;
+    let value = operand(engine, given)?;
+    push_task(
+        engine,
+        Task::Setting {
+            object,
+            slot,
+            value,
+        },
+    )?;
+    Ok(())
+}
+
+// A get by an event.
+#[tactic(auto, unfolding(ui_machine::specs::Rules::Events::get_from_event))]
+fn get_from_event(
+    engine: &mut Engine,
+    definition: &Definition,
+    place: Place,
+    slot: Slot,
+) -> Result<(), Halt>
+    ensures step { Goes result
+        (uncounted (agenda_of definition.now engine.old) engine.old.counted (get_from_event definition.now (world_of engine.old.world) place.0 slot))
+        (config_of definition.now engine.new) }
+    ensures quiet { OnErr result ((world_of engine.new.world).transcript ≡ (world_of engine.old.world).transcript) }
+    ensures counted { OnOk result (KeepsCounts definition.now engine.old engine.new) }
+{
+    let object = held_object(engine, place)?;
+    let spec = spec_of(engine, definition, object, slot)?;
+    let value = engine.world.table.read(object, slot)?;
+    if !spec.is_readable() {
+        return Err(Halt::Stuck(Arm::Flags));
+    }
+    let value = value.copied()?;
+    let told = Line::Get {
+        object,
+        property: spec.name.as_str(),
+        value: &value,
+    };
+    let line = told.text(engine.alloc, definition.types())?;
+    engine.world.say(line)?;
+    engine.world.result = Some(value);
+    Ok(())
+}
+
+// An emission by an event.
+#[tactic(auto, unfolding(ui_machine::specs::Rules::Events::emit_from_event))]
+fn emit_from_event(
+    engine: &mut Engine,
+    definition: &Definition,
+    place: Place,
+    signal: SignalId,
+    args: &[Given],
+    detail: Option<&str>,
+) -> Result<(), Halt>
+    ensures step { Goes result
+        (uncounted (agenda_of definition.now engine.old) engine.old.counted (emit_from_event definition.now (world_of engine.old.world) place.0 signal (map given_view args.now) (option_map (λ text. text.now) detail.entry)))
+        (config_of definition.now engine.new) }
+    ensures quiet { OnErr result ((world_of engine.new.world).transcript ≡ (world_of engine.old.world).transcript) }
+    ensures counted { OnOk result (KeepsCounts definition.now engine.old engine.new) }
+{
+    let object = held_object(engine, place)?;
+    let detail = detail_in(engine, definition, object, signal, detail)?;
+    let args = operands(engine, args)?;
+    push_task(
+        engine,
+        Task::Beginning(NewEmission {
+            object,
+            signal,
+            detail,
+            args,
+            by_event: true,
+        }),
+    )?;
+    Ok(())
+}
+
+// The builder lets an object go.
+#[tactic(auto, unfolding(ui_machine::specs::Rules::Events::release_from_event))]
+fn release_from_event(
+    engine: &mut Engine,
+    definition: &Definition,
+    place: Place,
+) -> Result<(), Halt>
+    requires holds { HoldsBuilt engine.now }
+    ensures step { Goes result
+        (uncounted (agenda_of definition.now engine.old) engine.old.counted (release_from_event definition.now (world_of engine.old.world) place.0))
+        (config_of definition.now engine.new) }
+    ensures quiet { OnErr result ((world_of engine.new.world).transcript ≡ (world_of engine.old.world).transcript) }
+    ensures counted { OnOk result (KeepsCounts definition.now engine.old engine.new) }
+{
+    let Some(entry) = entry_at(definition, place) else {
+        return Err(Halt::Stuck(Arm::Code));
+    };
+    let object = held_object(engine, place)?;
+    let line = Line::Release { id: entry.id }.text(engine.alloc, definition.types())?;
+    set_builder_entry(&mut engine.world.builder, place, BuilderEntry::Released)?;
+    let_go_any(&mut engine.world.table, Some(object));
+    engine.world.say(line)?;
+    Ok(())
+}
+
+/// What an event does.
+pub fn handle_event(engine: &mut Engine, definition: &Definition, event: Event) -> Result<(), Halt>
+    requires holds { HoldsBuilt engine.now }
+    ensures step { Goes result
+        (uncounted (agenda_of definition.now engine.old) engine.old.counted (request_step definition.now (world_of engine.old.world) (request_of event)))
+        (config_of definition.now engine.new) }
+    ensures quiet { OnErr result ((world_of engine.new.world).transcript ≡ (world_of engine.old.world).transcript) }
+    ensures counted { OnOk result (KeepsCounts definition.now engine.old engine.new) }
+{
+    match event {
+        Event::Set { place, slot, given } => set_from_event(engine, definition, place, slot, given),
+        Event::Get { place, slot } => get_from_event(engine, definition, place, slot),
+        Event::Emit {
+            place,
+            signal,
+            args,
+            detail,
+        } => emit_from_event(
+            engine,
+            definition,
+            place,
+            signal,
+            args.as_slice(),
+            as_text(&detail),
+        ),
+        Event::Release { place } => release_from_event(engine, definition, place),
+    }
+}

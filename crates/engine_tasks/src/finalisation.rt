@@ -1,0 +1,55 @@
+//! Finalisation: what nothing holds is disposed and taken out before anything else is done.
+
+ghost use Rattle.std.specs.Prelude.{◌≡◌, ◌<◌, List, map, suc, IsSome, OnOk, OnErr};
+ghost use Rattle.ui_machine.specs.Outcome.{Goes};
+ghost use Rattle.ui_machine.specs.Prefix.{IsPrefix};
+ghost use Rattle.ui_machine.specs.State.Objects.{living};
+ghost use Rattle.ui_machine.specs.State.Tasks.{Task};
+ghost use Rattle.ui_machine.specs.Steps.{counted, finalising, most_steps};
+ghost use Rattle.instances.specs.Store.{count_of};
+ghost use Rattle.instances.specs.Weak.{Knows};
+ghost use Rattle.machine_laws.specs.GoneLaws.{gone_in, pruned};
+ghost use Rattle.engine_world.specs.View.{world_of};
+ghost use Rattle.engine_world.specs.TaskView.{agenda_of};
+ghost use Rattle.engine_world.specs.Counting.{KeepsCounts};
+ghost use Rattle.engine_world.specs.Standing.{GoneStay};
+
+use definitions::Definition;
+use engine_world::counted_steps::count;
+use engine_world::engine::Engine;
+use engine_world::lines::Line;
+use ui_machine::{Arm, Halt, ObjectId};
+
+/// An object that nothing holds is disposed, again if it was, and taken out. Its handlers go, and have no more turns in the emissions that
+/// go on. It is a counted step.
+pub fn finalise(engine: &mut Engine, definition: &Definition, object: ObjectId) -> Result<(), Halt>
+    requires live { IsSome (living engine.now.world.table.objects object.0) }
+    requires unheld { count_of engine.now.world.table.counts object.0 ≡ 0 }
+    requires knows { Knows definition.now engine.now.world.weak }
+    ensures step { (rest : List Task) → Goes result
+        (counted rest engine.old.counted (finalising definition.now (world_of engine.old.world) object.0))
+        (record { world = world_of engine.new.world; agenda = rest; counted = engine.new.counted }) }
+    ensures agenda { OnOk result (agenda_of definition.now engine.new ≡ map (pruned (gone_in (world_of engine.new.world))) (agenda_of definition.now engine.old)) }
+    ensures gone { OnOk result (GoneStay (world_of engine.old.world) (world_of engine.new.world)) }
+    ensures quiet { OnErr result ((world_of engine.new.world).transcript ≡ (world_of engine.old.world).transcript) }
+    ensures counts { OnOk result ((engine.old.counted < most_steps) × (engine.new.counted ≡ suc engine.old.counted)) }
+    ensures same { OnOk result ((engine.new.stack ≡ engine.old.stack) × (engine.new.world.table.floating ≡ engine.old.world.table.floating)) }
+    ensures grows { OnOk result (IsPrefix (world_of engine.old.world).transcript (world_of engine.new.world).transcript) }
+    ensures counted { OnOk result (KeepsCounts definition.now engine.old engine.new) }
+{
+    count(engine)?;
+    // No peer is lent so far.
+    if engine.world.table.peer_of(object).is_some() {
+        return Err(Halt::Stuck(Arm::Code));
+    }
+    let types = definition.types();
+    let disposed = Line::Dispose { object }.text(engine.alloc, types)?;
+    let finalised = Line::Final { object }.text(engine.alloc, types)?;
+    let is_first = !engine.world.table.is_disposed(object);
+    // For the proof: what is known of the numbers of handlers.
+    let _last = engine.world.handlers.last();
+    engine.world.table.finalise(&engine.world.weak, object);
+    engine.world.handlers.disconnect_object(object);
+    engine.world.say_both(is_first, disposed, finalised)?;
+    Ok(())
+}

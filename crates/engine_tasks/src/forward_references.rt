@@ -1,0 +1,128 @@
+//! Forward references: objects that are given to properties before they are built. They are set once all objects stand.
+
+ghost use Rattle.std.specs.Prelude.{◌≡◌, ◌≤◌, ◌++◌, map, OnOk, OnErr, IfOk};
+ghost use Rattle.std.specs.List.{flat_map};
+ghost use Rattle.ui_machine.specs.Outcome.{Goes};
+ghost use Rattle.ui_machine.specs.Rules.Build.{building, forward_of, forward_items};
+ghost use Rattle.ui_machine.specs.Steps.{uncounted};
+ghost use Rattle.definition_format.specs.Meaning.{given_property, object_count};
+ghost use Rattle.engine_world.specs.View.{world_of};
+ghost use Rattle.engine_world.specs.TaskView.{agenda_of, item_of, items_of, forwards_at, build_end};
+ghost use Rattle.engine_world.specs.Counting.{Connects, KeepsCounts};
+ghost use Rattle.engine_world.specs.EngineView.{config_of};
+
+use crate::signals::connect_from_build;
+use definition_format::{Given, GivenValue};
+use definitions::Definition;
+use engine_world::engine::Engine;
+use engine_world::given::{held_value, settable};
+use engine_world::places::{FIRST_PLACE, entry_at, place_numbered};
+use engine_world::references::push_task;
+use engine_world::task::{ForwardReference, ForwardReferences, Task};
+use std::alloc::{AllocError, Global};
+use ui_machine::{Halt, Place};
+
+// Puts what an entry gives before these, where it is a forward reference.
+fn add_forward(
+    forwards: &mut Vec<ForwardReference>,
+    object: Place,
+    entry: &GivenValue,
+) -> Result<(), AllocError>
+    ensures { OnOk result (items_of forwards.new.items ≡ forward_of object.0 (given_property entry.now) ++ items_of forwards.old.items) }
+{
+    let Given::Object(to) = &entry.given else {
+        return Ok(());
+    };
+    if object.0 > to.0 {
+        return Ok(());
+    }
+    forwards.push(ForwardReference {
+        object,
+        slot: entry.slot,
+        to: *to,
+    })?;
+    Ok(())
+}
+
+// Puts the forward references of an object before these, in the given order.
+fn add_forwards(
+    forwards: &mut Vec<ForwardReference>,
+    object: Place,
+    given: &[GivenValue],
+) -> Result<(), AllocError>
+    ensures { OnOk result (items_of forwards.new.items ≡ flat_map (forward_of object.0) (map given_property given.now) ++ items_of forwards.old.items) }
+{
+    let mut left = given.len();
+    'entries: while left > 0 {
+        left -= 1;
+        add_forward(forwards, object, &given[left])?;
+    }
+    Ok(())
+}
+
+// The same of the object at a place of a definition.
+fn add_forwards_of(
+    forwards: &mut Vec<ForwardReference>,
+    definition: &Definition,
+    place: Place,
+) -> Result<(), AllocError>
+    ensures { OnOk result (items_of forwards.new.items ≡ forwards_at definition.now place.0 ++ items_of forwards.old.items) }
+{
+    let Some(entry) = entry_at(definition, place) else {
+        return Ok(());
+    };
+    add_forwards(forwards, place, entry.given)
+}
+
+/// The forward references of a definition's objects, in document order.
+pub fn forward_references(
+    alloc: Global,
+    definition: &Definition,
+) -> Result<ForwardReferences, AllocError>
+    ensures { IfOk result (λ forwards. map item_of forwards ≡ forward_items 0 definition.now.places) }
+{
+    // For the proof: what is known of a definition's types.
+    let _types = definition.types();
+    let mut forwards = Vec::new(alloc);
+    let mut left = definition.object_count();
+    'places: while left > 0 {
+        left -= 1;
+        add_forwards_of(&mut forwards, definition, place_numbered(definition, left))?;
+    }
+    Ok(ForwardReferences::new(forwards))
+}
+
+/// The next forward reference is set, where all objects stand, or else the first signal is connected.
+#[tactic(auto, unfolding(ui_machine::specs::Rules::Build::building_forward, ui_machine::specs::Rules::Build::set_forward))]
+pub(crate) fn set_forward_reference(
+    engine: &mut Engine,
+    definition: &Definition,
+    place: Place,
+    mut forwards: ForwardReferences,
+) -> Result<(), Halt>
+    requires past { object_count definition.now ≤ place.0 }
+    requires connects { Connects definition.now engine.now }
+    ensures step { Goes result
+        (uncounted (agenda_of definition.now engine.old) engine.old.counted (building definition.now (world_of engine.old.world) (build_end definition.now forwards)))
+        (config_of definition.now engine.new) }
+    ensures quiet { OnErr result ((world_of engine.new.world).transcript ≡ (world_of engine.old.world).transcript) }
+    ensures counted { OnOk result (KeepsCounts definition.now engine.old engine.new) }
+{
+    // For the proof: what is known of a definition's places.
+    let _types = definition.types();
+    let Some(forward) = forwards.take() else {
+        return connect_from_build(engine, definition, FIRST_PLACE, 0);
+    };
+    let object = settable(engine, definition, forward.object, forward.slot)?;
+    let value = held_value(engine, forward.to)?;
+    push_task(engine, Task::Building { place, forwards })?;
+    push_task(
+        engine,
+        Task::Setting {
+            object,
+            slot: forward.slot,
+            value,
+        },
+    )?;
+    Ok(())
+}

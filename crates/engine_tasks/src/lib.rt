@@ -1,0 +1,14 @@
+//! Tasks: what each one does, as the machine's, but for a program's, which takes an instruction.
+#![tactic(auto)]
+
+pub mod builds;
+pub mod children;
+pub mod emission;
+pub mod events;
+pub mod finalisation;
+pub mod forward_references;
+pub mod notifications;
+pub mod programs;
+pub mod sets;
+pub mod signals;
+pub mod turns;

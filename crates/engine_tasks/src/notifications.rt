@@ -1,0 +1,80 @@
+//! Notifications: how one begins, and those of a thaw.
+
+ghost use Rattle.std.specs.Prelude.{◌≡◌, OnOk, OnErr};
+ghost use Rattle.ui_machine.specs.Outcome.{Goes};
+ghost use Rattle.ui_machine.specs.Rules.EmissionPlan.{notifying};
+ghost use Rattle.ui_machine.specs.Steps.{counted, uncounted};
+ghost use Rattle.ui_machine.specs.Rules.NotifyQueue.{thawing};
+ghost use Rattle.engine_world.specs.View.{world_of};
+ghost use Rattle.engine_world.specs.TaskView.{agenda_of};
+ghost use Rattle.engine_world.specs.Counting.{KeepsCounts};
+ghost use Rattle.engine_world.specs.EngineView.{config_of};
+
+use crate::emission::start_emission;
+use definitions::Definition;
+use engine_world::counted_steps::count;
+use engine_world::engine::Engine;
+use engine_world::lines::Line;
+use engine_world::references::push_task;
+use engine_world::task::{Slots, Task};
+use ui_machine::{Arm, Halt, ObjectId, SignalId, Slot};
+
+// The number of the signal `notify`.
+const NOTIFY: SignalId = 0;
+
+/// A due notification begins. It is counted and told of.
+#[tactic(auto, unfolding(ui_machine::specs::Rules::EmissionPlan::notifying))]
+pub fn notify(
+    engine: &mut Engine,
+    definition: &Definition,
+    object: ObjectId,
+    slot: Slot,
+) -> Result<(), Halt>
+    ensures step { Goes result
+        (counted (agenda_of definition.now engine.old) engine.old.counted (notifying definition.now (world_of engine.old.world) object.0 slot))
+        (config_of definition.now engine.new) }
+    ensures quiet { OnErr result ((world_of engine.new.world).transcript ≡ (world_of engine.old.world).transcript) }
+    ensures counted { OnOk result (KeepsCounts definition.now engine.old engine.new) }
+{
+    // For the proof: what is known of the numbers of handlers.
+    let _last = engine.world.handlers.last();
+    count(engine)?;
+    let class = engine.world.table.class_of(object)?;
+    let Some(spec) = definition.spec(class, slot) else {
+        return Err(Halt::Stuck(Arm::Code));
+    };
+    let name = String::from_str(engine.alloc, spec.name.as_str())?;
+    let Some(emission) = definition.emission(class, object, NOTIFY, Some(name)) else {
+        return Err(Halt::Stuck(Arm::Code));
+    };
+    let told = Line::Notify {
+        object,
+        property: spec.name.as_str(),
+    };
+    let line = told.text(engine.alloc, definition.types())?;
+    start_emission(engine, emission, Vec::new(engine.alloc), false, line)?;
+    Ok(())
+}
+
+/// The next of the notifications that are left of a thaw.
+pub fn notify_thawed(
+    engine: &mut Engine,
+    definition: &Definition,
+    object: ObjectId,
+    mut slots: Slots,
+) -> Result<(), Halt>
+    ensures step { Goes result
+        (uncounted (agenda_of definition.now engine.old) engine.old.counted (thawing (world_of engine.old.world) object.0 slots))
+        (config_of definition.now engine.new) }
+    ensures quiet { OnErr result ((world_of engine.new.world).transcript ≡ (world_of engine.old.world).transcript) }
+    ensures counted { OnOk result (KeepsCounts definition.now engine.old engine.new) }
+{
+    // For the proof: the clauses speak of the definition.
+    let _ = definition;
+    let Some(slot) = slots.take() else {
+        return Ok(());
+    };
+    push_task(engine, Task::Thawing { object, slots })?;
+    push_task(engine, Task::Notifying { object, slot })?;
+    Ok(())
+}

@@ -1,0 +1,239 @@
+//! Sets of properties, and the notifications that they raise.
+
+ghost use Rattle.std.specs.Prelude.{◌≡◌, ◌&&◌, not, string_bytes, OnOk, OnErr, IfOk};
+ghost use Rattle.ui_machine.specs.Outcome.{Goes, Follows, only_if};
+ghost use Rattle.ui_machine.specs.Rules.Sets.{setting, without_disposed, written, raising_if, notifies, has_kind, lives, unless_disposed};
+ghost use Rattle.ui_machine.specs.State.Objects.{class_in, changed, with_value};
+ghost use Rattle.ui_machine.specs.declared.arm.Arm.TheVariants as arms;
+ghost use Rattle.param_specs.specs.Validation.{KnowsClass};
+ghost use Rattle.ui_machine.specs.Definition.Properties.{is_lax};
+ghost use Rattle.ui_machine.specs.State.Config.{said, with_objects};
+ghost use Rattle.ui_machine.specs.Output.Lines as lines;
+ghost use Rattle.ui_machine.specs.Steps.{uncounted};
+ghost use Rattle.g_values.specs.View.{kind_view, value_view};
+ghost use Rattle.param_specs.specs.View.{spec_view};
+ghost use Rattle.engine_world.specs.View.{world_of, with_line};
+ghost use Rattle.instances.specs.Store.{Shows};
+ghost use Rattle.engine_world.specs.TaskView.{agenda_of};
+ghost use Rattle.engine_world.specs.Counting.{KeepsCounts};
+ghost use Rattle.engine_world.specs.EngineView.{config_of};
+
+use definitions::Definition;
+use engine_world::engine::Engine;
+use engine_world::lines::Line;
+use engine_world::properties::{living_class, spec_of};
+use engine_world::references::{can_hold_named, named, push_task};
+use engine_world::task::Task;
+use g_values::{Kind, Value, is_same};
+use instances::Table;
+use param_specs::{Spec, validate};
+use std::alloc::AllocError;
+use ui_machine::{Arm, Halt, ObjectId, Slot};
+
+// Whether a value is one of the kind, its members, range and class left aside.
+fn has_kind(value: &Value, kind: Kind) -> bool
+    ensures { result ≡ has_kind (value_view value.now) (kind_view kind) }
+{
+    match (value, kind) {
+        (Value::Bool(_), Kind::Bool) => true,
+        (Value::Int(_), Kind::Int) => true,
+        (Value::UInt(_), Kind::UInt) => true,
+        (Value::Int64(_), Kind::Int64) => true,
+        (Value::UInt64(_), Kind::UInt64) => true,
+        (Value::Text(_), Kind::Text) => true,
+        (Value::Enum(t, _), Kind::Enum(u)) => *t == u,
+        (Value::Flags(t, _), Kind::Flags(u)) => *t == u,
+        (Value::Object(_, _), Kind::Object(_)) => true,
+        _ => false,
+    }
+}
+
+// Whether a write of a property is notified.
+fn notifies(spec: &Spec, old: &Value, new: &Value) -> bool
+    ensures { result ≡ notifies (spec_view spec.now) (value_view old.now) (value_view new.now) }
+{
+    spec.is_readable() && (!spec.is_explicit_notify() || !is_same(old, new))
+}
+
+// Whether a set is refused, whose value validation changes or not.
+fn refuses(spec: &Spec, is_changed: bool) -> bool
+    ensures { result ≡ (is_changed && not (is_lax (spec_view spec.now))) }
+{
+    is_changed && !spec.is_lax()
+}
+
+// A value by the class of the object that it names, which must live.
+fn with_own_class(table: &Table, value: Value) -> Result<Value, Arm>
+    ensures value { Shows value_view result (only_if (lives table.now.objects (value_view value)) arms.Value (Ok (value_view value))) }
+    ensures class { IfOk result (λ v. KnowsClass (class_in table.now.objects) v) }
+{
+    let Some(id) = named(&value) else {
+        return Ok(value);
+    };
+    let Some(class) = living_class(table, id) else {
+        return Err(Arm::Value);
+    };
+    Ok(Value::Object(class, Some(id)))
+}
+
+// Null in place of a disposed object.
+fn unless_disposed(table: &Table, value: Value) -> Value
+    ensures { value_view result ≡ unless_disposed table.now.objects (value_view value) }
+{
+    let Value::Object(class, Some(id)) = &value else {
+        return value;
+    };
+    let (class, id) = (*class, *id);
+    if table.is_disposed(id) {
+        return Value::Object(class, None);
+    }
+    value
+}
+
+// The value that is written: a weak property takes no disposed object.
+fn without_disposed(table: &Table, spec: &Spec, value: Value) -> Value
+    ensures { value_view result ≡ without_disposed table.now.objects (spec_view spec.now) (value_view value) }
+{
+    if !spec.weak {
+        return value;
+    }
+    unless_disposed(table, value)
+}
+
+// Says a line, and raises the notification of a property if it is to be told.
+#[tactic(auto, unfolding(ui_machine::specs::Rules::Sets::raising))]
+fn say_and_raise(
+    engine: &mut Engine,
+    definition: &Definition,
+    object: ObjectId,
+    slot: Slot,
+    line: String,
+    is_told: bool,
+) -> Result<(), Halt>
+    ensures step { Goes result
+        (uncounted (agenda_of definition.now engine.old) engine.old.counted (raising_if is_told (with_line (string_bytes line) (world_of engine.old.world)) object.0 slot))
+        (config_of definition.now engine.new) }
+    ensures quiet { OnErr result ((world_of engine.new.world).transcript ≡ (world_of engine.old.world).transcript) }
+    ensures counted { OnOk result (KeepsCounts definition.now engine.old engine.new) }
+{
+    // For the proof: the clauses speak of the definition.
+    let _ = definition;
+    if !is_told {
+        engine.world.say(line)?;
+        return Ok(());
+    }
+    if engine.world.table.add(object, slot)? {
+        push_task(engine, Task::Notifying { object, slot })?;
+        engine.world.say(line)?;
+        return Ok(());
+    }
+    engine.world.say(line)?;
+    Ok(())
+}
+
+// Writes a property, and answers what it was.
+fn write(
+    engine: &mut Engine,
+    definition: &Definition,
+    object: ObjectId,
+    slot: Slot,
+    value: Value,
+) -> Result<Value, Halt>
+    ensures changes { Follows value_view result (changed (world_of engine.old.world).objects object.0 (with_value slot (value_view value))) (world_of engine.new.world).objects }
+    ensures world { world_of engine.new.world ≡ with_objects (world_of engine.old.world) (world_of engine.new.world).objects }
+    ensures same { (engine.new.stack ≡ engine.old.stack) × (engine.new.counted ≡ engine.old.counted) }
+    ensures handlers { engine.new.world.handlers ≡ engine.old.world.handlers }
+    ensures counted { OnOk result (KeepsCounts definition.now engine.old engine.new) }
+{
+    // For the proof: the clauses speak of the definition.
+    let _ = definition;
+    if !can_hold_named(&engine.world.table, &value) {
+        return Err(Halt::OutOfMemory);
+    }
+    let old = engine
+        .world
+        .table
+        .write(&engine.world.weak, object, slot, value)?;
+    Ok(old)
+}
+
+// Writes a value and tells of it, and raises the notification.
+#[tactic(auto, unfolding(ui_machine::specs::Rules::Sets::written))]
+fn write_and_notify(
+    engine: &mut Engine,
+    definition: &Definition,
+    object: ObjectId,
+    slot: Slot,
+    spec: &Spec,
+    value: Value,
+) -> Result<(), Halt>
+    ensures step { Goes result
+        (uncounted (agenda_of definition.now engine.old) engine.old.counted (written definition.now (world_of engine.old.world) object.0 slot (spec_view spec.now) (value_view value)))
+        (config_of definition.now engine.new) }
+    ensures quiet { OnErr result ((world_of engine.new.world).transcript ≡ (world_of engine.old.world).transcript) }
+    ensures counted { OnOk result (KeepsCounts definition.now engine.old engine.new) }
+{
+    let told = Line::Set {
+        object,
+        property: spec.name.as_str(),
+        value: &value,
+    };
+    let line = told.text(engine.alloc, definition.types())?;
+    let old = write(engine, definition, object, slot, value.copied()?)?;
+    let is_told = notifies(spec, &old, &value);
+    say_and_raise(engine, definition, object, slot, line, is_told)
+}
+
+// Tells of a value that the property does not take.
+fn refuse(
+    engine: &mut Engine,
+    definition: &Definition,
+    object: ObjectId,
+    name: &str,
+    value: &Value,
+) -> Result<(), AllocError>
+    ensures ok { OnOk result (world_of engine.new.world ≡ said definition.now (world_of engine.old.world) (lines.refused object.0 name.now (value_view value.now))) }
+    ensures err { OnErr result (world_of engine.new.world ≡ world_of engine.old.world) }
+    ensures counted { OnOk result (KeepsCounts definition.now engine.old engine.new) }
+    ensures same { (engine.new.stack ≡ engine.old.stack) × (engine.new.counted ≡ engine.old.counted) }
+    ensures handlers { engine.new.world.handlers ≡ engine.old.world.handlers }
+{
+    let told = Line::Refused {
+        object,
+        property: name,
+        value,
+    };
+    let line = told.text(engine.alloc, definition.types())?;
+    engine.world.say(line)?;
+    Ok(())
+}
+
+/// A set writes the value. Where validation would change it, the set is refused with a line, unless the property is lax.
+pub fn validate_and_set(
+    engine: &mut Engine,
+    definition: &Definition,
+    object: ObjectId,
+    slot: Slot,
+    value: Value,
+) -> Result<(), Halt>
+    ensures step { Goes result
+        (uncounted (agenda_of definition.now engine.old) engine.old.counted (setting definition.now (world_of engine.old.world) object.0 slot (value_view value)))
+        (config_of definition.now engine.new) }
+    ensures quiet { OnErr result ((world_of engine.new.world).transcript ≡ (world_of engine.old.world).transcript) }
+    ensures counted { OnOk result (KeepsCounts definition.now engine.old engine.new) }
+{
+    let spec = spec_of(engine, definition, object, slot)?;
+    if !has_kind(&value, spec.kind) {
+        return Err(Halt::Stuck(Arm::Value));
+    }
+    let known = with_own_class(&engine.world.table, value)?;
+    let original = known.copied()?;
+    let (valid, is_changed) = validate(definition.types(), spec, known);
+    if refuses(spec, is_changed) {
+        refuse(engine, definition, object, spec.name.as_str(), &original)?;
+        return Ok(());
+    }
+    let without_disposed = without_disposed(&engine.world.table, spec, valid);
+    write_and_notify(engine, definition, object, slot, spec, without_disposed)?;
+    Ok(())
+}

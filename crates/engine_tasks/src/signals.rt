@@ -1,0 +1,130 @@
+//! The signals of the definition's objects: they are connected once all objects stand (GTK manual, GtkBuilder: the element `signal`).
+
+ghost use Rattle.std.specs.Prelude.{◌≡◌, ◌∷◌, [], suc, ◌<◌, IfSome, MatchOption, OnOk, OnErr};
+ghost use Rattle.ui_machine.specs.Outcome.{Goes};
+ghost use Rattle.ui_machine.specs.Rules.Build.{building, held_data};
+ghost use Rattle.ui_machine.specs.State.Tasks.{connects};
+ghost use Rattle.ui_machine.specs.Steps.{uncounted};
+ghost use Rattle.definition_format.specs.Meaning.{place_number};
+ghost use Rattle.instances.specs.Store.{Shows, id_of};
+ghost use Rattle.signal_core.specs.Connected.{connection_of};
+ghost use Rattle.engine_world.specs.ConnectView.{attached_at};
+ghost use Rattle.engine_world.specs.Counting.{Connects, KeepsCounts};
+ghost use Rattle.engine_world.specs.EngineView.{config_of};
+ghost use Rattle.engine_world.specs.GivenView.{Finds};
+ghost use Rattle.engine_world.specs.TaskView.{agenda_of, connects_from};
+ghost use Rattle.engine_world.specs.View.{world_of};
+
+use definitions::Definition;
+use engine_world::arguments::{as_text, detail_for};
+use engine_world::connections::{connect_signal, signal_count};
+use engine_world::engine::Engine;
+use engine_world::given::held_object;
+use engine_world::places::{entry_at, place_numbered};
+use engine_world::references::push_task;
+use engine_world::task::Task;
+use signal_core::Connection;
+use ui_machine::{Arm, Halt, ObjectId, Place};
+
+/// A signal of an object of the definition: the object's place, and the signal's number there.
+#[derive(Clone, Copy, Debug)]
+struct Position {
+    place: Place,
+    number: usize,
+}
+
+// The first signal of an object from one on, or else of the objects behind it.
+fn next_signal(definition: &Definition, place: Place, number: usize) -> Option<Position>
+    ensures next { MatchOption result (connects_from definition.now place.0 number ≡ [])
+        (λ at. connects_from definition.now place.0 number ≡ connects at.place.0 at.number ∷ connects_from definition.now at.place.0 (suc at.number)) }
+    ensures room { IfSome result (λ at. at.number < usize.MAX) }
+{
+    // For the proof: what is known of a definition's types.
+    let _types = definition.types();
+    let mut first = number;
+    for at in usize::from(place.0)..definition.object_count() {
+        if first < signal_count(definition, at) {
+            return Some(Position {
+                place: place_numbered(definition, at),
+                number: first,
+            });
+        }
+        first = 0;
+    }
+    None
+}
+
+// The object that is the data of a signal, if it has some.
+#[tactic(auto, unfolding(ui_machine::specs::Rules::Build::held_data))]
+fn data_of(engine: &Engine, with: Option<Place>) -> Result<Option<ObjectId>, Arm>
+    ensures { Shows id_of result (held_data (world_of engine.now.world) (place_number with)) }
+{
+    let Some(place) = with else {
+        return Ok(None);
+    };
+    let object = held_object(engine, place)?;
+    Ok(Some(object))
+}
+
+// What a signal of the definition is connected with.
+fn attached(engine: &Engine, definition: &Definition, at: Position) -> Result<Connection, Halt>
+    ensures { Finds connection_of result (attached_at definition.now (world_of engine.now.world) at.place.0 at.number) }
+{
+    let Some(entry) = entry_at(definition, at.place) else {
+        return Err(Halt::Stuck(Arm::Code));
+    };
+    let Some(attached) = entry.signals.get(at.number) else {
+        return Err(Halt::Stuck(Arm::Code));
+    };
+    let object = held_object(engine, at.place)?;
+    let data = data_of(engine, attached.with)?;
+    let Some(signal) = definition.signal_number(entry.class, attached.signal.as_str()) else {
+        return Err(Halt::Stuck(Arm::Code));
+    };
+    let detail = detail_for(
+        engine,
+        definition,
+        entry.class,
+        signal,
+        as_text(&attached.detail),
+    )?;
+    Ok(Connection {
+        object,
+        signal,
+        detail,
+        program: attached.program,
+        after: attached.after,
+        swapped: attached.swapped,
+        data,
+        by_code: false,
+    })
+}
+
+/// The next signal of the definition's objects is connected, from one of an object on.
+pub fn connect_from_build(
+    engine: &mut Engine,
+    definition: &Definition,
+    place: Place,
+    number: usize,
+) -> Result<(), Halt>
+    requires connects { Connects definition.now engine.now }
+    ensures step { Goes result
+        (uncounted (agenda_of definition.now engine.old) engine.old.counted (building definition.now (world_of engine.old.world) (connects_from definition.now place.0 number)))
+        (config_of definition.now engine.new) }
+    ensures quiet { OnErr result ((world_of engine.new.world).transcript ≡ (world_of engine.old.world).transcript) }
+    ensures counted { OnOk result (KeepsCounts definition.now engine.old engine.new) }
+{
+    let Some(at) = next_signal(definition, place, number) else {
+        return Ok(());
+    };
+    let connection = attached(engine, definition, at)?;
+    push_task(
+        engine,
+        Task::Connecting {
+            place: at.place,
+            number: at.number + 1,
+        },
+    )?;
+    connect_signal(engine, definition, connection)?;
+    Ok(())
+}

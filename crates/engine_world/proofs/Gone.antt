@@ -1,0 +1,343 @@
+-- Which handlers are gone, and what emissions have of them.
+use Rattle.std.proofs.Common.{◌≡◌, ◌∙◌, refl, sym, ap, append_assoc, ℕ, ◌<◌, ◌≤◌, ◌&&◌, ◌++◌, Bool, true, false, cond, not, map, nat_eq, nat_le, List, [], ◌∷◌, reverse, Option, None, Some, is_some, arith}
+use Rattle.std.specs.List.{filter, flat_map, list_all}
+use Rattle.std.proofs.lemmas.Bool.{false≢true}
+use Rattle.std.proofs.lemmas.Bool.Decides.{nat_tests}
+use Rattle.std.proofs.lemmas.List.Elements.{filter-append}
+use Rattle.ui_machine.specs.Definition.{Definition}
+use Rattle.ui_machine.specs.Definition.Properties.{has_flags}
+use Rattle.ui_machine.specs.State.Config as config
+use Rattle.ui_machine.specs.State.Handlers.{Handler, handler_of}
+use Rattle.ui_machine.specs.State.Tasks.{Emission, Emitting, PlanEntry, Task, class_handler, handler, transfer}
+use Rattle.machine_laws.specs.GoneLaws.{gone_in, is_next, pruned, stays}
+use Rattle.signal_core.specs.Connected.{Numbered}
+use Rattle.signal_core.specs.Emission.{Due, Walk, due, from_after, from_before, from_cleanup, from_last, from_transfers, is_ahead, of_class, of_handler, of_handlers, turns_from}
+use Rattle.signal_core.specs.Laws.{entries_left, entries_of, is_passed_over, number_at}
+use Rattle.signal_core.specs.declared.stage.Stage.{Stage}
+use Rattle.signal_core.specs.declared.stage.Stage.TheVariants as stages
+use Rattle.signal_core.specs.declared.turn.Turn.TheVariants as turns
+use Rattle.signal_core.proofs.Numbers.{numbered_lower, numbered_within}
+use Rattle.engine_world.specs.declared.task.Stack.{Stack}
+use Rattle.engine_world.specs.declared.task.Task as code
+use Rattle.engine_world.specs.declared.task.Task.TheVariants as tasks
+use Rattle.engine_world.specs.Standing.{GoneStay, past_skipped_turns, with_first}
+use Rattle.engine_world.specs.TaskView.{emission_of, entries_to_come, task_of, tasks_of}
+use Rattle.engine_world.proofs.Notified.{reverse-map}
+
+-- ** who is gone
+
+both_true : (a b : Bool) → (a && b) ≡ true → (a ≡ true) × (b ≡ true)
+both_true true b h = (refl, h)
+both_true false b h = absurd (false≢true h)
+
+pub none_stands : (w : config.World) (number : ℕ) → gone_in w number ≡ true → handler_of number w.handlers ≡ None
+none_stands w number is = by (handler_of number w.handlers) (both_true (nat_le number w.last_handler) (not (is_some (handler_of number w.handlers))) is).1
+  where
+    by : (o : Option Handler) → not (is_some o) ≡ true → o ≡ None
+    by None none = refl
+    by (Some h) none = absurd (false≢true none)
+
+-- they are passed over
+pub gone_passed : (w : config.World) (number : ℕ) → gone_in w number ≡ true → is_passed_over (handler_of number w.handlers) ≡ true
+gone_passed w number is = ap is_passed_over (none_stands w number is)
+
+-- the same are gone where the same handlers stand
+pub same_stay : (w v : config.World) → v.handlers ≡ w.handlers → v.last_handler ≡ w.last_handler → GoneStay w v
+same_stay w v handlers last = record {
+  stay = λ number is. ap (λ (hs : List Handler). nat_le number v.last_handler && not (is_some (handler_of number hs))) handlers
+      ∙ ap (λ n. nat_le number n && not (is_some (handler_of number w.handlers))) last ∙ is;
+}
+
+pub stay_on : (u v w : config.World) → GoneStay u v → GoneStay v w → GoneStay u w
+stay_on u v w p q = record { stay = λ number is. q.stay number (p.stay number is) }
+
+-- ** turns that are passed over
+
+module _ (w : config.World) where
+  -- what is passed over as an emission comes first is gone or blocked, whether those that are gone were left out before or not
+  pub left_stays : (entries : List PlanEntry) → filter (stays (gone_in w)) (entries_left w.handlers entries) ≡ entries_left w.handlers (filter (stays (gone_in w)) entries)
+  left_stays [] = refl
+  left_stays (class_handler program cleanup ∷ entries) = refl
+  left_stays (transfer number back ∷ entries) = refl
+  left_stays (handler number ∷ entries) = by (gone_in w number) refl (left_stays entries)
+    where
+      kept : List PlanEntry
+      kept = filter (stays (gone_in w)) entries
+
+      passed : Bool
+      passed = is_passed_over (handler_of number w.handlers)
+
+      Same : Type 0
+      Same = filter (stays (gone_in w)) (entries_left w.handlers entries) ≡ entries_left w.handlers kept
+
+      standing : (b : Bool) → gone_in w number ≡ false → Same
+          → filter (stays (gone_in w)) (cond b (entries_left w.handlers entries) (handler number ∷ entries)) ≡ cond b (entries_left w.handlers kept) (handler number ∷ kept)
+      standing true not_so rest = rest
+      standing false not_so rest = ap (λ g. cond (not g) (handler number ∷ filter (stays (gone_in w)) entries) (filter (stays (gone_in w)) entries)) not_so
+
+      by : (g : Bool) → gone_in w number ≡ g → Same
+          → filter (stays (gone_in w)) (cond passed (entries_left w.handlers entries) (handler number ∷ entries)) ≡ entries_left w.handlers (cond (not g) (handler number ∷ kept) kept)
+      by true so rest = ap (λ b. filter (stays (gone_in w)) (cond b (entries_left w.handlers entries) (handler number ∷ entries))) (gone_passed w number so) ∙ rest
+      by false not_so rest = standing (is_passed_over (handler_of number w.handlers)) not_so rest
+
+  pub first_stays : (task : Task) → pruned (gone_in w) (past_skipped_turns w.handlers task) ≡ past_skipped_turns w.handlers (pruned (gone_in w) task)
+  first_stays (Emitting e entries) = ap (Emitting e) (left_stays entries)
+  first_stays task = refl
+
+  pub with_first_stays : (agenda : List Task) → map (pruned (gone_in w)) (with_first w.handlers agenda) ≡ with_first w.handlers (map (pruned (gone_in w)) agenda)
+  with_first_stays [] = refl
+  with_first_stays (task ∷ rest) = ap (λ t. t ∷ map (pruned (gone_in w)) rest) (first_stays task)
+
+  -- the first turn that is left is of none that is gone
+  left_stands : (e : Emission) (rest : List Task) (entries : List PlanEntry) → is_next (gone_in w) (Emitting e (entries_left w.handlers entries) ∷ rest) ≡ false
+  left_stands e rest [] = refl
+  left_stands e rest (class_handler program cleanup ∷ entries) = refl
+  left_stands e rest (transfer number back ∷ entries) = refl
+  left_stands e rest (handler number ∷ entries) = by (is_passed_over (handler_of number w.handlers)) refl (left_stands e rest entries)
+    where
+      stood : (g : Bool) → gone_in w number ≡ g → is_passed_over (handler_of number w.handlers) ≡ false → g ≡ false
+      stood true so free = absurd (cc (gone_passed w number so, free))
+      stood false not_so free = refl
+
+      by : (b : Bool) → is_passed_over (handler_of number w.handlers) ≡ b → is_next (gone_in w) (Emitting e (entries_left w.handlers entries) ∷ rest) ≡ false
+          → is_next (gone_in w) (Emitting e (cond b (entries_left w.handlers entries) (handler number ∷ entries)) ∷ rest) ≡ false
+      by true passed later = later
+      by false free later = stood (gone_in w number) refl free
+
+  pub first_stands : (agenda : List Task) → is_next (gone_in w) (with_first w.handlers agenda) ≡ false
+  first_stands [] = refl
+  first_stands (Emitting e entries ∷ rest) = left_stands e rest entries
+  first_stands (task ∷ rest) = refl
+
+-- ** what is to come, where some handlers go
+
+-- of each of these handlers, whether it is gone
+abbrev pub AreLeft : (ℕ → Bool) → (Handler → Bool) → List Handler → Type 0
+AreLeft gone keeps [] = Unit {0}
+AreLeft gone keeps (h ∷ hs) = (not (gone h.number) ≡ keeps h) × AreLeft gone keeps hs
+
+module _ (gone : ℕ → Bool) (keeps : Handler → Bool) where
+  abbrev kept_entries : List Due → List PlanEntry
+  kept_entries dues = filter (stays gone) (flat_map (entries_of []) dues)
+
+  -- the turns of two lists have the same entries, but for those that are gone
+  abbrev Alike : List Due → List Due → Type 0
+  Alike dues left = kept_entries dues ≡ flat_map (entries_of []) left
+
+  flat-append : (xs ys : List Due) → flat_map (entries_of []) (xs ++ ys) ≡ flat_map (entries_of []) xs ++ flat_map (entries_of []) ys
+  flat-append [] ys = refl
+  flat-append (d ∷ xs) ys = ap (λ l. entries_of [] d ++ l) (flat-append xs ys) ∙ sym (append_assoc (entries_of [] d) (flat_map (entries_of []) xs) (flat_map (entries_of []) ys))
+
+  alike_append : (xs ys us vs : List Due) → Alike xs us → Alike ys vs → Alike (xs ++ ys) (us ++ vs)
+  alike_append xs ys us vs first later =
+      ap (filter (stays gone)) (flat-append xs ys)
+      ∙ filter-append (stays gone) (flat_map (entries_of []) xs) (flat_map (entries_of []) ys)
+      ∙ ap (λ l. l ++ kept_entries ys) first ∙ ap (λ l. flat_map (entries_of []) us ++ l) later ∙ sym (flat-append us vs)
+
+  class_alike : (runs : Bool) (program : Option ℕ) (next : Stage) → Alike (of_class runs program next) (of_class runs program next)
+  class_alike runs None next = refl
+  class_alike true (Some program) next = refl
+  class_alike false (Some program) next = refl
+
+  handlers_alike : (stage : ℕ → Stage) → ((n : ℕ) → number_at (stage n) ≡ n) → (meant : Handler → Bool) (hs : List Handler) → AreLeft gone keeps hs
+      → Alike (map (of_handler stage) (filter meant hs)) (map (of_handler stage) (filter meant (filter keeps hs)))
+  handlers_alike stage same meant [] left = refl
+  handlers_alike stage same meant (h ∷ hs) left = by (meant h) refl (keeps h) left.0 (handlers_alike stage same meant hs left.1)
+    where
+      whole : List PlanEntry
+      whole = flat_map (entries_of []) (map (of_handler stage) (filter meant hs))
+
+      fewer : List PlanEntry
+      fewer = flat_map (entries_of []) (map (of_handler stage) (filter meant (filter keeps hs)))
+
+      Rest : Type 0
+      Rest = filter (stays gone) whole ≡ fewer
+
+      by : (m : Bool) → meant h ≡ m → (k : Bool) → not (gone h.number) ≡ k → Rest
+          → Alike (map (of_handler stage) (cond m (h ∷ filter meant hs) (filter meant hs))) (map (of_handler stage) (filter meant (cond k (h ∷ filter keeps hs) (filter keeps hs))))
+      by true so true stays_on rest =
+          ap (λ n. filter (stays gone) (handler n ∷ whole)) (same h.number)
+          ∙ ap (λ b. cond b (handler h.number ∷ filter (stays gone) whole) (filter (stays gone) whole)) stays_on
+          ∙ ap (λ l. handler h.number ∷ l) rest
+          ∙ ap (λ n. handler n ∷ fewer) (sym (same h.number))
+          ∙ ap (λ b. flat_map (entries_of []) (map (of_handler stage) (cond b (h ∷ filter meant (filter keeps hs)) (filter meant (filter keeps hs))))) (sym so)
+      by true so false goes rest =
+          ap (λ n. filter (stays gone) (handler n ∷ whole)) (same h.number)
+          ∙ ap (λ b. cond b (handler h.number ∷ filter (stays gone) whole) (filter (stays gone) whole)) goes ∙ rest
+      by false not_so true stays_on rest = rest ∙ ap (λ b. flat_map (entries_of []) (map (of_handler stage) (cond b (h ∷ filter meant (filter keeps hs)) (filter meant (filter keeps hs))))) (sym not_so)
+      by false not_so false goes rest = rest
+
+  module _ (w : Walk) (hs : List Handler) (left : AreLeft gone keeps hs) where
+    fewer_now : List Handler
+    fewer_now = filter keeps hs
+
+    cleanup_alike : Alike (from_cleanup w) (from_cleanup w)
+    cleanup_alike = class_alike (has_flags 4 w.flags) w.class_program stages.Over
+
+    after_alike : (given : ℕ) → Alike (from_after given w hs) (from_after given w (filter keeps hs))
+    after_alike given =
+        alike_append (of_handlers w given true stages.After hs) (from_cleanup w) (of_handlers w given true stages.After (filter keeps hs)) (from_cleanup w)
+        (handlers_alike stages.After (λ n. refl) (is_ahead w given true) hs left) cleanup_alike
+
+    last_alike : Alike (from_last w hs) (from_last w (filter keeps hs))
+    last_alike =
+        alike_append (of_class (has_flags 2 w.flags) w.class_program (stages.After 0)) (from_after 0 w hs) (of_class (has_flags 2 w.flags) w.class_program (stages.After 0)) (from_after 0 w (filter keeps hs))
+        (class_alike (has_flags 2 w.flags) w.class_program (stages.After 0)) (after_alike 0)
+
+    before_alike : (given : ℕ) → Alike (from_before given w hs) (from_before given w (filter keeps hs))
+    before_alike given =
+        alike_append (of_handlers w given false stages.Before hs) (from_last w hs) (of_handlers w given false stages.Before (filter keeps hs)) (from_last w (filter keeps hs))
+        (handlers_alike stages.Before (λ n. refl) (is_ahead w given false) hs left) last_alike
+
+    transfers_alike : Alike (from_transfers w hs) (from_transfers w (filter keeps hs))
+    transfers_alike = by (nat_eq w.signal 0) (before_alike 0)
+      where
+        by : (b : Bool) → Alike (from_before 0 w hs) (from_before 0 w (filter keeps hs))
+            → Alike (cond b (due turns.Transfers (stages.Before 0) ∷ []) [] ++ from_before 0 w hs) (cond b (due turns.Transfers (stages.Before 0) ∷ []) [] ++ from_before 0 w (filter keeps hs))
+        by true rest = rest
+        by false rest = rest
+
+    turns_alike : (stage : Stage) → Alike (turns_from stage w hs) (turns_from stage w (filter keeps hs))
+    turns_alike stages.First =
+        alike_append (of_class (has_flags 1 w.flags) w.class_program stages.Transfers) (from_transfers w hs) (of_class (has_flags 1 w.flags) w.class_program stages.Transfers) (from_transfers w (filter keeps hs))
+        (class_alike (has_flags 1 w.flags) w.class_program stages.Transfers) transfers_alike
+    turns_alike stages.Transfers = transfers_alike
+    turns_alike (stages.Before given) = before_alike given
+    turns_alike stages.Last = last_alike
+    turns_alike (stages.After given) = after_alike given
+    turns_alike stages.Cleanup = cleanup_alike
+    turns_alike stages.Over = refl
+
+    pub entries_alike : filter (stays gone) (entries_to_come w hs) ≡ entries_to_come w (filter keeps hs)
+    entries_alike = turns_alike w.stage
+
+  module _ (d : Definition) (hs : List Handler) (left : AreLeft gone keeps hs) where
+    task_alike : (t : code.Task) → pruned gone (task_of d hs t) ≡ task_of d (filter keeps hs) t
+    task_alike (tasks.Setting id slot v) = refl
+    task_alike (tasks.Notifying id slot) = refl
+    task_alike (tasks.Beginning e) = refl
+    task_alike (tasks.Emitting cursor args by_event) = ap (Emitting (emission_of cursor args.items by_event)) (entries_alike cursor hs left)
+    task_alike (tasks.Running frame) = refl
+    task_alike (tasks.Thawing id slots) = refl
+    task_alike (tasks.Constructing id steps held) = refl
+    task_alike (tasks.Building place forwards) = refl
+    task_alike (tasks.Adopting place forwards) = refl
+    task_alike (tasks.Connecting place number) = refl
+    task_alike (tasks.Handling event) = refl
+
+    all_alike : (ts : List code.Task) → map (pruned gone) (map (task_of d hs) ts) ≡ map (task_of d (filter keeps hs)) ts
+    all_alike [] = refl
+    all_alike (t ∷ ts) = ap (λ x. x ∷ map (pruned gone) (map (task_of d hs) ts)) (task_alike t) ∙ ap (λ l. task_of d (filter keeps hs) t ∷ l) (all_alike ts)
+
+    -- the tasks of the engine, where some handlers are gone
+    pub tasks_alike : (s : Stack) → map (pruned gone) (tasks_of d hs s) ≡ tasks_of d (filter keeps hs) s
+    tasks_alike s =
+        ap (map (pruned gone)) (reverse-map (task_of d hs) s.tasks.items) ∙ all_alike (reverse s.tasks.items)
+        ∙ sym (reverse-map (task_of d (filter keeps hs)) s.tasks.items)
+
+-- ** who stays, by the handlers that are kept
+
+other_number : (n m : ℕ) → n < m → nat_eq n m ≡ false
+other_number n m less = grind (arith, nat_tests)
+
+own_number : (n : ℕ) → nat_eq n n ≡ true
+own_number n = grind (arith, nat_tests)
+
+-- a number below all of them is none's
+below_none : (keeps : Handler → Bool) (number : ℕ) (hs : List Handler) (last : ℕ) → Numbered number hs last → handler_of number (filter keeps hs) ≡ None
+below_none keeps number [] last n = refl
+below_none keeps number (h ∷ hs) last n = by (keeps h) (below_none keeps number hs last (numbered_lower number h.number hs last (omega (arith, n.0)) n.1))
+  where
+    differs : nat_eq h.number number ≡ false
+    differs = let less : number < h.number = n.0 in grind (arith, nat_tests)
+
+    by : (b : Bool) → handler_of number (filter keeps hs) ≡ None → handler_of number (cond b (h ∷ filter keeps hs) (filter keeps hs)) ≡ None
+    by true rest = ap (λ c. cond c (Some h) (handler_of number (filter keeps hs))) differs ∙ rest
+    by false rest = rest
+
+-- whether one that stood stands among those that are kept
+abbrev StandAs : (Handler → Bool) → List Handler → List Handler → Type 0
+StandAs keeps all [] = Unit {0}
+StandAs keeps all (h ∷ hs) = (is_some (handler_of h.number (filter keeps all)) ≡ keeps h) × StandAs keeps all hs
+
+stand_behind : (keeps : Handler → Bool) (first : Handler) (all hs : List Handler) (last : ℕ) → Numbered first.number hs last → StandAs keeps all hs → StandAs keeps (first ∷ all) hs
+stand_behind keeps first all [] last n s = tt
+stand_behind keeps first all (h ∷ hs) last n s = (
+  by (keeps first) ∙ s.0,
+  stand_behind keeps first all hs last (numbered_lower first.number h.number hs last (omega (arith, n.0)) n.1) s.1,
+)
+  where
+    by : (b : Bool) → is_some (handler_of h.number (cond b (first ∷ filter keeps all) (filter keeps all))) ≡ is_some (handler_of h.number (filter keeps all))
+    by true = ap (λ c. is_some (cond c (Some first) (handler_of h.number (filter keeps all)))) (other_number first.number h.number n.0)
+    by false = refl
+
+stand_as : (keeps : Handler → Bool) (above : ℕ) (hs : List Handler) (last : ℕ) → Numbered above hs last → StandAs keeps hs hs
+stand_as keeps above [] last n = tt
+stand_as keeps above (h ∷ hs) last n = (
+  by (keeps h),
+  stand_behind keeps h hs hs last n.1 (stand_as keeps h.number hs last n.1),
+)
+  where
+    by : (b : Bool) → is_some (handler_of h.number (cond b (h ∷ filter keeps hs) (filter keeps hs))) ≡ b
+    by true = ap (λ c. is_some (cond c (Some h) (handler_of h.number (filter keeps hs)))) (own_number h.number)
+    by false = ap (λ o. is_some o) (below_none keeps h.number hs last n.1)
+
+are_left : (keeps : Handler → Bool) (v : config.World) (all hs : List Handler) (above : ℕ) → v.handlers ≡ filter keeps all → Numbered above hs v.last_handler → StandAs keeps all hs
+    → AreLeft (gone_in v) keeps hs
+are_left keeps v all [] above is n s = tt
+are_left keeps v all (h ∷ hs) above is n s = (
+  ap (λ (hs : List Handler). not (nat_le h.number v.last_handler && not (is_some (handler_of h.number hs)))) is
+      ∙ ap (λ b. not (b && not (is_some (handler_of h.number (filter keeps all))))) within
+      ∙ ap (λ b. not (not b)) s.0 ∙ twice (keeps h),
+  are_left keeps v all hs h.number is n.1 s.1,
+)
+  where
+    within : nat_le h.number v.last_handler ≡ true
+    within = let less : h.number ≤ v.last_handler = numbered_within h.number hs v.last_handler n.1 in grind (arith, nat_tests)
+
+    twice : (b : Bool) → not (not b) ≡ b
+    twice true = refl
+    twice false = refl
+
+-- in a world where some are kept
+pub kept_left : (keeps : Handler → Bool) (v : config.World) (hs : List Handler) → v.handlers ≡ filter keeps hs → Numbered 0 hs v.last_handler → AreLeft (gone_in v) keeps hs
+kept_left keeps v hs is n = are_left keeps v hs hs 0 is n (stand_as keeps 0 hs v.last_handler n)
+
+-- those who are gone stay so
+pub kept_stay : (keeps : Handler → Bool) (w v : config.World) → v.handlers ≡ filter keeps w.handlers → v.last_handler ≡ w.last_handler → GoneStay w v
+kept_stay keeps w v is last = record {
+  stay = λ number gone.
+      let parts = both_true (nat_le number w.last_handler) (not (is_some (handler_of number w.handlers))) gone in
+      ap (λ (hs : List Handler). nat_le number v.last_handler && not (is_some (handler_of number hs))) is
+      ∙ ap (λ n. nat_le number n && not (is_some (handler_of number (filter keeps w.handlers)))) last
+      ∙ ap (λ b. b && not (is_some (handler_of number (filter keeps w.handlers)))) parts.0
+      ∙ ap (λ o. not (is_some o)) (fewer number w.handlers (none_stands w number gone));
+}
+  where
+    fewer : (number : ℕ) (hs : List Handler) → handler_of number hs ≡ None → handler_of number (filter keeps hs) ≡ None
+    fewer number [] none = refl
+    fewer number (h ∷ hs) none = by (keeps h) (nat_eq h.number number) refl none (λ later. fewer number hs later)
+      where
+        by : (k b : Bool) → nat_eq h.number number ≡ b → cond b (Some h) (handler_of number hs) ≡ None → (handler_of number hs ≡ None → handler_of number (filter keeps hs) ≡ None)
+            → handler_of number (cond k (h ∷ filter keeps hs) (filter keeps hs)) ≡ None
+        by k true e none rest = absurd (cc none)
+        by true false e none rest = ap (λ c. cond c (Some h) (handler_of number (filter keeps hs))) e ∙ rest none
+        by false false e none rest = rest none
+
+-- ** where none goes
+
+-- the tasks of the engine have no turn that is gone
+all_kept : (p : Handler → Bool) (hs : List Handler) → list_all p hs ≡ true → filter p hs ≡ hs
+all_kept p [] all = refl
+all_kept p (h ∷ hs) all =
+    let parts = both_true (p h) (list_all p hs) all in
+    ap (λ b. cond b (h ∷ filter p hs) (filter p hs)) parts.0 ∙ ap (λ l. h ∷ l) (all_kept p hs parts.1)
+
+left_by_itself : (gone : ℕ → Bool) (hs : List Handler) → AreLeft gone (λ (h : Handler). not (gone h.number)) hs
+left_by_itself gone [] = tt
+left_by_itself gone (h ∷ hs) = (refl, left_by_itself gone hs)
+
+pub none_gone : (d : Definition) (gone : ℕ → Bool) (hs : List Handler) (s : Stack) → list_all (λ (h : Handler). not (gone h.number)) hs ≡ true → map (pruned gone) (tasks_of d hs s) ≡ tasks_of d hs s
+none_gone d gone hs s apart =
+    tasks_alike gone (λ (h : Handler). not (gone h.number)) d hs (left_by_itself gone hs) s
+    ∙ ap (λ (l : List Handler). tasks_of d l s) (all_kept (λ (h : Handler). not (gone h.number)) hs apart)

@@ -1,0 +1,28 @@
+pub mod Lists
+mod LivingObjects
+pub mod Floats
+mod Strings
+pub mod Kin
+mod SpecAt
+pub mod Left
+mod Marks
+pub mod Finalising
+pub mod Counts
+pub mod Notified
+mod Parts
+mod Details
+mod Values
+pub mod Emits
+pub mod Registers
+mod Operands
+pub mod Built
+pub mod Gone
+pub mod SameTurns
+pub mod Signals
+mod Rooms
+pub mod HandlerAdded
+pub mod Prototypes
+pub mod Building
+pub mod MakingSteps
+mod ConstructedRuns
+pub mod Forwarded

@@ -1,0 +1,22 @@
+-- What a task holds is its object, and what an emission was given.
+use Rattle.std.proofs.Common.{◌≡◌, ℕ, ◌+◌, List, refl, arith}
+use Rattle.ui_machine.specs.Definition.{Definition}
+use Rattle.ui_machine.specs.State.Handlers.{Handler}
+use Rattle.ui_machine.specs.State.References.{in_task}
+use Rattle.engine_world.specs.declared.task.Task.{Task}
+use Rattle.engine_world.specs.declared.task.Task.TheVariants as tasks
+use Rattle.engine_world.specs.Counting.{in_given, in_subject}
+use Rattle.engine_world.specs.TaskView.{task_of}
+
+pub parts : (d : Definition) (hs : List Handler) (t : Task) (o : ℕ) → in_task o (task_of d hs t) ≡ in_subject o (task_of d hs t) + in_given o (task_of d hs t)
+parts d hs (tasks.Setting id slot x) o = omega arith
+parts d hs (tasks.Notifying id slot) o = omega arith
+parts d hs (tasks.Beginning emission) o = refl
+parts d hs (tasks.Emitting cursor args by_event) o = refl
+parts d hs (tasks.Running frame) o = omega arith
+parts d hs (tasks.Thawing id slots) o = omega arith
+parts d hs (tasks.Constructing id steps held) o = omega arith
+parts d hs (tasks.Building place forwards) o = omega arith
+parts d hs (tasks.Adopting place forwards) o = omega arith
+parts d hs (tasks.Connecting place number) o = omega arith
+parts d hs (tasks.Handling event) o = omega arith

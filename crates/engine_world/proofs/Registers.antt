@@ -1,0 +1,158 @@
+-- What the registers of a program hold as one is written, and the results that programs take.
+use Rattle.engine_world.specs.KnownHandlers.{AllTakeKnownHandlers}
+use Rattle.engine_world.proofs.Counts.{stays, restacked}
+use Rattle.std.proofs.Common.{◌≡◌, ◌∙◌, refl, sym, ap, ℕ, ◌+◌, Bool, true, false, nat_lt, length, List, [], ◌∷◌, Option, None, Result, Ok, Err, zero, suc, arith}
+use Rattle.std.specs.Prelude.{OnOk}
+use Rattle.ui_machine.specs.declared.arm.Arm.TheVariants as arms
+use Rattle.ui_machine.specs.Definition.{Definition}
+use Rattle.ui_machine.specs.Definition.Values.{Value}
+use Rattle.ui_machine.specs.Instructions.Registers.{goes_on, with_register, written_to}
+use Rattle.ui_machine.specs.Instructions.{in_front}
+use Rattle.ui_machine.specs.State.Config.{Started, World}
+use Rattle.ui_machine.specs.Steps.{left}
+use Rattle.ui_machine.specs.declared.arm.Halt.TheVariants as halts
+use Rattle.ui_machine.specs.Outcome.{Answer, Stops, only_if, ◌>>=◌}
+use Rattle.ui_machine.specs.Rules.Accumulation.{passed_down, received_by, taken}
+use Rattle.ui_machine.specs.Seq.{read, total, write}
+use Rattle.ui_machine.specs.State.Handlers.{Handler}
+use Rattle.ui_machine.specs.State.References.{in_object, in_task, same}
+use Rattle.ui_machine.specs.State.Tasks.{Frame, Registers, Running, Task}
+use Rattle.ui_machine.specs.State.Objects.{Objects}
+use Rattle.instances.specs.Store.{Store, count_of}
+use Rattle.engine_world.specs.Counting.{Counts, KeepsCounts, OnlyCounts, OnlyTasks, in_frame}
+use Rattle.engine_world.proofs.Emits.{stops_on}
+use Rattle.ui_machine.specs.declared.arm.Halt.{Halt}
+use Rattle.engine_world.specs.View.{world_of}
+use Rattle.engine_world.specs.TaskView.{agenda_of, task_of, tasks_of}
+use Rattle.engine_world.specs.declared.engine.Engine.{Engine}
+use Rattle.engine_world.specs.declared.task.Stack.{Stack}
+use Rattle.engine_world.specs.declared.task.Task as code
+use Rattle.engine_world.specs.declared.task.Task.TheVariants as tasks
+use Rattle.frames.specs.FrameView as frames
+
+-- ** registers
+
+pub total_written : {A : Type 0} (f : Option A → ℕ) → f None ≡ 0 → (xs : List (Option A)) (i : ℕ) (x : Option A)
+    → total f (write None xs i x) + f (read None xs i) ≡ total f xs + f x
+total_written f none [] zero x = omega (arith, none)
+total_written f none [] (suc i) x = omega (arith, none, total_written f none [] i x)
+total_written f none (y ∷ xs) zero x = omega arith
+total_written f none (y ∷ xs) (suc i) x = omega (arith, total_written f none xs i x)
+
+-- what was written
+pub written_is : (to : ℕ) (v : Option Value) (rs new : Registers) → with_register to v rs ≡ Ok new → new ≡ write None rs to v
+written_is to v rs new is = by (nat_lt to (length rs)) is
+  where
+    by : (b : Bool) → only_if b arms.Code (Ok (write None rs to v)) ≡ Ok new → new ≡ write None rs to v
+    by true e = let same : write None rs to v ≡ new = cc e in sym same
+    by false e = absurd (cc e)
+
+-- ** results
+
+-- a program that takes one
+pub receives : (f : Frame) (rest : List Task) (to : ℕ) (v : Option Value) (a : Answer Registers) → with_register to v f.registers ≡ a
+    → received_by f rest to v ≡ (a >>= λ new. Ok (Running (record f { into = None; registers = new }) ∷ rest))
+unfolding received_by
+receives f rest to v a is = ap (λ (x : Answer Registers). x >>= λ new. Ok (Running (record f { into = None; registers = new }) ∷ rest)) is
+
+-- a task that is none of a program takes none
+pub passes_by : (d : Definition) (hs : List Handler) (t : code.Task) (rest : List Task) (v : Option Value) → ((f : frames.Frame) → t ≡ tasks.Running f → ⊥)
+    → passed_down (task_of d hs t ∷ rest) v ≡ Ok (task_of d hs t ∷ rest)
+passes_by d hs (tasks.Running frame) rest v other = absurd (other frame refl)
+passes_by d hs (tasks.Setting id slot x) rest v other = refl
+passes_by d hs (tasks.Notifying id slot) rest v other = refl
+passes_by d hs (tasks.Beginning emission) rest v other = refl
+passes_by d hs (tasks.Emitting cursor args by_event) rest v other = refl
+passes_by d hs (tasks.Thawing id slots) rest v other = refl
+passes_by d hs (tasks.Constructing id steps held) rest v other = refl
+passes_by d hs (tasks.Building place forwards) rest v other = refl
+passes_by d hs (tasks.Adopting place forwards) rest v other = refl
+passes_by d hs (tasks.Connecting place number) rest v other = refl
+passes_by d hs (tasks.Handling event) rest v other = refl
+
+-- ** counts
+
+-- the rest of a program goes on to hold what its registers name
+pub pushed_frame : (d : Definition) (e : Engine) (s : Stack) (taken : ℕ → ℕ) (f : Frame) → tasks_of d e.world.handlers.handlers s ≡ Running f ∷ agenda_of d e
+    → ((last : ℕ) → AllTakeKnownHandlers last e.stack → AllTakeKnownHandlers last s) → Counts d (λ o. taken o + in_frame o f) e → Counts d taken (record e { stack = s })
+pushed_frame d e s taken f first begun h = record {
+  knows = h.knows;
+  connects = restacked d e s begun h.connects;
+  exact = λ o. omega (arith, h.exact o, ap (λ (ts : List Task). total (in_task o) ts) first);
+}
+
+-- nothing of the world but counts differs
+pub tasks_world : (e b : Engine) → OnlyTasks e b → world_of b.world ≡ world_of e.world
+tasks_world e b only =
+    ap (λ (x : Engine). world_of x.world) only.beside
+    ∙ ap (λ (os : Objects). record (world_of e.world) { objects = os; floating = b.world.table.floating }) only.table.objects
+    ∙ ap (λ floating. record (world_of e.world) { floating = floating }) only.table.floating
+
+-- a register that was written: it holds the new, and the old was let go
+pub register_moved : (d : Definition) (e : Engine) (t : Store) (taken before after : ℕ → ℕ) → OnlyCounts e.world.table t
+    → ((o : ℕ) → count_of t.counts o + before o ≡ count_of e.world.table.counts o + after o)
+    → Counts d (λ o. taken o + before o) e → Counts d (λ o. taken o + after o) (record e { world = record e.world { table = t } })
+register_moved d e t taken before after only counts h = record {
+  knows = h.knows;
+  connects = stays d e _ refl refl h.connects;
+  exact = λ o.
+      let objects : total (in_object d o) t.objects ≡ total (in_object d o) e.world.table.objects = ap (total (in_object d o)) only.objects in
+      let floats : total (same o) t.floating ≡ total (same o) e.world.table.floating = ap (total (same o)) only.floating in
+      omega (arith, objects, floats, counts o, h.exact o);
+}
+
+-- what stops the write stops the program
+pub receive_stops : (f : Frame) (rest : List Task) (to : ℕ) (v : Option Value) (halt : Halt) → Stops halt (with_register to v f.registers) → Stops halt (received_by f rest to v)
+unfolding received_by
+receive_stops f rest to v halt s = stops_on halt (with_register to v f.registers) (λ new. Ok (Running (record f { into = None; registers = new }) ∷ rest)) s
+
+-- other tasks that hold the same
+pub stack_same : (d : Definition) (e : Engine) (s : Stack) → tasks_of d e.world.handlers.handlers s ≡ agenda_of d e
+    → ((last : ℕ) → AllTakeKnownHandlers last e.stack → AllTakeKnownHandlers last s) → KeepsCounts d e (record e { stack = s })
+stack_same d e s same_tasks begun = record {
+  at = λ taken h. record {
+    knows = h.knows;
+    connects = restacked d e s begun h.connects;
+    exact = λ o. omega (arith, h.exact o, ap (λ (ts : List Task). total (in_task o) ts) same_tasks);
+  };
+}
+
+-- a program that was taken off
+pub popped_frame : (d : Definition) (e : Engine) (s : Stack) (taken : ℕ → ℕ) (f : Frame) → agenda_of d e ≡ Running f ∷ tasks_of d e.world.handlers.handlers s
+    → ((last : ℕ) → AllTakeKnownHandlers last e.stack → AllTakeKnownHandlers last s) → Counts d taken e → Counts d (λ o. taken o + in_frame o f) (record e { stack = s })
+popped_frame d e s taken f first begun h = record {
+  knows = h.knows;
+  connects = restacked d e s begun h.connects;
+  exact = λ o. omega (arith, h.exact o, ap (λ (ts : List Task). total (in_task o) ts) first);
+}
+
+pub on_ok : {A E P Q : Type 0} (r : Result A E) → (P → Q) → OnOk r P → OnOk r Q
+on_ok (Ok x) f p = f p
+on_ok (Err e) f p = tt
+
+-- ** a register that an instruction writes
+
+pub write_stops : (w : World) (f : Frame) (to : ℕ) (v : Option Value) (halt : Halt) → Stops halt (with_register to v f.registers) → Stops halt (written_to w to v f)
+unfolding written_to
+write_stops w f to v halt s = stops_on halt (with_register to v f.registers) (λ registers. goes_on w [] (record f { registers = registers })) s
+
+pub writes_register : (w : World) (f : Frame) (to : ℕ) (v : Option Value) (rs : Registers) → with_register to v f.registers ≡ Ok rs → written_to w to v f ≡ goes_on w [] (record f { registers = rs })
+unfolding written_to
+writes_register w f to v rs is = ap (λ (a : Answer Registers). a >>= λ registers. goes_on w [] (record f { registers = registers })) is
+
+pub stops_left : (n : ℕ) (rest : List Task) (a : Answer Started) (halt : Halt) → Stops halt a → Stops halt (left n (in_front rest a))
+unfolding left in_front
+stops_left n rest a halts.OutOfMemory s = tt
+stops_left n rest a (halts.Stuck arm) s = ap (λ (x : Answer Started). left n (in_front rest x)) s
+
+-- nothing but counts differs
+pub table_world : (e : Engine) (t : Store) → OnlyCounts e.world.table t → world_of (record e.world { table = t }) ≡ world_of e.world
+table_world e t only =
+    ap (λ (os : Objects). record (world_of e.world) { objects = os; floating = t.floating }) only.objects
+    ∙ ap (λ floating. record (world_of e.world) { floating = floating }) only.floating
+
+-- a program that goes on in this world is all that is put in front
+pub going_left : (n : ℕ) (rest : List Task) (a : Answer Started) (w : World) (f : Frame) (world' : World) (agenda' : List Task) (counted' : ℕ) → a ≡ goes_on w [] f
+    → world' ≡ w → agenda' ≡ Running f ∷ rest → counted' ≡ n → left n (in_front rest a) ≡ Ok (record { world = world'; agenda = agenda'; counted = counted' })
+unfolding left in_front
+going_left n rest a w f world' agenda' counted' is world agenda count = ap (λ (x : Answer Started). left n (in_front rest x)) is ∙ rw (world, agenda, count) refl

@@ -1,0 +1,139 @@
+-- Room for what is held: no count comes to its end.
+use Rattle.std.proofs.Common.{◌≡◌, ℕ, ◌+◌, ◌*◌, ◌<◌, ◌≤◌, ◌^◌, List, [], ◌∷◌, ◌++◌, true, length, map, nat_lt, reverse, Option, Some, None, IsSome, refl, ap, ◌∙◌, arith}
+use Rattle.std.proofs.lemmas.Bool.Decides.{nat_tests}
+use Rattle.std.proofs.lemmas.List.{length-map, reverse-append}
+use Rattle.std.specs.Option.{option_map}
+use Rattle.ui_machine.specs.Definition as machine
+use Rattle.ui_machine.specs.Definition.Values as values
+use Rattle.ui_machine.specs.Seq.{total}
+use Rattle.ui_machine.specs.State.Config as config
+use Rattle.ui_machine.specs.State.Handlers.{Handler}
+use Rattle.ui_machine.specs.State.Objects.{living}
+use Rattle.ui_machine.specs.State.References.{in_held, in_object, in_register, in_task, in_value, same}
+use Rattle.g_values.specs.View.{value_view}
+use Rattle.bytecode.specs.Computing.{registers_of}
+use Rattle.instances.proofs.Few.{same_most, value_most}
+use Rattle.instances.specs.Store.{count_of, may_hold}
+use Rattle.engine_world.proofs.Lists.{total-append}
+use Rattle.engine_world.specs.Counting.{Counts}
+use Rattle.engine_world.specs.TaskView.{agenda_of, task_of, tasks_of}
+use Rattle.engine_world.specs.View.{held_of}
+use Rattle.engine_world.specs.declared.engine.Engine.{Engine}
+use Rattle.engine_world.specs.declared.task.Stack.{Stack}
+use Rattle.engine_world.specs.declared.task.Task.{Task}
+use Rattle.engine_world.specs.declared.task.Task.TheVariants as tasks
+
+-- ** sums
+
+-- where each counts at most once, no more than there are
+total_ones : {A : Type 0} (f : A → ℕ) → ((x : A) → f x ≤ 1) → (xs : List A) → total f xs ≤ length xs
+total_ones f one [] = omega arith
+total_ones f one (x ∷ xs) = omega (arith, one x, total_ones f one xs)
+
+-- where each counts at most 2^63 + 1 times
+total_tasks : {A : Type 0} (f : A → ℕ) → ((x : A) → f x ≤ 9223372036854775809) → (xs : List A)
+    → total f xs ≤ length xs * 9223372036854775809
+total_tasks f most [] = omega arith
+total_tasks f most (x ∷ xs) = omega (arith, most x, total_tasks f most xs)
+
+total_mapped : {A B : Type 0} (f : B → ℕ) (g : A → B) (xs : List A) → total f (map g xs) ≡ total (λ x. f (g x)) xs
+total_mapped f g [] = refl
+total_mapped f g (x ∷ xs) = ap (λ n. f (g x) + n) (total_mapped f g xs)
+
+total_reversed : {A : Type 0} (f : A → ℕ) (xs : List A) → total f (reverse xs) ≡ total f xs
+total_reversed f [] = refl
+total_reversed f (x ∷ xs) =
+    let split : total f (reverse xs ++ x ∷ []) ≡ total f (reverse xs) + total f (x ∷ []) = total-append f (reverse xs) (x ∷ []) in
+    ap (total f) (reverse-append (x ∷ []) xs) ∙ omega (arith, split, total_reversed f xs)
+
+-- ** what tasks hold
+
+register_most : (o : ℕ) (r : Option values.Value) → in_register o r ≤ 1
+register_most o None = omega arith
+register_most o (Some v) = value_most o v
+
+held_most : (o : ℕ) (h : config.BuilderEntry) → in_held o h ≤ 1
+held_most o config.unbuilt = omega arith
+held_most o (config.built i) = same_most o i
+held_most o config.released = omega arith
+
+-- a task of the engine holds an object at most 2^63 + 1 times: its lists are no longer than memory
+task_most : (d : machine.Definition) (hs : List Handler) (o : ℕ) (t : Task) → in_task o (task_of d hs t) ≤ 9223372036854775809
+task_most d hs o (tasks.Setting id slot v) = omega (arith, same_most o id.0)
+task_most d hs o (tasks.Notifying id slot) = omega (arith, same_most o id.0)
+task_most d hs o (tasks.Beginning e) =
+    omega (
+      arith,
+      same_most o e.object.0,
+      total_ones (in_value o) (value_most o) (map value_view e.args.items),
+      length-map e.args.items value_view,
+      e.args.ok.0,
+      e.args.ok.1,
+      e.args.small,
+    )
+task_most d hs o (tasks.Emitting cursor args by_event) =
+    omega (
+      arith,
+      same_most o cursor.object,
+      register_most o cursor.value,
+      total_ones (in_value o) (value_most o) (map value_view args.items),
+      length-map args.items value_view,
+      args.ok.0,
+      args.ok.1,
+      args.small,
+    )
+task_most d hs o (tasks.Running frame) =
+    omega (
+      arith,
+      total_ones (in_register o) (register_most o) (registers_of frame.registers.items),
+      length-map frame.registers.items (option_map value_view),
+      frame.registers.ok.0,
+      frame.registers.ok.1,
+      frame.registers.small,
+    )
+task_most d hs o (tasks.Thawing id slots) = omega (arith, same_most o id.0)
+task_most d hs o (tasks.Constructing id steps held) = omega (arith, same_most o id.0)
+task_most d hs o (tasks.Building place forwards) = omega arith
+task_most d hs o (tasks.Adopting place forwards) = omega arith
+task_most d hs o (tasks.Connecting place number) = omega arith
+task_most d hs o (tasks.Handling event) = omega arith
+
+agenda_most : (d : machine.Definition) (hs : List Handler) (s : Stack) (o : ℕ)
+    → total (in_task o) (tasks_of d hs s) ≤ length s.tasks.items * 9223372036854775809
+agenda_most d hs s o =
+    omega (
+      arith,
+      total_reversed (in_task o) (map (task_of d hs) s.tasks.items),
+      total_mapped (in_task o) (task_of d hs) s.tasks.items,
+      total_tasks (λ t. in_task o (task_of d hs t)) (task_most d hs o) s.tasks.items,
+    )
+
+-- ** all that holds an object
+
+-- what lives may be held once more, where each object is counted as often as it is mentioned
+pub has_room : (d : machine.Definition) (taken : ℕ → ℕ) (e : Engine)
+    → ((d : machine.Definition) (o : ℕ) → total (in_object d o) e.world.table.objects + total (same o) e.world.table.floating ≤ 2 ^ 127)
+    → Counts d taken e → (o : ℕ) → taken o ≤ 2 ^ 64 → IsSome (living e.world.table.objects o) → may_hold e.world.table o ≡ true
+has_room d taken e few counts o little lives =
+    let built : total (in_held o) (map held_of e.world.builder.items) ≤ length (map held_of e.world.builder.items) =
+    total_ones (in_held o) (held_most o) (map held_of e.world.builder.items) in
+    let agenda : total (in_task o) (agenda_of d e) ≤ length e.stack.tasks.items * 9223372036854775809 =
+    agenda_most d e.world.handlers.handlers e.stack o in
+    let small : count_of e.world.table.counts o < 340282366920938463463374607431768211455 =
+    omega (
+      arith,
+      counts.exact o,
+      little,
+      few d o,
+      built,
+      length-map e.world.builder.items held_of,
+      e.world.builder.ok.0,
+      e.world.builder.ok.1,
+      e.world.builder.small,
+      agenda,
+      e.stack.tasks.ok.0,
+      e.stack.tasks.ok.1,
+      e.stack.tasks.small,
+    ) in
+    let fits : nat_lt (count_of e.world.table.counts o) 340282366920938463463374607431768211455 ≡ true = grind (arith, nat_tests) in
+    rw (lives, fits) refl

@@ -1,0 +1,76 @@
+-- What the engine counts of each object, beside what the machine mentions of it.
+use Rattle.std.specs.Prelude.{◌≡◌, ℕ, ◌+◌, ◌≤◌}
+use Rattle.ui_machine.specs.Definition.{Definition}
+use Rattle.ui_machine.specs.State.References.{same, in_value, in_register, in_held, in_task, mentions}
+use Rattle.ui_machine.specs.State.Tasks.{Emission, Frame, Task, Beginning, Emitting, Running}
+use Rattle.instances.specs.Store.{Store, count_of}
+use Rattle.engine_world.specs.declared.engine.Engine.{Engine}
+use Rattle.instances.specs.Weak.{Knows}
+use Rattle.ui_machine.specs.Seq.{total}
+use Rattle.engine_world.specs.View.{world_of}
+use Rattle.engine_world.specs.KnownHandlers.{AllTakeKnownHandlers}
+use Rattle.engine_world.specs.EngineView.{config_of}
+use Rattle.engine_world.specs.TaskView.{agenda_of}
+
+-- nothing but the counts of a table differs
+pub record OnlyCounts (old new : Store) : Type 0 where
+  pub objects : new.objects ≡ old.objects
+  pub floating : new.floating ≡ old.floating
+
+-- Bytecode may connect as many handlers as the definition says, the builder's numbers are not kept apart, and the emissions that go on take
+-- no handler that is connected later.
+pub record Connects (d : Definition) (e : Engine) : Type 0 where
+  pub most : e.world.handlers.most ≡ d.most_handlers
+  pub to_come : e.world.handlers.to_come ≡ 0
+  pub begun : AllTakeKnownHandlers e.world.handlers.last e.stack
+
+-- Each object is counted as often as it is mentioned, and so often more as is said: so much holds a task that was taken off and is not done yet.
+-- It is known which properties are weak, and what may be connected.
+pub record Counts (d : Definition) (taken : ℕ → ℕ) (e : Engine) : Type 0 where
+  pub knows : Knows d e.world.weak
+  pub connects : Connects d e
+  pub exact : (o : ℕ) → count_of e.world.table.counts o ≡ mentions d (config_of d e) o + taken o
+
+-- what the builder holds is counted at least so often
+pub record HoldsBuilt (e : Engine) : Type 0 where
+  pub at : (o : ℕ) → total (in_held o) (world_of e.world).builder ≤ count_of e.world.table.counts o
+
+-- the first tasks are counted at least so often
+pub record HoldsTasks (d : Definition) (e : Engine) : Type 0 where
+  pub at : (o : ℕ) → total (in_task o) (agenda_of d e) ≤ count_of e.world.table.counts o
+
+-- nothing but what there is to do and the counts of the table differs
+pub record OnlyTasks (old new : Engine) : Type 0 where
+  pub beside : new ≡ record old { stack = new.stack; world = record old.world { table = new.world.table } }
+  pub table : OnlyCounts old.world.table new.world.table
+
+-- what code keeps that counts all that it moves
+pub record KeepsCounts (d : Definition) (old new : Engine) : Type 0 where
+  pub at : (taken : ℕ → ℕ) → Counts d taken old → Counts d taken new
+
+-- nothing was taken off
+abbrev pub nothing : ℕ → ℕ
+nothing o = 0
+
+-- ** what is held by a task that is done
+
+-- what an emission holds beside its object: its arguments, and the value that it has accumulated
+abbrev pub in_emitted : ℕ → Emission → ℕ
+in_emitted o e = total (in_value o) e.args + in_register o e.value
+
+-- what a program that runs holds: what its registers name
+abbrev pub in_frame : ℕ → Frame → ℕ
+in_frame o f = total (in_register o) f.registers
+
+abbrev pub in_given : ℕ → Task → ℕ
+in_given o (Beginning emission) = in_emitted o emission
+in_given o (Emitting emission entries) = in_emitted o emission
+in_given o (Running frame) = in_frame o frame
+in_given o _ = 0
+
+-- the object that a task holds; it is let go once the task is done
+abbrev pub in_subject : ℕ → Task → ℕ
+in_subject o (Beginning emission) = same o emission.object
+in_subject o (Emitting emission entries) = same o emission.object
+in_subject o (Running frame) = 0
+in_subject o task = in_task o task

@@ -1,0 +1,13 @@
+pub mod GivenView
+pub mod KinView
+pub mod WeakView
+pub mod View
+pub mod MakingView
+pub mod LineView
+pub mod TaskView
+pub mod KnownHandlers
+pub mod ConnectView
+pub mod Measure
+pub mod EngineView
+pub mod Standing
+pub mod Counting

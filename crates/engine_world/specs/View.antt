@@ -1,0 +1,33 @@
+-- What the engine's types stand for in the machine.
+use Rattle.std.specs.Prelude.{ℕ, List, [], ◌∷◌, ◌++◌, map, option_map, string_bytes}
+use Rattle.ui_machine.specs.State.Config as config
+use Rattle.g_values.specs.View.{value_view}
+use Rattle.engine_world.specs.declared.builder.BuilderEntry.{BuilderEntry}
+use Rattle.engine_world.specs.declared.builder.BuilderEntry.TheVariants as held
+use Rattle.engine_world.specs.declared.world.World.{World}
+
+-- what the builder has of a place, as the machine says it
+abbrev pub held_of : BuilderEntry → config.BuilderEntry
+held_of held.Unbuilt = config.unbuilt
+held_of (held.Built id) = config.built id.0
+held_of held.Released = config.released
+
+abbrev pub world_of : World → config.World
+world_of w = record {
+  objects = w.table.objects;
+  handlers = w.handlers.handlers;
+  last_handler = w.handlers.last;
+  bindings = [];
+  sources = [];
+  last_source = 0;
+  floating = w.table.floating;
+  builder = map held_of w.builder.items;
+  peers = [];
+  moment = 0;
+  transcript = map string_bytes w.transcript.items;
+  result = option_map value_view w.result;
+}
+
+-- the world with one line more
+abbrev pub with_line : List ℕ → config.World → config.World
+with_line text w = record w { transcript = w.transcript ++ text ∷ [] }

@@ -1,0 +1,81 @@
+//! What the builder holds of a definition's objects, by place.
+
+ghost use Rattle.std.specs.Prelude.{◌≡◌, OnOk, map};
+ghost use Rattle.ui_machine.specs.Seq.{write};
+ghost use Rattle.ui_machine.specs.State.Config.{unbuilt, is_unbuilt};
+ghost use Rattle.ui_machine.specs.Rules.Build.{identity_held};
+ghost use Rattle.ui_machine.specs.Rules.Events.{is_released};
+ghost use Rattle.instances.specs.Store.{id_of};
+ghost use Rattle.engine_world.specs.View.{held_of};
+
+use std::alloc::AllocError;
+use ui_machine::{ObjectId, Place};
+
+/// What the builder has of a place.
+#[derive(Clone, Copy, Debug, PartialEq, Eq)]
+pub enum BuilderEntry {
+    /// It has not come to the place yet.
+    Unbuilt,
+    /// It holds the object that it built.
+    Built(ObjectId),
+    /// It has let the object go.
+    Released,
+}
+
+impl BuilderEntry {
+    /// The object that it holds.
+    pub fn object(self) -> Option<ObjectId>
+        ensures { id_of result ≡ identity_held (held_of self) }
+    {
+        match self {
+            BuilderEntry::Built(object) => Some(object),
+            BuilderEntry::Unbuilt | BuilderEntry::Released => None,
+        }
+    }
+
+    /// Whether it has not come to the place yet.
+    pub fn is_unbuilt(self) -> bool
+        ensures { result ≡ is_unbuilt (held_of self) }
+    {
+        match self {
+            BuilderEntry::Unbuilt => true,
+            BuilderEntry::Built(_) | BuilderEntry::Released => false,
+        }
+    }
+
+    /// Whether it has let the object go.
+    pub fn is_released(self) -> bool
+        ensures { result ≡ is_released (held_of self) }
+    {
+        match self {
+            BuilderEntry::Released => true,
+            BuilderEntry::Unbuilt | BuilderEntry::Built(_) => false,
+        }
+    }
+}
+
+/// The builder has this of a place from now on. A place that it has not come to yet has nothing.
+pub fn set_builder_entry(
+    builder: &mut Vec<BuilderEntry>,
+    place: Place,
+    held: BuilderEntry,
+) -> Result<(), AllocError>
+    ensures { OnOk result (map held_of builder.new.items ≡ write unbuilt (map held_of builder.old.items) place.0 (held_of held)) }
+{
+    put_at(builder, usize::from(place.0), held)
+}
+
+// The same by the place's number.
+fn put_at(
+    builder: &mut Vec<BuilderEntry>,
+    place: usize,
+    held: BuilderEntry,
+) -> Result<(), AllocError>
+    ensures { OnOk result (map held_of builder.new.items ≡ write unbuilt (map held_of builder.old.items) place (held_of held)) }
+{
+    'growing: while builder.len() <= place {
+        builder.push(BuilderEntry::Unbuilt)?;
+    }
+    builder[place] = held;
+    Ok(())
+}

@@ -1,0 +1,93 @@
+//! Children: an object becomes another's child, or a limit's line says that it does not.
+
+ghost use Rattle.std.specs.Prelude.{◌≡◌, None, OnOk, OnErr};
+ghost use Rattle.ui_machine.specs.Outcome.{Goes};
+ghost use Rattle.ui_machine.specs.Output.Lines as lines;
+ghost use Rattle.ui_machine.specs.Rules.Children.{with_family};
+ghost use Rattle.ui_machine.specs.State.Config.{said};
+ghost use Rattle.instances.specs.Family.{refusal_in};
+ghost use Rattle.engine_world.specs.View.{world_of};
+ghost use Rattle.engine_world.specs.KinView.{joined};
+ghost use Rattle.engine_world.specs.Counting.{KeepsCounts};
+
+use crate::engine::Engine;
+use crate::lines::Line;
+use definitions::Definition;
+use instances::AdoptError;
+use std::alloc::AllocError;
+use ui_machine::{Arm, Halt, ObjectId};
+
+/// An object, and the one whose child it is to be.
+#[derive(Clone, Copy)]
+pub struct Kin {
+    pub parent: ObjectId,
+    pub child: ObjectId,
+}
+
+/// A limit was reached, of what the word says.
+pub fn say_limit(engine: &mut Engine, definition: &Definition, word: &str) -> Result<(), AllocError>
+    ensures ok { OnOk result (world_of engine.new.world ≡ said definition.now (world_of engine.old.world) (lines.limit word.now)) }
+    ensures err { OnErr result (world_of engine.new.world ≡ world_of engine.old.world) }
+    ensures same { (engine.new.stack ≡ engine.old.stack) × (engine.new.counted ≡ engine.old.counted) }
+    ensures handlers { engine.new.world.handlers ≡ engine.old.world.handlers }
+    ensures counted { OnOk result (KeepsCounts definition.now engine.old engine.new) }
+{
+    let line = Line::Limit { word }.text(engine.alloc, definition.types())?;
+    engine.world.say(line)?;
+    Ok(())
+}
+
+// An object becomes another's child, which nothing forbids.
+fn adopt(engine: &mut Engine, definition: &Definition, kin: Kin) -> Result<(), AllocError>
+    requires free { refusal_in engine.now.world.table kin.parent.0 kin.child.0 ≡ None }
+    ensures ok { OnOk result (world_of engine.new.world ≡ with_family definition.now (world_of engine.old.world) kin.parent.0 kin.child.0) }
+    ensures err { OnErr result ((world_of engine.new.world).transcript ≡ (world_of engine.old.world).transcript) }
+    ensures same { (engine.new.stack ≡ engine.old.stack) × (engine.new.counted ≡ engine.old.counted) }
+    ensures handlers { engine.new.world.handlers ≡ engine.old.world.handlers }
+    ensures counted { OnOk result (KeepsCounts definition.now engine.old engine.new) }
+{
+    let Kin { parent, child } = kin;
+    if !engine.world.table.can_hold(child) {
+        return Err(AllocError);
+    }
+    let line = Line::Adopt { parent, child }.text(engine.alloc, definition.types())?;
+    let Ok(()) = engine.world.table.adopt(parent, child) else {
+        return Err(AllocError);
+    };
+    engine.world.say(line)?;
+    Ok(())
+}
+
+/// An object becomes another's child, or does not, by a limit's line.
+pub fn join(engine: &mut Engine, definition: &Definition, kin: Kin) -> Result<(), Halt>
+    ensures joins { Goes result (joined definition.now (world_of engine.old.world) kin.parent.0 kin.child.0) (world_of engine.new.world) }
+    ensures quiet { OnErr result ((world_of engine.new.world).transcript ≡ (world_of engine.old.world).transcript) }
+    ensures same { (engine.new.stack ≡ engine.old.stack) × (engine.new.counted ≡ engine.old.counted) }
+    ensures handlers { engine.new.world.handlers ≡ engine.old.world.handlers }
+    ensures counted { OnOk result (KeepsCounts definition.now engine.old engine.new) }
+{
+    match engine.world.table.refusal(kin.parent, kin.child) {
+        None => adopt(engine, definition, kin)?,
+        Some(AdoptError::NotLiving) => return Err(Halt::Stuck(Arm::Operand)),
+        Some(AdoptError::OutOfMemory) => return Err(Halt::OutOfMemory),
+        Some(AdoptError::HasParent) => say_limit(engine, definition, "adopt")?,
+        Some(AdoptError::ChildLimit) => say_limit(engine, definition, "adopt")?,
+    }
+    Ok(())
+}
+
+/// An object becomes another's child, or does not, by a limit's line.
+pub fn join_objects(
+    engine: &mut Engine,
+    definition: &Definition,
+    parent: ObjectId,
+    child: ObjectId,
+) -> Result<(), Halt>
+    ensures joins { Goes result (joined definition.now (world_of engine.old.world) parent.0 child.0) (world_of engine.new.world) }
+    ensures quiet { OnErr result ((world_of engine.new.world).transcript ≡ (world_of engine.old.world).transcript) }
+    ensures same { (engine.new.stack ≡ engine.old.stack) × (engine.new.counted ≡ engine.old.counted) }
+    ensures handlers { engine.new.world.handlers ≡ engine.old.world.handlers }
+    ensures counted { OnOk result (KeepsCounts definition.now engine.old engine.new) }
+{
+    join(engine, definition, Kin { parent, child })
+}

@@ -1,0 +1,61 @@
+//! The engine: the world, and the tasks that are left.
+
+ghost use Rattle.std.specs.Prelude.{◌≡◌, []};
+ghost use Rattle.ui_machine.specs.Definition as machine;
+ghost use Rattle.ui_machine.specs.Runs.{first_world};
+ghost use Rattle.engine_world.specs.KnownHandlers.{AllTakeKnownHandlers};
+ghost use Rattle.signal_core.specs.Connected.{none_connected};
+ghost use Rattle.engine_world.specs.View.{world_of};
+ghost use Rattle.engine_world.specs.TaskView.{agenda_of};
+
+use crate::task::Stack;
+use crate::world::World;
+use instances::{Table, WeakSlots};
+use signal_core::Handlers;
+use std::alloc::Global;
+use ui_machine::Limits;
+
+/// What a run changes.
+#[derive(Drop)]
+pub struct Engine {
+    pub world: World,
+    pub stack: Stack,
+    /// The counted steps of the dispatch.
+    pub counted: u64,
+    pub alloc: Global,
+}
+
+/// What a step was.
+#[derive(Clone, Copy, Debug, PartialEq, Eq)]
+pub enum StepKind {
+    /// None was left to make.
+    Nothing,
+    Uncounted,
+    Counted,
+}
+
+impl Engine {
+    /// Nothing is built yet, and there is nothing to do.
+    pub fn new(alloc: Global, weak: WeakSlots, limits: Limits) -> Self
+        ensures world { (d : machine.Definition) → world_of result.world ≡ first_world d [] }
+        ensures counts { result.world.table.counts ≡ [] }
+        ensures marks { result.world.weak ≡ weak }
+        ensures handlers { result.world.handlers ≡ none_connected limits.handlers 0 }
+        ensures begun { AllTakeKnownHandlers 0 result.stack }
+        ensures idle { (d : machine.Definition) → agenda_of d result ≡ [] }
+    {
+        Engine {
+            world: World {
+                table: Table::new(alloc, limits.objects),
+                weak,
+                handlers: Handlers::new(alloc, limits.handlers, 0),
+                builder: Vec::new(alloc),
+                transcript: Vec::new(alloc),
+                result: None,
+            },
+            stack: Stack::new(alloc),
+            counted: 0,
+            alloc,
+        }
+    }
+}

@@ -1,0 +1,114 @@
+//! Programs that run: what their registers hold, and the results that they wait for.
+
+ghost use Rattle.std.specs.Prelude.{◌≡◌, ℕ, ◌+◌, ◌≤◌, ◌∷◌, Some, option_map, OnOk};
+ghost use Rattle.ui_machine.specs.Definition as machine;
+ghost use Rattle.ui_machine.specs.Instructions.Registers.{with_register};
+ghost use Rattle.ui_machine.specs.Outcome.{Goes};
+ghost use Rattle.ui_machine.specs.Rules.Accumulation.{passed_down, received_by, taken};
+ghost use Rattle.ui_machine.specs.State.Tasks.{Running};
+ghost use Rattle.g_values.specs.View.{value_view};
+ghost use Rattle.frames.specs.FrameView.{frame_view};
+ghost use Rattle.bytecode.specs.View.{number_of};
+ghost use Rattle.instances.specs.Store.{count_of};
+ghost use Rattle.engine_world.specs.TaskView.{agenda_of};
+ghost use Rattle.engine_world.specs.Counting.{Counts, HoldsTasks, KeepsCounts, OnlyCounts, OnlyTasks, in_frame};
+
+use crate::engine::Engine;
+use crate::references::{hold_any, let_go_any, register_named};
+use crate::task::Task;
+use bytecode::Register;
+use definitions::Definition;
+use frames::Frame;
+use g_values::Value;
+use instances::Table;
+use std::alloc::AllocError;
+use ui_machine::{Arm, Halt};
+
+/// Writes a register, or unsets it. What it names then is held, and what it named is let go.
+#[inline(always)]
+pub fn put(
+    table: &mut Table,
+    frame: &mut Frame,
+    to: Register,
+    value: Option<Value>,
+) -> Result<(), Halt>
+    requires held { (o : ℕ) → in_frame o (frame_view frame.now) ≤ count_of table.now.counts o }
+    ensures written { Goes result (with_register to.0 (option_map value_view value) (frame_view frame.old).registers) (frame_view frame.new).registers }
+    ensures beside { frame_view frame.new ≡ record (frame_view frame.old) { registers = (frame_view frame.new).registers } }
+    ensures only { OnlyCounts table.old table.new }
+    ensures counts { OnOk result ((o : ℕ) → count_of table.new.counts o + in_frame o (frame_view frame.old) ≡ count_of table.old.counts o + in_frame o (frame_view frame.new)) }
+{
+    hold_any(table, register_named(&value))?;
+    let held = frame.put(to, value)?;
+    let_go_any(table, register_named(&held));
+    Ok(())
+}
+
+/// Puts the rest of a program before the other tasks. It goes on to hold what its registers name.
+#[inline(always)]
+pub fn push_frame(engine: &mut Engine, frame: Frame) -> Result<(), AllocError>
+    ensures agenda { OnOk result ((d : machine.Definition) → agenda_of d engine.new ≡ Running (frame_view frame) ∷ agenda_of d engine.old) }
+    ensures beside { engine.new ≡ record engine.old { stack = engine.new.stack } }
+    ensures counted { OnOk result ((d : machine.Definition) (taken : ℕ → ℕ)
+        → Counts d (λ o. taken o + in_frame o (frame_view frame)) engine.old → Counts d taken engine.new) }
+{
+    engine.stack.push(Task::Running(frame))?;
+    Ok(())
+}
+
+// A program goes on with a result in the register that waited for it.
+fn receive(engine: &mut Engine, mut frame: Frame, to: Register, value: Value) -> Result<(), Halt>
+    requires held { (o : ℕ) → in_frame o (frame_view frame) ≤ count_of engine.now.world.table.counts o }
+    ensures agenda { (d : machine.Definition) → Goes result (received_by (frame_view frame) (agenda_of d engine.old) to.0 (Some (value_view value))) (agenda_of d engine.new) }
+    ensures only { OnlyTasks engine.old engine.new }
+    ensures counted { OnOk result ((d : machine.Definition) (taken : ℕ → ℕ)
+        → Counts d (λ o. taken o + in_frame o (frame_view frame)) engine.old → Counts d taken engine.new) }
+{
+    frame.into = None;
+    put(&mut engine.world.table, &mut frame, to, Some(value))?;
+    push_frame(engine, frame)?;
+    Ok(())
+}
+
+// A program takes the result of the emission above it, if it waits for one.
+fn pass_to(engine: &mut Engine, frame: Frame, value: &Option<Value>) -> Result<(), Halt>
+    requires held { (o : ℕ) → in_frame o (frame_view frame) ≤ count_of engine.now.world.table.counts o }
+    ensures agenda { (d : machine.Definition)
+        → Goes result (taken (option_map number_of frame.into) (frame_view frame) (agenda_of d engine.old) (option_map value_view value.now)) (agenda_of d engine.new) }
+    ensures only { OnlyTasks engine.old engine.new }
+    ensures counted { OnOk result ((d : machine.Definition) (taken : ℕ → ℕ)
+        → Counts d (λ o. taken o + in_frame o (frame_view frame)) engine.old → Counts d taken engine.new) }
+{
+    let Some(to) = frame.into else {
+        push_frame(engine, frame)?;
+        return Ok(());
+    };
+    let Some(value) = value else {
+        return Err(Halt::Stuck(Arm::Result));
+    };
+    let value = value.copied()?;
+    receive(engine, frame, to, value)
+}
+
+/// The result of an emission goes to the task below it: a program that waits for it takes it.
+pub fn pass_down(
+    engine: &mut Engine,
+    definition: &Definition,
+    value: &Option<Value>,
+) -> Result<(), Halt>
+    requires held { HoldsTasks definition.now engine.now }
+    ensures agenda { Goes result (passed_down (agenda_of definition.now engine.old) (option_map value_view value.now)) (agenda_of definition.now engine.new) }
+    ensures only { OnlyTasks engine.old engine.new }
+    ensures counted { OnOk result (KeepsCounts definition.now engine.old engine.new) }
+{
+    // For the proof: the clauses speak of the definition.
+    let _ = definition;
+    let Some(task) = engine.stack.pop() else {
+        return Ok(());
+    };
+    let Task::Running(frame) = task else {
+        engine.stack.push(task)?;
+        return Ok(());
+    };
+    pass_to(engine, frame, value)
+}

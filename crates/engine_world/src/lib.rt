@@ -1,0 +1,23 @@
+//! What a run changes, and what tasks and instructions do to it in common.
+//!
+//! An [`engine::Engine`] has a world and the tasks that are left. It is seen as a configuration of the abstract machine.
+#![tactic(auto)]
+
+pub mod arguments;
+pub mod builder;
+pub mod children;
+pub mod connections;
+pub mod construct_steps;
+pub mod counted_steps;
+pub mod engine;
+pub mod frames;
+pub mod given;
+pub mod lines;
+pub mod objects;
+pub mod places;
+pub mod properties;
+pub mod references;
+pub mod refusals;
+pub mod task;
+pub mod weak_slots;
+pub mod world;

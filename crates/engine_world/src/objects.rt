@@ -1,0 +1,167 @@
+//! Objects that are made: with their defaults, and with what their construction has still to do.
+
+ghost use Rattle.std.specs.Prelude.{◌≡◌, suc, length, ℕ, None, cond, [], ◌∷◌, ◌++◌, map, OnOk, OnErr, IfOk, IfErr, Bool, string_bytes};
+ghost use Rattle.ui_machine.specs.Outcome.{Stops};
+ghost use Rattle.ui_machine.specs.Definition.Properties as machine;
+ghost use Rattle.ui_machine.specs.Definition.Lookups.{specs_of};
+ghost use Rattle.instances.specs.Store.{made_object};
+ghost use Rattle.instances.specs.Laws.{Counted};
+ghost use Rattle.ui_machine.specs.State.References.{in_values};
+ghost use Rattle.ui_machine.specs.Definition as definition;
+ghost use Rattle.ui_machine.specs.Rules.Construction.{with_object, making};
+ghost use Rattle.ui_machine.specs.State.Config.{starts};
+ghost use Rattle.ui_machine.specs.State.Tasks.{Constructing};
+ghost use Rattle.g_values.specs.View.{value_view};
+ghost use Rattle.engine_world.specs.View.{with_line, world_of};
+ghost use Rattle.engine_world.specs.TaskView.{agenda_of};
+ghost use Rattle.engine_world.specs.Counting.{KeepsCounts};
+
+use crate::construct_steps::{GivenAt, construction};
+use crate::engine::Engine;
+use crate::lines::Line;
+use crate::places::entry_at;
+use crate::references::push_task;
+use crate::task::{ConstructSteps, Task};
+use definitions::Definition;
+use g_values::Value;
+use instances::{Object, Table};
+use std::alloc::{AllocError, Global};
+use type_tree::TypeId;
+use ui_machine::{Arm, Halt, ObjectId, Place, Slot};
+
+// The type under which objects begin floating.
+const INITIALLY_UNOWNED: u16 = 1;
+
+/// An object that was made: what its construction has still to do, and the line that it begins with.
+#[derive(Drop)]
+pub struct NewObject {
+    pub object: ObjectId,
+    pub steps: ConstructSteps,
+    pub line: String,
+}
+
+// One more object with these values, under the next identity, which floats if its class says so.
+fn create_object(
+    engine: &mut Engine,
+    definition: &Definition,
+    class: TypeId,
+    place: Place,
+    values: Vec<Value>,
+) -> Result<ObjectId, AllocError>
+    ensures world { OnOk result (world_of engine.new.world ≡ with_object definition.now (world_of engine.old.world) (made_object class place.0 (map value_view values.items) None)) }
+    ensures identity { IfOk result (λ id. id.0 ≡ suc (length (world_of engine.old.world).objects)) }
+    ensures quiet { (world_of engine.new.world).transcript ≡ (world_of engine.old.world).transcript }
+    ensures counted { ((o : ℕ) → in_values o (specs_of definition.now class) (map value_view values.items) ≡ 0) → OnOk result (KeepsCounts definition.now engine.old engine.new) }
+    ensures same { (engine.new.stack ≡ engine.old.stack) × (engine.new.counted ≡ engine.old.counted) }
+    ensures handlers { engine.new.world.handlers ≡ engine.old.world.handlers }
+{
+    let floats = definition
+        .types()
+        .is_a(class, TypeId::new(INITIALLY_UNOWNED));
+    let object = Object::new(engine.alloc, class, place, values, None);
+    // A definition has no more objects than may live, and a program looks for room first, so that what wants is memory.
+    let Ok(id) = engine.world.table.create(object) else {
+        return Err(AllocError);
+    };
+    float(&mut engine.world.table, id, floats)?;
+    Ok(id)
+}
+
+/// The object of a place is made. Its line and its construction are still to come.
+#[tactic(auto, unfolding(ui_machine::specs::Rules::Construction::making))]
+pub fn make(engine: &mut Engine, definition: &Definition, place: Place) -> Result<NewObject, Halt>
+    ensures made { IfOk result (λ new. (held : Bool) → making definition.now (world_of engine.old.world) place.0 None held
+        ≡ starts (with_line (string_bytes new.line) (world_of engine.new.world)) (Constructing new.object.0 new.steps held ∷ [])) }
+    ensures identity { IfOk result (λ new. new.object.0 ≡ suc (length (world_of engine.old.world).objects)) }
+    ensures stops { IfErr result (λ halt. (held : Bool) → Stops halt (making definition.now (world_of engine.old.world) place.0 None held)) }
+    ensures quiet { (world_of engine.new.world).transcript ≡ (world_of engine.old.world).transcript }
+    ensures counted { OnOk result (KeepsCounts definition.now engine.old engine.new) }
+    ensures same { (engine.new.stack ≡ engine.old.stack) × (engine.new.counted ≡ engine.old.counted) }
+    ensures handlers { engine.new.world.handlers ≡ engine.old.world.handlers }
+{
+    let types = definition.types();
+    let Some(entry) = entry_at(definition, place) else {
+        return Err(Halt::Stuck(Arm::Code));
+    };
+    let class = entry.class;
+    if types.flags(class).is_abstract {
+        return Err(Halt::Stuck(Arm::Abstract));
+    }
+    let values = defaults(engine.alloc, definition, class)?;
+    let given = GivenAt {
+        world: &engine.world,
+        place,
+        entries: entry.given,
+    };
+    let steps = construction(engine.alloc, definition, class, given)?;
+    let object = create_object(engine, definition, class, place, values)?;
+    let told = Line::Construct {
+        object,
+        class: definition.class_name(class),
+    };
+    let line = told.text(engine.alloc, types)?;
+    Ok(NewObject {
+        object,
+        steps,
+        line,
+    })
+}
+
+/// The construction of a new object begins: its line is said, and what is to be done goes before the other tasks. At its end the builder
+/// holds the object, if it is to be held.
+pub fn begin_construction(engine: &mut Engine, new: NewObject, held: bool) -> Result<(), AllocError>
+    ensures agenda { OnOk result ((d : definition.Definition) → agenda_of d engine.new ≡ Constructing new.object.0 new.steps held ∷ agenda_of d engine.old) }
+    ensures world { OnOk result (world_of engine.new.world ≡ with_line (string_bytes new.line) (world_of engine.old.world)) }
+    ensures quiet { OnErr result ((world_of engine.new.world).transcript ≡ (world_of engine.old.world).transcript) }
+    ensures same { engine.new.counted ≡ engine.old.counted }
+    ensures counted { OnOk result ((d : definition.Definition) → KeepsCounts d engine.old engine.new) }
+{
+    let NewObject {
+        object,
+        steps,
+        line,
+    } = new;
+    push_task(
+        engine,
+        Task::Constructing {
+            object,
+            steps,
+            held,
+        },
+    )?;
+    engine.world.say(line)?;
+    Ok(())
+}
+
+// A new object floats or not.
+fn float(table: &mut Table, id: ObjectId, floats: bool) -> Result<(), AllocError>
+    ensures counted { OnOk result ((d : definition.Definition) (beside : ℕ → ℕ) → Counted d beside table.old → Counted d beside table.new) }
+    ensures objects { OnOk result (table.new.objects ≡ table.old.objects) }
+    ensures floating { OnOk result (table.new.floating ≡ cond floats (table.old.floating ++ id.0 ∷ []) table.old.floating) }
+{
+    if !floats {
+        return Ok(());
+    }
+    if !table.can_hold(id) {
+        return Err(AllocError);
+    }
+    table.float(id)?;
+    Ok(())
+}
+
+// The defaults of a class's properties, by slot.
+fn defaults(alloc: Global, definition: &Definition, class: TypeId) -> Result<Vec<Value>, AllocError>
+    ensures { IfOk result (λ values. map value_view values.items ≡ map (λ (s : machine.Spec). s.default) (specs_of definition.now class)) }
+{
+    let mut values = Vec::new(alloc);
+    // For the proof: how many properties a class has at most.
+    let _slots = definition.slots(class);
+    let mut slot: Slot = 0;
+    loop {
+        let Some(spec) = definition.spec(class, slot) else {
+            return Ok(values);
+        };
+        values.push(spec.default.copied()?)?;
+        slot += 1;
+    }
+}

@@ -1,0 +1,47 @@
+//! The places of a definition: what stands there, and how they are gone through.
+
+ghost use Rattle.std.specs.Prelude.{◌≡◌, ◌<◌, ◌≤◌, false, true, suc, map, option_map, slice_get};
+ghost use Rattle.definition_format.specs.Meaning.{attached_view, bare_place, given_property, object_count, place_number};
+
+use definitions::{Definition, ObjectEntry};
+use ui_machine::Place;
+
+/// The first place.
+pub const FIRST_PLACE: Place = Place(0);
+
+/// The object or prototype at a place, if there is one.
+pub fn entry_at(definition: &Definition, place: Place) -> Option<ObjectEntry<'_>>
+    ensures { option_map (λ o. bare_place o.id.now o.class o.is_prototype (place_number o.parent) (map given_property o.given.now) (map attached_view o.signals.now)) result ≡ slice_get definition.now.places place.0 }
+{
+    definition.object(usize::from(place.0))
+}
+
+/// Whether an object stands at a place: prototypes stand behind all objects.
+pub fn is_object(definition: &Definition, place: Place) -> bool
+    ensures within { result ≡ true → place.0 < object_count definition.now }
+    ensures past { result ≡ false → object_count definition.now ≤ place.0 }
+{
+    usize::from(place.0) < definition.object_count()
+}
+
+/// The place of an object by its number among a definition's.
+pub fn place_numbered(definition: &Definition, number: usize) -> Place
+    requires { number < object_count definition.now }
+    ensures { result.0 ≡ number }
+{
+    // For the proof: how many places there are at most.
+    let _places = definition.place_count();
+    let _types = definition.types();
+    Place(number as u16)
+}
+
+/// The place behind that of an object.
+pub fn next_place(definition: &Definition, place: Place) -> Place
+    requires { place.0 < object_count definition.now }
+    ensures { result.0 ≡ suc place.0 }
+{
+    // For the proof: how many places there are at most.
+    let _places = definition.place_count();
+    let _types = definition.types();
+    Place(place.0 + 1)
+}

@@ -1,0 +1,216 @@
+//! What holds an object.
+//!
+//! The table counts how often each object is held. A property and a parent hold by the table itself; the builder holds what it has
+//! built, and a task holds its object from when it comes before the others until it is done. An emission holds its arguments, and the value
+//! that it has accumulated, from its beginning to its end, and a program what its registers name.
+
+ghost use Rattle.std.specs.Prelude.{◌≡◌, ℕ, ◌+◌, ◌≤◌, ◌^◌, List, ◌∷◌, map, option_map, true, IsSome, OnOk};
+ghost use Rattle.ui_machine.specs.Definition as machine;
+ghost use Rattle.ui_machine.specs.Seq.{total};
+ghost use Rattle.ui_machine.specs.State.Handlers.{Handler};
+ghost use Rattle.ui_machine.specs.State.Objects.{living};
+ghost use Rattle.ui_machine.specs.State.References.{in_option, in_register, in_value};
+ghost use Rattle.g_values.specs.View.{value_view};
+ghost use Rattle.bytecode.specs.Computing.{registers_of};
+ghost use Rattle.instances.specs.Store.{id_of, count_of, may_hold, may_hold_any, named_by};
+ghost use Rattle.engine_world.specs.KnownHandlers.{TakesKnownHandlers};
+ghost use Rattle.engine_world.specs.View.{world_of};
+ghost use Rattle.engine_world.specs.TaskView.{task_of, task_in, agenda_of};
+ghost use Rattle.engine_world.specs.Counting.{Connects, Counts, OnlyCounts, KeepsCounts, in_given, in_subject};
+
+use crate::engine::Engine;
+use crate::task::Task;
+use g_values::Value;
+use instances::Table;
+use signal_core::Cursor;
+use std::alloc::AllocError;
+use ui_machine::ObjectId;
+
+/// Holds an object, if there is one, once more. It refuses one that does not live, or that is held as often as may be.
+#[inline(always)]
+pub fn hold_any(table: &mut Table, id: Option<ObjectId>) -> Result<(), AllocError>
+    ensures only { OnlyCounts table.old table.new }
+    ensures counts { OnOk result ((o : ℕ) → count_of table.new.counts o ≡ count_of table.old.counts o + in_option o (id_of id)) }
+{
+    let Some(id) = id else {
+        return Ok(());
+    };
+    if !table.can_hold(id) {
+        return Err(AllocError);
+    }
+    table.hold(id);
+    Ok(())
+}
+
+/// Lets an object go, if there is one.
+#[inline(always)]
+pub fn let_go_any(table: &mut Table, id: Option<ObjectId>)
+    requires held { (o : ℕ) → in_option o (id_of id) ≤ count_of table.now.counts o }
+    ensures only { OnlyCounts table.old table.new }
+    ensures counts { (o : ℕ) → count_of table.new.counts o + in_option o (id_of id) ≡ count_of table.old.counts o }
+{
+    let Some(id) = id else {
+        return;
+    };
+    table.let_go(id);
+}
+
+/// Whether the object that a value names, if it names one, lives and may be held once more.
+pub fn can_hold_named(table: &Table, value: &Value) -> bool
+    ensures { result ≡ may_hold_any table.now (named_by (value_view value.now)) }
+{
+    match value {
+        Value::Object(_, Some(id)) => table.can_hold(*id),
+        _ => true,
+    }
+}
+
+/// The object that a value names, if it names one.
+pub fn named(value: &Value) -> Option<ObjectId>
+    ensures { id_of result ≡ named_by (value_view value.now) }
+{
+    match value {
+        Value::Object(_, id) => *id,
+        _ => None,
+    }
+}
+
+/// Holds each object that one of these values names once more.
+fn hold_values(table: &mut Table, values: &[Value]) -> Result<(), AllocError>
+    ensures only { OnlyCounts table.old table.new }
+    ensures counts { OnOk result ((o : ℕ) → count_of table.new.counts o ≡ count_of table.old.counts o + total (in_value o) (map value_view values.now)) }
+{
+    for value in values {
+        hold_any(table, named(value))?;
+    }
+    Ok(())
+}
+
+/// Lets each object go that one of these values names.
+pub fn let_go_values(table: &mut Table, values: &[Value])
+    requires held { (o : ℕ) → total (in_value o) (map value_view values.now) ≤ count_of table.now.counts o }
+    ensures only { OnlyCounts table.old table.new }
+    ensures counts { (o : ℕ) → count_of table.new.counts o + total (in_value o) (map value_view values.now) ≡ count_of table.old.counts o }
+{
+    for value in values {
+        let_go_any(table, named(value));
+    }
+}
+
+/// The object that an emission's accumulated value names, if it names one.
+pub fn accumulated(cursor: &Cursor) -> Option<ObjectId>
+    ensures { (o : ℕ) → in_option o (id_of result) ≡ in_register o cursor.now.value }
+{
+    match cursor.accumulated() {
+        Some(value) => named(value),
+        None => None,
+    }
+}
+
+impl Task {
+    /// The object that a task holds, if it holds one. It is let go once the task is done.
+    pub fn object(&self) -> Option<ObjectId>
+        ensures { (d : machine.Definition) (hs : List Handler) (o : ℕ) → in_option o (id_of result) ≡ in_subject o (task_of d hs self.now) }
+    {
+        match self {
+            Task::Setting { object, .. } => Some(*object),
+            Task::Notifying { object, .. } => Some(*object),
+            Task::Beginning(emission) => Some(emission.object),
+            Task::Emitting { cursor, .. } => Some(cursor.object()),
+            Task::Running(_) => None,
+            Task::Thawing { object, .. } => Some(*object),
+            Task::Constructing { object, .. } => Some(*object),
+            Task::Building { .. } => None,
+            Task::Adopting { .. } => None,
+            Task::Connecting { .. } => None,
+            Task::Handling(_) => None,
+        }
+    }
+}
+
+/// The object that a register names, if it names one.
+pub(crate) fn register_named(register: &Option<Value>) -> Option<ObjectId>
+    ensures { (o : ℕ) → in_option o (id_of result) ≡ in_register o (option_map value_view register.now) }
+{
+    match register {
+        Some(value) => named(value),
+        None => None,
+    }
+}
+
+// Holds each object that one of these registers names once more.
+fn hold_registers(table: &mut Table, registers: &[Option<Value>]) -> Result<(), AllocError>
+    ensures only { OnlyCounts table.old table.new }
+    ensures counts { OnOk result ((o : ℕ) → count_of table.new.counts o ≡ count_of table.old.counts o + total (in_register o) (registers_of registers.now)) }
+{
+    for register in registers {
+        hold_any(table, register_named(register))?;
+    }
+    Ok(())
+}
+
+/// Lets each object go that one of these registers names.
+pub fn let_go_registers(table: &mut Table, registers: &[Option<Value>])
+    requires held { (o : ℕ) → total (in_register o) (registers_of registers.now) ≤ count_of table.now.counts o }
+    ensures only { OnlyCounts table.old table.new }
+    ensures counts { (o : ℕ) → count_of table.new.counts o + total (in_register o) (registers_of registers.now) ≡ count_of table.old.counts o }
+{
+    for register in registers {
+        let_go_any(table, register_named(register));
+    }
+}
+
+// Holds what an emission holds beside its object, and what the registers of a program name.
+fn hold_given(table: &mut Table, task: &Task) -> Result<(), AllocError>
+    ensures only { OnlyCounts table.old table.new }
+    ensures counts { OnOk result ((d : machine.Definition) (hs : List Handler) (o : ℕ) → count_of table.new.counts o ≡ count_of table.old.counts o + in_given o (task_of d hs task.now)) }
+{
+    match task {
+        Task::Beginning(emission) => hold_values(table, emission.args.as_slice()),
+        Task::Emitting { cursor, args, .. } => hold_emitted(table, cursor, args.as_slice()),
+        Task::Setting { .. } => Ok(()),
+        Task::Notifying { .. } => Ok(()),
+        Task::Running(frame) => hold_registers(table, frame.registers.as_slice()),
+        Task::Thawing { .. } => Ok(()),
+        Task::Constructing { .. } => Ok(()),
+        Task::Building { .. } => Ok(()),
+        Task::Adopting { .. } => Ok(()),
+        Task::Connecting { .. } => Ok(()),
+        Task::Handling(_) => Ok(()),
+    }
+}
+
+// Holds the arguments of an emission, and the value that it has accumulated.
+fn hold_emitted(table: &mut Table, cursor: &Cursor, args: &[Value]) -> Result<(), AllocError>
+    ensures only { OnlyCounts table.old table.new }
+    ensures counts { OnOk result ((o : ℕ) → count_of table.new.counts o
+        ≡ count_of table.old.counts o + (total (in_value o) (map value_view args.now) + in_register o cursor.now.value)) }
+{
+    hold_values(table, args)?;
+    hold_any(table, accumulated(cursor))
+}
+
+/// A law: where each object is counted as often as it is mentioned, no count is at its end, so that what lives may be held once more. What is
+/// counted stands in lists, and no list is longer than memory. It looks at each object; no program calls it.
+fn never_full(engine: &Engine)
+    ensures { (d : machine.Definition) (taken : ℕ → ℕ) → Counts d taken engine.now → (o : ℕ) → taken o ≤ 2 ^ 64
+        → IsSome (living engine.now.world.table.objects o) → may_hold engine.now.world.table o ≡ true }
+{
+    engine.world.table.hold_few();
+}
+
+/// Puts a task before the others, which holds its objects from then on.
+pub fn push_task(engine: &mut Engine, task: Task) -> Result<(), AllocError>
+    requires { TakesKnownHandlers engine.now.world.handlers.last task }
+    ensures agenda { OnOk result ((d : machine.Definition) → agenda_of d engine.new ≡ task_in d engine.old task ∷ agenda_of d engine.old) }
+    ensures world { world_of engine.new.world ≡ world_of engine.old.world }
+    ensures same { engine.new.counted ≡ engine.old.counted }
+    ensures handlers { engine.new.world.handlers ≡ engine.old.world.handlers }
+    ensures counted { OnOk result ((d : machine.Definition) → KeepsCounts d engine.old engine.new) }
+    ensures connects { OnOk result ((d : machine.Definition) → Connects d engine.old → Connects d engine.new) }
+{
+    hold_any(&mut engine.world.table, task.object())?;
+    hold_given(&mut engine.world.table, &task)?;
+    engine.stack.push(task)?;
+    Ok(())
+}

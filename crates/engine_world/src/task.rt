@@ -1,0 +1,247 @@
+//! Tasks, and the stack of those that are left.
+
+ghost use Rattle.std.specs.Prelude.{◌≡◌, ℕ, List, [], ◌∷◌, reverse, map, IfSome, MatchOption, OnOk};
+ghost use Rattle.ui_machine.specs.Definition as machine;
+ghost use Rattle.ui_machine.specs.State.Tasks as config;
+ghost use Rattle.ui_machine.specs.State.Handlers.{Handler};
+ghost use Rattle.engine_world.specs.TaskView.{making_of_code, task_of, tasks_of};
+
+use definition_format::Event;
+use frames::Frame;
+use g_values::Value;
+use signal_core::Cursor;
+use std::alloc::{AllocError, Global};
+use std::marker::Model;
+use ui_machine::{ObjectId, Place, ProgramId, SignalId, Slot};
+
+/// The notifications that are left of a thaw. They are kept the other way round: the last is made first.
+#[derive(Drop)]
+pub struct Slots {
+    pub queue: Vec<Slot>,
+}
+
+impl Model for Slots {
+    ghost use Rattle.std.specs.Prelude.{ℕ, List, reverse};
+
+    ghost Value = { List ℕ };
+
+    ghost view = { λ s. reverse s.queue.items };
+}
+
+impl Slots {
+    /// The notifications of a queue, from its end.
+    pub fn new(queue: Vec<Slot>) -> Self
+        ensures { result ≡ reverse queue.items }
+    {
+        Slots { queue }
+    }
+
+    /// Takes the next one.
+    pub fn take(&mut self) -> Option<Slot>
+        ensures { MatchOption result ((self.old ≡ []) × (self.new ≡ [])) (λ slot. self.old ≡ slot ∷ self.new) }
+    {
+        self.queue.pop()
+    }
+}
+
+/// A step of a construction that is to come.
+#[derive(Drop)]
+pub enum ConstructStep {
+    Set { slot: Slot, value: Value },
+    /// A program runs that a class names for its objects.
+    Run { program: ProgramId },
+    Thaw,
+}
+
+/// The steps of a construction that are to come, the last of the list first.
+#[derive(Drop)]
+pub struct ConstructSteps {
+    pub steps: Vec<ConstructStep>,
+}
+
+impl Model for ConstructSteps {
+    ghost use Rattle.std.specs.Prelude.{List, map, reverse};
+    ghost use Rattle.ui_machine.specs.State.Tasks as config;
+    ghost use Rattle.engine_world.specs.MakingView.{making_of_code};
+
+    ghost Value = { List config.ConstructStep };
+
+    ghost view = { λ m. reverse (map making_of_code m.steps.items) };
+}
+
+impl ConstructSteps {
+    /// The steps of a list, from its end.
+    pub fn new(steps: Vec<ConstructStep>) -> Self
+        ensures { result ≡ reverse (map making_of_code steps.items) }
+    {
+        ConstructSteps { steps }
+    }
+
+    /// Takes the next one.
+    pub fn take(&mut self) -> Option<ConstructStep>
+        ensures { MatchOption result ((self.old ≡ []) × (self.new ≡ [])) (λ step. self.old ≡ making_of_code step ∷ self.new) }
+    {
+        self.steps.pop()
+    }
+}
+
+/// What is given to a property of an object of the builder: an object that comes later, or the object itself.
+#[derive(Clone, Copy, Debug)]
+pub struct ForwardReference {
+    /// The place of the object whose property it is.
+    pub object: Place,
+    pub slot: Slot,
+    pub to: Place,
+}
+
+/// The forward references that are to be set, the last of the list first.
+#[derive(Drop)]
+pub struct ForwardReferences {
+    pub references: Vec<ForwardReference>,
+}
+
+impl Model for ForwardReferences {
+    ghost use Rattle.std.specs.Prelude.{List, reverse};
+    ghost use Rattle.engine_world.specs.declared.task.ForwardReference.{ForwardReference};
+
+    ghost Value = { List ForwardReference };
+
+    ghost view = { λ f. reverse f.references.items };
+}
+
+impl ForwardReferences {
+    /// The references of a list, from its end.
+    pub fn new(references: Vec<ForwardReference>) -> Self
+        ensures { result ≡ reverse references.items }
+    {
+        ForwardReferences { references }
+    }
+
+    /// Takes the next one.
+    pub fn take(&mut self) -> Option<ForwardReference>
+        ensures { MatchOption result ((self.old ≡ []) × (self.new ≡ [])) (λ forward. self.old ≡ forward ∷ self.new) }
+    {
+        self.references.pop()
+    }
+}
+
+/// An emission that is to begin (GObject manual, Signals: `g_signal_emit`).
+#[derive(Drop)]
+pub struct NewEmission {
+    /// The object that emits.
+    pub object: ObjectId,
+    /// The signal, by its number in the list of the object's class.
+    pub signal: SignalId,
+    /// The detail, as it stands at the signal.
+    pub detail: Option<String>,
+    pub args: Vec<Value>,
+    /// Whether an event emits, which tells of the result.
+    pub by_event: bool,
+}
+
+/// What there is to do.
+#[derive(Drop)]
+pub enum Task {
+    /// A set is due.
+    Setting {
+        object: ObjectId,
+        slot: Slot,
+        value: Value,
+    },
+    /// A notification is to begin.
+    Notifying {
+        object: ObjectId,
+        slot: Slot,
+    },
+    /// An emission is to begin.
+    Beginning(NewEmission),
+    /// The rest of an emission.
+    Emitting {
+        cursor: Cursor,
+        args: Vec<Value>,
+        by_event: bool,
+    },
+    /// The rest of a program.
+    Running(Frame),
+    /// The notifications that are left of a thaw.
+    Thawing {
+        object: ObjectId,
+        slots: Slots,
+    },
+    /// The rest of a construction.
+    Constructing {
+        object: ObjectId,
+        steps: ConstructSteps,
+        /// Whether the builder holds the object at its end.
+        held: bool,
+    },
+    /// The rest of the build: the objects from a place on, and then the forward references.
+    Building {
+        place: Place,
+        forwards: ForwardReferences,
+    },
+    /// The object at a place becomes its parent's child, and then comes the rest of the build: the objects behind it, and the forward
+    /// references.
+    Adopting {
+        place: Place,
+        forwards: ForwardReferences,
+    },
+    /// The signals of an object are connected from one on, and then those of the objects behind it.
+    Connecting {
+        place: Place,
+        number: usize,
+    },
+    /// An event is to be carried out.
+    Handling(Event),
+}
+
+/// The tasks that are left, the first on top.
+#[derive(Drop)]
+pub struct Stack {
+    pub tasks: Vec<Task>,
+}
+
+impl Stack {
+    ghost use Rattle.ui_machine.specs.Definition as machine;
+    ghost use Rattle.ui_machine.specs.State.Handlers.{Handler};
+    ghost use Rattle.engine_world.specs.KnownHandlers.{AllTakeKnownHandlers, TakesKnownHandlers};
+    ghost use Rattle.engine_world.specs.TaskView.{task_of, tasks_of};
+
+    /// Nothing to do.
+    pub fn new(alloc: Global) -> Self
+        ensures tasks { (d : machine.Definition) (hs : List Handler) → tasks_of d hs result ≡ [] }
+        ensures begun { (last : ℕ) → AllTakeKnownHandlers last result }
+    {
+        Stack {
+            tasks: Vec::new(alloc),
+        }
+    }
+
+    /// Puts a task before the others.
+    pub fn push(&mut self, task: Task) -> Result<(), AllocError>
+        ensures tasks { OnOk result ((d : machine.Definition) (hs : List Handler) → tasks_of d hs self.new ≡ task_of d hs task ∷ tasks_of d hs self.old) }
+        ensures begun { OnOk result ((last : ℕ) → TakesKnownHandlers last task → AllTakeKnownHandlers last self.old → AllTakeKnownHandlers last self.new) }
+    {
+        self.tasks.push(task)?;
+        Ok(())
+    }
+
+    /// Takes the first task.
+    pub fn pop(&mut self) -> Option<Task>
+        ensures tasks { (d : machine.Definition) (hs : List Handler) → MatchOption result
+            ((tasks_of d hs self.old ≡ []) × (tasks_of d hs self.new ≡ []))
+            (λ task. tasks_of d hs self.old ≡ task_of d hs task ∷ tasks_of d hs self.new) }
+        ensures begun { (last : ℕ) → AllTakeKnownHandlers last self.old → AllTakeKnownHandlers last self.new }
+        ensures first { IfSome result (λ task. (last : ℕ) → AllTakeKnownHandlers last self.old → TakesKnownHandlers last task) }
+    {
+        self.tasks.pop()
+    }
+
+    /// Leaves nothing to do.
+    pub fn clear(&mut self)
+        ensures tasks { (d : machine.Definition) (hs : List Handler) → tasks_of d hs self.new ≡ [] }
+        ensures begun { (last : ℕ) → AllTakeKnownHandlers last self.new }
+    {
+        self.tasks.clear();
+    }
+}

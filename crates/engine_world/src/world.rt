@@ -1,0 +1,91 @@
+//! All but the tasks.
+
+ghost use Rattle.std.specs.Prelude.{◌≡◌, ◌∷◌, [], ◌++◌, cond, OnOk, OnErr, slice_get, string_bytes};
+ghost use Rattle.ui_machine.specs.State.Config.{builder_entry};
+ghost use Rattle.ui_machine.specs.Rules.Build.{identity_held};
+ghost use Rattle.instances.specs.Store.{id_of};
+ghost use Rattle.engine_world.specs.View.{held_of, world_of};
+
+use crate::builder::BuilderEntry;
+use g_values::Value;
+use instances::{Table, WeakSlots};
+use signal_core::Handlers;
+use std::alloc::AllocError;
+use ui_machine::{ObjectId, Place};
+
+/// The objects, which of their properties are weak, the handlers, what the builder holds of the objects, the transcript, and what the event
+/// answered.
+#[derive(Drop)]
+pub struct World {
+    pub table: Table,
+    pub weak: WeakSlots,
+    /// What is connected to the objects' signals.
+    pub handlers: Handlers,
+    /// What the builder has of each place, as far as it has built.
+    pub builder: Vec<BuilderEntry>,
+    pub transcript: Vec<String>,
+    pub result: Option<Value>,
+}
+
+impl World {
+    /// One more line.
+    pub fn say(&mut self, line: String) -> Result<(), AllocError>
+        ensures ok { OnOk result (world_of self.new ≡ record (world_of self.old) { transcript = (world_of self.old).transcript ++ string_bytes line ∷ [] }) }
+        ensures err { OnErr result (world_of self.new ≡ world_of self.old) }
+        ensures beside { self.new ≡ record self.old { transcript = self.new.transcript } }
+        ensures handlers { self.new.handlers ≡ self.old.handlers }
+    {
+        self.transcript.push(line)?;
+        Ok(())
+    }
+
+    /// Two lines more, the first only if it is to be told, or none.
+    pub fn say_both(
+        &mut self,
+        is_told: bool,
+        first: String,
+        second: String,
+    ) -> Result<(), AllocError>
+        ensures ok { OnOk result (world_of self.new ≡ record (world_of self.old) {
+          transcript =
+              cond is_told ((world_of self.old).transcript ++ string_bytes first ∷ []) (world_of self.old).transcript ++ string_bytes second ∷ [];
+        }) }
+        ensures err { OnErr result (world_of self.new ≡ world_of self.old) }
+        ensures beside { self.new ≡ record self.old { transcript = self.new.transcript } }
+        ensures handlers { self.new.handlers ≡ self.old.handlers }
+    {
+        if !is_told {
+            return self.say(second);
+        }
+        self.say(first)?;
+        let Ok(()) = self.say(second) else {
+            self.transcript.pop();
+            return Err(AllocError);
+        };
+        Ok(())
+    }
+
+    // What stands at a place of the builder.
+    fn entry(&self, place: Place) -> Option<BuilderEntry>
+        ensures { result ≡ slice_get self.now.builder.items place.0 }
+    {
+        self.builder.get(usize::from(place.0)).copied()
+    }
+
+    /// What the builder has of a place.
+    pub fn held(&self, place: Place) -> BuilderEntry
+        ensures { held_of result ≡ builder_entry (world_of self.now) place.0 }
+    {
+        match self.entry(place) {
+            Some(held) => held,
+            None => BuilderEntry::Unbuilt,
+        }
+    }
+
+    /// The identity of what the builder holds of a place.
+    pub fn built(&self, place: Place) -> Option<ObjectId>
+        ensures { id_of result ≡ identity_held (builder_entry (world_of self.now) place.0) }
+    {
+        self.held(place).object()
+    }
+}

@@ -1,0 +1,78 @@
+use Rattle.std.proofs.Common.{Ok, Err, ◌∙◌, refl, sym, subst, arith}
+use Rattle.std.proofs.lemmas.Result.{err_from_is_err_and}
+use Rattle.ui_machine.specs.State.Config.{Config}
+use Rattle.engine_world.specs.Counting.{in_subject}
+use Rattle.std.proofs.Common.{List}
+use Rattle.ui_machine.specs.State.Tasks.{Task}
+use Rattle.ui_engine.specs.Stepping.{NoneUnheld, Stepped}
+use Rattle.engine_world.specs.TaskView.{task_in}
+use Rattle.engine_world.specs.EngineView.{config_of}
+use Rattle.engine_world.proofs.Counts.{config_same, taken_off, given_back, same_tasks}
+use Rattle.ui_engine.proofs.Stepping.{first_stepped, first_grows}
+use Rattle.ui_engine.proofs.dispatch.runs.first_task.Goals as goal
+
+pub sink_first_floating-requires-clause-none : goal.sink_first_floating-requires-clause-none
+sink_first_floating-requires-clause-none c =
+    let d = c.args.definition.now in
+    let none = c.in_default.ensures.tasks d c.args.engine.now.world.handlers.handlers in
+    subst (λ (ts : List Task). NoneUnheld d (record (config_of d c.args.engine.now) { agenda = ts })) (none.0 ∙ sym none.1) c.requires.none
+
+pub sink_first_floating-requires-clause-idle : goal.sink_first_floating-requires-clause-idle
+sink_first_floating-requires-clause-idle c = (c.in_default.ensures.tasks c.args.definition.now c.args.engine.now.world.handlers.handlers).1
+
+pub sink_first_floating-requires-clause-counted : goal.sink_first_floating-requires-clause-counted
+sink_first_floating-requires-clause-counted c =
+    let d = c.args.definition.now in
+    let none = c.in_default.ensures.tasks d c.args.engine.now.world.handlers.handlers in
+    same_tasks d c.args.engine.now c.pop.new.self (none.1 ∙ sym none.0) c.in_default.ensures.begun c.requires.counted
+
+pub returns-in_default-clause-stepped : goal.returns-in_default-clause-stepped
+returns-in_default-clause-stepped c =
+    let d = c.args.definition.now in
+    let none = c.in_default.ensures.tasks d c.args.engine.now.world.handlers.handlers in
+    subst (λ (ts : List Task). Stepped (Ok c.sink_first_floating.result) d (record (config_of d c.args.engine.now) { agenda = ts }) (config_of d c.sink_first_floating.new.engine)) (none.1 ∙ sym none.0)
+    c.sink_first_floating.ensures.stepped
+
+pub returns-in_err-made-clause-stepped : goal.returns-in_err-made-clause-stepped
+returns-in_err-made-clause-stepped c =
+    let p = err_from_is_err_and c.from_residual.result c.from_residual.ensures.1 in
+    let d = c.args.definition.now in
+    rw (p.1, p.2)
+    (first_stepped d c.types-types.ensures.basic c.args.engine.now.world.handlers.handlers (config_of d c.args.engine.now) (config_of d c.act.new.engine) refl c.requires.none c.in-Some.task c.pop.new.self (c.in-Some.ensures.tasks d c.args.engine.now.world.handlers.handlers)
+    (Err _) c.in_err-made.ensures.step tt c.in_err-made.ensures.quiet)
+
+pub act-requires : goal.act-requires
+act-requires c = record {
+  begun = c.in-Some.ensures.first c.args.engine.now.world.handlers.last c.requires.counted.connects.begun;
+  counted =
+      let d = c.args.definition.now in
+      let e = c.args.engine.now in
+      taken_off d e c.pop.new.self (task_in d e c.in-Some.task) (c.in-Some.ensures.tasks d e.world.handlers.handlers) c.in-Some.ensures.begun c.requires.counted;
+}
+
+pub let_go_any-requires : goal.let_go_any-requires
+let_go_any-requires c = record {
+  held = λ o.
+      let d = c.args.definition.now in
+      omega (arith, c.in_ok-made.ensures.counted.exact o, c.object-held.ensures d c.args.engine.now.world.handlers.handlers o);
+}
+
+pub returns-clause-counted : goal.returns-clause-counted
+returns-clause-counted c =
+    let d = c.args.definition.now in
+    let t = task_in d c.args.engine.now c.in-Some.task in
+    given_back d c.act.new.engine c.let_go_any.new.table (λ o. in_subject o t) c.let_go_any.ensures.only
+    (λ o. omega (arith, c.let_go_any.ensures.counts o, c.object-held.ensures d c.args.engine.now.world.handlers.handlers o)) c.in_ok-made.ensures.counted
+
+pub returns-clause-stepped : goal.returns-clause-stepped
+returns-clause-stepped c =
+    let d = c.args.definition.now in
+    subst (λ (e : Config). Stepped (Ok c.in_ok-made.made) d (config_of d c.args.engine.now) e) (sym (config_same d c.act.new.engine c.let_go_any.new.table c.let_go_any.ensures.only))
+    (first_stepped d c.types-types.ensures.basic c.args.engine.now.world.handlers.handlers (config_of d c.args.engine.now) (config_of d c.act.new.engine) refl c.requires.none c.in-Some.task c.pop.new.self (c.in-Some.ensures.tasks d c.args.engine.now.world.handlers.handlers)
+    (Ok c.in_ok-made.made) c.in_ok-made.ensures.step c.in_ok-made.ensures.made tt)
+
+pub returns-clause-grows : goal.returns-clause-grows
+returns-clause-grows c =
+    let d = c.args.definition.now in
+    first_grows d c.types-types.ensures.basic c.args.engine.now.world.handlers.handlers (config_of d c.args.engine.now) (config_of d c.act.new.engine) refl c.requires.none c.in-Some.task c.pop.new.self (c.in-Some.ensures.tasks d c.args.engine.now.world.handlers.handlers)
+    (Ok c.in_ok-made.made) c.in_ok-made.ensures.step tt

@@ -1,5 +1,0 @@
-use Rattle.ui_engine.proofs.Rooms.{has_room}
-use Rattle.ui_engine.proofs.engine.Engine.never_full.Goals as goal
-
-pub returns : goal.returns
-returns c d taken counts o little lives = has_room d taken c.args.self.now c.hold_few.ensures counts o little lives

@@ -1,0 +1,66 @@
+use Rattle.std.proofs.Common.{Ok, refl}
+use Rattle.engine_world.proofs.Counts.{done_plain}
+use Rattle.engine_instructions.proofs.Whole.{goes_whole}
+use Rattle.ui_engine.proofs.tasks.act.Goals as goal
+
+pub returns-in-Setting-clause-counted : goal.returns-in-Setting-clause-counted
+returns-in-Setting-clause-counted c =
+    done_plain c.args.definition.now c.args.engine.now c.validate_and_set.new.engine c.args.task _ c.in-Setting.is (λ o. refl) c.in_ok-validate_and_set-in-Setting.ensures.counted c.requires.counted
+
+pub returns-in-Notifying-clause-counted : goal.returns-in-Notifying-clause-counted
+returns-in-Notifying-clause-counted c =
+    done_plain c.args.definition.now c.args.engine.now c.notify.new.engine c.args.task _ c.in-Notifying.is (λ o. refl) c.in_ok-notify-in-Notifying.ensures.counted c.requires.counted
+
+pub returns-in-Thawing-clause-counted : goal.returns-in-Thawing-clause-counted
+returns-in-Thawing-clause-counted c =
+    done_plain c.args.definition.now c.args.engine.now c.notify_thawed.new.engine c.args.task _ c.in-Thawing.is (λ o. refl) c.in_ok-notify_thawed-in-Thawing.ensures.counted c.requires.counted
+
+pub returns-in-Constructing-clause-counted : goal.returns-in-Constructing-clause-counted
+returns-in-Constructing-clause-counted c =
+    done_plain c.args.definition.now c.args.engine.now c.construct.new.engine c.args.task _ c.in-Constructing.is (λ o. refl) c.in_ok-construct-in-Constructing.ensures.counted c.requires.counted
+
+pub returns-in-Building-clause-counted : goal.returns-in-Building-clause-counted
+returns-in-Building-clause-counted c =
+    done_plain c.args.definition.now c.args.engine.now c.build.new.engine c.args.task _ c.in-Building.is (λ o. refl) c.in_ok-build-in-Building.ensures.counted c.requires.counted
+
+pub returns-in-Adopting-clause-counted : goal.returns-in-Adopting-clause-counted
+returns-in-Adopting-clause-counted c =
+    done_plain c.args.definition.now c.args.engine.now c.adopt_from_build.new.engine c.args.task _ c.in-Adopting.is (λ o. refl) c.in_ok-adopt_from_build-in-Adopting.ensures.counted c.requires.counted
+
+pub returns-in-Handling-clause-counted : goal.returns-in-Handling-clause-counted
+returns-in-Handling-clause-counted c =
+    done_plain c.args.definition.now c.args.engine.now c.handle_event.new.engine c.args.task _ c.in-Handling.is (λ o. refl) c.in_ok-handle_event-in-Handling.ensures.counted c.requires.counted
+
+pub returns-in-Setting-clause-step : goal.returns-in-Setting-clause-step
+returns-in-Setting-clause-step c = rw c.in-Setting.is (goes_whole c.args.definition.now c.validate_and_set.new.engine (Ok (tt {0})) _ c.in_ok-validate_and_set-in-Setting.ensures.step)
+
+pub returns-in-Notifying-clause-step : goal.returns-in-Notifying-clause-step
+returns-in-Notifying-clause-step c = rw c.in-Notifying.is (goes_whole c.args.definition.now c.notify.new.engine (Ok (tt {0})) _ c.in_ok-notify-in-Notifying.ensures.step)
+
+pub returns-in-Beginning-clause-step : goal.returns-in-Beginning-clause-step
+returns-in-Beginning-clause-step c = rw c.in-Beginning.is (goes_whole c.args.definition.now c.begin_emission.new.engine (Ok (tt {0})) _ c.in_ok-begin_emission-in-Beginning.ensures.step)
+
+pub returns-in-Emitting-clause-step : goal.returns-in-Emitting-clause-step
+returns-in-Emitting-clause-step c = rw c.in-Emitting.is (goes_whole c.args.definition.now c.emit.new.engine (Ok (tt {0})) _ c.in_ok-emit-in-Emitting.ensures.step)
+
+pub returns-in-Thawing-clause-step : goal.returns-in-Thawing-clause-step
+returns-in-Thawing-clause-step c = rw c.in-Thawing.is (goes_whole c.args.definition.now c.notify_thawed.new.engine (Ok (tt {0})) _ c.in_ok-notify_thawed-in-Thawing.ensures.step)
+
+pub returns-in-Constructing-clause-step : goal.returns-in-Constructing-clause-step
+returns-in-Constructing-clause-step c = rw c.in-Constructing.is (goes_whole c.args.definition.now c.construct.new.engine (Ok (tt {0})) _ c.in_ok-construct-in-Constructing.ensures.step)
+
+pub returns-in-Building-clause-step : goal.returns-in-Building-clause-step
+returns-in-Building-clause-step c = rw c.in-Building.is (goes_whole c.args.definition.now c.build.new.engine (Ok (tt {0})) _ c.in_ok-build-in-Building.ensures.step)
+
+pub returns-in-Adopting-clause-step : goal.returns-in-Adopting-clause-step
+returns-in-Adopting-clause-step c = rw c.in-Adopting.is (goes_whole c.args.definition.now c.adopt_from_build.new.engine (Ok (tt {0})) _ c.in_ok-adopt_from_build-in-Adopting.ensures.step)
+
+pub returns-in-Handling-clause-step : goal.returns-in-Handling-clause-step
+returns-in-Handling-clause-step c = rw c.in-Handling.is (goes_whole c.args.definition.now c.handle_event.new.engine (Ok (tt {0})) _ c.in_ok-handle_event-in-Handling.ensures.step)
+
+pub returns-in-Connecting-clause-counted : goal.returns-in-Connecting-clause-counted
+returns-in-Connecting-clause-counted c =
+    done_plain c.args.definition.now c.args.engine.now c.connect_from_build.new.engine c.args.task _ c.in-Connecting.is (λ o. refl) c.in_ok-connect_from_build-in-Connecting.ensures.counted c.requires.counted
+
+pub returns-in-Connecting-clause-step : goal.returns-in-Connecting-clause-step
+returns-in-Connecting-clause-step c = rw c.in-Connecting.is (goes_whole c.args.definition.now c.connect_from_build.new.engine (Ok (tt {0})) _ c.in_ok-connect_from_build-in-Connecting.ensures.step)

@@ -1,4 +1,0 @@
-use Rattle.ui_engine.proofs.tasks.makings.+add_runs.Given as goal
-
-abbrev pub decreases-add_runs : goal.decreases-add_runs
-decreases-add_runs l = l.class

@@ -1,6 +1,0 @@
-use Rattle.std.proofs.Common.{◌≡◌, ◌++◌, drop, map}
-use Rattle.g_values.specs.View.{value_view}
-use Rattle.ui_engine.proofs.tasks.turns.add_copies.Given as goal
-
-abbrev pub invariant-loop-value : goal.invariant-loop-value
-invariant-loop-value l = (map value_view l.given.items ++ map value_view (drop l.value-index l.values) ≡ map value_view l.fn.given.items ++ map value_view l.values)
