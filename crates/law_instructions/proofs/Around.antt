@@ -128,7 +128,7 @@ module _ {d : Definition} {i : Instruction} (t : Due d i) where
         held = whole.held;
         floating = whole.floating;
         sets = e.sets;
-        pairs = whole.pairs;
+        objects_first = whole.objects_first;
         budget = e.budget;
         agenda = e.good;
         queues = e.queues;

@@ -26,7 +26,7 @@ use Rattle.law_typing.specs.Good.Handlers.{HandlersGood}
 use Rattle.law_typing.specs.Good.Bindings.{BindingsGood, SourceGood, HeldGood}
 use Rattle.law_typing.specs.Good.Builds.{is_for_builder}
 use Rattle.law_typing.specs.Good.DueCosts.{queued_cost}
-use Rattle.law_typing.specs.Good.Freezes.{PairsGood, carried}
+use Rattle.law_typing.specs.Good.Freezes.{ObjectsFirst, carried}
 use Rattle.law_kept.specs.Agenda.{Serves}
 use Rattle.law_kept.specs.Dispose.{DisposedKept}
 use Rattle.law_kept.proofs.Left.{each_to}
@@ -69,10 +69,10 @@ module _ {d : Definition} {i : Instruction} (t : Due d i) (plain : is_bracket i 
       (bindings_left d s s agenda w.bindings (λ b. not (is_end id b))
       (λ b passes. (λ place e. e, λ place e. e)) g.bindings))
 
-  left_pairs : PairsGood agenda v.bindings
-  left_pairs = record {
-    before = λ some. (let b = g.pairs.before some in (k.bindings ∙ ap (filter (λ b. not (is_end id b))) b.0, b.1));
-    one = g.pairs.one;
+  objects_first_left : ObjectsFirst agenda v.bindings
+  objects_first_left = record {
+    before = λ some. (let b = g.objects_first.before some in (k.bindings ∙ ap (filter (λ b. not (is_end id b))) b.0, b.1));
+    one = g.objects_first.one;
   }
 
   served : Serves d rest (view w) (view v)
@@ -120,7 +120,7 @@ module _ {d : Definition} {i : Instruction} (t : Due d i) (plain : is_bracket i 
       sources = subst (λ z. Each (SourceGood d z) v.sources) (sym k.stands) (subst (Each (SourceGood d s)) (sym k.sources) g.sources);
       held = subst (λ z. HeldGood z v.builder) (sym k.stands) (subst (HeldGood s) (sym k.builder) g.held);
       floating = subst (λ z. Each (Lives z) v.floating) (sym k.stands) (subst (Each (Lives s)) (sym k.floating) g.floating);
-      pairs = left_pairs;
+      objects_first = objects_first_left;
     };
     stands = k.stands;
     served = served;

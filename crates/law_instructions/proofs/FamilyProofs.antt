@@ -188,7 +188,7 @@ module _ {d : Definition} {i : Instruction} (t : Due d i) (plain : is_bracket i 
     whole =
         families_keep d a.weighed.costs a.weighed.depths (Running f ∷ rest) w os floating lines
         (families_good w g.objects kids above child parent still lives own) all
-        (record { objects = g.objects; handlers = g.handlers; bindings = g.bindings; sources = g.sources; held = g.held; floating = g.floating; pairs = g.pairs });
+        (record { objects = g.objects; handlers = g.handlers; bindings = g.bindings; sources = g.sources; held = g.held; floating = g.floating; objects_first = g.objects_first });
     stands = stands_twice kids above child parent w.objects;
     served = subst (λ s. Serves d rest (view w) (record (view w) { stands = s })) (sym (stands_twice kids above child parent w.objects)) (serves_itself d rest (view w));
     pool = g.peers;

@@ -70,7 +70,7 @@ module _ {d : Definition} (object : ℕ) (t : Due d (words.freeze object)) (x : 
   kept : Kept d a.weighed.costs a.weighed.depths (Running f ∷ rest) w v
   kept =
       write_keeps d a.weighed.costs a.weighed.depths (Running f ∷ rest) w id o (frozen o) x.1.lives (freeze_is_like d w id o x.1.good)
-      (record { objects = g.objects; handlers = g.handlers; bindings = g.bindings; sources = g.sources; held = g.held; floating = g.floating; pairs = g.pairs })
+      (record { objects = g.objects; handlers = g.handlers; bindings = g.bindings; sources = g.sources; held = g.held; floating = g.floating; objects_first = g.objects_first })
 
   -- one more bracket is open on it
   one_more : (j : ℕ) → frozen_by d j (Running next) ≡ cond (nat_eq id j) 1 0 + frozen_by d j (Running f)

@@ -121,7 +121,7 @@ module _ {d : Definition} {i : Instruction} (t : Due d i) (last : ends i ≡ tru
           sources = g.sources;
           held = g.held;
           floating = g.floating;
-          pairs = g.pairs;
+          objects_first = g.objects_first;
         };
         served = serves_itself d rest (view w);
         pool = g.peers;

@@ -88,7 +88,7 @@ module _ {d : Definition} {i : Instruction} (t : Due d i) (plain : is_bracket i 
       sources = e.sources;
       held = g.held;
       floating = e.floating;
-      pairs = record { before = λ some. (let b = g.pairs.before some in (e.none b.0, b.1)); one = g.pairs.one };
+      objects_first = record { before = λ some. (let b = g.objects_first.before some in (e.none b.0, b.1)); one = g.objects_first.one };
     };
     stands = refl;
     served = served l e;

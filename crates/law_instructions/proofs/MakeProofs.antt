@@ -206,7 +206,7 @@ module _ {d : Definition} (to : ℕ) (id : List ℕ) (t : Due d (words.new to id
       let x =
       new_whole_good d well.types a.weighed.costs a.weighed.depths (Running f ∷ rest) w k.place k.p o is_new
       (λ raised there same. (let none = all_free d a.weighed.costs k.place k.p k.has (read_well.silent k.allowed) raised.channel same (Running f ∷ rest) in omega (arith, none)))
-      (record { objects = g.objects; handlers = g.handlers; bindings = g.bindings; sources = g.sources; held = g.held; floating = g.floating; pairs = g.pairs }) in
+      (record { objects = g.objects; handlers = g.handlers; bindings = g.bindings; sources = g.sources; held = g.held; floating = g.floating; objects_first = g.objects_first }) in
       record {
         objects = objects_stay d made v x.objects;
         handlers = x.handlers;
@@ -214,7 +214,7 @@ module _ {d : Definition} (to : ℕ) (id : List ℕ) (t : Due d (words.new to id
         sources = x.sources;
         held = x.held;
         floating = x.floating;
-        pairs = x.pairs;
+        objects_first = x.objects_first;
       }
 
   pool : PeersGood d v.peers (length v.builder + total is_for_builder agenda)

@@ -148,7 +148,7 @@ module _ {d : Definition} (object : ℕ) (name : List ℕ) (t : Due d (words.not
   kept readable =
       write_keeps d a.weighed.costs a.weighed.depths (Running f ∷ rest) w id o (record o { queue = queued o.queue k.slot }) k.named.lives
       (queue_is_like d w id k.slot o k.spec k.named.good k.has readable)
-      (record { objects = g.objects; handlers = g.handlers; bindings = g.bindings; sources = g.sources; held = g.held; floating = g.floating; pairs = g.pairs })
+      (record { objects = g.objects; handlers = g.handlers; bindings = g.bindings; sources = g.sources; held = g.held; floating = g.floating; objects_first = g.objects_first })
 
   same : (j : ℕ) → frozen_by d j (Running next) ≡ frozen_by d j (Running f)
   same j = frozen_same d j f next (open_same t refl f.registers) (λ r among. refl)

@@ -205,7 +205,7 @@ module _ (d : Definition) (well : WellRead d) (a : Accepted d) (most_counted : �
   good_again : Again → IsGood d a most_counted (at_top w next rest n)
   good_again x =
       let whole = whole_stays d costs depths (Running f ∷ rest) (Running next ∷ rest) w alike
-      (record { objects = g.objects; handlers = g.handlers; bindings = g.bindings; sources = g.sources; held = g.held; floating = g.floating; pairs = g.pairs }) in
+      (record { objects = g.objects; handlers = g.handlers; bindings = g.bindings; sources = g.sources; held = g.held; floating = g.floating; objects_first = g.objects_first }) in
       record {
         objects = whole.objects;
         handlers = whole.handlers;
@@ -216,7 +216,7 @@ module _ (d : Definition) (well : WellRead d) (a : Accepted d) (most_counted : �
         held = whole.held;
         floating = whole.floating;
         sets = record { alone = g.sets.alone; first = g.sets.first; held = λ some. absurd (let none = g.sets.first in omega (arith, some, none)) };
-        pairs = whole.pairs;
+        objects_first = whole.objects_first;
         budget = g.budget;
         agenda = (g.agenda.0, g.agenda.1, g.agenda.2, (tt, passes_good x), g.agenda.4, g.agenda.5, g.agenda.6);
         queues = queues_pass x;

@@ -149,7 +149,7 @@ module _ {d : Definition} {i : Instruction} (t : Due d i) (plain : is_bracket i 
   starts_good task into cost deep e =
       good_of t w (task ∷ Running (waiting into) ∷ rest)
       (record {
-        whole = record { objects = g.objects; handlers = g.handlers; bindings = g.bindings; sources = g.sources; held = g.held; floating = g.floating; pairs = g.pairs };
+        whole = record { objects = g.objects; handlers = g.handlers; bindings = g.bindings; sources = g.sources; held = g.held; floating = g.floating; objects_first = g.objects_first };
         alike = u.alike;
         pool = subst (λ m. PeersGood d w.peers (length w.builder + m)) (sym u.alike.makes) g.peers;
         builder = refl;

@@ -202,7 +202,7 @@ module _ {d : Definition} (object : ℕ) (t : Due d (words.thaw object)) (x : (c
   kept : Kept d a.weighed.costs a.weighed.depths (Running f ∷ rest) w v
   kept =
       write_keeps d a.weighed.costs a.weighed.depths (Running f ∷ rest) w id o new x.1.lives (thaw_is_like d w id less o x.1.good count_is)
-      (record { objects = g.objects; handlers = g.handlers; bindings = g.bindings; sources = g.sources; held = g.held; floating = g.floating; pairs = g.pairs })
+      (record { objects = g.objects; handlers = g.handlers; bindings = g.bindings; sources = g.sources; held = g.held; floating = g.floating; objects_first = g.objects_first })
 
   -- ** the queues
 

@@ -196,7 +196,7 @@ module _ {d : Definition} {i : Instruction} (t : Due d i) (plain : is_bracket i 
       sources = g.sources;
       held = g.held;
       floating = g.floating;
-      pairs = g.pairs;
+      objects_first = g.objects_first;
     };
     stands = refl;
     served = serves_itself d rest (view w);

@@ -8,7 +8,7 @@ use Rattle.law_typing.specs.Graph.Tables.{Tables}
 use Rattle.law_typing.specs.Good.Standing.{Standing, standing}
 use Rattle.law_typing.specs.Good.Handlers.{HandlersGood}
 use Rattle.law_typing.specs.Good.Bindings.{BindingsGood}
-use Rattle.law_typing.specs.Good.Freezes.{PairsGood}
+use Rattle.law_typing.specs.Good.Freezes.{ObjectsFirst}
 use Rattle.law_kept.specs.Alike.{Alike, WholeStays, BuildStays}
 use Rattle.law_kept.proofs.Moved.{handlers_moved, bindings_moved}
 
@@ -19,8 +19,8 @@ module _ (d : Definition) (costs depths : Tables) (a b : List Task) (alike : Ali
   pub bindings_stay : (s : Standing) (bs : List Binding) → BindingsGood d s a bs → BindingsGood d s b bs
   bindings_stay = bindings_moved d costs depths a b alike.items alike.unset
 
-  pub pairs_stay : (bs : List Binding) → PairsGood a bs → PairsGood b bs
-  pairs_stay bs g = record {
+  pub objects_first_stay : (bs : List Binding) → ObjectsFirst a bs → ObjectsFirst b bs
+  objects_first_stay bs g = record {
     before = λ some. (let same = alike.makes in let old = g.before (omega (arith, same, some)) in (old.0, alike.request_step ∙ old.1));
     one = (let same = alike.makes in let old = g.one in omega (arith, same, old));
   }
@@ -33,7 +33,7 @@ whole_stays d costs depths a b w alike g = record {
   sources = g.sources;
   held = g.held;
   floating = g.floating;
-  pairs = pairs_stay d costs depths a b alike w.bindings g.pairs;
+  objects_first = objects_first_stay d costs depths a b alike w.bindings g.objects_first;
 }
 
 pub build_stays : BuildStays

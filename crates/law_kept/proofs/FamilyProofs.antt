@@ -56,7 +56,7 @@ module _ (d : Definition) (costs depths : Tables) (agenda : List Task) (w : Worl
     sources = subst (λ s. Each (SourceGood d s) w.sources) (sym f.stands) g.sources;
     held = subst (λ s. HeldGood s w.builder) (sym f.stands) g.held;
     floating = subst (λ s. Each (Lives s) floating) (sym f.stands) all;
-    pairs = g.pairs;
+    objects_first = g.objects_first;
   }
 
 pub families_keep : FamiliesKeep

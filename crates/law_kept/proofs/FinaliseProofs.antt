@@ -34,7 +34,7 @@ use Rattle.law_typing.specs.Good.Handlers.{HandlersGood}
 use Rattle.law_typing.specs.Good.Bindings.{BindingsGood, SourceGood, HeldGood}
 use Rattle.law_typing.specs.Good.ComingDown as downs
 use Rattle.law_typing.specs.Good.Builds.{is_for_builder, BuildGood}
-use Rattle.law_typing.specs.Good.Freezes.{below_lowest, QueuesGood, carried, PairsGood, SetsGood, is_due_set}
+use Rattle.law_typing.specs.Good.Freezes.{below_lowest, QueuesGood, carried, ObjectsFirst, SetsGood, is_due_set}
 use Rattle.law_typing.specs.Good.{Good}
 use Rattle.law_kept.specs.Agenda.{Stays, needed, Serves}
 use Rattle.law_kept.specs.Dispose.{Shed, DisposedKept}
@@ -355,10 +355,10 @@ module _ (d : Definition) (costs depths : Tables) (most_counted most : ℕ) (c :
             (subst (Each (λ slot. suc (below_lowest d j c.agenda) + entry depths.channels (property h.0.place slot) ≤ most)) (sym h.2.queue) q.deep);
       }
 
-  left_pairs : PairsGood c.agenda v.bindings
-  left_pairs = record {
-    before = λ some. (let b = g.pairs.before some in (k.bindings ∙ ap (filter (λ b. not (is_end id b))) b.0, b.1));
-    one = g.pairs.one;
+  objects_first_left : ObjectsFirst c.agenda v.bindings
+  objects_first_left = record {
+    before = λ some. (let b = g.objects_first.before some in (k.bindings ∙ ap (filter (λ b. not (is_end id b))) b.0, b.1));
+    one = g.objects_first.one;
   }
 
   -- ** the pool
@@ -422,7 +422,7 @@ module _ (d : Definition) (costs depths : Tables) (most_counted most : ℕ) (c :
     held = left_held;
     floating = left_floating;
     sets = record { alone = g.sets.alone; first = g.sets.first; held = λ some. absurd (let none = no_set in omega (arith, some, none)) };
-    pairs = left_pairs;
+    objects_first = objects_first_left;
     budget = g.budget;
     agenda = agenda_served d costs depths most downs.none c.agenda g.budget (view w) (view v) served g.agenda;
     queues = queues;

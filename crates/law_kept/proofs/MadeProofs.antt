@@ -40,5 +40,5 @@ new_whole_good d types costs depths agenda w place p o new due g =
           floats_live d (standing (with_object d w o).objects) o.class (next_identity w) w.floating (record { place = o.place; is = stands.here; allowed = tt })
           (each_to (Lives (standing w.objects)) (Lives (standing (with_object d w o).objects)) w.floating
           (λ id lives. record { place = lives.place; is = stands.stay id lives.place lives.is; allowed = tt }) g.floating);
-      pairs = g.pairs;
+      objects_first = g.objects_first;
     }

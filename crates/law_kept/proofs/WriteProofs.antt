@@ -201,7 +201,7 @@ module _ (d : Definition) (w : World) (id : ℕ) (o new : Object) (is : living w
     sources = subst (λ s. Each (SourceGood d s) w.sources) (sym same) g.sources;
     held = subst (λ s. HeldGood s w.builder) (sym same) g.held;
     floating = subst (λ s. Each (Lives s) w.floating) (sym same) g.floating;
-    pairs = g.pairs;
+    objects_first = g.objects_first;
   }
 
 pub write_keeps : WriteKeeps

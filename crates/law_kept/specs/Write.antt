@@ -13,7 +13,7 @@ use Rattle.law_typing.specs.Good.Standing.{standing, view, Lives}
 use Rattle.law_typing.specs.Good.Objects.{ValueGood, ObjectsGood}
 use Rattle.law_typing.specs.Good.Handlers.{HandlersGood}
 use Rattle.law_typing.specs.Good.Bindings.{BindingsGood, SourceGood, HeldGood}
-use Rattle.law_typing.specs.Good.Freezes.{PairsGood}
+use Rattle.law_typing.specs.Good.Freezes.{ObjectsFirst}
 
 -- the object that is written is like the one that stood there
 pub record Like (d : Definition) (w : World) (o new : Object) : Type 0 where
@@ -37,7 +37,7 @@ pub record Whole (d : Definition) (costs depths : Tables) (agenda : List Task) (
   pub sources : Each (SourceGood d (standing w.objects)) w.sources
   pub held : HeldGood (standing w.objects) w.builder
   pub floating : Each (Lives (standing w.objects)) w.floating
-  pub pairs : PairsGood agenda w.bindings
+  pub objects_first : ObjectsFirst agenda w.bindings
 
 -- they stay; as many objects live as before, each where it stood, so that the agenda reads the same
 pub record Kept (d : Definition) (costs depths : Tables) (agenda : List Task) (w new : World) : Type 0 where

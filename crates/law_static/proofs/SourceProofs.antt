@@ -91,7 +91,7 @@ sources_begin d well a w r number s is =
       held = r.held;
       floating = subst (Each (Lives (standing w.objects))) (sym r.floating) tt;
       sets = record { alone = refl; first = refl; held = λ h. absurd (omega (arith, h)) };
-      pairs = record {
+      objects_first = record {
         before = λ h. absurd (omega (arith, h));
         one = omega arith;
       };

@@ -29,7 +29,7 @@ use Rattle.law_kept.proofs.AttachProofs.{handlers_wait_less}
 use Rattle.law_kept.proofs.FamilyProofs.{families_keep}
 use Rattle.law_instructions.proofs.FamilyProofs.{twice, before, sum_twice, families_good, own_child, each_without}
 use Rattle.law_tasks.proofs.BeginningProofs.{Placed, placed}
-use Rattle.law_tasks.proofs.Built.{none_below, held_made, pairs_next, queues_next, build_next, bindings_next, left_good}
+use Rattle.law_tasks.proofs.Built.{none_below, held_made, objects_first_next, queues_next, build_next, bindings_next, left_good}
 use Rattle.law_tasks.proofs.Changed.{whole_said, no_sets, changed_well}
 use Rattle.law_tasks.proofs.First.{First, StepIsFine, fine_where, fine_of, costs, depths, most, making}
 use Rattle.law_tasks.specs.BuildAdoptions.{AdoptionsAreFine}
@@ -82,7 +82,7 @@ module _ {d : Definition} (place : ℕ) (items : List Item) (t : First d (Buildi
     sources = g.sources;
     held = g.held;
     floating = g.floating;
-    pairs = pairs_next item items t refl next w.bindings (none_more is_for_builder refl);
+    objects_first = objects_first_next item items t refl next w.bindings (none_more is_for_builder refl);
   }
 
   queues : QueuesGood d (depths t) (most t) next n w.objects

@@ -31,7 +31,7 @@ use Rattle.law_kept.specs.Bindings.{NextBinding}
 use Rattle.law_kept.proofs.AttachProofs.{handlers_wait_less}
 use Rattle.law_kept.proofs.BindingsProofs.{binding_made}
 use Rattle.law_kept.proofs.Lists.{objects_stay}
-use Rattle.law_tasks.proofs.Built.{none_below, held_object, pairs_next, queues_next, build_next, bindings_next, left_good}
+use Rattle.law_tasks.proofs.Built.{none_below, held_object, objects_first_next, queues_next, build_next, bindings_next, left_good}
 use Rattle.law_tasks.proofs.Changed.{no_sets, changed_well}
 use Rattle.law_tasks.proofs.First.{First, StepIsFine, fine_where, fine_of, costs, depths, most}
 use Rattle.law_tasks.proofs.Moving.{cost_same, depth_same}
@@ -91,7 +91,7 @@ module _ {d : Definition} (number : ℕ) (items : List Item) (t : First d (Build
           sources = g.sources;
           held = g.held;
           floating = g.floating;
-          pairs = pairs_next item items t refl late w.bindings (none_more [] is_for_builder refl);
+          objects_first = objects_first_next item items t refl late w.bindings (none_more [] is_for_builder refl);
         };
         pool = g.peers;
         build = build_next item items t refl late (none_more [] is_for_builder refl);
@@ -150,7 +150,7 @@ module _ {d : Definition} (number : ℕ) (items : List Item) (t : First d (Build
           sources = g.sources;
           held = g.held;
           floating = g.floating;
-          pairs = pairs_next item items t refl agenda v.bindings (counted first due is_for_builder refl);
+          objects_first = objects_first_next item items t refl agenda v.bindings (counted first due is_for_builder refl);
         };
         pool = subst (PeersGood d w.peers) (let none = counted first due is_for_builder refl in let alone = none_below item items t refl is_for_builder in omega (arith, none, alone)) g.peers;
         build = due.build agenda (build_next item items t refl agenda (counted first due is_for_builder refl));

@@ -11,7 +11,7 @@ use Rattle.law_typing.specs.Good.Standing.{standing}
 use Rattle.law_typing.specs.Good.Objects.{PeersGood}
 use Rattle.law_typing.specs.Good.Bindings.{IsBuilt, BindingsGood, DocumentGood}
 use Rattle.law_typing.specs.Good.Builds.{is_for_builder, BuildGood}
-use Rattle.law_typing.specs.Good.Freezes.{frozen_by, is_due_source, PairsGood}
+use Rattle.law_typing.specs.Good.Freezes.{frozen_by, is_due_source, ObjectsFirst}
 use Rattle.law_static.proofs.MakingsProofs.{all_are_made}
 use Rattle.law_static.proofs.PlanCostProofs.{total_append}
 use Rattle.law_kept.proofs.AttachProofs.{handlers_wait_less}
@@ -52,10 +52,10 @@ module _ {d : Definition} (t : First d (Building [])) where
     made = each_to _ _ w.bindings (λ (b : Binding) low. omega (arith, low)) g.bindings.made;
   }
 
-  pairs_good : PairsGood rest w.bindings
-  pairs_good = record {
-    before = λ some. (let old = g.pairs.before (omega (arith, some)) in (old.0, (let z = old.1 in omega (arith, z))));
-    one = (let old = g.pairs.one in omega (arith, old));
+  objects_first_good : ObjectsFirst rest w.bindings
+  objects_first_good = record {
+    before = λ some. (let old = g.objects_first.before (omega (arith, some)) in (old.0, (let z = old.1 in omega (arith, z))));
+    one = (let old = g.objects_first.one in omega (arith, old));
   }
 
   same_made : total is_for_builder (Building [] ∷ rest) ≡ total is_for_builder rest
@@ -73,7 +73,7 @@ module _ {d : Definition} (t : First d (Building [])) where
           sources = g.sources;
           held = g.held;
           floating = g.floating;
-          pairs = pairs_good;
+          objects_first = objects_first_good;
         };
         pool = subst (λ m. PeersGood d w.peers (length w.builder + m)) same_made g.peers;
         to_make = omega arith;

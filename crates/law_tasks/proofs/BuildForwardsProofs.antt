@@ -31,7 +31,7 @@ use Rattle.law_static.proofs.StartProofs.{due_within}
 use Rattle.law_kept.proofs.AttachProofs.{handlers_wait_less}
 use Rattle.law_instructions.proofs.ReadProofs.{spec_is}
 use Rattle.law_instructions.proofs.SetProofs.{held_from}
-use Rattle.law_tasks.proofs.Built.{none_below, held_object, pairs_next, queues_next, build_next, bindings_next, left_good}
+use Rattle.law_tasks.proofs.Built.{none_below, held_object, objects_first_next, queues_next, build_next, bindings_next, left_good}
 use Rattle.law_tasks.proofs.Changed.{changed_well}
 use Rattle.law_tasks.proofs.First.{First, StepIsFine, fine_where, fine_of, costs, depths}
 use Rattle.law_tasks.proofs.SettingProofs.{owns}
@@ -99,7 +99,7 @@ module _ {d : Definition} (place slot to : ℕ) (items : List Item) (t : First d
           sources = g.sources;
           held = g.held;
           floating = g.floating;
-          pairs = pairs_next (forwards place slot to) items t refl later w.bindings (none_more is_for_builder refl refl);
+          objects_first = objects_first_next (forwards place slot to) items t refl later w.bindings (none_more is_for_builder refl refl);
         };
         pool = subst (PeersGood d w.peers) (omega arith) g.peers;
         build = build_next (forwards place slot to) items t refl later (none_more is_for_builder refl refl);

@@ -177,7 +177,7 @@ module _ {d : Definition} (place : ℕ) (items : List Item) (t : First d (Buildi
     sources = g.sources;
     held = g.held;
     floating = g.floating;
-    pairs = record {
+    objects_first = record {
       before = λ some. (no_bindings, (let alone = none_below is_carrying_over in omega (arith, alone)));
       one = (let alone = none_below is_for_builder in omega (arith, alone));
     };
@@ -200,7 +200,7 @@ module _ {d : Definition} (place : ℕ) (items : List Item) (t : First d (Buildi
         sources = x.sources;
         held = x.held;
         floating = x.floating;
-        pairs = x.pairs;
+        objects_first = x.objects_first;
       }
 
   pool : PeersGood d v.peers (length v.builder + total is_for_builder agenda)
@@ -310,7 +310,7 @@ module _ {d : Definition} (place : ℕ) (items : List Item) (t : First d (Buildi
       first = (let none = g.sets.first in omega (arith, none));
       held = λ some. absurd (let none = g.sets.first in omega (arith, some, none));
     };
-    pairs = whole.pairs;
+    objects_first = whole.objects_first;
     budget = cost + total (item_cost d (costs t)) items;
     agenda = (
       cost,

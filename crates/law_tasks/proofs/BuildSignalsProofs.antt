@@ -251,7 +251,7 @@ module _ {d : Definition} (place number : ℕ) (items : List Item) (t : First d 
           sources = g.sources;
           held = g.held;
           floating = g.floating;
-          pairs = record { before = g.pairs.before; one = g.pairs.one };
+          objects_first = record { before = g.objects_first.before; one = g.objects_first.one };
         };
         pool = g.peers;
         to_make = omega arith;

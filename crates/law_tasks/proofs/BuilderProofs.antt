@@ -122,7 +122,7 @@ module _ {d : Definition} (id : ℕ) (items : List Item) (x : Above d (Construct
     sources = g.sources;
     held = held_good;
     floating = each_without (Lives (standing w.objects)) id w.floating g.floating;
-    pairs = record {
+    objects_first = record {
       before = λ some. absurd (omega (arith, some));
       one = omega arith;
     };

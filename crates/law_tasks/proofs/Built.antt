@@ -15,7 +15,7 @@ use Rattle.law_typing.specs.Good.Bindings.{is_binding, BindingsGood}
 use Rattle.law_typing.specs.Good.Builds.{is_for_builder, BuildGood, item_cost}
 use Rattle.law_typing.specs.Good.ComingDown.{none}
 use Rattle.law_typing.specs.Good.DueCosts.{unsets}
-use Rattle.law_typing.specs.Good.Freezes.{frozen_by, QueuesGood, PairsGood}
+use Rattle.law_typing.specs.Good.Freezes.{frozen_by, QueuesGood, ObjectsFirst}
 use Rattle.law_static.proofs.PlanCostProofs.{total_append}
 use Rattle.law_static.proofs.RequestProofs.{object_below}
 use Rattle.law_kept.proofs.Left.{each_to}
@@ -40,8 +40,8 @@ module _ {d : Definition} (item : Item) (items : List Item) (t : First d (Buildi
   pub thawed : (id : ℕ) (o : Object) → living w.objects id ≡ Some o → o.freezes ≡ 0
   thawed id o is = let count = (g.queues id o is).count in let alone = none_below (frozen_by d id) in omega (arith, count, alone)
 
-  pub pairs_next : (agenda : List Task) (bs : List Binding) → total is_for_builder agenda ≡ 0 → PairsGood agenda bs
-  pairs_next agenda bs made = record {
+  pub objects_first_next : (agenda : List Task) (bs : List Binding) → total is_for_builder agenda ≡ 0 → ObjectsFirst agenda bs
+  objects_first_next agenda bs made = record {
     before = λ some. absurd (omega (arith, made, some));
     one = omega (arith, made);
   }

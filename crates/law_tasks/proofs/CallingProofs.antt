@@ -173,7 +173,7 @@ module _ {d : Definition} (call : Call) (f : Frame) (tasks : List Task) (x : Abo
                 sources = g.sources;
                 held = g.held;
                 floating = g.floating;
-                pairs = g.pairs;
+                objects_first = g.objects_first;
               });
           pool = answered.pool_good d w call.peer c.p c.is reply.state shape openness _ (pool_alike (first x) (later value) (alike value));
           build = build_alike (first x) (later value) (alike value);

@@ -149,7 +149,7 @@ module _ {d : Definition} (place : ℕ) (t : First d (Handling (config.release p
               sources = g.sources;
               held = still_held (standing w.objects) w.builder place g.held;
               floating = g.floating;
-              pairs = g.pairs;
+              objects_first = g.objects_first;
             });
         pool = subst (PeersGood d w.peers) (sym made) g.peers;
         to_make = now_alike.items is_making;

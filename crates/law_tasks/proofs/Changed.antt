@@ -38,7 +38,7 @@ whole_said d costs depths agenda w lines v g = record {
   sources = g.sources;
   held = g.held;
   floating = g.floating;
-  pairs = g.pairs;
+  objects_first = g.objects_first;
 }
 
 -- where no set is due, and no source below the first task
@@ -115,7 +115,7 @@ module _ {d : Definition} {task : Task} (t : First d task) where
     held = e.whole.held;
     floating = e.whole.floating;
     sets = e.sets;
-    pairs = e.whole.pairs;
+    objects_first = e.whole.objects_first;
     budget = e.budget;
     agenda = e.good;
     queues = e.queues;

@@ -154,7 +154,7 @@ module _ {d : Definition} {task : Task} (t : First d task) where
       first = none_later is_due_set agenda e.no_set;
       held = λ some. absurd (let none = e.no_set in omega (arith, some, none));
     };
-    pairs = e.whole.pairs;
+    objects_first = e.whole.objects_first;
     budget = e.budget;
     agenda = e.good;
     queues = subst (QueuesGood d depths most agenda n) (sym e.objects) (queues_left v agenda e);
@@ -183,7 +183,7 @@ module _ {d : Definition} {task : Task} (t : First d task) where
     sources = g.sources;
     held = g.held;
     floating = g.floating;
-    pairs = g.pairs;
+    objects_first = g.objects_first;
   }
 
   -- the same where a line is said and a value told, and the agendas are alike
@@ -197,7 +197,7 @@ module _ {d : Definition} {task : Task} (t : First d task) where
         sources = g.sources;
         held = g.held;
         floating = g.floating;
-        pairs = g.pairs;
+        objects_first = g.objects_first;
       })
 
   pub pool_alike : (agenda : List Task) → Alike (task ∷ rest) agenda → PeersGood d w.peers (length w.builder + total is_for_builder agenda)

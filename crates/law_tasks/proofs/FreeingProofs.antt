@@ -10,7 +10,7 @@ use Rattle.law_typing.specs.Good.Objects.{ObjectsGood, PeersGood}
 use Rattle.law_typing.specs.Good.ComingDown.{none}
 use Rattle.law_typing.specs.Good.Builds.{is_for_builder}
 use Rattle.law_typing.specs.Good.Handlers.{ChannelGood, HandlersGood}
-use Rattle.law_typing.specs.Good.Freezes.{PairsGood, is_due_source}
+use Rattle.law_typing.specs.Good.Freezes.{ObjectsFirst, is_due_source}
 use Rattle.law_typing.specs.Graph.{Raised, graph, place_of_channel}
 use Rattle.law_typing.specs.Good.Standing.{standing}
 use Rattle.law_kept.specs.Bindings.{OneMore}
@@ -46,10 +46,10 @@ module _ {d : Definition} (number : ℕ) (t : First d (Unsetting number)) where
   one_more : OneMore number rest (Unsetting number ∷ rest)
   one_more = record { unset = λ n. refl; items = omega arith }
 
-  pairs_left : PairsGood rest (with_busy number false w.bindings)
-  pairs_left = record {
-    before = λ some. (let old = g.pairs.before (omega (arith, some)) in let none = old.1 in (none_freed number w.bindings old.0, omega (arith, none)));
-    one = (let old = g.pairs.one in omega (arith, old));
+  objects_first_left : ObjectsFirst rest (with_busy number false w.bindings)
+  objects_first_left = record {
+    before = λ some. (let old = g.objects_first.before (omega (arith, some)) in let none = old.1 in (none_freed number w.bindings old.0, omega (arith, none)));
+    one = (let old = g.objects_first.one in omega (arith, old));
   }
 
   channel_left : (id : ℕ) (r : Raised) → ChannelGood d (costs t) (depths t) (Unsetting number ∷ rest) id w.handlers r → ChannelGood d (costs t) (depths t) rest id w.handlers r
@@ -88,7 +88,7 @@ module _ {d : Definition} (number : ℕ) (t : First d (Unsetting number)) where
           sources = g.sources;
           held = g.held;
           floating = g.floating;
-          pairs = pairs_left;
+          objects_first = objects_first_left;
         };
         pool = subst (λ made. PeersGood d w.peers (length w.builder + made)) fewer g.peers;
         to_make = omega arith;

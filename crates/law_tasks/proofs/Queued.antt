@@ -15,7 +15,7 @@ use Rattle.law_typing.specs.Good.DueCosts.{unsets, has_end, is_setting_below, ov
 use Rattle.law_typing.specs.Rules.Brackets.{has_pair}
 use Rattle.law_typing.specs.Good.Agenda.{frames}
 use Rattle.law_typing.specs.Good.Builds.{is_for_builder}
-use Rattle.law_typing.specs.Good.Freezes.{frozen_by, below_lowest, is_carrying_over, PairsGood}
+use Rattle.law_typing.specs.Good.Freezes.{frozen_by, below_lowest, is_carrying_over, ObjectsFirst}
 use Rattle.law_typing.proofs.Lists.{both_parts, same_channel_true}
 use Rattle.law_static.proofs.PairCostProofs.{is_set_at}
 use Rattle.law_kept.proofs.WriteProofs.{pair_has}
@@ -121,7 +121,7 @@ end_at place slot x e = go (same_channel (source_of x) (property place slot)) re
     go false t f = inr (same_place place x.target slot x.target_slot f)
 
 -- while the builder makes an object no pair is setting
-pub making_sets_none : (d : Definition) (costs : Tables) (task : Task) (rest : List Task) (bs : List Binding) (place slot : ℕ) → PairsGood (task ∷ rest) bs →
+pub making_sets_none : (d : Definition) (costs : Tables) (task : Task) (rest : List Task) (bs : List Binding) (place slot : ℕ) → ObjectsFirst (task ∷ rest) bs →
     0 < total is_for_builder (task ∷ rest) → is_setting_below d rest (property place slot) ≡ false
 making_sets_none d costs task rest bs place slot g making =
     none_setting d costs rest (property place slot)

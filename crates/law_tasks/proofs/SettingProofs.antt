@@ -248,7 +248,7 @@ module _ {d : Definition} (id slot : ℕ) (v : Value) (t : First d (Setting id s
               omega (arith, own, due)
           go false e =
               let some = eqb-false (making t) 0 e in
-              let none_sets = making_sets_none d (costs t) task rest w.bindings place slot g.pairs (omega (arith, some)) in
+              let none_sets = making_sets_none d (costs t) task rest w.bindings place slot g.objects_first (omega (arith, some)) in
               let same = node_is_due d (costs t) rest (property place slot) none_sets in
               let within = queued_within d (costs t) (making t) place slot in
               let due = g.agenda.3.1.due.cheap in
@@ -279,7 +279,7 @@ module _ {d : Definition} (id slot : ℕ) (v : Value) (t : First d (Setting id s
             where
               none_making : (m : ℕ) → making t ≡ m → is_setting_below d rest (property place slot) ≡ true → total is_for_builder rest ≡ 0
               none_making zero e sets = omega (arith, e)
-              none_making (suc m) e sets = absurd (let none = making_sets_none d (costs t) task rest w.bindings place slot g.pairs (omega (arith, e)) in cc)
+              none_making (suc m) e sets = absurd (let none = making_sets_none d (costs t) task rest w.bindings place slot g.objects_first (omega (arith, e)) in cc)
 
       queue2 : QueueGood d (depths t) (most t) rest n id o2
       queue2 =

@@ -33,7 +33,7 @@ sunk_good d costs depths most_counted most w n floating g lives = record {
   held = g.held;
   floating = lives;
   sets = record { alone = refl; first = refl; held = λ some. absurd (omega (arith, some)) };
-  pairs = g.pairs;
+  objects_first = g.objects_first;
   budget = g.budget;
   agenda = g.agenda;
   queues = g.queues;

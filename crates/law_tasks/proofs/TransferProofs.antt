@@ -20,7 +20,7 @@ use Rattle.law_typing.specs.Good.Standing.{Standing, standing, view}
 use Rattle.law_typing.specs.Good.Objects.{PeersGood}
 use Rattle.law_typing.specs.Good.Builds.{is_for_builder}
 use Rattle.law_typing.specs.Good.DueCosts.{unsets, transfer_cost, turn_cost, turn_depth}
-use Rattle.law_typing.specs.Good.Freezes.{PairsGood}
+use Rattle.law_typing.specs.Good.Freezes.{ObjectsFirst}
 use Rattle.law_kept.proofs.AlikeProofs.{build_stays}
 use Rattle.law_tasks.proofs.First.{First, good_of, fine_where, StepIsFine, fine_of, costs, depths}
 use Rattle.law_tasks.proofs.Lowest.{lowest_above}
@@ -70,10 +70,10 @@ module _ {d : Definition} (e : Emission) (number : ℕ) (back : Bool) (turns : L
   made_same = omega arith
 
   module _ (b : Binding) (is : binding_of number w.bindings ≡ Some b) (still : b.busy ≡ false) where
-    pairs_later : PairsGood later w.bindings
-    pairs_later = record {
-      before = λ some. absurd (let none = (g.pairs.before (omega (arith, some))).0 in let found = sym is ∙ ap (binding_of number) none in cc);
-      one = (let old = g.pairs.one in omega (arith, old));
+    objects_first_later : ObjectsFirst later w.bindings
+    objects_first_later = record {
+      before = λ some. absurd (let none = (g.objects_first.before (omega (arith, some))).0 in let found = sym is ∙ ap (binding_of number) none in cc);
+      one = (let old = g.objects_first.one in omega (arith, old));
     }
 
     -- what sets is to be set free
@@ -105,7 +105,7 @@ module _ {d : Definition} (e : Emission) (number : ℕ) (back : Bool) (turns : L
             sources = g.sources;
             held = g.held;
             floating = g.floating;
-            pairs = pairs_later;
+            objects_first = objects_first_later;
           };
           pool = subst (λ made. PeersGood d w.peers (length w.builder + made)) (sym made_same) g.peers;
           to_make = omega arith;

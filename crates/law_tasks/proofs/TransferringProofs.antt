@@ -28,7 +28,7 @@ use Rattle.law_typing.specs.Good.ComingDown.{none}
 use Rattle.law_typing.specs.Good.Bindings.{BindingGood}
 use Rattle.law_typing.specs.Good.Builds.{is_for_builder}
 use Rattle.law_typing.specs.Good.DueCosts.{unsets, has_end, due_cost, due_depth, transfer_cost, transfer_depth}
-use Rattle.law_typing.specs.Good.Freezes.{PairsGood}
+use Rattle.law_typing.specs.Good.Freezes.{ObjectsFirst}
 use Rattle.law_typing.proofs.Lists.{both_parts, each_in}
 use Rattle.law_typing.proofs.PairProofs.{no_words}
 use Rattle.law_static.proofs.SubclassProofs.{get_in}
@@ -173,10 +173,10 @@ module _ {d : Definition} (number : ℕ) (back : Bool) (t : First d (Transferrin
   as_rest : AsFrozen d (task ∷ rest) rest
   as_rest = record { frozen = λ id. omega arith; lowest = λ id some. lowest_falls d id task rest }
 
-  pairs_rest : PairsGood rest w.bindings
-  pairs_rest = record {
-    before = λ some. (let old = g.pairs.before (omega (arith, some)) in let none = old.1 in (old.0, omega (arith, none)));
-    one = (let old = g.pairs.one in omega (arith, old));
+  objects_first_rest : ObjectsFirst rest w.bindings
+  objects_first_rest = record {
+    before = λ some. (let old = g.objects_first.before (omega (arith, some)) in let none = old.1 in (old.0, omega (arith, none)));
+    one = (let old = g.objects_first.one in omega (arith, old));
   }
 
   idle_good : IsGood d a t.most_counted (record { world = w; agenda = rest; counted = suc n })
@@ -190,7 +190,7 @@ module _ {d : Definition} (number : ℕ) (back : Bool) (t : First d (Transferrin
           sources = g.sources;
           held = g.held;
           floating = g.floating;
-          pairs = pairs_rest;
+          objects_first = objects_first_rest;
         };
         pool = subst (λ made. PeersGood d w.peers (length w.builder + made)) (sym made_rest) g.peers;
         build = build_stays d w.builder (task ∷ rest) rest rest made_rest g.build;
@@ -236,10 +236,10 @@ module _ {d : Definition} (number : ℕ) (back : Bool) (t : First d (Transferrin
           omega (arith, first, second, was));
     }
 
-    pairs_later : PairsGood later (with_busy number true w.bindings)
-    pairs_later = record {
-      before = λ some. absurd (let none = (g.pairs.before (omega (arith, some))).0 in let f = sym found ∙ ap (binding_of number) none in cc);
-      one = (let old = g.pairs.one in omega (arith, old));
+    objects_first_later : ObjectsFirst later (with_busy number true w.bindings)
+    objects_first_later = record {
+      before = λ some. absurd (let none = (g.objects_first.before (omega (arith, some))).0 in let f = sym found ∙ ap (binding_of number) none in cc);
+      one = (let old = g.objects_first.one in omega (arith, old));
     }
 
     bind_is : slice_get d.bindings number ≡ Some good.bind
@@ -271,7 +271,7 @@ module _ {d : Definition} (number : ℕ) (back : Bool) (t : First d (Transferrin
             sources = g.sources;
             held = g.held;
             floating = g.floating;
-            pairs = pairs_later;
+            objects_first = objects_first_later;
           };
           pool = subst (λ made. PeersGood d w.peers (length w.builder + made)) (sym made_later) g.peers;
           build = build_stays d w.builder (task ∷ rest) later rest made_later g.build;

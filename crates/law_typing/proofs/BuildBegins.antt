@@ -77,7 +77,7 @@ begins d costs depths most_counted most peers pool r =
       held = λ place id e. nothing_held place id e;
       floating = tt;
       sets = record { alone = refl; first = refl; held = λ h. absurd (omega (arith, h)) };
-      pairs = record { before = λ h. absurd (omega (arith, h)); one = omega arith };
+      objects_first = record { before = λ h. absurd (omega (arith, h)); one = omega arith };
       budget = total (item_cost d costs) (build_items d);
       agenda = (
         total (item_cost d costs) (build_items d),

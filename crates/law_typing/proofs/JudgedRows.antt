@@ -17,6 +17,9 @@ use Rattle.law_typing.specs.Examples.Chain as chain_case
 use Rattle.law_typing.specs.Examples.AllParts as knobs_case
 use Rattle.law_typing.specs.Examples.RepeatedBlock as repeatedblock_case
 use Rattle.law_typing.specs.Examples.MostPasses as mostpasses_case
+use Rattle.law_typing.specs.Examples.FrozenPair as frozenpair_case
+use Rattle.law_typing.specs.Examples.FrozenTarget as frozentarget_case
+use Rattle.law_typing.specs.Examples.FrozenTwins as frozentwins_case
 
 pub firstrun_holds : firstrun_case.Holds
 unfolding digits data_in passing two_numbers two_passing moving reckoning comparing sameness negating combining joining converting property_of get_property changing_none set_property place_for look_up_object adopting arguments emitting program_named connecting on_handlers attaching methods_for method_named calling entering branching branching_null returning
@@ -77,3 +80,15 @@ repeatedblock_holds = refl
 pub mostpasses_holds : mostpasses_case.Holds
 unfolding digits data_in passing two_numbers two_passing moving reckoning comparing sameness negating combining joining converting property_of get_property changing_none set_property place_for look_up_object adopting arguments emitting program_named connecting on_handlers attaching methods_for method_named calling entering branching branching_null returning
 mostpasses_holds = refl
+
+pub frozenpair_holds : frozenpair_case.Holds
+unfolding digits data_in passing two_numbers two_passing moving reckoning comparing sameness negating combining joining converting property_of get_property changing_none set_property place_for look_up_object adopting arguments emitting program_named connecting on_handlers attaching methods_for method_named calling entering branching branching_null returning
+frozenpair_holds = refl
+
+pub frozentarget_holds : frozentarget_case.Holds
+unfolding digits data_in passing two_numbers two_passing moving reckoning comparing sameness negating combining joining converting property_of get_property changing_none set_property place_for look_up_object adopting arguments emitting program_named connecting on_handlers attaching methods_for method_named calling entering branching branching_null returning
+frozentarget_holds = refl
+
+pub frozentwins_holds : frozentwins_case.Holds
+unfolding digits data_in passing two_numbers two_passing moving reckoning comparing sameness negating combining joining converting property_of get_property changing_none set_property place_for look_up_object adopting arguments emitting program_named connecting on_handlers attaching methods_for method_named calling entering branching branching_null returning
+frozentwins_holds = refl

@@ -93,7 +93,7 @@ first_run_good = record {
   held = first_run_held;
   floating = tt;
   sets = record { alone = refl; first = refl; held = λ h. absurd (omega (arith, h)) };
-  pairs = record { before = λ h. absurd (omega (arith, h)); one = omega arith };
+  objects_first = record { before = λ h. absurd (omega (arith, h)); one = omega arith };
   budget = 1;
   agenda = (1, 1, 0, (tt, record { due = record { place = 0; is = refl; spec = _; has = refl; cheap = leb-true _ 1 refl; shallow = leb-true _ 1 refl }; readable = refl }), leb-true 1 1 refl, leb-true 1 1 refl, tt);
   queues = λ id x e. (let o = first_run_only id x e in
@@ -156,7 +156,7 @@ freezes_good = record {
   held = freezes_held;
   floating = tt;
   sets = record { alone = refl; first = refl; held = λ h. absurd (omega (arith, h)) };
-  pairs = record { before = λ h. absurd (omega (arith, h)); one = omega arith };
+  objects_first = record { before = λ h. absurd (omega (arith, h)); one = omega arith };
   budget = 8;
   agenda = (
     8,

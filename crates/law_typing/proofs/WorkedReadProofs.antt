@@ -20,4 +20,7 @@ worked_read = record {
   knobs = well_read _ refl;
   repeated_block = well_read _ refl;
   most_passes = well_read _ refl;
+  frozen_pair = well_read _ refl;
+  frozen_target = well_read _ refl;
+  frozen_twins = well_read _ refl;
 }

@@ -13,6 +13,10 @@ pub mod SetConstructOnly
 pub mod UnfitHandler
 pub mod UnfitBinding
 pub mod SecondPair
+pub mod FrozenPair
+pub mod FrozenTarget
+pub mod FrozenTwins
+pub mod FrozenCycle
 pub mod OpenFreeze
 pub mod LabelCycle
 pub mod TooLarge

@@ -28,7 +28,7 @@ use Rattle.law_typing.specs.Good.Bindings.{BindingsGood, SourceGood, HeldGood, D
 use Rattle.law_typing.specs.Good.ComingDown.{none}
 use Rattle.law_typing.specs.Good.Builds.{is_for_builder, BuildGood}
 use Rattle.law_typing.specs.Good.Agenda.{AgendaGood}
-use Rattle.law_typing.specs.Good.Freezes.{QueuesGood, carried, PairsGood, SetsGood}
+use Rattle.law_typing.specs.Good.Freezes.{QueuesGood, carried, ObjectsFirst, SetsGood}
 
 -- at most `most_counted` steps in this dispatch, and `most` frames
 pub record Good (d : Definition) (costs depths : Tables) (most_counted most : ℕ) (c : Config) : Type 0 where
@@ -48,7 +48,7 @@ pub record Good (d : Definition) (costs depths : Tables) (most_counted most : �
   -- a set is due only as the first task
   pub sets : SetsGood d c
   -- while the builder makes an object there is no binding
-  pub pairs : PairsGood c.agenda c.world.bindings
+  pub objects_first : ObjectsFirst c.agenda c.world.bindings
   -- the agenda, and the steps that it may still take
   pub budget : ℕ
   pub agenda : AgendaGood d costs depths (view c.world) most none c.agenda budget

@@ -33,6 +33,10 @@ ghost use Rattle.law_typing.specs.Examples.SetConstructOnly as set_construct_onl
 ghost use Rattle.law_typing.specs.Examples.UnfitHandler as unfit_handler_case;
 ghost use Rattle.law_typing.specs.Examples.UnfitBinding as unfit_binding_case;
 ghost use Rattle.law_typing.specs.Examples.SecondPair as second_pair_case;
+ghost use Rattle.law_typing.specs.Examples.FrozenPair as frozen_pair_case;
+ghost use Rattle.law_typing.specs.Examples.FrozenTarget as frozen_target_case;
+ghost use Rattle.law_typing.specs.Examples.FrozenTwins as frozen_twins_case;
+ghost use Rattle.law_typing.specs.Examples.FrozenCycle as frozen_cycle_case;
 ghost use Rattle.law_typing.specs.Examples.OpenFreeze as open_freeze_case;
 ghost use Rattle.law_typing.specs.Examples.LabelCycle as label_cycle_case;
 ghost use Rattle.law_typing.specs.Examples.TooLarge as too_large_case;
@@ -54,6 +58,9 @@ pub fn reports()
     ensures knobs { knobs_case.Holds }
     ensures repeated_block { repeated_block_case.Holds }
     ensures most_passes { most_passes_case.Holds }
+    ensures frozen_pair { frozen_pair_case.Holds }
+    ensures frozen_target { frozen_target_case.Holds }
+    ensures frozen_twins { frozen_twins_case.Holds }
 {}
 
 /// Definitions that are refused, one for each word of refusal.
@@ -65,6 +72,7 @@ pub fn refusals()
     ensures second_pair { second_pair_case.Holds }
     ensures open_freeze { open_freeze_case.Holds }
     ensures label_cycle { label_cycle_case.Holds }
+    ensures frozen_cycle { frozen_cycle_case.Holds }
     ensures too_large { too_large_case.Holds }
 {}
 

@@ -68,7 +68,7 @@ is_carrying_over (Transferring number back) = 1
 is_carrying_over (Unsetting number) = 1
 is_carrying_over task = 0
 
-pub record PairsGood (agenda : List Task) (bs : List Binding) : Type 0 where
+pub record ObjectsFirst (agenda : List Task) (bs : List Binding) : Type 0 where
   -- while the builder makes an object there is no binding, and no transfer is under way
   pub before : 0 < total is_for_builder agenda → (bs ≡ []) × (total is_carrying_over agenda ≡ 0)
   -- it makes one at a time

@@ -14,6 +14,9 @@ use Rattle.law_typing.specs.Examples.Chain as chain
 use Rattle.law_typing.specs.Examples.AllParts as knobs
 use Rattle.law_typing.specs.Examples.RepeatedBlock as repeated_block
 use Rattle.law_typing.specs.Examples.MostPasses as most_passes
+use Rattle.law_typing.specs.Examples.FrozenPair as frozen_pair
+use Rattle.law_typing.specs.Examples.FrozenTarget as frozen_target
+use Rattle.law_typing.specs.Examples.FrozenTwins as frozen_twins
 use Rattle.law_typing.specs.Laws.WellRead.{WellRead}
 
 pub record WorkedRead : Type 0 where
@@ -32,3 +35,6 @@ pub record WorkedRead : Type 0 where
   pub knobs : WellRead knobs.definition
   pub repeated_block : WellRead repeated_block.definition
   pub most_passes : WellRead most_passes.definition
+  pub frozen_pair : WellRead frozen_pair.definition
+  pub frozen_target : WellRead frozen_target.definition
+  pub frozen_twins : WellRead frozen_twins.definition
