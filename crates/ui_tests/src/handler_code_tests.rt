@@ -188,7 +188,7 @@ fn block_of(alloc: Global, instruction: Instruction) -> Result<Block, Fail> {
     code.push(instruction)?;
     Ok(Block {
         entry: Vec::new(alloc),
-        passes: 1,
+        repeat: None,
         code,
     })
 }
@@ -237,7 +237,7 @@ fn takes_the_instructions_of_its_blocks(seen: &mut Seen) -> Result<(), Fail> {
     let alloc = seen.alloc();
     let mut first = block_of(alloc, Instruction::Stop)?;
     first.code.push(Instruction::Jump(BlockNumber(1)))?;
-    first.passes = 2;
+    first.repeat = Some(2);
     let second = block_of(alloc, Instruction::Return(None))?;
     let program = program_of_blocks(alloc, 2, first, second)?;
     let mut frame = Frame::new(alloc, 0, &program, Vec::new(alloc))?;

@@ -50,7 +50,7 @@ fn joined(alloc: Global, lines: &[String]) -> Result<String, Fail> {
 }
 
 // The number that a reply tells, with its dispatches and steps.
-fn seen(reply: &Reply) -> (Option<i32>, u32, u64) {
+fn told(reply: &Reply) -> (Option<i32>, u32, u64) {
     let number = match reply.result {
         Some(Value::Int(number)) => Some(number),
         _ => None,
@@ -61,14 +61,14 @@ fn seen(reply: &Reply) -> (Option<i32>, u32, u64) {
 fn replies(seen: &mut Seen) -> Result<(), Fail> {
     let alloc = seen.alloc();
     let (mut session, build) = box_session(alloc)?;
-    seen.same(seen(&build), (None, 1, 0))?;
+    seen.same(told(&build), (None, 1, 0))?;
     for (line, want) in [
         (r#"{"set":["b","n",-7]}"#, (None, 1, 1)),
         (r#"{"get":["b","n"]}"#, (Some(-7), 1, 0)),
         (r#"{"set":["b","n",5]}"#, (None, 1, 1)),
     ] {
         let reply = tell(alloc, &mut session, BOX, line)??;
-        seen.same(seen(&reply), want)?;
+        seen.same(told(&reply), want)?;
     }
     Ok(())
 }
