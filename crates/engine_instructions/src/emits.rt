@@ -18,7 +18,7 @@ use bytecode::Register;
 use definitions::Definition;
 use engine_world::arguments::detail_in;
 use engine_world::engine::Engine;
-use engine_world::frames::push_frame;
+use engine_world::program_frames::push_frame;
 use engine_world::references::push_task;
 use engine_world::task::{NewEmission, Task};
 use frames::{Frame, values_at};

@@ -26,7 +26,7 @@ use crate::objects::{
     adopt_from_program, freeze_notify, look_up_object, orphan, run_dispose, sink, thaw_notify,
 };
 use crate::properties::{get_property, notify_from_program, set_property};
-use crate::registers::execute_computation;
+use crate::registers::compute_register;
 use crate::returns::return_from_program;
 use crate::stops::stop_from_program;
 use bytecode::{Instruction, Program};
@@ -85,7 +85,7 @@ fn execute_on_registers(
 {
     match instruction {
         Instruction::Compute { to, computation } => {
-            execute_computation(engine, definition, frame, *to, computation)
+            compute_register(engine, definition, frame, *to, computation)
         }
         Instruction::Jump(to) => jump(engine, definition, program, frame, *to),
         Instruction::Branch {

@@ -19,7 +19,7 @@ ghost use Rattle.engine_instructions.specs.JumpView.{is_null};
 use bytecode::{BlockNumber, Program, Register};
 use definitions::Definition;
 use engine_world::engine::Engine;
-use engine_world::frames::push_frame;
+use engine_world::program_frames::push_frame;
 use frames::{Frame, truth_at, value_at};
 use g_values::Value;
 use ui_machine::{Arm, Halt};

@@ -21,7 +21,7 @@ use crate::operands::{object_in, program_named};
 use bytecode::Register;
 use definitions::Definition;
 use engine_world::engine::Engine;
-use engine_world::frames::push_frame;
+use engine_world::program_frames::push_frame;
 use frames::Frame;
 use ui_machine::{Halt, ObjectId, ProgramId};
 

@@ -22,7 +22,7 @@ use crate::registers::write_register;
 use bytecode::Register;
 use definitions::Definition;
 use engine_world::engine::Engine;
-use engine_world::frames::push_frame;
+use engine_world::program_frames::push_frame;
 use engine_world::properties::spec_of;
 use engine_world::references::push_task;
 use engine_world::task::Task;

@@ -19,7 +19,7 @@ use bytecode::{Computation, Computed, Register};
 use definitions::Definition;
 use engine_world::children::say_limit;
 use engine_world::engine::Engine;
-use engine_world::frames::{push_frame, put};
+use engine_world::program_frames::{push_frame, put};
 use frames::{Frame, compute};
 use g_values::Value;
 use ui_machine::Halt;
@@ -71,7 +71,7 @@ pub(crate) fn write_null_and_say_limit(
 }
 
 /// A register is written with what comes of others.
-pub(crate) fn execute_computation(
+pub(crate) fn compute_register(
     engine: &mut Engine,
     definition: &Definition,
     frame: Frame,

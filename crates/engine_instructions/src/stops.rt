@@ -16,7 +16,7 @@ ghost use Rattle.engine_world.specs.View.{world_of};
 
 use definitions::Definition;
 use engine_world::engine::Engine;
-use engine_world::frames::push_frame;
+use engine_world::program_frames::push_frame;
 use engine_world::task::Task;
 use frames::Frame;
 use std::alloc::AllocError;

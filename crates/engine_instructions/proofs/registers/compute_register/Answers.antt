@@ -7,7 +7,7 @@ use Rattle.frames.specs.FrameView.{frame_view}
 use Rattle.engine_world.specs.TaskView.{agenda_of}
 use Rattle.engine_world.specs.View.{world_of}
 use Rattle.engine_instructions.proofs.Programs.{left_stops}
-use Rattle.engine_instructions.proofs.registers.execute_computation.Goals as goal
+use Rattle.engine_instructions.proofs.registers.compute_register.Goals as goal
 
 pub returns-in_err-computed-clause-step : goal.returns-in_err-computed-clause-step
 returns-in_err-computed-clause-step c =

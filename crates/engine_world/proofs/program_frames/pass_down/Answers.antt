@@ -9,7 +9,7 @@ use Rattle.frames.specs.FrameView.{frame_view}
 use Rattle.engine_world.specs.TaskView.{agenda_of, task_of, tasks_of}
 use Rattle.engine_world.specs.declared.task.Task as code
 use Rattle.engine_world.proofs.Registers.{on_ok, passes_by, popped_frame, stack_same}
-use Rattle.engine_world.proofs.frames.pass_down.Goals as goal
+use Rattle.engine_world.proofs.program_frames.pass_down.Goals as goal
 
 pub returns-in_default-clause-agenda : goal.returns-in_default-clause-agenda
 returns-in_default-clause-agenda c =

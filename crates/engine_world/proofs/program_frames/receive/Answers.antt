@@ -6,7 +6,7 @@ use Rattle.frames.specs.FrameView.{frame_view}
 use Rattle.engine_world.specs.Counting.{in_frame}
 use Rattle.engine_world.specs.TaskView.{agenda_of}
 use Rattle.engine_world.proofs.Registers.{receives, receive_stops, register_moved}
-use Rattle.engine_world.proofs.frames.receive.Goals as goal
+use Rattle.engine_world.proofs.program_frames.receive.Goals as goal
 
 pub returns-in_err-put-clause-agenda : goal.returns-in_err-put-clause-agenda
 returns-in_err-put-clause-agenda c d =

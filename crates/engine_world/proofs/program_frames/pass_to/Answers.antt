@@ -8,7 +8,7 @@ use Rattle.frames.specs.FrameView.{frame_view}
 use Rattle.bytecode.specs.View.{number_of}
 use Rattle.bytecode.specs.declared.computations.Register.{Register}
 use Rattle.engine_world.specs.TaskView.{agenda_of}
-use Rattle.engine_world.proofs.frames.pass_to.Goals as goal
+use Rattle.engine_world.proofs.program_frames.pass_to.Goals as goal
 
 pub returns-in_default-clause-agenda : goal.returns-in_default-clause-agenda
 returns-in_default-clause-agenda c d =

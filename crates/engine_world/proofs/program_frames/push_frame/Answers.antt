@@ -1,6 +1,6 @@
 use Rattle.frames.specs.FrameView.{frame_view}
 use Rattle.engine_world.proofs.Registers.{pushed_frame}
-use Rattle.engine_world.proofs.frames.push_frame.Goals as goal
+use Rattle.engine_world.proofs.program_frames.push_frame.Goals as goal
 
 pub returns-clause-agenda : goal.returns-clause-agenda
 returns-clause-agenda c d = c.in_ok-push.ensures.tasks d c.args.engine.now.world.handlers.handlers

@@ -7,7 +7,7 @@ use Rattle.frames.specs.FrameView.{frame_view}
 use Rattle.engine_world.proofs.Counts.{both_only}
 use Rattle.engine_world.proofs.Registers.{total_written, written_is}
 use Rattle.engine_world.proofs.Lists.{read-within}
-use Rattle.engine_world.proofs.frames.put.Goals as goal
+use Rattle.engine_world.proofs.program_frames.put.Goals as goal
 
 pub let_go_any-requires : goal.let_go_any-requires
 let_go_any-requires c = record {
