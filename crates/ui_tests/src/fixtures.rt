@@ -130,3 +130,34 @@ pub fn times(alloc: Global, text: &str, count: usize) -> Result<String, Fail> {
     }
     Ok(out)
 }
+
+/// What a row of a table gives, and what is wanted of it.
+pub fn row<'a>(line: &'a str) -> Result<(&'a str, &'a str), Fail> {
+    match line.split_once(" = ") {
+        Some(row) => Ok(row),
+        None => Err(Fail::from("a row has an answer")),
+    }
+}
+
+/// The number in a row of a table.
+pub fn number_in(word: &str) -> Result<i128, Fail> {
+    match i128::from_str_radix(word, 10) {
+        Ok(number) => Ok(number),
+        Err(_) => Err(Fail::from("a row has a number that is none")),
+    }
+}
+
+/// The kind that a row of a table names. `mode` and `marks` are those of the tree of members.
+pub fn kind_named(word: &str) -> Kind {
+    match word {
+        "bool" => Kind::Bool,
+        "int" => Kind::Int,
+        "uint" => Kind::UInt,
+        "int64" => Kind::Int64,
+        "uint64" => Kind::UInt64,
+        "mode" => mode_kind(),
+        "marks" => marks_kind(),
+        "object" => Kind::Object(TypeId::new(0)),
+        _ => Kind::Text,
+    }
+}

@@ -1,7 +1,9 @@
 //! Values of each kind: arithmetic, transformations, and values read from JSON.
 
 use crate::seen::Seen;
-use crate::fixtures::{marks_kind, mode_kind, number_of, times, tree_of_members, value_of};
+use crate::fixtures::{
+    kind_named, marks_kind, mode_kind, number_in, number_of, row, times, tree_of_members, value_of,
+};
 use g_values::{
     JsonError, Kind, MOST_TEXT_BYTES, TransformError, TransformFault, Value, from_json, has_number,
     is_at_most, is_equal, is_known, is_less, is_same, kind_of, known_bits, transform,
@@ -25,46 +27,31 @@ fn results(left: &Value, right: &Value) -> [Option<i128>; 3] {
     ]
 }
 
+const RESULTS: &str = r#"
+int 2147483647 1 = [Some(-2147483648), Some(2147483646), Some(2147483647)]
+int -2147483648 -1 = [Some(2147483647), Some(-2147483647), Some(-2147483648)]
+int 65536 65536 = [Some(131072), Some(0), Some(0)]
+uint 4294967295 2 = [Some(1), Some(4294967293), Some(4294967294)]
+uint 0 1 = [Some(1), Some(4294967295), Some(0)]
+int64 9223372036854775807 2 = [Some(-9223372036854775807), Some(9223372036854775805), Some(-2)]
+int64 -9223372036854775808 -1 = [Some(9223372036854775807), Some(-9223372036854775807), Some(-9223372036854775808)]
+uint64 18446744073709551615 18446744073709551615 = [Some(18446744073709551614), Some(0), Some(1)]
+uint64 0 1 = [Some(1), Some(18446744073709551615), Some(0)]
+"#;
+
+// The sum, the difference and the product of the numbers of a row.
+fn results_of(alloc: Global, given: &str) -> Result<String, Fail> {
+    let (kind, numbers) = given.split_once(" ").ok_or("a row has a kind")?;
+    let (left, right) = numbers.split_once(" ").ok_or("a row has two numbers")?;
+    let left = value_of(kind_named(kind), number_in(left)?);
+    let right = value_of(kind_named(kind), number_in(right)?);
+    Ok(format!(in alloc; "{:?}", results(&left, &right))?)
+}
+
 fn wraps_results(seen: &mut Seen) -> Result<(), Fail> {
-    for (kind, (m, n), (sum, difference, product)) in [
-        (
-            Kind::Int,
-            (2147483647, 1),
-            (-2147483648, 2147483646, 2147483647),
-        ),
-        (
-            Kind::Int,
-            (-2147483648, -1),
-            (2147483647, -2147483647, -2147483648),
-        ),
-        (Kind::Int, (65536, 65536), (131072, 0, 0)),
-        (Kind::UInt, (4294967295, 2), (1, 4294967293, 4294967294)),
-        (Kind::UInt, (0, 1), (1, 4294967295, 0)),
-        (
-            Kind::Int64,
-            (9223372036854775807, 2),
-            (-9223372036854775807, 9223372036854775805, -2),
-        ),
-        (
-            Kind::Int64,
-            (-9223372036854775808, -1),
-            (
-                9223372036854775807,
-                -9223372036854775807,
-                -9223372036854775808,
-            ),
-        ),
-        (
-            Kind::UInt64,
-            (18446744073709551615, 18446744073709551615),
-            (18446744073709551614, 0, 1),
-        ),
-        (Kind::UInt64, (0, 1), (1, 18446744073709551615, 0)),
-    ] {
-        let same = kind;
-        let (left, right) = (value_of(kind, m), value_of(same, n));
-        let want = [Some(sum), Some(difference), Some(product)];
-        seen.same(results(&left, &right), want)?;
+    for line in RESULTS.trim().lines() {
+        let (given, want) = row(line)?;
+        seen.same(results_of(seen.alloc(), given)?.as_str(), want)?;
     }
     Ok(())
 }
@@ -188,98 +175,59 @@ fn told(
     }
 }
 
-fn transforms_numbers(seen: &mut Seen) -> Result<(), Fail> {
+const TRANSFORMS: &str = r#"
+int -2147483648 uint = UInt(2147483648)
+int -2147483648 int64 = Int64(-2147483648)
+int -2147483648 uint64 = UInt64(18446744071562067968)
+int -1 uint = UInt(4294967295)
+int -1 uint64 = UInt64(18446744073709551615)
+uint 2147483648 int = Int(-2147483648)
+uint 2147483648 int64 = Int64(2147483648)
+uint 4294967295 int = Int(-1)
+bool 1 int64 = Int64(1)
+mode 1 uint64 = UInt64(1)
+marks 4294967295 int = Int(-1)
+int64 -9223372036854775808 int = Int(0)
+int64 -9223372036854775808 uint64 = UInt64(9223372036854775808)
+int64 4294967296 uint = UInt(0)
+int64 4294967296 bool = Bool(true)
+uint64 9223372036854775808 int64 = Int64(-9223372036854775808)
+uint64 18446744073709551615 int64 = Int64(-1)
+uint64 18446744073709551615 uint = UInt(4294967295)
+int 1 mode = Enum(TypeId { number: 2 }, 1)
+int 5 mode = NotAMember
+int64 4294967297 mode = NotAMember
+uint 3 marks = Flags(TypeId { number: 3 }, 3)
+uint 4 marks = NotAMember
+int -1 marks = NotAMember
+int64 4294967297 marks = NotAMember
+uint64 9223372036854775809 marks = NotAMember
+text 0 int = NoTransform
+bool 0 text = FALSE
+bool 1 text = TRUE
+int -2147483648 text = -2147483648
+uint 4294967295 text = 4294967295
+int64 -9223372036854775808 text = -9223372036854775808
+uint64 18446744073709551615 text = 18446744073709551615
+"#;
+
+// What a number of a kind becomes in another kind.
+fn transform_of(alloc: Global, tree: &TypeTree, given: &str) -> Result<String, Fail> {
+    let (from, rest) = given.split_once(" ").ok_or("a row has a kind")?;
+    let (number, to) = rest.split_once(" ").ok_or("a row has a number and a kind")?;
+    told(alloc, tree, kind_named(from), number_in(number)?, kind_named(to))
+}
+
+fn transforms_values(seen: &mut Seen) -> Result<(), Fail> {
     let alloc = seen.alloc();
     let tree = tree_of_members(alloc)?;
-    for (from, number, to, want) in [
-        (Kind::Int, -2147483648, Kind::UInt, "UInt(2147483648)"),
-        (Kind::Int, -2147483648, Kind::Int64, "Int64(-2147483648)"),
-        (
-            Kind::Int,
-            -2147483648,
-            Kind::UInt64,
-            "UInt64(18446744071562067968)",
-        ),
-        (Kind::Int, -1, Kind::UInt, "UInt(4294967295)"),
-        (Kind::Int, -1, Kind::UInt64, "UInt64(18446744073709551615)"),
-        (Kind::UInt, 2147483648, Kind::Int, "Int(-2147483648)"),
-        (Kind::UInt, 2147483648, Kind::Int64, "Int64(2147483648)"),
-        (Kind::UInt, 4294967295, Kind::Int, "Int(-1)"),
-        (Kind::Bool, 1, Kind::Int64, "Int64(1)"),
-        (mode_kind(), 1, Kind::UInt64, "UInt64(1)"),
-        (marks_kind(), 4294967295, Kind::Int, "Int(-1)"),
-        (Kind::Int64, -9223372036854775808, Kind::Int, "Int(0)"),
-        (
-            Kind::Int64,
-            -9223372036854775808,
-            Kind::UInt64,
-            "UInt64(9223372036854775808)",
-        ),
-        (Kind::Int64, 4294967296, Kind::UInt, "UInt(0)"),
-        (Kind::Int64, 4294967296, Kind::Bool, "Bool(true)"),
-        (
-            Kind::UInt64,
-            9223372036854775808,
-            Kind::Int64,
-            "Int64(-9223372036854775808)",
-        ),
-        (Kind::UInt64, 18446744073709551615, Kind::Int64, "Int64(-1)"),
-        (
-            Kind::UInt64,
-            18446744073709551615,
-            Kind::UInt,
-            "UInt(4294967295)",
-        ),
-    ] {
-        seen.same(told(alloc, &tree, from, number, to)?.as_str(), want)?;
+    for line in TRANSFORMS.trim().lines() {
+        let (given, want) = row(line)?;
+        seen.same(transform_of(alloc, &tree, given)?.as_str(), want)?;
     }
     Ok(())
 }
 
-fn transforms_to_members_and_texts(seen: &mut Seen) -> Result<(), Fail> {
-    let alloc = seen.alloc();
-    let tree = tree_of_members(alloc)?;
-    for (from, number, to, want) in [
-        (Kind::Int, 1, mode_kind(), "Enum(TypeId { number: 2 }, 1)"),
-        (Kind::Int, 5, mode_kind(), "NotAMember"),
-        (Kind::Int64, 4294967297, mode_kind(), "NotAMember"),
-        (
-            Kind::UInt,
-            3,
-            marks_kind(),
-            "Flags(TypeId { number: 3 }, 3)",
-        ),
-        (Kind::UInt, 4, marks_kind(), "NotAMember"),
-        (Kind::Int, -1, marks_kind(), "NotAMember"),
-        (Kind::Int64, 4294967297, marks_kind(), "NotAMember"),
-        (
-            Kind::UInt64,
-            9223372036854775809,
-            marks_kind(),
-            "NotAMember",
-        ),
-        (Kind::Text, 0, Kind::Int, "NoTransform"),
-        (Kind::Bool, 0, Kind::Text, "FALSE"),
-        (Kind::Bool, 1, Kind::Text, "TRUE"),
-        (Kind::Int, -2147483648, Kind::Text, "-2147483648"),
-        (Kind::UInt, 4294967295, Kind::Text, "4294967295"),
-        (
-            Kind::Int64,
-            -9223372036854775808,
-            Kind::Text,
-            "-9223372036854775808",
-        ),
-        (
-            Kind::UInt64,
-            18446744073709551615,
-            Kind::Text,
-            "18446744073709551615",
-        ),
-    ] {
-        seen.same(told(alloc, &tree, from, number, to)?.as_str(), want)?;
-    }
-    Ok(())
-}
 
 fn tells_of_values(seen: &mut Seen) -> Result<(), Fail> {
     let tree = tree_of_members(seen.alloc())?;
@@ -326,78 +274,65 @@ fn told_json(alloc: Global, tree: &TypeTree, kind: Kind, text: &str) -> Result<S
     }
 }
 
-fn reads_numbers_and_texts(seen: &mut Seen) -> Result<(), Fail> {
+const READINGS: &str = r#"
+bool true = Bool(true)
+bool 1 = WrongJson
+int -2147483648 = Int(-2147483648)
+int 2147483647 = Int(2147483647)
+int 2147483648 = OutOfRange
+int -2147483649 = OutOfRange
+int 1.0 = WrongJson
+int 1e0 = WrongJson
+int -0 = WrongJson
+uint 4294967295 = UInt(4294967295)
+uint 4294967296 = OutOfRange
+uint -1 = OutOfRange
+int64 -9223372036854775808 = Int64(-9223372036854775808)
+int64 9223372036854775808 = OutOfRange
+uint64 18446744073709551615 = UInt64(18446744073709551615)
+uint64 18446744073709551616 = WrongJson
+uint64 -1 = OutOfRange
+text 1 = WrongJson
+text null = Text(None)
+text "hi" = Text(Some("hi"))
+mode "ON" = Enum(TypeId { number: 2 }, 1)
+mode "on" = Enum(TypeId { number: 2 }, 1)
+mode 0 = Enum(TypeId { number: 2 }, 0)
+mode 5 = UnknownMember
+mode 2147483648 = OutOfRange
+mode " on" = UnknownMember
+mode null = WrongJson
+marks 4294967295 = Flags(TypeId { number: 3 }, 4294967295)
+marks 4294967296 = OutOfRange
+marks -1 = OutOfRange
+marks "a | b" = Flags(TypeId { number: 3 }, 3)
+marks "\tA|b\r" = Flags(TypeId { number: 3 }, 3)
+marks "a|" = Flags(TypeId { number: 3 }, 1)
+marks " | " = Flags(TypeId { number: 3 }, 0)
+marks "" = Flags(TypeId { number: 3 }, 0)
+marks "a|c" = UnknownMember
+marks "\na" = UnknownMember
+marks [] = WrongJson
+object null = Object(TypeId { number: 0 }, None)
+object "a" = WrongJson
+"#;
+
+// The value of a kind that JSON is.
+fn reading_of(alloc: Global, tree: &TypeTree, given: &str) -> Result<String, Fail> {
+    let (kind, text) = given.split_once(" ").ok_or("a row has a kind")?;
+    told_json(alloc, tree, kind_named(kind), text)
+}
+
+fn reads_values(seen: &mut Seen) -> Result<(), Fail> {
     let alloc = seen.alloc();
     let tree = tree_of_members(alloc)?;
-    for (kind, text, want) in [
-        (Kind::Bool, "true", "Bool(true)"),
-        (Kind::Bool, "1", "WrongJson"),
-        (Kind::Int, "-2147483648", "Int(-2147483648)"),
-        (Kind::Int, "2147483647", "Int(2147483647)"),
-        (Kind::Int, "2147483648", "OutOfRange"),
-        (Kind::Int, "-2147483649", "OutOfRange"),
-        (Kind::Int, "1.0", "WrongJson"),
-        (Kind::Int, "1e0", "WrongJson"),
-        (Kind::Int, "-0", "WrongJson"),
-        (Kind::UInt, "4294967295", "UInt(4294967295)"),
-        (Kind::UInt, "4294967296", "OutOfRange"),
-        (Kind::UInt, "-1", "OutOfRange"),
-        (
-            Kind::Int64,
-            "-9223372036854775808",
-            "Int64(-9223372036854775808)",
-        ),
-        (Kind::Int64, "9223372036854775808", "OutOfRange"),
-        (
-            Kind::UInt64,
-            "18446744073709551615",
-            "UInt64(18446744073709551615)",
-        ),
-        (Kind::UInt64, "18446744073709551616", "WrongJson"),
-        (Kind::UInt64, "-1", "OutOfRange"),
-        (Kind::Text, "1", "WrongJson"),
-        (Kind::Text, "null", "Text(None)"),
-        (Kind::Text, "\"hi\"", "Text(Some(\"hi\"))"),
-    ] {
-        seen.same(told_json(alloc, &tree, kind, text)?.as_str(), want)?;
+    for line in READINGS.trim().lines() {
+        let (given, want) = row(line)?;
+        seen.same(reading_of(alloc, &tree, given)?.as_str(), want)?;
     }
     Ok(())
 }
 
-fn reads_members_and_objects(seen: &mut Seen) -> Result<(), Fail> {
-    let alloc = seen.alloc();
-    let tree = tree_of_members(alloc)?;
-    let (mode, marks, object) = (mode_kind(), marks_kind(), Kind::Object(TypeId::new(0)));
-    for (kind, text, want) in [
-        (mode, "\"ON\"", "Enum(TypeId { number: 2 }, 1)"),
-        (mode, "\"on\"", "Enum(TypeId { number: 2 }, 1)"),
-        (mode, "0", "Enum(TypeId { number: 2 }, 0)"),
-        (mode, "5", "UnknownMember"),
-        (mode, "2147483648", "OutOfRange"),
-        (mode, "\" on\"", "UnknownMember"),
-        (mode, "null", "WrongJson"),
-        (
-            marks,
-            "4294967295",
-            "Flags(TypeId { number: 3 }, 4294967295)",
-        ),
-        (marks, "4294967296", "OutOfRange"),
-        (marks, "-1", "OutOfRange"),
-        (marks, "\"a | b\"", "Flags(TypeId { number: 3 }, 3)"),
-        (marks, "\"\\tA|b\\r\"", "Flags(TypeId { number: 3 }, 3)"),
-        (marks, "\"a|\"", "Flags(TypeId { number: 3 }, 1)"),
-        (marks, "\" | \"", "Flags(TypeId { number: 3 }, 0)"),
-        (marks, "\"\"", "Flags(TypeId { number: 3 }, 0)"),
-        (marks, "\"a|c\"", "UnknownMember"),
-        (marks, "\"\\na\"", "UnknownMember"),
-        (marks, "[]", "WrongJson"),
-        (object, "null", "Object(TypeId { number: 0 }, None)"),
-        (object, "\"a\"", "WrongJson"),
-    ] {
-        seen.same(told_json(alloc, &tree, kind, text)?.as_str(), want)?;
-    }
-    Ok(())
-}
 
 // What is read of a text of so many letters.
 fn read_letters(alloc: Global, tree: &TypeTree, letters: usize) -> Result<String, Fail> {
@@ -424,11 +359,9 @@ fn g_values(rt: HostRuntime) -> Result<(), Fail> {
     compares_numbers(&mut seen)?;
     takes_one_kind_alone(&mut seen)?;
     transforms_all_pairs(&mut seen)?;
-    transforms_numbers(&mut seen)?;
-    transforms_to_members_and_texts(&mut seen)?;
+    transforms_values(&mut seen)?;
     tells_of_values(&mut seen)?;
-    reads_numbers_and_texts(&mut seen)?;
-    reads_members_and_objects(&mut seen)?;
+    reads_values(&mut seen)?;
     knows_the_longest_text(&mut seen)?;
     assert_eq!(rt; seen.differences(), "");
     Ok(())

@@ -1,7 +1,7 @@
 //! Programs: how they are read, and what instructions compute of registers.
 
 use crate::seen::Seen;
-use crate::fixtures::{number_of, times, tree_of_members, value_of};
+use crate::fixtures::{number_of, row, times, tree_of_members, value_of};
 use g_values::{Kind, Value};
 use handler_code::{
     Arithmetic, Block, BlockNumber, Comparison, Computation, Computed, Frame, Instruction,
@@ -140,44 +140,40 @@ fn reads(alloc: Global, types: &TypeTree, text: &str) -> Result<bool, Fail> {
 }
 
 /// An instruction has its word and just its operands. Registers and blocks are there. What nothing carries out yet is refused.
+const INSTRUCTIONS: &str = r#"
+["const",0,"int",-2147483648] = true
+["const",0,"int",2147483648] = false
+["const",0,"object:GObject",null] = true
+["const",0,"object:GObject","a"] = false
+["cmp",0,"le",0,1] = true
+["cmp",0,"gt",0,1] = false
+["move",0,1] = true
+["move",0,2] = false
+["move",0,-0] = false
+["move",0] = false
+["move",0,1,1] = false
+["emit",null,0,"s",null,[0,1]] = true
+["emit",null,0,"s","a b",[]] = false
+["connect",0,1,"s",null,"p",["after","after"],null] = true
+["connect",0,1,"s",null,"p",["before"],null] = false
+["timeout",0,"p",-1,4294967295,null] = false
+["timeout",0,"p",-1,4294967296,null] = false
+["unbind","link"] = false
+["new",0,"a"] = true
+["if",0,1,2] = true
+["jump",3] = false
+["stop"] = true
+["halt"] = false
+[] = false
+"stop" = false
+"#;
+
 fn reads_instructions(seen: &mut Seen) -> Result<(), Fail> {
     let alloc = seen.alloc();
     let tree = tree_of_members(alloc)?;
-    let texts = [
-        ("[\"const\",0,\"int\",-2147483648]", true),
-        ("[\"const\",0,\"int\",2147483648]", false),
-        ("[\"const\",0,\"object:GObject\",null]", true),
-        ("[\"const\",0,\"object:GObject\",\"a\"]", false),
-        ("[\"cmp\",0,\"le\",0,1]", true),
-        ("[\"cmp\",0,\"gt\",0,1]", false),
-        ("[\"move\",0,1]", true),
-        ("[\"move\",0,2]", false),
-        ("[\"move\",0,-0]", false),
-        ("[\"move\",0]", false),
-        ("[\"move\",0,1,1]", false),
-        ("[\"emit\",null,0,\"s\",null,[0,1]]", true),
-        ("[\"emit\",null,0,\"s\",\"a b\",[]]", false),
-        (
-            "[\"connect\",0,1,\"s\",null,\"p\",[\"after\",\"after\"],null]",
-            true,
-        ),
-        (
-            "[\"connect\",0,1,\"s\",null,\"p\",[\"before\"],null]",
-            false,
-        ),
-        ("[\"timeout\",0,\"p\",-1,4294967295,null]", false),
-        ("[\"timeout\",0,\"p\",-1,4294967296,null]", false),
-        ("[\"unbind\",\"link\"]", false),
-        ("[\"new\",0,\"a\"]", true),
-        ("[\"if\",0,1,2]", true),
-        ("[\"jump\",3]", false),
-        ("[\"stop\"]", true),
-        ("[\"halt\"]", false),
-        ("[]", false),
-        ("\"stop\"", false),
-    ];
-    for (text, is_instruction) in texts {
-        seen.same(reads(alloc, &tree, text)?, is_instruction)?;
+    for line in INSTRUCTIONS.trim().lines() {
+        let (text, want) = row(line)?;
+        seen.same(reads(alloc, &tree, text)?, want == "true")?;
     }
     Ok(())
 }
@@ -419,6 +415,18 @@ fn refuses_programs(seen: &mut Seen) -> Result<(), Fail> {
 
 /// A part of the wrong shape is told with its block, its member and its entry, and so is a name that nothing has. A list is told before its
 /// entries, a list that is too long too.
+const OUTLINES: &str = r#"
+3 = Shape(ProgramPart { block: None, member: None, index: None })
+{"name":"a b","params":3} = Shape(ProgramPart { block: None, member: Some("name"), index: None })
+{"name":"p","params":["int","unset"]} = Shape(ProgramPart { block: None, member: Some("params"), index: Some(1) })
+{"name":"p","params":["at:c","nope"]} = Unknown(ProgramPart { block: None, member: Some("params"), index: Some(0) }, "c")
+{"name":"p","params":["at:c"],"registers":0} = Shape(ProgramPart { block: None, member: Some("params"), index: None })
+{"name":"p","registers":1,"result":"some:GObject"} = Shape(ProgramPart { block: None, member: Some("result"), index: None })
+{"name":"p","registers":1,"blocks":[]} = Shape(ProgramPart { block: None, member: Some("blocks"), index: None })
+{"name":"p","registers":1,"blocks":[{"in":[],"code":[]}]} = Shape(ProgramPart { block: Some(0), member: Some("in"), index: None })
+{"name":"p","registers":1,"blocks":[{"code":[]},{"in":["unset"],"repeat":2,"code":[]}]} = Shape(ProgramPart { block: Some(1), member: Some("repeat"), index: None })
+"#;
+
 fn refuses_outlines(seen: &mut Seen) -> Result<(), Fail> {
     let alloc = seen.alloc();
     let (tree, places) = (tree_of_members(alloc)?, places(alloc)?);
@@ -426,45 +434,8 @@ fn refuses_outlines(seen: &mut Seen) -> Result<(), Fail> {
         types: &tree,
         places: &places,
     };
-    let table = [
-        (
-            "3",
-            "Shape(ProgramPart { block: None, member: None, index: None })",
-        ),
-        (
-            "{\"name\":\"a b\",\"params\":3}",
-            "Shape(ProgramPart { block: None, member: Some(\"name\"), index: None })",
-        ),
-        (
-            "{\"name\":\"p\",\"params\":[\"int\",\"unset\"]}",
-            "Shape(ProgramPart { block: None, member: Some(\"params\"), index: Some(1) })",
-        ),
-        (
-            "{\"name\":\"p\",\"params\":[\"at:c\",\"nope\"]}",
-            "Unknown(ProgramPart { block: None, member: Some(\"params\"), index: Some(0) }, \"c\")",
-        ),
-        (
-            "{\"name\":\"p\",\"params\":[\"at:c\"],\"registers\":0}",
-            "Shape(ProgramPart { block: None, member: Some(\"params\"), index: None })",
-        ),
-        (
-            "{\"name\":\"p\",\"registers\":1,\"result\":\"some:GObject\"}",
-            "Shape(ProgramPart { block: None, member: Some(\"result\"), index: None })",
-        ),
-        (
-            "{\"name\":\"p\",\"registers\":1,\"blocks\":[]}",
-            "Shape(ProgramPart { block: None, member: Some(\"blocks\"), index: None })",
-        ),
-        (
-            "{\"name\":\"p\",\"registers\":1,\"blocks\":[{\"in\":[],\"code\":[]}]}",
-            "Shape(ProgramPart { block: Some(0), member: Some(\"in\"), index: None })",
-        ),
-        (
-            "{\"name\":\"p\",\"registers\":1,\"blocks\":[{\"code\":[]},{\"in\":[\"unset\"],\"repeat\":2,\"code\":[]}]}",
-            "Shape(ProgramPart { block: Some(1), member: Some(\"repeat\"), index: None })",
-        ),
-    ];
-    for (text, want) in table {
+    for line in OUTLINES.trim().lines() {
+        let (text, want) = row(line)?;
         let json = json_of(alloc, text)?;
         let Err(OutlineError::Refused(fault)) = check_outline(alloc, &json, &names) else {
             return Err(Fail::from("the format refuses nothing"));

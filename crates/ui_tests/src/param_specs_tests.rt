@@ -1,7 +1,9 @@
 //! Properties: which may be installed, what values they take, and those of an interface.
 
 use crate::seen::Seen;
-use crate::fixtures::{added, marks_kind, mode_kind, number_of, tree_of_members, value_of};
+use crate::fixtures::{
+    added, kind_named, marks_kind, mode_kind, number_in, number_of, row, tree_of_members, value_of,
+};
 use g_values::{Kind, Value, is_known};
 use param_specs::{
     OverrideFault, PropertyFlags, Spec, SpecError, SpecFault, SpecTable, takes, validate,
@@ -132,56 +134,43 @@ fn validated(tree: &TypeTree, spec: &Spec, value: Value) -> Option<(i128, bool)>
     Some((number_of(&value)?, is_changed))
 }
 
+const CORRECTIONS: &str = r#"
+int -5 2147483646 -2147483648 = Some((-5, true))
+int -5 2147483646 -5 = Some((-5, false))
+int -5 2147483646 2147483647 = Some((2147483646, true))
+int 0 2147483648 0 = None
+uint 7 4294967294 0 = Some((7, true))
+uint 7 4294967294 4294967295 = Some((4294967294, true))
+int64 -9 -8 -9223372036854775808 = Some((-9, true))
+int64 -9 -8 9223372036854775807 = Some((-8, true))
+uint64 1 18446744073709551614 0 = Some((1, true))
+uint64 1 18446744073709551614 9223372036854775808 = Some((9223372036854775808, false))
+uint64 1 18446744073709551614 18446744073709551615 = Some((18446744073709551614, true))
+mode 1 0 0 = Some((0, false))
+mode 1 0 2 = Some((1, true))
+marks 0 0 3 = Some((3, false))
+marks 0 0 4294967294 = Some((2, true))
+"#;
+
+// What a property of a kind and a range makes of a number, and whether that changes it.
+fn correction_of(alloc: Global, tree: &TypeTree, given: &str) -> Result<String, Fail> {
+    let mut words = given.split(' ');
+    let kind = words.next().ok_or("a row has a kind")?;
+    let low = number_in(words.next().ok_or("a row has a least number")?)?;
+    let high = number_in(words.next().ok_or("a row has a greatest number")?)?;
+    let number = number_in(words.next().ok_or("a row has a number")?)?;
+    let default = value_of(kind_named(kind), low);
+    let spec = spec_of(alloc, "value", default, kind_named(kind), (low, high))?;
+    let corrected = validated(tree, &spec, value_of(kind_named(kind), number));
+    Ok(format!(in alloc; "{corrected:?}")?)
+}
+
 fn brings_numbers_to_the_nearer_end(seen: &mut Seen) -> Result<(), Fail> {
     let alloc = seen.alloc();
     let tree = tree_of_members(alloc)?;
-    for (kind, range, number, want) in [
-        (Kind::Int, (-5, 2147483646), -2147483648, Some((-5, true))),
-        (Kind::Int, (-5, 2147483646), -5, Some((-5, false))),
-        (
-            Kind::Int,
-            (-5, 2147483646),
-            2147483647,
-            Some((2147483646, true)),
-        ),
-        (Kind::Int, (0, 2147483648), 0, None),
-        (Kind::UInt, (7, 4294967294), 0, Some((7, true))),
-        (
-            Kind::UInt,
-            (7, 4294967294),
-            4294967295,
-            Some((4294967294, true)),
-        ),
-        (
-            Kind::Int64,
-            (-9, -8),
-            -9223372036854775808,
-            Some((-9, true)),
-        ),
-        (Kind::Int64, (-9, -8), 9223372036854775807, Some((-8, true))),
-        (Kind::UInt64, (1, 18446744073709551614), 0, Some((1, true))),
-        (
-            Kind::UInt64,
-            (1, 18446744073709551614),
-            9223372036854775808,
-            Some((9223372036854775808, false)),
-        ),
-        (
-            Kind::UInt64,
-            (1, 18446744073709551614),
-            18446744073709551615,
-            Some((18446744073709551614, true)),
-        ),
-        (mode_kind(), (1, 0), 0, Some((0, false))),
-        (mode_kind(), (1, 0), 2, Some((1, true))),
-        (marks_kind(), (0, 0), 3, Some((3, false))),
-        (marks_kind(), (0, 0), 4294967294, Some((2, true))),
-    ] {
-        let (of_default, of_value) = (kind, kind);
-        let default = value_of(of_default, range.0);
-        let value = value_of(of_value, number);
-        let spec = spec_of(alloc, "value", default, kind, range)?;
-        seen.same(validated(&tree, &spec, value), want)?;
+    for line in CORRECTIONS.trim().lines() {
+        let (given, want) = row(line)?;
+        seen.same(correction_of(alloc, &tree, given)?.as_str(), want)?;
     }
     Ok(())
 }
