@@ -6,7 +6,8 @@ ghost use Rattle.std.specs.Prelude.{◌≡◌, false};
 mod command_line;
 
 use command_line::{Request, WordsFault, read_words};
-use event_lines::{Counted, Ending, FileFault, definition_bytes, run};
+pub use event_lines::run;
+use event_lines::{Counted, Ending, FileFault, definition_bytes};
 use std::env;
 use std::fs::File;
 use std::process::ExitCode;
