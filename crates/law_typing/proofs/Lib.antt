@@ -9,6 +9,8 @@ pub mod ChainProofs
 pub mod KnobsProofs
 pub mod NamesProofs
 pub mod WordProofs
+pub mod FaultTextProofs
+pub mod CappedProofs
 pub mod EdgeProofs
 pub mod OneSolutionProofs
 pub mod PairProofs
