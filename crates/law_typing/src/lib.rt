@@ -34,7 +34,7 @@ ghost use Rattle.law_typing.specs.Examples.UnfitHandler as unfit_handler_case;
 ghost use Rattle.law_typing.specs.Examples.UnfitChild as unfit_child_case;
 ghost use Rattle.law_typing.specs.Examples.UnfitClassHandler as unfit_class_handler_case;
 ghost use Rattle.law_typing.specs.Laws.FaultTexts.{FaultTexts, JudgesOnce};
-ghost use Rattle.law_typing.specs.Laws.Capped.{CappedLaws};
+ghost use Rattle.law_typing.specs.Laws.Capped.{CappedLaws, CostsCapped};
 ghost use Rattle.law_typing.specs.Examples.UnfitBinding as unfit_binding_case;
 ghost use Rattle.law_typing.specs.Examples.SecondPair as second_pair_case;
 ghost use Rattle.law_typing.specs.Examples.FrozenPair as frozen_pair_case;
@@ -94,6 +94,7 @@ pub fn answers()
     ensures texts { FaultTexts }
     ensures once { JudgesOnce }
     ensures capped { CappedLaws }
+    ensures costs { CostsCapped }
 {}
 
 /// What is judged to be accepted is, by ranks, costs and depths that meet their equations, and whatever is accepted is judged so.
