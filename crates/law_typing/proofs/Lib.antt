@@ -11,6 +11,7 @@ pub mod NamesProofs
 pub mod WordProofs
 pub mod FaultTextProofs
 pub mod CappedProofs
+pub mod ToldProofs
 pub mod EdgeProofs
 pub mod OneSolutionProofs
 pub mod PairProofs

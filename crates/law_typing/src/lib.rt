@@ -33,7 +33,7 @@ ghost use Rattle.law_typing.specs.Examples.SetConstructOnly as set_construct_onl
 ghost use Rattle.law_typing.specs.Examples.UnfitHandler as unfit_handler_case;
 ghost use Rattle.law_typing.specs.Examples.UnfitChild as unfit_child_case;
 ghost use Rattle.law_typing.specs.Examples.UnfitClassHandler as unfit_class_handler_case;
-ghost use Rattle.law_typing.specs.Laws.FaultTexts.{FaultTexts, JudgesOnce};
+ghost use Rattle.law_typing.specs.Laws.FaultTexts.{FaultTexts, JudgesOnce, JudgesIsThere};
 ghost use Rattle.law_typing.specs.Laws.Capped.{CappedLaws, CostsCapped};
 ghost use Rattle.law_typing.specs.Examples.UnfitBinding as unfit_binding_case;
 ghost use Rattle.law_typing.specs.Examples.SecondPair as second_pair_case;
@@ -89,10 +89,11 @@ pub fn words()
     ensures brackets { BracketWords }
 {}
 
-/// The line of each refusal. A verifier has one answer, but for which cycle it tells; and costs that are capped one above the greatest bound come out as they do without.
+/// The line of each refusal. A verifier has an answer, and one only but for which cycle it tells; and costs that are capped one above the greatest bound come out as they do without.
 pub fn answers()
     ensures texts { FaultTexts }
     ensures once { JudgesOnce }
+    ensures there { JudgesIsThere }
     ensures capped { CappedLaws }
     ensures costs { CostsCapped }
 {}

@@ -1,4 +1,4 @@
--- The line of each refusal, of worked definitions; and that a verifier has one answer, but for which cycle it tells.
+-- The line of each refusal, of worked definitions; and that a verifier has an answer, and one only but for which cycle it tells.
 use Rattle.std.specs.Prelude.{◌≡◌, ◌⊎◌, ℕ, List, [], ◌∷◌, codes, Option}
 use Rattle.ui_machine.specs.Definition.{Definition}
 use Rattle.law_typing.specs.Rules.Answers as rules
@@ -53,3 +53,7 @@ pub record FaultTexts : Type 0 where
 -- two answers of a verifier are the same, unless both tell a cycle
 abbrev pub JudgesOnce : Type 0
 JudgesOnce = (d : Definition) (a b : Option Fault) → Judges d a → Judges d b → (a ≡ b) ⊎ (verdict d ≡ has_cycle)
+
+-- and there is one
+abbrev pub JudgesIsThere : Type 0
+JudgesIsThere = (d : Definition) → (answer : Option Fault) × Judges d answer

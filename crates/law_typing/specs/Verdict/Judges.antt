@@ -1,5 +1,5 @@
 -- What a verifier may answer: nothing where a definition is accepted, else the fault for which it is refused, or a cycle that it tells.
-use Rattle.std.specs.Prelude.{◌≡◌, ℕ, suc, Bool, true, cond, nat_lt, List, [], ◌∷◌, map, Option, None, Some}
+use Rattle.std.specs.Prelude.{◌≡◌, ℕ, suc, Bool, true, cond, not, nat_lt, List, [], ◌∷◌, map, Option, None, Some}
 use Rattle.std.specs.List.{list_all}
 use Rattle.ui_machine.specs.Definition.{Definition}
 use Rattle.law_typing.specs.Rules.Faults.{Fault}
@@ -16,10 +16,10 @@ abbrev pub line_of : List Raised → Channel → ℕ
 line_of [] c = 0
 line_of (r ∷ rs) c = cond (same_channel r.channel c) 0 (suc (line_of rs c))
 
--- whether the first of some nodes comes before the others in the report
+-- whether none of some nodes comes before the first of them in the report
 abbrev pub begins_first : Graph → List Link → Bool
 begins_first g [] = true
-begins_first g (l ∷ more) = list_all (λ (m : Link). nat_lt (line_of g.raised l.from) (line_of g.raised m.from)) more
+begins_first g (l ∷ more) = list_all (λ (m : Link). not (nat_lt (line_of g.raised m.from) (line_of g.raised l.from))) more
 
 -- a cycle as it is told: from its first node in the report, with no node twice
 pub record IsToldCycle (g : Graph) (links : List Link) : Type 0 where
