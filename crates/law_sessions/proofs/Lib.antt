@@ -5,6 +5,7 @@ pub mod EndProofs
 pub mod KeepsProofs
 pub mod EntryProofs
 pub mod SessionProofs
+pub mod SafeProofs
 pub mod ThereProofs
 pub mod HaltingProofs
 pub mod WorkedProofs

@@ -2,6 +2,7 @@
 #![tactic(auto)]
 
 ghost use Rattle.law_sessions.specs.NeverStuck.{NeverStuck, ReportIsKept, RunsRest, RunsAreThere};
+ghost use Rattle.law_sessions.specs.Safe.{BeginsSafe, SafeStays};
 ghost use Rattle.law_sessions.specs.Halting.{EventsHaltForMemory};
 ghost use Rattle.law_sessions.specs.Replies.{QuestionsAreAnswered};
 ghost use Rattle.law_sessions.specs.WorkedSession.{PremisesMet};
@@ -16,6 +17,8 @@ pub fn runs()
     ensures rest { RunsRest }
     ensures there { RunsAreThere }
     ensures halting { EventsHaltForMemory }
+    ensures safe { BeginsSafe }
+    ensures stays { SafeStays }
 {}
 
 /// What a peer may always reply; and a worked definition with a pool and events that meet each premise of the promise.

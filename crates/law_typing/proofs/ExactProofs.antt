@@ -31,7 +31,7 @@ use Rattle.law_typing.proofs.SettlesTables.{has_tables}
 -- ** what is reckoned is the solution
 
 module _ (g : Graph) (r : Table) (solved : IsRanking g r) (paired : IsPaired g) where
-  ranks_found : ranks g ≡ Some r
+  pub ranks_found : ranks g ≡ Some r
   ranks_found =
       let e = has_ranks g r solved in
       e.is ∙ ap (λ (x : Table). Some x) (one_ranking g e.at r (ranks_are g e.at e.is) solved)
@@ -41,7 +41,7 @@ module _ (g : Graph) (r : Table) (solved : IsRanking g r) (paired : IsPaired g) 
       has_tables g r solved paired (channel_cost g) (program_cost g) (program_cost_same g) (λ a b x same others. cost_at_same g a b x x.channel same)
       (no_tables g) (λ x. 0) refl
 
-  costs_found : (t : Tables) → SolvesCosts g t → costs g ≡ Some t
+  pub costs_found : (t : Tables) → SolvesCosts g t → costs g ≡ Some t
   costs_found t solves =
       let e = costs_end in
       e.is ∙ ap (λ (x : Tables). Some x) (one_cost g r solved paired e.at t (costs_are g e.at e.is) solves)
@@ -51,7 +51,7 @@ module _ (g : Graph) (r : Table) (solved : IsRanking g r) (paired : IsPaired g) 
       has_tables g r solved paired (channel_depth g) program_depth (program_depth_same g) (λ a b x same others. depth_at_same g a b x x.channel same others)
       (no_tables g) (λ x. 0) refl
 
-  depths_found : (t : Tables) → SolvesDepths g t → depths g ≡ Some t
+  pub depths_found : (t : Tables) → SolvesDepths g t → depths g ≡ Some t
   depths_found t solves =
       let e = depths_end in
       e.is ∙ ap (λ (x : Tables). Some x) (one_depth g r solved paired e.at t (depths_are g e.at e.is) solves)

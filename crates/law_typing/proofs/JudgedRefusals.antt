@@ -10,6 +10,8 @@ use Rattle.law_typing.specs.Examples.LabelCycle as labelcycle_case
 use Rattle.law_typing.specs.Examples.TooLarge as toolarge_case
 use Rattle.law_typing.specs.Examples.UnfitPass as unfitpass_case
 use Rattle.law_typing.specs.Examples.FrozenCycle as frozencycle_case
+use Rattle.law_typing.specs.Examples.UnfitChild as unfitchild_case
+use Rattle.law_typing.specs.Examples.UnfitClassHandler as unfitclasshandler_case
 
 pub setconstructonly_holds : setconstructonly_case.Holds
 unfolding data_in passing two_numbers two_passing moving reckoning comparing sameness negating combining joining converting property_of get_property changing_none set_property place_for look_up_object adopting arguments emitting program_named connecting on_handlers attaching methods_for method_named calling entering branching branching_null returning
@@ -46,3 +48,11 @@ unfitpass_holds = refl
 pub frozencycle_holds : frozencycle_case.Holds
 unfolding data_in passing two_numbers two_passing moving reckoning comparing sameness negating combining joining converting property_of get_property changing_none set_property place_for look_up_object adopting arguments emitting program_named connecting on_handlers attaching methods_for method_named calling entering branching branching_null returning
 frozencycle_holds = (refl, refl)
+
+pub unfitchild_holds : unfitchild_case.Holds
+unfolding data_in passing two_numbers two_passing moving reckoning comparing sameness negating combining joining converting property_of get_property changing_none set_property place_for look_up_object adopting arguments emitting program_named connecting on_handlers attaching methods_for method_named calling entering branching branching_null returning
+unfitchild_holds = refl
+
+pub unfitclasshandler_holds : unfitclasshandler_case.Holds
+unfolding data_in passing two_numbers two_passing moving reckoning comparing sameness negating combining joining converting property_of get_property changing_none set_property place_for look_up_object adopting arguments emitting program_named connecting on_handlers attaching methods_for method_named calling entering branching branching_null returning
+unfitclasshandler_holds = refl

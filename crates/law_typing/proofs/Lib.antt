@@ -9,6 +9,9 @@ pub mod ChainProofs
 pub mod KnobsProofs
 pub mod NamesProofs
 pub mod WordProofs
+pub mod FaultTextProofs
+pub mod CappedProofs
+pub mod ToldProofs
 pub mod EdgeProofs
 pub mod OneSolutionProofs
 pub mod PairProofs

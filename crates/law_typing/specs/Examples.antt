@@ -11,6 +11,8 @@ pub mod Chain
 pub mod AllParts
 pub mod SetConstructOnly
 pub mod UnfitHandler
+pub mod UnfitChild
+pub mod UnfitClassHandler
 pub mod UnfitBinding
 pub mod SecondPair
 pub mod FrozenPair

@@ -10,6 +10,8 @@ pub mod Beginnings
 pub mod MidRun
 pub mod NotGood
 pub mod WorkedRead
+pub mod FaultTexts
+pub mod Capped
 use Rattle.std.specs.Prelude.{◌≡◌, ◌⊎◌, ℕ, ◌<◌, true, List, [], ◌∷◌, None}
 use Rattle.ui_machine.specs.Definition.{Definition}
 use Rattle.law_typing.specs.Graph.Channels.{Entry, Link}

@@ -2,6 +2,8 @@
 pub mod Report
 pub mod Inherits
 pub mod Accepted
+pub mod FaultText
+pub mod Judges
 use Rattle.std.specs.Prelude.{ℕ, nat_lt, List, [], ◌∷◌, ◌++◌, map, Option, None, Some}
 use Rattle.std.specs.List.{find}
 use Rattle.ui_machine.specs.Definition.{Definition}

@@ -31,6 +31,10 @@ ghost use Rattle.law_typing.specs.Examples.UnfitPass as unfit_pass_case;
 ghost use Rattle.law_typing.specs.Examples.AllParts as knobs_case;
 ghost use Rattle.law_typing.specs.Examples.SetConstructOnly as set_construct_only_case;
 ghost use Rattle.law_typing.specs.Examples.UnfitHandler as unfit_handler_case;
+ghost use Rattle.law_typing.specs.Examples.UnfitChild as unfit_child_case;
+ghost use Rattle.law_typing.specs.Examples.UnfitClassHandler as unfit_class_handler_case;
+ghost use Rattle.law_typing.specs.Laws.FaultTexts.{FaultTexts, JudgesOnce, JudgesIsThere};
+ghost use Rattle.law_typing.specs.Laws.Capped.{CappedLaws, CostsCapped};
 ghost use Rattle.law_typing.specs.Examples.UnfitBinding as unfit_binding_case;
 ghost use Rattle.law_typing.specs.Examples.SecondPair as second_pair_case;
 ghost use Rattle.law_typing.specs.Examples.FrozenPair as frozen_pair_case;
@@ -68,6 +72,8 @@ pub fn refusals()
     ensures set_construct_only { set_construct_only_case.Holds }
     ensures unfit_pass { unfit_pass_case.Holds }
     ensures unfit_handler { unfit_handler_case.Holds }
+    ensures unfit_child { unfit_child_case.Holds }
+    ensures unfit_class_handler { unfit_class_handler_case.Holds }
     ensures unfit_binding { unfit_binding_case.Holds }
     ensures second_pair { second_pair_case.Holds }
     ensures open_freeze { open_freeze_case.Holds }
@@ -81,6 +87,15 @@ pub fn words()
     ensures rules { RuleWords }
     ensures bindings { BindingWords }
     ensures brackets { BracketWords }
+{}
+
+/// The line of each refusal. A verifier has an answer, and one only but for which cycle it tells; and costs that are capped one above the greatest bound come out as they do without.
+pub fn answers()
+    ensures texts { FaultTexts }
+    ensures once { JudgesOnce }
+    ensures there { JudgesIsThere }
+    ensures capped { CappedLaws }
+    ensures costs { CostsCapped }
 {}
 
 /// What is judged to be accepted is, by ranks, costs and depths that meet their equations, and whatever is accepted is judged so.
