@@ -28,7 +28,7 @@ use Rattle.engine_world.specs.declared.engine.Engine.{Engine}
 use Rattle.engine_world.specs.declared.task.Stack.{Stack}
 use Rattle.engine_world.specs.declared.task.Task as code
 use Rattle.engine_world.specs.declared.task.Task.TheVariants as tasks
-use Rattle.frames.specs.FrameView as frames
+use Rattle.frames.specs.declared.frame.Frame as frames
 
 -- ** registers
 
