@@ -52,7 +52,10 @@ fn passes_over_the_way_back(seen: &mut Seen) -> Result<(), Fail> {
     let heard_back = bindings.on_notify(SECOND, ON, 0);
     let of_another_property = bindings.on_notify(SECOND, 1, 0);
     seen.same((first, heard, while_it_sets), (0, Some(forth), None))?;
-    seen.same((behind_the_last, heard_back, of_another_property), (None, Some(back), None))?;
+    seen.same(
+        (behind_the_last, heard_back, of_another_property),
+        (None, Some(back), None),
+    )?;
     Ok(())
 }
 
@@ -72,7 +75,10 @@ fn numbers_are_not_used_again(seen: &mut Seen) -> Result<(), Fail> {
     let ended = (bindings.end_of(SECOND), bindings.end_of(FIRST));
     let four = bindings.bind(switch(None, one_way))?;
     seen.same((zero, one, three, four), (0, 1, 3, 4))?;
-    seen.same((heard, heard_back, unbound, ended), (Some(1), None, (true, false), (2, 0)))?;
+    seen.same(
+        (heard, heard_back, unbound, ended),
+        (Some(1), None, (true, false), (2, 0)),
+    )?;
     Ok(())
 }
 

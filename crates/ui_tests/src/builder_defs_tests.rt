@@ -1,7 +1,7 @@
 //! Definitions and events: what they say, and the sizes that no kept file has.
 
-use crate::seen::Seen;
 use crate::fixtures::times;
+use crate::seen::Seen;
 use builder_defs::{
     Definition, DefinitionFault, EventError, EventFault, MAX_BYTES, MAX_LINE_BYTES, ReadError,
     SpecCause, TypeCause, read_definition, read_event,
@@ -99,7 +99,10 @@ fn tells_properties(seen: &mut Seen) -> Result<(), Fail> {
     ] {
         seen.same(told_property(alloc, &definition, name)?.as_str(), want)?;
     }
-    seen.same(definition.spec(definition.class_at(Place(0)), 2).is_none(), true)?;
+    seen.same(
+        definition.spec(definition.class_at(Place(0)), 2).is_none(),
+        true,
+    )?;
     Ok(())
 }
 

@@ -1,7 +1,7 @@
 //! Whole runs over devices that move few bytes a call and fail.
 
-use crate::seen::Seen;
 use crate::fakes::{Pace, Source, Target};
+use crate::seen::Seen;
 use event_lines::{Counted, FileFault, definition_bytes, run};
 use std::alloc::{AllocError, Global};
 use std::process::Abort;
@@ -196,4 +196,3 @@ fn stands_want_of_memory(rt: HostRuntime) -> Result<(), Fail> {
     assert_eq!(rt; text, FIRST_RUN);
     Ok(())
 }
-

@@ -1,9 +1,9 @@
 //! Values of each kind: arithmetic, transformations, and values read from JSON.
 
-use crate::seen::Seen;
 use crate::fixtures::{
     kind_named, marks_kind, mode_kind, number_in, number_of, row, times, tree_of_members, value_of,
 };
+use crate::seen::Seen;
 use g_values::{
     JsonError, Kind, MOST_TEXT_BYTES, TransformError, TransformFault, Value, from_json, has_number,
     is_at_most, is_equal, is_known, is_less, is_same, kind_of, known_bits, transform,
@@ -80,7 +80,10 @@ fn compares_numbers(seen: &mut Seen) -> Result<(), Fail> {
         ),
     ] {
         let (left, right) = (value_of(kind, m), value_of(kind, n));
-        seen.same(comparisons(&left, &right), [Some(less), Some(equal), Some(less || equal)])?;
+        seen.same(
+            comparisons(&left, &right),
+            [Some(less), Some(equal), Some(less || equal)],
+        )?;
         seen.same(is_same(&left, &right), equal)?;
     }
     Ok(())
@@ -215,7 +218,13 @@ uint64 18446744073709551615 text = 18446744073709551615
 fn transform_of(alloc: Global, tree: &TypeTree, given: &str) -> Result<String, Fail> {
     let (from, rest) = given.split_once(" ").ok_or("a row has a kind")?;
     let (number, to) = rest.split_once(" ").ok_or("a row has a number and a kind")?;
-    told(alloc, tree, kind_named(from), number_in(number)?, kind_named(to))
+    told(
+        alloc,
+        tree,
+        kind_named(from),
+        number_in(number)?,
+        kind_named(to),
+    )
 }
 
 fn transforms_values(seen: &mut Seen) -> Result<(), Fail> {
@@ -227,7 +236,6 @@ fn transforms_values(seen: &mut Seen) -> Result<(), Fail> {
     }
     Ok(())
 }
-
 
 fn tells_of_values(seen: &mut Seen) -> Result<(), Fail> {
     let tree = tree_of_members(seen.alloc())?;
@@ -332,7 +340,6 @@ fn reads_values(seen: &mut Seen) -> Result<(), Fail> {
     }
     Ok(())
 }
-
 
 // What is read of a text of so many letters.
 fn read_letters(alloc: Global, tree: &TypeTree, letters: usize) -> Result<String, Fail> {

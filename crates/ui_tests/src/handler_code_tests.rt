@@ -1,7 +1,7 @@
 //! Programs: how they are read, and what instructions compute of registers.
 
-use crate::seen::Seen;
 use crate::fixtures::{number_of, row, times, tree_of_members, value_of};
+use crate::seen::Seen;
 use g_values::{Kind, Value};
 use handler_code::{
     Arithmetic, Block, BlockNumber, Comparison, Computation, Computed, Frame, Instruction,
@@ -46,10 +46,30 @@ fn computes_numbers(seen: &mut Seen) -> Result<(), Fail> {
     let numbers = registers(alloc, Value::Int(2147483647), Value::Int(1))?;
     let numbers = numbers.as_slice();
     let got = [
-        number(compute(alloc, &tree, numbers, &Computation::Arithmetic(Arithmetic::Add, A, B))),
-        number(compute(alloc, &tree, numbers, &Computation::Arithmetic(Arithmetic::Sub, B, A))),
-        number(compute(alloc, &tree, numbers, &Computation::Compare(Comparison::Less, A, A))),
-        number(compute(alloc, &tree, numbers, &Computation::Compare(Comparison::AtMost, A, A))),
+        number(compute(
+            alloc,
+            &tree,
+            numbers,
+            &Computation::Arithmetic(Arithmetic::Add, A, B),
+        )),
+        number(compute(
+            alloc,
+            &tree,
+            numbers,
+            &Computation::Arithmetic(Arithmetic::Sub, B, A),
+        )),
+        number(compute(
+            alloc,
+            &tree,
+            numbers,
+            &Computation::Compare(Comparison::Less, A, A),
+        )),
+        number(compute(
+            alloc,
+            &tree,
+            numbers,
+            &Computation::Compare(Comparison::AtMost, A, A),
+        )),
         number(compute(alloc, &tree, numbers, &Computation::Convert(A, Kind::Bool))),
         number(compute(alloc, &tree, numbers, &Computation::Move(UNSET))),
         number(compute(alloc, &tree, numbers, &Computation::Not(A))),
@@ -255,12 +275,18 @@ fn writes_registers(seen: &mut Seen) -> Result<(), Fail> {
     let mut args = Vec::new(alloc);
     args.push(value_of(Kind::Int, 7))?;
     let mut frame = Frame::new(alloc, 0, &program, args)?;
-    seen.same(values_at(alloc, frame.registers.as_slice(), &[A, B]).is_err(), true)?;
+    seen.same(
+        values_at(alloc, frame.registers.as_slice(), &[A, B]).is_err(),
+        true,
+    )?;
     let Ok(Some(old)) = frame.put(A, Some(value_of(Kind::Int, 8))) else {
         return Err(Fail::from("the first register is unset"));
     };
     seen.same(number_of(&old), Some(7))?;
-    seen.same(matches!(frame.put(B, Some(value_of(Kind::Int, 9))), Ok(None)), true)?;
+    seen.same(
+        matches!(frame.put(B, Some(value_of(Kind::Int, 9))), Ok(None)),
+        true,
+    )?;
     seen.same(matches!(frame.put(UNSET, None), Err(Arm::Code)), true)?;
     let values = values_at(alloc, frame.registers.as_slice(), &[B, A, B])?;
     for (at, want) in [(0, 9), (1, 8), (2, 9)] {
@@ -359,7 +385,10 @@ fn reads_programs(seen: &mut Seen) -> Result<(), Fail> {
         return Err(Fail::from("a block is not there"));
     };
     let result = last.instruction(1);
-    seen.same(last.is_last(1) && matches!(result, Some(Instruction::Return(Some(A)))), true)?;
+    seen.same(
+        last.is_last(1) && matches!(result, Some(Instruction::Return(Some(A)))),
+        true,
+    )?;
     Ok(())
 }
 

@@ -25,7 +25,10 @@ fn makes_as_many_as_may_live(seen: &mut Seen) -> Result<(), Fail> {
     seen.same(table.has_room(0), true)?;
     seen.same(!table.has_room(1), true)?;
     seen.same(table.create(object(seen.alloc())), Ok(ObjectId(2)))?;
-    seen.same(table.create(object(seen.alloc())), Err(CreateError::ObjectLimit))?;
+    seen.same(
+        table.create(object(seen.alloc())),
+        Err(CreateError::ObjectLimit),
+    )?;
     seen.same(table.next_unheld(), Some(ObjectId(1)))?;
     seen.same(table.place_of(ObjectId(2)), Ok(Place(3)))?;
     seen.same(table.place_of(ObjectId(3)), Err(Arm::Operand))?;
@@ -43,7 +46,10 @@ fn keeps_notifications_back_while_frozen(seen: &mut Seen) -> Result<(), Fail> {
     seen.same(table.thaw(ObjectId(1)).map(|slots| slots.len()), Ok(0))?;
     seen.same(table.thaw(ObjectId(1)).map(|slots| slots.len()), Ok(2))?;
     seen.same(table.add(ObjectId(1), 1), Ok(true))?;
-    seen.same(table.thaw(ObjectId(1)).map(|slots| slots.len()), Err(Arm::Freeze))?;
+    seen.same(
+        table.thaw(ObjectId(1)).map(|slots| slots.len()),
+        Err(Arm::Freeze),
+    )?;
     seen.same(table.add(ObjectId(2), 1), Err(Halt::Stuck(Arm::Operand)))?;
     Ok(())
 }

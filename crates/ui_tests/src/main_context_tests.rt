@@ -67,7 +67,10 @@ fn passes_over_what_was_removed(seen: &mut Seen) -> Result<(), Fail> {
     context.idle(7, -7, None)?;
     let last = context.next_of(&mut batch).map(|due| due.source);
     let waits = context.next_of(&mut batch).is_none();
-    seen.same((begun, removed), (Some(first), (Some(first), Some(second), None)))?;
+    seen.same(
+        (begun, removed),
+        (Some(first), (Some(first), Some(second), None)),
+    )?;
     seen.same((found, next), ((None, Some(third)), Some(third)))?;
     seen.same((removed_by_its_answer, last, waits), (false, Some(4), true))?;
     Ok(())
@@ -89,7 +92,10 @@ fn attaches_256_sources(seen: &mut Seen) -> Result<(), Fail> {
     let removed_by_its_answer = context.answered(2, true);
     let mut batch = context.iteration(latest)?;
     let third = context.next_of(&mut batch).map(|due| due.source);
-    seen.same((idle_refused, timeout_refused, removed_by_its_answer), (true, true, false))?;
+    seen.same(
+        (idle_refused, timeout_refused, removed_by_its_answer),
+        (true, true, false),
+    )?;
     seen.same((removed.source, second, third), (1, Some(2), Some(3)))?;
     Ok(())
 }

@@ -1,9 +1,9 @@
 //! Properties: which may be installed, what values they take, and those of an interface.
 
-use crate::seen::Seen;
 use crate::fixtures::{
     added, kind_named, marks_kind, mode_kind, number_in, number_of, row, tree_of_members, value_of,
 };
+use crate::seen::Seen;
 use g_values::{Kind, Value, is_known};
 use param_specs::{
     OverrideFault, PropertyFlags, Spec, SpecError, SpecFault, SpecTable, takes, validate,
@@ -242,7 +242,10 @@ fn tests_flags(seen: &mut Seen) -> Result<(), Fail> {
         spec.flags = PropertyFlags(bits);
         seen.same(PropertyFlags(bits).is_clash(), is_clash)?;
         let fault = install(&mut table, &tree, TypeId::new(4), spec).err();
-        seen.same(fault == Some(SpecError::Refused(SpecFault::FlagsClash)), is_clash)?;
+        seen.same(
+            fault == Some(SpecError::Refused(SpecFault::FlagsClash)),
+            is_clash,
+        )?;
     }
     Ok(())
 }

@@ -26,7 +26,11 @@ impl Seen {
     }
 
     /// Compares an answer with what is wanted.
-    pub fn same<T: PartialEq + Debug + Drop>(&mut self, got: T, wanted: T) -> Result<(), AllocError> {
+    pub fn same<T: PartialEq + Debug + Drop>(
+        &mut self,
+        got: T,
+        wanted: T,
+    ) -> Result<(), AllocError> {
         self.compared = self.compared.saturating_add(1);
         if got != wanted {
             let line = format!(in self.alloc; "{}: {got:?} and not {wanted:?}\n", self.compared)?;

@@ -1,7 +1,7 @@
 //! Signals: which may be declared, how many handlers may be connected, which ones a call means, and whose turn it is in an emission.
 
-use crate::seen::Seen;
 use crate::fixtures::added;
+use crate::seen::Seen;
 use g_values::{Kind, Value};
 use signal_core::{
     Accumulator, ConnectError, Connection, Cursor, Emission, Handlers, Signal, SignalError,
@@ -422,7 +422,10 @@ fn emits_what_was_declared(seen: &mut Seen) -> Result<(), Fail> {
         let mut cursor = handlers.begin_emission(to.ok_or("no emission")?);
         seen.same(turns(&handlers, &mut cursor, 0), 93)?;
     }
-    seen.same(table.emission(&tree, t, ObjectId(1), 7, None).is_none(), true)?;
+    seen.same(
+        table.emission(&tree, t, ObjectId(1), 7, None).is_none(),
+        true,
+    )?;
     Ok(())
 }
 

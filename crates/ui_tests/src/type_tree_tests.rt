@@ -1,7 +1,7 @@
 //! Types: which may be added, and what is told of them.
 
-use crate::seen::Seen;
 use crate::fixtures::{added, tree_of_members};
+use crate::seen::Seen;
 use std::alloc::Global;
 use std::test::Fail;
 use type_tree::{
@@ -124,7 +124,10 @@ fn tells_of_members(seen: &mut Seen) -> Result<(), Fail> {
     for (t, is_enum) in [(mode, true), (marks, false)] {
         let members = (tree.enum_members(t).len(), tree.flags_members(t).len());
         let want = if is_enum { (2, 0) } else { (0, 2) };
-        seen.same((tree.is_enum(t), tree.is_flags(t), members), (is_enum, !is_enum, want))?;
+        seen.same(
+            (tree.is_enum(t), tree.is_flags(t), members),
+            (is_enum, !is_enum, want),
+        )?;
     }
     Ok(())
 }
