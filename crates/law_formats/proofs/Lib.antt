@@ -1,0 +1,4 @@
+pub mod CalmProofs
+pub mod BlockProofs
+pub mod NumberProofs
+pub mod WorkedProofs

@@ -1,0 +1,2 @@
+pub mod PoolProofs
+pub mod WorkedProofs

@@ -1,0 +1,18 @@
+-- The worked pools compute.
+use Rattle.std.proofs.Common.{refl}
+use Rattle.law_pools.specs.WorkedPools.{definition, pool, WorkedPools}
+use Rattle.law_pools.proofs.PoolProofs.{matched_is_ready}
+
+pub worked_pools : WorkedPools
+worked_pools = record {
+  needs = refl;
+  matches = refl;
+  free = (refl, (refl, tt));
+  ready = matched_is_ready definition pool refl (refl, (refl, tt));
+  empty = refl;
+  without = refl;
+  shut = refl;
+  shaped = refl;
+  more = refl;
+  first = refl;
+}
