@@ -1,0 +1,2 @@
+pub mod OtherProofs
+pub mod BlindProofs

@@ -1,0 +1,2 @@
+pub mod PeerLines
+pub mod Blind

@@ -1,0 +1,21 @@
+-- The lines of a transcript that are about a peer: `call`, `fault` and `close`.
+use Rattle.std.specs.Prelude.{ℕ, Bool, true, false, cond, codes, nat_eq, List, [], ◌∷◌, ◌||◌}
+use Rattle.std.specs.List.{filter}
+
+-- whether a line begins with these bytes
+abbrev pub begins_with : List ℕ → List ℕ → Bool
+begins_with [] line = true
+begins_with (x ∷ xs) [] = false
+begins_with (x ∷ xs) (y ∷ line) = cond (nat_eq x y) (begins_with xs line) false
+
+-- whether a line says what a peer replied
+abbrev pub is_reply_line : List ℕ → Bool
+is_reply_line line = begins_with (codes "call ") line || begins_with (codes "fault ") line
+
+-- whether a line says that, or that a peer was closed
+abbrev pub is_peer_line : List ℕ → Bool
+is_peer_line line = is_reply_line line || begins_with (codes "close ") line
+
+-- those of a transcript
+abbrev pub peer_lines : List (List ℕ) → List (List ℕ)
+peer_lines lines = filter is_peer_line lines
