@@ -1,2 +1,5 @@
 pub mod OtherProofs
 pub mod BlindProofs
+pub mod LifeProofs
+pub mod PartLives
+pub mod RunLives

@@ -1,2 +1,3 @@
 pub mod PeerLines
 pub mod Blind
+pub mod PeerLaws

@@ -1,7 +1,22 @@
-//! The laws on peers: what a step that is about none leaves of them, and how a run leads each from its first state to its last.
+//! The laws on peers: how a run leads each from its first state to its last, and that a step which is about none of them is blind to them.
 #![tactic(auto)]
 
 ghost use Rattle.law_peers.specs.Blind.{StepIsBlind, TaskIsBlind, InstructionIsBlind, AsksNothing};
+ghost use Rattle.law_peers.specs.PeerLaws.{StepLives, ReachesLives, DispatchLives, EventLives, EventsLive, RunLives, EachLives, LinesOfReplies, UntouchedStays};
+
+/// Peers live by their replies alone: each is asked while it is open, in the state that its reply before left, and closed once at most, with
+/// a line for each reply and each close, in their order. So it is for each peer; and one with no reply and no close is as it was.
+pub fn peers()
+    ensures step { StepLives }
+    ensures reaches { ReachesLives }
+    ensures dispatch { DispatchLives }
+    ensures event { EventLives }
+    ensures events { EventsLive }
+    ensures run { RunLives }
+    ensures each { EachLives }
+    ensures lines { LinesOfReplies }
+    ensures untouched { UntouchedStays }
+{}
 
 /// A step that asks, takes and closes no peer leads to the same with other peers, and asks nothing.
 pub fn blind()

@@ -1,0 +1,16 @@
+use Rattle.law_peers.proofs.LifeProofs.{each_lives, lines_of_replies, untouched_stays}
+use Rattle.law_peers.proofs.RunLives.{dispatch_lives, event_lives, events_live, reaches_lives, run_lives, step_lives}
+use Rattle.law_peers.proofs.peers.Goals as goal
+
+pub returns : goal.returns
+returns c = record {
+  step = step_lives;
+  reaches = reaches_lives;
+  dispatch = dispatch_lives;
+  event = event_lives;
+  events = events_live;
+  run = run_lives;
+  each = each_lives;
+  lines = lines_of_replies;
+  untouched = untouched_stays;
+}
