@@ -3,3 +3,4 @@ pub mod BlindProofs
 pub mod LifeProofs
 pub mod PartLives
 pub mod RunLives
+pub mod WorkedProofs

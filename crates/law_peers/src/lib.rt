@@ -3,6 +3,7 @@
 
 ghost use Rattle.law_peers.specs.Blind.{StepIsBlind, TaskIsBlind, InstructionIsBlind, AsksNothing};
 ghost use Rattle.law_peers.specs.PeerLaws.{StepLives, ReachesLives, DispatchLives, EventLives, EventsLive, RunLives, EachLives, LinesOfReplies, UntouchedStays};
+ghost use Rattle.law_peers.specs.WorkedPeers.{WorkedLife, WorkedBlind};
 
 /// Peers live by their replies alone: each is asked while it is open, in the state that its reply before left, and closed once at most, with
 /// a line for each reply and each close, in their order. So it is for each peer; and one with no reply and no close is as it was.
@@ -16,6 +17,7 @@ pub fn peers()
     ensures each { EachLives }
     ensures lines { LinesOfReplies }
     ensures untouched { UntouchedStays }
+    ensures worked { WorkedLife }
 {}
 
 /// A step that asks, takes and closes no peer leads to the same with other peers, and asks nothing.
@@ -24,4 +26,5 @@ pub fn blind()
     ensures task { TaskIsBlind }
     ensures instruction { InstructionIsBlind }
     ensures asks { AsksNothing }
+    ensures worked { WorkedBlind }
 {}

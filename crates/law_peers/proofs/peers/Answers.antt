@@ -1,5 +1,6 @@
 use Rattle.law_peers.proofs.LifeProofs.{each_lives, lines_of_replies, untouched_stays}
 use Rattle.law_peers.proofs.RunLives.{dispatch_lives, event_lives, events_live, reaches_lives, run_lives, step_lives}
+use Rattle.law_peers.proofs.WorkedProofs.{worked_life}
 use Rattle.law_peers.proofs.peers.Goals as goal
 
 pub returns : goal.returns
@@ -13,4 +14,5 @@ returns c = record {
   each = each_lives;
   lines = lines_of_replies;
   untouched = untouched_stays;
+  worked = worked_life;
 }
