@@ -5,6 +5,7 @@ use Rattle.std.specs.Prelude.{IfOk, nat_lt}
 use Rattle.std.proofs.lemmas.List.{append-nil}
 use Rattle.std.proofs.lemmas.List.Elements.{filter-append}
 use Rattle.ui_machine.specs.declared.arm.Arm.{Arm}
+use Rattle.ui_machine.specs.declared.arm.Halt.{Halt}
 use Rattle.ui_machine.specs.declared.arm.Arm.TheVariants as arms
 use Rattle.ui_machine.specs.Definition.{Definition}
 use Rattle.ui_machine.specs.Instructions.{running}
@@ -18,7 +19,7 @@ use Rattle.ui_machine.specs.Rules.Build.{building, building_object}
 use Rattle.ui_machine.specs.Rules.Disposal.{finalised}
 use Rattle.ui_machine.specs.Rules.Events.{Refusal, refusal}
 use Rattle.ui_machine.specs.Rules.MainLoop.{ready_at, turned}
-use Rattle.ui_machine.specs.Runs.{Carries, Comes, Dispatches, Does, Goes, IsRun, Reaches, Rests, RunsSource, RunsSources, Serves, ServesAll, Step, Steps, Tally, Then, beginning, first_world, listed, of_build, of_request, question_in}
+use Rattle.ui_machine.specs.Runs.{Carries, Comes, Dispatches, Does, Goes, Halts, HaltsIn, IsRun, at_a_source, at_its_beginning, Reaches, Rests, RunsSource, RunsSources, Serves, ServesAll, Step, Steps, Tally, Then, beginning, first_world, listed, of_build, of_request, question_in}
 use Rattle.ui_machine.specs.State.Config.{Config, Left, Started, World, said}
 use Rattle.ui_machine.specs.State.Peers.{Peer, Reply, Question}
 use Rattle.ui_machine.specs.State.References.{mentions, next_unheld}
@@ -30,7 +31,7 @@ use Rattle.machine_laws.specs.FrontLaws.{fronted_at, mapped}
 use Rattle.machine_laws.proofs.FrontProofs.{step_appends}
 use Rattle.law_peers.specs.PeerLines.{is_peer_line, peer_lines}
 use Rattle.law_peers.specs.Blind.{first_meets_peers, items_meet_peers, meets_peers, tasks_meet_peers}
-use Rattle.law_peers.specs.PeerLaws.{DispatchLives, EventLives, EventsLive, Lives, PeersLive, ReachesLives, RunLives, StepLives}
+use Rattle.law_peers.specs.PeerLaws.{HaltLives, LivesTo, DispatchLives, EventLives, EventsLive, Lives, PeersLive, ReachesLives, RunLives, StepLives}
 use Rattle.law_peers.proofs.OtherProofs.{Adds, other_at, steps_first}
 use Rattle.law_peers.proofs.BlindProofs.{asks_nothing}
 use Rattle.law_peers.proofs.LifeProofs.{then_live}
@@ -232,6 +233,35 @@ module _ (d : Definition) where
   serves_all [] replies w tally new h = rests replies w tally new h
   serves_all (event ∷ events) replies w tally new h =
       both (Serves d event) (ServesAll d events) (λ r v t u x. comes event (refusal v event) r v t u x) (serves_all events) replies w tally new h
+
+  halting : (replies : List Reply) (c : Config) (halt : Halt) (shown : List (List ℕ)) (w : World) → c.world.peers ≡ w.peers → peer_lines c.world.transcript ≡ peer_lines w.transcript →
+      Halts d replies c halt shown → LivesTo d replies w shown
+  halting replies c halt shown w peers lines r = record {
+    at = r.at.world;
+    lines = r.lines;
+    lives = then_live d [] replies w c.world r.at.world (rests_in d w c.world peers lines) (steps_live r.reached.count replies c r.at r.reached.steps);
+  }
+
+  halts_in : (event : Event) (replies : List Reply) (w : World) (halt : Halt) (shown : List (List ℕ)) → HaltsIn d event replies w halt shown → LivesTo d replies w shown
+  halts_in (config.request r) replies w halt shown h = halting replies (of_request w r) halt shown w refl refl h
+  halts_in (config.turn moment) replies w halt shown (at_its_beginning stops) = record {
+    at = w;
+    lines = stops.lines;
+    lives = subst (λ rs. PeersLive d rs w w) (sym stops.asked) (rests_in d w w refl refl);
+  }
+  halts_in (config.turn moment) replies w halt shown (at_a_source h) =
+      let last = halting h.later (beginning h.mid (Due h.number)) halt shown h.mid refl refl h.halts in
+      record {
+        at = last.at;
+        lines = last.lines;
+        lives = subst (λ rs. PeersLive d rs w last.at) (sym h.replied) (then_live d h.first h.later w h.mid last.at
+            (then_live d [] h.first w (turned d w moment) h.mid
+            (rests_in d w (turned d w moment) refl (quiet_line w.transcript (text_of_line d.types (lines.turn moment)) refl))
+            (runs_sources h.done h.first (turned d w moment) h.tally h.mid h.runs)) last.lives);
+      }
+
+pub halt_lives : HaltLives
+halt_lives d event replies w halt shown h = halts_in d event replies w halt shown h
 
 pub reaches_lives : ReachesLives
 reaches_lives d replies c e r = steps_live d r.count replies c e r.steps

@@ -1,6 +1,7 @@
 -- What a run does to the peers of its pool: each is asked in the state that its reply before left, and closed once at most.
 use Rattle.std.specs.Prelude.{◌≡◌, ℕ, Bool, true, false, List, [], ◌∷◌, ◌++◌, ◌⊎◌, Option, Some, map, nat_eq}
 use Rattle.std.specs.List.{filter}
+use Rattle.ui_machine.specs.declared.arm.Halt.{Halt}
 use Rattle.ui_machine.specs.Definition.{Definition}
 use Rattle.ui_machine.specs.Definition.Kinds as kinds
 use Rattle.ui_machine.specs.Definition.Signals.{Method}
@@ -8,7 +9,7 @@ use Rattle.ui_machine.specs.Instructions.Peers.{call_line}
 use Rattle.ui_machine.specs.Output.Lines as lines
 use Rattle.ui_machine.specs.Output.Text.{text_of_line}
 use Rattle.ui_machine.specs.Rules.Construction.{lent}
-use Rattle.ui_machine.specs.Runs.{Dispatches, IsRun, Reaches, Serves, ServesAll, Step, Tally, listed}
+use Rattle.ui_machine.specs.Runs.{Dispatches, HaltsIn, IsRun, Reaches, Serves, ServesAll, Step, Tally, listed}
 use Rattle.ui_machine.specs.Seq.{read, write}
 use Rattle.ui_machine.specs.State.Config.{Config, World}
 use Rattle.ui_machine.specs.State.Peers.{Peer, PeerState, Reply, closed_peer, no_peer}
@@ -91,6 +92,18 @@ abbrev pub RunLives : Type 0
 RunLives =
     (d : Definition) (peers : List Peer) (events : List Event) (replies : List Reply) (tally : Tally) (new : World) →
     IsRun d peers events replies tally new → Lives d peers replies (peer_lines new.transcript) new.peers
+
+-- peers live to those of a world that has shown these lines
+pub record LivesTo (d : Definition) (replies : List Reply) (w : World) (shown : List (List ℕ)) : Type 0 where
+  pub at : World
+  pub lines : at.transcript ≡ shown
+  pub lives : PeersLive d replies w at
+
+-- so do they as far as an event comes that halts
+abbrev pub HaltLives : Type 0
+HaltLives =
+    (d : Definition) (event : Event) (replies : List Reply) (w : World) (halt : Halt) (shown : List (List ℕ)) → HaltsIn d event replies w halt shown →
+    LivesTo d replies w shown
 
 -- ** what this says of each peer
 

@@ -1,5 +1,5 @@
 use Rattle.law_peers.proofs.LifeProofs.{each_lives, lines_of_replies, untouched_stays}
-use Rattle.law_peers.proofs.RunLives.{dispatch_lives, event_lives, events_live, reaches_lives, run_lives, step_lives}
+use Rattle.law_peers.proofs.RunLives.{dispatch_lives, event_lives, events_live, halt_lives, reaches_lives, run_lives, step_lives}
 use Rattle.law_peers.proofs.WorkedProofs.{worked_life}
 use Rattle.law_peers.proofs.peers.Goals as goal
 
@@ -11,6 +11,7 @@ returns c = record {
   event = event_lives;
   events = events_live;
   run = run_lives;
+  halt = halt_lives;
   each = each_lives;
   lines = lines_of_replies;
   untouched = untouched_stays;
