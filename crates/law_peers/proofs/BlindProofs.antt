@@ -1,5 +1,5 @@
 -- A step that asks, takes and closes no peer does the same whatever the peers are.
-use Rattle.std.proofs.Common.{◌≡◌, refl, ap, ◌∙◌, ℕ, true, false, List, [], ◌∷◌, Option, None, Some}
+use Rattle.std.proofs.Common.{◌≡◌, refl, ap, ◌∙◌, ℕ, false, List, [], ◌∷◌, Option, None, Some}
 use Rattle.ui_machine.specs.Definition.{Definition}
 use Rattle.ui_machine.specs.State.Config.{Config, World}
 use Rattle.ui_machine.specs.State.References.{mentions, next_unheld}
@@ -40,6 +40,7 @@ first_asks_none d c e None same none = ap (asked_first e.world) same ∙ asks_no
 first_asks_none d c e (Some id) same none = refl
 
 pub asks_nothing : AsksNothing
-asks_nothing d c peers none =
-    (first_asks_none d c c (next_unheld (mentions d c) c.world.objects) refl none,
-    first_asks_none d c (with_peers_at peers c) (next_unheld (mentions d c) c.world.objects) refl none)
+asks_nothing d c peers none = (
+  first_asks_none d c c (next_unheld (mentions d c) c.world.objects) refl none,
+  first_asks_none d c (with_peers_at peers c) (next_unheld (mentions d c) c.world.objects) refl none,
+)

@@ -1,5 +1,5 @@
 -- Lives of peers, joined; and what they say of each peer.
-use Rattle.std.proofs.Common.{◌≡◌, refl, ap, sym, subst, ◌∙◌, ℕ, zero, suc, Bool, true, false, cond, List, [], ◌∷◌, ◌++◌, map, nat_eq, Option, None, Some, inl, inr, ◌⊎◌, append_assoc, arith}
+use Rattle.std.proofs.Common.{◌≡◌, refl, ap, sym, subst, ◌∙◌, ℕ, zero, suc, Bool, true, false, cond, List, [], ◌∷◌, ◌++◌, map, nat_eq, Option, None, Some, inl, inr, append_assoc, arith}
 use Rattle.std.specs.List.{filter}
 use Rattle.std.proofs.lemmas.Bool.Decides.{nat_tests}
 use Rattle.std.proofs.lemmas.Bool.{eqb-true, false≢true}
@@ -170,7 +170,7 @@ module _ (d : Definition) (k : ℕ) where
       LivesBy d k (replied_in a r) rs ls b → LivesBy d k a (r ∷ rs) ls b
   replied_here a b r rs ls here e asked opened x =
       let on : peer_in (replied_in a r) k ≡ record (peer_in a r.question.peer) { state = r.state } =
-          ap (λ n. peer_in (replied_in a r) n) (sym here) ∙ read_same a r.question.peer (record (peer_in a r.question.peer) { state = r.state }) in
+      ap (λ n. peer_in (replied_in a r) n) (sym here) ∙ read_same a r.question.peer (record (peer_in a r.question.peer) { state = r.state }) in
       let state : (peer_in (replied_in a r) k).state ≡ r.state = ap (λ (p : Peer). p.state) on in
       let name : (peer_in (replied_in a r) k).name ≡ (peer_in a k).name = ap (λ (p : Peer). p.name) on ∙ ap (λ n. (peer_in a n).name) here in
       let first : r.question.state ≡ (peer_in a k).state = asked ∙ ap (λ n. (peer_in a n).state) here in
@@ -186,11 +186,11 @@ module _ (d : Definition) (k : ℕ) where
       (peer_in a number).state.is_open ≡ true → line ≡ close_line d a number → LivesBy d k (shut_in a number) rs ls b → LivesBy d k a rs (line ∷ ls) b
   closed_here a b number rs line ls here opened said x =
       let on : peer_in (shut_in a number) k ≡ closed_peer (peer_in a k) =
-          ap (λ n. peer_in (shut_in a number) n) (sym here) ∙ (read_same a number (closed_peer (peer_in a number)) ∙ ap (λ n. closed_peer (peer_in a n)) here) in
+      ap (λ n. peer_in (shut_in a number) n) (sym here) ∙ (read_same a number (closed_peer (peer_in a number)) ∙ ap (λ n. closed_peer (peer_in a n)) here) in
       let closed : (peer_in (shut_in a number) k).state.is_open ≡ false = ap (λ (p : Peer). p.state.is_open) on in
       let none = closed_asks_none (replies_of k rs) (peer_in (shut_in a number) k).state x.last closed x.asked in
       let end : (peer_in b k).state ≡ shut (peer_in a k).state =
-          sym (closed_stays (ap (λ (s : PeerState). s.is_open) (sym none.1) ∙ closed) x.ended) ∙ (sym none.1 ∙ ap (λ (p : Peer). p.state) on) in
+      sym (closed_stays (ap (λ (s : PeerState). s.is_open) (sym none.1) ∙ closed) x.ended) ∙ (sym none.1 ∙ ap (λ (p : Peer). p.state) on) in
       record {
         last = (peer_in a k).state;
         asked = subst (λ (q : List Reply). LeadsTo q (peer_in a k).state (peer_in a k).state) (sym none.0) refl;

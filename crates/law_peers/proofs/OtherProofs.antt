@@ -19,7 +19,7 @@ use Rattle.ui_machine.specs.State.Sources as sources
 use Rattle.ui_machine.specs.Rules.Transform.{same_bool}
 use Rattle.ui_machine.specs.Output.Text.{text_of_line}
 use Rattle.ui_machine.specs.State.Tasks as config
-use Rattle.ui_machine.specs.State.Objects.{Object, Objects, live, living, most_identities}
+use Rattle.ui_machine.specs.State.Objects.{Objects, live, living, most_identities}
 use Rattle.ui_machine.specs.State.Peers.{Peer, Reply}
 use Rattle.ui_machine.specs.State.Config.{World, Config, BuilderEntry, Started, said, with_objects, with_builder_entry, starts, sunk, Left}
 use Rattle.ui_machine.specs.State.Tasks.{Setting, Notifying, Beginning, Emitting, Transferring, Unsetting, Thawing, Running, Answering, Calling, Constructing, Building, Handling, Due, Task, Emission, PlanEntry, class_handler, handler, Frame, ConstructStep, sets, runs, thaws, Item, makes, adopts, forwards, binds, connects, Request}

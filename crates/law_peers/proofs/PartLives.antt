@@ -1,7 +1,7 @@
 -- How the peers of a pool live through each part of a step that is about peers.
 use Rattle.std.proofs.Common.{◌≡◌, refl, ap, sym, subst, ◌∙◌, ℕ, zero, suc, Bool, true, false, cond, not, List, [], ◌∷◌, ◌++◌, Option, None, Some, Ok, Err}
-use Rattle.std.specs.List.{filter, list_all}
-use Rattle.std.specs.Prelude.{IfOk, codes, is_some, length, nat_lt, slice_get, ◌||◌}
+use Rattle.std.specs.List.{list_all}
+use Rattle.std.specs.Prelude.{IfOk, codes, length, nat_lt, slice_get}
 use Rattle.std.proofs.lemmas.List.{append-nil}
 use Rattle.std.proofs.lemmas.List.Elements.{filter-append}
 use Rattle.ui_machine.specs.declared.arm.Arm.{Arm}
@@ -24,28 +24,22 @@ use Rattle.ui_machine.specs.Output.Lines.{Line}
 use Rattle.ui_machine.specs.Output.Lines as lines
 use Rattle.ui_machine.specs.Output.Text.{text_of_line}
 use Rattle.ui_machine.specs.Rules.Accumulation.{or_zero, received}
-use Rattle.ui_machine.specs.Rules.Build.{to_make, building, building_object, peer_for}
-use Rattle.ui_machine.specs.Rules.Construction.{construction, has_valid_default, lent, making, new_object, peer_to_take, with_object}
+use Rattle.ui_machine.specs.Rules.Build.{to_make, building_object, peer_for}
+use Rattle.ui_machine.specs.Rules.Construction.{construction, has_valid_default, making, new_object, peer_to_take, with_object}
 use Rattle.ui_machine.specs.Rules.Disposal.{closed_if_open, closing, disposed, finalised, is_first, peer_of, said_if, without_object}
 use Rattle.ui_machine.specs.Rules.Programs.{all_fit}
 use Rattle.ui_machine.specs.Rules.Sets.{is_disposed}
 use Rattle.ui_machine.specs.Rules.Transform.{kind_fits, zero_value}
 use Rattle.ui_machine.specs.Seq.{read, write}
-use Rattle.ui_machine.specs.State.Config.{Config, Left, Started, World, is_asked, peer_at, peer_state, said, starts, with_objects, with_peer_state}
+use Rattle.ui_machine.specs.State.Config.{Left, Started, World, is_asked, peer_at, peer_state, said, starts, with_objects, with_peer_state}
 use Rattle.ui_machine.specs.State.Objects.{class_in, living, object_at, put}
 use Rattle.ui_machine.specs.State.Peers.{Peer, PeerState, Question, Reply, closed_peer, method_number, method_of, no_peer}
-use Rattle.ui_machine.specs.State.References.{mentions, next_unheld}
-use Rattle.ui_machine.specs.State.Tasks.{Answering, Beginning, Building, Call, Calling, Constructing, Due, Emitting, Frame, Handling, Item, Notifying, Running, Setting, Task, Thawing, Transferring, Unsetting, adopts, binds, connects, forwards, makes}
-use Rattle.ui_machine.specs.Steps.{act, asked_after, before, counted, counted_left, finalising, first_of, left, most_steps, question, step, uncounted}
-use Rattle.ui_machine.specs.Runs.{Step, listed, question_in}
-use Rattle.machine_laws.specs.FrontLaws.{fronted_at, mapped}
-use Rattle.machine_laws.proofs.FrontProofs.{step_appends}
-use Rattle.law_peers.specs.PeerLines.{is_peer_line, is_reply_line, peer_lines}
-use Rattle.law_peers.specs.Blind.{block_meets_peers, first_meets_peers, instruction_meets_peers, items_meet_peers, meets_peers, next_meets_peers, tasks_meet_peers}
-use Rattle.law_peers.specs.PeerLaws.{Lives, PeersLive, StepLives, close_line, has_replied, no_method, nothing, peer_in, replied_in, reply_line, shut_in, was_closed, was_got}
-use Rattle.law_peers.proofs.OtherProofs.{Adds, other_at, steps_first}
-use Rattle.law_peers.proofs.BlindProofs.{asks_nothing}
-use Rattle.law_peers.proofs.LifeProofs.{says_reply, then_live}
+use Rattle.ui_machine.specs.State.Tasks.{Call, Calling, Constructing, Frame, Item, Task}
+use Rattle.ui_machine.specs.Runs.{listed, question_in}
+use Rattle.law_peers.specs.PeerLines.{is_peer_line, peer_lines}
+use Rattle.law_peers.specs.Blind.{block_meets_peers, instruction_meets_peers, next_meets_peers}
+use Rattle.law_peers.specs.PeerLaws.{Lives, PeersLive, has_replied, no_method, nothing, peer_in, replied_in, reply_line, shut_in, was_closed, was_got}
+use Rattle.law_peers.proofs.LifeProofs.{then_live}
 
 -- ** lines
 
@@ -164,7 +158,7 @@ module _ (d : Definition) where
     makes_one place peer held = bind_lives (known arms.Code (place_at d place)) _ Live (λ p _.
         let valid = list_all (has_valid_default d) (specs_of d p.class) in
         let begun : Answer Started = starts (said d (with_object d w (new_object d place p peer)) (lines.construct (suc (length w.objects)) (type_of d p.class).name))
-            (Constructing (suc (length w.objects)) (construction d w place p) held ∷ []) in
+        (Constructing (suc (length w.objects)) (construction d w place p) held ∷ []) in
         only_lives (not (type_of d p.class).is_abstract) arms.Abstract (only_if valid arms.Value begun) Live
         (only_lives valid arms.Value begun Live (made place p peer (suc (length w.objects)) (type_of d p.class).name)))
 
@@ -283,16 +277,16 @@ module _ (d : Definition) where
         let at : peer_in w.peers r.question.peer ≡ p = ap (λ n. peer_in w.peers n) number ∙ here in
         let shape : r.question.state.shape ≡ p.state.shape = ap (λ (s : PeerState). s.shape) state ∙ ap (λ (q : Peer). q.state.shape) here in
         let method : read no_method r.question.state.shape r.question.method ≡ m =
-            ap (λ s. read no_method s r.question.method) shape ∙ (ap (λ n. read no_method p.state.shape n) (ap (λ (q : Question). q.method) same)
-            ∙ read_there no_method p.state.shape c.method m has) in
+        ap (λ s. read no_method s r.question.method) shape ∙ (ap (λ n. read no_method p.state.shape n) (ap (λ (q : Question). q.method) same)
+        ∙ read_there no_method p.state.shape c.method m has) in
         let line : reply_line d w.peers r ≡ text_of_line d.types (call_line p m c.args r.answer) =
-            ap (λ q. text_of_line d.types (call_line q (read no_method r.question.state.shape r.question.method) r.question.args r.answer)) at
-            ∙ (ap (λ n. text_of_line d.types (call_line p n r.question.args r.answer)) method
-            ∙ ap (λ a. text_of_line d.types (call_line p m a r.answer)) args) in
+        ap (λ q. text_of_line d.types (call_line q (read no_method r.question.state.shape r.question.method) r.question.args r.answer)) at
+        ∙ (ap (λ n. text_of_line d.types (call_line p n r.question.args r.answer)) method
+        ∙ ap (λ a. text_of_line d.types (call_line p m a r.answer)) args) in
         let pool : replied_in w.peers r ≡ write p w.peers c.peer (record p { state = r.state }) =
-            ap (λ q. write no_peer w.peers r.question.peer (record q { state = r.state })) at
-            ∙ (ap (λ n. write no_peer w.peers n (record p { state = r.state })) number
-            ∙ write_there no_peer p w.peers c.peer p (record p { state = r.state }) there) in
+        ap (λ q. write no_peer w.peers r.question.peer (record q { state = r.state })) at
+        ∙ (ap (λ n. write no_peer w.peers n (record p { state = r.state })) number
+        ∙ write_there no_peer p w.peers c.peer p (record p { state = r.state }) there) in
         record {
           lines = text_of_line d.types (call_line p m c.args r.answer) ∷ [];
           shown = loud_line w.transcript (text_of_line d.types (call_line p m c.args r.answer)) (says_it p m c.args r.answer);

@@ -1,5 +1,5 @@
 -- How the peers of a pool live through steps, and through runs.
-use Rattle.std.proofs.Common.{◌≡◌, refl, ap, sym, subst, ◌∙◌, ℕ, zero, suc, Bool, true, false, cond, not, List, [], ◌∷◌, ◌++◌, Option, None, Some, Ok, Err, append_assoc}
+use Rattle.std.proofs.Common.{◌≡◌, refl, ap, sym, subst, ◌∙◌, ℕ, zero, suc, Bool, true, false, cond, not, List, [], ◌∷◌, ◌++◌, Option, None, Some, Ok, Err}
 use Rattle.std.specs.List.{filter}
 use Rattle.std.specs.Prelude.{IfOk, nat_lt}
 use Rattle.std.proofs.lemmas.List.{append-nil}
@@ -9,24 +9,23 @@ use Rattle.ui_machine.specs.declared.arm.Halt.{Halt}
 use Rattle.ui_machine.specs.declared.arm.Arm.TheVariants as arms
 use Rattle.ui_machine.specs.Definition.{Definition}
 use Rattle.ui_machine.specs.Instructions.{running}
-use Rattle.ui_machine.specs.Instructions.Jumps.{block_in}
 use Rattle.ui_machine.specs.Instructions.Peers.{calling_on}
 use Rattle.ui_machine.specs.Outcome.{Answer, only_if, ◌>>=◌}
 use Rattle.ui_machine.specs.Output.Lines.{Line}
 use Rattle.ui_machine.specs.Output.Lines as lines
 use Rattle.ui_machine.specs.Output.Text.{text_of_line}
-use Rattle.ui_machine.specs.Rules.Build.{building, building_object}
+use Rattle.ui_machine.specs.Rules.Build.{building}
 use Rattle.ui_machine.specs.Rules.Disposal.{finalised}
 use Rattle.ui_machine.specs.Rules.Events.{Refusal, refusal}
 use Rattle.ui_machine.specs.Rules.MainLoop.{ready_at, turned}
-use Rattle.ui_machine.specs.Runs.{Carries, Comes, Dispatches, Does, Goes, Halts, HaltsIn, IsRun, at_a_source, at_its_beginning, Reaches, Rests, RunsSource, RunsSources, Serves, ServesAll, Step, Steps, Tally, Then, beginning, first_world, listed, of_build, of_request, question_in}
+use Rattle.ui_machine.specs.Runs.{Carries, Comes, Dispatches, Does, Halts, HaltsIn, at_a_source, at_its_beginning, Rests, RunsSource, RunsSources, Serves, ServesAll, Steps, Tally, Then, beginning, first_world, listed, of_build, of_request, question_in}
 use Rattle.ui_machine.specs.State.Config.{Config, Left, Started, World, said}
-use Rattle.ui_machine.specs.State.Peers.{Peer, Reply, Question}
+use Rattle.ui_machine.specs.State.Peers.{Reply, Question}
 use Rattle.ui_machine.specs.State.References.{mentions, next_unheld}
 use Rattle.ui_machine.specs.State.Sources.{Source, source_of}
 use Rattle.ui_machine.specs.State.Tasks.{Answering, Beginning, Building, Calling, Constructing, Due, Emitting, Event, Handling, Notifying, Running, Setting, Task, Thawing, Transferring, Unsetting, Item, adopts, binds, connects, forwards, makes}
 use Rattle.ui_machine.specs.State.Tasks as config
-use Rattle.ui_machine.specs.Steps.{act, asked_after, counted, counted_left, finalising, first_of, left, most_steps, question, step, uncounted}
+use Rattle.ui_machine.specs.Steps.{act, asked_after, finalising, first_of, left, most_steps, step, uncounted}
 use Rattle.machine_laws.specs.FrontLaws.{fronted_at, mapped}
 use Rattle.machine_laws.proofs.FrontProofs.{step_appends}
 use Rattle.law_peers.specs.PeerLines.{is_peer_line, peer_lines}
@@ -65,9 +64,10 @@ abbrev Quiet : Config → Config → Type 0
 Quiet c e = (e.world.peers ≡ c.world.peers) × (peer_lines e.world.transcript ≡ peer_lines c.world.transcript)
 
 quiet_step : (d : Definition) (reply : Option Reply) (c e : Config) → meets_peers d c ≡ false → step d reply c ≡ Ok e → Quiet c e
-quiet_step d reply c e none is =
-    (ap (λ (x : Config). x.world.peers) (ok_same e (other_at (λ t. t) c.world.peers e) (sym is ∙ (steps_first (λ t. t) (λ t line quiet. refl) c.world.peers d reply c id none ∙ ap (mapped (other_at (λ t. t) c.world.peers)) is))),
-    by (step d reply (bare c)) refl)
+quiet_step d reply c e none is = (
+  ap (λ (x : Config). x.world.peers) (ok_same e (other_at (λ t. t) c.world.peers e) (sym is ∙ (steps_first (λ t. t) (λ t line quiet. refl) c.world.peers d reply c id none ∙ ap (mapped (other_at (λ t. t) c.world.peers)) is))),
+  by (step d reply (bare c)) refl,
+)
   where
     id : Option ℕ
     id = next_unheld (mentions d c) c.world.objects
@@ -90,12 +90,12 @@ quiet_step d reply c e none is =
     by (Ok x) f =
         let added : e ≡ fronted_at c.world.transcript x = ok_same e (fronted_at c.world.transcript x) (sym is ∙ (sym same ∙ behind c.world.transcript (Ok x) f)) in
         let filtered : fronted_at (quiet c.world.transcript) x ≡ other_at quiet c.world.peers e =
-            ok_same (fronted_at (quiet c.world.transcript) x) (other_at quiet c.world.peers e)
-            (sym (behind (quiet c.world.transcript) (Ok x) f) ∙ (other_same ∙ (steps_first quiet quiet_adds c.world.peers d reply c id none ∙ ap (mapped (other_at quiet c.world.peers)) is))) in
+        ok_same (fronted_at (quiet c.world.transcript) x) (other_at quiet c.world.peers e)
+        (sym (behind (quiet c.world.transcript) (Ok x) f) ∙ (other_same ∙ (steps_first quiet quiet_adds c.world.peers d reply c id none ∙ ap (mapped (other_at quiet c.world.peers)) is))) in
         let clean : peer_lines (quiet c.world.transcript ++ x.world.transcript) ≡ [] =
-            ap (λ (y : Config). peer_lines y.world.transcript) filtered ∙ none_left e.world.transcript in
+        ap (λ (y : Config). peer_lines y.world.transcript) filtered ∙ none_left e.world.transcript in
         let nothing_said : peer_lines x.world.transcript ≡ [] =
-            sym (filter-append is_peer_line (quiet c.world.transcript) x.world.transcript ∙ ap (λ t. t ++ peer_lines x.world.transcript) (none_left c.world.transcript)) ∙ clean in
+        sym (filter-append is_peer_line (quiet c.world.transcript) x.world.transcript ∙ ap (λ t. t ++ peer_lines x.world.transcript) (none_left c.world.transcript)) ∙ clean in
         ap (λ (y : Config). peer_lines y.world.transcript) added
         ∙ (filter-append is_peer_line c.world.transcript x.world.transcript
         ∙ (ap (λ t. peer_lines c.world.transcript ++ t) nothing_said ∙ append-nil (peer_lines c.world.transcript)))

@@ -24,8 +24,7 @@ use Rattle.ui_machine.specs.Rules.Events.{set_given, set_from_event, get_from_ev
 use Rattle.ui_machine.specs.Steps.{finalising, left}
 use Rattle.ui_machine.specs.Rules.MainLoop.{sourcing}
 use Rattle.ui_machine.specs.Rules.Transfers.{carried}
-use Rattle.machine_rows.specs.Runs.LastReference as lastreference_run
-use Rattle.std.proofs.Common.{◌≡◌, ap, sym, subst, ◌∙◌, ℕ, Bool, true, false, cond, not, nat_eq, List, [], ◌∷◌, Ok, Err, None}
+use Rattle.std.proofs.Common.{◌≡◌, ap, subst, ℕ, Bool, true, false, not, nat_eq, [], Ok, Err, None}
 use Rattle.std.specs.Prelude.{◌&&◌}
 use Rattle.ui_machine.specs.Outcome.{Answer, ◌>>=◌}
 use Rattle.std.proofs.lemmas.Bool.{eqb-true}
@@ -80,7 +79,7 @@ worked_life = go (played definition pool events replies) refl lastreference_hold
         let transcript : p.at.transcript ≡ lines = cc in
         let said : peer_lines p.at.transcript ≡ said_of_it = ap peer_lines transcript in
         let lives : Lives definition pool s.replies said_of_it p.at.peers =
-            subst (λ ls. Lives definition pool s.replies ls p.at.peers) said (run_lives definition pool events s.replies s.tally p.at s.run) in
+        subst (λ ls. Lives definition pool s.replies ls p.at.peers) said (run_lives definition pool events s.replies s.tally p.at s.run) in
         record {
           replies = s.replies;
           tally = s.tally;

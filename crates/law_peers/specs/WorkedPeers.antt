@@ -1,12 +1,10 @@
 -- A worked run with a peer, and a worked step that is about none.
-use Rattle.std.specs.Prelude.{◌≡◌, ℕ, Bool, true, false, List, [], ◌∷◌, codes, Err, None, Ok, is_ok}
-use Rattle.ui_machine.specs.Outcome.{Answer}
+use Rattle.std.specs.Prelude.{◌≡◌, ℕ, true, false, List, [], ◌∷◌, codes, None, is_ok}
 use Rattle.ui_machine.specs.Runs.{IsRun, Tally, of_build}
-use Rattle.ui_machine.specs.State.Config.{Config, World}
+use Rattle.ui_machine.specs.State.Config.{World}
 use Rattle.ui_machine.specs.State.Peers.{Peer, Reply}
 use Rattle.ui_machine.specs.Steps.{step}
 use Rattle.machine_laws.specs.FrontLaws.{mapped}
-use Rattle.machine_rows.specs.Play.{Played, Scripted, played}
 use Rattle.machine_rows.specs.Runs.LastReference.{definition, events}
 use Rattle.machine_rows.specs.Runs.LastReference as last_reference
 use Rattle.law_peers.specs.PeerLines.{peer_lines}
