@@ -4,3 +4,4 @@ pub mod LifeProofs
 pub mod PartLives
 pub mod RunLives
 pub mod WorkedProofs
+pub mod NameProofs

@@ -14,7 +14,7 @@ use Rattle.ui_machine.specs.Seq.{read, write}
 use Rattle.ui_machine.specs.State.Config.{Config, World}
 use Rattle.ui_machine.specs.State.Peers.{Peer, PeerState, Reply, closed_peer, no_peer}
 use Rattle.ui_machine.specs.State.Tasks.{Event}
-use Rattle.law_peers.specs.PeerLines.{is_reply_line, peer_lines}
+use Rattle.law_peers.specs.PeerLines.{has_no_point, is_reply_line, is_reply_line_of, peer_lines}
 
 -- ** a pool
 
@@ -148,6 +148,18 @@ abbrev pub LinesOfReplies : Type 0
 LinesOfReplies =
     (d : Definition) (peers : List Peer) (replies : List Reply) (lines : List (List ℕ)) (new : List Peer) → Lives d peers replies lines new →
     filter is_reply_line lines ≡ map (reply_line d peers) replies
+
+-- a pool in which no name has a point, and no other peer has the name of this one
+pub record IsNamedApart (peers : List Peer) (number : ℕ) : Type 0 where
+  pub plain : (other : ℕ) → has_no_point (peer_in peers other).name ≡ true
+  pub alone : (other : ℕ) → (peer_in peers other).name ≡ (peer_in peers number).name → other ≡ number
+
+-- in such a pool the lines `call` and `fault` with a peer's name are those of its replies, in their order
+abbrev pub LinesByName : Type 0
+LinesByName =
+    (d : Definition) (number : ℕ) (peers : List Peer) (replies : List Reply) (lines : List (List ℕ)) (new : List Peer) →
+    Lives d peers replies lines new → IsNamedApart peers number →
+    filter (is_reply_line_of (peer_in peers number).name) lines ≡ map (reply_line d peers) (replies_of number replies)
 
 -- a peer with no reply, and with no line of its close, is as it was
 abbrev pub UntouchedStays : Type 0

@@ -1,5 +1,5 @@
 -- The lines of a transcript that are about a peer: `call`, `fault` and `close`.
-use Rattle.std.specs.Prelude.{ℕ, Bool, true, false, cond, codes, nat_eq, List, [], ◌∷◌, ◌||◌}
+use Rattle.std.specs.Prelude.{ℕ, Bool, true, false, cond, codes, nat_eq, List, [], ◌∷◌, ◌++◌, ◌||◌}
 use Rattle.std.specs.List.{filter}
 
 -- whether a line begins with these bytes
@@ -11,6 +11,16 @@ begins_with (x ∷ xs) (y ∷ line) = cond (nat_eq x y) (begins_with xs line) fa
 -- whether a line says what a peer replied
 abbrev pub is_reply_line : List ℕ → Bool
 is_reply_line line = begins_with (codes "call ") line || begins_with (codes "fault ") line
+
+-- whether a line says what the peer of this name replied
+abbrev pub is_reply_line_of : List ℕ → List ℕ → Bool
+is_reply_line_of name line =
+    begins_with (codes "call " ++ (name ++ codes ".")) line || begins_with (codes "fault " ++ (name ++ codes ".")) line
+
+-- whether there is no point in a name
+abbrev pub has_no_point : List ℕ → Bool
+has_no_point [] = true
+has_no_point (x ∷ name) = cond (nat_eq x 46) false (has_no_point name)
 
 -- whether a line says that, or that a peer was closed
 abbrev pub is_peer_line : List ℕ → Bool
