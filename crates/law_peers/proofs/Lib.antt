@@ -5,3 +5,4 @@ pub mod PartLives
 pub mod RunLives
 pub mod WorkedProofs
 pub mod NameProofs
+pub mod FinishProofs

@@ -1,6 +1,6 @@
 -- The worked run with a peer, and the worked step.
 use Rattle.std.specs.Fmt.{digits}
-use Rattle.std.proofs.Common.{refl}
+use Rattle.std.proofs.Common.{refl, zero, suc}
 use Rattle.ui_machine.specs.Rules.Construction.{making, apply_construct_property, constructed, thawing_made}
 use Rattle.ui_machine.specs.Rules.Build.{set_forward, held_data, building_child, building_forward, building_binding, building_handler, building_object}
 use Rattle.ui_machine.specs.Instructions.Peers.{with_method, left_with, called, uncalled, calling}
@@ -34,7 +34,7 @@ use Rattle.machine_rows.specs.Play.{Played, played}
 use Rattle.machine_rows.specs.Runs.LastReference.{definition, events, replies, lines}
 use Rattle.machine_rows.proofs.WorkedRuns.{lastreference_holds}
 use Rattle.machine_rows.proofs.PlayLaw.{played_is_run}
-use Rattle.law_peers.specs.PeerLines.{peer_lines}
+use Rattle.law_peers.specs.PeerLines.{has_no_point, peer_lines}
 use Rattle.law_peers.specs.PeerLaws.{Lives, peer_in}
 use Rattle.law_peers.specs.WorkedPeers.{WorkedLife, WorkedBlind, pool, said_of_it}
 use Rattle.law_peers.proofs.BlindProofs.{step_is_blind}
@@ -68,6 +68,14 @@ is_shut n true e = by (nat_eq n 1) e
     by true e = absurd (cc)
     by false e = absurd (cc)
 
+plain : (k : ℕ) → has_no_point (peer_in pool k).name ≡ true
+plain zero = refl
+plain (suc k) = refl
+
+alone : (k : ℕ) → (peer_in pool k).name ≡ (peer_in pool 0).name → k ≡ 0
+alone zero e = refl
+alone (suc k) e = absurd (cc)
+
 pub worked_life : WorkedLife
 unfolding ends_shut counted_and_shut
 worked_life = go (played definition pool events replies) refl lastreference_holds shut_at_end
@@ -88,6 +96,7 @@ worked_life = go (played definition pool events replies) refl lastreference_hold
           said = said;
           lives = lives;
           by = each_lives definition 0 pool s.replies said_of_it p.at.peers lives;
+          apart = record { plain = plain; alone = alone };
           called = calls_one (peer_in p.at.peers 0).state.calls (peer_in p.at.peers 0).state.is_open ends;
           closed = is_shut (peer_in p.at.peers 0).state.calls (peer_in p.at.peers 0).state.is_open ends;
         }

@@ -1,5 +1,5 @@
 -- What a run does to the peers of its pool: each is asked in the state that its reply before left, and closed once at most.
-use Rattle.std.specs.Prelude.{◌≡◌, ℕ, true, false, List, [], ◌∷◌, ◌++◌, ◌⊎◌, Option, Some, map, nat_eq}
+use Rattle.std.specs.Prelude.{◌≡◌, ℕ, true, false, List, [], ◌∷◌, ◌++◌, ◌⊎◌, Option, Some, map, nat_eq, slice_get}
 use Rattle.std.specs.List.{filter}
 use Rattle.ui_machine.specs.declared.arm.Halt.{Halt}
 use Rattle.ui_machine.specs.Definition.{Definition}
@@ -9,9 +9,11 @@ use Rattle.ui_machine.specs.Instructions.Peers.{call_line}
 use Rattle.ui_machine.specs.Output.Lines as lines
 use Rattle.ui_machine.specs.Output.Text.{text_of_line}
 use Rattle.ui_machine.specs.Rules.Construction.{lent}
+use Rattle.ui_machine.specs.Rules.Disposal.{finish}
 use Rattle.ui_machine.specs.Runs.{Dispatches, HaltsIn, IsRun, Reaches, Serves, ServesAll, Step, Tally, listed}
 use Rattle.ui_machine.specs.Seq.{read, write}
 use Rattle.ui_machine.specs.State.Config.{Config, World}
+use Rattle.ui_machine.specs.State.Objects.{Object}
 use Rattle.ui_machine.specs.State.Peers.{Peer, PeerState, Reply, closed_peer, no_peer}
 use Rattle.ui_machine.specs.State.Tasks.{Event}
 use Rattle.law_peers.specs.PeerLines.{has_no_point, is_reply_line, is_reply_line_of, peer_lines}
@@ -167,3 +169,23 @@ UntouchedStays =
     (d : Definition) (number : ℕ) (peers : List Peer) (replies : List Reply) (lines : List (List ℕ)) (new : List Peer) →
     Lives d peers replies lines new → replies_of number replies ≡ [] → (IsAmong (close_line d peers number) lines → ⊥) →
     (peer_in new number).state ≡ (peer_in peers number).state
+
+-- ** the end of a session
+
+-- what one peer comes to as the session is finished after a run: its replies lead to this state, which may be closed then
+pub record FinishedBy (number : ℕ) (peers : List Peer) (replies : List Reply) (new : List Peer) : Type 0 where
+  pub last : PeerState
+  pub asked : LeadsTo (replies_of number replies) (peer_in peers number).state last
+  pub ended : ((peer_in new number).state ≡ last) ⊎ ((peer_in new number).state ≡ shut last)
+  pub named : (peer_in new number).name ≡ (peer_in peers number).name
+
+-- each peer of a run is asked as its replies lead, and closed at most, by a dispose or as the session is finished
+abbrev pub RunFinishes : Type 0
+RunFinishes =
+    (d : Definition) (peers : List Peer) (events : List Event) (replies : List Reply) (tally : Tally) (new : World) (number : ℕ) →
+    IsRun d peers events replies tally new → FinishedBy number peers replies (finish new).peers
+
+-- and closed it is where an object has got it
+abbrev pub FinishCloses : Type 0
+FinishCloses =
+    (w : World) (id number : ℕ) (o : Object) → slice_get w.objects id ≡ Some (Some o) → o.peer ≡ Some number → (peer_in (finish w).peers number).state.is_open ≡ false

@@ -9,7 +9,7 @@ use Rattle.machine_rows.specs.Runs.LastReference.{definition, events}
 use Rattle.machine_rows.specs.Runs.LastReference as last_reference
 use Rattle.law_peers.specs.PeerLines.{peer_lines}
 use Rattle.law_peers.specs.Blind.{meets_peers, with_peers_at}
-use Rattle.law_peers.specs.PeerLaws.{Lives, LivesBy, peer_in}
+use Rattle.law_peers.specs.PeerLaws.{IsNamedApart, Lives, LivesBy, peer_in}
 
 -- its pool, a peer that counts
 abbrev pub pool : List Peer
@@ -28,6 +28,7 @@ pub record WorkedLife : Type 0 where
   pub said : peer_lines new.transcript ≡ said_of_it
   pub lives : Lives definition pool replies said_of_it new.peers
   pub by : LivesBy definition 0 pool replies said_of_it new.peers
+  pub apart : IsNamedApart pool 0
   -- the peer has counted its call, and is closed
   pub called : (peer_in new.peers 0).state.calls ≡ 1
   pub closed : (peer_in new.peers 0).state.is_open ≡ false

@@ -2,7 +2,7 @@
 #![tactic(auto)]
 
 ghost use Rattle.law_peers.specs.Blind.{StepIsBlind, TaskIsBlind, InstructionIsBlind, AsksNothing};
-ghost use Rattle.law_peers.specs.PeerLaws.{StepLives, ReachesLives, DispatchLives, EventLives, EventsLive, RunLives, HaltLives, EachLives, LinesOfReplies, LinesByName, UntouchedStays};
+ghost use Rattle.law_peers.specs.PeerLaws.{StepLives, ReachesLives, DispatchLives, EventLives, EventsLive, RunLives, HaltLives, EachLives, LinesOfReplies, LinesByName, UntouchedStays, RunFinishes, FinishCloses};
 ghost use Rattle.law_peers.specs.WorkedPeers.{WorkedLife, WorkedBlind};
 
 /// Peers live by their replies alone: each is asked while it is open, in the state that its reply before left, and closed once at most, with
@@ -19,6 +19,8 @@ pub fn peers()
     ensures lines { LinesOfReplies }
     ensures by_name { LinesByName }
     ensures untouched { UntouchedStays }
+    ensures finishes { RunFinishes }
+    ensures closes { FinishCloses }
     ensures worked { WorkedLife }
 {}
 
