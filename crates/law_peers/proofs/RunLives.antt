@@ -29,7 +29,7 @@ use Rattle.ui_machine.specs.Steps.{act, asked_after, finalising, first_of, left,
 use Rattle.machine_laws.specs.FrontLaws.{fronted_at, mapped}
 use Rattle.machine_laws.proofs.FrontProofs.{step_appends}
 use Rattle.law_peers.specs.PeerLines.{is_peer_line, peer_lines}
-use Rattle.law_peers.specs.Blind.{first_meets_peers, items_meet_peers, meets_peers, tasks_meet_peers}
+use Rattle.law_peers.specs.Blind.{LeavesPeers, first_meets_peers, items_meet_peers, meets_peers, tasks_meet_peers}
 use Rattle.law_peers.specs.PeerLaws.{HaltLives, LivesTo, DispatchLives, EventLives, EventsLive, Lives, PeersLive, ReachesLives, RunLives, StepLives}
 use Rattle.law_peers.proofs.OtherProofs.{Adds, other_at, steps_first}
 use Rattle.law_peers.proofs.BlindProofs.{asks_nothing}
@@ -99,6 +99,9 @@ quiet_step d reply c e none is = (
         ap (λ (y : Config). peer_lines y.world.transcript) added
         ∙ (filter-append is_peer_line c.world.transcript x.world.transcript
         ∙ (ap (λ t. peer_lines c.world.transcript ++ t) nothing_said ∙ append-nil (peer_lines c.world.transcript)))
+
+pub leaves_peers : LeavesPeers
+leaves_peers d reply c e none is = quiet_step d reply c e none is
 
 -- ** steps that are
 

@@ -18,6 +18,7 @@ use Rattle.ui_machine.specs.State.References.{mentions, next_unheld}
 use Rattle.ui_machine.specs.State.Tasks.{Building, Calling, Frame, Item, Running, Task, makes}
 use Rattle.ui_machine.specs.Steps.{act, question, step}
 use Rattle.machine_laws.specs.FrontLaws.{mapped}
+use Rattle.law_peers.specs.PeerLines.{peer_lines}
 
 -- the world with other peers
 abbrev pub with_peers : List Peer → World → World
@@ -107,7 +108,8 @@ StepIsBlind =
 -- the same of a task
 abbrev pub TaskIsBlind : Type 0
 TaskIsBlind =
-    (d : Definition) (reply : Option Reply) (w : World) (tasks : List Task) (counted : ℕ) (peers : List Peer) → tasks_meet_peers d w tasks ≡ false →
+    (d : Definition) (reply : Option Reply) (w : World) (tasks : List Task) (counted : ℕ) (peers : List Peer) →
+    tasks_meet_peers d w tasks ≡ false →
     act d (with_peers peers w) reply tasks counted ≡ mapped (with_peers_at peers) (act d w reply tasks counted)
 
 -- what an instruction leaves, with other peers
@@ -117,8 +119,15 @@ left_with_peers peers l = record l { world = with_peers peers l.world }
 -- the same of an instruction
 abbrev pub InstructionIsBlind : Type 0
 InstructionIsBlind =
-    (d : Definition) (w : World) (rest : List Task) (f : Frame) (i : Instruction) (peers : List Peer) → instruction_meets_peers d w f i ≡ false →
+    (d : Definition) (w : World) (rest : List Task) (f : Frame) (i : Instruction) (peers : List Peer) →
+    instruction_meets_peers d w f i ≡ false →
     instruction_step d (with_peers peers w) rest f i ≡ mapped (left_with_peers peers) (instruction_step d w rest f i)
+
+-- such a step leaves the peers as they are, and says nothing of them
+abbrev pub LeavesPeers : Type 0
+LeavesPeers =
+    (d : Definition) (reply : Option Reply) (c e : Config) → meets_peers d c ≡ false → step d reply c ≡ Ok e →
+    (e.world.peers ≡ c.world.peers) × (peer_lines e.world.transcript ≡ peer_lines c.world.transcript)
 
 -- and neither step asks anything
 abbrev pub AsksNothing : Type 0

@@ -133,7 +133,8 @@ pub data Ends (line : List ℕ) (lines : List (List ℕ)) : PeerState → PeerSt
   is_shut : {s : PeerState} → s.is_open ≡ true → IsAmong line lines → Ends line lines s (shut s)
 
 -- what one peer comes to
-pub record LivesBy (d : Definition) (number : ℕ) (peers : List Peer) (replies : List Reply) (lines : List (List ℕ)) (new : List Peer) : Type 0 where
+pub record LivesBy (d : Definition) (number : ℕ) (peers : List Peer) (replies : List Reply) (lines : List (List ℕ)) (new : List Peer)
+    : Type 0 where
   pub last : PeerState  -- in which its last reply leaves it
   pub asked : LeadsTo (replies_of number replies) (peer_in peers number).state last
   pub ended : Ends (close_line d peers number) lines last (peer_in new number).state
