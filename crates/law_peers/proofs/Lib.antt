@@ -6,3 +6,4 @@ pub mod RunLives
 pub mod WorkedProofs
 pub mod NameProofs
 pub mod FinishProofs
+pub mod CloseProofs

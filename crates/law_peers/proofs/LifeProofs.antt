@@ -19,7 +19,7 @@ use Rattle.law_peers.specs.PeerLaws.{peer_in, replied_in, shut_in, no_method, re
 -- ** pools
 
 -- what a write leaves of a peer that it replaces, it leaves of all
-kept : {B : Type 0} (f : Peer → B) (peers : List Peer) (number k : ℕ) (y : Peer) → f y ≡ f (read no_peer peers number) →
+pub kept : {B : Type 0} (f : Peer → B) (peers : List Peer) (number k : ℕ) (y : Peer) → f y ≡ f (read no_peer peers number) →
     f (read no_peer (write no_peer peers number y) k) ≡ f (read no_peer peers k)
 kept f [] zero zero y e = e
 kept f [] zero (suc k) y e = refl
@@ -30,7 +30,7 @@ kept f (x ∷ peers) zero (suc k) y e = refl
 kept f (x ∷ peers) (suc number) zero y e = refl
 kept f (x ∷ peers) (suc number) (suc k) y e = kept f peers number k y e
 
-read_same : (peers : List Peer) (number : ℕ) (y : Peer) → read no_peer (write no_peer peers number y) number ≡ y
+pub read_same : (peers : List Peer) (number : ℕ) (y : Peer) → read no_peer (write no_peer peers number y) number ≡ y
 read_same [] zero y = refl
 read_same [] (suc number) y = read_same [] number y
 read_same (x ∷ peers) zero y = refl
@@ -39,7 +39,7 @@ read_same (x ∷ peers) (suc number) y = read_same peers number y
 one_less : (number k : ℕ) → nat_eq (suc number) (suc k) ≡ false → nat_eq number k ≡ false
 one_less number k e = grind (arith, nat_tests)
 
-read_other : (peers : List Peer) (number k : ℕ) (y : Peer) → nat_eq number k ≡ false → read no_peer (write no_peer peers number y) k ≡ read no_peer peers k
+pub read_other : (peers : List Peer) (number k : ℕ) (y : Peer) → nat_eq number k ≡ false → read no_peer (write no_peer peers number y) k ≡ read no_peer peers k
 read_other [] zero zero y e = absurd (cc)
 read_other [] zero (suc k) y e = refl
 read_other [] (suc number) zero y e = refl

@@ -18,11 +18,11 @@ use Rattle.law_peers.proofs.LifeProofs.{lines_of_replies}
 
 -- ** names
 
-itself : (s : List ℕ) → same_name s s ≡ true
+pub itself : (s : List ℕ) → same_name s s ≡ true
 itself [] = refl
 itself (x ∷ xs) = ap (λ b. cond b (same_name xs xs) false) (eq-eqb x x refl) ∙ itself xs
 
-is_same : (a b : List ℕ) → same_name a b ≡ true → a ≡ b
+pub is_same : (a b : List ℕ) → same_name a b ≡ true → a ≡ b
 is_same [] [] e = refl
 is_same [] (y ∷ ys) e = absurd (cc)
 is_same (x ∷ xs) [] e = absurd (cc)

@@ -4,6 +4,7 @@ use Rattle.std.specs.List.{filter}
 use Rattle.ui_machine.specs.declared.arm.Halt.{Halt}
 use Rattle.ui_machine.specs.Definition.{Definition}
 use Rattle.ui_machine.specs.Definition.Kinds as kinds
+use Rattle.ui_machine.specs.Definition.Names.{same_name}
 use Rattle.ui_machine.specs.Definition.Signals.{Method}
 use Rattle.ui_machine.specs.Instructions.Peers.{call_line}
 use Rattle.ui_machine.specs.Output.Lines as lines
@@ -39,7 +40,8 @@ no_method = record { name = []; params = []; result = kinds.bool }
 -- the line of a reply: `call`, or `fault`
 abbrev pub reply_line : Definition → List Peer → Reply → List ℕ
 reply_line d peers r =
-    text_of_line d.types (call_line (peer_in peers r.question.peer) (read no_method r.question.state.shape r.question.method) r.question.args r.answer)
+    text_of_line d.types
+    (call_line (peer_in peers r.question.peer) (read no_method r.question.state.shape r.question.method) r.question.args r.answer)
 
 -- the line of a close
 abbrev pub close_line : Definition → List Peer → ℕ → List ℕ
@@ -54,7 +56,8 @@ pub data Lives (d : Definition) : List Peer → List Reply → List (List ℕ) �
   was_got : {peers : List Peer} {replies : List Reply} {lines : List (List ℕ)} {new : List Peer} (number object : ℕ) →
       Lives d (lent (Some number) object peers) replies lines new → Lives d peers replies lines new
   has_replied : {peers : List Peer} {reply : Reply} {more : List Reply} {line : List ℕ} {lines : List (List ℕ)} {new : List Peer} →
-      reply.question.state ≡ (peer_in peers reply.question.peer).state → reply.question.state.is_open ≡ true → line ≡ reply_line d peers reply →
+      reply.question.state ≡ (peer_in peers reply.question.peer).state → reply.question.state.is_open ≡ true →
+      line ≡ reply_line d peers reply →
       Lives d (replied_in peers reply) more lines new → Lives d peers (reply ∷ more) (line ∷ lines) new
   was_closed : {peers : List Peer} {replies : List Reply} {line : List ℕ} {lines : List (List ℕ)} {new : List Peer} (number : ℕ) →
       (peer_in peers number).state.is_open ≡ true → line ≡ close_line d peers number →
@@ -104,8 +107,8 @@ pub record LivesTo (d : Definition) (replies : List Reply) (w : World) (shown : 
 -- so do they as far as an event comes that halts
 abbrev pub HaltLives : Type 0
 HaltLives =
-    (d : Definition) (event : Event) (replies : List Reply) (w : World) (halt : Halt) (shown : List (List ℕ)) → HaltsIn d event replies w halt shown →
-    LivesTo d replies w shown
+    (d : Definition) (event : Event) (replies : List Reply) (w : World) (halt : Halt) (shown : List (List ℕ)) →
+    HaltsIn d event replies w halt shown → LivesTo d replies w shown
 
 -- ** what this says of each peer
 
@@ -164,6 +167,14 @@ LinesByName =
     Lives d peers replies lines new → IsNamedApart peers number →
     filter (is_reply_line_of (peer_in peers number).name) lines ≡ map (reply_line d peers) (replies_of number replies)
 
+-- and its line of a close comes once at most
+abbrev pub ClosesOnce : Type 0
+ClosesOnce =
+    (d : Definition) (number : ℕ) (peers : List Peer) (replies : List Reply) (lines : List (List ℕ)) (new : List Peer) →
+    Lives d peers replies lines new → IsNamedApart peers number →
+    (filter (same_name (close_line d peers number)) lines ≡ [])
+    ⊎ (filter (same_name (close_line d peers number)) lines ≡ close_line d peers number ∷ [])
+
 -- a peer with no reply, and with no line of its close, is as it was
 abbrev pub UntouchedStays : Type 0
 UntouchedStays =
@@ -189,4 +200,5 @@ RunFinishes =
 -- and closed it is where an object has got it
 abbrev pub FinishCloses : Type 0
 FinishCloses =
-    (w : World) (id number : ℕ) (o : Object) → slice_get w.objects id ≡ Some (Some o) → o.peer ≡ Some number → (peer_in (finish w).peers number).state.is_open ≡ false
+    (w : World) (id number : ℕ) (o : Object) → slice_get w.objects id ≡ Some (Some o) → o.peer ≡ Some number →
+    (peer_in (finish w).peers number).state.is_open ≡ false

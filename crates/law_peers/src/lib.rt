@@ -3,7 +3,7 @@
 
 ghost use Rattle.law_peers.specs.Blind.{StepIsBlind, TaskIsBlind, InstructionIsBlind, LeavesPeers, AsksNothing};
 ghost use Rattle.law_peers.specs.PeerLaws.{StepLives, ReachesLives, DispatchLives, EventLives, EventsLive, RunLives, HaltLives};
-ghost use Rattle.law_peers.specs.PeerLaws.{EachLives, LinesOfReplies, LinesByName, UntouchedStays, RunFinishes, FinishCloses};
+ghost use Rattle.law_peers.specs.PeerLaws.{EachLives, LinesOfReplies, LinesByName, ClosesOnce, UntouchedStays, RunFinishes, FinishCloses};
 ghost use Rattle.law_peers.specs.WorkedPeers.{WorkedLife, WorkedBlind};
 
 /// Peers live by their replies alone: each is asked while it is open, in the state that its reply before left, and closed once at most, with
@@ -20,6 +20,7 @@ pub fn peers()
     ensures each { EachLives }
     ensures lines { LinesOfReplies }
     ensures by_name { LinesByName }
+    ensures once { ClosesOnce }
     ensures untouched { UntouchedStays }
     ensures finishes { RunFinishes }
     ensures closes { FinishCloses }

@@ -1,6 +1,7 @@
 use Rattle.law_peers.proofs.LifeProofs.{each_lives, lines_of_replies, untouched_stays}
 use Rattle.law_peers.proofs.NameProofs.{lines_by_name}
 use Rattle.law_peers.proofs.FinishProofs.{finish_closes, run_finishes}
+use Rattle.law_peers.proofs.CloseProofs.{closes_once}
 use Rattle.law_peers.proofs.RunLives.{dispatch_lives, event_lives, events_live, halt_lives, reaches_lives, run_lives, step_lives}
 use Rattle.law_peers.proofs.WorkedProofs.{worked_life}
 use Rattle.law_peers.proofs.peers.Goals as goal
@@ -17,6 +18,7 @@ returns c = record {
   each = each_lives;
   lines = lines_of_replies;
   by_name = lines_by_name;
+  once = closes_once;
   untouched = untouched_stays;
   finishes = run_finishes;
   closes = finish_closes;
