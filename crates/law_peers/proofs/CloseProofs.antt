@@ -1,5 +1,5 @@
 -- A peer's line of a close comes once at most.
-use Rattle.std.proofs.Common.{◌≡◌, refl, ap, sym, subst, ◌∙◌, ℕ, zero, suc, Bool, true, false, cond, List, [], ◌∷◌, ◌++◌, nat_eq, Option, None, Some, inl, inr, ◌⊎◌}
+use Rattle.std.proofs.Common.{◌≡◌, refl, ap, sym, ◌∙◌, ℕ, Bool, true, false, cond, List, [], ◌∷◌, ◌++◌, nat_eq, Option, None, Some, inl, inr, ◌⊎◌}
 use Rattle.std.specs.List.{filter}
 use Rattle.std.specs.Prelude.{codes}
 use Rattle.std.proofs.lemmas.Bool.{eq-eqb, eqb-true, false≢true}
@@ -12,7 +12,7 @@ use Rattle.ui_machine.specs.Output.Text.{text_of_line}
 use Rattle.ui_machine.specs.Rules.Construction.{lent}
 use Rattle.ui_machine.specs.Seq.{read}
 use Rattle.ui_machine.specs.State.Peers.{Peer, PeerState, Reply, closed_peer}
-use Rattle.law_peers.specs.PeerLaws.{ClosesOnce, IsNamedApart, Lives, close_line, has_replied, no_method, nothing, peer_in, replied_in, reply_line, shut_in, was_closed, was_got}
+use Rattle.law_peers.specs.PeerLaws.{ClosesOnce, Lives, close_line, has_replied, no_method, nothing, peer_in, replied_in, reply_line, shut_in, was_closed, was_got}
 use Rattle.law_peers.proofs.LifeProofs.{kept, read_other, read_same}
 use Rattle.law_peers.proofs.NameProofs.{is_same, itself}
 
@@ -108,7 +108,7 @@ module _ (d : Definition) (k : ℕ) (name : List ℕ) where
           let here : number ≡ k = eqb-true number k e in
           let line_is : line ≡ closed_as = said ∙ ap (λ n. codes "close " ++ n) (ap (λ n. (peer_in ps n).name) here ∙ named) in
           let shut_there : (peer_in (shut_in ps number) k).state.is_open ≡ false =
-              ap (λ n. (peer_in (shut_in ps number) n).state.is_open) (sym here) ∙ ap (λ (p : Peer). p.state.is_open) (read_same ps number (closed_peer (peer_in ps number))) in
+          ap (λ n. (peer_in (shut_in ps number) n).state.is_open) (sym here) ∙ ap (λ (p : Peer). p.state.is_open) (read_same ps number (closed_peer (peer_in ps number))) in
           inr (tested line ls true (ap (same_name closed_as) line_is ∙ itself closed_as) ∙ (ap (λ t. line ∷ t) (rest shut_there) ∙ ap (λ l. l ∷ []) line_is))
 
 pub closes_once : ClosesOnce

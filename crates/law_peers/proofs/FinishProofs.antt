@@ -1,18 +1,12 @@
 -- What the end of a session leaves of a pool.
-use Rattle.std.proofs.Common.{◌≡◌, refl, ap, sym, subst, ◌∙◌, ℕ, zero, suc, Bool, true, false, cond, List, [], ◌∷◌, Option, None, Some, inl, inr, ◌⊎◌, nat_eq, slice_get}
+use Rattle.std.proofs.Common.{◌≡◌, refl, ap, sym, ◌∙◌, ℕ, zero, suc, false, List, [], ◌∷◌, Option, None, Some, inl, inr, ◌⊎◌, slice_get}
 use Rattle.std.specs.List.{fold}
 use Rattle.std.specs.Option.{option_map_or}
 use Rattle.std.specs.Prelude.{slice_set}
-use Rattle.std.proofs.lemmas.Bool.{eqb-true, false≢true}
-use Rattle.ui_machine.specs.Definition.{Definition}
 use Rattle.ui_machine.specs.Rules.Disposal.{finish, peers_closed}
-use Rattle.ui_machine.specs.Runs.{IsRun, Tally}
-use Rattle.ui_machine.specs.Seq.{read, write}
-use Rattle.ui_machine.specs.State.Config.{World}
 use Rattle.ui_machine.specs.State.Objects.{Object}
-use Rattle.ui_machine.specs.State.Peers.{Peer, PeerState, Reply, closed_peer, no_peer}
-use Rattle.ui_machine.specs.State.Tasks.{Event}
-use Rattle.law_peers.specs.PeerLaws.{Ends, FinishCloses, FinishedBy, RunFinishes, is_shut, peer_in, shut, stays}
+use Rattle.ui_machine.specs.State.Peers.{Peer, PeerState, closed_peer}
+use Rattle.law_peers.specs.PeerLaws.{Ends, FinishCloses, RunFinishes, is_shut, peer_in, shut, stays}
 use Rattle.law_peers.specs.PeerLines.{peer_lines}
 use Rattle.law_peers.proofs.LifeProofs.{each_lives}
 use Rattle.law_peers.proofs.RunLives.{run_lives}
