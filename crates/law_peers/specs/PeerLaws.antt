@@ -21,7 +21,7 @@ use Rattle.law_peers.specs.PeerLines.{has_no_point, is_reply_line, is_reply_line
 
 -- ** a pool
 
--- a peer by its number; what stands for one that is not there is closed
+-- a peer by its number; where there is none, one without a name that is closed
 abbrev pub peer_in : List Peer → ℕ → Peer
 peer_in peers number = read no_peer peers number
 
@@ -33,7 +33,7 @@ replied_in peers r = write no_peer peers r.question.peer (record (peer_in peers 
 abbrev pub shut_in : List Peer → ℕ → List Peer
 shut_in peers number = write no_peer peers number (closed_peer (peer_in peers number))
 
--- what stands for a method that is not there
+-- a method without a name, where there is none
 abbrev pub no_method : Method
 no_method = record { name = []; params = []; result = kinds.bool }
 
