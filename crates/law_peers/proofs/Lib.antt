@@ -1,0 +1,9 @@
+pub mod OtherProofs
+pub mod BlindProofs
+pub mod LifeProofs
+pub mod PartLives
+pub mod RunLives
+pub mod WorkedProofs
+pub mod NameProofs
+pub mod FinishProofs
+pub mod CloseProofs

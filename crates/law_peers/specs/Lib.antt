@@ -1,0 +1,4 @@
+pub mod PeerLines
+pub mod Blind
+pub mod PeerLaws
+pub mod WorkedPeers

@@ -1,0 +1,38 @@
+//! The laws on peers: how a run leads each from its first state to its last, and that a step which is about none of them is blind to them.
+#![tactic(auto)]
+
+ghost use Rattle.law_peers.specs.Blind.{StepIsBlind, TaskIsBlind, InstructionIsBlind, LeavesPeers, AsksNothing};
+ghost use Rattle.law_peers.specs.PeerLaws.{StepLives, ReachesLives, DispatchLives, EventLives, EventsLive, RunLives, HaltLives};
+ghost use Rattle.law_peers.specs.PeerLaws.{EachLives, LinesOfReplies, LinesByName, ClosesOnce, UntouchedStays, RunFinishes, FinishCloses};
+ghost use Rattle.law_peers.specs.WorkedPeers.{WorkedLife, WorkedBlind};
+
+/// Peers live by their replies alone: each is asked while it is open, in the state that its reply before left, and closed once at most, with
+/// a line for each reply and each close, in their order. So it is for each peer; one with no reply and no close is as it was; and as the
+/// session is finished what an object has got is closed.
+pub fn peers()
+    ensures step { StepLives }
+    ensures reaches { ReachesLives }
+    ensures dispatch { DispatchLives }
+    ensures event { EventLives }
+    ensures events { EventsLive }
+    ensures run { RunLives }
+    ensures halt { HaltLives }
+    ensures each { EachLives }
+    ensures lines { LinesOfReplies }
+    ensures by_name { LinesByName }
+    ensures once { ClosesOnce }
+    ensures untouched { UntouchedStays }
+    ensures finishes { RunFinishes }
+    ensures closes { FinishCloses }
+    ensures worked { WorkedLife }
+{}
+
+/// A step that asks, takes and closes no peer leads to the same with other peers, leaves them as they are, and asks nothing.
+pub fn blind()
+    ensures step { StepIsBlind }
+    ensures task { TaskIsBlind }
+    ensures instruction { InstructionIsBlind }
+    ensures leaves { LeavesPeers }
+    ensures asks { AsksNothing }
+    ensures worked { WorkedBlind }
+{}
