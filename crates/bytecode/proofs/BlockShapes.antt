@@ -1,14 +1,24 @@
 -- The blocks that code keeps and those that the machine has are ended, lead back and count alike.
-use Rattle.std.proofs.Common.{◌≡◌, ℕ, suc, ◌+◌, ◌||◌, not, cond, Bool, false, List, [], ◌∷◌, map, length, Some, refl, sym, ap, ◌∙◌, drop, get_or, ◌<◌, add-one, arith, zero, true≢false, is_some, unwrap_or, slice_get}
+use Rattle.std.proofs.Common.{◌≡◌, ℕ, suc, ◌+◌, ◌||◌, not, cond, Bool, true, false, List, [], ◌∷◌, map, length, Some, refl, sym, ap, ◌∙◌, drop, get_or, ◌<◌, add-one, arith, zero, true≢false, is_some, unwrap_or, slice_get}
 use Rattle.std.proofs.Math.Seq.{drop-cons}
 use Rattle.ui_machine.specs.Seq.{total}
 use Rattle.std.specs.List.{list_any, enumerate_from, position_from}
 use Rattle.bytecode.specs.declared.computations.Computation.{Computation}
 use Rattle.bytecode.specs.declared.computations.Computation.TheVariants as computations
 use Rattle.bytecode.specs.declared.instructions.Instruction.{Instruction}
+use Rattle.bytecode.specs.declared.instructions.ControlInstruction.{ControlInstruction}
+use Rattle.bytecode.specs.declared.instructions.ControlInstruction.TheVariants as controls
+use Rattle.bytecode.specs.declared.instructions.PropertyInstruction.{PropertyInstruction}
+use Rattle.bytecode.specs.declared.instructions.PropertyInstruction.TheVariants as properties
+use Rattle.bytecode.specs.declared.instructions.ObjectInstruction.{ObjectInstruction}
+use Rattle.bytecode.specs.declared.instructions.ObjectInstruction.TheVariants as objects
+use Rattle.bytecode.specs.declared.instructions.SignalInstruction.{SignalInstruction}
+use Rattle.bytecode.specs.declared.instructions.SignalInstruction.TheVariants as signals
+use Rattle.bytecode.specs.declared.instructions.SourceInstruction.{SourceInstruction}
+use Rattle.bytecode.specs.declared.instructions.SourceInstruction.TheVariants as sources
 use Rattle.bytecode.specs.declared.programs.Block.{Block}
 use Rattle.bytecode.specs.Computing.{instruction_of}
-use Rattle.bytecode.specs.View.{instruction_view, block_view}
+use Rattle.bytecode.specs.View.{instruction_view, block_view, control_view, property_instruction_view, object_instruction_view, signal_instruction_view, source_instruction_view}
 use Rattle.bytecode.specs.Shape.{ends_block, leads_back, is_ended, first_backward, first_open, instructions_in}
 
 pub stays : (c : Computation) (to : ℕ) → ends_block (instruction_of c to) ≡ false
@@ -36,6 +46,70 @@ leads_nowhere n (computations.And a b) to = refl
 leads_nowhere n (computations.Or a b) to = refl
 leads_nowhere n (computations.Join a b) to = refl
 leads_nowhere n (computations.Convert a kind) to = refl
+
+pub ends : (i : ControlInstruction) → ends_block (control_view i) ≡ true
+ends (controls.Jump to) = refl
+ends (controls.Branch on then_to else_to) = refl
+ends (controls.BranchNull on then_to else_to) = refl
+ends (controls.Return from) = refl
+
+pub property_stays : (i : PropertyInstruction) → ends_block (property_instruction_view i) ≡ false
+property_stays (properties.Get to object property) = refl
+property_stays (properties.Set object property from) = refl
+property_stays (properties.Notify object property) = refl
+property_stays (properties.Freeze object) = refl
+property_stays (properties.Thaw object) = refl
+
+pub property_leads_nowhere : (n : ℕ) (i : PropertyInstruction) → leads_back n (property_instruction_view i) ≡ false
+property_leads_nowhere n (properties.Get to object property) = refl
+property_leads_nowhere n (properties.Set object property from) = refl
+property_leads_nowhere n (properties.Notify object property) = refl
+property_leads_nowhere n (properties.Freeze object) = refl
+property_leads_nowhere n (properties.Thaw object) = refl
+
+pub object_stays : (i : ObjectInstruction) → ends_block (object_instruction_view i) ≡ false
+object_stays (objects.LookUp to id) = refl
+object_stays (objects.New to id) = refl
+object_stays (objects.Sink object) = refl
+object_stays (objects.Orphan object) = refl
+object_stays (objects.Dispose object) = refl
+object_stays (objects.Adopt to parent child) = refl
+
+pub object_leads_nowhere : (n : ℕ) (i : ObjectInstruction) → leads_back n (object_instruction_view i) ≡ false
+object_leads_nowhere n (objects.LookUp to id) = refl
+object_leads_nowhere n (objects.New to id) = refl
+object_leads_nowhere n (objects.Sink object) = refl
+object_leads_nowhere n (objects.Orphan object) = refl
+object_leads_nowhere n (objects.Dispose object) = refl
+object_leads_nowhere n (objects.Adopt to parent child) = refl
+
+pub signal_stays : (i : SignalInstruction) → ends_block (signal_instruction_view i) ≡ false
+signal_stays (signals.Emit into object signal detail args) = refl
+signal_stays (signals.Connect to object connection) = refl
+signal_stays (signals.Disconnect object program) = refl
+signal_stays (signals.Block object program) = refl
+signal_stays (signals.Unblock object program) = refl
+signal_stays signals.Stop = refl
+
+pub signal_leads_nowhere : (n : ℕ) (i : SignalInstruction) → leads_back n (signal_instruction_view i) ≡ false
+signal_leads_nowhere n (signals.Emit into object signal detail args) = refl
+signal_leads_nowhere n (signals.Connect to object connection) = refl
+signal_leads_nowhere n (signals.Disconnect object program) = refl
+signal_leads_nowhere n (signals.Block object program) = refl
+signal_leads_nowhere n (signals.Unblock object program) = refl
+signal_leads_nowhere n signals.Stop = refl
+
+pub source_stays : (i : SourceInstruction) → ends_block (source_instruction_view i) ≡ false
+source_stays (sources.Unbind name) = refl
+source_stays (sources.Idle to program priority with) = refl
+source_stays (sources.Timeout to program priority interval with) = refl
+source_stays (sources.Remove program) = refl
+
+pub source_leads_nowhere : (n : ℕ) (i : SourceInstruction) → leads_back n (source_instruction_view i) ≡ false
+source_leads_nowhere n (sources.Unbind name) = refl
+source_leads_nowhere n (sources.Idle to program priority with) = refl
+source_leads_nowhere n (sources.Timeout to program priority interval with) = refl
+source_leads_nowhere n (sources.Remove program) = refl
 
 pub any_mapped : {A B : Type 0} (test : B → Bool) (f : A → B) (xs : List A) → list_any test (map f xs) ≡ list_any (λ x. test (f x)) xs
 any_mapped test f [] = refl

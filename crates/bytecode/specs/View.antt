@@ -5,6 +5,17 @@ use Rattle.ui_machine.specs.Definition.Programs as words
 use Rattle.g_values.specs.View.{kind_view}
 use Rattle.bytecode.specs.declared.computations.Register.{Register}
 use Rattle.bytecode.specs.declared.instructions.Connection.{Connection}
+use Rattle.bytecode.specs.declared.instructions.Call.{Call}
+use Rattle.bytecode.specs.declared.instructions.ControlInstruction.{ControlInstruction}
+use Rattle.bytecode.specs.declared.instructions.ControlInstruction.TheVariants as controls
+use Rattle.bytecode.specs.declared.instructions.PropertyInstruction.{PropertyInstruction}
+use Rattle.bytecode.specs.declared.instructions.PropertyInstruction.TheVariants as properties
+use Rattle.bytecode.specs.declared.instructions.ObjectInstruction.{ObjectInstruction}
+use Rattle.bytecode.specs.declared.instructions.ObjectInstruction.TheVariants as objects
+use Rattle.bytecode.specs.declared.instructions.SignalInstruction.{SignalInstruction}
+use Rattle.bytecode.specs.declared.instructions.SignalInstruction.TheVariants as signals
+use Rattle.bytecode.specs.declared.instructions.SourceInstruction.{SourceInstruction}
+use Rattle.bytecode.specs.declared.instructions.SourceInstruction.TheVariants as sources
 use Rattle.bytecode.specs.declared.instructions.Instruction.{Instruction}
 use Rattle.bytecode.specs.declared.instructions.Instruction.TheVariants as instructions
 use Rattle.bytecode.specs.declared.programs.RegisterKind.{RegisterKind}
@@ -33,36 +44,54 @@ connect_view c = record {
   with = option_map number_of c.with;
 }
 
+abbrev pub control_view : ControlInstruction → words.Instruction
+control_view (controls.Jump to) = words.jump to.0
+control_view (controls.Branch on then_to else_to) = words.branch on.0 then_to.0 else_to.0
+control_view (controls.BranchNull on then_to else_to) = words.branch_null on.0 then_to.0 else_to.0
+control_view (controls.Return from) = words.return (option_map number_of from)
+
+abbrev pub property_instruction_view : PropertyInstruction → words.Instruction
+property_instruction_view (properties.Get to object property) = words.get to.0 object.0 (string_bytes property)
+property_instruction_view (properties.Set object property from) = words.set object.0 (string_bytes property) from.0
+property_instruction_view (properties.Notify object property) = words.notify object.0 (string_bytes property)
+property_instruction_view (properties.Freeze object) = words.freeze object.0
+property_instruction_view (properties.Thaw object) = words.thaw object.0
+
+abbrev pub object_instruction_view : ObjectInstruction → words.Instruction
+object_instruction_view (objects.LookUp to id) = words.object to.0 (string_bytes id)
+object_instruction_view (objects.New to id) = words.new to.0 (string_bytes id)
+object_instruction_view (objects.Sink object) = words.sink object.0
+object_instruction_view (objects.Orphan object) = words.orphan object.0
+object_instruction_view (objects.Dispose object) = words.dispose object.0
+object_instruction_view (objects.Adopt to parent child) = words.adopt to.0 parent.0 child.0
+
+abbrev pub signal_instruction_view : SignalInstruction → words.Instruction
+signal_instruction_view (signals.Emit into object signal detail args) =
+    words.emit (option_map number_of into) object.0 (string_bytes signal) (option_map string_bytes detail) (map number_of args.items)
+signal_instruction_view (signals.Connect to object connection) = words.connect to.0 object.0 (connect_view connection)
+signal_instruction_view (signals.Disconnect object program) = words.disconnect object.0 (string_bytes program)
+signal_instruction_view (signals.Block object program) = words.block object.0 (string_bytes program)
+signal_instruction_view (signals.Unblock object program) = words.unblock object.0 (string_bytes program)
+signal_instruction_view signals.Stop = words.stop
+
+abbrev pub source_instruction_view : SourceInstruction → words.Instruction
+source_instruction_view (sources.Unbind name) = words.unbind (string_bytes name)
+source_instruction_view (sources.Idle to program priority with) = words.idle to.0 (string_bytes program) priority (option_map number_of with)
+source_instruction_view (sources.Timeout to program priority interval with) =
+    words.timeout to.0 (string_bytes program) priority interval (option_map number_of with)
+source_instruction_view (sources.Remove program) = words.remove (string_bytes program)
+
+abbrev pub call_view : Call → words.Instruction
+call_view c = words.call c.to.0 c.object.0 (string_bytes c.method) (map number_of c.args.items)
+
 abbrev pub instruction_view : Instruction → words.Instruction
 instruction_view (instructions.Compute to computation) = instruction_of computation to.0
-instruction_view (instructions.Get to object property) = words.get to.0 object.0 (string_bytes property)
-instruction_view (instructions.Set object property from) = words.set object.0 (string_bytes property) from.0
-instruction_view (instructions.Object to id) = words.object to.0 (string_bytes id)
-instruction_view (instructions.New to id) = words.new to.0 (string_bytes id)
-instruction_view (instructions.Sink object) = words.sink object.0
-instruction_view (instructions.Orphan object) = words.orphan object.0
-instruction_view (instructions.Dispose object) = words.dispose object.0
-instruction_view (instructions.Adopt to parent child) = words.adopt to.0 parent.0 child.0
-instruction_view (instructions.Freeze object) = words.freeze object.0
-instruction_view (instructions.Thaw object) = words.thaw object.0
-instruction_view (instructions.Emit into object signal detail args) =
-    words.emit (option_map number_of into) object.0 (string_bytes signal) (option_map string_bytes detail) (map number_of args.items)
-instruction_view (instructions.Notify object property) = words.notify object.0 (string_bytes property)
-instruction_view (instructions.Connect to object connection) = words.connect to.0 object.0 (connect_view connection)
-instruction_view (instructions.Disconnect object program) = words.disconnect object.0 (string_bytes program)
-instruction_view (instructions.Block object program) = words.block object.0 (string_bytes program)
-instruction_view (instructions.Unblock object program) = words.unblock object.0 (string_bytes program)
-instruction_view instructions.Stop = words.stop
-instruction_view (instructions.Unbind name) = words.unbind (string_bytes name)
-instruction_view (instructions.Idle to program priority with) = words.idle to.0 (string_bytes program) priority (option_map number_of with)
-instruction_view (instructions.Timeout to program priority interval with) =
-    words.timeout to.0 (string_bytes program) priority interval (option_map number_of with)
-instruction_view (instructions.Remove program) = words.remove (string_bytes program)
-instruction_view (instructions.Call to object method args) = words.call to.0 object.0 (string_bytes method) (map number_of args.items)
-instruction_view (instructions.Jump to) = words.jump to.0
-instruction_view (instructions.Branch on then_to else_to) = words.branch on.0 then_to.0 else_to.0
-instruction_view (instructions.BranchNull on then_to else_to) = words.branch_null on.0 then_to.0 else_to.0
-instruction_view (instructions.Return from) = words.return (option_map number_of from)
+instruction_view (instructions.Control i) = control_view i
+instruction_view (instructions.Property i) = property_instruction_view i
+instruction_view (instructions.Object i) = object_instruction_view i
+instruction_view (instructions.Signal i) = signal_instruction_view i
+instruction_view (instructions.Source i) = source_instruction_view i
+instruction_view (instructions.Peer c) = call_view c
 
 abbrev pub block_view : Block → words.Block
 block_view b = record { entry = map register_kind_view b.entry.items; repeat = b.repeat; code = map instruction_view b.code.items }

@@ -1,4 +1,5 @@
-//! The instructions of programs.
+//! The instructions of programs, in groups: what touches registers alone, where a program goes on, and what acts on properties, on objects, on
+//! signals, on bindings and sources, and on peers.
 //!
 //! Registers and blocks go by their numbers. Properties, signals, methods, programs, bindings and objects go by name, as in the machine: what a
 //! name means is looked up where the instruction is carried out.
@@ -31,6 +32,44 @@ pub enum Instruction {
         to: Register,
         computation: Computation,
     },
+    /// One of those that end a block.
+    Control(ControlInstruction),
+    /// One on the properties of an object.
+    Property(PropertyInstruction),
+    /// One on objects themselves.
+    Object(ObjectInstruction),
+    /// One on signals and handlers.
+    Signal(SignalInstruction),
+    /// One on bindings and sources.
+    Source(SourceInstruction),
+    /// `call d o m [a..]`: a method of the object's peer.
+    Peer(Call),
+}
+
+/// Where a program goes on, or that it ends.
+#[derive(Debug, Drop)]
+pub enum ControlInstruction {
+    /// `jump b`.
+    Jump(BlockNumber),
+    /// `if a b b`: the first block where the truth value is true.
+    Branch {
+        on: Register,
+        then_to: BlockNumber,
+        else_to: BlockNumber,
+    },
+    /// `ifnull a b b`: the first block where the text or object is null.
+    BranchNull {
+        on: Register,
+        then_to: BlockNumber,
+        else_to: BlockNumber,
+    },
+    /// `return z`: the program ends, with a value where its result has a kind.
+    Return(Option<Register>),
+}
+
+/// An instruction on the properties of an object.
+#[derive(Debug, Drop)]
+pub enum PropertyInstruction {
     /// `get d o p`: the value of a property.
     Get {
         to: Register,
@@ -43,8 +82,22 @@ pub enum Instruction {
         property: String,
         from: Register,
     },
+    /// `notify o p`: the notification of a property.
+    Notify {
+        object: Register,
+        property: String,
+    },
+    /// `freeze o`: notifications of the object wait.
+    Freeze(Register),
+    /// `thaw o`: they wait no longer.
+    Thaw(Register),
+}
+
+/// An instruction on objects themselves.
+#[derive(Debug, Drop)]
+pub enum ObjectInstruction {
     /// `object d id`: an object of the builder, by its id.
-    Object {
+    LookUp {
         to: Register,
         id: String,
     },
@@ -65,10 +118,11 @@ pub enum Instruction {
         parent: Register,
         child: Register,
     },
-    /// `freeze o`: notifications of the object wait.
-    Freeze(Register),
-    /// `thaw o`: they wait no longer.
-    Thaw(Register),
+}
+
+/// An instruction on signals and handlers.
+#[derive(Debug, Drop)]
+pub enum SignalInstruction {
     /// `emit z o s D [a..]`: a signal is emitted. The result goes into `into`.
     Emit {
         into: Option<Register>,
@@ -76,11 +130,6 @@ pub enum Instruction {
         signal: String,
         detail: Option<String>,
         args: Vec<Register>,
-    },
-    /// `notify o p`: the notification of a property.
-    Notify {
-        object: Register,
-        property: String,
     },
     /// `connect d o s D p [options] z`: a program is connected to a signal.
     Connect {
@@ -105,6 +154,11 @@ pub enum Instruction {
     },
     /// `stop`: the emission goes on with its cleanup.
     Stop,
+}
+
+/// An instruction on bindings and sources.
+#[derive(Debug, Drop)]
+pub enum SourceInstruction {
     /// `unbind name`: a binding ends.
     Unbind(String),
     /// `idle d p n z`: a source with a program, a priority and data.
@@ -124,27 +178,13 @@ pub enum Instruction {
     },
     /// `remove p`: each source of the program.
     Remove(String),
-    /// `call d o m [a..]`: a method of the object's peer.
-    Call {
-        to: Register,
-        object: Register,
-        method: String,
-        args: Vec<Register>,
-    },
-    /// `jump b`.
-    Jump(BlockNumber),
-    /// `if a b b`: the first block where the truth value is true.
-    Branch {
-        on: Register,
-        then_to: BlockNumber,
-        else_to: BlockNumber,
-    },
-    /// `ifnull a b b`: the first block where the text or object is null.
-    BranchNull {
-        on: Register,
-        then_to: BlockNumber,
-        else_to: BlockNumber,
-    },
-    /// `return z`: the program ends, with a value where its result has a kind.
-    Return(Option<Register>),
+}
+
+/// A call of a method of an object's peer.
+#[derive(Debug, Drop)]
+pub struct Call {
+    pub to: Register,
+    pub object: Register,
+    pub method: String,
+    pub args: Vec<Register>,
 }

@@ -17,7 +17,10 @@ mod shapes;
 pub use computations::{Arithmetic, Comparison, Computation, Computed, Register};
 pub use errors::{InstructionError, ProgramError};
 pub use faults::{ProgramFault, ProgramLimit};
-pub use instructions::{BlockNumber, Connection, Instruction};
+pub use instructions::{
+    BlockNumber, Call, Connection, ControlInstruction, Instruction, ObjectInstruction,
+    PropertyInstruction, SignalInstruction, SourceInstruction,
+};
 pub use outline_faults::{OutlineError, OutlineFault, ProgramPart};
 pub use programs::{Block, Program, RegisterKind};
 pub use shapes::{MOST_BLOCKS, MOST_INSTRUCTIONS, MOST_REGISTERS, is_ended};

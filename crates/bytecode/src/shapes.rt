@@ -5,11 +5,11 @@
 ghost use Rattle.std.specs.Prelude.{◌≡◌, not, map, length, nat_lt};
 ghost use Rattle.std.specs.List.{list_any, enumerate_from, position_from};
 ghost use Rattle.ui_machine.specs.Seq.{total};
-ghost use Rattle.bytecode.specs.View.{instruction_view, block_view, program_view};
+ghost use Rattle.bytecode.specs.View.{control_view, instruction_view, block_view, program_view};
 ghost use Rattle.bytecode.specs.Shape.{ends_block, leads_back, is_ended, first_backward, first_open, first_limit, instructions_in, shape_fault};
 
 use crate::faults::{ProgramFault, ProgramLimit};
-use crate::instructions::{BlockNumber, Instruction};
+use crate::instructions::{BlockNumber, ControlInstruction, Instruction};
 use crate::programs::{Block, Program};
 
 /// The most registers of a program.
@@ -41,37 +41,46 @@ impl Program {
 }
 
 // Whether an instruction leads away from its block.
-#[tactic(auto, using(crate::proofs::BlockShapes::stays))]
+#[tactic(auto, using(crate::proofs::BlockShapes::stays, crate::proofs::BlockShapes::ends, crate::proofs::BlockShapes::property_stays, crate::proofs::BlockShapes::object_stays, crate::proofs::BlockShapes::signal_stays, crate::proofs::BlockShapes::source_stays))]
 fn ends_block(instruction: &Instruction) -> bool
     ensures { result ≡ ends_block (instruction_view instruction.now) }
 {
-    matches!(
-        instruction,
-        Instruction::Jump(_)
-            | Instruction::Branch { .. }
-            | Instruction::BranchNull { .. }
-            | Instruction::Return(_)
-    )
+    matches!(instruction, Instruction::Control(_))
+}
+
+// Whether an instruction that ends block `from` leads to this block or to an earlier one.
+fn control_leads_back(control: &ControlInstruction, from: usize) -> bool
+    ensures { result ≡ leads_back from (control_view control.now) }
+{
+    match control {
+        ControlInstruction::Jump(to) => to.0 <= from,
+        ControlInstruction::Branch {
+            then_to,
+            else_to,
+            ..
+        } => then_to.0 <= from || else_to.0 <= from,
+        ControlInstruction::BranchNull {
+            then_to,
+            else_to,
+            ..
+        } => then_to.0 <= from || else_to.0 <= from,
+        ControlInstruction::Return(_) => false,
+    }
 }
 
 // Whether an instruction of a block leads to this block or to an earlier one.
-#[tactic(auto, using(crate::proofs::BlockShapes::leads_nowhere))]
+#[tactic(auto, using(crate::proofs::BlockShapes::leads_nowhere, crate::proofs::BlockShapes::property_leads_nowhere, crate::proofs::BlockShapes::object_leads_nowhere, crate::proofs::BlockShapes::signal_leads_nowhere, crate::proofs::BlockShapes::source_leads_nowhere))]
 fn leads_back(instruction: &Instruction, from: usize) -> bool
     ensures { result ≡ leads_back from (instruction_view instruction.now) }
 {
     match instruction {
-        Instruction::Jump(to) => to.0 <= from,
-        Instruction::Branch {
-            then_to,
-            else_to,
-            ..
-        } => then_to.0 <= from || else_to.0 <= from,
-        Instruction::BranchNull {
-            then_to,
-            else_to,
-            ..
-        } => then_to.0 <= from || else_to.0 <= from,
-        _ => false,
+        Instruction::Control(control) => control_leads_back(control, from),
+        Instruction::Compute { .. }
+        | Instruction::Property(_)
+        | Instruction::Object(_)
+        | Instruction::Signal(_)
+        | Instruction::Source(_)
+        | Instruction::Peer(_) => false,
     }
 }
 

@@ -3,7 +3,6 @@ pub mod EmitView
 pub mod HandlersView
 pub mod JumpView
 pub mod PropertyView
-pub mod Groups
 pub mod CreateView
 pub use Rattle.engine_world.specs.ConnectView
 pub use Rattle.engine_world.specs.Counting

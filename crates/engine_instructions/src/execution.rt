@@ -1,6 +1,6 @@
 //! Instructions: what each of them does.
 
-ghost use Rattle.std.specs.Prelude.{◌≡◌, false, Some, IfSome, OnOk, OnErr};
+ghost use Rattle.std.specs.Prelude.{◌≡◌, Some, IfSome, OnOk, OnErr};
 ghost use Rattle.ui_machine.specs.Definition.Lookups.{program_at};
 ghost use Rattle.ui_machine.specs.Instructions.{instruction_step};
 ghost use Rattle.ui_machine.specs.Outcome.{Goes};
@@ -8,13 +8,11 @@ ghost use Rattle.ui_machine.specs.Steps.{left};
 ghost use Rattle.g_values.specs.View.{IsKnown};
 ghost use Rattle.frames.specs.FrameView.{frame_view};
 ghost use Rattle.bytecode.specs.Known.{IsKnownInstruction};
-ghost use Rattle.bytecode.specs.Later.{is_later};
-ghost use Rattle.bytecode.specs.View.{instruction_view, program_view};
+ghost use Rattle.bytecode.specs.View.{control_view, instruction_view, object_instruction_view, program_view, property_instruction_view, signal_instruction_view};
 ghost use Rattle.engine_world.specs.View.{world_of};
 ghost use Rattle.engine_world.specs.TaskView.{agenda_of};
 ghost use Rattle.engine_world.specs.Counting.{Counts, in_frame, nothing};
 ghost use Rattle.engine_world.specs.EngineView.{config_of};
-ghost use Rattle.engine_instructions.specs.Groups.{ActsOnObjects, ActsOnSignals, DisconnectsNone};
 ghost use Rattle.engine_world.specs.Standing.{GoesWithoutGone};
 
 use crate::connects::connect_from_program;
@@ -29,7 +27,10 @@ use crate::properties::{get_property, notify_from_program, set_property};
 use crate::registers::compute_register;
 use crate::returns::return_from_program;
 use crate::stops::stop_from_program;
-use bytecode::{Instruction, Program};
+use bytecode::{
+    ControlInstruction, Instruction, ObjectInstruction, Program, PropertyInstruction,
+    SignalInstruction,
+};
 use definitions::Definition;
 use engine_world::arguments::as_text;
 use engine_world::engine::Engine;
@@ -55,126 +56,133 @@ pub fn execute(
     ensures counted { OnOk result (Counts definition.now nothing engine.new) }
 {
     match instruction {
-        Instruction::Disconnect { object, program } => {
-            disconnect_matched(engine, definition, frame, *object, program.as_str())
+        Instruction::Compute { to, computation } => {
+            compute_register(engine, definition, frame, *to, computation)
         }
-        Instruction::Dispose(object) => run_dispose(engine, definition, frame, *object),
-        _ => execute_on_registers(engine, definition, program, frame, instruction),
+        Instruction::Control(control) => {
+            execute_control(engine, definition, program, frame, control)
+        }
+        Instruction::Property(property) => {
+            execute_on_properties(engine, definition, frame, property)
+        }
+        Instruction::Object(object) => execute_on_objects(engine, definition, frame, object),
+        Instruction::Signal(signal) => execute_on_signals(engine, definition, frame, signal),
+        Instruction::Source(_) | Instruction::Peer(_) => Err(Halt::Stuck(Arm::Code)),
     }
 }
 
-// Does what an instruction says that disconnects no handler: here, what touches registers alone, and where the program goes on or that it
-// ends.
-fn execute_on_registers(
+// Where a program goes on, or that it ends.
+fn execute_control(
     engine: &mut Engine,
     definition: &Definition,
     program: &Program,
     frame: Frame,
-    instruction: &Instruction,
+    instruction: &ControlInstruction,
 ) -> Result<(), Halt>
     requires program { program_at definition.now (frame_view frame).program ≡ Some (program_view program.now) }
-    requires acts { DisconnectsNone instruction.now }
-    requires known { IsKnownInstruction definition.now.types instruction.now }
     requires result { IfSome program.now.result (IsKnown definition.now.types) }
     requires counted { Counts definition.now (λ o. in_frame o (frame_view frame)) engine.now }
     ensures step { Goes result
-        (left engine.old.counted (instruction_step definition.now (world_of engine.old.world) (agenda_of definition.now engine.old) (frame_view frame) (instruction_view instruction.now)))
+        (left engine.old.counted (instruction_step definition.now (world_of engine.old.world) (agenda_of definition.now engine.old) (frame_view frame) (control_view instruction.now)))
         (config_of definition.now engine.new) }
     ensures quiet { OnErr result ((world_of engine.new.world).transcript ≡ (world_of engine.old.world).transcript) }
     ensures counted { OnOk result (Counts definition.now nothing engine.new) }
 {
     match instruction {
-        Instruction::Compute { to, computation } => {
-            compute_register(engine, definition, frame, *to, computation)
-        }
-        Instruction::Jump(to) => jump(engine, definition, program, frame, *to),
-        Instruction::Branch {
+        ControlInstruction::Jump(to) => jump(engine, definition, program, frame, *to),
+        ControlInstruction::Branch {
             on,
             then_to,
             else_to,
         } => branch(engine, definition, program, frame, *on, *then_to, *else_to),
-        Instruction::BranchNull {
+        ControlInstruction::BranchNull {
             on,
             then_to,
             else_to,
         } => branch_null(engine, definition, program, frame, *on, *then_to, *else_to),
-        Instruction::Return(from) => return_from_program(engine, definition, program, frame, *from),
-        _ => execute_on_objects(engine, definition, program, frame, instruction),
+        ControlInstruction::Return(from) => {
+            return_from_program(engine, definition, program, frame, *from)
+        }
     }
 }
 
-// The instructions on objects and their properties.
-fn execute_on_objects(
+// The instructions on properties.
+fn execute_on_properties(
     engine: &mut Engine,
     definition: &Definition,
-    program: &Program,
     frame: Frame,
-    instruction: &Instruction,
+    instruction: &PropertyInstruction,
 ) -> Result<(), Halt>
-    requires program { program_at definition.now (frame_view frame).program ≡ Some (program_view program.now) }
-    requires acts { ActsOnObjects instruction.now }
-    requires later { is_later (instruction_view instruction.now) ≡ false }
     requires counted { Counts definition.now (λ o. in_frame o (frame_view frame)) engine.now }
     ensures step { Goes result
-        (left engine.old.counted (instruction_step definition.now (world_of engine.old.world) (agenda_of definition.now engine.old) (frame_view frame) (instruction_view instruction.now)))
+        (left engine.old.counted (instruction_step definition.now (world_of engine.old.world) (agenda_of definition.now engine.old) (frame_view frame) (property_instruction_view instruction.now)))
         (config_of definition.now engine.new) }
     ensures quiet { OnErr result ((world_of engine.new.world).transcript ≡ (world_of engine.old.world).transcript) }
     ensures counted { OnOk result (Counts definition.now nothing engine.new) }
 {
     match instruction {
-        Instruction::Get {
+        PropertyInstruction::Get {
             to,
             object,
             property,
         } => get_property(engine, definition, frame, *to, *object, property.as_str()),
-        Instruction::Set {
+        PropertyInstruction::Set {
             object,
             property,
             from,
         } => set_property(engine, definition, frame, *object, property.as_str(), *from),
-        Instruction::Notify { object, property } => {
+        PropertyInstruction::Notify { object, property } => {
             notify_from_program(engine, definition, frame, *object, property.as_str())
         }
-        Instruction::Object { to, id } => look_up_object(
-            engine,
-            definition,
-            frame,
-            *to,
-            id.as_str(),
-        ),
-        Instruction::New { to, id } => create(engine, definition, frame, *to, id.as_str()),
-        Instruction::Sink(object) => sink(engine, definition, frame, *object),
-        Instruction::Orphan(object) => orphan(engine, definition, frame, *object),
-        Instruction::Adopt { to, parent, child } => {
-            adopt_from_program(engine, definition, frame, *to, *parent, *child)
-        }
-        Instruction::Freeze(object) => freeze_notify(engine, definition, frame, *object),
-        Instruction::Thaw(object) => thaw_notify(engine, definition, frame, *object),
-        _ => execute_on_signals(engine, definition, program, frame, instruction),
+        PropertyInstruction::Freeze(object) => freeze_notify(engine, definition, frame, *object),
+        PropertyInstruction::Thaw(object) => thaw_notify(engine, definition, frame, *object),
     }
 }
 
-// The instructions on signals and handlers. They are the last ones of those that are known so far.
-fn execute_on_signals(
+// The instructions on objects. Handlers that `dispose` disconnects have no more turns.
+fn execute_on_objects(
     engine: &mut Engine,
     definition: &Definition,
-    program: &Program,
     frame: Frame,
-    instruction: &Instruction,
+    instruction: &ObjectInstruction,
 ) -> Result<(), Halt>
-    requires program { program_at definition.now (frame_view frame).program ≡ Some (program_view program.now) }
-    requires acts { ActsOnSignals instruction.now }
-    requires later { is_later (instruction_view instruction.now) ≡ false }
     requires counted { Counts definition.now (λ o. in_frame o (frame_view frame)) engine.now }
-    ensures step { Goes result
-        (left engine.old.counted (instruction_step definition.now (world_of engine.old.world) (agenda_of definition.now engine.old) (frame_view frame) (instruction_view instruction.now)))
+    ensures step { GoesWithoutGone result
+        (left engine.old.counted (instruction_step definition.now (world_of engine.old.world) (agenda_of definition.now engine.old) (frame_view frame) (object_instruction_view instruction.now)))
         (config_of definition.now engine.new) }
     ensures quiet { OnErr result ((world_of engine.new.world).transcript ≡ (world_of engine.old.world).transcript) }
     ensures counted { OnOk result (Counts definition.now nothing engine.new) }
 {
     match instruction {
-        Instruction::Stop => stop_from_program(engine, definition, frame),
-        Instruction::Emit {
+        ObjectInstruction::LookUp { to, id } => {
+            look_up_object(engine, definition, frame, *to, id.as_str())
+        }
+        ObjectInstruction::New { to, id } => create(engine, definition, frame, *to, id.as_str()),
+        ObjectInstruction::Sink(object) => sink(engine, definition, frame, *object),
+        ObjectInstruction::Orphan(object) => orphan(engine, definition, frame, *object),
+        ObjectInstruction::Dispose(object) => run_dispose(engine, definition, frame, *object),
+        ObjectInstruction::Adopt { to, parent, child } => {
+            adopt_from_program(engine, definition, frame, *to, *parent, *child)
+        }
+    }
+}
+
+// The instructions on signals and handlers. Handlers that `disconnect` disconnects have no more turns.
+fn execute_on_signals(
+    engine: &mut Engine,
+    definition: &Definition,
+    frame: Frame,
+    instruction: &SignalInstruction,
+) -> Result<(), Halt>
+    requires counted { Counts definition.now (λ o. in_frame o (frame_view frame)) engine.now }
+    ensures step { GoesWithoutGone result
+        (left engine.old.counted (instruction_step definition.now (world_of engine.old.world) (agenda_of definition.now engine.old) (frame_view frame) (signal_instruction_view instruction.now)))
+        (config_of definition.now engine.new) }
+    ensures quiet { OnErr result ((world_of engine.new.world).transcript ≡ (world_of engine.old.world).transcript) }
+    ensures counted { OnOk result (Counts definition.now nothing engine.new) }
+{
+    match instruction {
+        SignalInstruction::Emit {
             into,
             object,
             signal,
@@ -189,17 +197,20 @@ fn execute_on_signals(
             };
             emit_from_program(engine, definition, frame, *object, emit)
         }
-        Instruction::Connect {
+        SignalInstruction::Connect {
             to,
             object,
             connection,
         } => connect_from_program(engine, definition, frame, *to, *object, connection),
-        Instruction::Block { object, program } => {
+        SignalInstruction::Disconnect { object, program } => {
+            disconnect_matched(engine, definition, frame, *object, program.as_str())
+        }
+        SignalInstruction::Block { object, program } => {
             block_matched(engine, definition, frame, *object, program.as_str())
         }
-        Instruction::Unblock { object, program } => {
+        SignalInstruction::Unblock { object, program } => {
             unblock_matched(engine, definition, frame, *object, program.as_str())
         }
-        _ => Err(Halt::Stuck(Arm::Code)),
+        SignalInstruction::Stop => stop_from_program(engine, definition, frame),
     }
 }

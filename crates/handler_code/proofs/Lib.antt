@@ -1,4 +1,5 @@
 pub use Rattle.frames.proofs.FrameSteps
+pub mod LaterGroups
 pub mod OperandLists
 pub mod Each
 pub mod Members

@@ -54,17 +54,11 @@ pub fn read_instruction(
 }
 
 // Whether an instruction ends a binding, makes or ends a source, or calls a method of a peer.
+#[tactic(auto, using(crate::proofs::LaterGroups::compute_now, crate::proofs::LaterGroups::control_now, crate::proofs::LaterGroups::property_now, crate::proofs::LaterGroups::object_now, crate::proofs::LaterGroups::signal_now, crate::proofs::LaterGroups::source_later))]
 fn is_later(instruction: &Instruction) -> bool
     ensures { result ≡ is_later (instruction_view instruction.now) }
 {
-    matches!(
-        instruction,
-        Instruction::Unbind(_)
-            | Instruction::Idle { .. }
-            | Instruction::Timeout { .. }
-            | Instruction::Remove(_)
-            | Instruction::Call { .. }
-    )
+    matches!(instruction, Instruction::Source(_) | Instruction::Peer(_))
 }
 
 // An instruction, unless no program has such a one so far.

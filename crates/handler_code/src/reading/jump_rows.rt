@@ -11,7 +11,7 @@ ghost use Rattle.bytecode.specs.Reading.JumpRows.{jump_row, branch_row, branch_n
 use crate::reading::operand_shapes::register_and_blocks;
 use crate::reading::operand_words::{block_at, check_none, register_or_null_at};
 use crate::reading::scope::Scope;
-use bytecode::{Instruction, InstructionError};
+use bytecode::{ControlInstruction, Instruction, InstructionError};
 use serde_json::Value;
 
 // `jump b`
@@ -22,7 +22,7 @@ pub(crate) fn read_jump(scope: &Scope<'_>, json: &Value) -> Result<Instruction, 
 {
     check_none(json, 2)?;
     let to = block_at(json, 1, scope.blocks)?;
-    Ok(Instruction::Jump(to))
+    Ok(Instruction::Control(ControlInstruction::Jump(to)))
 }
 
 // `if a b b`
@@ -32,11 +32,11 @@ pub(crate) fn read_branch(scope: &Scope<'_>, json: &Value) -> Result<Instruction
     ensures known { IfOk result (λ i. HasKnownKinds scope.now.types.now i) }
 {
     let (on, then_to, else_to) = register_and_blocks(scope, json)?;
-    Ok(Instruction::Branch {
+    Ok(Instruction::Control(ControlInstruction::Branch {
         on,
         then_to,
         else_to,
-    })
+    }))
 }
 
 // `ifnull a b b`
@@ -49,11 +49,11 @@ pub(crate) fn read_branch_null(
     ensures known { IfOk result (λ i. HasKnownKinds scope.now.types.now i) }
 {
     let (on, then_to, else_to) = register_and_blocks(scope, json)?;
-    Ok(Instruction::BranchNull {
+    Ok(Instruction::Control(ControlInstruction::BranchNull {
         on,
         then_to,
         else_to,
-    })
+    }))
 }
 
 // `return z`
@@ -64,5 +64,5 @@ pub(crate) fn read_return(scope: &Scope<'_>, json: &Value) -> Result<Instruction
 {
     check_none(json, 2)?;
     let from = register_or_null_at(json, 1, scope.registers)?;
-    Ok(Instruction::Return(from))
+    Ok(Instruction::Control(ControlInstruction::Return(from)))
 }

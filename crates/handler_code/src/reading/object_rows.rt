@@ -11,7 +11,7 @@ ghost use Rattle.bytecode.specs.Reading.ObjectRows.{get_row, set_row, object_row
 use crate::reading::operand_shapes::{one_register, register_and_name, three_registers};
 use crate::reading::operand_words::{check_none, name_at, register_at};
 use crate::reading::scope::Scope;
-use bytecode::{Instruction, InstructionError};
+use bytecode::{Instruction, InstructionError, ObjectInstruction, PropertyInstruction};
 use serde_json::Value;
 use std::alloc::Global;
 
@@ -29,11 +29,11 @@ pub(crate) fn read_get(
     let to = register_at(json, 1, scope.registers)?;
     let object = register_at(json, 2, scope.registers)?;
     let property = name_at(alloc, json, 3)?;
-    Ok(Instruction::Get {
+    Ok(Instruction::Property(PropertyInstruction::Get {
         to,
         object,
         property,
-    })
+    }))
 }
 
 // `set o p s`
@@ -50,11 +50,11 @@ pub(crate) fn read_set(
     let object = register_at(json, 1, scope.registers)?;
     let property = name_at(alloc, json, 2)?;
     let from = register_at(json, 3, scope.registers)?;
-    Ok(Instruction::Set {
+    Ok(Instruction::Property(PropertyInstruction::Set {
         object,
         property,
         from,
-    })
+    }))
 }
 
 // `object d id`
@@ -68,7 +68,7 @@ pub(crate) fn read_object(
     ensures known { IfOk result (λ i. HasKnownKinds scope.now.types.now i) }
 {
     let (to, id) = register_and_name(alloc, scope, json)?;
-    Ok(Instruction::Object { to, id })
+    Ok(Instruction::Object(ObjectInstruction::LookUp { to, id }))
 }
 
 // `new d c`
@@ -82,7 +82,7 @@ pub(crate) fn read_new(
     ensures known { IfOk result (λ i. HasKnownKinds scope.now.types.now i) }
 {
     let (to, id) = register_and_name(alloc, scope, json)?;
-    Ok(Instruction::New { to, id })
+    Ok(Instruction::Object(ObjectInstruction::New { to, id }))
 }
 
 // `sink o`
@@ -92,7 +92,7 @@ pub(crate) fn read_sink(scope: &Scope<'_>, json: &Value) -> Result<Instruction, 
     ensures known { IfOk result (λ i. HasKnownKinds scope.now.types.now i) }
 {
     let object = one_register(scope, json)?;
-    Ok(Instruction::Sink(object))
+    Ok(Instruction::Object(ObjectInstruction::Sink(object)))
 }
 
 // `orphan o`
@@ -102,7 +102,7 @@ pub(crate) fn read_orphan(scope: &Scope<'_>, json: &Value) -> Result<Instruction
     ensures known { IfOk result (λ i. HasKnownKinds scope.now.types.now i) }
 {
     let object = one_register(scope, json)?;
-    Ok(Instruction::Orphan(object))
+    Ok(Instruction::Object(ObjectInstruction::Orphan(object)))
 }
 
 // `dispose o`
@@ -112,7 +112,7 @@ pub(crate) fn read_dispose(scope: &Scope<'_>, json: &Value) -> Result<Instructio
     ensures known { IfOk result (λ i. HasKnownKinds scope.now.types.now i) }
 {
     let object = one_register(scope, json)?;
-    Ok(Instruction::Dispose(object))
+    Ok(Instruction::Object(ObjectInstruction::Dispose(object)))
 }
 
 // `freeze o`
@@ -122,7 +122,7 @@ pub(crate) fn read_freeze(scope: &Scope<'_>, json: &Value) -> Result<Instruction
     ensures known { IfOk result (λ i. HasKnownKinds scope.now.types.now i) }
 {
     let object = one_register(scope, json)?;
-    Ok(Instruction::Freeze(object))
+    Ok(Instruction::Property(PropertyInstruction::Freeze(object)))
 }
 
 // `thaw o`
@@ -132,7 +132,7 @@ pub(crate) fn read_thaw(scope: &Scope<'_>, json: &Value) -> Result<Instruction, 
     ensures known { IfOk result (λ i. HasKnownKinds scope.now.types.now i) }
 {
     let object = one_register(scope, json)?;
-    Ok(Instruction::Thaw(object))
+    Ok(Instruction::Property(PropertyInstruction::Thaw(object)))
 }
 
 // `adopt d o o`
@@ -142,11 +142,11 @@ pub(crate) fn read_adopt(scope: &Scope<'_>, json: &Value) -> Result<Instruction,
     ensures known { IfOk result (λ i. HasKnownKinds scope.now.types.now i) }
 {
     let (to, a, b) = three_registers(scope, json)?;
-    Ok(Instruction::Adopt {
+    Ok(Instruction::Object(ObjectInstruction::Adopt {
         to,
         parent: a,
         child: b,
-    })
+    }))
 }
 
 // `notify o p`
@@ -160,5 +160,5 @@ pub(crate) fn read_notify(
     ensures known { IfOk result (λ i. HasKnownKinds scope.now.types.now i) }
 {
     let (object, property) = register_and_name(alloc, scope, json)?;
-    Ok(Instruction::Notify { object, property })
+    Ok(Instruction::Property(PropertyInstruction::Notify { object, property }))
 }

@@ -14,7 +14,7 @@ use crate::reading::operand_words::{
     check_none, detail_at, name_at, register_at, register_or_null_at,
 };
 use crate::reading::scope::Scope;
-use bytecode::{Instruction, InstructionError};
+use bytecode::{Instruction, InstructionError, SignalInstruction, SourceInstruction};
 use serde_json::Value;
 use std::alloc::Global;
 
@@ -34,13 +34,13 @@ pub(crate) fn read_emit(
     let signal = name_at(alloc, json, 3)?;
     let detail = detail_at(alloc, json, 4)?;
     let args = registers_at(alloc, json, 5, scope.registers)?;
-    Ok(Instruction::Emit {
+    Ok(Instruction::Signal(SignalInstruction::Emit {
         into,
         object,
         signal,
         detail,
         args,
-    })
+    }))
 }
 
 // `connect d o s D p [options] z`
@@ -57,11 +57,11 @@ pub(crate) fn read_connect(
     let to = register_at(json, 1, scope.registers)?;
     let object = register_at(json, 2, scope.registers)?;
     let connection = connection_at(alloc, scope, json)?;
-    Ok(Instruction::Connect {
+    Ok(Instruction::Signal(SignalInstruction::Connect {
         to,
         object,
         connection,
-    })
+    }))
 }
 
 // `disconnect o p`
@@ -75,7 +75,7 @@ pub(crate) fn read_disconnect(
     ensures known { IfOk result (λ i. HasKnownKinds scope.now.types.now i) }
 {
     let (object, program) = register_and_name(alloc, scope, json)?;
-    Ok(Instruction::Disconnect { object, program })
+    Ok(Instruction::Signal(SignalInstruction::Disconnect { object, program }))
 }
 
 // `block o p`
@@ -89,7 +89,7 @@ pub(crate) fn read_block(
     ensures known { IfOk result (λ i. HasKnownKinds scope.now.types.now i) }
 {
     let (object, program) = register_and_name(alloc, scope, json)?;
-    Ok(Instruction::Block { object, program })
+    Ok(Instruction::Signal(SignalInstruction::Block { object, program }))
 }
 
 // `unblock o p`
@@ -103,7 +103,7 @@ pub(crate) fn read_unblock(
     ensures known { IfOk result (λ i. HasKnownKinds scope.now.types.now i) }
 {
     let (object, program) = register_and_name(alloc, scope, json)?;
-    Ok(Instruction::Unblock { object, program })
+    Ok(Instruction::Signal(SignalInstruction::Unblock { object, program }))
 }
 
 // `stop`
@@ -113,7 +113,7 @@ pub(crate) fn read_stop(scope: &Scope<'_>, json: &Value) -> Result<Instruction, 
     ensures known { IfOk result (λ i. HasKnownKinds scope.now.types.now i) }
 {
     check_none(json, 1)?;
-    Ok(Instruction::Stop)
+    Ok(Instruction::Signal(SignalInstruction::Stop))
 }
 
 // `unbind name`
@@ -127,5 +127,5 @@ pub(crate) fn read_unbind(
     ensures known { IfOk result (λ i. HasKnownKinds scope.now.types.now i) }
 {
     let name = one_name(alloc, json)?;
-    Ok(Instruction::Unbind(name))
+    Ok(Instruction::Source(SourceInstruction::Unbind(name)))
 }

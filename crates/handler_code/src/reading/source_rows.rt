@@ -14,7 +14,7 @@ use crate::reading::operand_words::{
     check_none, interval_at, name_at, priority_at, register_at, register_or_null_at,
 };
 use crate::reading::scope::Scope;
-use bytecode::{Instruction, InstructionError};
+use bytecode::{Call, Instruction, InstructionError, SourceInstruction};
 use serde_json::Value;
 use std::alloc::Global;
 
@@ -33,12 +33,12 @@ pub(crate) fn read_idle(
     let program = name_at(alloc, json, 2)?;
     let priority = priority_at(json, 3)?;
     let with = register_or_null_at(json, 4, scope.registers)?;
-    Ok(Instruction::Idle {
+    Ok(Instruction::Source(SourceInstruction::Idle {
         to,
         program,
         priority,
         with,
-    })
+    }))
 }
 
 // `timeout d p n i z`
@@ -57,13 +57,13 @@ pub(crate) fn read_timeout(
     let priority = priority_at(json, 3)?;
     let interval = interval_at(json, 4)?;
     let with = register_or_null_at(json, 5, scope.registers)?;
-    Ok(Instruction::Timeout {
+    Ok(Instruction::Source(SourceInstruction::Timeout {
         to,
         program,
         priority,
         interval,
         with,
-    })
+    }))
 }
 
 // `remove p`
@@ -77,7 +77,7 @@ pub(crate) fn read_remove(
     ensures known { IfOk result (λ i. HasKnownKinds scope.now.types.now i) }
 {
     let program = one_name(alloc, json)?;
-    Ok(Instruction::Remove(program))
+    Ok(Instruction::Source(SourceInstruction::Remove(program)))
 }
 
 // `call d o m [a..]`
@@ -95,10 +95,10 @@ pub(crate) fn read_call(
     let object = register_at(json, 2, scope.registers)?;
     let method = name_at(alloc, json, 3)?;
     let args = registers_at(alloc, json, 4, scope.registers)?;
-    Ok(Instruction::Call {
+    Ok(Instruction::Peer(Call {
         to,
         object,
         method,
         args,
-    })
+    }))
 }
