@@ -1,6 +1,6 @@
--- Why an emission may as well not have the turns of handlers that are gone.
+-- Why an emission may as well not have the turns of handlers and the transfers of bindings that are gone.
 use Rattle.std.proofs.Common.{arith, ◌≡◌, refl, ap, sym, ◌∙◌, ℕ, suc, Bool, true, false, cond, not, nat_eq, List, [], ◌∷◌, ◌++◌, map, Option, None, Some, Ok, Err, ◌+◌, ◌&&◌}
-use Rattle.std.specs.List.{filter, list_all}
+use Rattle.std.specs.List.{filter, find, list_all}
 use Rattle.std.proofs.lemmas.Bool.{false≢true}
 use Rattle.std.proofs.lemmas.Bool.Decides.{nat_tests}
 use Rattle.std.proofs.Math.Path.{fun_ext}
@@ -49,7 +49,7 @@ use Rattle.ui_machine.specs.Rules.Events.{set_given, set_from_event, get_from_ev
 use Rattle.ui_machine.specs.Steps.{most_steps, uncounted, counted, counted_left, left, act, finalising, first_of, asked_first, asked_after}
 use Rattle.ui_machine.specs.Rules.NotifyQueue.{thawing}
 use Rattle.machine_laws.specs.FrontLaws.{mapped}
-use Rattle.machine_laws.specs.GoneLaws.{AreGone, GivenAreGone, GoneTurnsPass, PrunedAgain, QuestionsDoWithout, StepsDoWithout, gone_in, is_next, pruned, pruned_at, stays}
+use Rattle.machine_laws.specs.GoneLaws.{AreGone, AreStillGone, GivenAreGone, Gone, GoneTurnsPass, PrunedAgain, QuestionsDoWithout, StepsDoWithout, gone_in, is_next, pruned, pruned_at, stays}
 
 mapped_then : {A B C : Type 0} (f : B → C) (a : Answer A) (g : A → Answer B) → mapped f (a >>= g) ≡ (a >>= λ x. mapped f (g x))
 mapped_then f (Ok x) g = refl
@@ -74,11 +74,31 @@ mapped_before f (Err arm) g = refl
 same_number : (a b : ℕ) → nat_eq a b ≡ true → a ≡ b
 same_number a b h = grind (arith, nat_tests)
 
+-- ** numbers of which none stands
+
+none_found : {A : Type 0} (number_of : A → ℕ) (gone : ℕ → Bool) (xs : List A) (number : ℕ) → list_all (λ x. not (gone (number_of x))) xs ≡ true → gone number ≡ true
+    → find (λ x. nat_eq (number_of x) number) xs ≡ None
+none_found number_of gone [] number apart is = refl
+none_found number_of gone (x ∷ xs) number apart is =
+    ap (λ b. cond b (Some x) (find (λ y. nat_eq (number_of y) number) xs)) other ∙ none_found number_of gone xs number parts.1 is
+  where
+    parts : (not (gone (number_of x)) ≡ true) × (list_all (λ y. not (gone (number_of y))) xs ≡ true)
+    parts = both (not (gone (number_of x))) (list_all (λ y. not (gone (number_of y))) xs) apart
+
+    by : (b : Bool) → nat_eq (number_of x) number ≡ b → b ≡ false
+    by true e = absurd (false≢true (sym (ap not (ap gone (same_number (number_of x) number e) ∙ is)) ∙ parts.0))
+    by false e = refl
+
+    other : nat_eq (number_of x) number ≡ false
+    other = by (nat_eq (number_of x) number) refl
+
+-- ** parts of a step, and the agenda
+
 tasks_of : Answer Started → List Task
 tasks_of (Ok s) = s.tasks
 tasks_of (Err arm) = []
 
-module _ (gone : ℕ → Bool) (d : Definition) where
+module _ (gone : Gone) (d : Definition) where
   abbrev started : Started → Started
   started s = record s { tasks = map (pruned gone) s.tasks }
 
@@ -120,27 +140,31 @@ module _ (gone : ℕ → Bool) (d : Definition) where
 
   -- ** plans
 
-  stay_map : {A : Type 0} (f : A → PlanEntry) → ((x : A) → stays gone (f x) ≡ true) → (xs : List A) → filter (stays gone) (map f xs) ≡ map f xs
-  stay_map f stay [] = refl
-  stay_map f stay (x ∷ xs) = ap (λ b. cond b (f x ∷ filter (stays gone) (map f xs)) (filter (stays gone) (map f xs))) (stay x) ∙ ap (λ l. f x ∷ l) (stay_map f stay xs)
-
   stay_class : (here cleanup : Bool) (program : Option ℕ) → filter (stays gone) (at_stage here cleanup program) ≡ at_stage here cleanup program
   stay_class here cleanup None = refl
   stay_class true cleanup (Some program) = refl
   stay_class false cleanup (Some program) = refl
 
-  stay_handlers : (hs : List Handler) → list_all (λ (h : Handler). not (gone h.number)) hs ≡ true → (passes : Handler → Bool)
-      → filter (stays gone) (map (λ (h : Handler). handler h.number) (filter passes hs)) ≡ map (λ (h : Handler). handler h.number) (filter passes hs)
-  stay_handlers [] apart passes = refl
-  stay_handlers (h ∷ hs) apart passes = by (passes h) (stay_handlers hs (both (not (gone h.number)) (list_all (λ (x : Handler). not (gone x.number)) hs) apart).1 passes)
+  -- the entries of some that are none of those
+  stay_all : {A : Type 0} (entry : A → PlanEntry) (xs : List A) → list_all (λ x. stays gone (entry x)) xs ≡ true → (passes : A → Bool)
+      → filter (stays gone) (map entry (filter passes xs)) ≡ map entry (filter passes xs)
+  stay_all entry [] apart passes = refl
+  stay_all {A} entry (x ∷ xs) apart passes = by (passes x) (stay_all entry xs (both (stays gone (entry x)) (list_all (λ y. stays gone (entry y)) xs) apart).1 passes)
     where
       rest : List PlanEntry
-      rest = map (λ (x : Handler). handler x.number) (filter passes hs)
+      rest = map entry (filter passes xs)
 
       by : (b : Bool) → filter (stays gone) rest ≡ rest
-          → filter (stays gone) (map (λ (x : Handler). handler x.number) (cond b (h ∷ filter passes hs) (filter passes hs))) ≡ map (λ (x : Handler). handler x.number) (cond b (h ∷ filter passes hs) (filter passes hs))
-      by true same = ap (λ b. cond b (handler h.number ∷ filter (stays gone) rest) (filter (stays gone) rest)) (both (not (gone h.number)) (list_all (λ (x : Handler). not (gone x.number)) hs) apart).0 ∙ ap (λ l. handler h.number ∷ l) same
+          → filter (stays gone) (map entry (cond b (x ∷ filter passes xs) (filter passes xs))) ≡ map entry (cond b (x ∷ filter passes xs) (filter passes xs))
+      by true same = ap (λ b. cond b (entry x ∷ filter (stays gone) rest) (filter (stays gone) rest)) (both (stays gone (entry x)) (list_all (λ y. stays gone (entry y)) xs) apart).0 ∙ ap (λ l. entry x ∷ l) same
       by false same = same
+
+  stay_handlers : (hs : List Handler) → list_all (λ (h : Handler). not (gone.handlers h.number)) hs ≡ true → (passes : Handler → Bool)
+      → filter (stays gone) (map (λ (h : Handler). handler h.number) (filter passes hs)) ≡ map (λ (h : Handler). handler h.number) (filter passes hs)
+  stay_handlers hs apart passes = stay_all (λ (h : Handler). handler h.number) hs apart passes
+
+  stay_transfers : (id slot : ℕ) (bs : List Binding) → list_all (λ (b : Binding). not (gone.bindings b.number)) bs ≡ true → filter (stays gone) (transfers id slot bs) ≡ transfers id slot bs
+  stay_transfers id slot bs apart = stay_all (λ (b : Binding). config.transfer b.number (goes_back id slot b)) bs apart (listens id slot)
 
   stay_both : (xs ys : List PlanEntry) → filter (stays gone) xs ≡ xs → filter (stays gone) ys ≡ ys → filter (stays gone) (xs ++ ys) ≡ xs ++ ys
   stay_both xs ys first second = filter-append (stays gone) xs ys ∙ ap (λ l. l ++ filter (stays gone) ys) first ∙ ap (λ l. xs ++ l) second
@@ -149,9 +173,9 @@ module _ (gone : ℕ → Bool) (d : Definition) where
   plan_stays w apart p own =
       stay_both _ _ (stay_class _ false p.class_program)
       (stay_both _ _ own
-      (stay_both _ _ (stay_handlers w.handlers apart _)
+      (stay_both _ _ (stay_handlers w.handlers apart.handlers _)
       (stay_both _ _ (stay_class _ false p.class_program)
-      (stay_both _ _ (stay_handlers w.handlers apart _) (stay_class _ true p.class_program)))))
+      (stay_both _ _ (stay_handlers w.handlers apart.handlers _) (stay_class _ true p.class_program)))))
 
   notification_stays : (w : World) → AreGone gone w → (s : Signal) (class id slot : ℕ) (name : List ℕ)
       → filter (stays gone) (notify_plan d w s class id slot name) ≡ notify_plan d w s class id slot name
@@ -163,7 +187,7 @@ module _ (gone : ℕ → Bool) (d : Definition) where
         flags = s.flags;
         class_program = class_handler_of d class s.name;
         transfers = transfers id slot w.bindings;
-      }) (stay_map (λ (b : Binding). config.transfer b.number (goes_back id slot b)) (λ b. refl) (filter (listens id slot) w.bindings))
+      }) (stay_transfers id slot w.bindings apart.bindings)
 
   emission_stays : (w : World) → AreGone gone w → (s : Signal) (class : ℕ) (e : Emission)
       → filter (stays gone) (emission_plan d w s class e) ≡ emission_plan d w s class e
@@ -773,11 +797,12 @@ module _ (gone : ℕ → Bool) (d : Definition) where
       mapped_if (pruned_at gone) (nat_lt n most_steps) arms.Steps (left (suc n) a)
       ∙ ap (only_if (nat_lt n most_steps) arms.Steps) (leaves_agenda (suc n) a b same)
 
-  takes_turn : (w : World) (reply : Option Reply) (e : Emission) (number : ℕ) (ts : List PlanEntry) (rest : List Task) (n : ℕ) → gone number ≡ false →
-      mapped (pruned_at gone) (act d w reply (Emitting e (handler number ∷ ts) ∷ rest) n) ≡ act d w reply (map (pruned gone) (Emitting e (handler number ∷ ts) ∷ rest)) n
-  takes_turn w reply e number ts rest n stands =
-      not_counted rest n (taking_entry d w e ts (handler number)) (taking_entry d w e (filter (stays gone) ts) (handler number)) (takes w e ts (handler number))
-      ∙ ap (λ b. act d w reply (Emitting e (cond (not b) (handler number ∷ filter (stays gone) ts) (filter (stays gone) ts)) ∷ map (pruned gone) rest) n) (sym stands)
+  -- a turn that stays is taken
+  takes_turn : (w : World) (reply : Option Reply) (e : Emission) (entry : PlanEntry) (ts : List PlanEntry) (rest : List Task) (n : ℕ) → stays gone entry ≡ true →
+      mapped (pruned_at gone) (act d w reply (Emitting e (entry ∷ ts) ∷ rest) n) ≡ act d w reply (map (pruned gone) (Emitting e (entry ∷ ts) ∷ rest)) n
+  takes_turn w reply e entry ts rest n stands =
+      not_counted rest n (taking_entry d w e ts entry) (taking_entry d w e (filter (stays gone) ts) entry) (takes w e ts entry)
+      ∙ ap (λ b. act d w reply (Emitting e (cond b (entry ∷ filter (stays gone) ts) (filter (stays gone) ts)) ∷ map (pruned gone) rest) n) (sym stands)
 
   acts : (w : World) → AreGone gone w → (reply : Option Reply) (tasks : List Task) (n : ℕ) → is_next gone tasks ≡ false →
       mapped (pruned_at gone) (act d w reply tasks n) ≡ act d w reply (map (pruned gone) tasks) n
@@ -786,11 +811,9 @@ module _ (gone : ℕ → Bool) (d : Definition) where
   acts w apart reply (Notifying id slot ∷ rest) n stands = is_counted rest n (notifying d w id slot) (notifying d w id slot) (notifies w apart id slot)
   acts w apart reply (Beginning e ∷ rest) n stands = is_counted rest n (beginning_emission d w e) (beginning_emission d w e) (begins_emission w apart e)
   acts w apart reply (Emitting e [] ∷ rest) n stands = leaves_agenda n (ending d w e rest) (ending d w e (map (pruned gone) rest)) (ends_emission w e rest)
-  acts w apart reply (Emitting e (class_handler program cleanup ∷ ts) ∷ rest) n stands =
-      not_counted rest n (taking_entry d w e ts (class_handler program cleanup)) (taking_entry d w e (filter (stays gone) ts) (class_handler program cleanup)) (takes w e ts (class_handler program cleanup))
-  acts w apart reply (Emitting e (handler number ∷ ts) ∷ rest) n stands = takes_turn w reply e number ts rest n stands
-  acts w apart reply (Emitting e (config.transfer number back ∷ ts) ∷ rest) n stands =
-      not_counted rest n (taking_entry d w e ts (config.transfer number back)) (taking_entry d w e (filter (stays gone) ts) (config.transfer number back)) (takes w e ts (config.transfer number back))
+  acts w apart reply (Emitting e (class_handler program cleanup ∷ ts) ∷ rest) n stands = takes_turn w reply e (class_handler program cleanup) ts rest n refl
+  acts w apart reply (Emitting e (handler number ∷ ts) ∷ rest) n stands = takes_turn w reply e (handler number) ts rest n (ap not stands)
+  acts w apart reply (Emitting e (config.transfer number back ∷ ts) ∷ rest) n stands = takes_turn w reply e (config.transfer number back) ts rest n (ap not stands)
   acts w apart reply (Transferring number back ∷ rest) n stands = is_counted rest n (transferring d w number back) (transferring d w number back) (carries_by w back (binding_of number w.bindings))
   acts w apart reply (Unsetting number ∷ rest) n stands = refl
   acts w apart reply (Thawing id slots ∷ rest) n stands = not_counted rest n (thawing w id slots) (thawing w id slots) (thaws_rest w id slots)
@@ -860,39 +883,36 @@ module _ (gone : ℕ → Bool) (d : Definition) where
 
   -- ** turns that are gone
 
-  none_of : (hs : List Handler) (number : ℕ) → list_all (λ (h : Handler). not (gone h.number)) hs ≡ true → gone number ≡ true → handler_of number hs ≡ None
-  none_of [] number apart is = refl
-  none_of (h ∷ hs) number apart is =
-      ap (λ b. cond b (Some h) (handler_of number hs)) other
-      ∙ none_of hs number (both (not (gone h.number)) (list_all (λ (x : Handler). not (gone x.number)) hs) apart).1 is
-    where
-      stands : not (gone h.number) ≡ true
-      stands = (both (not (gone h.number)) (list_all (λ (x : Handler). not (gone x.number)) hs) apart).0
+  passes_handler : (w : World) (e : Emission) (ts : List PlanEntry) (number : ℕ) → AreGone gone w → gone.handlers number ≡ true → taking_entry d w e ts (handler number) ≡ starts w (Emitting e ts ∷ [])
+  passes_handler w e ts number apart is =
+      ap (running_handler d w e ts) (none_found (λ (h : Handler). h.number) gone.handlers w.handlers number apart.handlers is)
 
-      by : (b : Bool) → nat_eq h.number number ≡ b → b ≡ false
-      by true e = absurd (false≢true (sym (ap not (ap gone (same_number h.number number e) ∙ is)) ∙ stands))
-      by false e = refl
+  passes_transfer : (w : World) (e : Emission) (ts : List PlanEntry) (number : ℕ) (back : Bool) → AreGone gone w → gone.bindings number ≡ true
+      → taking_entry d w e ts (config.transfer number back) ≡ starts w (Emitting e ts ∷ [])
+  passes_transfer w e ts number back apart is =
+      ap (λ (b : Option Binding). starts w (transfer_for b number back ++ Emitting e ts ∷ []))
+      (none_found (λ (b : Binding). b.number) gone.bindings w.bindings number apart.bindings is)
 
-      other : nat_eq h.number number ≡ false
-      other = by (nat_eq h.number number) refl
-
-  passes : (w : World) (e : Emission) (ts : List PlanEntry) (number : ℕ) → AreGone gone w → gone number ≡ true → taking_entry d w e ts (handler number) ≡ starts w (Emitting e ts ∷ [])
-  passes w e ts number apart is = ap (running_handler d w e ts) (none_of w.handlers number apart is)
+  passed : (w : World) (reply : Option Reply) (e : Emission) (entry : PlanEntry) (ts : List PlanEntry) (rest : List Task) (n : ℕ)
+      → taking_entry d w e ts entry ≡ starts w (Emitting e ts ∷ []) → stays gone entry ≡ false →
+      (c : Config) × (act d w reply (Emitting e (entry ∷ ts) ∷ rest) n ≡ Ok c) × (pruned_at gone c ≡ record { world = w; agenda = map (pruned gone) (Emitting e (entry ∷ ts) ∷ rest); counted = n })
+  passed w reply e entry ts rest n only goes = (
+    record { world = w; agenda = Emitting e ts ∷ rest; counted = n },
+    ap (uncounted rest n) only,
+    ap (λ b. record { world = w; agenda = Emitting e (cond b (entry ∷ filter (stays gone) ts) (filter (stays gone) ts)) ∷ map (pruned gone) rest; counted = n }) (sym goes),
+  )
 
   acts_passing : (w : World) → AreGone gone w → (reply : Option Reply) (tasks : List Task) (n : ℕ) → is_next gone tasks ≡ true →
       (c : Config) × (act d w reply tasks n ≡ Ok c) × (pruned_at gone c ≡ record { world = w; agenda = map (pruned gone) tasks; counted = n })
-  acts_passing w apart reply (Emitting e (handler number ∷ ts) ∷ rest) n is = (
-    record { world = w; agenda = Emitting e ts ∷ rest; counted = n },
-    ap (uncounted rest n) (passes w e ts number apart is),
-    ap (λ b. record { world = w; agenda = Emitting e (cond (not b) (handler number ∷ filter (stays gone) ts) (filter (stays gone) ts)) ∷ map (pruned gone) rest; counted = n }) (sym is),
-  )
+  acts_passing w apart reply (Emitting e (handler number ∷ ts) ∷ rest) n is = passed w reply e (handler number) ts rest n (passes_handler w e ts number apart is) (ap not is)
+  acts_passing w apart reply (Emitting e (config.transfer number back ∷ ts) ∷ rest) n is =
+      passed w reply e (config.transfer number back) ts rest n (passes_transfer w e ts number back apart is) (ap not is)
   acts_passing w apart reply [] n is = absurd (false≢true is)
   acts_passing w apart reply (Setting object slot v ∷ rest) n is = absurd (false≢true is)
   acts_passing w apart reply (Notifying object slot ∷ rest) n is = absurd (false≢true is)
   acts_passing w apart reply (Beginning emission ∷ rest) n is = absurd (false≢true is)
   acts_passing w apart reply (Emitting e [] ∷ rest) n is = absurd (false≢true is)
   acts_passing w apart reply (Emitting e (class_handler program cleanup ∷ ts) ∷ rest) n is = absurd (false≢true is)
-  acts_passing w apart reply (Emitting e (config.transfer number back ∷ ts) ∷ rest) n is = absurd (false≢true is)
   acts_passing w apart reply (Transferring number back ∷ rest) n is = absurd (false≢true is)
   acts_passing w apart reply (Unsetting number ∷ rest) n is = absurd (false≢true is)
   acts_passing w apart reply (Thawing object slots ∷ rest) n is = absurd (false≢true is)
@@ -920,52 +940,67 @@ gone_turns_pass gone d reply c apart held is =
 
 -- ** which are gone
 
-all_weaken : (p q : Handler → Bool) → ((h : Handler) → p h ≡ true → q h ≡ true) → (hs : List Handler) → list_all p hs ≡ true → list_all q hs ≡ true
+all_weaken : {A : Type 0} (p q : A → Bool) → ((x : A) → p x ≡ true → q x ≡ true) → (xs : List A) → list_all p xs ≡ true → list_all q xs ≡ true
 all_weaken p q weaken [] all = refl
-all_weaken p q weaken (h ∷ hs) all =
-    let parts = both (p h) (list_all p hs) all in
-    ap (λ b. b && list_all q hs) (weaken h parts.0) ∙ all_weaken p q weaken hs parts.1
+all_weaken p q weaken (x ∷ xs) all =
+    let parts = both (p x) (list_all p xs) all in
+    ap (λ b. b && list_all q xs) (weaken x parts.0) ∙ all_weaken p q weaken xs parts.1
 
-still_found : (h : Handler) (hs : List Handler) (number : ℕ) → is_some (handler_of number hs) ≡ true → is_some (handler_of number (h ∷ hs)) ≡ true
-still_found h hs number found = by (nat_eq h.number number)
-  where
-    by : (b : Bool) → is_some (cond b (Some h) (handler_of number hs)) ≡ true
-    by true = refl
-    by false = found
+module _ {A : Type 0} (number_of : A → ℕ) where
+  abbrev is_found : List A → A → Bool
+  is_found xs x = is_some (find (λ y. nat_eq (number_of y) (number_of x)) xs)
 
-all_found : (hs : List Handler) → list_all (λ (h : Handler). is_some (handler_of h.number hs)) hs ≡ true
-all_found [] = refl
-all_found (h ∷ hs) =
-    let own : nat_eq h.number h.number ≡ true = grind (arith, nat_tests) in
-    let first : is_some (handler_of h.number (h ∷ hs)) ≡ true = ap (λ b. is_some (cond b (Some h) (handler_of h.number hs))) own in
-    ap (λ b. b && list_all (λ (x : Handler). is_some (handler_of x.number (h ∷ hs))) hs) first
-    ∙ all_weaken (λ (x : Handler). is_some (handler_of x.number hs)) (λ (x : Handler). is_some (handler_of x.number (h ∷ hs)))
-    (λ x found. still_found h hs x.number found) hs (all_found hs)
+  still_found : (first : A) (xs : List A) (x : A) → is_found xs x ≡ true → is_found (first ∷ xs) x ≡ true
+  still_found first xs x found = by (nat_eq (number_of first) (number_of x))
+    where
+      by : (b : Bool) → is_some (cond b (Some first) (find (λ y. nat_eq (number_of y) (number_of x)) xs)) ≡ true
+      by true = refl
+      by false = found
+
+  all_found : (xs : List A) → list_all (is_found xs) xs ≡ true
+  all_found [] = refl
+  all_found (x ∷ xs) =
+      let own : nat_eq (number_of x) (number_of x) ≡ true = grind (arith, nat_tests) in
+      let first : is_found (x ∷ xs) x ≡ true = ap (λ b. is_some (cond b (Some x) (find (λ y. nat_eq (number_of y) (number_of x)) xs))) own in
+      ap (λ b. b && list_all (is_found (x ∷ xs)) xs) first ∙ all_weaken (is_found xs) (is_found (x ∷ xs)) (still_found x xs) xs (all_found xs)
 
 pub given_are_gone : GivenAreGone
-given_are_gone w =
-    all_weaken (λ (h : Handler). is_some (handler_of h.number w.handlers)) (λ (h : Handler). not (gone_in w h.number))
-    (λ h found. by (nat_le h.number w.last_handler) (is_some (handler_of h.number w.handlers)) found) w.handlers (all_found w.handlers)
+given_are_gone w = record {
+  handlers =
+      all_weaken (is_found (λ (h : Handler). h.number) w.handlers) (λ (h : Handler). not ((gone_in w).handlers h.number))
+      (λ h found. by (nat_le h.number w.last_handler) (is_some (handler_of h.number w.handlers)) found) w.handlers (all_found (λ (h : Handler). h.number) w.handlers);
+  bindings =
+      all_weaken (is_found (λ (b : Binding). b.number) w.bindings) (λ (b : Binding). not ((gone_in w).bindings b.number))
+      (λ b found. ap (λ x. not (not x)) found) w.bindings (all_found (λ (b : Binding). b.number) w.bindings);
+}
   where
     by : (low found : Bool) → found ≡ true → not (low && not found) ≡ true
     by true true e = refl
     by false true e = refl
     by low false e = absurd (false≢true e)
 
-module _ (before later : ℕ → Bool) (more : (number : ℕ) → before number ≡ true → later number ≡ true) where
+went : (b : Bool) → not b ≡ false → b ≡ true
+went true e = refl
+went false e = sym e
+
+module _ (before later : Gone) (more : AreStillGone before later) where
+  -- an entry that went before is left out later
+  goes_later : (entry : PlanEntry) → stays before entry ≡ false → stays later entry ≡ false
+  goes_later (class_handler program cleanup) e = e
+  goes_later (config.transfer number back) e = ap not (more.bindings number (went (before.bindings number) e))
+  goes_later (handler number) e = ap not (more.handlers number (went (before.handlers number) e))
+
   entries_again : (ts : List PlanEntry) → filter (stays later) (filter (stays before) ts) ≡ filter (stays later) ts
   entries_again [] = refl
-  entries_again (class_handler program cleanup ∷ ts) = ap (λ l. class_handler program cleanup ∷ l) (entries_again ts)
-  entries_again (config.transfer number back ∷ ts) = ap (λ l. config.transfer number back ∷ l) (entries_again ts)
-  entries_again (handler number ∷ ts) = by (before number) refl (entries_again ts)
+  entries_again (entry ∷ ts) = by (stays before entry) refl (entries_again ts)
     where
       kept : List PlanEntry
       kept = filter (stays later) ts
 
-      by : (b : Bool) → before number ≡ b → filter (stays later) (filter (stays before) ts) ≡ kept
-          → filter (stays later) (cond (not b) (handler number ∷ filter (stays before) ts) (filter (stays before) ts)) ≡ cond (not (later number)) (handler number ∷ kept) kept
-      by true e same = same ∙ sym (ap (λ b. cond (not b) (handler number ∷ kept) kept) (more number e))
-      by false e same = ap (λ l. cond (not (later number)) (handler number ∷ l) l) same
+      by : (b : Bool) → stays before entry ≡ b → filter (stays later) (filter (stays before) ts) ≡ kept
+          → filter (stays later) (cond b (entry ∷ filter (stays before) ts) (filter (stays before) ts)) ≡ cond (stays later entry) (entry ∷ kept) kept
+      by false e same = same ∙ sym (ap (λ b. cond b (entry ∷ kept) kept) (goes_later entry e))
+      by true e same = ap (λ l. cond (stays later entry) (entry ∷ l) l) same
 
   task_again : (task : Task) → pruned later (pruned before task) ≡ pruned later task
   task_again (Setting object slot v) = refl

@@ -1,6 +1,6 @@
--- What an instruction leaves of the handlers that are gone, and of the transcript.
+-- What an instruction leaves of the handlers and bindings that are gone, and of the transcript.
 use Rattle.std.proofs.Common.{◌≡◌, refl, ap, sym, subst, ◌∙◌, ℕ, suc, ◌≤◌, Bool, true, false, cond, not, nat_eq, List, [], ◌∷◌, ◌++◌, map, Option, None, Some, Ok, Err, ◌&&◌, arith}
-use Rattle.std.specs.List.{filter, list_all}
+use Rattle.std.specs.List.{filter, find, list_all}
 use Rattle.std.specs.Prelude.{IfOk, codes, is_some, length, nat_le, nat_lt, slice_get}
 use Rattle.std.proofs.lemmas.Bool.{false≢true}
 use Rattle.std.proofs.lemmas.Bool.Decides.{nat_tests}
@@ -37,7 +37,7 @@ use Rattle.ui_machine.specs.Rules.NotifyQueue.{frozen_less, frozen_more, raised}
 use Rattle.ui_machine.specs.Rules.Programs.{all_fit}
 use Rattle.ui_machine.specs.Rules.Transform.{kind_fits}
 use Rattle.ui_machine.specs.Rules.Sets.{is_disposed, raising, spec_at}
-use Rattle.ui_machine.specs.State.Bindings.{is_binding}
+use Rattle.ui_machine.specs.State.Bindings.{Binding, binding_of, is_binding, is_called, is_end}
 use Rattle.ui_machine.specs.State.Config.{Left, Started, World, peer_at, said, starts}
 use Rattle.ui_machine.specs.State.Handlers.{Handler, handler_of}
 use Rattle.ui_machine.specs.State.Objects.{asked, changed, class_in, living, object_at, value_at}
@@ -46,12 +46,12 @@ use Rattle.ui_machine.specs.Seq.{write}
 use Rattle.ui_machine.specs.State.Sources as sources
 use Rattle.ui_machine.specs.State.Tasks.{Answering, Calling, Constructing, Emission, Emitting, Frame, PlanEntry, Task}
 use Rattle.machine_laws.specs.FrontLaws.{fronted, mapped}
-use Rattle.machine_laws.specs.GoneLaws.{gone_in}
+use Rattle.machine_laws.specs.GoneLaws.{AreStillGone, gone_in}
 use Rattle.machine_laws.proofs.FrontProofs.{remaining, runs_on}
 
 -- who was gone in one world is gone in the other
 pub record KeepsGone (w v : World) : Type 0 where
-  pub at : (number : ℕ) → gone_in w number ≡ true → gone_in v number ≡ true
+  pub at : AreStillGone (gone_in w) (gone_in v)
 
 bind_keeps : {A B : Type 0} (a : Answer A) (f : A → Answer B) (P : B → Type 0) → ((x : A) → a ≡ Ok x → IfOk (f x) P) → IfOk (a >>= f) P
 bind_keeps (Ok x) f P h = h x refl
@@ -68,43 +68,60 @@ cond_keeps false x y P p q = q
 kept_at : {A : Type 0} (P : A → Type 0) (a : Answer A) (x : A) → IfOk a P → a ≡ Ok x → P x
 kept_at {A} P a x h e = subst (λ (r : Answer A). IfOk r P) e h
 
--- ** handlers
+-- ** handlers and bindings
 
 both_true : (a b : Bool) → (a && b) ≡ true → (a ≡ true) × (b ≡ true)
 both_true true b h = (refl, h)
 both_true false b h = absurd (false≢true h)
 
-none_there : (o : Option Handler) → not (is_some o) ≡ true → o ≡ None
+none_there : {A : Type 0} (o : Option A) → not (is_some o) ≡ true → o ≡ None
 none_there None none = refl
-none_there (Some h) none = absurd (false≢true none)
+none_there (Some x) none = absurd (false≢true none)
 
--- the same handlers stand
-pub same_kept : (w v : World) → v.handlers ≡ w.handlers → v.last_handler ≡ w.last_handler → KeepsGone w v
-same_kept w v handlers last = record {
-  at = λ number is. ap (λ (hs : List Handler). nat_le number v.last_handler && not (is_some (handler_of number hs))) handlers
-      ∙ ap (λ n. nat_le number n && not (is_some (handler_of number w.handlers))) last ∙ is;
+-- the same stand
+pub same_kept : (w v : World) → v.handlers ≡ w.handlers → v.last_handler ≡ w.last_handler → v.bindings ≡ w.bindings → KeepsGone w v
+same_kept w v handlers last bindings = record {
+  at = record {
+    handlers = λ number is. ap (λ (hs : List Handler). nat_le number v.last_handler && not (is_some (handler_of number hs))) handlers
+        ∙ ap (λ n. nat_le number n && not (is_some (handler_of number w.handlers))) last ∙ is;
+    bindings = λ number is. ap (λ (bs : List Binding). not (is_some (binding_of number bs))) bindings ∙ is;
+  };
 }
 
--- who is not found before a change of the handlers is not found behind it
+-- who is not found before a change of the handlers and of the bindings is not found behind it
 changed_kept : (w v : World) → v.last_handler ≡ w.last_handler
-    → ((number : ℕ) → handler_of number w.handlers ≡ None → handler_of number v.handlers ≡ None) → KeepsGone w v
-changed_kept w v last none = record {
-  at = λ number is.
-      let parts = both_true (nat_le number w.last_handler) (not (is_some (handler_of number w.handlers))) is in
-      ap (λ o. nat_le number v.last_handler && not (is_some o)) (none number (none_there (handler_of number w.handlers) parts.1))
-      ∙ ap (λ n. nat_le number n && true) last ∙ ap (λ b. b && true) parts.0;
+    → ((number : ℕ) → handler_of number w.handlers ≡ None → handler_of number v.handlers ≡ None)
+    → ((number : ℕ) → binding_of number w.bindings ≡ None → binding_of number v.bindings ≡ None) → KeepsGone w v
+changed_kept w v last none unbound = record {
+  at = record {
+    handlers = λ number is.
+        let parts = both_true (nat_le number w.last_handler) (not (is_some (handler_of number w.handlers))) is in
+        ap (λ o. nat_le number v.last_handler && not (is_some o)) (none number (none_there (handler_of number w.handlers) parts.1))
+        ∙ ap (λ n. nat_le number n && true) last ∙ ap (λ b. b && true) parts.0;
+    bindings = λ number is. ap (λ o. not (is_some o)) (unbound number (none_there (binding_of number w.bindings) is));
+  };
 }
 
 -- some of them
-fewer : (keeps : Handler → Bool) (number : ℕ) (hs : List Handler) → handler_of number hs ≡ None → handler_of number (filter keeps hs) ≡ None
-fewer keeps number [] none = refl
-fewer keeps number (h ∷ hs) none = by (keeps h) (nat_eq h.number number) refl none (λ later. fewer keeps number hs later)
+fewer : {A : Type 0} (number_of : A → ℕ) (keeps : A → Bool) (number : ℕ) (xs : List A)
+    → find (λ x. nat_eq (number_of x) number) xs ≡ None → find (λ x. nat_eq (number_of x) number) (filter keeps xs) ≡ None
+fewer number_of keeps number [] none = refl
+fewer {A} number_of keeps number (x ∷ xs) none = by (keeps x) (nat_eq (number_of x) number) refl none (λ later. fewer number_of keeps number xs later)
   where
-    by : (k b : Bool) → nat_eq h.number number ≡ b → cond b (Some h) (handler_of number hs) ≡ None → (handler_of number hs ≡ None → handler_of number (filter keeps hs) ≡ None)
-        → handler_of number (cond k (h ∷ filter keeps hs) (filter keeps hs)) ≡ None
+    found : List A → Option A
+    found = find (λ y. nat_eq (number_of y) number)
+
+    by : (k b : Bool) → nat_eq (number_of x) number ≡ b → cond b (Some x) (found xs) ≡ None → (found xs ≡ None → found (filter keeps xs) ≡ None)
+        → found (cond k (x ∷ filter keeps xs) (filter keeps xs)) ≡ None
     by k true e none rest = absurd (cc none)
-    by true false e none rest = ap (λ c. cond c (Some h) (handler_of number (filter keeps hs))) e ∙ rest none
+    by true false e none rest = ap (λ c. cond c (Some x) (found (filter keeps xs))) e ∙ rest none
     by false false e none rest = rest none
+
+fewer_handlers : (keeps : Handler → Bool) (number : ℕ) (hs : List Handler) → handler_of number hs ≡ None → handler_of number (filter keeps hs) ≡ None
+fewer_handlers keeps number hs none = fewer (λ (h : Handler). h.number) keeps number hs none
+
+fewer_bindings : (keeps : Binding → Bool) (number : ℕ) (bs : List Binding) → binding_of number bs ≡ None → binding_of number (filter keeps bs) ≡ None
+fewer_bindings keeps number bs none = fewer (λ (b : Binding). b.number) keeps number bs none
 
 -- each under its number
 alike : (change : Handler → Handler) → ((h : Handler) → (change h).number ≡ h.number) → (number : ℕ) (hs : List Handler)
@@ -129,13 +146,16 @@ not_new number (i ∷ hs) h other none = by (nat_eq i.number number) refl none (
 
 pub connected_kept : (w : World) (c : Connection) → KeepsGone w (with_handler w c)
 connected_kept w c = record {
-  at = λ number is.
-      let parts = both_true (nat_le number w.last_handler) (not (is_some (handler_of number w.handlers))) is in
-      let low : number ≤ w.last_handler = let le = parts.0 in grind (arith, nat_tests) in
-      let within : nat_le number (suc w.last_handler) ≡ true = grind (arith, nat_tests) in
-      let other : nat_eq (suc w.last_handler) number ≡ false = grind (arith, nat_tests) in
-      ap (λ o. nat_le number (suc w.last_handler) && not (is_some o)) (not_new number w.handlers (new_handler (suc w.last_handler) c) other (none_there (handler_of number w.handlers) parts.1))
-      ∙ ap (λ b. b && true) within;
+  at = record {
+    handlers = λ number is.
+        let parts = both_true (nat_le number w.last_handler) (not (is_some (handler_of number w.handlers))) is in
+        let low : number ≤ w.last_handler = let le = parts.0 in grind (arith, nat_tests) in
+        let within : nat_le number (suc w.last_handler) ≡ true = grind (arith, nat_tests) in
+        let other : nat_eq (suc w.last_handler) number ≡ false = grind (arith, nat_tests) in
+        ap (λ o. nat_le number (suc w.last_handler) && not (is_some o)) (not_new number w.handlers (new_handler (suc w.last_handler) c) other (none_there (handler_of number w.handlers) parts.1))
+        ∙ ap (λ b. b && true) within;
+    bindings = λ number is. is;
+  };
 }
 
 -- ** what an instruction starts
@@ -150,7 +170,7 @@ module _ (d : Definition) (w : World) where
 
   -- a register is written
   writes : (to : ℕ) (x : Option Value) (f : Frame) → IfOk (written_to w to x f) Kept
-  writes to x f = gives_kept w (same_kept w w refl refl) to x f
+  writes to x f = gives_kept w (same_kept w w refl refl refl) to x f
 
   moves : (f : Frame) (to from : ℕ) → IfOk (moving w f to from) Kept
   unfolding moving
@@ -188,7 +208,7 @@ module _ (d : Definition) (w : World) where
       by s = long (nat_lt most_bytes (length s))
         where
           long : (b : Bool) → IfOk (gives_from (cond b (record { state = said d w (lines.limit (codes "join")); answer = values.text None }) (record { state = w; answer = values.text (Some s) })) to f) Kept
-          long true = gives_kept (said d w (lines.limit (codes "join"))) (same_kept w _ refl refl) to (Some (values.text None)) f
+          long true = gives_kept (said d w (lines.limit (codes "join"))) (same_kept w _ refl refl refl) to (Some (values.text None)) f
           long false = writes to (Some (values.text (Some s))) f
 
   converts : (f : Frame) (to a : ℕ) (kind : Kind) → IfOk (converting d w f to a kind) Kept
@@ -204,7 +224,7 @@ module _ (d : Definition) (w : World) where
 
   sets_from : (f : Frame) (id slot from : ℕ) → IfOk (set_from w f id slot from) Kept
   unfolding set_from
-  sets_from f id slot from = bind_keeps (value_in f from) _ Kept (λ v _. same_kept w w refl refl)
+  sets_from f id slot from = bind_keeps (value_in f from) _ Kept (λ v _. same_kept w w refl refl refl)
 
   assigns : (f : Frame) (object : ℕ) (name : List ℕ) (from : ℕ) → IfOk (set_property d w f object name from) Kept
   unfolding set_property
@@ -215,12 +235,12 @@ module _ (d : Definition) (w : World) where
 
   raises : (f : Frame) (id slot : ℕ) → IfOk (then_goes_on f (raising w id slot)) Kept
   unfolding then_goes_on raising
-  raises f id slot = bind_keeps (raising w id slot) _ Kept (λ s is. kept_at Kept (raising w id slot) s (bind_keeps (changed w.objects id (raised slot)) _ Kept (λ r _. same_kept w _ refl refl)) is)
+  raises f id slot = bind_keeps (raising w id slot) _ Kept (λ s is. kept_at Kept (raising w id slot) s (bind_keeps (changed w.objects id (raised slot)) _ Kept (λ r _. same_kept w _ refl refl refl)) is)
 
   notifies : (f : Frame) (object : ℕ) (name : List ℕ) → IfOk (notify_from_program d w f object name) Kept
   unfolding notify_from_program
   notifies f object name = bind_keeps (operand_in w f object) _ Kept (λ id _. bind_keeps (slot_at d w id name) _ Kept (λ slot _.
-      bind_keeps (spec_at d w.objects id slot) _ Kept (λ s _. cond_keeps (is_readable s) _ _ Kept (raises f id slot) (same_kept w w refl refl))))
+      bind_keeps (spec_at d w.objects id slot) _ Kept (λ s _. cond_keeps (is_readable s) _ _ Kept (raises f id slot) (same_kept w w refl refl refl))))
 
   -- ** objects
 
@@ -232,7 +252,7 @@ module _ (d : Definition) (w : World) where
   unfolding making
   makes place peer held = bind_keeps (known arms.Code (place_at d place)) _ Kept (λ p _.
       only_keeps (not (type_of d p.class).is_abstract) arms.Abstract (only_if (list_all (has_valid_default d) (specs_of d p.class)) arms.Value (begun p)) Kept
-      (only_keeps (list_all (has_valid_default d) (specs_of d p.class)) arms.Value (begun p) Kept (same_kept w _ refl refl)))
+      (only_keeps (list_all (has_valid_default d) (specs_of d p.class)) arms.Value (begun p) Kept (same_kept w _ refl refl refl)))
     where
       begun : Place → Answer Started
       begun p = starts (said d (with_object d w (new_object d place p peer)) (lines.construct (suc (length w.objects)) (type_of d p.class).name))
@@ -246,19 +266,19 @@ module _ (d : Definition) (w : World) where
   creates : (rest : List Task) (f : Frame) (to : ℕ) (id : List ℕ) → IfOk (creating d w rest f to id) Kept
   unfolding creating
   creates rest f to id = bind_keeps (known arms.Code (place_of d id)) _ Kept (λ place _. bind_keeps (known arms.Code (place_at d place)) _ Kept (λ p _.
-      only_keeps _ _ _ Kept (cond_keeps (has_room_for_object d w _ p) _ _ Kept (makes_new f to place p) (gives_kept (said d w (lines.limit (codes "new"))) (same_kept w _ refl refl) to (Some (values.object None)) f))))
+      only_keeps _ _ _ Kept (cond_keeps (has_room_for_object d w _ p) _ _ Kept (makes_new f to place p) (gives_kept (said d w (lines.limit (codes "new"))) (same_kept w _ refl refl refl) to (Some (values.object None)) f))))
 
   sinks : (f : Frame) (object : ℕ) → IfOk (sinking w f object) Kept
   unfolding sinking
-  sinks f object = bind_keeps (operand_in w f object) _ Kept (λ id _. same_kept w _ refl refl)
+  sinks f object = bind_keeps (operand_in w f object) _ Kept (λ id _. same_kept w _ refl refl refl)
 
   orphans : (f : Frame) (object : ℕ) → IfOk (orphaning d w f object) Kept
   unfolding orphaning
   orphans f object = bind_keeps (operand_in w f object) _ Kept (λ id _. bind_keeps (object_at w.objects id) _ Kept (λ o _. by id o.parent))
     where
       by : (id : ℕ) (parent : Option ℕ) → KeepsGone w (orphaned d w id parent)
-      by id None = same_kept w w refl refl
-      by id (Some parent) = same_kept w _ refl refl
+      by id None = same_kept w w refl refl refl
+      by id (Some parent) = same_kept w _ refl refl refl
 
   closes : (v : World) → KeepsGone w v → (peer : Option ℕ) → IfOk (closing d peer v) (KeepsGone w)
   unfolding closing
@@ -270,13 +290,13 @@ module _ (d : Definition) (w : World) where
       shut p false = kept
 
   goes : (id : ℕ) (first : Bool) → KeepsGone w (said_if d first (without_object d w id) (lines.dispose id))
-  goes id true = changed_kept w _ refl (λ number. fewer (λ h. not (is_of_object id h)) number w.handlers)
-  goes id false = changed_kept w _ refl (λ number. fewer (λ h. not (is_of_object id h)) number w.handlers)
+  goes id true = changed_kept w _ refl (λ number. fewer_handlers (λ h. not (is_of_object id h)) number w.handlers) (λ number. fewer_bindings (λ b. not (is_end id b)) number w.bindings)
+  goes id false = changed_kept w _ refl (λ number. fewer_handlers (λ h. not (is_of_object id h)) number w.handlers) (λ number. fewer_bindings (λ b. not (is_end id b)) number w.bindings)
 
   disposes : (f : Frame) (object : ℕ) → IfOk (disposing d w f object) Kept
   unfolding disposing
   disposes f object = bind_keeps (operand_in w f object) _ Kept (λ id _. bind_keeps (disposed_once d w id) _ Kept (λ v is.
-      kept_at (KeepsGone w) (disposed_once d w id) v (cond_keeps (is_disposed (living w.objects id)) (Ok w) (disposed d w id) (KeepsGone w) (same_kept w w refl refl)
+      kept_at (KeepsGone w) (disposed_once d w id) v (cond_keeps (is_disposed (living w.objects id)) (Ok w) (disposed d w id) (KeepsGone w) (same_kept w w refl refl refl)
       (closes _ (goes id (is_first (living w.objects id))) (peer_of (living w.objects id)))) is))
 
   adopts : (f : Frame) (to parent child : ℕ) → IfOk (adopting d w f to parent child) Kept
@@ -291,30 +311,30 @@ module _ (d : Definition) (w : World) where
       joined p c = bind_keeps (object_at w.objects p) _ Family (λ o _. bind_keeps (object_at w.objects c) _ Family (λ i _. by (is_unadoptable p o c i)))
         where
           by : (b : Bool) → Family (cond b (record { state = said d w (lines.limit (codes "adopt")); answer = false }) (record { state = with_family d w p c; answer = true }))
-          by true = same_kept w _ refl refl
-          by false = same_kept w _ refl refl
+          by true = same_kept w _ refl refl refl
+          by false = same_kept w _ refl refl refl
 
   freezes : (f : Frame) (object : ℕ) → IfOk (freezing w f object) Kept
   unfolding freezing
-  freezes f object = bind_keeps (operand_in w f object) _ Kept (λ id _. bind_keeps (changed w.objects id frozen_more) _ Kept (λ r _. same_kept w _ refl refl))
+  freezes f object = bind_keeps (operand_in w f object) _ Kept (λ id _. bind_keeps (changed w.objects id frozen_more) _ Kept (λ r _. same_kept w _ refl refl refl))
 
   thaws : (f : Frame) (object : ℕ) → IfOk (thaw_notify w f object) Kept
   unfolding thaw_notify
-  thaws f object = bind_keeps (operand_in w f object) _ Kept (λ id _. bind_keeps (changed w.objects id frozen_less) _ Kept (λ r _. same_kept w _ refl refl))
+  thaws f object = bind_keeps (operand_in w f object) _ Kept (λ id _. bind_keeps (changed w.objects id frozen_less) _ Kept (λ r _. same_kept w _ refl refl refl))
 
   -- ** signals
 
   emits : (f : Frame) (object : ℕ) (e : Emit) → IfOk (emitting d w f object e) Kept
   unfolding emitting
   emits f object e = bind_keeps (operand_in w f object) _ Kept (λ id _. bind_keeps (signal_to_emit d w id e.signal) _ Kept (λ signal _.
-      bind_keeps (detail_in d w id signal e.detail) _ Kept (λ detail _. bind_keeps (values_in f e.args) _ Kept (λ given _. same_kept w w refl refl))))
+      bind_keeps (detail_in d w id signal e.detail) _ Kept (λ detail _. bind_keeps (values_in f e.args) _ Kept (λ given _. same_kept w w refl refl refl))))
 
   connects_one : (to_come : ℕ) (c : Connection) (to : ℕ) (f : Frame) → IfOk (tells (connected d w to_come c) to f) Kept
   connects_one to_come c to f = late (is_too_late w.objects c.object c.arg)
     where
       room : (b : Bool) → IfOk (tells (cond b (record { state = with_handler w c; answer = true }) (record { state = said d w (lines.limit (codes "connect")); answer = false })) to f) Kept
       room true = gives_kept (with_handler w c) (connected_kept w c) to (Some (values.bool true)) f
-      room false = gives_kept (said d w (lines.limit (codes "connect"))) (same_kept w _ refl refl) to (Some (values.bool false)) f
+      room false = gives_kept (said d w (lines.limit (codes "connect"))) (same_kept w _ refl refl refl) to (Some (values.bool false)) f
 
       late : (b : Bool) → IfOk (tells (cond b (record { state = w; answer = false })
           (cond (has_room_for_handler d w to_come c.object c.signal) (record { state = with_handler w c; answer = true }) (record { state = said d w (lines.limit (codes "connect")); answer = false }))) to f) Kept
@@ -333,7 +353,7 @@ module _ (d : Definition) (w : World) where
   changes f object program change kept = bind_keeps (operand_in w f object) _ Kept (λ id _. bind_keeps (known arms.Code (program_of d program)) _ Kept (λ number _. kept id number))
 
   with_each : (change : Handler → Handler) → ((h : Handler) → (change h).number ≡ h.number) → (id number : ℕ) → KeepsGone w (with_handlers_on change w id number)
-  with_each change same id number = changed_kept w _ refl (λ n. alike (λ h. cond (is_on id number h) (change h) h) (λ h. by h (is_on id number h)) n w.handlers)
+  with_each change same id number = changed_kept w _ refl (λ n. alike (λ h. cond (is_on id number h) (change h) h) (λ h. by h (is_on id number h)) n w.handlers) (λ n none. none)
     where
       by : (h : Handler) (b : Bool) → (cond b (change h) h).number ≡ h.number
       by h true = same h
@@ -347,26 +367,26 @@ module _ (d : Definition) (w : World) where
     where
       room : (program : ℕ) (arg : Option ℕ) (b : Bool)
           → IfOk (tells (cond b (record { state = with_source w a program arg; answer = true }) (record { state = said d w (lines.limit a.word); answer = false })) to f) Kept
-      room program arg true = gives_kept (with_source w a program arg) (same_kept w _ refl refl) to (Some (values.bool true)) f
-      room program arg false = gives_kept (said d w (lines.limit a.word)) (same_kept w _ refl refl) to (Some (values.bool false)) f
+      room program arg true = gives_kept (with_source w a program arg) (same_kept w _ refl refl refl) to (Some (values.bool true)) f
+      room program arg false = gives_kept (said d w (lines.limit a.word)) (same_kept w _ refl refl refl) to (Some (values.bool false)) f
 
   removes : (f : Frame) (program : List ℕ) → IfOk (removing d w f program) Kept
   unfolding removing
-  removes f program = bind_keeps (known arms.Code (program_of d program)) _ Kept (λ number _. same_kept w _ refl refl)
+  removes f program = bind_keeps (known arms.Code (program_of d program)) _ Kept (λ number _. same_kept w _ refl refl refl)
 
   calls : (f : Frame) (to object : ℕ) (name args : List ℕ) → IfOk (calling d w f to object name args) Kept
   unfolding calling
   calls f to object name args = bind_keeps (operand_in w f object) _ Kept (λ id _. bind_keeps (object_at w.objects id) _ Kept (λ o _. bind_keeps (known arms.Call o.peer) _ Kept (λ peer _.
       bind_keeps (known arms.Call (peer_at w peer)) _ Kept (λ p _. bind_keeps (known arms.Call (method_number p name)) _ Kept (λ number _. bind_keeps (known arms.Call (method_of p number)) _ Kept (λ m _.
       bind_keeps (values_in f args) _ Kept (λ given _. only_keeps (all_fit (kind_fits (class_in w.objects) d.types) given m.params) arms.Call (only_if (nat_lt to (length f.registers)) arms.Code (asks id peer number given)) Kept
-      (only_keeps (nat_lt to (length f.registers)) arms.Code (asks id peer number given) Kept (same_kept w w refl refl)))))))))
+      (only_keeps (nat_lt to (length f.registers)) arms.Code (asks id peer number given) Kept (same_kept w w refl refl refl)))))))))
     where
       asks : (id peer number : ℕ) → List Value → Answer Started
       asks id peer number given = goes_on w (Calling (record { object = id; peer = peer; method = number; args = given; to = to }) ∷ []) f
 
   jumps : (f : Frame) (to : ℕ) → IfOk (jumping d w f to) Kept
   unfolding jumping
-  jumps f to = bind_keeps (known arms.Code (program_at d f.program)) _ Kept (λ p _. bind_keeps (known arms.Code (slice_get p.blocks to)) _ Kept (λ b _. same_kept w w refl refl))
+  jumps f to = bind_keeps (known arms.Code (program_at d f.program)) _ Kept (λ p _. bind_keeps (known arms.Code (slice_get p.blocks to)) _ Kept (λ b _. same_kept w w refl refl refl))
 
   branches : (f : Frame) (on then_to else_to : ℕ) → IfOk (branching d w f on then_to else_to) Kept
   unfolding branching
@@ -388,11 +408,11 @@ module _ (d : Definition) (w : World) where
 
   down_emission : (e : Emission) (entries : List PlanEntry) (rest : List Task) (given : Option Value) → IfOk (down_to_emission d w e entries rest given) Leaves
   unfolding down_to_emission
-  down_emission e entries rest given = bind_keeps (collecting d w e entries given) _ Leaves (λ t _. same_kept w w refl refl)
+  down_emission e entries rest given = bind_keeps (collecting d w e entries given) _ Leaves (λ t _. same_kept w w refl refl refl)
 
   down_source : (source : ℕ) (rest : List Task) (given : Option Value) → IfOk (down_to_source w source rest given) Leaves
   unfolding down_to_source
-  down_source source rest (Some (values.bool keep)) = same_kept w _ refl refl
+  down_source source rest (Some (values.bool keep)) = same_kept w _ refl refl refl
   down_source source rest None = tt
   down_source source rest (Some (values.whole kind n)) = tt
   down_source source rest (Some (values.text s)) = tt
@@ -403,7 +423,7 @@ module _ (d : Definition) (w : World) where
   down : (rest : List Task) (given : Option Value) → IfOk (given_down d w rest given) Leaves
   down (Emitting e entries ∷ rest) given = down_emission e entries rest given
   down (Answering source ∷ rest) given = down_source source rest given
-  down rest None = same_kept w w refl refl
+  down rest None = same_kept w w refl refl refl
   down rest (Some v) = tt
 
   returns : (f : Frame) (rest : List Task) (from : Option ℕ) → IfOk (returning d w f rest from) Leaves
@@ -436,11 +456,12 @@ module _ (d : Definition) (w : World) where
   instructed_kept rest f (words.notify object name) = begins rest (notify_from_program d w f object name) (notifies f object name)
   instructed_kept rest f (words.connect to object c) = begins rest (connecting d w rest f to object c) (connects rest f to object c)
   instructed_kept rest f (words.disconnect object program) = begins rest (disconnecting d w f object program)
-      (changes f object program disconnected (λ id number. changed_kept w _ refl (λ n. fewer (λ h. not (is_on id number h)) n w.handlers)))
+      (changes f object program disconnected (λ id number. changed_kept w _ refl (λ n. fewer_handlers (λ h. not (is_on id number h)) n w.handlers) (λ n none. none)))
   instructed_kept rest f (words.block object program) = begins rest (blocking d w f object program) (changes f object program (with_handlers_on blocked) (with_each blocked (λ h. refl)))
   instructed_kept rest f (words.unblock object program) = begins rest (unblocking d w f object program) (changes f object program (with_handlers_on unblocked) (with_each unblocked (λ h. refl)))
-  instructed_kept rest f words.stop = same_kept w w refl refl
-  instructed_kept rest f (words.unbind name) = begins rest (unbinding d w f name) (only_keeps (is_binding d name) arms.Code _ Kept (same_kept w _ refl refl))
+  instructed_kept rest f words.stop = same_kept w w refl refl refl
+  instructed_kept rest f (words.unbind name) = begins rest (unbinding d w f name)
+      (only_keeps (is_binding d name) arms.Code _ Kept (changed_kept w _ refl (λ n none. none) (λ n. fewer_bindings (λ b. not (is_called name b)) n w.bindings)))
   instructed_kept rest f (words.idle to program priority with) = begins rest (attaching d w f to _) (attaches f to (record { word = codes "idle"; program = program; priority = priority; interval = None; with = with }))
   instructed_kept rest f (words.timeout to program priority interval with) = begins rest (attaching d w f to _) (attaches f to (record { word = codes "timeout"; program = program; priority = priority; interval = Some interval; with = with }))
   instructed_kept rest f (words.remove program) = begins rest (removing d w f program) (removes f program)
@@ -450,7 +471,7 @@ module _ (d : Definition) (w : World) where
   instructed_kept rest f (words.branch_null on then_to else_to) = begins rest (branching_null d w f on then_to else_to) (branches_null f on then_to else_to)
   instructed_kept rest f (words.return from) = returns f rest from
 
-  -- an instruction of a program brings back no handler that is gone
+  -- an instruction of a program brings back no handler and no binding that is gone
   pub running_kept : (rest : List Task) (f : Frame) → IfOk (running d w rest f) Leaves
   unfolding running
   running_kept rest f = bind_keeps (block_in d f) _ Leaves (λ b _. bind_keeps (known arms.Code (slice_get b.code (in_pass b f).at)) _ Leaves (λ i _. instructed_kept rest (past (in_pass b f)) i))

@@ -63,7 +63,8 @@ pub fn runs()
     ensures goes_on { RunsGoOn }
 {}
 
-/// The turns of handlers that are gone make no difference: they are passed over, and an emission without them goes on as one with them.
+/// The turns of handlers and the transfers of bindings that are gone make no difference: they are passed over, and an emission without
+/// them goes on as one with them.
 pub fn gone()
     ensures passes { GoneTurnsPass }
     ensures steps { StepsDoWithout }
