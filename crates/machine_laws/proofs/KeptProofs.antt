@@ -53,19 +53,19 @@ use Rattle.machine_laws.proofs.FrontProofs.{remaining, runs_on}
 pub record KeepsGone (w v : World) : Type 0 where
   pub at : AreStillGone (gone_in w) (gone_in v)
 
-bind_keeps : {A B : Type 0} (a : Answer A) (f : A → Answer B) (P : B → Type 0) → ((x : A) → a ≡ Ok x → IfOk (f x) P) → IfOk (a >>= f) P
+pub bind_keeps : {A B : Type 0} (a : Answer A) (f : A → Answer B) (P : B → Type 0) → ((x : A) → a ≡ Ok x → IfOk (f x) P) → IfOk (a >>= f) P
 bind_keeps (Ok x) f P h = h x refl
 bind_keeps (Err arm) f P h = tt
 
-only_keeps : {A : Type 0} (b : Bool) (arm : Arm) (a : Answer A) (P : A → Type 0) → IfOk a P → IfOk (only_if b arm a) P
+pub only_keeps : {A : Type 0} (b : Bool) (arm : Arm) (a : Answer A) (P : A → Type 0) → IfOk a P → IfOk (only_if b arm a) P
 only_keeps true arm a P h = h
 only_keeps false arm a P h = tt
 
-cond_keeps : {A : Type 0} (b : Bool) (x y : Answer A) (P : A → Type 0) → IfOk x P → IfOk y P → IfOk (cond b x y) P
+pub cond_keeps : {A : Type 0} (b : Bool) (x y : Answer A) (P : A → Type 0) → IfOk x P → IfOk y P → IfOk (cond b x y) P
 cond_keeps true x y P p q = p
 cond_keeps false x y P p q = q
 
-kept_at : {A : Type 0} (P : A → Type 0) (a : Answer A) (x : A) → IfOk a P → a ≡ Ok x → P x
+pub kept_at : {A : Type 0} (P : A → Type 0) (a : Answer A) (x : A) → IfOk a P → a ≡ Ok x → P x
 kept_at {A} P a x h e = subst (λ (r : Answer A). IfOk r P) e h
 
 -- ** handlers and bindings
@@ -89,7 +89,7 @@ same_kept w v handlers last bindings = record {
 }
 
 -- who is not found before a change of the handlers and of the bindings is not found behind it
-changed_kept : (w v : World) → v.last_handler ≡ w.last_handler
+pub changed_kept : (w v : World) → v.last_handler ≡ w.last_handler
     → ((number : ℕ) → handler_of number w.handlers ≡ None → handler_of number v.handlers ≡ None)
     → ((number : ℕ) → binding_of number w.bindings ≡ None → binding_of number v.bindings ≡ None) → KeepsGone w v
 changed_kept w v last none unbound = record {
@@ -124,15 +124,18 @@ fewer_bindings : (keeps : Binding → Bool) (number : ℕ) (bs : List Binding) �
 fewer_bindings keeps number bs none = fewer (λ (b : Binding). b.number) keeps number bs none
 
 -- each under its number
-alike : (change : Handler → Handler) → ((h : Handler) → (change h).number ≡ h.number) → (number : ℕ) (hs : List Handler)
-    → handler_of number hs ≡ None → handler_of number (map change hs) ≡ None
-alike change same number [] none = refl
-alike change same number (h ∷ hs) none = by (nat_eq h.number number) refl none (λ later. alike change same number hs later)
+pub alike : {A : Type 0} (number_of : A → ℕ) (change : A → A) → ((x : A) → number_of (change x) ≡ number_of x) → (number : ℕ) (xs : List A)
+    → find (λ x. nat_eq (number_of x) number) xs ≡ None → find (λ x. nat_eq (number_of x) number) (map change xs) ≡ None
+alike number_of change same number [] none = refl
+alike {A} number_of change same number (x ∷ xs) none = by (nat_eq (number_of x) number) refl none (λ later. alike number_of change same number xs later)
   where
-    by : (b : Bool) → nat_eq h.number number ≡ b → cond b (Some h) (handler_of number hs) ≡ None → (handler_of number hs ≡ None → handler_of number (map change hs) ≡ None)
-        → cond (nat_eq (change h).number number) (Some (change h)) (handler_of number (map change hs)) ≡ None
+    found : List A → Option A
+    found = find (λ y. nat_eq (number_of y) number)
+
+    by : (b : Bool) → nat_eq (number_of x) number ≡ b → cond b (Some x) (found xs) ≡ None → (found xs ≡ None → found (map change xs) ≡ None)
+        → cond (nat_eq (number_of (change x)) number) (Some (change x)) (found (map change xs)) ≡ None
     by true e none rest = absurd (cc none)
-    by false e none rest = ap (λ c. cond c (Some (change h)) (handler_of number (map change hs))) (ap (λ n. nat_eq n number) (same h) ∙ e) ∙ rest none
+    by false e none rest = ap (λ c. cond c (Some (change x)) (found (map change xs))) (ap (λ n. nat_eq n number) (same x) ∙ e) ∙ rest none
 
 -- and one more, whose number was not given before
 not_new : (number : ℕ) (hs : List Handler) (h : Handler) → nat_eq h.number number ≡ false → handler_of number hs ≡ None → handler_of number (hs ++ h ∷ []) ≡ None
@@ -248,7 +251,7 @@ module _ (d : Definition) (w : World) where
   unfolding look_up_object
   names f to id = bind_keeps (known arms.Code (place_of d id)) _ Kept (λ place _. bind_keeps (known arms.Code (place_at d place)) _ Kept (λ p _. only_keeps _ _ _ Kept (writes to _ f)))
 
-  makes : (place : ℕ) (peer : Option ℕ) (held : Bool) → IfOk (making d w place peer held) Kept
+  pub makes : (place : ℕ) (peer : Option ℕ) (held : Bool) → IfOk (making d w place peer held) Kept
   unfolding making
   makes place peer held = bind_keeps (known arms.Code (place_at d place)) _ Kept (λ p _.
       only_keeps (not (type_of d p.class).is_abstract) arms.Abstract (only_if (list_all (has_valid_default d) (specs_of d p.class)) arms.Value (begun p)) Kept
@@ -293,26 +296,31 @@ module _ (d : Definition) (w : World) where
   goes id true = changed_kept w _ refl (λ number. fewer_handlers (λ h. not (is_of_object id h)) number w.handlers) (λ number. fewer_bindings (λ b. not (is_end id b)) number w.bindings)
   goes id false = changed_kept w _ refl (λ number. fewer_handlers (λ h. not (is_of_object id h)) number w.handlers) (λ number. fewer_bindings (λ b. not (is_end id b)) number w.bindings)
 
+  pub disposed_kept : (id : ℕ) → IfOk (disposed d w id) (KeepsGone w)
+  disposed_kept id = closes _ (goes id (is_first (living w.objects id))) (peer_of (living w.objects id))
+
   disposes : (f : Frame) (object : ℕ) → IfOk (disposing d w f object) Kept
   unfolding disposing
   disposes f object = bind_keeps (operand_in w f object) _ Kept (λ id _. bind_keeps (disposed_once d w id) _ Kept (λ v is.
-      kept_at (KeepsGone w) (disposed_once d w id) v (cond_keeps (is_disposed (living w.objects id)) (Ok w) (disposed d w id) (KeepsGone w) (same_kept w w refl refl refl)
-      (closes _ (goes id (is_first (living w.objects id))) (peer_of (living w.objects id)))) is))
+      kept_at (KeepsGone w) (disposed_once d w id) v
+      (cond_keeps (is_disposed (living w.objects id)) (Ok w) (disposed d w id) (KeepsGone w) (same_kept w w refl refl refl) (disposed_kept id)) is))
 
-  adopts : (f : Frame) (to parent child : ℕ) → IfOk (adopting d w f to parent child) Kept
-  unfolding adopting adopted
-  adopts f to parent child = bind_keeps (operand_in w f parent) _ Kept (λ p _. bind_keeps (operand_in w f child) _ Kept (λ c _.
-      bind_keeps (adopted d w p c) _ Kept (λ family is. gives_kept family.state (kept_at Family (adopted d w p c) family (joined p c) is) to (Some (values.bool family.answer)) f)))
+  pub adopted_kept : (p c : ℕ) → IfOk (adopted d w p c) (λ r. KeepsGone w r.state)
+  unfolding adopted
+  adopted_kept p c = bind_keeps (object_at w.objects p) _ Family (λ o _. bind_keeps (object_at w.objects c) _ Family (λ i _. by (is_unadoptable p o c i)))
     where
       Family : After World Bool → Type 0
       Family = λ r. KeepsGone w r.state
 
-      joined : (p c : ℕ) → IfOk (adopted d w p c) Family
-      joined p c = bind_keeps (object_at w.objects p) _ Family (λ o _. bind_keeps (object_at w.objects c) _ Family (λ i _. by (is_unadoptable p o c i)))
-        where
-          by : (b : Bool) → Family (cond b (record { state = said d w (lines.limit (codes "adopt")); answer = false }) (record { state = with_family d w p c; answer = true }))
-          by true = same_kept w _ refl refl refl
-          by false = same_kept w _ refl refl refl
+      by : (b : Bool) → Family (cond b (record { state = said d w (lines.limit (codes "adopt")); answer = false }) (record { state = with_family d w p c; answer = true }))
+      by true = same_kept w _ refl refl refl
+      by false = same_kept w _ refl refl refl
+
+  adopts : (f : Frame) (to parent child : ℕ) → IfOk (adopting d w f to parent child) Kept
+  unfolding adopting
+  adopts f to parent child = bind_keeps (operand_in w f parent) _ Kept (λ p _. bind_keeps (operand_in w f child) _ Kept (λ c _.
+      bind_keeps (adopted d w p c) _ Kept (λ family is.
+      gives_kept family.state (kept_at (λ (r : After World Bool). KeepsGone w r.state) (adopted d w p c) family (adopted_kept p c) is) to (Some (values.bool family.answer)) f)))
 
   freezes : (f : Frame) (object : ℕ) → IfOk (freezing w f object) Kept
   unfolding freezing
@@ -353,7 +361,7 @@ module _ (d : Definition) (w : World) where
   changes f object program change kept = bind_keeps (operand_in w f object) _ Kept (λ id _. bind_keeps (known arms.Code (program_of d program)) _ Kept (λ number _. kept id number))
 
   with_each : (change : Handler → Handler) → ((h : Handler) → (change h).number ≡ h.number) → (id number : ℕ) → KeepsGone w (with_handlers_on change w id number)
-  with_each change same id number = changed_kept w _ refl (λ n. alike (λ h. cond (is_on id number h) (change h) h) (λ h. by h (is_on id number h)) n w.handlers) (λ n none. none)
+  with_each change same id number = changed_kept w _ refl (λ n. alike (λ (h : Handler). h.number) (λ h. cond (is_on id number h) (change h) h) (λ h. by h (is_on id number h)) n w.handlers) (λ n none. none)
     where
       by : (h : Handler) (b : Bool) → (cond b (change h) h).number ≡ h.number
       by h true = same h

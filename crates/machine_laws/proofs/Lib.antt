@@ -8,3 +8,4 @@ pub mod FrontRuns
 pub mod JoinProofs
 pub mod GoneProofs
 pub mod KeptProofs
+pub mod KeptSteps

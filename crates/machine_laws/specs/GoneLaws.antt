@@ -1,13 +1,13 @@
 -- The turns of handlers and the transfers of bindings that are gone are passed over, so an emission may as well not have them.
-use Rattle.std.specs.List.{filter, list_all}
-use Rattle.std.specs.Prelude.{Bool, List, None, Ok, Option, false, is_some, map, nat_le, not, true, ℕ, ◌&&◌, ◌≡◌, ◌∷◌}
+use Rattle.std.specs.List.{filter, list_all, list_any}
+use Rattle.std.specs.Prelude.{Bool, IfOk, List, None, Ok, Option, false, is_some, map, nat_le, not, true, ℕ, ◌&&◌, ◌≡◌, ◌∷◌}
 use Rattle.ui_machine.specs.Definition.{Definition}
 use Rattle.ui_machine.specs.State.Bindings.{Binding, binding_of}
 use Rattle.ui_machine.specs.State.Config.{Config, World}
 use Rattle.ui_machine.specs.State.Handlers.{Handler, handler_of}
 use Rattle.ui_machine.specs.State.Peers.{Reply}
 use Rattle.ui_machine.specs.State.References.{mentions, next_unheld}
-use Rattle.ui_machine.specs.State.Tasks.{Emitting, PlanEntry, Task, class_handler, handler}
+use Rattle.ui_machine.specs.State.Tasks.{Building, Emitting, PlanEntry, Task, binds, class_handler, handler}
 use Rattle.ui_machine.specs.State.Tasks as tasks
 use Rattle.ui_machine.specs.Steps.{question, step}
 use Rattle.machine_laws.specs.FrontLaws.{mapped}
@@ -82,3 +82,26 @@ GivenAreGone = (w : World) → AreGone (gone_in w) w
 -- and where more are gone later, what was left out before is left out then
 abbrev pub PrunedAgain : Type 0
 PrunedAgain = (before later : Gone) → AreStillGone before later → (c : Config) → pruned_at later (pruned_at before c) ≡ pruned_at later c
+
+-- ** who stays gone
+
+-- whether the next task makes a binding, as the build does
+abbrev pub makes_binding : List Task → Bool
+makes_binding (Building (binds number ∷ items) ∷ rest) = true
+makes_binding _ = false
+
+-- in each step but one that makes a binding, those who are gone stay so
+abbrev pub StepsKeepGone : Type 0
+StepsKeepGone =
+    (d : Definition) (reply : Option Reply) (c : Config) →
+    (next_unheld (mentions d c) c.world.objects ≡ None → makes_binding c.agenda ≡ false) →
+    IfOk (step d reply c) (λ e. AreStillGone (gone_in c.world) (gone_in e.world))
+
+-- whether a task is an emission that goes on
+abbrev pub is_emitting : Task → Bool
+is_emitting (Emitting e entries) = true
+is_emitting _ = false
+
+-- where no emission goes on, as where the build makes a binding, nothing is left out, whoever is gone
+abbrev pub WholeWithoutEmissions : Type 0
+WholeWithoutEmissions = (gone : Gone) (c : Config) → list_any is_emitting (pruned_at gone c).agenda ≡ false → pruned_at gone c ≡ c

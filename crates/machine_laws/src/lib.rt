@@ -7,7 +7,7 @@ ghost use Rattle.machine_laws.specs.PlanLaws.{HandlersRunOnce, InOrder, StagesIn
 ghost use Rattle.machine_laws.specs.ClampLaws.{ClampsToValid, ClampsOnce};
 ghost use Rattle.machine_laws.specs.FrontLaws.{StepAppends, QuestionStays, StepsAppend, DispatchAppends, HaltAppends, EventAppends, EventsAppend, EventHaltAppends};
 ghost use Rattle.machine_laws.specs.JoinLaws.{BuildIsRun, RunsGoOn};
-ghost use Rattle.machine_laws.specs.GoneLaws.{GivenAreGone, GoneTurnsPass, PrunedAgain, QuestionsDoWithout, StepsDoWithout};
+ghost use Rattle.machine_laws.specs.GoneLaws.{GivenAreGone, GoneTurnsPass, PrunedAgain, QuestionsDoWithout, StepsDoWithout, StepsKeepGone, WholeWithoutEmissions};
 ghost use Rattle.machine_laws.specs.StepLaws.{HeldAtRest, EndsStay, FittingLives, FinalisedFitsNothing};
 
 /// A queue has each slot once, and a thaw notifies its slots in reverse.
@@ -71,4 +71,11 @@ pub fn gone()
     ensures asks { QuestionsDoWithout }
     ensures given { GivenAreGone }
     ensures again { PrunedAgain }
+{}
+
+/// Handlers and bindings that are gone stay so, but where the build makes a binding; and what is left out of emissions changes nothing
+/// where none goes on.
+pub fn gone_stay()
+    ensures steps { StepsKeepGone }
+    ensures whole { WholeWithoutEmissions }
 {}
