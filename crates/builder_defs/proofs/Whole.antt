@@ -6,12 +6,12 @@ use Rattle.ui_machine.specs.Definition.Types.{GType}
 use Rattle.ui_machine.specs.Definition.Properties.{Spec}
 use Rattle.ui_machine.specs.Definition.Signals.{ClassHandler}
 use Rattle.ui_machine.specs.Definition.{Definition}
-use Rattle.ui_machine.specs.Definition.Places.{Place}
+use Rattle.ui_machine.specs.Definition.Places.{Place, Bind}
 use Rattle.ui_machine.specs.Definition.Programs.{Program}
 use Rattle.ui_machine.specs.declared.limits.Limits.{Limits}
 use Rattle.param_specs.specs.Table.{own_of, specs_of}
 use Rattle.signal_core.specs.Sources.{declared_of}
-use Rattle.definition_format.specs.Meaning.{Parts, meaning, plain_object, plain_prototype, plain_program, places_of}
+use Rattle.definition_format.specs.Meaning.{Parts, meaning, bind_view, plain_object, plain_prototype, plain_program, places_of}
 use Rattle.signal_core.specs.Table.{Declared}
 use Rattle.ui_machine.specs.Outcome.{◌>>=◌}
 use Rattle.definition_format.specs.declared.faults.ReadError.{ReadError}
@@ -51,10 +51,10 @@ module _ (d : Data) (enums types more : List GType) (table : List (List Spec)) (
 -- ** the whole
 
 -- the definition of parts, as they are read
-meant : (p : Parts)
+meant : (p : Parts) → p.bindings ≡ []
     → definition_with (class_draft_of p.types p.specs p.declared p.constructed) (map plain_program p.programs) (places_of p.objects p.prototypes) p.limits ≡ meaning p
 unfolding specs_of declared_of
-meant p = refl
+meant p unbound = ap (λ (bs : List Bind). record (meaning p) { bindings = bs }) (sym (ap (map bind_view) unbound))
 
 module _ (d : Data) where
   -- what is left to read behind each part
@@ -125,8 +125,8 @@ module _ (d : Data) where
       → limits_in d ≡ Ok p.limits → draft_in d ≡ Ok (class_draft_of p.types p.specs p.declared p.constructed) → programs_in p.types d ≡ Ok (map plain_program p.programs)
       → prototypes_in p.types (specs_by p.types (own_of p.specs)) d ≡ Ok (map plain_prototype p.prototypes)
       → objects_in p.types (specs_by p.types (own_of p.specs)) (map plain_program p.programs) (map plain_prototype p.prototypes) p.limits.objects d ≡ Ok (map plain_object p.objects)
-      → only_at [] ms keys_of_definition ≡ Ok tt → definition_in d ≡ Ok (meaning p)
-  definition_done ms format p members is one limited classes programs prototypes objects only =
+      → p.bindings ≡ [] → only_at [] ms keys_of_definition ≡ Ok tt → definition_in d ≡ Ok (meaning p)
+  definition_done ms format p members is one limited classes programs prototypes objects unbound only =
       definition_whole ms format p.limits (class_draft_of p.types p.specs p.declared p.constructed) (map plain_program p.programs) (map plain_prototype p.prototypes) (map plain_object p.objects)
       members is one limited classes programs prototypes objects only
-      ∙ ap (λ (m : Definition). Ok m) (meant p)
+      ∙ ap (λ (m : Definition). Ok m) (meant p unbound)

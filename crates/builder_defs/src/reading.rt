@@ -279,6 +279,7 @@ fn parts_in(alloc: Global, value: &Value) -> Result<Parts, ReadError>
         programs,
         prototypes,
         objects,
+        bindings: Vec::new(alloc),
         limits,
     })
 }

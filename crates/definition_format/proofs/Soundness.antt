@@ -686,8 +686,8 @@ pub sound : (p : Parts) (d : Data) → draft_in d ≡ Ok (class_draft_of p.types
     → prototypes_in p.types (specs_by p.types (own_of p.specs)) d ≡ Ok (map plain_prototype p.prototypes)
     → objects_in p.types (specs_by p.types (own_of p.specs)) (map plain_program p.programs) (map plain_prototype p.prototypes) p.limits.objects d ≡ Ok (map plain_object p.objects)
     → AllByRecursion HasOwnName p.programs → AllByRecursion (IsSoundProgram p.types) p.programs
-    → length p.programs ≤ 256 → IsSound p
-sound p d read within prototypes objects named programs fewer =
+    → length p.programs ≤ 256 → p.bindings ≡ [] → IsSound p
+sound p d read within prototypes objects named programs fewer unbound =
     let specs = specs_by p.types (own_of p.specs) in
     let made = map plain_prototype p.prototypes in
     let most = p.limits.objects in
@@ -699,6 +699,7 @@ sound p d read within prototypes objects named programs fewer =
       limited = within;
       few = omega (arith, few.live, length-map p.objects plain_object);
       places = omega (arith, few.placed, length-map p.objects plain_object, length-map p.prototypes plain_prototype);
+      unbound = unbound;
       named = named;
       programs = programs;
       few_programs = fewer;

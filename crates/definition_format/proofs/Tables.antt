@@ -20,7 +20,7 @@ use Rattle.param_specs.specs.Table.{specs_of}
 use Rattle.signal_core.specs.Laws.{walk_for}
 use Rattle.signal_core.specs.Sources.{signals_of}
 use Rattle.signal_core.specs.Table.{named_of, planned_for}
-use Rattle.definition_format.specs.Meaning.{Parts, class_in, plain_program, meaning, IsPlain, HasKnownKinds, IsSound, IsSoundProgram, IsBasic, planned}
+use Rattle.definition_format.specs.Meaning.{Parts, class_in, plain_program, meaning, IsPlain, HasKnownKinds, IsSound, IsSoundProgram, IsBasic, bind_view, planned}
 use Rattle.ui_machine.proofs.Listed.{read-listed}
 use Rattle.definition_format.proofs.AllPlaces.{objects_first, each_place}
 use Rattle.definition_format.proofs.Registers.{few_registers}
@@ -133,7 +133,7 @@ module _ (p : Parts) (sound : IsSound p) where
     no_parents = each_place p.prototypes (λ (place : Place). place.is_prototype ≡ true → place.parent ≡ None) (λ o h. absurd (cc)) (λ q h. refl) p.objects;
     silent = each_place p.prototypes (λ (place : Place). place.is_prototype ≡ true → place.signals ≡ []) (λ o h. absurd (cc)) (λ q h. refl) p.objects;
     peers = each_place p.prototypes (λ (place : Place). place.peers ≡ []) (λ o. refl) (λ q. refl) p.objects;
-    bindings = refl;
+    bindings = ap (map bind_view) sound.unbound;
     few_programs = omega (arith, sound.few_programs, length-map p.programs plain_program);
     shaped = well_shaped;
     few_registers = λ number q h. few_registers q (well_shaped number q h);

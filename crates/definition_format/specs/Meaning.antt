@@ -29,6 +29,7 @@ use Rattle.bytecode.specs.View.{program_view}
 use Rattle.bytecode.specs.Known.{HasKnownBlocks}
 use Rattle.bytecode.specs.Shape.{shape_fault}
 use Rattle.definition_format.specs.declared.objects.Attached.{Attached}
+use Rattle.definition_format.specs.declared.objects.Bind.{Bind}
 use Rattle.definition_format.specs.declared.objects.Given.{Given}
 use Rattle.definition_format.specs.declared.objects.Given.TheVariants as givens
 use Rattle.definition_format.specs.declared.objects.GivenValue.{GivenValue}
@@ -78,6 +79,18 @@ attached_view a = record {
   with = place_number a.with;
 }
 
+-- a binding between a property of one object and one of another
+abbrev pub bind_view : Bind → machine.Bind
+bind_view b = record {
+  name = option_map (λ text. string_bytes text) b.name;
+  source = b.source.0;
+  source_slot = b.source_slot;
+  target = b.target.0;
+  target_slot = b.target_slot;
+  flags = b.flags.0;
+  at = b.at;
+}
+
 -- the id of an object, and what it has under it
 abbrev pub Entry : Type 0
 Entry = String Global × ObjectBody
@@ -116,10 +129,11 @@ pub record Parts : Type 0 where
   pub programs : List NamedProgram
   pub prototypes : List Prototype
   pub objects : List Entry
+  pub bindings : List Bind
   pub limits : Limits
 
-abbrev pub parts : List GType → List (List Spec) → Declared → List (Option ℕ) → List NamedProgram → List Prototype → List Entry → Limits → Parts
-parts types specs declared constructed programs prototypes objects limits = record {
+abbrev pub parts : List GType → List (List Spec) → Declared → List (Option ℕ) → List NamedProgram → List Prototype → List Entry → List Bind → Limits → Parts
+parts types specs declared constructed programs prototypes objects bindings limits = record {
   types = types;
   specs = specs;
   declared = declared;
@@ -127,6 +141,7 @@ parts types specs declared constructed programs prototypes objects limits = reco
   programs = programs;
   prototypes = prototypes;
   objects = objects;
+  bindings = bindings;
   limits = limits;
 }
 
@@ -146,7 +161,7 @@ meaning p = record {
   shapes = [];
   programs = map plain_program p.programs;
   places = places_of p.objects p.prototypes;
-  bindings = [];
+  bindings = map bind_view p.bindings;
   most_objects = p.limits.objects;
   most_handlers = p.limits.handlers;
 }
@@ -210,6 +225,7 @@ pub record IsSound (p : Parts) : Type 0 where
   pub limited : AreLimits p.limits
   pub few : length p.objects ≤ p.limits.objects
   pub places : length p.objects + length p.prototypes ≤ 512
+  pub unbound : p.bindings ≡ []
   pub named : AllByRecursion HasOwnName p.programs
   pub programs : AllByRecursion (IsSoundProgram p.types) p.programs
   pub few_programs : length p.programs ≤ 256

@@ -13,5 +13,5 @@ mod paths;
 pub use event_faults::{EventError, EventFault};
 pub use events::Event;
 pub use faults::{DefinitionFault, DefinitionLimit, ReadError, SpecCause, TypeCause};
-pub use objects::{Attached, Given, GivenValue, ObjectBody, PrototypeBody};
+pub use objects::{Attached, Bind, Given, GivenValue, ObjectBody, PrototypeBody};
 pub use paths::Path;

@@ -1,5 +1,6 @@
 //! An object of a definition, what is given to it, and the programs that it runs for signals.
 
+use bindings::BindingFlags;
 use g_values::Value;
 use type_tree::TypeId;
 use ui_machine::{Place, ProgramId, Slot};
@@ -35,6 +36,24 @@ pub struct Attached {
     pub swapped: bool,
     /// The object that is the data, by its place.
     pub with: Option<Place>,
+}
+
+/// A binding between a property of one object and one of another.
+#[derive(Debug, Drop)]
+pub struct Bind {
+    /// What programs end it by, if it has a name.
+    pub name: Option<String>,
+    /// The object of the source, by its place.
+    pub source: Place,
+    /// The property that is bound, by its slot in the source's class.
+    pub source_slot: Slot,
+    /// The object that has the binding among its properties, by its place.
+    pub target: Place,
+    /// The property that is bound to the source's, by its slot in the target's class.
+    pub target_slot: Slot,
+    pub flags: BindingFlags,
+    /// The number of its entry among those of the target's properties.
+    pub at: usize,
 }
 
 /// What an object has under its id: its class, its parent, if it is a child, the given values in the given order, and its signals.

@@ -12,7 +12,7 @@ ghost use Rattle.param_specs.specs.View.{spec_view};
 ghost use Rattle.signal_core.specs.Emission.{begun};
 ghost use Rattle.signal_core.specs.Laws.{walk_for};
 ghost use Rattle.signal_core.specs.SignalView.{declared_view};
-ghost use Rattle.definition_format.specs.Meaning.{AreLimits, IsBasic, attached_view, bare_place, place_number, places_of, class_at, object_count, object_place, plain_object, plain_prototype, planned, given_property, meaning};
+ghost use Rattle.definition_format.specs.Meaning.{AreLimits, IsBasic, attached_view, bare_place, bind_view, place_number, places_of, class_at, object_count, object_place, plain_object, plain_prototype, planned, given_property, meaning};
 ghost use Rattle.definition_format.specs.Origin.{IsDenoted};
 ghost use Rattle.definitions.specs.PartsView.{AreRead, parts_of};
 
@@ -22,6 +22,7 @@ use crate::places::{Objects, Prototypes, place_in, position_of};
 use crate::programs::{Programs, number_of};
 use crate::types::type_name;
 use bytecode::Program;
+use definition_format::Bind;
 use param_specs::{Spec, SpecTable};
 use signal_core::{DeclaredSignal, Emission, SignalTable};
 use std::marker::Model;
@@ -29,7 +30,7 @@ use type_tree::{TypeId, TypeTree};
 use ui_machine::{Limits, ObjectId, Place, ProgramId, SignalId, Slot};
 
 /// A definition: its types with their properties and signals, and the programs that classes name; its programs, its prototypes and its objects
-/// in document order; and its limits. Its places are its objects and, behind them, its prototypes. It is seen as the machine's.
+/// in document order; its bindings; and its limits. Its places are its objects and, behind them, its prototypes. It is seen as the machine's.
 #[derive(Drop)]
 pub struct Definition {
     types: TypeTree,
@@ -40,6 +41,7 @@ pub struct Definition {
     programs: Programs,
     prototypes: Prototypes,
     objects: Objects,
+    bindings: Vec<Bind>,
     limits: Limits,
 }
 
@@ -51,9 +53,9 @@ impl Model for Definition {
     ghost use Rattle.definition_format.specs.Meaning.{meaning, parts};
     ghost use Rattle.definitions.specs.PartsView.{AreRead};
 
-    ghost view = { λ d. meaning (parts d.types d.specs d.signals d.constructed.items d.programs.entries d.prototypes.entries d.objects.entries d.limits) };
+    ghost view = { λ d. meaning (parts d.types d.specs d.signals d.constructed.items d.programs.entries d.prototypes.entries d.objects.entries d.bindings.items d.limits) };
 
-    ghost invariant = { λ d. AreRead (parts d.types d.specs d.signals d.constructed.items d.programs.entries d.prototypes.entries d.objects.entries d.limits) };
+    ghost invariant = { λ d. AreRead (parts d.types d.specs d.signals d.constructed.items d.programs.entries d.prototypes.entries d.objects.entries d.bindings.items d.limits) };
 }
 
 impl Definition {
@@ -70,6 +72,7 @@ impl Definition {
             programs: parts.programs,
             prototypes: parts.prototypes,
             objects: parts.objects,
+            bindings: parts.bindings,
             limits: parts.limits,
         }
     }
@@ -117,6 +120,20 @@ impl Definition {
             return object_entry(&self.objects, place);
         }
         prototype_entry(&self.prototypes, place - count)
+    }
+
+    /// How many bindings it has.
+    pub fn binding_count(&self) -> usize
+        ensures { result ≡ length self.now.bindings }
+    {
+        self.bindings.len()
+    }
+
+    /// The binding of a number, if there is one: bindings are numbered in document order.
+    pub fn binding(&self, number: usize) -> Option<&Bind>
+        ensures { option_map (λ b. bind_view b.now) result ≡ slice_get self.now.bindings number }
+    {
+        self.bindings.get(number)
     }
 
     /// The place of the object or prototype of an id.

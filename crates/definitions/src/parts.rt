@@ -2,6 +2,7 @@
 
 use crate::places::{Objects, Prototypes};
 use crate::programs::Programs;
+use definition_format::Bind;
 use param_specs::SpecTable;
 use signal_core::SignalTable;
 use type_tree::TypeTree;
@@ -18,5 +19,7 @@ pub struct Parts {
     pub programs: Programs,
     pub prototypes: Prototypes,
     pub objects: Objects,
+    /// The bindings in document order.
+    pub bindings: Vec<Bind>,
     pub limits: Limits,
 }

@@ -23,9 +23,9 @@ objects_of-requires c = record {
 
 pub returns-clause-sound : goal.returns-clause-sound
 returns-clause-sound c =
-    sound (parts c.in_ok-draft.draft.types c.in_ok-draft.draft.specs c.in_ok-draft.draft.signals c.in_ok-draft.draft.constructed.items c.in_ok-programs.programs.entries c.in_ok-prototypes.prototypes.entries c.in_ok-objects.objects.entries c.in_ok-limits.limits) (view c.args.value.now)
+    sound (parts c.in_ok-draft.draft.types c.in_ok-draft.draft.specs c.in_ok-draft.draft.signals c.in_ok-draft.draft.constructed.items c.in_ok-programs.programs.entries c.in_ok-prototypes.prototypes.entries c.in_ok-objects.objects.entries c.new.result.items c.in_ok-limits.limits) (view c.args.value.now)
     c.in_ok-draft.ensures c.in_ok-limits.ensures.checked c.in_ok-prototypes.ensures c.in_ok-objects.ensures
-    c.in_ok-programs.ensures.named c.in_ok-programs.ensures.sound c.in_ok-programs.ensures.few
+    c.in_ok-programs.ensures.named c.in_ok-programs.ensures.sound c.in_ok-programs.ensures.few c.new.ensures.items
 
 pub returns-in_err-objects-clause-read : goal.returns-in_err-objects-clause-read
 returns-in_err-objects-clause-read c =
@@ -48,5 +48,5 @@ returns-in_err-check_only-clause-read c =
 pub returns-clause-read : goal.returns-clause-read
 returns-clause-read c =
     definition_done (view c.args.value.now) (members_view c.in_ok-members.members.now.entries) c.format_in.result
-    (parts c.in_ok-draft.draft.types c.in_ok-draft.draft.specs c.in_ok-draft.draft.signals c.in_ok-draft.draft.constructed.items c.in_ok-programs.programs.entries c.in_ok-prototypes.prototypes.entries c.in_ok-objects.objects.entries c.in_ok-limits.limits)
-    c.in_ok-members.ensures c.format_in.ensures c.in_ok-check_format.ensures c.in_ok-limits.ensures.limits c.in_ok-draft.ensures c.in_ok-programs.ensures.read c.in_ok-prototypes.ensures c.in_ok-objects.ensures c.in_ok-check_only.ensures
+    (parts c.in_ok-draft.draft.types c.in_ok-draft.draft.specs c.in_ok-draft.draft.signals c.in_ok-draft.draft.constructed.items c.in_ok-programs.programs.entries c.in_ok-prototypes.prototypes.entries c.in_ok-objects.objects.entries c.new.result.items c.in_ok-limits.limits)
+    c.in_ok-members.ensures c.format_in.ensures c.in_ok-check_format.ensures c.in_ok-limits.ensures.limits c.in_ok-draft.ensures c.in_ok-programs.ensures.read c.in_ok-prototypes.ensures c.in_ok-objects.ensures c.new.ensures.items c.in_ok-check_only.ensures
