@@ -1,0 +1,4 @@
+pub mod Graphs
+pub mod Kept
+pub mod Searches
+pub mod Answers

@@ -1,0 +1,47 @@
+//! Orders and cycles.
+
+ghost use Rattle.std.specs.Prelude.{◌≡◌, ◌≤◌, length, drop, IfOk};
+ghost use Rattle.dependency_order.specs.Graphs.{IsGraph};
+ghost use Rattle.dependency_order.specs.Answers.{Sorts};
+
+use crate::dependencies::Dependencies;
+use crate::searches::Search;
+use std::alloc::{AllocError, Global};
+
+/// What the edges of a graph allow.
+#[derive(Debug, Drop)]
+pub enum Sorted {
+    /// All nodes, each behind those that it depends on.
+    Order(Vec<usize>),
+    /// Nodes that each depend on the next one, and the last one on the first.
+    Cycle(Vec<usize>),
+}
+
+/// The nodes in order, each once and behind those that it depends on; or nodes that depend on one another in a cycle, each of them once.
+///
+/// # Errors
+///
+/// `AllocError` where no memory is found.
+pub fn sort(alloc: Global, dependencies: &Dependencies) -> Result<Sorted, AllocError>
+    requires { IsGraph dependencies.now }
+    ensures { IfOk result (λ sorted. Sorts dependencies.now sorted) }
+{
+    let mut search = Search::new(alloc, dependencies.node_count())?;
+    for root in 0..dependencies.node_count() {
+        if let Some(place) = search.visit(dependencies, root)? {
+            let nodes = rest_of(alloc, search.path(), place)?;
+            return Ok(Sorted::Cycle(nodes));
+        }
+    }
+    Ok(Sorted::Order(search.into_order()))
+}
+
+// The entries of a list from one on.
+fn rest_of(alloc: Global, nodes: &[usize], from: usize) -> Result<Vec<usize>, AllocError>
+    requires { from ≤ length nodes.now }
+    ensures { IfOk result (λ rest. rest.items ≡ drop from nodes.now) }
+{
+    let mut rest = Vec::new(alloc);
+    rest.extend_from_slice(&nodes[from..])?;
+    Ok(rest)
+}
