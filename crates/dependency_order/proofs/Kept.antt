@@ -119,9 +119,10 @@ list_at_end (s ∷ t ∷ more) all (suc i) start at last = list_at_end (t ∷ mo
 -- the places that are read
 pub read_places : (starts all : List ℕ) (i : ℕ) → AreStarts starts all → i + 1 < length starts →
     (slice_index_or starts i 0 ≤ slice_index_or starts (i + 1) 0) × (slice_index_or starts (i + 1) 0 ≤ length all)
-read_places starts all i are within =
-    (are.ordered i _ _ (slice_get-get_or starts i 0 (omega (arith, within))) (later_place starts i within),
-    are.within (i + 1) _ (slice_get-get_or starts (i + 1) 0 within))
+read_places starts all i are within = (
+  are.ordered i _ _ (slice_get-get_or starts i 0 (omega (arith, within))) (later_place starts i within),
+  are.within (i + 1) _ (slice_get-get_or starts (i + 1) 0 within),
+)
   where
     later_place : (xs : List ℕ) (k : ℕ) → k + 1 < length xs → slice_get xs (suc k) ≡ Some (slice_index_or xs (k + 1) 0)
     later_place xs k inside = let e : suc k ≡ k + 1 = omega arith in ap (λ n. slice_get xs n) e ∙ slice_get-get_or xs (k + 1) 0 inside

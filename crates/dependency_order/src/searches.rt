@@ -59,7 +59,11 @@ impl Search {
     }
 
     /// Goes on until a node is done, or an edge leads back to the path, to this place of it.
-    pub(crate) fn visit(&mut self, dependencies: &Dependencies, root: usize) -> Result<Option<usize>, AllocError>
+    pub(crate) fn visit(
+        &mut self,
+        dependencies: &Dependencies,
+        root: usize,
+    ) -> Result<Option<usize>, AllocError>
         requires graph { IsGraph dependencies.now }
         requires search { IsSearch dependencies.now self.old }
         requires inside { root < length dependencies.now }
@@ -78,7 +82,11 @@ impl Search {
     }
 
     // One step, at the end of the path; where the path is empty it begins at a node that is not done.
-    fn advance(&mut self, dependencies: &Dependencies, root: usize) -> Result<Option<usize>, AllocError>
+    fn advance(
+        &mut self,
+        dependencies: &Dependencies,
+        root: usize,
+    ) -> Result<Option<usize>, AllocError>
         requires graph { IsGraph dependencies.now }
         requires search { IsSearch dependencies.now self.old }
         requires inside { root < length dependencies.now }
@@ -97,7 +105,11 @@ impl Search {
     }
 
     // One step from the last node of the path: it is done, or the path goes on, or it leads back to itself, to this place.
-    fn step(&mut self, dependencies: &Dependencies, node: usize) -> Result<Option<usize>, AllocError>
+    fn step(
+        &mut self,
+        dependencies: &Dependencies,
+        node: usize,
+    ) -> Result<Option<usize>, AllocError>
         requires graph { IsGraph dependencies.now }
         requires search { IsSearch dependencies.now self.old }
         requires last { IsLast self.old.path node }
