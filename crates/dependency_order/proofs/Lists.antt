@@ -31,13 +31,13 @@ pub get_last : {A : Type 0} → (xs : List A) (x : A) → slice_get (xs ++ x ∷
 get_last [] x = refl
 get_last (y ∷ ys) x = get_last ys x
 
--- and what stood there stands there
+-- and what was there is there
 pub get_kept : {A : Type 0} → (xs : List A) (i : ℕ) (x y : A) → slice_get xs i ≡ Some y → slice_get (xs ++ x ∷ []) i ≡ Some y
 get_kept [] i x y is = absurd (none-some _ is)
 get_kept (z ∷ zs) zero x y is = is
 get_kept (z ∷ zs) (suc i) x y is = get_kept zs i x y is
 
--- whatever stands there stood there, or is the last
+-- whatever is there was there, or is the last
 pub get_was : {A : Type 0} → (xs : List A) (i : ℕ) (x y : A) → slice_get (xs ++ x ∷ []) i ≡ Some y →
     (slice_get xs i ≡ Some y) ⊎ ((i ≡ length xs) × (x ≡ y))
 get_was [] zero x y is = inr (refl, same_Some _ _ is)

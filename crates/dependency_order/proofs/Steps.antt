@@ -275,7 +275,7 @@ leads_round g first node (x ∷ y ∷ more) (suc place) zero leads is last at ed
 leads_round g first node (x ∷ y ∷ more) (suc place) (suc end) leads is last at edge =
     leads_round g first node (y ∷ more) place end (λ i a b. leads (suc i) a b) (omega (arith, is)) last at edge
 
--- no node of the rest of a path stands twice
+-- no node is in the rest of a path twice
 once_after : (place : ℕ) (xs : List ℕ) → IsOnce xs → IsOnce (drop place xs)
 once_after zero xs once = once
 once_after (suc place) [] once = λ j k node first second. absurd (none-some _ first)

@@ -18,7 +18,7 @@ Edge g from to = LeadTo (slice_get g from) to
 pub record IsGraph (g : Graph) : Type 0 where
   pub inside : (from to : ℕ) → Edge g from to → to < length g
 
--- no node stands twice in the list
+-- no node is in the list twice
 abbrev pub IsOnce : List ℕ → Type 0
 IsOnce nodes = (j k node : ℕ) → slice_get nodes j ≡ Some node → slice_get nodes k ≡ Some node → j ≡ k
 
