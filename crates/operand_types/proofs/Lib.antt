@@ -1,0 +1,4 @@
+pub mod MappedLists
+mod RegisterLists
+mod Tables
+pub mod Filled

@@ -1,0 +1,3 @@
+pub mod Ancestry
+pub mod Parts
+pub mod Views

@@ -1,0 +1,53 @@
+//! Lists that are copied and filled up.
+
+ghost use Rattle.std.specs.Prelude.{◌≡◌, ◌++◌, ◌-◌, length, replicate, IfOk, OnOk};
+ghost use Rattle.ui_machine.specs.Seq.{write};
+
+use std::alloc::{AllocError, Global};
+
+/// The same items once more.
+///
+/// # Errors
+///
+/// `AllocError` where no memory is found.
+pub fn copy<T: Copy + Drop>(alloc: Global, items: &[T]) -> Result<Vec<T>, AllocError>
+    ensures { IfOk result (λ copied. copied.items ≡ items.now) }
+{
+    let mut copied = Vec::new(alloc);
+    for item in items {
+        copied.push(*item)?;
+    }
+    Ok(copied)
+}
+
+// A list that is shorter gets this item again and again, until there are so many.
+fn fill<T: Copy + Drop>(items: &mut Vec<T>, count: usize, item: T) -> Result<(), AllocError>
+    ensures { OnOk result (items.new.items ≡ items.old.items ++ replicate (count - length items.old.items) item) }
+{
+    'items: while items.len() < count {
+        items.push(item)?;
+    }
+    Ok(())
+}
+
+/// An item is written. Those before it that are missing are this other one.
+///
+/// # Errors
+///
+/// `AllocError` where no memory is found.
+pub fn write<T: Copy + Drop>(
+    items: &mut Vec<T>,
+    at: usize,
+    item: T,
+    missing: T,
+) -> Result<(), AllocError>
+    ensures { OnOk result (items.new.items ≡ write missing items.old.items at item) }
+{
+    if at < items.len() {
+        items[at] = item;
+        return Ok(());
+    }
+    fill(items, at, missing)?;
+    items.push(item)?;
+    Ok(())
+}

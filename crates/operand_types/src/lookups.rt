@@ -1,0 +1,210 @@
+//! What typing looks up in a definition.
+
+ghost use Rattle.std.specs.Prelude.{◌≡◌, ◌≤◌, ℕ, List, None, Some, length, option_map, slice_get, IfOk, IfSome};
+ghost use Rattle.std.specs.List.{list_any};
+ghost use Rattle.ui_machine.specs.Definition.Types.{GType};
+ghost use Rattle.ui_machine.specs.Definition.Lookups.{class_of, place_at, place_of, program_at, program_of, slot_of, spec_of};
+ghost use Rattle.ui_machine.specs.Rules.Ancestry.{is_a};
+ghost use Rattle.ui_machine.specs.Rules.Connections.{signal_number};
+ghost use Rattle.ui_machine.specs.Rules.EmissionPlan.{signal_of};
+ghost use Rattle.bytecode.specs.View.{program_view};
+ghost use Rattle.param_specs.specs.View.{spec_view};
+ghost use Rattle.signal_core.specs.SignalView.{declared_view};
+ghost use Rattle.law_typing.specs.Rules.RegisterKinds.{class_at};
+ghost use Rattle.operand_types.specs.Ancestry.{AreRows, IsRow};
+ghost use Rattle.operand_types.specs.Parts.{is_named, is_of_prototype};
+
+use bytecode::Program;
+use definitions::Definition;
+use param_specs::Spec;
+use signal_core::DeclaredSignal;
+use std::alloc::{AllocError, Global};
+use std::marker::Model;
+use type_tree::{MOST_TYPES, TypeId, TypeTree};
+use ui_machine::{Place, ProgramId, SignalId, Slot};
+
+// The most programs of a definition.
+const MOST_PROGRAMS: ProgramId = 256;
+
+/// A definition, with a table of which types are which. A contract sees the definition.
+pub struct Lookups<'a> {
+    definition: &'a Definition,
+    // Of each type, whether it is each other.
+    ancestry: Vec<Vec<bool>>,
+}
+
+impl<'a> Model for Lookups<'a> {
+    ghost use Rattle.ui_machine.specs.Definition as machine;
+
+    ghost Value = { machine.Definition };
+
+    ghost use Rattle.operand_types.specs.Ancestry.{AreRows};
+
+    ghost view = { λ l. l.definition.now };
+
+    ghost invariant = { λ l. AreRows (l.definition.now).types l.ancestry.items };
+}
+
+impl<'a> Lookups<'a> {
+    /// The look-ups of a definition.
+    ///
+    /// # Errors
+    ///
+    /// `AllocError` where no memory is found for the table.
+    pub fn new(alloc: Global, definition: &'a Definition) -> Result<Lookups<'a>, AllocError>
+        ensures { IfOk result (λ lookups. lookups ≡ definition.now) }
+    {
+        Ok(Lookups {
+            definition,
+            ancestry: rows(alloc, definition.types())?,
+        })
+    }
+
+    /// Its types. No class has a shape so far.
+    pub fn types(&self) -> &TypeTree
+        ensures types { result.now ≡ self.now.types }
+        ensures shapes { (t : ℕ) → (class_of self.now t).shape ≡ None }
+    {
+        self.definition.types()
+    }
+
+    /// Whether a type is another, or has it as an ancestor or interface.
+    pub fn is_a(&self, t: TypeId, other: TypeId) -> bool
+        ensures { result ≡ is_a self.now.types t other }
+    {
+        match entry(self.ancestry.as_slice(), t, other) {
+            Some(answer) => answer,
+            None => self.definition.types().is_a(t, other),
+        }
+    }
+
+    /// The class of the object or prototype at a place, if there is one.
+    pub fn class_at(&self, place: Place) -> Option<TypeId>
+        ensures { result ≡ class_at self.now place.0 }
+    {
+        match self.definition.object(usize::from(place.0)) {
+            Some(entry) => Some(entry.class),
+            None => None,
+        }
+    }
+
+    /// The place of the object or prototype of an id.
+    pub fn place(&self, id: &str) -> Option<Place>
+        ensures { option_map (λ p. p.0) result ≡ place_of self.now id.now }
+    {
+        self.definition.place(id)
+    }
+
+    /// Whether a prototype is at a place, and no object, if one of them is there.
+    pub fn is_prototype(&self, place: Place) -> Option<bool>
+        ensures { result ≡ option_map is_of_prototype (place_at self.now place.0) }
+    {
+        match self.definition.object(usize::from(place.0)) {
+            Some(entry) => Some(entry.is_prototype),
+            None => None,
+        }
+    }
+
+    /// Whether a binding has this name. There are no bindings so far.
+    pub fn has_binding(&self, name: &str) -> bool
+        ensures { result ≡ list_any (is_named name.now) self.now.bindings }
+    {
+        // For the proof: there are no bindings.
+        let _ = self.definition.types();
+        false
+    }
+
+    /// The slot of the property of a class that a name names.
+    pub fn slot(&self, class: TypeId, name: &str) -> Option<Slot>
+        ensures { result ≡ slot_of self.now class name.now }
+    {
+        self.definition.slot(class, name)
+    }
+
+    /// The spec of a property of a class.
+    pub fn spec(&self, class: TypeId, slot: Slot) -> Option<&Spec>
+        ensures { option_map (λ s. spec_view s.now) result ≡ spec_of self.now class slot }
+    {
+        self.definition.spec(class, slot)
+    }
+
+    /// The number of the signal of a class that a name names.
+    pub fn signal_number(&self, class: TypeId, name: &str) -> Option<SignalId>
+        ensures { result ≡ signal_number self.now class name.now }
+    {
+        self.definition.signal_number(class, name)
+    }
+
+    /// A signal of a class.
+    pub fn signal(&self, class: TypeId, number: SignalId) -> Option<DeclaredSignal<'_>>
+        ensures { option_map declared_view result ≡ signal_of self.now class number }
+    {
+        self.definition.signal(class, number)
+    }
+
+    /// How many programs a definition has at most.
+    pub fn most_programs(&self) -> ProgramId
+        ensures { length self.now.programs ≤ result }
+    {
+        // For the proof: a definition has no more.
+        let _ = self.definition.types();
+        MOST_PROGRAMS
+    }
+
+    /// The program of a number.
+    pub fn program(&self, number: ProgramId) -> Option<&Program>
+        ensures { option_map (λ p. program_view p.now) result ≡ program_at self.now number }
+    {
+        self.definition.program(number)
+    }
+
+    /// The number of the program of a name.
+    pub fn program_number(&self, name: &str) -> Option<ProgramId>
+        ensures { result ≡ program_of self.now name.now }
+    {
+        self.definition.program_number(name)
+    }
+}
+
+// Of each type, whether it is each other.
+fn rows(alloc: Global, types: &TypeTree) -> Result<Vec<Vec<bool>>, AllocError>
+    ensures { IfOk result (λ rows. AreRows types.now rows.items) }
+{
+    let mut rows = Vec::new(alloc);
+    for number in 0..types.len().min(MOST_TYPES) {
+        let row = row(alloc, types, TypeId::new(number as u16))?;
+        rows.push(row)?;
+    }
+    Ok(rows)
+}
+
+// Whether a type is each other.
+fn row(alloc: Global, types: &TypeTree, t: TypeId) -> Result<Vec<bool>, AllocError>
+    ensures { IfOk result (λ row. IsRow types.now t row.items) }
+{
+    let mut row = Vec::new(alloc);
+    for number in 0..types.len().min(MOST_TYPES) {
+        row.push(types.is_a(t, TypeId::new(number as u16)))?;
+    }
+    Ok(row)
+}
+
+// What the table says of two types, if it has them.
+fn entry(rows: &[Vec<bool>], t: TypeId, other: TypeId) -> Option<bool>
+    ensures { IfSome result (λ answer. (types : List GType) → AreRows types rows.now → answer ≡ is_a types t other) }
+{
+    if t.index() >= rows.len() {
+        return None;
+    }
+    entry_in(rows[t.index()].as_slice(), other)
+}
+
+// What a row says of a type, if it has it.
+fn entry_in(row: &[bool], t: TypeId) -> Option<bool>
+    ensures { IfSome result (λ answer. slice_get row.now t ≡ Some answer) }
+{
+    if t.index() >= row.len() {
+        return None;
+    }
+    Some(row[t.index()])
+}
