@@ -1,0 +1,4 @@
+mod ParameterLists
+mod ArgumentLists
+mod CodeSteps
+mod Shapes

@@ -1,0 +1,65 @@
+//! Arguments of emissions and calls: each is set and fits its parameter, and there are as many.
+
+ghost use Rattle.std.specs.Prelude.{◌≡◌, map, option_map, slice_get};
+ghost use Rattle.g_values.specs.View.{kind_view};
+ghost use Rattle.bytecode.specs.View.{number_of};
+ghost use Rattle.law_typing.specs.Rules.Typing.{arguments};
+ghost use Rattle.instruction_types.specs.Arguments.{checked};
+ghost use Rattle.operand_types.specs.Views.{Passes, kinds_of};
+
+use bytecode::{Register, RegisterKind};
+use g_values::Kind;
+use operand_types::operands::{fitting, set_in};
+use operand_types::{Lookups, Rule};
+
+// An argument is set, and fits its parameter, if there is one.
+fn argument(
+    lookups: &Lookups<'_>,
+    kinds: &[RegisterKind],
+    from: Register,
+    param: Option<Kind>,
+) -> Result<(), Rule>
+    ensures { Passes (kinds_of kinds.now) result (checked lookups.now (kinds_of kinds.now) from.0 (option_map kind_view param)) }
+{
+    let Some(param) = param else {
+        set_in(kinds, from)?;
+        return Ok(());
+    };
+    fitting(lookups, kinds, from, &param)?;
+    Ok(())
+}
+
+// The parameter of a number, if there is one.
+fn param_at(params: &[Kind], number: usize) -> Option<Kind>
+    ensures { option_map kind_view result ≡ slice_get (map kind_view params.now) number }
+{
+    if number < params.len() {
+        Some(params[number])
+    } else {
+        None
+    }
+}
+
+/// Each argument is set and fits its parameter, and there are as many.
+///
+/// # Errors
+///
+/// The rule that the first one breaks, from left to right, and then that of their count.
+pub(crate) fn check_arguments(
+    lookups: &Lookups<'_>,
+    kinds: &[RegisterKind],
+    args: &[Register],
+    params: &[Kind],
+) -> Result<(), Rule>
+    ensures { Passes (kinds_of kinds.now) result (arguments lookups.now (kinds_of kinds.now) (map number_of args.now) (map kind_view params.now)) }
+{
+    for number in 0..args.len() {
+        if let Err(rule) = argument(lookups, kinds, args[number], param_at(params, number)) {
+            return Err(rule);
+        }
+    }
+    if args.len() != params.len() {
+        return Err(Rule::Kind);
+    }
+    Ok(())
+}

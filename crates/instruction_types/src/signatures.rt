@@ -1,0 +1,141 @@
+//! What programs are given, and whether they take it.
+
+ghost use Rattle.std.specs.Prelude.{◌≡◌, ◌++◌, length, map, option_map, IfOk, OnOk, Some};
+ghost use Rattle.g_values.specs.View.{kind_view};
+ghost use Rattle.bytecode.specs.View.{program_view, register_kind_view};
+ghost use Rattle.ui_machine.specs.Definition.Kinds as kinds;
+ghost use Rattle.law_typing.specs.Rules.Signatures.{data_kinds, given_kinds, parameters_fit, result_fits, takes};
+ghost use Rattle.law_typing.specs.Rules.Typing.{program_named};
+ghost use Rattle.operand_types.specs.Views.{Tests, kinds_of};
+
+use bytecode::{Program, RegisterKind};
+use g_values::Kind;
+use operand_types::fits::{fits, fits_plain};
+use operand_types::{Lookups, Rule};
+use std::alloc::{AllocError, Global};
+
+/// The program of a name.
+#[tactic(auto, unfolding(law_typing::specs::Rules::Typing::program_named))]
+pub(crate) fn program_named<'l>(lookups: &'l Lookups<'_>, name: &str) -> Result<&'l Program, Rule>
+    ensures { Tests (λ p. program_view p.now) result (program_named lookups.now name.now) }
+{
+    let Some(number) = lookups.program_number(name) else {
+        return Err(Rule::Unknown);
+    };
+    match lookups.program(number) {
+        Some(program) => Ok(program),
+        None => Err(Rule::Unknown),
+    }
+}
+
+// Data are given, if there are some.
+fn push_data(given: &mut Vec<RegisterKind>, with: Option<&RegisterKind>) -> Result<(), AllocError>
+    ensures { OnOk result (kinds_of given.new.items ≡ kinds_of given.old.items ++ data_kinds (option_map (λ k. register_kind_view k.now) with.entry)) }
+{
+    if let Some(kind) = with {
+        given.push(*kind)?;
+    }
+    Ok(())
+}
+
+// Arguments are given.
+fn push_params(given: &mut Vec<RegisterKind>, params: &[Kind]) -> Result<(), AllocError>
+    ensures { OnOk result (kinds_of given.new.items ≡ kinds_of given.old.items ++ map kinds.plain (map kind_view params.now)) }
+{
+    for kind in params {
+        given.push(RegisterKind::Plain(*kind))?;
+    }
+    Ok(())
+}
+
+/// What a handler is given: the instance, the arguments and its data; swapped, the data, the arguments and the instance.
+pub(crate) fn given_kinds(
+    alloc: Global,
+    swapped: bool,
+    instance: RegisterKind,
+    params: &[Kind],
+    with: Option<&RegisterKind>,
+) -> Result<Vec<RegisterKind>, AllocError>
+    ensures { IfOk result (λ given. kinds_of given.items ≡ given_kinds swapped (register_kind_view instance) (map kind_view params.now) (option_map (λ k. register_kind_view k.now) with.entry)) }
+{
+    let mut given = Vec::new(alloc);
+    if swapped {
+        push_data(&mut given, with)?;
+        push_params(&mut given, params)?;
+        given.push(instance)?;
+    } else {
+        given.push(instance)?;
+        push_params(&mut given, params)?;
+        push_data(&mut given, with)?;
+    }
+    Ok(given)
+}
+
+/// What a source's program is given: its data, if there are some.
+pub(crate) fn given_data(
+    alloc: Global,
+    with: Option<&RegisterKind>,
+) -> Result<Vec<RegisterKind>, AllocError>
+    ensures { IfOk result (λ given. kinds_of given.items ≡ data_kinds (option_map (λ k. register_kind_view k.now) with.entry)) }
+{
+    let mut given = Vec::new(alloc);
+    push_data(&mut given, with)?;
+    Ok(given)
+}
+
+// Whether each thing that is given fits the parameter in its place, where there are as many.
+fn all_fit(lookups: &Lookups<'_>, given: &[RegisterKind], params: &[RegisterKind]) -> bool
+    requires { length given.now ≡ length params.now }
+    ensures { result ≡ parameters_fit lookups.now (kinds_of given.now) (kinds_of params.now) }
+{
+    for number in 0..given.len() {
+        if !fits(lookups, &given[number], &params[number]) {
+            return false;
+        }
+    }
+    true
+}
+
+// Whether each does, and there are as many.
+#[tactic(auto, using(crate::proofs::ParameterLists::other_count))]
+fn parameters_fit(lookups: &Lookups<'_>, given: &[RegisterKind], params: &[RegisterKind]) -> bool
+    ensures { result ≡ parameters_fit lookups.now (kinds_of given.now) (kinds_of params.now) }
+{
+    if given.len() != params.len() {
+        return false;
+    }
+    all_fit(lookups, given, params)
+}
+
+// Whether a program that gives a kind gives what is wanted.
+fn gives(lookups: &Lookups<'_>, kind: Kind, wanted: Option<Kind>) -> bool
+    ensures { result ≡ result_fits lookups.now (Some (kind_view kind)) (option_map kind_view wanted) }
+{
+    match wanted {
+        None => false,
+        Some(wanted) => fits_plain(lookups, &RegisterKind::Plain(kind), &wanted),
+    }
+}
+
+// Whether what a program gives is what is wanted.
+fn result_fits(lookups: &Lookups<'_>, result_kind: Option<Kind>, wanted: Option<Kind>) -> bool
+    ensures { result ≡ result_fits lookups.now (option_map kind_view result_kind) (option_map kind_view wanted) }
+{
+    match result_kind {
+        None => wanted.is_none(),
+        Some(kind) => gives(lookups, kind, wanted),
+    }
+}
+
+/// Whether a program takes what it is given, and gives what is wanted.
+pub(crate) fn takes(
+    lookups: &Lookups<'_>,
+    program: &Program,
+    given: &[RegisterKind],
+    wanted: Option<Kind>,
+) -> bool
+    ensures { result ≡ takes lookups.now (program_view program.now) (kinds_of given.now) (option_map kind_view wanted) }
+{
+    parameters_fit(lookups, given, program.params.as_slice())
+        && result_fits(lookups, program.result, wanted)
+}
