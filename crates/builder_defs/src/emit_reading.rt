@@ -13,7 +13,7 @@ ghost use Rattle.definition_format.specs.EventMeaning.{Gives, Leads, detail_word
 
 use crate::event_reading::{given_by, object_named};
 use bitflags::Flags;
-use definition_format::{Event, EventError, EventFault, Given};
+use definition_format::{Event, EventError, EventFault, Given, Request};
 use definition_types::names::is_name;
 use definitions::Definition;
 use g_values::Kind;
@@ -284,10 +284,10 @@ pub(crate) fn emit_in(
     check_detail(alloc, &signal, said.detail)?;
     let args = arguments_of(alloc, definition, signal.params, said.args)?;
     let detail = copied(alloc, said.detail)?;
-    Ok(Event::Emit {
+    Ok(Event::Request(Request::Emit {
         place: target.place,
         signal: target.number,
         args,
         detail,
-    })
+    }))
 }

@@ -9,11 +9,11 @@ ghost use Rattle.ui_machine.specs.Definition.Lookups.{spec_of};
 ghost use Rattle.definition_format.specs.Meaning.{event_of, given_view, class_at};
 ghost use Rattle.definition_format.specs.Denoted.Given.{reference};
 ghost use Rattle.param_specs.specs.View.{spec_view};
-ghost use Rattle.definition_format.specs.EventMeaning.{Gives, event_denoted, event_meant, line_value, has_one_member, words_of_set, words_of_get, set_event, get_event, release_event, target, object_of, object_named, is_of_kind, object_given, given_by, readable, writable, or_value_fault};
+ghost use Rattle.definition_format.specs.EventMeaning.{Gives, event_denoted, event_meant, line_value, has_one_member, words_of_set, words_of_get, set_event, get_event, release_event, moment_if, turn_event, target, object_of, object_named, is_of_kind, object_given, given_by, readable, writable, or_value_fault};
 
 use crate::emit_reading::emit_in;
 use bitflags::Flags;
-use definition_format::{Event, EventError, EventFault, Given};
+use definition_format::{Event, EventError, EventFault, Given, Request};
 use definition_objects::reference;
 use definitions::Definition;
 use g_values::{JsonError, Kind, from_json};
@@ -25,6 +25,9 @@ use ui_machine::{Place, Slot};
 
 /// The most bytes of a line.
 pub const MAX_LINE_BYTES: usize = 65_536;
+
+/// The last moment of a turn.
+pub const MAX_MOMENT: u64 = 9_007_199_254_740_992;
 
 /// Reads an event of a definition. A fault is the first one in the order of `EventFault`.
 #[tactic(auto, unfolding(definition_format::specs::EventMeaning::event_denoted))]
@@ -85,10 +88,14 @@ fn event_in(alloc: Global, definition: &Definition, value: &Value) -> Result<Eve
         let event = release_in(alloc, definition, word)?;
         return Ok(event);
     }
-    let Some(words) = value.get("emit") else {
+    if let Some(words) = value.get("emit") {
+        let event = emit_in(alloc, definition, words)?;
+        return Ok(event);
+    }
+    let Some(word) = value.get("turn") else {
         return Err(EventError::Refused(EventFault::Shape));
     };
-    let event = emit_in(alloc, definition, words)?;
+    let event = turn_in(word)?;
     Ok(event)
 }
 
@@ -134,11 +141,11 @@ fn set_in(alloc: Global, definition: &Definition, words: &Value) -> Result<Event
     let object = object_named(alloc, definition, target.spec.kind, value)?;
     check_writable(target.spec)?;
     let given = given_by(alloc, definition, target.spec.kind, value, object)?;
-    Ok(Event::Set {
+    Ok(Event::Request(Request::Set {
         place: target.place,
         slot: target.slot,
         given,
-    })
+    }))
 }
 
 // The get that a list of words asks for.
@@ -154,10 +161,10 @@ fn get_in(alloc: Global, definition: &Definition, words: &Value) -> Result<Event
     };
     let target = target_of(alloc, definition, id, name)?;
     check_readable(target.spec)?;
-    Ok(Event::Get {
+    Ok(Event::Request(Request::Get {
         place: target.place,
         slot: target.slot,
-    })
+    }))
 }
 
 // The release that a word asks for.
@@ -169,8 +176,22 @@ fn release_in(alloc: Global, definition: &Definition, word: &Value) -> Result<Ev
         return Err(EventError::Refused(EventFault::Shape));
     };
     match definition.object_place(id) {
-        Some(place) => Ok(Event::Release { place }),
+        Some(place) => Ok(Event::Request(Request::Release { place })),
         None => Err(EventError::Refused(EventFault::Unknown(String::from_str(alloc, id)?))),
+    }
+}
+
+// The turn that a word asks for.
+#[tactic(auto, unfolding(definition_format::specs::EventMeaning::turn_event))]
+fn turn_in(word: &Value) -> Result<Event, EventError>
+    ensures { Gives event_of result (turn_event (view word.now)) }
+{
+    let Some(number) = word.as_number() else {
+        return Err(EventError::Refused(EventFault::Shape));
+    };
+    match number.as_u64() {
+        Some(moment) if moment <= MAX_MOMENT => Ok(Event::Turn(moment)),
+        _ => Err(EventError::Refused(EventFault::ValueFault)),
     }
 }
 

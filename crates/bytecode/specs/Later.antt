@@ -1,13 +1,10 @@
--- Instructions that no program has so far: those on bindings, on sources and on peers.
+-- Instructions that no program has so far: those on bindings and on peers.
 use Rattle.std.specs.Prelude.{Bool, true, false}
 use Rattle.ui_machine.specs.Definition.Programs.{Instruction}
 use Rattle.ui_machine.specs.Definition.Programs as words
 
--- whether an instruction ends a binding, makes or ends a source, or calls a method of a peer
+-- whether an instruction ends a binding, or calls a method of a peer
 abbrev pub is_later : Instruction → Bool
 is_later (words.unbind name) = true
-is_later (words.idle to program priority with) = true
-is_later (words.timeout to program priority interval with) = true
-is_later (words.remove program) = true
 is_later (words.call to object method args) = true
 is_later _ = false

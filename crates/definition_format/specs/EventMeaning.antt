@@ -1,8 +1,8 @@
 -- Which event of a definition a line denotes, or why it denotes none: the first fault in the order of the tests.
-use Rattle.std.specs.Prelude.{◌≡◌, ℕ, zero, suc, nat_eq, List, [], ◌∷◌, ◌++◌, length, codes, Bool, true, false, nat_lt, if◌then◌else◌, Option, None, Some, option_and_then, Result, Ok, Err, string_bytes}
+use Rattle.std.specs.Prelude.{◌≡◌, ℕ, zero, suc, nat_eq, List, [], ◌∷◌, ◌++◌, length, codes, Bool, true, false, nat_le, nat_lt, if◌then◌else◌, Option, None, Some, option_and_then, Result, Ok, Err, string_bytes}
 use Rattle.std.specs.Str.{is_utf8}
 use Rattle.serde_json.specs.Data.{Data, null, boolean, number, string, array, object, Items, no_items, item, Members, no_members, member}
-use Rattle.serde_json.specs.Find.{get, as_str, as_array}
+use Rattle.serde_json.specs.Find.{get, as_str, as_array, as_number, as_u64}
 use Rattle.serde_json.specs.Read.{read}
 use Rattle.ui_machine.specs.Definition.Types.{GType}
 use Rattle.ui_machine.specs.Definition.Kinds as kinds
@@ -244,26 +244,46 @@ emit_event d words = do
   given ← each_of (argument d) [] found.signal.params said.args
   Ok (config.request (config.emit found.place found.which given said.detail))
 
--- what the member `emit` asks for
-abbrev pub emit_by : machine.Definition → Option Data → Result config.Event EventRefusal
-emit_by d None = Err shape
-emit_by d (Some words) = emit_event d words
+-- the last moment, in milliseconds
+abbrev pub most_moment : ℕ
+most_moment = 9007199254740992
 
--- what the member `release` asks for, and where there is none what `emit` does
-abbrev pub release_by : machine.Definition → Option Data → Option Data → Result config.Event EventRefusal
-release_by d None emit = emit_by d emit
-release_by d (Some word) emit = release_event d word
+-- a number that is a moment
+abbrev pub moment_if : Option ℕ → Result ℕ EventRefusal
+moment_if None = Err value_fault
+moment_if (Some moment) = if nat_le moment most_moment then Ok moment else Err value_fault
 
--- the event that the member `set` asks for, and where there is none the one that `get` asks for, or `release`, or `emit`
-abbrev pub event_by : machine.Definition → Option Data → Option Data → Option Data → Option Data → Result config.Event EventRefusal
-event_by d None None release emit = release_by d release emit
-event_by d None (Some words) release emit = get_event d words
-event_by d (Some words) get release emit = set_event d words
+unfoldable pub turn_event : Data → Result config.Event EventRefusal
+turn_event word = do
+  said ← or_refused shape (as_number word)
+  moment ← moment_if (as_u64 said)
+  Ok (config.turn moment)
+
+-- what the member `turn` asks for
+abbrev pub turn_by : Option Data → Result config.Event EventRefusal
+turn_by None = Err shape
+turn_by (Some word) = turn_event word
+
+-- what the member `emit` asks for, and where there is none what `turn` does
+abbrev pub emit_by : machine.Definition → Option Data → Option Data → Result config.Event EventRefusal
+emit_by d None turn = turn_by turn
+emit_by d (Some words) turn = emit_event d words
+
+-- what the member `release` asks for, and where there is none what `emit` does, or `turn`
+abbrev pub release_by : machine.Definition → Option Data → Option Data → Option Data → Result config.Event EventRefusal
+release_by d None emit turn = emit_by d emit turn
+release_by d (Some word) emit turn = release_event d word
+
+-- the event that the member `set` asks for, and where there is none the one that `get` asks for, or `release`, or `emit`, or `turn`
+abbrev pub event_by : machine.Definition → Option Data → Option Data → Option Data → Option Data → Option Data → Result config.Event EventRefusal
+event_by d None None release emit turn = release_by d release emit turn
+event_by d None (Some words) release emit turn = get_event d words
+event_by d (Some words) get release emit turn = set_event d words
 
 -- the event that a value asks for
 unfoldable pub event_meant : machine.Definition → Data → Result config.Event EventRefusal
 event_meant d value =
-    if has_one_member value then event_by d (get (codes "set") value) (get (codes "get") value) (get (codes "release") value) (get (codes "emit") value) else Err shape
+    if has_one_member value then event_by d (get (codes "set") value) (get (codes "get") value) (get (codes "release") value) (get (codes "emit") value) (get (codes "turn") value) else Err shape
 
 -- the event that a line denotes
 unfoldable pub event_denoted : machine.Definition → List ℕ → Result config.Event EventRefusal

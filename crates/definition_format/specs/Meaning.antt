@@ -37,6 +37,8 @@ use Rattle.definition_format.specs.declared.objects.ObjectBody.{ObjectBody}
 use Rattle.definition_format.specs.declared.objects.PrototypeBody.{PrototypeBody}
 use Rattle.definition_format.specs.declared.events.Event.{Event}
 use Rattle.definition_format.specs.declared.events.Event.TheVariants as events
+use Rattle.definition_format.specs.declared.events.Request.{Request}
+use Rattle.definition_format.specs.declared.events.Request.TheVariants as requests
 
 -- a type with these properties and signals, and the programs that it names: for signals, and for its objects once they are constructed
 abbrev pub type_with : List Spec → List Signal → List ClassHandler → Option ℕ → definition.Class
@@ -287,12 +289,12 @@ planned d class object number detail s = record {
   transfers = [];
 }
 
-abbrev pub request_of : Event → config.Request
-request_of (events.Set place slot given) = config.set place.0 slot (given_view given)
-request_of (events.Get place slot) = config.get place.0 slot
-request_of (events.Release place) = config.release place.0
-request_of (events.Emit place signal args detail) = config.emit place.0 signal (map given_view args.items) (option_map (λ text. string_bytes text) detail)
+abbrev pub request_of : Request → config.Request
+request_of (requests.Set place slot given) = config.set place.0 slot (given_view given)
+request_of (requests.Get place slot) = config.get place.0 slot
+request_of (requests.Release place) = config.release place.0
+request_of (requests.Emit place signal args detail) = config.emit place.0 signal (map given_view args.items) (option_map (λ text. string_bytes text) detail)
 
--- the same as an event
 abbrev pub event_of : Event → config.Event
-event_of event = config.request (request_of event)
+event_of (events.Request request) = config.request (request_of request)
+event_of (events.Turn moment) = config.turn moment

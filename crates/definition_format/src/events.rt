@@ -3,9 +3,9 @@
 use crate::objects::Given;
 use ui_machine::{Place, SignalId, Slot};
 
-/// What a line of the event file asks for.
+/// What an event asks of an object of the builder.
 #[derive(Debug, Drop)]
-pub enum Event {
+pub enum Request {
     /// A property of an object is set.
     Set {
         place: Place,
@@ -31,4 +31,12 @@ pub enum Event {
         /// As it is written. Only a signal that takes details has one.
         detail: Option<String>,
     },
+}
+
+/// What a line of the event file asks for.
+#[derive(Debug, Drop)]
+pub enum Event {
+    Request(Request),
+    /// A turn of the main loop, at this moment in milliseconds.
+    Turn(u64),
 }

@@ -11,7 +11,7 @@ mod objects;
 mod paths;
 
 pub use event_faults::{EventError, EventFault};
-pub use events::Event;
+pub use events::{Event, Request};
 pub use faults::{DefinitionFault, DefinitionLimit, ReadError, SpecCause, TypeCause};
 pub use objects::{Attached, Bind, Given, GivenValue, ObjectBody, PrototypeBody};
 pub use paths::Path;

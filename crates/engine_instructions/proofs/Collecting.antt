@@ -4,20 +4,22 @@ use Rattle.std.specs.Prelude.{OnOk}
 use Rattle.ui_machine.specs.declared.arm.Arm.{Arm}
 use Rattle.ui_machine.specs.declared.arm.Arm.TheVariants as arms
 use Rattle.ui_machine.specs.declared.arm.Halt.{Halt}
+use Rattle.ui_machine.specs.declared.arm.Halt.TheVariants as halts
 use Rattle.ui_machine.specs.Definition.{Definition}
 use Rattle.ui_machine.specs.Definition.Signals.{Accumulator, Signal}
 use Rattle.ui_machine.specs.Definition.Values.{Value}
 use Rattle.ui_machine.specs.Outcome.{Answer, Goes, known, only_if, ◌>>=◌}
-use Rattle.ui_machine.specs.Rules.Accumulation.{accumulated, collecting, down_to_emission, entries_after, given_down, is_last, left_by_stop, suits}
+use Rattle.ui_machine.specs.Rules.Accumulation.{accumulated, collecting, down_to_emission, entries_after, down_to_source, given_down, is_last, left_by_stop, suits}
 use Rattle.ui_machine.specs.Rules.Accumulation as machine
 use Rattle.ui_machine.specs.Rules.EmissionPlan.{signal_at, signal_of}
+use Rattle.ui_machine.specs.Rules.MainLoop.{kept_source}
 use Rattle.ui_machine.specs.Rules.Transform.{kind_fits}
 use Rattle.ui_machine.specs.Seq.{total}
 use Rattle.ui_machine.specs.State.Config.{Left, World, leaves}
 use Rattle.ui_machine.specs.State.Handlers.{Handler}
 use Rattle.ui_machine.specs.State.Objects.{Object, asked, class_in, living}
 use Rattle.ui_machine.specs.State.References.{in_emission, in_object, in_register, in_task, in_value, same}
-use Rattle.ui_machine.specs.State.Tasks.{Emission, Emitting, PlanEntry, Task}
+use Rattle.ui_machine.specs.State.Tasks.{Answering, Emission, Emitting, PlanEntry, Task}
 use Rattle.g_values.specs.declared.value.Value as values
 use Rattle.instances.specs.Store.{Store, count_of}
 use Rattle.signal_core.specs.Emission.{Walk, is_over, stopped}
@@ -30,7 +32,7 @@ use Rattle.engine_world.specs.declared.task.Stack.{Stack}
 use Rattle.engine_world.specs.declared.task.Task as code
 use Rattle.engine_world.specs.declared.task.Task.TheVariants as tasks
 use Rattle.engine_world.proofs.Counts.{restacked}
-use Rattle.engine_instructions.proofs.StoppedEmissions.{IsOther, stop_leaves, stop_same, turns_alike}
+use Rattle.engine_instructions.proofs.StoppedEmissions.{stop_leaves, stop_same, turns_alike}
 use Rattle.engine_world.proofs.SameTurns.{entries}
 
 -- ** what an emission takes
@@ -139,12 +141,18 @@ pub gives_last : (d : Definition) (w : World) (given : Option Value) → given_d
 gives_last d w None = refl
 gives_last d w (Some v) = refl
 
+-- a task that takes nothing of what a program gives
+abbrev pub TakesNone : code.Task → Type 0
+TakesNone (tasks.Emitting cursor args by_event) = ⊥
+TakesNone (tasks.Answering source) = ⊥
+TakesNone _ = Unit {0}
+
 module _ (d : Definition) (hs : List Handler) (w : World) (rest : List Task) where
   abbrev GivesNone : code.Task → Option Value → Type 0
   GivesNone t given = given_down d w (task_of d hs t ∷ rest) given ≡ gives_none w (task_of d hs t ∷ rest) given
 
-  -- a task that is no emission's is given nothing
-  pub gives_other : (t : code.Task) (given : Option Value) → IsOther t → GivesNone t given
+  -- a task that is no emission's and no source's is given nothing
+  pub gives_other : (t : code.Task) (given : Option Value) → TakesNone t → GivesNone t given
   gives_other (tasks.Emitting cursor args by_event) given other = absurd other
   gives_other (tasks.Setting id slot x) None other = refl
   gives_other (tasks.Setting id slot x) (Some v) other = refl
@@ -164,7 +172,10 @@ module _ (d : Definition) (hs : List Handler) (w : World) (rest : List Task) whe
   gives_other (tasks.Adopting place forwards) (Some v) other = refl
   gives_other (tasks.Connecting place number) None other = refl
   gives_other (tasks.Connecting place number) (Some v) other = refl
+  gives_other (tasks.Answering source) given other = absurd other
+  gives_other (tasks.Due source) None other = refl
   gives_other (tasks.Handling event) None other = refl
+  gives_other (tasks.Due source) (Some v) other = refl
   gives_other (tasks.Handling event) (Some v) other = refl
 
 -- code that tests that nothing is given, above the same tasks
@@ -202,6 +213,25 @@ leaves_as w v ts us world agenda = rw (world, agenda) refl
 pub popped_emission : (d : Definition) (e : Engine) (s : Stack) (taken : ℕ → ℕ) (m : Emission) (entries : List PlanEntry) → agenda_of d e ≡ Emitting m entries ∷ tasks_of d e.world.handlers.handlers s
     → ((last : ℕ) → AllTakeKnownHandlers last e.stack → AllTakeKnownHandlers last s) → Counts d taken e → Counts d (λ o. taken o + in_emission o m) (record e { stack = s })
 popped_emission d e s taken m entries first begun h = record {
+  knows = h.knows;
+  connects = restacked d e s begun h.connects;
+  exact = λ o. omega (arith, h.exact o, ap (λ (ts : List Task). total (in_task o) ts) first);
+}
+
+-- ** to a source
+
+-- what a program gives to the source below it
+pub gives_source : (d : Definition) (w : World) (r : Result (Unit {0}) Halt) (source : ℕ) (rest : List Task) (given : Option Value) (v : World) (new : List Task) → new ≡ rest
+    → Goes r (kept_source w source given) v → Goes r (given_down d w (Answering source ∷ rest) given) (record { world = v; agenda = new })
+unfolding down_to_source
+gives_source d w (Ok x) source rest given v new back goes = ap (λ (a : Answer World). a >>= λ k. leaves k rest) goes ∙ ap (λ (ts : List Task). leaves v ts) (sym back)
+gives_source d w (Err halts.OutOfMemory) source rest given v new back goes = tt
+gives_source d w (Err (halts.Stuck arm)) source rest given v new back goes = ap (λ (a : Answer World). a >>= λ k. leaves k rest) goes
+
+-- its task held nothing
+pub popped_source : (d : Definition) (e : Engine) (s : Stack) (taken : ℕ → ℕ) (source : ℕ) → agenda_of d e ≡ Answering source ∷ tasks_of d e.world.handlers.handlers s
+    → ((last : ℕ) → AllTakeKnownHandlers last e.stack → AllTakeKnownHandlers last s) → Counts d taken e → Counts d taken (record e { stack = s })
+popped_source d e s taken source first begun h = record {
   knows = h.knows;
   connects = restacked d e s begun h.connects;
   exact = λ o. omega (arith, h.exact o, ap (λ (ts : List Task). total (in_task o) ts) first);

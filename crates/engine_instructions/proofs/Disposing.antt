@@ -25,7 +25,7 @@ use Rattle.instances.specs.Store.{Store}
 use Rattle.instances.specs.Weak.{Knows}
 use Rattle.instances.proofs.Disposed.{dispose_exact}
 use Rattle.signal_core.specs.Connected.{Connected, without_object}
-use Rattle.machine_laws.specs.GoneLaws.{gone_in, pruned}
+use Rattle.machine_laws.specs.GoneLaws.{Gone, gone_in, pruned}
 use Rattle.machine_laws.proofs.GoneProofs.{hold_as}
 use Rattle.engine_world.specs.Counting.{KeepsCounts}
 use Rattle.engine_world.specs.EngineView.{config_of}
@@ -68,12 +68,12 @@ module _ (d : Definition) (v : code.World) (id : ℕ) where
       by_peer None none ∙ ap (λ b. closing d None (gone b)) first ∙ rw (is, objects, floating, left, ex) refl
 
 -- what is disposed held what it let go of; its handlers hold nothing
-pub keeps_disposed : (d : Definition) (e : Engine) (t : Store) (hs : Connected) (w : code.World) (gone : ℕ → Bool) (id : ℕ) → (Knows d e.world.weak → Disposes d id e.world.table t)
+pub keeps_disposed : (d : Definition) (e : Engine) (t : Store) (hs : Connected) (w : code.World) (gone : Gone) (id : ℕ) → (Knows d e.world.weak → Disposes d id e.world.table t)
     → hs ≡ record e.world.handlers { handlers = hs.handlers }
     → w ≡ record (record e.world { table = t; handlers = hs }) { transcript = w.transcript } → tasks_of d hs.handlers e.stack ≡ map (pruned gone) (agenda_of d e)
     → KeepsCounts d e (record e { world = w })
 keeps_disposed d e t hs w gone id disposes only is left =
-    keeps_by d e (record e { world = w }) (ap (λ (v : code.World). v.weak) is)
+    keeps_by d e (record e { world = w }) (ap (λ (v : code.World). v.weak) is) (ap (λ (v : code.World). v.context) is)
     (λ h. handled d e (record e { world = w }) hs (ap (λ (v : code.World). v.handlers) is) only refl h) (λ taken knows h.
     let b = map held_of e.world.builder.items in
     let a = agenda_of d e in

@@ -13,13 +13,23 @@ use Rattle.bytecode.specs.declared.computations.Computation.{Computation}
 use Rattle.bytecode.specs.declared.computations.Computation.TheVariants as computations
 use Rattle.bytecode.specs.declared.instructions.Instruction.{Instruction}
 use Rattle.bytecode.specs.declared.instructions.Instruction.TheVariants as instructions
+use Rattle.bytecode.specs.declared.instructions.ControlInstruction.{ControlInstruction}
+use Rattle.bytecode.specs.declared.instructions.ControlInstruction.TheVariants as controls
+use Rattle.bytecode.specs.declared.instructions.PropertyInstruction.{PropertyInstruction}
+use Rattle.bytecode.specs.declared.instructions.PropertyInstruction.TheVariants as properties
+use Rattle.bytecode.specs.declared.instructions.ObjectInstruction.{ObjectInstruction}
+use Rattle.bytecode.specs.declared.instructions.ObjectInstruction.TheVariants as objects
+use Rattle.bytecode.specs.declared.instructions.SignalInstruction.{SignalInstruction}
+use Rattle.bytecode.specs.declared.instructions.SignalInstruction.TheVariants as signals
+use Rattle.bytecode.specs.declared.instructions.SourceInstruction.{SourceInstruction}
+use Rattle.bytecode.specs.declared.instructions.SourceInstruction.TheVariants as sources
 use Rattle.bytecode.specs.declared.programs.Block.{Block}
 use Rattle.bytecode.specs.declared.programs.Program.{Program}
 use Rattle.bytecode.specs.Computing.{HasKnownKind, instruction_of}
 use Rattle.frames.specs.FrameView.{Taken, taken_in, taken_of}
 use Rattle.bytecode.specs.Known.{HasKnownBlocks, HasKnownCode, HasKnownKinds, IsKnownInstruction}
 use Rattle.bytecode.specs.Later.{is_later}
-use Rattle.bytecode.specs.View.{block_view, instruction_view, program_view}
+use Rattle.bytecode.specs.View.{block_view, control_view, instruction_view, object_instruction_view, program_view, property_instruction_view, signal_instruction_view, source_instruction_view}
 use Rattle.definition_format.specs.Meaning.{IsKnownKind}
 
 -- what is so of all is so of the one at a place
@@ -92,7 +102,47 @@ module _ (types : List GType) where
 
   seen_instruction : (i : Instruction) → HasKnownKinds types i → KnownWord types (instruction_view i)
   seen_instruction (instructions.Compute to c) h = seen_computation c to.0 h
-  seen_instruction _ h = tt
+  seen_instruction (instructions.Control i) h = by i
+    where
+      by : (i : ControlInstruction) → KnownWord types (control_view i)
+      by (controls.Jump to) = tt
+      by (controls.Branch on then_to else_to) = tt
+      by (controls.BranchNull on then_to else_to) = tt
+      by (controls.Return from) = tt
+  seen_instruction (instructions.Property i) h = by i
+    where
+      by : (i : PropertyInstruction) → KnownWord types (property_instruction_view i)
+      by (properties.Get to object property) = tt
+      by (properties.Set object property from) = tt
+      by (properties.Notify object property) = tt
+      by (properties.Freeze object) = tt
+      by (properties.Thaw object) = tt
+  seen_instruction (instructions.Object i) h = by i
+    where
+      by : (i : ObjectInstruction) → KnownWord types (object_instruction_view i)
+      by (objects.LookUp to id) = tt
+      by (objects.New to id) = tt
+      by (objects.Sink object) = tt
+      by (objects.Orphan object) = tt
+      by (objects.Dispose object) = tt
+      by (objects.Adopt to parent child) = tt
+  seen_instruction (instructions.Signal i) h = by i
+    where
+      by : (i : SignalInstruction) → KnownWord types (signal_instruction_view i)
+      by (signals.Emit into object signal detail args) = tt
+      by (signals.Connect to object connection) = tt
+      by (signals.Disconnect object program) = tt
+      by (signals.Block object program) = tt
+      by (signals.Unblock object program) = tt
+      by signals.Stop = tt
+  seen_instruction (instructions.Source i) h = by i
+    where
+      by : (i : SourceInstruction) → KnownWord types (source_instruction_view i)
+      by (sources.Unbind name) = tt
+      by (sources.Idle to program priority with) = tt
+      by (sources.Timeout to program priority interval with) = tt
+      by (sources.Remove program) = tt
+  seen_instruction (instructions.Peer c) h = tt
 
   -- the kind of a result
   pub known_result : (result : Option Kind) → IfSome result (λ k. IsKnown types k) → IfSome (option_map kind_view result) (IsKnownKind types)

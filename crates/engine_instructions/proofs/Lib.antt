@@ -15,3 +15,4 @@ mod Returning
 mod Calling
 pub mod Whole
 mod Creating
+mod SourceSteps

@@ -60,3 +60,10 @@ module _ (n : ℕ) (rest : List Task) where
         by : (rs : Answer Registers) → writes w rs ≡ Err arm → writes u rs ≡ Err arm
         by (Err other) e = e
         by (Ok r) e = absurd (cc e)
+
+-- what was done in one place is done in another that is the same
+pub goes_as : {X : Type 0} (result : Result X Halt) (new : Config) (n m : ℕ) (rest tasks : List Task) (a b : Answer Started) → a ≡ b → tasks ≡ rest → m ≡ n
+    → Goes result (left m (in_front tasks b)) new → Goes result (left n (in_front rest a)) new
+goes_as {X} result new n m rest tasks a b same agenda count goes =
+    subst (λ (x : Answer Config). Goes result x new)
+    (ap (λ (ts : List Task). left m (in_front ts b)) agenda ∙ ap (λ (k : ℕ). left k (in_front rest b)) count ∙ ap (λ (x : Answer Started). left n (in_front rest x)) (sym same)) goes

@@ -145,6 +145,8 @@ module _ (d : Definition) (hs : List Handler) where
   stops_none (tasks.Building place forwards) rest other = refl
   stops_none (tasks.Adopting place forwards) rest other = refl
   stops_none (tasks.Connecting place number) rest other = refl
+  stops_none (tasks.Answering source) rest other = refl
+  stops_none (tasks.Due source) rest other = refl
   stops_none (tasks.Handling event) rest other = refl
 
 -- a stop changes what no task holds

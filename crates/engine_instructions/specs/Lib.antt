@@ -1,5 +1,6 @@
 pub mod CollectView
 pub mod EmitView
+pub mod AttachView
 pub mod HandlersView
 pub mod JumpView
 pub mod PropertyView

@@ -3,6 +3,8 @@
 ghost use Rattle.std.specs.Prelude.{◌≡◌, ℕ, ◌+◌, ◌≤◌, option_map, IfSome, OnOk};
 ghost use Rattle.ui_machine.specs.Outcome.{Goes};
 ghost use Rattle.ui_machine.specs.Rules.Accumulation.{down_to_emission, given_down, suits};
+ghost use Rattle.ui_machine.specs.Definition as machine;
+ghost use Rattle.ui_machine.specs.Rules.MainLoop.{kept_source};
 ghost use Rattle.ui_machine.specs.Rules.Transform.{kind_fits};
 ghost use Rattle.ui_machine.specs.State.Objects.{class_in};
 ghost use Rattle.ui_machine.specs.State.References.{in_emission, in_register};
@@ -13,6 +15,7 @@ ghost use Rattle.instances.specs.Store.{count_of};
 ghost use Rattle.engine_world.specs.KnownHandlers.{AllTakeKnownHandlers};
 ghost use Rattle.engine_instructions.specs.CollectView.{TestsNone, collects};
 ghost use Rattle.engine_world.specs.Counting.{Counts, HoldsTasks, KeepsCounts, OnlyCounts, OnlyTasks};
+ghost use Rattle.engine_world.specs.SourceView.{HoldsSources};
 ghost use Rattle.engine_world.specs.TaskView.{agenda_of, emission_of, entries_to_come};
 ghost use Rattle.engine_world.specs.View.{world_of};
 
@@ -20,6 +23,7 @@ use definitions::Definition;
 use engine_world::arguments::fits;
 use engine_world::engine::Engine;
 use engine_world::references::{accumulated, hold_any, let_go_any};
+use engine_world::sources::answer_source;
 use engine_world::task::Task;
 use g_values::{Kind, Value};
 use instances::Table;
@@ -121,31 +125,51 @@ fn accumulate(
     Ok(())
 }
 
-/// What a program gives goes to the task below it: an emission collects it, and to all others it gives nothing.
+// The program of a source says whether the source stays (GLib manual, GSourceFunc).
+fn answer(engine: &mut Engine, source: u64, given: Option<Value>) -> Result<(), Halt>
+    requires held { HoldsSources engine.now }
+    ensures kept { Goes result (kept_source (world_of engine.old.world) source (option_map value_view given)) (world_of engine.new.world) }
+    ensures quiet { (world_of engine.new.world).transcript ≡ (world_of engine.old.world).transcript }
+    ensures same { (engine.new.stack ≡ engine.old.stack) × (engine.new.counted ≡ engine.old.counted) }
+    ensures handlers { engine.new.world.handlers ≡ engine.old.world.handlers }
+    ensures counted { OnOk result ((d : machine.Definition) → KeepsCounts d engine.old engine.new) }
+{
+    let Some(Value::Bool(keep)) = given else {
+        return Err(Halt::Stuck(Arm::Result));
+    };
+    answer_source(engine, source, keep);
+    Ok(())
+}
+
+/// What a program gives goes to the task below it: an emission collects it, a source stays or not by it, and to all others it gives nothing.
 pub(crate) fn give_down(
     engine: &mut Engine,
     definition: &Definition,
     given: Option<Value>,
 ) -> Result<(), Halt>
     requires held { HoldsTasks definition.now engine.now }
+    requires sources { HoldsSources engine.now }
     requires begun { AllTakeKnownHandlers engine.now.world.handlers.last engine.now.stack }
     ensures step { Goes result
         (given_down definition.now (world_of engine.old.world) (agenda_of definition.now engine.old) (option_map value_view given))
         (record { world = world_of engine.new.world; agenda = agenda_of definition.now engine.new }) }
-    ensures only { OnlyTasks engine.old engine.new }
+    ensures quiet { (world_of engine.new.world).transcript ≡ (world_of engine.old.world).transcript }
+    ensures same { engine.new.counted ≡ engine.old.counted }
     ensures counted { OnOk result (KeepsCounts definition.now engine.old engine.new) }
 {
     let Some(task) = engine.stack.pop() else {
         return check_none(&given);
     };
-    let Task::Emitting {
-        cursor,
-        args,
-        by_event,
-    } = task
-    else {
-        engine.stack.push(task)?;
-        return check_none(&given);
-    };
-    accumulate(engine, definition, cursor, args, by_event, given)
+    match task {
+        Task::Emitting {
+            cursor,
+            args,
+            by_event,
+        } => accumulate(engine, definition, cursor, args, by_event, given),
+        Task::Answering { source } => answer(engine, source, given),
+        task => {
+            engine.stack.push(task)?;
+            check_none(&given)
+        }
+    }
 }

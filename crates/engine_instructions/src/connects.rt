@@ -1,14 +1,12 @@
 //! `connect`: a program connects a handler (GObject manual, Signals: `g_signal_connect_data`).
 
-ghost use Rattle.std.specs.Prelude.{◌≡◌, true, option_map, IfOk, OnOk, OnErr};
+ghost use Rattle.std.specs.Prelude.{◌≡◌, true, IfOk, OnOk, OnErr};
 ghost use Rattle.ui_machine.specs.Instructions.{in_front};
-ghost use Rattle.ui_machine.specs.Instructions.Registers.{data_in};
 ghost use Rattle.ui_machine.specs.Instructions.Signals.{connecting};
 ghost use Rattle.ui_machine.specs.Outcome.{Goes};
 ghost use Rattle.ui_machine.specs.Steps.{left};
 ghost use Rattle.frames.specs.FrameView.{frame_view};
-ghost use Rattle.bytecode.specs.View.{connect_view, number_of};
-ghost use Rattle.instances.specs.Store.{id_of};
+ghost use Rattle.bytecode.specs.View.{connect_view};
 ghost use Rattle.signal_core.specs.Connected.{connection_of};
 ghost use Rattle.engine_world.specs.ConnectView.{connection_in};
 ghost use Rattle.engine_world.specs.Counting.{Counts, in_frame, nothing};
@@ -18,7 +16,7 @@ ghost use Rattle.engine_world.specs.TaskView.{agenda_of};
 ghost use Rattle.engine_world.specs.View.{world_of};
 
 use crate::emits::signal_in;
-use crate::operands::{object_in, program_named};
+use crate::operands::{data_in, object_in, program_named};
 use crate::registers::write_register;
 use bytecode::{Connection as Connect, Register};
 use definitions::Definition;
@@ -29,19 +27,7 @@ use engine_world::engine::Engine;
 use frames::Frame;
 use g_values::Value;
 use signal_core::Connection;
-use ui_machine::{Halt, ObjectId};
-
-// The object that is the data, if there is one.
-#[tactic(auto, unfolding(ui_machine::specs::Instructions::Registers::data_in))]
-fn data_in(engine: &Engine, frame: &Frame, with: Option<Register>) -> Result<Option<ObjectId>, Halt>
-    ensures { Finds id_of result (data_in (world_of engine.now.world) (frame_view frame.now) (option_map number_of with)) }
-{
-    let Some(with) = with else {
-        return Ok(None);
-    };
-    let data = object_in(engine, frame, with)?;
-    Ok(Some(data))
-}
+use ui_machine::Halt;
 
 // What the object that a register names is connected with.
 fn new_connection(

@@ -1,6 +1,6 @@
 //! Instructions: what each of them does.
 
-ghost use Rattle.std.specs.Prelude.{◌≡◌, Some, IfSome, OnOk, OnErr};
+ghost use Rattle.std.specs.Prelude.{◌≡◌, false, Some, IfSome, OnOk, OnErr};
 ghost use Rattle.ui_machine.specs.Definition.Lookups.{program_at};
 ghost use Rattle.ui_machine.specs.Instructions.{instruction_step};
 ghost use Rattle.ui_machine.specs.Outcome.{Goes};
@@ -8,7 +8,8 @@ ghost use Rattle.ui_machine.specs.Steps.{left};
 ghost use Rattle.g_values.specs.View.{IsKnown};
 ghost use Rattle.frames.specs.FrameView.{frame_view};
 ghost use Rattle.bytecode.specs.Known.{IsKnownInstruction};
-ghost use Rattle.bytecode.specs.View.{control_view, instruction_view, object_instruction_view, program_view, property_instruction_view, signal_instruction_view};
+ghost use Rattle.bytecode.specs.Later.{is_later};
+ghost use Rattle.bytecode.specs.View.{control_view, instruction_view, object_instruction_view, program_view, property_instruction_view, signal_instruction_view, source_instruction_view};
 ghost use Rattle.engine_world.specs.View.{world_of};
 ghost use Rattle.engine_world.specs.TaskView.{agenda_of};
 ghost use Rattle.engine_world.specs.Counting.{Counts, in_frame, nothing};
@@ -26,10 +27,11 @@ use crate::objects::{
 use crate::properties::{get_property, notify_from_program, set_property};
 use crate::registers::compute_register;
 use crate::returns::return_from_program;
+use crate::sources::{Attach, attach_from_program, remove_from_program};
 use crate::stops::stop_from_program;
 use bytecode::{
     ControlInstruction, Instruction, ObjectInstruction, Program, PropertyInstruction,
-    SignalInstruction,
+    SignalInstruction, SourceInstruction,
 };
 use definitions::Definition;
 use engine_world::arguments::as_text;
@@ -67,7 +69,8 @@ pub fn execute(
         }
         Instruction::Object(object) => execute_on_objects(engine, definition, frame, object),
         Instruction::Signal(signal) => execute_on_signals(engine, definition, frame, signal),
-        Instruction::Source(_) | Instruction::Peer(_) => Err(Halt::Stuck(Arm::Code)),
+        Instruction::Source(source) => execute_on_sources(engine, definition, frame, source),
+        Instruction::Peer(_) => Err(Halt::Stuck(Arm::Code)),
     }
 }
 
@@ -212,5 +215,59 @@ fn execute_on_signals(
             unblock_matched(engine, definition, frame, *object, program.as_str())
         }
         SignalInstruction::Stop => stop_from_program(engine, definition, frame),
+    }
+}
+
+// The instructions on bindings and sources.
+fn execute_on_sources(
+    engine: &mut Engine,
+    definition: &Definition,
+    frame: Frame,
+    instruction: &SourceInstruction,
+) -> Result<(), Halt>
+    requires later { is_later (source_instruction_view instruction.now) ≡ false }
+    requires counted { Counts definition.now (λ o. in_frame o (frame_view frame)) engine.now }
+    ensures step { Goes result
+        (left engine.old.counted (instruction_step definition.now (world_of engine.old.world) (agenda_of definition.now engine.old) (frame_view frame) (source_instruction_view instruction.now)))
+        (config_of definition.now engine.new) }
+    ensures quiet { OnErr result ((world_of engine.new.world).transcript ≡ (world_of engine.old.world).transcript) }
+    ensures counted { OnOk result (Counts definition.now nothing engine.new) }
+{
+    match instruction {
+        SourceInstruction::Unbind(_) => Err(Halt::Stuck(Arm::Code)),
+        SourceInstruction::Idle {
+            to,
+            program,
+            priority,
+            with,
+        } => {
+            let attach = Attach {
+                word: "idle",
+                program: program.as_str(),
+                priority: *priority,
+                interval: None,
+                with: *with,
+            };
+            attach_from_program(engine, definition, frame, *to, attach)
+        }
+        SourceInstruction::Timeout {
+            to,
+            program,
+            priority,
+            interval,
+            with,
+        } => {
+            let attach = Attach {
+                word: "timeout",
+                program: program.as_str(),
+                priority: *priority,
+                interval: Some(*interval),
+                with: *with,
+            };
+            attach_from_program(engine, definition, frame, *to, attach)
+        }
+        SourceInstruction::Remove(program) => {
+            remove_from_program(engine, definition, frame, program.as_str())
+        }
     }
 }

@@ -13,4 +13,5 @@ pub mod operands;
 pub mod properties;
 pub mod registers;
 pub mod returns;
+pub mod sources;
 pub mod stops;

@@ -4,3 +4,4 @@ mod TurnStages
 mod TurnTaking
 mod ProgramStarts
 mod Emitted
+mod Sourcing

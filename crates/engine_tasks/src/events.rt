@@ -10,7 +10,7 @@ ghost use Rattle.engine_world.specs.TaskView.{agenda_of};
 ghost use Rattle.engine_world.specs.Counting.{HoldsBuilt, KeepsCounts};
 ghost use Rattle.engine_world.specs.EngineView.{config_of};
 
-use definition_format::{Event, Given};
+use definition_format::{Given, Request};
 use definitions::Definition;
 use engine_world::arguments::{as_text, detail_in, operands};
 use engine_world::builder::{BuilderEntry, set_builder_entry};
@@ -140,19 +140,25 @@ fn release_from_event(
     Ok(())
 }
 
-/// What an event does.
-pub fn handle_event(engine: &mut Engine, definition: &Definition, event: Event) -> Result<(), Halt>
+/// What an event asks for.
+pub fn handle_event(
+    engine: &mut Engine,
+    definition: &Definition,
+    request: Request,
+) -> Result<(), Halt>
     requires holds { HoldsBuilt engine.now }
     ensures step { Goes result
-        (uncounted (agenda_of definition.now engine.old) engine.old.counted (request_step definition.now (world_of engine.old.world) (request_of event)))
+        (uncounted (agenda_of definition.now engine.old) engine.old.counted (request_step definition.now (world_of engine.old.world) (request_of request)))
         (config_of definition.now engine.new) }
     ensures quiet { OnErr result ((world_of engine.new.world).transcript ≡ (world_of engine.old.world).transcript) }
     ensures counted { OnOk result (KeepsCounts definition.now engine.old engine.new) }
 {
-    match event {
-        Event::Set { place, slot, given } => set_from_event(engine, definition, place, slot, given),
-        Event::Get { place, slot } => get_from_event(engine, definition, place, slot),
-        Event::Emit {
+    match request {
+        Request::Set { place, slot, given } => set_from_event(
+            engine, definition, place, slot, given,
+        ),
+        Request::Get { place, slot } => get_from_event(engine, definition, place, slot),
+        Request::Emit {
             place,
             signal,
             args,
@@ -165,6 +171,6 @@ pub fn handle_event(engine: &mut Engine, definition: &Definition, event: Event) 
             args.as_slice(),
             as_text(&detail),
         ),
-        Event::Release { place } => release_from_event(engine, definition, place),
+        Request::Release { place } => release_from_event(engine, definition, place),
     }
 }

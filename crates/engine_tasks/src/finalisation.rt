@@ -12,7 +12,6 @@ ghost use Rattle.machine_laws.specs.GoneLaws.{gone_in, pruned};
 ghost use Rattle.engine_world.specs.View.{world_of};
 ghost use Rattle.engine_world.specs.TaskView.{agenda_of};
 ghost use Rattle.engine_world.specs.Counting.{KeepsCounts};
-ghost use Rattle.engine_world.specs.Standing.{GoneStay};
 
 use definitions::Definition;
 use engine_world::counted_steps::count;
@@ -30,7 +29,6 @@ pub fn finalise(engine: &mut Engine, definition: &Definition, object: ObjectId) 
         (counted rest engine.old.counted (finalising definition.now (world_of engine.old.world) object.0))
         (record { world = world_of engine.new.world; agenda = rest; counted = engine.new.counted }) }
     ensures agenda { OnOk result (agenda_of definition.now engine.new ≡ map (pruned (gone_in (world_of engine.new.world))) (agenda_of definition.now engine.old)) }
-    ensures gone { OnOk result (GoneStay (world_of engine.old.world) (world_of engine.new.world)) }
     ensures quiet { OnErr result ((world_of engine.new.world).transcript ≡ (world_of engine.old.world).transcript) }
     ensures counts { OnOk result ((engine.old.counted < most_steps) × (engine.new.counted ≡ suc engine.old.counted)) }
     ensures same { OnOk result ((engine.new.stack ≡ engine.old.stack) × (engine.new.world.table.floating ≡ engine.old.world.table.floating)) }

@@ -11,4 +11,5 @@ pub mod notifications;
 pub mod programs;
 pub mod sets;
 pub mod signals;
+pub mod sources;
 pub mod turns;

@@ -105,10 +105,6 @@ module _ (d : Definition) (basic : IsBasic d) where
     unfolding making
     made_there held concrete = rw (at, concrete, valid_defaults) refl
 
-    pub abstract_there : (held : Bool) → (type_of d p.class).is_abstract ≡ true → making d w place None held ≡ Err arms.Abstract
-    unfolding making
-    abstract_there held abstract = rw (at, abstract) refl
-
     pub next_made : p.is_prototype ≡ false → (fs : List ForwardReference) → build_from d place fs ≡ makes place ∷ build_behind d place fs
     next_made object fs =
         let others = made_items (suc place) (drop (suc place) d.places) in

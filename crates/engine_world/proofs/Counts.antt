@@ -10,7 +10,8 @@ use Rattle.ui_machine.specs.Outcome.{After, Answer, ◌>>=◌, known, only_if}
 use Rattle.ui_machine.specs.Rules.NotifyQueue.{queued, raised, less_frozen, frozen_less}
 use Rattle.ui_machine.specs.State.Config.{BuilderEntry, said}
 use Rattle.ui_machine.specs.State.Objects.{Object, Objects, living, put, asked, changed, value_at, with_value}
-use Rattle.ui_machine.specs.State.References.{same, in_value, in_object, in_held, in_task, mentions, next_unheld}
+use Rattle.ui_machine.specs.State.References.{same, in_value, in_object, in_held, in_source, in_task, mentions, next_unheld}
+use Rattle.main_context.specs.Attached.{Attached}
 use Rattle.ui_machine.specs.State.Tasks.{Emission, Emitting, PlanEntry, Task}
 use Rattle.instances.specs.Family.{Sinks}
 use Rattle.instances.specs.Laws.{Counted}
@@ -34,7 +35,7 @@ use Rattle.engine_world.specs.EngineView.{config_of}
 use Rattle.engine_world.specs.View.{held_of, world_of}
 use Rattle.engine_world.specs.declared.task.Task as code
 use Rattle.engine_world.specs.TaskView.{task_in, tasks_of, agenda_of}
-use Rattle.machine_laws.specs.GoneLaws.{pruned}
+use Rattle.machine_laws.specs.GoneLaws.{Gone, pruned}
 use Rattle.machine_laws.proofs.GoneProofs.{hold_as}
 use Rattle.engine_world.proofs.Left.{same_agenda}
 use Rattle.signal_core.specs.Connected.{Connected}
@@ -222,15 +223,18 @@ pub restacked : (d : Definition) (e : Engine) (s : Stack) → ((last : ℕ) → 
 restacked d e s begun h = record { most = h.most; to_come = h.to_come; begun = begun e.world.handlers.last h.begun }
 
 module _ (d : Definition) (e new : Engine) where
-  pub keeps_by : new.world.weak ≡ e.world.weak → (Connects d e → Connects d new)
+  pub keeps_by : new.world.weak ≡ e.world.weak → new.world.context ≡ e.world.context → (Connects d e → Connects d new)
       → ((taken : ℕ → ℕ) → Knows d e.world.weak → Exact d taken e.world.table (map held_of e.world.builder.items) (agenda_of d e)
       → Exact d taken new.world.table (map held_of new.world.builder.items) (agenda_of d new))
       → KeepsCounts d e new
-  keeps_by weak connects moves = record {
+  keeps_by weak context connects moves = record {
     at = λ taken h. record {
       knows = subst (λ (m : Marks). Knows d m) (sym weak) h.knows;
       connects = connects h.connects;
-      exact = moves taken h.knows h.exact;
+      exact = λ o.
+          let sources : (o : ℕ) → ℕ = λ o. total (in_source o) e.world.context.sources in
+          let moved = moves (λ o. sources o + taken o) h.knows (λ o. omega (arith, h.exact o)) o in
+          omega (arith, moved, ap (λ (c : Attached). total (in_source o) c.sources) context);
     };
   }
 
@@ -238,9 +242,9 @@ pub keeps_on : (d : Definition) (e f new : Engine) → KeepsCounts d e f → Kee
 keeps_on d e f new p q = record { at = λ taken h. q.at taken (p.at taken h) }
 
 -- a line more, another result or another count of steps moves nothing
-pub keeps_same : (d : Definition) (e new : Engine) → new.world.table ≡ e.world.table → new.world.weak ≡ e.world.weak
+pub keeps_same : (d : Definition) (e new : Engine) → new.world.table ≡ e.world.table → new.world.weak ≡ e.world.weak → new.world.context ≡ e.world.context
     → new.world.builder ≡ e.world.builder → new.stack ≡ e.stack → new.world.handlers ≡ e.world.handlers → KeepsCounts d e new
-keeps_same d e new table weak builder stack handlers = keeps_by d e new weak (stays d e new handlers stack) (λ taken _ h.
+keeps_same d e new table weak context builder stack handlers = keeps_by d e new weak context (stays d e new handlers stack) (λ taken _ h.
     subst (λ (t : Store). Exact d taken t (map held_of new.world.builder.items) (agenda_of d new)) (sym table)
     (subst (λ (ts : List Task). Exact d taken e.world.table (map held_of new.world.builder.items) ts) (sym (same_agenda d e new stack handlers))
     (subst (λ bs. Exact d taken e.world.table (map held_of bs.items) (agenda_of d e)) (sym builder) h)))
@@ -248,14 +252,14 @@ keeps_same d e new table weak builder stack handlers = keeps_by d e new weak (st
 -- a line that was said
 pub keeps_said : (d : Definition) (e : Engine) (w : World) → w ≡ record e.world { transcript = w.transcript } → KeepsCounts d e (record e { world = w })
 keeps_said d e w is =
-    keeps_same d e (record e { world = w }) (ap (λ (v : World). v.table) is) (ap (λ (v : World). v.weak) is) (ap (λ (v : World). v.builder) is) refl (ap (λ (v : World). v.handlers) is)
+    keeps_same d e (record e { world = w }) (ap (λ (v : World). v.table) is) (ap (λ (v : World). v.weak) is) (ap (λ (v : World). v.context) is) (ap (λ (v : World). v.builder) is) refl (ap (λ (v : World). v.handlers) is)
 
 -- an object that changed and holds what it held
 pub keeps_changed : (d : Definition) (e : Engine) (t : Store) → t ≡ with_objects e.world.table t.objects
     → ((o : ℕ) → total (in_object d o) t.objects ≡ total (in_object d o) e.world.table.objects)
     → KeepsCounts d e (record e { world = record e.world { table = t } })
 keeps_changed d e t beside alike =
-    keeps_by d e (record e { world = record e.world { table = t } }) refl (stays d e _ refl refl)
+    keeps_by d e (record e { world = record e.world { table = t } }) refl refl (stays d e _ refl refl)
     (λ taken _ h. objects_alike d taken e.world.table t (map held_of e.world.builder.items) (agenda_of d e) beside alike h)
 
 -- the same of a change that answers
@@ -354,12 +358,12 @@ finds_mentioned d e h =
     counted_finds e.world.table.objects (count_of e.world.table.counts) (mentions d (config_of d e)) (λ id some. omega (arith, h.exact id))
 
 -- what is finalised held what it let go of; its handlers hold nothing
-pub keeps_finalised : (d : Definition) (e : Engine) (t : Store) (hs : Connected) (w : World) (gone : ℕ → Bool) (id n : ℕ) → (Knows d e.world.weak → Finalises d id e.world.table t)
+pub keeps_finalised : (d : Definition) (e : Engine) (t : Store) (hs : Connected) (w : World) (gone : Gone) (id n : ℕ) → (Knows d e.world.weak → Finalises d id e.world.table t)
     → hs ≡ record e.world.handlers { handlers = hs.handlers }
     → w ≡ record (record e.world { table = t; handlers = hs }) { transcript = w.transcript } → tasks_of d hs.handlers e.stack ≡ map (pruned gone) (agenda_of d e)
     → KeepsCounts d e (record e { world = w; counted = n })
 keeps_finalised d e t hs w gone id n finalises only is left =
-    keeps_by d e (record e { world = w; counted = n }) (ap (λ (v : World). v.weak) is)
+    keeps_by d e (record e { world = w; counted = n }) (ap (λ (v : World). v.weak) is) (ap (λ (v : World). v.context) is)
     (λ h. handled d e (record e { world = w; counted = n }) hs (ap (λ (v : World). v.handlers) is) only refl h) (λ taken knows h.
     let b = map held_of e.world.builder.items in
     let a = agenda_of d e in

@@ -17,10 +17,9 @@ use Rattle.instances.specs.Release.{Finalises}
 use Rattle.signal_core.specs.Connected.{Connected, Numbered, without_object}
 use Rattle.machine_laws.specs.GoneLaws.{gone_in, pruned}
 use Rattle.ui_machine.specs.State.Handlers.{Handler}
-use Rattle.engine_world.specs.Standing.{GoneStay}
 use Rattle.engine_world.specs.TaskView.{agenda_of, tasks_of}
 use Rattle.engine_world.specs.declared.engine.Engine.{Engine}
-use Rattle.engine_world.proofs.Gone.{kept_left, kept_stay, tasks_alike}
+use Rattle.engine_world.proofs.Gone.{kept_left, tasks_alike}
 use Rattle.engine_world.specs.declared.world.World as code
 use Rattle.engine_world.specs.View.{world_of}
 
@@ -101,9 +100,6 @@ module _ (e : Engine) (hs : Connected) (w : code.World) (id : ℕ) (left : hs �
 
   last : w.handlers.last ≡ e.world.handlers.last
   last = ap (λ (c : Connected). c.last) (same ∙ left)
-
-  pub finalised_gone : GoneStay (world_of e.world) (world_of w)
-  finalised_gone = kept_stay (λ h. not (is_of_object id h)) (world_of e.world) (world_of w) own last
 
 -- the emissions have no more turns of them
 pub finalised_agenda : (d : Definition) (e : Engine) (hs : Connected) (w : code.World) (id : ℕ) → hs ≡ record e.world.handlers { handlers = without_object id e.world.handlers.handlers }

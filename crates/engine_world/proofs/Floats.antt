@@ -10,19 +10,15 @@ use Rattle.ui_machine.specs.State.References.{same, in_held}
 use Rattle.ui_machine.specs.Prefix.{IsPrefix}
 use Rattle.ui_machine.proofs.Prefixes.{prefix_on}
 
--- ** steps that keep what floats, and the handlers
+-- ** steps that keep what floats
 
 pub record Quietly (w new : World) : Type 0 where
   pub floating : new.floating ≡ w.floating
-  pub handlers : new.handlers ≡ w.handlers
-  pub last : new.last_handler ≡ w.last_handler
   pub grows : IsPrefix w.transcript new.transcript
 
 pub quietly_on : {w v new : World} → Quietly w v → Quietly v new → Quietly w new
 quietly_on p q = record {
   floating = q.floating ∙ p.floating;
-  handlers = q.handlers ∙ p.handlers;
-  last = q.last ∙ p.last;
   grows = prefix_on p.grows q.grows;
 }
 

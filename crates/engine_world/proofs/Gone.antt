@@ -1,4 +1,4 @@
--- Which handlers are gone, and what emissions have of them.
+-- Which handlers and bindings are gone, and what emissions have of them.
 use Rattle.std.proofs.Common.{◌≡◌, ◌∙◌, refl, sym, ap, append_assoc, ℕ, ◌<◌, ◌≤◌, ◌&&◌, ◌++◌, Bool, true, false, cond, not, map, nat_eq, nat_le, List, [], ◌∷◌, reverse, Option, None, Some, is_some, arith}
 use Rattle.std.specs.List.{filter, flat_map, list_all}
 use Rattle.std.proofs.lemmas.Bool.{false≢true}
@@ -6,21 +6,23 @@ use Rattle.std.proofs.lemmas.Bool.Decides.{nat_tests}
 use Rattle.std.proofs.lemmas.List.Elements.{filter-append}
 use Rattle.ui_machine.specs.Definition.{Definition}
 use Rattle.ui_machine.specs.Definition.Properties.{has_flags}
+use Rattle.ui_machine.specs.State.Bindings.{Binding, binding_of}
 use Rattle.ui_machine.specs.State.Config as config
 use Rattle.ui_machine.specs.State.Handlers.{Handler, handler_of}
 use Rattle.ui_machine.specs.State.Tasks.{Emission, Emitting, PlanEntry, Task, class_handler, handler, transfer}
-use Rattle.machine_laws.specs.GoneLaws.{gone_in, is_next, pruned, stays}
+use Rattle.machine_laws.specs.GoneLaws.{Gone, gone_in, is_next, pruned, stays}
 use Rattle.signal_core.specs.Connected.{Numbered}
-use Rattle.signal_core.specs.Emission.{Due, Walk, due, from_after, from_before, from_cleanup, from_last, from_transfers, is_ahead, of_class, of_handler, of_handlers, turns_from}
+use Rattle.signal_core.specs.Emission.{Due, Walk, due, from_after, from_before, from_cleanup, from_last, from_transfers, is_ahead, of_class, of_handler, of_handlers, to_come, turns_from}
 use Rattle.signal_core.specs.Laws.{entries_left, entries_of, is_passed_over, number_at}
 use Rattle.signal_core.specs.declared.stage.Stage.{Stage}
 use Rattle.signal_core.specs.declared.stage.Stage.TheVariants as stages
+use Rattle.signal_core.specs.declared.turn.Turn.{Turn}
 use Rattle.signal_core.specs.declared.turn.Turn.TheVariants as turns
 use Rattle.signal_core.proofs.Numbers.{numbered_lower, numbered_within}
 use Rattle.engine_world.specs.declared.task.Stack.{Stack}
 use Rattle.engine_world.specs.declared.task.Task as code
 use Rattle.engine_world.specs.declared.task.Task.TheVariants as tasks
-use Rattle.engine_world.specs.Standing.{GoneStay, past_skipped_turns, with_first}
+use Rattle.engine_world.specs.Standing.{entries_due, makes_no_transfer, past_skipped_turns, past_turns, with_first}
 use Rattle.engine_world.specs.TaskView.{emission_of, entries_to_come, task_of, tasks_of}
 use Rattle.engine_world.proofs.Notified.{reverse-map}
 
@@ -30,7 +32,7 @@ both_true : (a b : Bool) → (a && b) ≡ true → (a ≡ true) × (b ≡ true)
 both_true true b h = (refl, h)
 both_true false b h = absurd (false≢true h)
 
-pub none_stands : (w : config.World) (number : ℕ) → gone_in w number ≡ true → handler_of number w.handlers ≡ None
+pub none_stands : (w : config.World) (number : ℕ) → (gone_in w).handlers number ≡ true → handler_of number w.handlers ≡ None
 none_stands w number is = by (handler_of number w.handlers) (both_true (nat_le number w.last_handler) (not (is_some (handler_of number w.handlers))) is).1
   where
     by : (o : Option Handler) → not (is_some o) ≡ true → o ≡ None
@@ -38,85 +40,136 @@ none_stands w number is = by (handler_of number w.handlers) (both_true (nat_le n
     by (Some h) none = absurd (false≢true none)
 
 -- they are passed over
-pub gone_passed : (w : config.World) (number : ℕ) → gone_in w number ≡ true → is_passed_over (handler_of number w.handlers) ≡ true
+pub gone_passed : (w : config.World) (number : ℕ) → (gone_in w).handlers number ≡ true → is_passed_over (handler_of number w.handlers) ≡ true
 gone_passed w number is = ap is_passed_over (none_stands w number is)
 
--- the same are gone where the same handlers stand
-pub same_stay : (w v : config.World) → v.handlers ≡ w.handlers → v.last_handler ≡ w.last_handler → GoneStay w v
-same_stay w v handlers last = record {
-  stay = λ number is. ap (λ (hs : List Handler). nat_le number v.last_handler && not (is_some (handler_of number hs))) handlers
-      ∙ ap (λ n. nat_le number n && not (is_some (handler_of number w.handlers))) last ∙ is;
-}
+pub ended_passed : (w : config.World) (number : ℕ) → (gone_in w).bindings number ≡ true → makes_no_transfer (binding_of number w.bindings) ≡ true
+ended_passed w number is = by (binding_of number w.bindings) is
+  where
+    by : (o : Option Binding) → not (is_some o) ≡ true → makes_no_transfer o ≡ true
+    by None none = refl
+    by (Some b) none = absurd (false≢true none)
 
-pub stay_on : (u v w : config.World) → GoneStay u v → GoneStay v w → GoneStay u w
-stay_on u v w p q = record { stay = λ number is. q.stay number (p.stay number is) }
+went : (b : Bool) → not b ≡ false → b ≡ true
+went true e = refl
+went false e = sym e
 
 -- ** turns that are passed over
 
 module _ (w : config.World) where
-  -- what is passed over as an emission comes first is gone or blocked, whether those that are gone were left out before or not
-  pub left_stays : (entries : List PlanEntry) → filter (stays (gone_in w)) (entries_left w.handlers entries) ≡ entries_left w.handlers (filter (stays (gone_in w)) entries)
+  -- what is left of some entries, and which of them stay
+  still_due : List PlanEntry → List PlanEntry
+  still_due entries = entries_due w entries
+
+  abbrev staying : List PlanEntry → List PlanEntry
+  staying entries = filter (stays (gone_in w)) entries
+
+  -- an entry that is passed over, or stays
+  one_left : (entry : PlanEntry) (passed : Bool) → ((es : List PlanEntry) → still_due (entry ∷ es) ≡ cond passed (still_due es) (entry ∷ es))
+      → (stays (gone_in w) entry ≡ false → passed ≡ true) → (entries : List PlanEntry) → staying (still_due entries) ≡ still_due (staying entries) → staying (still_due (entry ∷ entries)) ≡ still_due (staying (entry ∷ entries))
+  one_left entry passed is over entries same = ap staying (is entries) ∙ by passed (stays (gone_in w) entry) refl refl
+    where
+      again : (p : Bool) → passed ≡ p → still_due (entry ∷ staying entries) ≡ cond p (still_due (staying entries)) (entry ∷ staying entries)
+      again p e = is (staying entries) ∙ ap (λ b. cond b (still_due (staying entries)) (entry ∷ staying entries)) e
+
+      by : (p s : Bool) → passed ≡ p → stays (gone_in w) entry ≡ s → staying (cond p (still_due entries) (entry ∷ entries)) ≡ still_due (cond s (entry ∷ staying entries) (staying entries))
+      by true true e f = same ∙ sym (again true e)
+      by true false e f = same
+      by false true e f = ap (λ b. cond b (entry ∷ staying entries) (staying entries)) f ∙ sym (again false e)
+      by false false e f = absurd (false≢true (sym e ∙ over f))
+
+  -- what is passed over as an emission comes first is gone, blocked or setting, whether those that are gone were left out before or not
+  pub left_stays : (entries : List PlanEntry) → staying (entries_due w entries) ≡ entries_due w (staying entries)
+  unfolding still_due
   left_stays [] = refl
   left_stays (class_handler program cleanup ∷ entries) = refl
-  left_stays (transfer number back ∷ entries) = refl
-  left_stays (handler number ∷ entries) = by (gone_in w number) refl (left_stays entries)
-    where
-      kept : List PlanEntry
-      kept = filter (stays (gone_in w)) entries
+  left_stays (transfer number back ∷ entries) =
+      one_left (transfer number back) (makes_no_transfer (binding_of number w.bindings)) (λ es. refl) (λ e. ended_passed w number (went ((gone_in w).bindings number) e)) entries (left_stays entries)
+  left_stays (handler number ∷ entries) =
+      one_left (handler number) (is_passed_over (handler_of number w.handlers)) (λ es. refl) (λ e. gone_passed w number (went ((gone_in w).handlers number) e)) entries (left_stays entries)
 
-      passed : Bool
-      passed = is_passed_over (handler_of number w.handlers)
-
-      Same : Type 0
-      Same = filter (stays (gone_in w)) (entries_left w.handlers entries) ≡ entries_left w.handlers kept
-
-      standing : (b : Bool) → gone_in w number ≡ false → Same
-          → filter (stays (gone_in w)) (cond b (entries_left w.handlers entries) (handler number ∷ entries)) ≡ cond b (entries_left w.handlers kept) (handler number ∷ kept)
-      standing true not_so rest = rest
-      standing false not_so rest = ap (λ g. cond (not g) (handler number ∷ filter (stays (gone_in w)) entries) (filter (stays (gone_in w)) entries)) not_so
-
-      by : (g : Bool) → gone_in w number ≡ g → Same
-          → filter (stays (gone_in w)) (cond passed (entries_left w.handlers entries) (handler number ∷ entries)) ≡ entries_left w.handlers (cond (not g) (handler number ∷ kept) kept)
-      by true so rest = ap (λ b. filter (stays (gone_in w)) (cond b (entries_left w.handlers entries) (handler number ∷ entries))) (gone_passed w number so) ∙ rest
-      by false not_so rest = standing (is_passed_over (handler_of number w.handlers)) not_so rest
-
-  pub first_stays : (task : Task) → pruned (gone_in w) (past_skipped_turns w.handlers task) ≡ past_skipped_turns w.handlers (pruned (gone_in w) task)
+  pub first_stays : (task : Task) → pruned (gone_in w) (past_turns w task) ≡ past_turns w (pruned (gone_in w) task)
   first_stays (Emitting e entries) = ap (Emitting e) (left_stays entries)
   first_stays task = refl
 
-  pub with_first_stays : (agenda : List Task) → map (pruned (gone_in w)) (with_first w.handlers agenda) ≡ with_first w.handlers (map (pruned (gone_in w)) agenda)
+  pub with_first_stays : (agenda : List Task)
+      → map (pruned (gone_in w)) (with_first w agenda) ≡ with_first w (map (pruned (gone_in w)) agenda)
   with_first_stays [] = refl
   with_first_stays (task ∷ rest) = ap (λ t. t ∷ map (pruned (gone_in w)) rest) (first_stays task)
 
   -- the first turn that is left is of none that is gone
-  left_stands : (e : Emission) (rest : List Task) (entries : List PlanEntry) → is_next (gone_in w) (Emitting e (entries_left w.handlers entries) ∷ rest) ≡ false
+  left_stands : (e : Emission) (rest : List Task) (entries : List PlanEntry) → is_next (gone_in w) (Emitting e (entries_due w entries) ∷ rest) ≡ false
   left_stands e rest [] = refl
   left_stands e rest (class_handler program cleanup ∷ entries) = refl
-  left_stands e rest (transfer number back ∷ entries) = refl
-  left_stands e rest (handler number ∷ entries) = by (is_passed_over (handler_of number w.handlers)) refl (left_stands e rest entries)
+  left_stands e rest (transfer number back ∷ entries) = by (makes_no_transfer (binding_of number w.bindings)) refl (left_stands e rest entries)
     where
-      stood : (g : Bool) → gone_in w number ≡ g → is_passed_over (handler_of number w.handlers) ≡ false → g ≡ false
-      stood true so free = absurd (cc (gone_passed w number so, free))
+      stood : (g : Bool) → (gone_in w).bindings number ≡ g → makes_no_transfer (binding_of number w.bindings) ≡ false → g ≡ false
+      stood true so free = absurd (false≢true (sym free ∙ ended_passed w number so))
       stood false not_so free = refl
 
-      by : (b : Bool) → is_passed_over (handler_of number w.handlers) ≡ b → is_next (gone_in w) (Emitting e (entries_left w.handlers entries) ∷ rest) ≡ false
-          → is_next (gone_in w) (Emitting e (cond b (entries_left w.handlers entries) (handler number ∷ entries)) ∷ rest) ≡ false
+      by : (b : Bool) → makes_no_transfer (binding_of number w.bindings) ≡ b → is_next (gone_in w) (Emitting e (entries_due w entries) ∷ rest) ≡ false
+          → is_next (gone_in w) (Emitting e (cond b (entries_due w entries) (transfer number back ∷ entries)) ∷ rest) ≡ false
       by true passed later = later
-      by false free later = stood (gone_in w number) refl free
+      by false free later = stood ((gone_in w).bindings number) refl free
+  left_stands e rest (handler number ∷ entries) = by (is_passed_over (handler_of number w.handlers)) refl (left_stands e rest entries)
+    where
+      stood : (g : Bool) → (gone_in w).handlers number ≡ g → is_passed_over (handler_of number w.handlers) ≡ false → g ≡ false
+      stood true so free = absurd (false≢true (sym free ∙ gone_passed w number so))
+      stood false not_so free = refl
 
-  pub first_stands : (agenda : List Task) → is_next (gone_in w) (with_first w.handlers agenda) ≡ false
+      by : (b : Bool) → is_passed_over (handler_of number w.handlers) ≡ b → is_next (gone_in w) (Emitting e (entries_due w entries) ∷ rest) ≡ false
+          → is_next (gone_in w) (Emitting e (cond b (entries_due w entries) (handler number ∷ entries)) ∷ rest) ≡ false
+      by true passed later = later
+      by false free later = stood ((gone_in w).handlers number) refl free
+
+  pub first_stands : (agenda : List Task) → is_next (gone_in w) (with_first w agenda) ≡ false
   first_stands [] = refl
   first_stands (Emitting e entries ∷ rest) = left_stands e rest entries
   first_stands (task ∷ rest) = refl
 
+-- the engine's emissions have no transfers
+due_as_left : (w : config.World) (dues : List Due) → entries_due w (flat_map (entries_of []) dues) ≡ entries_left w.handlers (flat_map (entries_of []) dues)
+due_as_left w [] = refl
+due_as_left w (d ∷ dues) = by d.step.turn (due_as_left w dues)
+  where
+    later : List PlanEntry
+    later = flat_map (entries_of []) dues
+
+    first : Turn → List PlanEntry
+    first t = entries_of [] (record d { step = record d.step { turn = t } })
+
+    by : (t : Turn) → entries_due w later ≡ entries_left w.handlers later → entries_due w (first t ++ later) ≡ entries_left w.handlers (first t ++ later)
+    by (turns.Class program) same = refl
+    by (turns.Handler program swapped arg) same =
+        let number = number_at d.step.then_at in
+        ap (λ (es : List PlanEntry). cond (is_passed_over (handler_of number w.handlers)) es (handler number ∷ later)) same
+    by turns.Transfers same = same
+
+-- so that a task of the engine comes first as the machine's does
+pub past_as_skipped : (d : Definition) (hs : List Handler) (w : config.World) → hs ≡ w.handlers → (t : code.Task) → past_turns w (task_of d hs t) ≡ past_skipped_turns hs (task_of d hs t)
+past_as_skipped d hs w own (tasks.Emitting cursor args by_event) =
+    ap (Emitting (emission_of cursor args.items by_event)) (due_as_left w (to_come cursor hs) ∙ ap (λ (all : List Handler). entries_left all (entries_to_come cursor hs)) (sym own))
+past_as_skipped d hs w own (tasks.Setting id slot v) = refl
+past_as_skipped d hs w own (tasks.Notifying id slot) = refl
+past_as_skipped d hs w own (tasks.Beginning e) = refl
+past_as_skipped d hs w own (tasks.Running frame) = refl
+past_as_skipped d hs w own (tasks.Thawing id slots) = refl
+past_as_skipped d hs w own (tasks.Constructing id steps held) = refl
+past_as_skipped d hs w own (tasks.Building place forwards) = refl
+past_as_skipped d hs w own (tasks.Adopting place forwards) = refl
+past_as_skipped d hs w own (tasks.Connecting place number) = refl
+past_as_skipped d hs w own (tasks.Answering source) = refl
+past_as_skipped d hs w own (tasks.Due source) = refl
+past_as_skipped d hs w own (tasks.Handling event) = refl
+
 -- ** what is to come, where some handlers go
 
 -- of each of these handlers, whether it is gone
-abbrev pub AreLeft : (ℕ → Bool) → (Handler → Bool) → List Handler → Type 0
+abbrev pub AreLeft : Gone → (Handler → Bool) → List Handler → Type 0
 AreLeft gone keeps [] = Unit {0}
-AreLeft gone keeps (h ∷ hs) = (not (gone h.number) ≡ keeps h) × AreLeft gone keeps hs
+AreLeft gone keeps (h ∷ hs) = (not (gone.handlers h.number) ≡ keeps h) × AreLeft gone keeps hs
 
-module _ (gone : ℕ → Bool) (keeps : Handler → Bool) where
+module _ (gone : Gone) (keeps : Handler → Bool) where
   abbrev kept_entries : List Due → List PlanEntry
   kept_entries dues = filter (stays gone) (flat_map (entries_of []) dues)
 
@@ -153,7 +206,7 @@ module _ (gone : ℕ → Bool) (keeps : Handler → Bool) where
       Rest : Type 0
       Rest = filter (stays gone) whole ≡ fewer
 
-      by : (m : Bool) → meant h ≡ m → (k : Bool) → not (gone h.number) ≡ k → Rest
+      by : (m : Bool) → meant h ≡ m → (k : Bool) → not (gone.handlers h.number) ≡ k → Rest
           → Alike (map (of_handler stage) (cond m (h ∷ filter meant hs) (filter meant hs))) (map (of_handler stage) (filter meant (cond k (h ∷ filter keeps hs) (filter keeps hs))))
       by true so true stays_on rest =
           ap (λ n. filter (stays gone) (handler n ∷ whole)) (same h.number)
@@ -223,6 +276,8 @@ module _ (gone : ℕ → Bool) (keeps : Handler → Bool) where
     task_alike (tasks.Building place forwards) = refl
     task_alike (tasks.Adopting place forwards) = refl
     task_alike (tasks.Connecting place number) = refl
+    task_alike (tasks.Answering source) = refl
+    task_alike (tasks.Due source) = refl
     task_alike (tasks.Handling event) = refl
 
     all_alike : (ts : List code.Task) → map (pruned gone) (map (task_of d hs) ts) ≡ map (task_of d (filter keeps hs)) ts
@@ -303,27 +358,6 @@ are_left keeps v all (h ∷ hs) above is n s = (
 pub kept_left : (keeps : Handler → Bool) (v : config.World) (hs : List Handler) → v.handlers ≡ filter keeps hs → Numbered 0 hs v.last_handler → AreLeft (gone_in v) keeps hs
 kept_left keeps v hs is n = are_left keeps v hs hs 0 is n (stand_as keeps 0 hs v.last_handler n)
 
--- those who are gone stay so
-pub kept_stay : (keeps : Handler → Bool) (w v : config.World) → v.handlers ≡ filter keeps w.handlers → v.last_handler ≡ w.last_handler → GoneStay w v
-kept_stay keeps w v is last = record {
-  stay = λ number gone.
-      let parts = both_true (nat_le number w.last_handler) (not (is_some (handler_of number w.handlers))) gone in
-      ap (λ (hs : List Handler). nat_le number v.last_handler && not (is_some (handler_of number hs))) is
-      ∙ ap (λ n. nat_le number n && not (is_some (handler_of number (filter keeps w.handlers)))) last
-      ∙ ap (λ b. b && not (is_some (handler_of number (filter keeps w.handlers)))) parts.0
-      ∙ ap (λ o. not (is_some o)) (fewer number w.handlers (none_stands w number gone));
-}
-  where
-    fewer : (number : ℕ) (hs : List Handler) → handler_of number hs ≡ None → handler_of number (filter keeps hs) ≡ None
-    fewer number [] none = refl
-    fewer number (h ∷ hs) none = by (keeps h) (nat_eq h.number number) refl none (λ later. fewer number hs later)
-      where
-        by : (k b : Bool) → nat_eq h.number number ≡ b → cond b (Some h) (handler_of number hs) ≡ None → (handler_of number hs ≡ None → handler_of number (filter keeps hs) ≡ None)
-            → handler_of number (cond k (h ∷ filter keeps hs) (filter keeps hs)) ≡ None
-        by k true e none rest = absurd (cc none)
-        by true false e none rest = ap (λ c. cond c (Some h) (handler_of number (filter keeps hs))) e ∙ rest none
-        by false false e none rest = rest none
-
 -- ** where none goes
 
 -- the tasks of the engine have no turn that is gone
@@ -333,11 +367,11 @@ all_kept p (h ∷ hs) all =
     let parts = both_true (p h) (list_all p hs) all in
     ap (λ b. cond b (h ∷ filter p hs) (filter p hs)) parts.0 ∙ ap (λ l. h ∷ l) (all_kept p hs parts.1)
 
-left_by_itself : (gone : ℕ → Bool) (hs : List Handler) → AreLeft gone (λ (h : Handler). not (gone h.number)) hs
+left_by_itself : (gone : Gone) (hs : List Handler) → AreLeft gone (λ (h : Handler). not (gone.handlers h.number)) hs
 left_by_itself gone [] = tt
 left_by_itself gone (h ∷ hs) = (refl, left_by_itself gone hs)
 
-pub none_gone : (d : Definition) (gone : ℕ → Bool) (hs : List Handler) (s : Stack) → list_all (λ (h : Handler). not (gone h.number)) hs ≡ true → map (pruned gone) (tasks_of d hs s) ≡ tasks_of d hs s
+pub none_gone : (d : Definition) (gone : Gone) (hs : List Handler) (s : Stack) → list_all (λ (h : Handler). not (gone.handlers h.number)) hs ≡ true → map (pruned gone) (tasks_of d hs s) ≡ tasks_of d hs s
 none_gone d gone hs s apart =
-    tasks_alike gone (λ (h : Handler). not (gone h.number)) d hs (left_by_itself gone hs) s
-    ∙ ap (λ (l : List Handler). tasks_of d l s) (all_kept (λ (h : Handler). not (gone h.number)) hs apart)
+    tasks_alike gone (λ (h : Handler). not (gone.handlers h.number)) d hs (left_by_itself gone hs) s
+    ∙ ap (λ (l : List Handler). tasks_of d l s) (all_kept (λ (h : Handler). not (gone.handlers h.number)) hs apart)

@@ -10,6 +10,7 @@ pub mod Finalising
 pub mod Counts
 pub mod Notified
 mod Parts
+pub mod SourceCounts
 mod Details
 mod Values
 pub mod Emits

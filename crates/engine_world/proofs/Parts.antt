@@ -19,4 +19,6 @@ parts d hs (tasks.Constructing id steps held) o = omega arith
 parts d hs (tasks.Building place forwards) o = omega arith
 parts d hs (tasks.Adopting place forwards) o = omega arith
 parts d hs (tasks.Connecting place number) o = omega arith
+parts d hs (tasks.Answering source) o = omega arith
+parts d hs (tasks.Due source) o = omega arith
 parts d hs (tasks.Handling event) o = omega arith

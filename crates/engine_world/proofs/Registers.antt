@@ -68,6 +68,8 @@ passes_by d hs (tasks.Constructing id steps held) rest v other = refl
 passes_by d hs (tasks.Building place forwards) rest v other = refl
 passes_by d hs (tasks.Adopting place forwards) rest v other = refl
 passes_by d hs (tasks.Connecting place number) rest v other = refl
+passes_by d hs (tasks.Answering source) rest v other = refl
+passes_by d hs (tasks.Due source) rest v other = refl
 passes_by d hs (tasks.Handling event) rest v other = refl
 
 -- ** counts

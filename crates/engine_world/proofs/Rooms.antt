@@ -9,7 +9,7 @@ use Rattle.ui_machine.specs.Seq.{total}
 use Rattle.ui_machine.specs.State.Config as config
 use Rattle.ui_machine.specs.State.Handlers.{Handler}
 use Rattle.ui_machine.specs.State.Objects.{living}
-use Rattle.ui_machine.specs.State.References.{in_held, in_object, in_register, in_task, in_value, same}
+use Rattle.ui_machine.specs.State.References.{in_held, in_object, in_option, in_register, in_source, in_task, in_value, same}
 use Rattle.g_values.specs.View.{value_view}
 use Rattle.bytecode.specs.Computing.{registers_of}
 use Rattle.instances.proofs.Few.{same_most, value_most}
@@ -51,6 +51,10 @@ total_reversed f (x ∷ xs) =
 register_most : (o : ℕ) (r : Option values.Value) → in_register o r ≤ 1
 register_most o None = omega arith
 register_most o (Some v) = value_most o v
+
+option_most : (o : ℕ) (i : Option ℕ) → in_option o i ≤ 1
+option_most o None = omega arith
+option_most o (Some i) = same_most o i
 
 held_most : (o : ℕ) (h : config.BuilderEntry) → in_held o h ≤ 1
 held_most o config.unbuilt = omega arith
@@ -96,6 +100,8 @@ task_most d hs o (tasks.Constructing id steps held) = omega (arith, same_most o 
 task_most d hs o (tasks.Building place forwards) = omega arith
 task_most d hs o (tasks.Adopting place forwards) = omega arith
 task_most d hs o (tasks.Connecting place number) = omega arith
+task_most d hs o (tasks.Answering source) = omega arith
+task_most d hs o (tasks.Due source) = omega arith
 task_most d hs o (tasks.Handling event) = omega arith
 
 agenda_most : (d : machine.Definition) (hs : List Handler) (s : Stack) (o : ℕ)
@@ -113,12 +119,14 @@ agenda_most d hs s o =
 -- what lives may be held once more, where each object is counted as often as it is mentioned
 pub has_room : (d : machine.Definition) (taken : ℕ → ℕ) (e : Engine)
     → ((d : machine.Definition) (o : ℕ) → total (in_object d o) e.world.table.objects + total (same o) e.world.table.floating ≤ 2 ^ 127)
-    → Counts d taken e → (o : ℕ) → taken o ≤ 2 ^ 64 → IsSome (living e.world.table.objects o) → may_hold e.world.table o ≡ true
-has_room d taken e few counts o little lives =
+    → length e.world.context.sources ≤ 256 → Counts d taken e → (o : ℕ) → taken o ≤ 2 ^ 64 → IsSome (living e.world.table.objects o) → may_hold e.world.table o ≡ true
+has_room d taken e few sources counts o little lives =
     let built : total (in_held o) (map held_of e.world.builder.items) ≤ length (map held_of e.world.builder.items) =
     total_ones (in_held o) (held_most o) (map held_of e.world.builder.items) in
     let agenda : total (in_task o) (agenda_of d e) ≤ length e.stack.tasks.items * 9223372036854775809 =
     agenda_most d e.world.handlers.handlers e.stack o in
+    let attached : total (in_source o) e.world.context.sources ≤ length e.world.context.sources =
+    total_ones (in_source o) (λ s. option_most o s.arg) e.world.context.sources in
     let small : count_of e.world.table.counts o < 340282366920938463463374607431768211455 =
     omega (
       arith,
@@ -130,6 +138,8 @@ has_room d taken e few counts o little lives =
       e.world.builder.ok.0,
       e.world.builder.ok.1,
       e.world.builder.small,
+      attached,
+      sources,
       agenda,
       e.stack.tasks.ok.0,
       e.stack.tasks.ok.1,

@@ -92,6 +92,8 @@ module _ (d : Definition) (hs ks : List Handler) where
   task_same (tasks.Building place forwards) is = refl
   task_same (tasks.Adopting place forwards) is = refl
   task_same (tasks.Connecting place number) is = refl
+  task_same (tasks.Answering source) is = refl
+  task_same (tasks.Due source) is = refl
   task_same (tasks.Handling event) is = refl
 
   all_same : (ts : List code.Task) → OfEmissions Same ts → map (task_of d hs) ts ≡ map (task_of d ks) ts
@@ -151,6 +153,8 @@ module _ (d : Definition) (change : Handler → Handler) (only : OnlyBlocks chan
       by (tasks.Building place forwards) = tt
       by (tasks.Adopting place forwards) = tt
       by (tasks.Connecting place number) = tt
+      by (tasks.Answering source) = tt
+      by (tasks.Due source) = tt
       by (tasks.Handling event) = tt
 
   pub blocks_same : (s : Stack) → tasks_of d (map change hs) s ≡ tasks_of d hs s
@@ -195,6 +199,8 @@ module _ (d : Definition) (h : Handler) (hs : List Handler) (last : ℕ) (later 
       by (tasks.Building place forwards) begun = tt
       by (tasks.Adopting place forwards) begun = tt
       by (tasks.Connecting place number) begun = tt
+      by (tasks.Answering source) begun = tt
+      by (tasks.Due source) begun = tt
       by (tasks.Handling event) begun = tt
 
   pub connected_same : (s : Stack) → AllTakeKnownHandlers last s → tasks_of d (hs ++ h ∷ []) s ≡ tasks_of d hs s
@@ -215,6 +221,8 @@ begun_more last more few s begun = all_more s.tasks.items begun
     one_more (tasks.Building place forwards) begun = tt
     one_more (tasks.Adopting place forwards) begun = tt
     one_more (tasks.Connecting place number) begun = tt
+    one_more (tasks.Answering source) begun = tt
+    one_more (tasks.Due source) begun = tt
     one_more (tasks.Handling event) begun = tt
 
     all_more : (ts : List code.Task) → All (TakesKnownHandlers last) ts → All (TakesKnownHandlers more) ts

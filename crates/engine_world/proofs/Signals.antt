@@ -82,25 +82,6 @@ module _ (d : Definition) where
       ∙ ap (λ xs. numbered (connects k) first xs ++ connected_items (suc k) (drop (suc k) d.places)) (drop_past [] first (omega arith))
       ∙ connected_past d basic (suc k) (omega (arith, past))
 
--- ** the first item
-
--- nothing is left, or a signal is connected first
-abbrev pub FirstConnects : List Item → Type 0
-FirstConnects [] = Unit {0}
-FirstConnects (connects place number ∷ items) = Unit {0}
-FirstConnects (tasks.makes place ∷ items) = ⊥
-FirstConnects (tasks.adopts place ∷ items) = ⊥
-FirstConnects (tasks.forwards place slot to ∷ items) = ⊥
-FirstConnects (tasks.binds number ∷ items) = ⊥
-
-pub numbered_first : (place n : ℕ) (xs : List Attached) (tail : List Item) → FirstConnects tail → FirstConnects (numbered (connects place) n xs ++ tail)
-numbered_first place n [] tail first = first
-numbered_first place n (x ∷ xs) tail first = tt
-
-pub connected_first : (place : ℕ) (ps : List Place) → FirstConnects (connected_items place ps)
-connected_first place [] = tt
-connected_first place (p ∷ ps) = numbered_first place 0 p.signals (connected_items (suc place) ps) (connected_first (suc place) ps)
-
 -- ** how many they are
 
 number_of : (item : ℕ → Item) (n : ℕ) (xs : List Attached) → ((k : ℕ) → is_connecting (item k) ≡ 1) → total is_connecting (numbered item n xs) ≡ length xs

@@ -7,6 +7,7 @@ pub mod LineView
 pub mod TaskView
 pub mod KnownHandlers
 pub mod ConnectView
+pub mod SourceView
 pub mod Measure
 pub mod EngineView
 pub mod Standing

@@ -18,6 +18,7 @@ line_view (code.Limit word) = lines.limit word.now
 line_view (code.Adopt parent child) = lines.adopt parent.0 child.0
 line_view (code.Orphan child) = lines.orphan child.0
 line_view (code.Release id) = lines.release id.now
+line_view (code.Turn moment) = lines.turn moment
 line_view (code.Dispose object) = lines.dispose object.0
 line_view (code.Final object) = lines.final object.0
 line_view (code.Result value) = lines.result (value_view value.now)

@@ -18,7 +18,7 @@ abbrev pub item_weight : Definition → Item → ℕ
 item_weight d (makes place) = 4 * suc (sets_of_place d (place_at d place)) + 3
 item_weight d (adopts place) = 1
 item_weight d (forwards place slot to) = 4
-item_weight d (binds number) = 1
+item_weight d (binds number) = 2
 item_weight d (connects place number) = 1
 
 abbrev pub weight : Definition → Task → ℕ
@@ -35,7 +35,7 @@ weight d (Calling call) = 1
 weight d (Constructing id steps held) = 4 * length steps + 1
 weight d (Building items) = total (item_weight d) items + 1
 weight d (Handling request) = 4
-weight d (Due source) = 1
+weight d (Due source) = 3
 
 -- a notification that waits
 abbrev pub waiting_in : Option Object → ℕ

@@ -1,23 +1,21 @@
--- What the engine's configuration stands for. An emission of the engine has no turns of handlers that are gone, and passes over those that
--- are blocked as it takes the next one; the machine passes over both by steps of its own.
-use Rattle.std.specs.Prelude.{◌≡◌, ℕ, true, List, [], ◌∷◌, Result, Ok, Err}
+-- What the engine's configuration stands for. An emission of the engine has no turns of handlers and no transfers of bindings that are gone,
+-- and passes over handlers that are blocked and bindings that set as it takes the next one; the machine passes over all of them by steps
+-- of its own.
+use Rattle.std.specs.Prelude.{◌≡◌, ℕ, Bool, true, cond, List, [], ◌∷◌, Option, None, Some, Result, Ok, Err}
 use Rattle.ui_machine.specs.declared.arm.Halt.{Halt}
 use Rattle.ui_machine.specs.Definition.{Definition}
 use Rattle.ui_machine.specs.Outcome.{Answer, Stops}
 use Rattle.ui_machine.specs.Runs.{Halts, Reaches}
+use Rattle.ui_machine.specs.State.Bindings.{Binding, binding_of}
 use Rattle.ui_machine.specs.State.Config.{Config, World}
-use Rattle.ui_machine.specs.State.Handlers.{Handler}
-use Rattle.ui_machine.specs.State.Tasks.{Emitting, Task}
+use Rattle.ui_machine.specs.State.Handlers.{Handler, handler_of}
+use Rattle.ui_machine.specs.State.Tasks.{Emitting, PlanEntry, Task, class_handler, handler, transfer}
 use Rattle.machine_laws.specs.GoneLaws.{gone_in, pruned_at}
-use Rattle.signal_core.specs.Laws.{entries_left}
+use Rattle.signal_core.specs.Laws.{entries_left, is_passed_over}
 
--- a configuration without the turns of handlers that are gone
+-- a configuration without the turns of those that are gone
 abbrev pub without_gone : Config → Config
 without_gone c = pruned_at (gone_in c.world) c
-
--- who was gone in one world is gone in the other
-pub record GoneStay (w new : World) : Type 0 where
-  pub stay : (number : ℕ) → gone_in w number ≡ true → gone_in new number ≡ true
 
 -- from a configuration of the machine steps lead to one that the engine's stands for
 pub record Arrives (d : Definition) (c view : Config) : Type 0 where
@@ -35,18 +33,37 @@ pub record Breaks (d : Definition) (old : Config) (halt : Halt) (shown : List (L
 
 -- ** what code leads to
 
--- the machine's configuration, without the turns of handlers that are gone by then; or code stops where the machine is stuck
+-- the machine's configuration, without the turns of those that are gone by then; or code stops where the machine is stuck
 abbrev pub GoesWithoutGone : {X : Type 0} → Result X Halt → Answer Config → Config → Type 0
 GoesWithoutGone (Ok x) answer new = (e : Config) × (answer ≡ Ok e) × (without_gone e ≡ new)
 GoesWithoutGone (Err halt) answer new = Stops halt answer
 
 -- ** turns that are passed over
 
--- a task as it comes first: an emission is past the turns of handlers that are gone or blocked
+-- a task of the engine as it comes first: an emission is past the turns of handlers that are gone or blocked
 abbrev pub past_skipped_turns : List Handler → Task → Task
 past_skipped_turns hs (Emitting e entries) = Emitting e (entries_left hs entries)
 past_skipped_turns hs task = task
 
-abbrev pub with_first : List Handler → List Task → List Task
-with_first hs [] = []
-with_first hs (task ∷ rest) = past_skipped_turns hs task ∷ rest
+-- whether the transfer of a binding is passed over: the binding sets already, or it is gone
+abbrev pub makes_no_transfer : Option Binding → Bool
+makes_no_transfer None = true
+makes_no_transfer (Some b) = b.busy
+
+-- the entries from the first one on that the machine does not pass over
+abbrev pub entries_due : World → List PlanEntry → List PlanEntry
+entries_due w [] = []
+entries_due w (class_handler program cleanup ∷ entries) = class_handler program cleanup ∷ entries
+entries_due w (handler number ∷ entries) =
+    cond (is_passed_over (handler_of number w.handlers)) (entries_due w entries) (handler number ∷ entries)
+entries_due w (transfer number back ∷ entries) =
+    cond (makes_no_transfer (binding_of number w.bindings)) (entries_due w entries) (transfer number back ∷ entries)
+
+-- a task of the machine as it comes first
+abbrev pub past_turns : World → Task → Task
+past_turns w (Emitting e entries) = Emitting e (entries_due w entries)
+past_turns w task = task
+
+abbrev pub with_first : World → List Task → List Task
+with_first w [] = []
+with_first w (task ∷ rest) = past_turns w task ∷ rest

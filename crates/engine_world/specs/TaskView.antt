@@ -101,7 +101,9 @@ task_of d hs (tasks.Constructing id steps held) = config.Constructing id.0 steps
 task_of d hs (tasks.Building place forwards) = config.Building (build_from d place.0 forwards)
 task_of d hs (tasks.Adopting place forwards) = config.Building (config.adopts place.0 ∷ build_from d (suc place.0) forwards)
 task_of d hs (tasks.Connecting place number) = config.Building (connects_from d place.0 number)
+task_of d hs (tasks.Answering source) = config.Answering source
 task_of d hs (tasks.Handling event) = config.Handling (request_of event)
+task_of d hs (tasks.Due source) = config.Due source
 
 -- the tasks of a stack, the first task first
 abbrev pub tasks_of : machine.Definition → List Handler → Stack → List config.Task

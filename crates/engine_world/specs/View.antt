@@ -18,12 +18,12 @@ world_of w = record {
   handlers = w.handlers.handlers;
   last_handler = w.handlers.last;
   bindings = [];
-  sources = [];
-  last_source = 0;
+  sources = w.context.sources;
+  last_source = w.context.last;
   floating = w.table.floating;
   builder = map held_of w.builder.items;
   peers = [];
-  moment = 0;
+  moment = w.context.moment;
   transcript = map string_bytes w.transcript.items;
   result = option_map value_view w.result;
 }

@@ -11,6 +11,7 @@ ghost use Rattle.engine_world.specs.TaskView.{agenda_of};
 use crate::task::Stack;
 use crate::world::World;
 use instances::{Table, WeakSlots};
+use main_context::Context;
 use signal_core::Handlers;
 use std::alloc::Global;
 use ui_machine::Limits;
@@ -49,6 +50,7 @@ impl Engine {
                 table: Table::new(alloc, limits.objects),
                 weak,
                 handlers: Handlers::new(alloc, limits.handlers, 0),
+                context: Context::new(alloc),
                 builder: Vec::new(alloc),
                 transcript: Vec::new(alloc),
                 result: None,

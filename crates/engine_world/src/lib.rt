@@ -18,6 +18,7 @@ pub mod program_frames;
 pub mod properties;
 pub mod references;
 pub mod refusals;
+pub mod sources;
 pub mod task;
 pub mod weak_slots;
 pub mod world;

@@ -74,6 +74,10 @@ pub enum Line<'a> {
     Release {
         id: &'a str,
     },
+    /// A turn of the main loop begins.
+    Turn {
+        moment: u64,
+    },
     /// An object is disposed, for the first time.
     Dispose {
         object: ObjectId,
@@ -132,6 +136,7 @@ impl Line<'_> {
             Line::Adopt { parent, child } => adopt_line(alloc, parent.0, child.0),
             Line::Orphan { child } => object_line(alloc, "orphan #", child.0),
             Line::Release { id } => named_line(alloc, "release ", id),
+            Line::Turn { moment } => object_line(alloc, "turn ", moment),
             Line::Dispose { object } => object_line(alloc, "dispose #", object.0),
             Line::Final { object } => object_line(alloc, "final #", object.0),
             Line::Result { value } => result_line(alloc, types, value),

@@ -123,7 +123,9 @@ impl Task {
             Task::Building { .. } => None,
             Task::Adopting { .. } => None,
             Task::Connecting { .. } => None,
+            Task::Answering { .. } => None,
             Task::Handling(_) => None,
+            Task::Due { .. } => None,
         }
     }
 }
@@ -176,7 +178,9 @@ fn hold_given(table: &mut Table, task: &Task) -> Result<(), AllocError>
         Task::Building { .. } => Ok(()),
         Task::Adopting { .. } => Ok(()),
         Task::Connecting { .. } => Ok(()),
+        Task::Answering { .. } => Ok(()),
         Task::Handling(_) => Ok(()),
+        Task::Due { .. } => Ok(()),
     }
 }
 
@@ -197,6 +201,7 @@ fn never_full(engine: &Engine)
         → IsSome (living engine.now.world.table.objects o) → may_hold engine.now.world.table o ≡ true }
 {
     engine.world.table.hold_few();
+    engine.world.context.len();
 }
 
 /// Puts a task before the others, which holds its objects from then on.

@@ -1,4 +1,4 @@
-//! Which events are refused: those that name an object that the builder has let go.
+//! Which requests are refused: those that name an object that the builder has let go.
 
 ghost use Rattle.std.specs.Prelude.{◌≡◌, map};
 ghost use Rattle.std.specs.List.{list_any};
@@ -8,7 +8,7 @@ ghost use Rattle.definition_format.specs.Meaning.{given_view, request_of};
 ghost use Rattle.engine_world.specs.View.{world_of};
 
 use crate::world::World;
-use definition_format::{Event, Given};
+use definition_format::{Given, Request};
 use ui_machine::Place;
 
 impl World {
@@ -39,17 +39,17 @@ impl World {
         }
     }
 
-    /// Whether an event names an object that the builder has let go, in any position.
-    pub fn names_released(&self, event: &Event) -> bool
-        ensures { result ≡ names_released (world_of self.now) (request_of event.now) }
+    /// Whether a request names an object that the builder has let go, in any position.
+    pub fn names_released(&self, request: &Request) -> bool
+        ensures { result ≡ names_released (world_of self.now) (request_of request.now) }
     {
-        match event {
-            Event::Set { place, given, .. } => self.is_released(*place)
+        match request {
+            Request::Set { place, given, .. } => self.is_released(*place)
                 || self.gives_released(given),
-            Event::Get { place, .. } => self.is_released(*place),
-            Event::Emit { place, args, .. } => self.is_released(*place)
+            Request::Get { place, .. } => self.is_released(*place),
+            Request::Emit { place, args, .. } => self.is_released(*place)
                 || self.any_released(args.as_slice()),
-            Event::Release { place } => self.is_released(*place),
+            Request::Release { place } => self.is_released(*place),
         }
     }
 }

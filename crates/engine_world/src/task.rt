@@ -6,7 +6,7 @@ ghost use Rattle.ui_machine.specs.State.Tasks as config;
 ghost use Rattle.ui_machine.specs.State.Handlers.{Handler};
 ghost use Rattle.engine_world.specs.TaskView.{making_of_code, task_of, tasks_of};
 
-use definition_format::Event;
+use definition_format::Request;
 use frames::Frame;
 use g_values::Value;
 use signal_core::Cursor;
@@ -191,8 +191,16 @@ pub enum Task {
         place: Place,
         number: usize,
     },
-    /// An event is to be carried out.
-    Handling(Event),
+    /// A source whose program runs. What the program answers says whether the source stays.
+    Answering {
+        source: u64,
+    },
+    /// A request of an event is to be carried out.
+    Handling(Request),
+    /// A ready source is to run.
+    Due {
+        source: u64,
+    },
 }
 
 /// The tasks that are left, the first on top.

@@ -41,7 +41,7 @@ module _ (old : SessionState) (line : List ℕ) where
       where
         on : (why : Option Refusal) → refusal old.world event ≡ why → AnswersBy why (Ok reply) old event new → Says old line (since old new) new
         on (Some gone) why h = cc h.0
-        on (Some clock_back) why h = absurd h
+        on (Some clock_back) why h = cc h.0
         on None why h = record {
           event = event;
           tally = tally_of reply;
@@ -64,19 +64,26 @@ module _ (old : SessionState) (line : List ℕ) where
 
         on : (why : Option Refusal) (fault : SessionFault) → refusal old.world event ≡ why → AnswersBy why (Err fault) old event new
             → event_replies old line (outcome_of {T = Unit {0}} (Err (dispatch_fault fault)) (since old new)) new
-        on (Some gone) ends.Released why h = (inr (record { event = event; denotes = denotes; refuses = why }, refl), h.1)
+        on (Some gone) ends.Released why h = (inr (record { event = event; why = gone; denotes = denotes; refuses = why }, refl), h.1)
+        on (Some gone) ends.ClockBack why h = cc h.0
         on (Some gone) ends.Stopped why h = cc h.0
         on (Some gone) ends.OutOfMemory why h = cc h.0
         on (Some gone) (ends.Stuck arm) why h = cc h.0
-        on (Some clock_back) fault why h = absurd h
+        on (Some clock_back) ends.ClockBack why h = (inr (record { event = event; why = clock_back; denotes = denotes; refuses = why }, refl), h.1)
+        on (Some clock_back) ends.Released why h = cc h.0
+        on (Some clock_back) ends.Stopped why h = cc h.0
+        on (Some clock_back) ends.OutOfMemory why h = cc h.0
+        on (Some clock_back) (ends.Stuck arm) why h = cc h.0
         on None ends.OutOfMemory why h = inl (record { event = event; denotes = denotes; halts = h.halts; shows = shows; definition = h.definition; stops = h.stops })
         on None (ends.Stuck arm) why h = inl (record { event = event; denotes = denotes; halts = h.halts; shows = shows; definition = h.definition; stops = h.stops })
         on None ends.Stopped why h = absurd h
+        on None ends.ClockBack why h = absurd h
         on None ends.Released why h = absurd h
 
         by : (b : Bool) (fault : SessionFault) → AnswersEvent b (Err fault) old event new → event_replies old line (outcome_of {T = Unit {0}} (Err (dispatch_fault fault)) (since old new)) new
         by true ends.Stopped h = inr (refl, ap (since old) h.1 ∙ drop_all old.world.transcript, h.1)
         by true ends.OutOfMemory h = cc h.0
         by true (ends.Stuck arm) h = cc h.0
+        by true ends.ClockBack h = cc h.0
         by true ends.Released h = cc h.0
         by false fault h = on (refusal old.world event) fault refl h

@@ -38,6 +38,7 @@ module _ (bytes : List ℕ) (d : Definition) (s : SessionState) (denotes : denot
   opens_built (Err faults.OutOfMemory) comes none = cc none
   opens_built (Err (faults.Stuck arm)) comes none = cc none
   opens_built (Err faults.Stopped) comes none = absurd comes
+  opens_built (Err faults.ClockBack) comes none = absurd comes
   opens_built (Err faults.Released) comes none = absurd comes
 
   broken : (halt found : Halt) → Some found ≡ Some halt → Breaks found (building d) d s → Opens bytes (stopped s halt)
@@ -56,6 +57,7 @@ module _ (bytes : List ℕ) (d : Definition) (s : SessionState) (denotes : denot
   opens_stopped halt (Err faults.OutOfMemory) comes some = broken halt halts.OutOfMemory some comes
   opens_stopped halt (Err (faults.Stuck arm)) comes some = broken halt (halts.Stuck arm) some comes
   opens_stopped halt (Err faults.Stopped) comes some = absurd comes
+  opens_stopped halt (Err faults.ClockBack) comes some = absurd comes
   opens_stopped halt (Err faults.Released) comes some = absurd comes
 
 -- ** what is written

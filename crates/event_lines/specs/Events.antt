@@ -3,13 +3,12 @@ use Rattle.std.specs.Prelude.{◌≡◌, ◌⊎◌, ℕ, true, false, List, [], 
 use Rattle.ui_machine.specs.declared.arm.Halt.{Halt}
 use Rattle.ui_machine.specs.declared.arm.Halt.TheVariants as halts
 use Rattle.ui_machine.specs.State.Tasks.{Event}
-use Rattle.ui_machine.specs.Rules.Events.{gone, refusal}
+use Rattle.ui_machine.specs.Rules.Events.{Refusal, refusal}
 use Rattle.ui_machine.specs.Runs.{Tally, Serves, HaltsIn}
 use Rattle.builder_defs.specs.EventMeaning.{EventRefusal, event_denoted}
 use Rattle.ui_engine.specs.SessionView.{SessionState}
-use Rattle.event_lines.specs.Texts.{line_refusal}
+use Rattle.event_lines.specs.Texts.{line_refusal, refusal_of_event}
 use Rattle.event_lines.specs.declared.refusal.LineRefusal.{LineRefusal}
-use Rattle.event_lines.specs.declared.refusal.LineRefusal.TheVariants.{Released}
 use Rattle.event_lines.specs.EventFileRun.{Replies, said, refused, cut_off, stopped}
 
 -- the line is an event, which the machine serves, and these lines are said
@@ -31,11 +30,12 @@ pub record Halting (old : SessionState) (line : List ℕ) (halt : Halt) (lines :
   pub definition : new.definition ≡ old.definition
   pub stops : new.stopped ≡ true
 
--- the line is an event that names an object which was let go
-pub record NamesReleased (old : SessionState) (line : List ℕ) : Type 0 where
+-- the line is an event that the machine refuses
+pub record RefusesEvent (old : SessionState) (line : List ℕ) : Type 0 where
   pub event : Event
+  pub why : Refusal
   pub denotes : event_denoted old.definition line ≡ Ok event
-  pub refuses : refusal old.world event ≡ Some gone
+  pub refuses : refusal old.world event ≡ Some why
 
 -- the line is no event
 pub record Refuses (old : SessionState) (line : List ℕ) : Type 0 where
@@ -44,7 +44,7 @@ pub record Refuses (old : SessionState) (line : List ℕ) : Type 0 where
 
 -- a line is refused where it is no event, or where the machine refuses the event
 abbrev pub IsRefused : SessionState → List ℕ → LineRefusal → Type 0
-IsRefused old line r = ((no : Refuses old line) × (r ≡ line_refusal no.refusal)) ⊎ (NamesReleased old line × (r ≡ Released))
+IsRefused old line r = ((no : Refuses old line) × (r ≡ line_refusal no.refusal)) ⊎ ((event : RefusesEvent old line) × (r ≡ refusal_of_event event.why))
 
 -- No memory for the reading of a line is want of memory with nothing said.
 abbrev pub event_replies : Replies SessionState

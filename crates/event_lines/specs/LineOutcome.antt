@@ -24,6 +24,7 @@ abbrev pub dispatch_fault : SessionFault → LineFault
 dispatch_fault ends.OutOfMemory = faults.Stopped halts.OutOfMemory
 dispatch_fault ends.Stopped = faults.Stopped halts.OutOfMemory
 dispatch_fault (ends.Stuck arm) = faults.Stopped (halts.Stuck arm)
+dispatch_fault ends.ClockBack = faults.Refused refusals.ClockBack
 dispatch_fault ends.Released = faults.Refused refusals.Released
 
 -- what a line came to that said these lines

@@ -30,4 +30,5 @@ halt_of (Ok reply) = None
 halt_of (Err faults.OutOfMemory) = Some halts.OutOfMemory
 halt_of (Err faults.Stopped) = Some halts.OutOfMemory
 halt_of (Err (faults.Stuck arm)) = Some (halts.Stuck arm)
+halt_of (Err faults.ClockBack) = Some halts.OutOfMemory
 halt_of (Err faults.Released) = Some halts.OutOfMemory

@@ -4,6 +4,7 @@ use Rattle.ui_machine.specs.declared.arm.Arm.{Arm}
 use Rattle.ui_machine.specs.declared.arm.Arm.TheVariants as arms
 use Rattle.ui_machine.specs.declared.arm.Halt.{Halt}
 use Rattle.ui_machine.specs.declared.arm.Halt.TheVariants as halts
+use Rattle.ui_machine.specs.Rules.Events as machine
 use Rattle.builder_defs.specs.Refusals.{Refusal}
 use Rattle.builder_defs.specs.FaultText.{refusal_text}
 use Rattle.builder_defs.specs.EventMeaning.{EventRefusal, too_long, not_json, shape, unknown, not_readable, not_writable, construct_only, value_fault}
@@ -20,6 +21,11 @@ line_refusal not_readable = refusals.NotReadable
 line_refusal not_writable = refusals.NotWritable
 line_refusal construct_only = refusals.ConstructOnly
 line_refusal value_fault = refusals.ValueFault
+
+-- that of an event which the machine refuses: it names an object that was let go, or is a turn of a moment before the latest one
+abbrev pub refusal_of_event : machine.Refusal → LineRefusal
+refusal_of_event machine.gone = refusals.Released
+refusal_of_event machine.clock_back = refusals.ClockBack
 
 abbrev pub name_of : LineRefusal → List ℕ
 name_of refusals.TooLong = codes "TooLong"

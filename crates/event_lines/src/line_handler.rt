@@ -46,6 +46,7 @@ impl From<SessionFault> for LineFault {
                 LineFault::Stopped(Halt::OutOfMemory)
             }
             SessionFault::Stuck(arm) => LineFault::Stopped(Halt::Stuck(arm)),
+            SessionFault::ClockBack => LineFault::Refused(LineRefusal::ClockBack),
             SessionFault::Released => LineFault::Refused(LineRefusal::Released),
         }
     }

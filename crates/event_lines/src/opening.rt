@@ -65,8 +65,11 @@ fn halt_of(build: &Result<Reply, SessionFault>) -> Option<Halt>
     match build {
         Ok(_) => None,
         Err(SessionFault::Stuck(arm)) => Some(Halt::Stuck(*arm)),
-        Err(SessionFault::OutOfMemory | SessionFault::Stopped | SessionFault::Released) => {
-            Some(Halt::OutOfMemory)
-        }
+        Err(
+            SessionFault::OutOfMemory
+            | SessionFault::Stopped
+            | SessionFault::ClockBack
+            | SessionFault::Released,
+        ) => Some(Halt::OutOfMemory),
     }
 }

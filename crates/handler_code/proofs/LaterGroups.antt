@@ -1,5 +1,5 @@
 -- Which groups of instructions no program has so far.
-use Rattle.std.proofs.Common.{◌≡◌, ℕ, true, false, refl}
+use Rattle.std.proofs.Common.{◌≡◌, ℕ, false, refl}
 use Rattle.bytecode.specs.declared.computations.Computation.{Computation}
 use Rattle.bytecode.specs.declared.computations.Computation.TheVariants as computations
 use Rattle.bytecode.specs.declared.instructions.ControlInstruction.{ControlInstruction}
@@ -10,11 +10,9 @@ use Rattle.bytecode.specs.declared.instructions.ObjectInstruction.{ObjectInstruc
 use Rattle.bytecode.specs.declared.instructions.ObjectInstruction.TheVariants as objects
 use Rattle.bytecode.specs.declared.instructions.SignalInstruction.{SignalInstruction}
 use Rattle.bytecode.specs.declared.instructions.SignalInstruction.TheVariants as signals
-use Rattle.bytecode.specs.declared.instructions.SourceInstruction.{SourceInstruction}
-use Rattle.bytecode.specs.declared.instructions.SourceInstruction.TheVariants as sources
 use Rattle.bytecode.specs.Computing.{instruction_of}
 use Rattle.bytecode.specs.Later.{is_later}
-use Rattle.bytecode.specs.View.{control_view, property_instruction_view, object_instruction_view, signal_instruction_view, source_instruction_view}
+use Rattle.bytecode.specs.View.{control_view, property_instruction_view, object_instruction_view, signal_instruction_view}
 
 pub compute_now : (c : Computation) (to : ℕ) → is_later (instruction_of c to) ≡ false
 compute_now (computations.Const v) to = refl
@@ -57,9 +55,3 @@ signal_now (signals.Disconnect object program) = refl
 signal_now (signals.Block object program) = refl
 signal_now (signals.Unblock object program) = refl
 signal_now signals.Stop = refl
-
-pub source_later : (i : SourceInstruction) → is_later (source_instruction_view i) ≡ true
-source_later (sources.Unbind name) = refl
-source_later (sources.Idle to program priority with) = refl
-source_later (sources.Timeout to program priority interval with) = refl
-source_later (sources.Remove program) = refl

@@ -6,7 +6,7 @@ use Rattle.std.proofs.lemmas.Bool.Decides.{nat_tests}
 use Rattle.std.proofs.lemmas.List.{append-nil, append_assoc}
 use Rattle.std.specs.Prelude.{if◌then◌else◌, IfOk, codes}
 use Rattle.serde_json.specs.Data.{Data, Items, no_items, item}
-use Rattle.serde_json.specs.Find.{get, as_array, as_str}
+use Rattle.serde_json.specs.Find.{get, as_array, as_number, as_str, as_u64}
 use Rattle.g_values.specs.Reading.{json_value}
 use Rattle.g_values.specs.declared.error.JsonFault.{JsonFault}
 use Rattle.ui_machine.specs.Outcome.{◌>>=◌}
@@ -26,7 +26,7 @@ use Rattle.ui_machine.specs.Rules.Transform.{kind_fits}
 use Rattle.definition_format.specs.Meaning as code
 use Rattle.definition_format.specs.Meaning.{is_object_there, if_object, object_place}
 use Rattle.definition_format.specs.Denoted.Given.{reference}
-use Rattle.definition_format.specs.EventMeaning.{EventRefusal, unknown, shape, not_readable, construct_only, not_writable, value_fault, or_refused, line_value, has_one_member, words_of_set, words_of_get, Target, target, object_of, object_named, is_of_kind, itself, given_by, or_value_fault, writable, readable, set_event, get_event, release_event, release_by, event_by, event_meant, event_denoted, words_of_emit, SignalTarget, but_notify, signal_target, count, check_count, check_detail, each_of, id_known, argument, emit_event, emit_by}
+use Rattle.definition_format.specs.EventMeaning.{EventRefusal, unknown, shape, not_readable, construct_only, not_writable, value_fault, or_refused, line_value, has_one_member, words_of_set, words_of_get, Target, target, object_of, object_named, is_of_kind, itself, given_by, or_value_fault, writable, readable, set_event, get_event, release_event, release_by, event_by, event_meant, event_denoted, words_of_emit, SignalTarget, but_notify, signal_target, count, check_count, check_detail, each_of, id_known, argument, emit_event, emit_by, moment_if, turn_event, turn_by}
 use Rattle.law_typing.specs.Rules.RegisterKinds.{class_at}
 use Rattle.law_typing.specs.Graph.Channels.{spec_at}
 use Rattle.law_typing.specs.Laws.WellRead.{no_class_of, GivenFits, IsObject}
@@ -280,26 +280,36 @@ module _ (d : Definition) (few : (t : ℕ) → HaveFewBits (members_of d.types t
         may,
       )
 
-  by_emit : (emit : Option Data) → IfOk (emit_by d emit) (EventRead d)
-  by_emit None = tt
-  by_emit (Some words) = emit_read words
+  turn_read : (word : Data) → IfOk (turn_event word) (EventRead d)
+  unfolding turn_event
+  turn_read word =
+      after_each (or_refused shape (as_number word)) _ (EventRead d) λ said.
+      after_each (moment_if (as_u64 said)) _ (EventRead d) λ moment. tt
 
-  by_release : (release emit : Option Data) → IfOk (release_by d release emit) (EventRead d)
-  by_release None emit = by_emit emit
-  by_release (Some word) emit = release_read word
+  by_turn : (turn : Option Data) → IfOk (turn_by turn) (EventRead d)
+  by_turn None = tt
+  by_turn (Some word) = turn_read word
 
-  by_member : (set get release emit : Option Data) → IfOk (event_by d set get release emit) (EventRead d)
-  by_member None None release emit = by_release release emit
-  by_member None (Some words) release emit = get_read words
-  by_member (Some words) get release emit = set_read words
+  by_emit : (emit turn : Option Data) → IfOk (emit_by d emit turn) (EventRead d)
+  by_emit None turn = by_turn turn
+  by_emit (Some words) turn = emit_read words
+
+  by_release : (release emit turn : Option Data) → IfOk (release_by d release emit turn) (EventRead d)
+  by_release None emit turn = by_emit emit turn
+  by_release (Some word) emit turn = release_read word
+
+  by_member : (set get release emit turn : Option Data) → IfOk (event_by d set get release emit turn) (EventRead d)
+  by_member None None release emit turn = by_release release emit turn
+  by_member None (Some words) release emit turn = get_read words
+  by_member (Some words) get release emit turn = set_read words
 
   meant_read : (value : Data) → IfOk (event_meant d value) (EventRead d)
   unfolding event_meant
   meant_read value = by (has_one_member value)
     where
       by : (b : Bool)
-          → IfOk (if b then event_by d (get (codes "set") value) (get (codes "get") value) (get (codes "release") value) (get (codes "emit") value) else Err shape) (EventRead d)
-      by true = by_member (get (codes "set") value) (get (codes "get") value) (get (codes "release") value) (get (codes "emit") value)
+          → IfOk (if b then event_by d (get (codes "set") value) (get (codes "get") value) (get (codes "release") value) (get (codes "emit") value) (get (codes "turn") value) else Err shape) (EventRead d)
+      by true = by_member (get (codes "set") value) (get (codes "get") value) (get (codes "release") value) (get (codes "emit") value) (get (codes "turn") value)
       by false = tt
 
   pub event_read : (line : List ℕ) → IfOk (event_denoted d line) (EventRead d)

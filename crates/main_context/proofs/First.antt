@@ -1,6 +1,6 @@
 -- The first of a list that passes.
-use Rattle.std.proofs.Common.{◌≡◌, ℕ, zero, suc, ◌+◌, ◌<◌, Bool, true, false, cond, List, [], ◌∷◌, length, get_or, None, Some, refl, ap, arith, position}
-use Rattle.std.specs.List.{find, position_or_len, remove}
+use Rattle.std.proofs.Common.{◌≡◌, ℕ, zero, suc, ◌+◌, ◌<◌, ◌≤◌, Bool, true, false, cond, List, [], ◌∷◌, length, get_or, None, Some, refl, ap, arith, position}
+use Rattle.std.specs.List.{filter, find, position_or_len, remove}
 use Rattle.std.proofs.lemmas.List.Folds.{find_at}
 use Rattle.std.proofs.lemmas.List.Quantifiers.{position-Some}
 use Rattle.std.proofs.lemmas.Option.{slice_get_past}
@@ -13,7 +13,7 @@ use Rattle.ui_machine.specs.State.Sources.{without_first}
 find_none : {X : Type 0} (p : X → Bool) (xs : List X) → position p xs ≡ None → find p xs ≡ None
 find_none p xs h = grind (arith, common_steps, find_at p xs, slice_get_past xs (position_or_len p xs))
 
-without_none : {X : Type 0} (p : X → Bool) (xs : List X) → find p xs ≡ None → without_first p xs ≡ xs
+pub without_none : {X : Type 0} (p : X → Bool) (xs : List X) → find p xs ≡ None → without_first p xs ≡ xs
 without_none p [] h = refl
 without_none p (x ∷ xs) h =
     elim (p x) as (λ t. cond t (Some x) (find p xs) ≡ None → cond t xs (x ∷ without_first p xs) ≡ x ∷ xs) [
@@ -58,3 +58,22 @@ total_without_first f p (y ∷ ys) x h =
       | true ↦ λ e. let same : y ≡ x = cc in omega (arith, ap f same)
       | false ↦ λ e. omega (arith, total_without_first f p ys x e)
     ] h
+
+-- ** how many are left
+
+-- no more than there were
+pub few_without_first : {X : Type 0} (p : X → Bool) (xs : List X) → length (without_first p xs) ≤ length xs
+few_without_first p [] = omega arith
+few_without_first p (x ∷ xs) =
+    elim (p x) as (λ t. length (cond t xs (x ∷ without_first p xs)) ≤ suc (length xs)) [
+      | true ↦ omega arith
+      | false ↦ omega (arith, few_without_first p xs)
+    ]
+
+pub few_filtered : {X : Type 0} (p : X → Bool) (xs : List X) → length (filter p xs) ≤ length xs
+few_filtered p [] = omega arith
+few_filtered p (x ∷ xs) =
+    elim (p x) as (λ t. length (cond t (x ∷ filter p xs) (filter p xs)) ≤ suc (length xs)) [
+      | true ↦ omega (arith, few_filtered p xs)
+      | false ↦ omega (arith, few_filtered p xs)
+    ]

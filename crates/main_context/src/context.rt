@@ -1,6 +1,6 @@
 //! The context.
 
-ghost use Rattle.std.specs.Prelude.{◌≡◌, ◌<◌, ◌↔◌, ◌&&◌, not, false, [], None, Some, map, option_map, OnOk, OnErr, IfOk};
+ghost use Rattle.std.specs.Prelude.{◌≡◌, ◌<◌, ◌≤◌, length, ◌↔◌, ◌&&◌, not, false, [], None, Some, map, option_map, OnOk, OnErr, IfOk};
 ghost use Rattle.std.specs.List.{find};
 ghost use Rattle.ui_machine.specs.Rules.MainLoop.{ready, answered};
 ghost use Rattle.ui_machine.specs.State.Sources.{has_room, source_of, runs_program, without_first};
@@ -16,7 +16,7 @@ use ui_machine::{ObjectId, ProgramId};
 /// How many sources may be attached at a time. One whose program runs is among them until it is removed.
 pub const MAX_SOURCES: usize = 256;
 
-/// Sources in order of attachment, and the latest moment.
+/// Sources in order of attachment, at most 256, and the latest moment.
 #[derive(Debug, Drop)]
 pub struct Context {
     sources: Vec<Source>,
@@ -25,11 +25,14 @@ pub struct Context {
 }
 
 impl Model for Context {
+    ghost use Rattle.std.specs.Prelude.{length, ◌≤◌};
     ghost use Rattle.main_context.specs.Attached.{Attached};
 
     ghost Value = { Attached };
 
     ghost view = { λ c. record { sources = c.sources.items; last = c.last; moment = c.moment } };
+
+    ghost invariant = { λ c. length c.sources.items ≤ 256 };
 }
 
 impl Context {
@@ -45,6 +48,14 @@ impl Context {
             last: 0,
             moment: 0,
         }
+    }
+
+    /// How many sources are attached: at most 256.
+    pub fn len(&self) -> usize
+        ensures count { result ≡ length self.now.sources }
+        ensures few { length self.now.sources ≤ 256 }
+    {
+        self.sources.len()
     }
 
     /// Attaches an idle, which is always ready.
@@ -115,12 +126,13 @@ impl Context {
     }
 
     /// Begins an iteration at a moment, and takes the ready sources of the least priority number, in order of attachment. What
-    /// becomes ready later is not looked at again.
+    /// becomes ready later is not looked at again. They are at most 256.
     ///
     /// `ClockBack` where the moment is before the latest one, then `OutOfMemory`. An error changes nothing.
     pub fn iteration(&mut self, moment: u64) -> Result<Batch, TurnError>
         ensures ready { IfOk result
             (λ batch. batch ≡ map (λ s. s.number) (ready moment self.old.sources)) }
+        ensures few { IfOk result (λ batch. length batch ≤ 256) }
         ensures begun { OnOk result (self.new ≡ record self.old { moment = moment }) }
         ensures clock_back { (result ≡ Err TurnError.ClockBack) ↔ (moment < self.old.moment) }
         ensures err { OnErr result (self.new ≡ self.old) }

@@ -17,8 +17,6 @@ use Rattle.engine_world.proofs.Floats.{bind_ok, without_less}
 pub record Joins (w new : World) : Type 0 where
   pub waits : waiting new.objects ≡ waiting w.objects
   pub floats : length new.floating ≤ length w.floating
-  pub handlers : new.handlers ≡ w.handlers
-  pub last : new.last_handler ≡ w.last_handler
   pub grows : IsPrefix w.transcript new.transcript
 
 -- a change that leaves what waits
@@ -38,8 +36,6 @@ family_joins d w parent child = record {
       let ms : Objects = updated (with_child child) parent w.objects in
       omega (arith, waits_on (with_parent (Some parent)) (λ x. refl) ms child, waits_on (with_child child) (λ x. refl) w.objects parent);
   floats = without_less child w.floating;
-  handlers = refl;
-  last = refl;
   grows = prefix_one w.transcript _;
 }
 
@@ -52,5 +48,5 @@ adopted_joins d w parent child =
     P = λ r. Joins w r.state
 
     by : (b : Bool) → P (cond b (record { state = said d w (lines.limit (codes "adopt")); answer = false }) (record { state = with_family d w parent child; answer = true }))
-    by true = record { waits = refl; floats = omega arith; handlers = refl; last = refl; grows = prefix_one w.transcript _ }
+    by true = record { waits = refl; floats = omega arith; grows = prefix_one w.transcript _ }
     by false = family_joins d w parent child

@@ -4,6 +4,8 @@ mod Joining
 mod Reaching
 mod Standing
 mod Acts
+mod Unbound
 mod Stepping
 mod Beginning
 mod Serving
+mod Turning

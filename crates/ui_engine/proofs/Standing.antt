@@ -1,5 +1,7 @@
--- How the machine follows the engine: it passes over the turns of handlers that are gone or blocked, and then does the same step.
-use Rattle.std.proofs.Common.{◌≡◌, ◌∙◌, refl, sym, ap, subst, ℕ, Bool, true, false, cond, map, List, [], ◌∷◌, Option, None, Some, Ok, Err}
+-- How the machine follows the engine: it passes over the turns of handlers that are gone or blocked and of bindings that are gone or set, and
+-- then does the same step.
+use Rattle.std.proofs.Common.{◌≡◌, ◌∙◌, refl, sym, ap, subst, ℕ, Bool, true, false, cond, map, List, [], ◌∷◌, ◌++◌, Option, None, Some, Ok, Err}
+use Rattle.std.specs.List.{list_any}
 use Rattle.ui_machine.specs.declared.arm.Arm.{Arm}
 use Rattle.ui_machine.specs.declared.arm.Halt.{Halt}
 use Rattle.ui_machine.specs.declared.arm.Halt.TheVariants as halts
@@ -8,23 +10,27 @@ use Rattle.ui_machine.specs.Outcome.{Answer, Stops}
 use Rattle.ui_machine.specs.Rules.Accumulation.{given_to, running_handler}
 use Rattle.ui_machine.specs.Rules.Programs.{program_before}
 use Rattle.ui_machine.specs.Runs.{Halts, HaltsAt, HasEnded, Reaches}
+use Rattle.ui_machine.specs.Rules.Transfers.{transfer_for}
+use Rattle.ui_machine.specs.State.Bindings.{Binding, binding_of}
 use Rattle.ui_machine.specs.State.Config.{Config, World, starts}
 use Rattle.ui_machine.specs.State.Handlers.{Handler, handler_of}
 use Rattle.ui_machine.specs.State.References.{mentions, next_unheld}
-use Rattle.ui_machine.specs.State.Tasks.{Emission, Emitting, PlanEntry, Task, class_handler, handler, transfer}
+use Rattle.ui_machine.specs.State.Tasks.{Emission, Emitting, PlanEntry, Task, Transferring, class_handler, handler, transfer}
 use Rattle.ui_machine.specs.Steps.{act, asked_after, asked_first, first_of, question, step, uncounted}
 use Rattle.machine_laws.specs.FrontLaws.{mapped}
-use Rattle.machine_laws.specs.GoneLaws.{gone_in, is_next, pruned, pruned_at}
+use Rattle.machine_laws.specs.GoneLaws.{AreStillGone, Gone, gone_in, is_emitting, is_next, makes_binding, pruned, pruned_at}
 use Rattle.machine_laws.proofs.GoneProofs.{given_are_gone, pruned_again, question_does_without, step_does_without, unheld_as}
-use Rattle.signal_core.specs.Laws.{entries_left, is_passed_over}
-use Rattle.engine_world.specs.Standing.{Arrives, Breaks, Follows, GoneStay, with_first, without_gone}
+use Rattle.machine_laws.proofs.KeptSteps.{steps_keep_gone, whole_without_emissions}
+use Rattle.signal_core.specs.Laws.{is_passed_over}
+use Rattle.engine_world.specs.Standing.{Arrives, Breaks, Follows, entries_due, makes_no_transfer, with_first, without_gone}
 use Rattle.ui_engine.specs.Stepping.{NoneUnheld}
 use Rattle.engine_world.proofs.Gone.{first_stands, with_first_stays}
+use Rattle.engine_world.proofs.Floats.{if_ok_at}
 use Rattle.ui_engine.proofs.Reaching.{halts_on, reaches_here, reaches_on, reaches_once}
 
 -- a configuration whose first task is past the turns that are passed over
 abbrev pub at_first : Config → Config
-at_first c = record c { agenda = with_first c.world.handlers c.agenda }
+at_first c = record c { agenda = with_first c.world c.agenda }
 
 module _ (d : Definition) where
   -- ** turns that are passed over
@@ -41,33 +47,45 @@ module _ (d : Definition) where
         by None over = refl
         by (Some h) over = ap (λ b. cond b (starts w (Emitting e entries ∷ [])) (program_before d w h.program (given_to e h) (Emitting e entries ∷ []))) over
 
-    passes : (entries : List PlanEntry) → NoneUnheld d (emitting entries) → Reaches d [] (emitting entries) (emitting (entries_left w.handlers entries))
+    passed_transfer : (number : ℕ) (back : Bool) (entries : List PlanEntry) → makes_no_transfer (binding_of number w.bindings) ≡ true
+        → act d w None (Emitting e (transfer number back ∷ entries) ∷ rest) n ≡ Ok (emitting entries)
+    passed_transfer number back entries over = ap (uncounted rest n) (by (binding_of number w.bindings) over)
+      where
+        by : (o : Option Binding) → makes_no_transfer o ≡ true → starts w (transfer_for o number back ++ Emitting e entries ∷ []) ≡ starts w (Emitting e entries ∷ [])
+        by None over = refl
+        by (Some b) over = ap (λ x. starts w (cond x [] (Transferring number back ∷ []) ++ Emitting e entries ∷ [])) over
+
+    -- an entry that is passed over, or comes first
+    passes_one : (entry : PlanEntry) (entries : List PlanEntry) → NoneUnheld d (emitting (entry ∷ entries)) → (b : Bool)
+        → (b ≡ true → act d w None (Emitting e (entry ∷ entries) ∷ rest) n ≡ Ok (emitting entries)) → Reaches d [] (emitting entries) (emitting (entries_due w entries))
+        → Reaches d [] (emitting (entry ∷ entries)) (emitting (cond b (entries_due w entries) (entry ∷ entries)))
+    passes_one entry entries none true over later =
+        reaches_on d (reaches_once d (record { asks = ap (asked_after (emitting (entry ∷ entries))) none; leads = ap (first_of d None (emitting (entry ∷ entries))) none ∙ over refl })) later
+    passes_one entry entries none false over later = reaches_here d (emitting (entry ∷ entries))
+
+    passes : (entries : List PlanEntry) → NoneUnheld d (emitting entries) → Reaches d [] (emitting entries) (emitting (entries_due w entries))
     passes [] none = reaches_here d (emitting [])
     passes (class_handler program cleanup ∷ entries) none = reaches_here d (emitting (class_handler program cleanup ∷ entries))
-    passes (transfer number back ∷ entries) none = reaches_here d (emitting (transfer number back ∷ entries))
-    passes (handler number ∷ entries) none = by (is_passed_over (handler_of number w.handlers)) refl (passes entries none)
-      where
-        by : (b : Bool) → is_passed_over (handler_of number w.handlers) ≡ b → Reaches d [] (emitting entries) (emitting (entries_left w.handlers entries))
-            → Reaches d [] (emitting (handler number ∷ entries)) (emitting (cond b (entries_left w.handlers entries) (handler number ∷ entries)))
-        by true over later =
-            reaches_on d (reaches_once d (record { asks = ap (asked_after (emitting (handler number ∷ entries))) none; leads = ap (first_of d None (emitting (handler number ∷ entries))) none ∙ passed number entries over })) later
-        by false free later = reaches_here d (emitting (handler number ∷ entries))
+    passes (transfer number back ∷ entries) none =
+        passes_one (transfer number back) entries none (makes_no_transfer (binding_of number w.bindings)) (passed_transfer number back entries) (passes entries none)
+    passes (handler number ∷ entries) none =
+        passes_one (handler number) entries none (is_passed_over (handler_of number w.handlers)) (passed number entries) (passes entries none)
 
   -- the first task comes first by uncounted steps
   comes_first : (w : World) (agenda : List Task) (n : ℕ) → NoneUnheld d (record { world = w; agenda = agenda; counted = n })
-      → Reaches d [] (record { world = w; agenda = agenda; counted = n }) (record { world = w; agenda = with_first w.handlers agenda; counted = n })
+      → Reaches d [] (record { world = w; agenda = agenda; counted = n }) (record { world = w; agenda = with_first w agenda; counted = n })
   comes_first w [] n none = reaches_here d _
   comes_first w (Emitting e entries ∷ rest) n none = passes w e rest n entries none
   comes_first w (task ∷ rest) n none = reaches_here d (record { world = w; agenda = task ∷ rest; counted = n })
 
   -- and nothing is unheld then that was not before
   first_holds : (w : World) (agenda : List Task) (n : ℕ) → NoneUnheld d (record { world = w; agenda = agenda; counted = n })
-      → NoneUnheld d (record { world = w; agenda = with_first w.handlers agenda; counted = n })
+      → NoneUnheld d (record { world = w; agenda = with_first w agenda; counted = n })
   first_holds w [] n none = none
   first_holds w (Emitting e entries ∷ rest) n none = none
   first_holds w (task ∷ rest) n none = none
 
-  first_asks : (w : World) (agenda : List Task) → asked_first w (with_first w.handlers agenda) ≡ asked_first w agenda
+  first_asks : (w : World) (agenda : List Task) → asked_first w (with_first w agenda) ≡ asked_first w agenda
   first_asks w [] = refl
   first_asks w (Emitting e entries ∷ rest) = refl
   first_asks w (task ∷ rest) = refl
@@ -78,7 +96,7 @@ module _ (d : Definition) where
     same_world : m.world ≡ c.world
     same_world = ap (λ (x : Config). x.world) stands
 
-    gone : ℕ → Bool
+    gone : Gone
     gone = gone_in m.world
 
     -- what the step leads to where the engine's configuration leads to another
@@ -101,11 +119,12 @@ module _ (d : Definition) where
     unheld_so = sym (unheld_as (gone_in m.world) d m) ∙ ap (λ (x : Config). next_unheld (mentions d x) x.world.objects) stands
 
     arrives_by : (x : Config) → (next_unheld (mentions d m) m.world.objects ≡ None → is_next (gone_in m.world) m.agenda ≡ false) → question d c ≡ None → step d None c ≡ Ok x
-        → GoneStay c.world x.world → Arrives d m (without_gone x)
-    arrives_by x apart asks leads_to stay =
+        → (next_unheld (mentions d c) c.world.objects ≡ None → makes_binding c.agenda ≡ false) → Arrives d m (without_gone x)
+    arrives_by x apart asks leads_to unbound =
         let to = leads (pruned_at (gone_in m.world)) (step d None m) x (sym (steps_so apart) ∙ leads_to) in
         let world : to.0.world ≡ x.world = ap (λ (y : Config). y.world) to.2 in
-        let more = subst (λ (w : World). (number : ℕ) → gone_in w number ≡ true → gone_in x.world number ≡ true) (sym same_world) stay.stay in
+        let stay = if_ok_at (λ (y : Config). AreStillGone (gone_in c.world) (gone_in y.world)) (step d None c) x (steps_keep_gone d None c unbound) leads_to in
+        let more = subst (λ (w : World). AreStillGone (gone_in w) (gone_in x.world)) (sym same_world) stay in
         record {
           at = to.0;
           reached = reaches_once d (record { asks = asks_so ∙ asks; leads = to.1 });
@@ -136,21 +155,21 @@ module _ (d : Definition) where
     first_none : NoneUnheld d (at_first c)
     first_none = first_holds c.world c.agenda c.counted none
 
-    acts_first : step d None (at_first c) ≡ act d c.world None (with_first c.world.handlers c.agenda) c.counted
+    acts_first : step d None (at_first c) ≡ act d c.world None (with_first c.world c.agenda) c.counted
     acts_first = ap (first_of d None (at_first c)) first_none
 
     asks_first : asked_first c.world c.agenda ≡ None → question d (at_first c) ≡ None
     asks_first asks = ap (asked_after (at_first c)) first_none ∙ first_asks c.world c.agenda ∙ asks
 
-    pub first_follows : (x new : Config) → asked_first c.world c.agenda ≡ None → act d c.world None (with_first c.world.handlers c.agenda) c.counted ≡ Ok x
-        → GoneStay c.world x.world → without_gone x ≡ new → Follows d c new
-    first_follows x new asks is stay shows = record {
+    pub first_follows : (x new : Config) → asked_first c.world c.agenda ≡ None → act d c.world None (with_first c.world c.agenda) c.counted ≡ Ok x
+        → makes_binding (with_first c.world c.agenda) ≡ false → without_gone x ≡ new → Follows d c new
+    first_follows x new asks is unbound shows = record {
       arrives = λ m stands.
-          let next = arrives_by (at_first c) (at_first m) (first_shows m stands) x (λ _. first_apart m) (asks_first asks) (acts_first ∙ is) stay in
+          let next = arrives_by (at_first c) (at_first m) (first_shows m stands) x (λ _. first_apart m) (asks_first asks) (acts_first ∙ is) (λ _. unbound) in
           record { at = next.at; reached = reaches_on d (first_on m stands) next.reached; stands = next.stands ∙ shows };
     }
 
-    pub first_breaks : (halt : Halt) (shown : List (List ℕ)) → asked_first c.world c.agenda ≡ None → Stops halt (act d c.world None (with_first c.world.handlers c.agenda) c.counted)
+    pub first_breaks : (halt : Halt) (shown : List (List ℕ)) → asked_first c.world c.agenda ≡ None → Stops halt (act d c.world None (with_first c.world c.agenda) c.counted)
         → shown ≡ c.world.transcript → Breaks d c halt shown
     first_breaks halts.OutOfMemory shown asks is same = record {
       halts = λ m stands. record { at = m; reached = reaches_here d m; stops = tt; lines = ap (λ (w : World). w.transcript) (same_world c m stands) ∙ sym same };
@@ -166,19 +185,19 @@ module _ (d : Definition) where
 
   -- where an object is finalised nothing else is done
   module _ (c : Config) (id : ℕ) (unheld : next_unheld (mentions d c) c.world.objects ≡ Some id) where
+    some_none : ◌≡◌ {A = Option ℕ} (Some id) None → ⊥
+    some_none e = cc e
+
     not_none : (m : Config) → without_gone m ≡ c → next_unheld (mentions d m) m.world.objects ≡ None → is_next (gone_in m.world) m.agenda ≡ false
     not_none m stands none = absurd (some_none (sym unheld ∙ sym (unheld_so c m stands) ∙ none))
-      where
-        some_none : ◌≡◌ {A = Option ℕ} (Some id) None → ⊥
-        some_none e = cc e
 
     asks_nothing : question d c ≡ None
     asks_nothing = ap (asked_after c) unheld
 
-    pub last_follows : (x new : Config) → step d None c ≡ Ok x → GoneStay c.world x.world → without_gone x ≡ new → Follows d c new
-    last_follows x new is stay shows = record {
+    pub last_follows : (x new : Config) → step d None c ≡ Ok x → without_gone x ≡ new → Follows d c new
+    last_follows x new is shows = record {
       arrives = λ m stands.
-          let next = arrives_by c m stands x (not_none m stands) asks_nothing is stay in
+          let next = arrives_by c m stands x (not_none m stands) asks_nothing is (λ none. absurd (some_none (sym unheld ∙ none))) in
           record { at = next.at; reached = next.reached; stands = next.stands ∙ shows };
     }
 
@@ -194,6 +213,14 @@ module _ (d : Definition) where
         lines = ap (λ (w : World). w.transcript) (same_world c m stands) ∙ sym same;
       };
     }
+
+  -- where no emission goes on nothing was left out, so that a step may as well make a binding
+  pub whole_follows : (c x new : Config) → list_any is_emitting c.agenda ≡ false → question d c ≡ None → step d None c ≡ Ok x → without_gone x ≡ new → Follows d c new
+  whole_follows c x new none asks is shows = record {
+    arrives = λ m stands.
+        let same : m ≡ c = sym (whole_without_emissions (gone_in m.world) m (ap (λ (y : Config). list_any is_emitting y.agenda) stands ∙ none)) ∙ stands in
+        record { at = x; reached = reaches_once d (record { asks = ap (question d) same ∙ asks; leads = ap (step d None) same ∙ is }); stands = shows };
+  }
 
   -- ** runs
 

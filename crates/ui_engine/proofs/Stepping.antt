@@ -1,19 +1,18 @@
 -- Where nothing is to be finalised, the machine's step is the first task's; else it is the finalisation.
-use Rattle.std.proofs.Common.{◌≡◌, ℕ, ◌≤◌, Bool, true, false, cond, map, [], length, suc, ◌<◌, List, ◌∷◌, reverse, Some, None, arith, Result, Ok, Err, refl, sym, ap, subst, ◌∙◌}
+use Rattle.std.proofs.Common.{◌≡◌, ℕ, ◌≤◌, Bool, true, false, cond, map, [], length, suc, ◌<◌, List, ◌∷◌, Some, None, arith, Result, Ok, Err, refl, sym, ap, subst, ◌∙◌}
 use Rattle.std.specs.Prelude.{IfOk, OnErr}
 use Rattle.std.specs.List.{filter}
 use Rattle.ui_machine.specs.declared.arm.Halt.{Halt}
 use Rattle.ui_machine.specs.Definition.{Definition}
 use Rattle.ui_machine.specs.State.Handlers.{Handler}
 use Rattle.ui_machine.specs.State.Tasks.{Answering, Beginning, Building, Calling, Handling, Constructing, Due, Emitting, Notifying, PlanEntry, Running, Setting, Task, Thawing, Transferring, Unsetting}
-use Rattle.machine_laws.specs.GoneLaws.{gone_in, pruned, stays}
+use Rattle.machine_laws.specs.GoneLaws.{Gone, gone_in, makes_binding, pruned, stays}
 use Rattle.ui_machine.specs.State.Config.{World, Config, sunk}
 use Rattle.ui_machine.specs.Outcome.{Stops}
 use Rattle.ui_machine.specs.State.References.{mentions, next_unheld}
 use Rattle.ui_machine.specs.Seq.{total}
 use Rattle.engine_world.specs.Measure.{weight, waiting, work}
 use Rattle.ui_machine.specs.Steps.{act, sink_first_floating, counted, finalising, most_steps, first_of, step, asked_first}
-use Rattle.definition_format.specs.Meaning.{IsBasic}
 use Rattle.engine_world.specs.declared.task.Task as code
 use Rattle.engine_world.specs.declared.task.Task.TheVariants as tasks
 use Rattle.engine_world.specs.declared.task.Stack.{Stack}
@@ -23,13 +22,13 @@ use Rattle.engine_world.specs.TaskView.{task_of, tasks_of}
 use Rattle.engine_world.specs.EngineView.{IsOfKind}
 use Rattle.ui_machine.specs.Prefix.{IsPrefix}
 use Rattle.ui_machine.proofs.Prefixes.{prefix_by}
-use Rattle.engine_world.specs.Standing.{Breaks, Follows, GoesWithoutGone, GoneStay, past_skipped_turns, with_first, without_gone}
+use Rattle.engine_world.specs.Standing.{Breaks, Follows, GoesWithoutGone, past_skipped_turns, past_turns, with_first, without_gone}
 use Rattle.ui_engine.specs.Stepping.{NoneUnheld, Stepped}
-use Rattle.engine_world.proofs.Gone.{same_stay}
 use Rattle.ui_engine.proofs.Standing.{first_breaks, first_follows, last_breaks, last_follows}
 use Rattle.engine_world.proofs.Floats.{if_ok_at, first_gone}
-use Rattle.engine_world.proofs.Notified.{reverse-map}
 use Rattle.ui_engine.proofs.Acts.{Passes, acted}
+use Rattle.engine_world.proofs.Gone.{past_as_skipped}
+use Rattle.ui_engine.proofs.Unbound.{makes_none}
 
 -- no task of the engine asks a peer
 asks_none : (d : Definition) (hs : List Handler) (w : World) (task : code.Task) (rest : List Task) → asked_first w (task_of d hs task ∷ rest) ≡ None
@@ -43,10 +42,12 @@ asks_none d hs w (tasks.Constructing id steps held) rest = refl
 asks_none d hs w (tasks.Building place forwards) rest = refl
 asks_none d hs w (tasks.Adopting place forwards) rest = refl
 asks_none d hs w (tasks.Connecting place number) rest = refl
+asks_none d hs w (tasks.Answering source) rest = refl
+asks_none d hs w (tasks.Due source) rest = refl
 asks_none d hs w (tasks.Handling event) rest = refl
 
 -- turns that are left out weigh nothing
-pruned_weighs : (d : Definition) (gone : ℕ → Bool) (ts : List Task) → total (weight d) (map (pruned gone) ts) ≤ total (weight d) ts
+pruned_weighs : (d : Definition) (gone : Gone) (ts : List Task) → total (weight d) (map (pruned gone) ts) ≤ total (weight d) ts
 pruned_weighs d gone [] = omega arith
 pruned_weighs d gone (task ∷ ts) = let rest = pruned_weighs d gone ts in omega (arith, rest, one task)
   where
@@ -74,23 +75,28 @@ pruned_weighs d gone (task ∷ ts) = let rest = pruned_weighs d gone ts in omega
     one (Handling request) = omega arith
     one (Due source) = omega arith
 
-module _ (d : Definition) (basic : IsBasic d) (hs : List Handler) (c e : Config) (own : hs ≡ c.world.handlers) (none : NoneUnheld d c) (task : code.Task) (s : Stack)
+module _ (d : Definition) (hs : List Handler) (c e : Config) (own : hs ≡ c.world.handlers) (none : NoneUnheld d c) (task : code.Task) (s : Stack)
     (first : c.agenda ≡ task_of d hs task ∷ tasks_of d hs s) where
-  acts : act d c.world None (with_first c.world.handlers c.agenda) c.counted ≡ act d c.world None (past_skipped_turns hs (task_of d hs task) ∷ tasks_of d hs s) c.counted
+  acts : act d c.world None (with_first c.world c.agenda) c.counted ≡ act d c.world None (past_skipped_turns hs (task_of d hs task) ∷ tasks_of d hs s) c.counted
   acts =
-      ap (λ (ts : List Task). act d c.world None (with_first c.world.handlers ts) c.counted) first
-      ∙ ap (λ (all : List Handler). act d c.world None (past_skipped_turns all (task_of d hs task) ∷ tasks_of d hs s) c.counted) (sym own)
+      ap (λ (ts : List Task). act d c.world None (with_first c.world ts) c.counted) first
+      ∙ ap (λ (t : Task). act d c.world None (t ∷ tasks_of d hs s) c.counted) (past_as_skipped d hs c.world own task)
 
   asks : asked_first c.world c.agenda ≡ None
   asks = ap (λ (ts : List Task). asked_first c.world ts) first ∙ asks_none d hs c.world task (tasks_of d hs s)
 
+  -- none of the engine's tasks makes a binding
+  unbound : makes_binding (with_first c.world c.agenda) ≡ false
+  unbound = ap (λ (ts : List Task). makes_binding (with_first c.world ts)) first ∙ makes_none d hs c.world task (tasks_of d hs s)
+
   passes : (x : Config) → act d c.world None (past_skipped_turns hs (task_of d hs task) ∷ tasks_of d hs s) c.counted ≡ Ok x → Passes d c.world (task_of d hs task) (tasks_of d hs s) c.counted x
   passes x is =
-      if_ok_at (Passes d c.world (task_of d hs task) (tasks_of d hs s) c.counted) (act d c.world None (past_skipped_turns hs (task_of d hs task) ∷ tasks_of d hs s) c.counted) x
-      (acted d c.world (tasks_of d hs s) c.counted basic hs own task (reverse s.tasks.items) (sym (reverse-map (task_of d hs) s.tasks.items))) is
+      if_ok_at (Passes d c.world (task_of d hs task) (tasks_of d hs s) c.counted) (act d c.world None (past_turns c.world (task_of d hs task) ∷ tasks_of d hs s) c.counted) x
+      (acted d c.world (tasks_of d hs s) c.counted None (task_of d hs task))
+      (ap (λ (t : Task). act d c.world None (t ∷ tasks_of d hs s) c.counted) (past_as_skipped d hs c.world own task) ∙ is)
 
   follows : (x : Config) → act d c.world None (past_skipped_turns hs (task_of d hs task) ∷ tasks_of d hs s) c.counted ≡ Ok x → without_gone x ≡ e → Follows d c e
-  follows x is shows = first_follows d c none x e asks (acts ∙ is) (passes x is).gone shows
+  follows x is shows = first_follows d c none x e asks (acts ∙ is) unbound shows
 
   -- without the turns of handlers that are gone there is no more to do
   less : (x : Config) → without_gone x ≡ e → work d e ≤ work d x
@@ -118,18 +124,18 @@ module _ (d : Definition) (c : Config) (id : ℕ) (unheld : next_unheld (mention
   finalises : step d None c ≡ counted c.agenda c.counted (finalising d c.world id)
   finalises = ap (first_of d None c) unheld
 
-  pub finalise_stepped : (e x : Config) → counted c.agenda c.counted (finalising d c.world id) ≡ Ok x → GoneStay c.world x.world → without_gone x ≡ e
+  pub finalise_stepped : (e x : Config) → counted c.agenda c.counted (finalising d c.world id) ≡ Ok x → without_gone x ≡ e
       → (c.counted < most_steps) × (e.counted ≡ suc c.counted) → Stepped (Ok mades.Counted) d c e
-  finalise_stepped e x leads stay shows counts = (last_follows d c id unheld x e (finalises ∙ leads) stay shows, counts.0, counts.1)
+  finalise_stepped e x leads shows counts = (last_follows d c id unheld x e (finalises ∙ leads) shows, counts.0, counts.1)
 
   pub finalise_breaks : (halt : Halt) (shown : List (List ℕ)) → Stops halt (counted c.agenda c.counted (finalising d c.world id)) → shown ≡ c.world.transcript → Breaks d c halt shown
   finalise_breaks halt shown stops same = last_breaks d c id unheld halt shown (subst (Stops halt) (sym finalises) stops) same
 
 -- where nothing is left to do, what has floated longest floats no longer
 module _ (d : Definition) (c e : Config) (none : NoneUnheld d c) (idle : c.agenda ≡ []) (id : ℕ) (ids : List ℕ) (floats : c.world.floating ≡ id ∷ ids) where
-  settles : act d c.world None (with_first c.world.handlers c.agenda) c.counted ≡ Ok (record { world = sunk c.world id; agenda = []; counted = c.counted })
+  settles : act d c.world None (with_first c.world c.agenda) c.counted ≡ Ok (record { world = sunk c.world id; agenda = []; counted = c.counted })
   settles =
-      ap (λ (ts : List Task). act d c.world None (with_first c.world.handlers ts) c.counted) idle
+      ap (λ (ts : List Task). act d c.world None (with_first c.world ts) c.counted) idle
       ∙ ap (λ floating. Ok (record { world = sink_first_floating c.world floating; agenda = []; counted = c.counted })) floats
 
   pub settle_stepped : e ≡ record c { world = sunk c.world id } → Stepped (Ok mades.Uncounted) d c e
@@ -140,7 +146,7 @@ module _ (d : Definition) (c e : Config) (none : NoneUnheld d c) (idle : c.agend
       let weighs : total (weight d) e.agenda ≡ total (weight d) c.agenda = ap (λ (x : Config). total (weight d) x.agenda) is in
       let there : record { world = sunk c.world id; agenda = []; counted = c.counted } ≡ e = ap (λ (ts : List Task). record { world = sunk c.world id; agenda = ts; counted = c.counted }) (sym idle) ∙ sym is in (
         first_follows d c none (record { world = sunk c.world id; agenda = []; counted = c.counted }) e (ap (λ (ts : List Task). asked_first c.world ts) idle) settles
-            (same_stay c.world (sunk c.world id) refl refl) there,
+            (ap (λ (ts : List Task). makes_binding (with_first c.world ts)) idle) there,
         omega (arith, fewer, many, waits, weighs),
         ap (λ (x : Config). x.counted) is,
       )

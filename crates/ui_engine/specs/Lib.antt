@@ -1,5 +1,6 @@
 pub mod Stepping
 pub mod SessionView
+pub mod TurnView
 pub use Rattle.engine_world.specs.Counting
 pub use Rattle.engine_world.specs.EngineView
 pub use Rattle.engine_world.specs.KnownHandlers

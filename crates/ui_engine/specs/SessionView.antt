@@ -67,13 +67,14 @@ Comes (Ok reply) ways d new = Ends reply ways d new
 Comes (Err faults.OutOfMemory) ways d new = Breaks halts.OutOfMemory ways d new
 Comes (Err (faults.Stuck arm)) ways d new = Breaks (halts.Stuck arm) ways d new
 Comes (Err faults.Stopped) ways d new = ⊥
+Comes (Err faults.ClockBack) ways d new = ⊥
 Comes (Err faults.Released) ways d new = ⊥
 
--- What comes of an event by why it is refused, if it is. One that names what was released is refused and changes nothing. No event of a
--- session is a turn so far, so that none is refused by its moment.
+-- What comes of an event by why it is refused, if it is: one that names what was released, and a turn of a moment before the latest one. It
+-- changes nothing.
 abbrev pub AnswersBy : Option Refusal → Result Reply SessionFault → SessionState → Event → SessionState → Type 0
 AnswersBy (Some gone) result old event new = (result ≡ Err faults.Released) × (new ≡ old)
-AnswersBy (Some clock_back) result old event new = ⊥
+AnswersBy (Some clock_back) result old event new = (result ≡ Err faults.ClockBack) × (new ≡ old)
 AnswersBy None result old event new = Comes result (serving old.definition old.world event) old.definition new
 
 -- an event: a session that has stopped answers that, and changes nothing

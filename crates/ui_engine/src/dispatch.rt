@@ -1,8 +1,9 @@
 //! Dispatches: one task, and all that it leads to.
 
-ghost use Rattle.std.specs.Prelude.{◌≡◌, [], ◌∷◌, ◌++◌, codes, option_map, OnOk, OnErr, IfOk};
+ghost use Rattle.std.specs.Prelude.{◌≡◌, ◌≤◌, [], ◌∷◌, ◌++◌, codes, option_map, OnOk, OnErr, IfOk};
 ghost use Rattle.g_values.specs.View.{value_view};
 ghost use Rattle.ui_machine.specs.Runs.{beginning};
+ghost use Rattle.ui_machine.specs.Steps.{most_steps};
 ghost use Rattle.engine_world.specs.KnownHandlers.{TakesKnownHandlers};
 ghost use Rattle.engine_world.specs.View.{world_of};
 ghost use Rattle.engine_world.specs.TaskView.{task_in, agenda_of};
@@ -74,6 +75,7 @@ pub(crate) fn dispatch(
     requires begun { TakesKnownHandlers engine.now.world.handlers.last task }
     ensures rests { OnOk result (IsAtRest definition.now engine.new) }
     ensures carried { Carried result definition.now (beginning (world_of engine.old.world) (task_in definition.now engine.old task)) (world_of engine.new.world) }
+    ensures few { IfOk result (λ reply. reply.steps ≤ most_steps) }
     ensures grows { IsPrefix (world_of engine.old.world).transcript (world_of engine.new.world).transcript }
 {
     begin_dispatch(engine, definition, task)?;

@@ -8,6 +8,7 @@ mod dispatch;
 mod program_steps;
 mod session;
 mod tasks;
+mod turns;
 
 pub use dispatch::Reply;
 pub use session::{Finished, Refused, Session, SessionFault, StartFault, Started};

@@ -1,21 +1,26 @@
 //! A session: a definition, and what stands while its events come.
 
-ghost use Rattle.std.specs.Prelude.{◌≡◌, [], map, string_bytes, IfOk, IfErr, false};
+ghost use Rattle.std.specs.Prelude.{◌≡◌, ◌≤◌, [], None, length, map, string_bytes, IfOk, IfErr, false};
 ghost use Rattle.ui_machine.specs.Runs.{beginning};
-ghost use Rattle.definition_format.specs.Meaning.{event_of};
+ghost use Rattle.definition_format.specs.Meaning.{event_of, request_of};
 ghost use Rattle.ui_machine.specs.Prefix.{IsPrefix};
+ghost use Rattle.ui_machine.specs.Rules.Events.{refusal};
+ghost use Rattle.ui_machine.specs.State.Tasks as config;
+ghost use Rattle.ui_engine.specs.TurnView.{running_sources};
 ghost use Rattle.engine_world.specs.KnownHandlers.{TakesKnownHandlers};
 ghost use Rattle.engine_world.specs.TaskView.{task_of};
-ghost use Rattle.ui_engine.specs.SessionView.{AnswersEvent, Comes, building, carrying_out, without_lines};
+ghost use Rattle.ui_engine.specs.SessionView.{AnswersBy, AnswersEvent, Comes, building, carrying_out, without_lines};
 
 use crate::dispatch::{Reply, announce, dispatch};
-use definition_format::Event;
+use crate::turns::{begin_turn, run_sources};
+use definition_format::{Event, Request};
 use definitions::Definition;
 use engine_tasks::forward_references::forward_references;
 use engine_world::engine::Engine;
 use engine_world::places::FIRST_PLACE;
 use engine_world::task::Task;
 use engine_world::weak_slots::weak_slots;
+use main_context::{Batch, TurnError};
 use std::alloc::Global;
 use std::marker::Model;
 use ui_machine::{Arm, Halt};
@@ -27,6 +32,8 @@ pub enum SessionFault {
     OutOfMemory,
     /// The session stopped before, in its build or in an event.
     Stopped,
+    /// A turn of a moment before the latest one. Nothing has changed.
+    ClockBack,
     /// The event names an object that was released. Nothing has changed.
     Released,
     /// The machine is stuck there. The session has stopped.
@@ -135,7 +142,12 @@ impl Session {
         Ok(Started { session, build })
     }
 
-    /// Carries out an event with all that it leads to. It refuses one that names an object that was released, and stays as it was.
+    /// Carries out an event with all that it leads to.
+    ///
+    /// # Errors
+    ///
+    /// `Stopped` if the session has stopped. Then `Released` if the event names an object that was released, and `ClockBack` if it is a turn of
+    /// a moment before the latest one: the session stays as it was. Else `OutOfMemory` or `Stuck`, which stop the session.
     pub fn dispatch(&mut self, event: Event) -> Result<Reply, SessionFault>
         ensures answers { AnswersEvent self.old.stopped result self.old (event_of event) self.new }
         // It only adds lines.
@@ -144,10 +156,56 @@ impl Session {
         if self.stopped {
             return Err(SessionFault::Stopped);
         }
-        if self.engine.world.names_released(&event) {
+        match event {
+            Event::Request(request) => self.serve(request),
+            Event::Turn(moment) => self.turn(moment),
+        }
+    }
+
+    // Carries out a request, unless it names an object that was released.
+    fn serve(&mut self, request: Request) -> Result<Reply, SessionFault>
+        requires goes_on { self.now.stopped ≡ false }
+        ensures answers { AnswersBy (refusal self.old.world (config.request (request_of request))) result self.old (config.request (request_of request)) self.new }
+        ensures grows { IsPrefix self.old.world.transcript self.new.world.transcript }
+    {
+        if self.engine.world.names_released(&request) {
             return Err(SessionFault::Released);
         }
-        self.run_task(Task::Handling(event))
+        self.run_task(Task::Handling(request))
+    }
+
+    // A turn of the main loop: the sources that are ready and have the least priority number run, each in a dispatch of its own. Where one
+    // halts the session stops.
+    fn turn(&mut self, moment: u64) -> Result<Reply, SessionFault>
+        requires goes_on { self.now.stopped ≡ false }
+        ensures answers { AnswersBy (refusal self.old.world (config.turn moment)) result self.old (config.turn moment) self.new }
+        ensures grows { IsPrefix self.old.world.transcript self.new.world.transcript }
+    {
+        match begin_turn(&mut self.engine, &self.definition, moment) {
+            Ok(batch) => self.run_batch(batch),
+            Err(TurnError::ClockBack) => Err(SessionFault::ClockBack),
+            Err(TurnError::OutOfMemory) => {
+                self.stopped = true;
+                Err(SessionFault::OutOfMemory)
+            }
+        }
+    }
+
+    // Runs the sources of a turn that has begun.
+    fn run_batch(&mut self, batch: Batch) -> Result<Reply, SessionFault>
+        requires goes_on { self.now.stopped ≡ false }
+        requires fresh { self.now.world.result ≡ None }
+        requires few { length batch ≤ 256 }
+        ensures comes { Comes result (running_sources self.old.definition batch self.old.world) self.old.definition self.new }
+        ensures grows { IsPrefix self.old.world.transcript self.new.world.transcript }
+    {
+        match run_sources(&mut self.engine, &self.definition, batch) {
+            Ok(reply) => return Ok(reply),
+            Err(halt) => {
+                self.stopped = true;
+                return Err(SessionFault::from(halt));
+            }
+        }
     }
 
     // Carries out a task with all that it leads to. Where that halts the session stops.

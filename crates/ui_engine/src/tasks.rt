@@ -19,9 +19,10 @@ use engine_tasks::events::handle_event;
 use engine_tasks::notifications::{notify, notify_thawed};
 use engine_tasks::sets::validate_and_set;
 use engine_tasks::signals::connect_from_build;
+use engine_tasks::sources::run_source;
 use engine_world::engine::{Engine, StepKind};
 use engine_world::task::Task;
-use ui_machine::Halt;
+use ui_machine::{Arm, Halt};
 
 /// Does what a task says, and answers whether that was counted. An emission passes over what is blocked.
 pub(crate) fn act(
@@ -90,6 +91,11 @@ pub(crate) fn act(
         }
         Task::Connecting { place, number } => {
             connect_from_build(engine, definition, place, number)?;
+            return Ok(StepKind::Uncounted);
+        }
+        Task::Answering { .. } => return Err(Halt::Stuck(Arm::Code)),
+        Task::Due { source } => {
+            run_source(engine, definition, source)?;
             return Ok(StepKind::Uncounted);
         }
         Task::Handling(event) => {

@@ -1,6 +1,7 @@
 //! Runs: steps until nothing is left to do.
 
-ghost use Rattle.std.specs.Prelude.{◌≡◌, [], Ok, OnOk};
+ghost use Rattle.std.specs.Prelude.{◌≡◌, ◌≤◌, [], Ok, OnOk};
+ghost use Rattle.ui_machine.specs.Steps.{most_steps};
 ghost use Rattle.engine_world.specs.Counting.{Counts, nothing};
 ghost use Rattle.engine_world.specs.View.{world_of};
 ghost use Rattle.engine_world.specs.TaskView.{agenda_of};
@@ -72,6 +73,7 @@ fn advance(engine: &mut Engine, definition: &Definition) -> Result<bool, Halt>
     requires counted { Counts definition.now nothing engine.now }
     ensures counted { OnOk result (Counts definition.now nothing engine.new) }
     ensures advanced { Advanced result definition.now (config_of definition.now engine.old) (config_of definition.now engine.new) }
+    ensures few { OnOk result (engine.old.counted ≤ most_steps → engine.new.counted ≤ most_steps) }
     ensures grows { IsPrefix (world_of engine.old.world).transcript (world_of engine.new.world).transcript }
 {
     loop {
@@ -88,6 +90,7 @@ pub(crate) fn run(engine: &mut Engine, definition: &Definition) -> Result<(), Ha
     requires counted { Counts definition.now nothing engine.now }
     ensures counted { OnOk result (Counts definition.now nothing engine.new) }
     ensures ran { Ran result definition.now (config_of definition.now engine.old) (config_of definition.now engine.new) }
+    ensures few { OnOk result (engine.old.counted ≤ most_steps → engine.new.counted ≤ most_steps) }
     ensures grows { IsPrefix (world_of engine.old.world).transcript (world_of engine.new.world).transcript }
 {
     loop {

@@ -10,9 +10,9 @@ use Rattle.engine_world.specs.TaskView.{agenda_of, emission_of, entries_to_come,
 use Rattle.engine_world.specs.View.{world_of}
 use Rattle.engine_world.specs.declared.task.Task as code
 use Rattle.engine_world.specs.declared.task.Task.TheVariants as tasks
-use Rattle.engine_instructions.proofs.Collecting.{goes_none, gives_last, gives_other, on_any, popped_emission}
+use Rattle.engine_instructions.proofs.Collecting.{TakesNone, goes_none, gives_last, gives_other, gives_source, on_any, popped_emission, popped_source}
+use Rattle.engine_world.proofs.Left.{same_agenda}
 use Rattle.engine_world.proofs.Registers.{on_ok, stack_same}
-use Rattle.engine_instructions.proofs.StoppedEmissions.{IsOther}
 use Rattle.engine_instructions.proofs.accumulation.give_down.Goals as goal
 
 pub returns-in_default-clause-step : goal.returns-in_default-clause-step
@@ -29,8 +29,8 @@ returns-in_default-clause-counted c =
     let none = c.in_default.ensures.tasks d c.args.engine.now.world.handlers.handlers in
     on_any c.check_none.result (stack_same d c.args.engine.now c.pop.new.self (none.1 ∙ sym none.0) c.in_default.ensures.begun)
 
-pub returns-in_default-task-clause-step : goal.returns-in_default-task-clause-step
-returns-in_default-task-clause-step c =
+pub returns-in_ok-push-in_default-task-clause-step : goal.returns-in_ok-push-in_default-task-clause-step
+returns-in_ok-push-in_default-task-clause-step c =
     let d = c.args.definition.now in
     let e = c.args.engine.now in
     let hs = e.world.handlers.handlers in
@@ -38,9 +38,9 @@ returns-in_default-task-clause-step c =
     let rest = tasks_of d hs c.pop.new.self in
     let given = option_map value_view c.args.given in
     goes_none d (world_of e.world) c.check_none-in_default-task.result given (agenda_of d e) _ (task_of d hs t ∷ rest) c.check_none-in_default-task.ensures
-    (c.in-Some.ensures.tasks d hs) (c.in_ok-push.ensures.tasks d hs) (gives_other d hs (world_of e.world) rest t given (other t refl))
+    (c.in-Some.ensures.tasks d hs) (c.in_ok-push-in_default-task.ensures.tasks d hs) (gives_other d hs (world_of e.world) rest t given (other t refl))
   where
-    other : (t : code.Task) → c.in-Some.task ≡ t → IsOther t
+    other : (t : code.Task) → c.in-Some.task ≡ t → TakesNone t
     other (tasks.Emitting cursor args by_event) is = absurd (c.in_default-task.not-Emitting cursor args by_event is)
     other (tasks.Setting id slot v) is = tt
     other (tasks.Notifying id slot) is = tt
@@ -51,15 +51,17 @@ returns-in_default-task-clause-step c =
     other (tasks.Building place forwards) is = tt
     other (tasks.Adopting place forwards) is = tt
     other (tasks.Connecting place number) is = tt
+    other (tasks.Answering source) is = absurd (c.in_default-task.not-Answering source is)
+    other (tasks.Due source) is = tt
     other (tasks.Handling event) is = tt
 
-pub returns-in_default-task-clause-counted : goal.returns-in_default-task-clause-counted
-returns-in_default-task-clause-counted c =
+pub returns-in_ok-push-in_default-task-clause-counted : goal.returns-in_ok-push-in_default-task-clause-counted
+returns-in_ok-push-in_default-task-clause-counted c =
     let d = c.args.definition.now in
     let e = c.args.engine.now in
     let hs = e.world.handlers.handlers in
-    on_any c.check_none-in_default-task.result (stack_same d e c.push.new.self (c.in_ok-push.ensures.tasks d hs ∙ sym (c.in-Some.ensures.tasks d hs))
-    (λ last h. c.in_ok-push.ensures.begun last (c.in-Some.ensures.first last h) (c.in-Some.ensures.begun last h)))
+    on_any c.check_none-in_default-task.result (stack_same d e c.push.new.self (c.in_ok-push-in_default-task.ensures.tasks d hs ∙ sym (c.in-Some.ensures.tasks d hs))
+    (λ last h. c.in_ok-push-in_default-task.ensures.begun last (c.in-Some.ensures.first last h) (c.in-Some.ensures.begun last h)))
 
 pub accumulate-requires : goal.accumulate-requires
 accumulate-requires c = record {
@@ -74,8 +76,8 @@ accumulate-requires c = record {
       subst (λ (t : code.Task). TakesKnownHandlers last t) c.in-Emitting.is (c.in-Some.ensures.first last c.requires.begun);
 }
 
-pub returns-clause-step : goal.returns-clause-step
-returns-clause-step c =
+pub returns-in-Emitting-clause-step : goal.returns-in-Emitting-clause-step
+returns-in-Emitting-clause-step c =
     let d = c.args.definition.now in
     let e = c.args.engine.now in
     let hs = e.world.handlers.handlers in
@@ -85,8 +87,8 @@ returns-clause-step c =
     subst (λ (ts : List Task). Goes c.accumulate.result (given_down d (world_of e.world) ts given) (record { world = world_of c.accumulate.new.engine.world; agenda = agenda_of d c.accumulate.new.engine }))
     (sym first) c.accumulate.ensures.step
 
-pub returns-clause-counted : goal.returns-clause-counted
-returns-clause-counted c =
+pub returns-in-Emitting-clause-counted : goal.returns-in-Emitting-clause-counted
+returns-in-Emitting-clause-counted c =
     let d = c.args.definition.now in
     let e = c.args.engine.now in
     let hs = e.world.handlers.handlers in
@@ -94,3 +96,25 @@ returns-clause-counted c =
     let first = c.in-Some.ensures.tasks d hs ∙ ap (λ (t : code.Task). task_of d hs t ∷ rest) c.in-Emitting.is in
     let m = emission_of c.in-Emitting.cursor c.in-Emitting.args.items c.in-Emitting.by_event in
     on_ok c.accumulate.result (λ f. record { at = λ taken h. f taken (popped_emission d e c.pop.new.self taken m (entries_to_come c.in-Emitting.cursor hs) first c.in-Some.ensures.begun h) }) c.accumulate.ensures.counted
+
+pub returns-in-Answering-clause-step : goal.returns-in-Answering-clause-step
+returns-in-Answering-clause-step c =
+    let d = c.args.definition.now in
+    let e = c.args.engine.now in
+    let hs = e.world.handlers.handlers in
+    let rest = tasks_of d hs c.pop.new.self in
+    let given = option_map value_view c.args.given in
+    let first = c.in-Some.ensures.tasks d hs ∙ ap (λ (t : code.Task). task_of d hs t ∷ rest) c.in-Answering.is in
+    let back = same_agenda d (record e { stack = c.pop.new.self }) c.answer.new.engine c.answer.ensures.same.0 c.answer.ensures.handlers in
+    subst (λ (ts : List Task). Goes c.answer.result (given_down d (world_of e.world) ts given) (record { world = world_of c.answer.new.engine.world; agenda = agenda_of d c.answer.new.engine }))
+    (sym first)
+    (gives_source d (world_of e.world) c.answer.result c.in-Answering.source rest given (world_of c.answer.new.engine.world) (agenda_of d c.answer.new.engine) back c.answer.ensures.kept)
+
+pub returns-in-Answering-clause-counted : goal.returns-in-Answering-clause-counted
+returns-in-Answering-clause-counted c =
+    let d = c.args.definition.now in
+    let e = c.args.engine.now in
+    let hs = e.world.handlers.handlers in
+    let rest = tasks_of d hs c.pop.new.self in
+    let first = c.in-Some.ensures.tasks d hs ∙ ap (λ (t : code.Task). task_of d hs t ∷ rest) c.in-Answering.is in
+    on_ok c.answer.result (λ f. record { at = λ taken h. (f d).at taken (popped_source d e c.pop.new.self taken c.in-Answering.source first c.in-Some.ensures.begun h) }) c.answer.ensures.counted

@@ -1,7 +1,6 @@
 use Rattle.std.proofs.Common.{Ok, option_map, refl, sym, ap, ◌∙◌, arith}
 use Rattle.std.proofs.lemmas.Result.{err_from_is_err_and}
 use Rattle.ui_machine.specs.Instructions.Jumps.{returning}
-use Rattle.ui_machine.specs.State.Config.{World}
 use Rattle.ui_machine.specs.Seq.{total}
 use Rattle.ui_machine.specs.State.References.{in_register}
 use Rattle.bytecode.specs.Computing.{registers_of}
@@ -10,11 +9,9 @@ use Rattle.bytecode.specs.View.{number_of}
 use Rattle.engine_world.specs.Counting.{in_frame}
 use Rattle.engine_world.specs.TaskView.{agenda_of}
 use Rattle.engine_world.specs.View.{world_of}
-use Rattle.engine_world.specs.declared.engine.Engine.{Engine}
 use Rattle.engine_world.proofs.Counts.{config_same, given_back}
 use Rattle.engine_world.proofs.Left.{left_kept}
 use Rattle.engine_instructions.proofs.Programs.{left_stops}
-use Rattle.engine_world.proofs.Registers.{tasks_world}
 use Rattle.engine_instructions.proofs.Returning.{returning_gives, returning_stops}
 use Rattle.engine_instructions.proofs.Starting.{stops_as}
 use Rattle.engine_instructions.proofs.returns.return_from_program.Goals as goal
@@ -30,7 +27,11 @@ returns-in_err-given-clause-step c =
     (left_stops e.counted (returning d (world_of e.world) f (agenda_of d e) from) _ (returning_stops d (world_of e.world) f (agenda_of d e) from _ c.in_err-given.ensures))
 
 pub give_down-requires : goal.give_down-requires
-give_down-requires c = record { held = record { at = λ o. omega (arith, c.requires.counted.exact o) }; begun = c.requires.counted.connects.begun }
+give_down-requires c = record {
+  held = record { at = λ o. omega (arith, c.requires.counted.exact o) };
+  sources = record { at = λ o. omega (arith, c.requires.counted.exact o) };
+  begun = c.requires.counted.connects.begun;
+}
 
 pub returns-in_err-give_down-clause-step : goal.returns-in_err-give_down-clause-step
 returns-in_err-give_down-clause-step c =
@@ -46,7 +47,7 @@ returns-in_err-give_down-clause-step c =
 pub returns-in_err-give_down-clause-quiet : goal.returns-in_err-give_down-clause-quiet
 returns-in_err-give_down-clause-quiet c =
     let p = err_from_is_err_and c.from_residual-in_err-give_down.result c.from_residual-in_err-give_down.ensures.1 in
-    rw p.1 (ap (λ (w : World). w.transcript) (tasks_world c.args.engine.now c.give_down.new.engine c.in_err-give_down.ensures.only))
+    rw p.1 c.in_err-give_down.ensures.quiet
 
 pub let_go_registers-requires : goal.let_go_registers-requires
 let_go_registers-requires c = record {
@@ -63,9 +64,8 @@ returns-clause-step c =
     let b = c.give_down.new.engine in
     let f = frame_view c.args.frame in
     let from = option_map number_of c.args.from in
-    let only = c.in_ok-give_down.ensures.only in
     left_kept e.counted _ (world_of b.world) (agenda_of d b) (world_of b.world) (agenda_of d b) b.counted
-    (returning_gives d (world_of e.world) f (agenda_of d e) from _ c.in_ok-given.ensures ∙ c.in_ok-give_down.ensures.step) refl refl (ap (λ (x : Engine). x.counted) only.beside)
+    (returning_gives d (world_of e.world) f (agenda_of d e) from _ c.in_ok-given.ensures ∙ c.in_ok-give_down.ensures.step) refl refl c.in_ok-give_down.ensures.same
     ∙ ap (λ x. Ok x) (sym (config_same d b c.let_go_registers.new.table c.let_go_registers.ensures.only))
 
 pub returns-clause-counted : goal.returns-clause-counted

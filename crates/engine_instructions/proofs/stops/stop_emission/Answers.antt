@@ -36,6 +36,8 @@ returns-in_default-task c = record {
     other (tasks.Building place forwards) is = tt
     other (tasks.Adopting place forwards) is = tt
     other (tasks.Connecting place number) is = tt
+    other (tasks.Answering source) is = tt
+    other (tasks.Due source) is = tt
     other (tasks.Handling event) is = tt
 
 pub returns-clause-agenda : goal.returns-clause-agenda

@@ -106,6 +106,6 @@ returns-clause-counted c =
     let d = c.args.definition.now in
     let e = c.args.engine.now in
     let is = c.in_ok-count.ensures.ok.1 in
-    let kept = keeps_same d e c.count.new.engine (ap (λ (f : Engine). f.world.table) is) (ap (λ (f : Engine). f.world.weak) is) (ap (λ (f : Engine). f.world.builder) is) (ap (λ (f : Engine). f.stack) is)
+    let kept = keeps_same d e c.count.new.engine (ap (λ (f : Engine). f.world.table) is) (ap (λ (f : Engine). f.world.weak) is) (ap (λ (f : Engine). f.world.context) is) (ap (λ (f : Engine). f.world.builder) is) (ap (λ (f : Engine). f.stack) is)
     (ap (λ (f : Engine). f.world.handlers) is) in
     c.in_ok-start_emission.ensures.counted d (λ o. same o c.args.emission.object.0) (taken_alike d c.count.new.engine _ _ (λ o. omega arith) (kept.at _ c.requires.counted))

@@ -13,8 +13,7 @@ use Rattle.engine_world.specs.TaskView.{tasks_of, agenda_of}
 use Rattle.signal_core.specs.Connected.{Connected, without_object}
 use Rattle.engine_world.proofs.Counts.{keeps_on, keeps_same, keeps_finalised, only_list}
 use Rattle.machine_laws.specs.GoneLaws.{gone_in, pruned}
-use Rattle.engine_world.specs.Standing.{GoneStay}
-use Rattle.engine_world.proofs.Finalising.{first_time, no_such_peer, no_peer_there, finalised_now, finalised_agenda, finalised_gone, last_config}
+use Rattle.engine_world.proofs.Finalising.{first_time, no_such_peer, no_peer_there, finalised_now, finalised_agenda, last_config}
 use Rattle.engine_world.proofs.Notified.{counted_on}
 use Rattle.engine_tasks.proofs.finalisation.finalise.Goals as goal
 
@@ -61,19 +60,13 @@ returns-clause-agenda c =
     finalised_agenda d f c.disconnect_object.new.self c.say_both.new.self c.args.object.0 c.disconnect_object.ensures.left c.say_both.ensures.handlers rises
     ∙ ap (λ (g : Engine). map (pruned (gone_in (world_of c.say_both.new.self))) (agenda_of d g)) is
 
-pub returns-clause-gone : goal.returns-clause-gone
-returns-clause-gone c =
-    let is = c.in_ok-count.ensures.ok.1 in
-    subst (λ (g : Engine). GoneStay (world_of g.world) (world_of c.say_both.new.self)) is
-    (finalised_gone c.count.new.engine c.disconnect_object.new.self c.say_both.new.self c.args.object.0 c.disconnect_object.ensures.left c.say_both.ensures.handlers)
-
 pub returns-clause-counted : goal.returns-clause-counted
 returns-clause-counted c =
     let d = c.args.definition.now in
     let e = c.args.engine.now in
     let f = c.count.new.engine in
     let is = c.in_ok-count.ensures.ok.1 in
-    let same = keeps_same d e f (ap (λ (g : Engine). g.world.table) is) (ap (λ (g : Engine). g.world.weak) is) (ap (λ (g : Engine). g.world.builder) is) (ap (λ (g : Engine). g.stack) is) (ap (λ (g : Engine). g.world.handlers) is) in
+    let same = keeps_same d e f (ap (λ (g : Engine). g.world.table) is) (ap (λ (g : Engine). g.world.weak) is) (ap (λ (g : Engine). g.world.context) is) (ap (λ (g : Engine). g.world.builder) is) (ap (λ (g : Engine). g.stack) is) (ap (λ (g : Engine). g.world.handlers) is) in
     let left = finalised_agenda d f c.disconnect_object.new.self c.say_both.new.self c.args.object.0 c.disconnect_object.ensures.left c.say_both.ensures.handlers c.last-last.ensures.rises in
     keeps_on d _ _ _ same
     (keeps_finalised d f c.finalise.new.self c.disconnect_object.new.self c.say_both.new.self (gone_in (world_of c.say_both.new.self)) c.args.object.0 f.counted (c.finalise.ensures.finalises d) (only_list c.disconnect_object.new.self f.world.handlers (without_object c.args.object.0 f.world.handlers.handlers) c.disconnect_object.ensures.left)

@@ -14,7 +14,7 @@ returns-clause-counted c none =
     let a = agenda_of d e in
     let x = c.new-object.result in
     let empty : (o : ℕ) → in_object d o (Some x) ≡ 0 = λ o. ap (λ (y : Object). in_object d o (Some y)) c.new-object.ensures ∙ omega (arith, none o) in
-    keeps_by d e _ refl (stays d e _ refl refl) (λ taken _ h.
+    keeps_by d e _ refl refl (stays d e _ refl refl) (λ taken _ h.
     from_counted d taken c.float.new.table b a
     (c.in_ok-float.ensures.counted d (beside_of taken b a)
     (made_counted d taken (beside_of taken b a) e.world.table c.create.new.self x c.in-Ok.ensures.2 empty (to_counted d taken e.world.table b a h))))

@@ -1,4 +1,4 @@
-use Rattle.std.proofs.Common.{[], ◌∷◌, ◌++◌, refl, sym, ap, subst, ◌∙◌}
+use Rattle.std.proofs.Common.{◌≡◌, arith, [], ◌∷◌, ◌++◌, refl, sym, ap, subst, ◌∙◌}
 use Rattle.std.proofs.lemmas.Result.{err_from_is_err_and}
 use Rattle.ui_machine.specs.State.Config.{World, Config}
 use Rattle.ui_machine.specs.Runs.{Reaches, beginning}
@@ -82,3 +82,8 @@ returns-clause-grows c =
     let begun = ap (λ (e : Config). e.world.transcript) c.in_ok-begin_dispatch.ensures.ok in
     let said = ap (λ (w : World). w.transcript) c.in_ok-say.ensures.ok in
     prefix_on (prefix_by begun) (prefix_on c.in_ok-run.ensures.grows (record { more = _; whole = said }))
+
+pub returns-clause-few : goal.returns-clause-few
+returns-clause-few c =
+    let none : c.begin_dispatch.new.engine.counted ≡ 0 = ap (λ (e : Config). e.counted) c.in_ok-begin_dispatch.ensures.ok in
+    c.in_ok-run.ensures.few (omega (arith, none))

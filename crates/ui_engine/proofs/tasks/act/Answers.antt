@@ -64,3 +64,10 @@ returns-in-Connecting-clause-counted c =
 
 pub returns-in-Connecting-clause-step : goal.returns-in-Connecting-clause-step
 returns-in-Connecting-clause-step c = rw c.in-Connecting.is (goes_whole c.args.definition.now c.connect_from_build.new.engine (Ok (tt {0})) _ c.in_ok-connect_from_build-in-Connecting.ensures.step)
+
+pub returns-in-Due-clause-counted : goal.returns-in-Due-clause-counted
+returns-in-Due-clause-counted c =
+    done_plain c.args.definition.now c.args.engine.now c.run_source.new.engine c.args.task _ c.in-Due.is (λ o. refl) c.in_ok-run_source-in-Due.ensures.counted c.requires.counted
+
+pub returns-in-Due-clause-step : goal.returns-in-Due-clause-step
+returns-in-Due-clause-step c = rw c.in-Due.is (goes_whole c.args.definition.now c.run_source.new.engine (Ok (tt {0})) _ c.in_ok-run_source-in-Due.ensures.step)

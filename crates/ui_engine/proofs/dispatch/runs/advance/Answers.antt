@@ -1,4 +1,5 @@
-use Rattle.std.proofs.Common.{Ok, refl, ◌∙◌, subst, sym}
+use Rattle.std.proofs.Common.{◌≡◌, Ok, refl, ◌∙◌, ap, subst, sym, arith}
+use Rattle.ui_machine.specs.State.Config.{Config}
 use Rattle.std.proofs.lemmas.Result.{err_from_is_err_and}
 use Rattle.engine_world.specs.declared.engine.StepKind.{StepKind}
 use Rattle.engine_world.specs.EngineView.{config_of}
@@ -32,3 +33,16 @@ pub returns-in_err-step-clause-advanced : goal.returns-in_err-step-clause-advanc
 returns-in_err-step-clause-advanced c =
     let p = err_from_is_err_and c.from_residual.result c.from_residual.ensures.1 in
     rw (p.1, p.2) (breaks_on c.args.definition.now c.loop.invariant.follows c.in_err-step.ensures.stepped)
+
+pub returns-in-Counted-clause-few : goal.returns-in-Counted-clause-few
+returns-in-Counted-clause-few c h =
+    let d = c.args.definition.now in
+    let s = subst (λ (made : StepKind). Stepped (Ok made) d (config_of d c.loop.engine) (config_of d c.step.new.engine)) c.in-Counted.is c.in_ok-step.ensures.stepped in
+    omega (arith, s.1, s.2)
+
+pub returns-in-Nothing-clause-few : goal.returns-in-Nothing-clause-few
+returns-in-Nothing-clause-few c h =
+    let d = c.args.definition.now in
+    let s = subst (λ (made : StepKind). Stepped (Ok made) d (config_of d c.loop.engine) (config_of d c.step.new.engine)) c.in-Nothing.is c.in_ok-step.ensures.stepped in
+    let same : c.step.new.engine.counted ≡ c.loop.engine.counted = ap (λ (x : Config). x.counted) s.1 in
+    omega (arith, same, c.loop.invariant.counted, h)

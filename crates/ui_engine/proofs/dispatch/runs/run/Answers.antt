@@ -10,7 +10,7 @@ pub loop-init : goal.loop-init
 loop-init c =
     let d = c.args.definition.now in
     let e = config_of d c.args.engine.now in
-    record { follows = follows_here d e; counts = c.requires.counted; grows = prefix_same e.world.transcript }
+    record { follows = follows_here d e; counts = c.requires.counted; few = λ h. h; grows = prefix_same e.world.transcript }
 
 pub returns-in_err-advance-clause-ran : goal.returns-in_err-advance-clause-ran
 returns-in_err-advance-clause-ran c =
@@ -28,4 +28,7 @@ pub loop-preserved : goal.loop-preserved
 loop-preserved c =
     let d = c.args.definition.now in
     let a = subst (λ (more : Bool). Advanced (Ok more) d (config_of d c.loop.engine) (config_of d c.advance.new.engine)) c.if-not-branch.false c.in_ok-advance.ensures.advanced in
-    record { follows = follows_on d c.loop.invariant.follows a.0; counts = c.in_ok-advance.ensures.counted; grows = prefix_on c.loop.invariant.grows c.in_ok-advance.ensures.grows }
+    record { follows = follows_on d c.loop.invariant.follows a.0; counts = c.in_ok-advance.ensures.counted; few = λ h. c.in_ok-advance.ensures.few (c.loop.invariant.few h); grows = prefix_on c.loop.invariant.grows c.in_ok-advance.ensures.grows }
+
+pub returns-then-not-branch-clause-few : goal.returns-then-not-branch-clause-few
+returns-then-not-branch-clause-few c h = c.in_ok-advance.ensures.few (c.loop.invariant.few h)

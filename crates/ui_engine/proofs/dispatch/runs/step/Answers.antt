@@ -31,7 +31,7 @@ returns-clause-stepped c =
     let unheld : next_unheld (mentions d (config_of d e)) e.world.table.objects ≡ Some id = sym (finds_mentioned d e c.requires.counted) ∙ one in
     let rest = agenda_of d e in
     finalise_stepped d (config_of d e) id unheld (config_of d new) (record { world = world_of new.world; agenda = rest; counted = new.counted }) (c.in_ok-finalise.ensures.step rest)
-    c.in_ok-finalise.ensures.gone (ap (λ (ts : List Task). record (config_of d new) { agenda = ts }) (sym c.in_ok-finalise.ensures.agenda)) c.in_ok-finalise.ensures.counts
+    (ap (λ (ts : List Task). record (config_of d new) { agenda = ts }) (sym c.in_ok-finalise.ensures.agenda)) c.in_ok-finalise.ensures.counts
 
 pub returns-in_err-finalise-clause-stepped : goal.returns-in_err-finalise-clause-stepped
 returns-in_err-finalise-clause-stepped c =

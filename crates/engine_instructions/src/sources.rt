@@ -1,0 +1,104 @@
+//! `idle`, `timeout` and `remove`: the sources of the main context (GLib manual, The Main Event Loop).
+
+ghost use Rattle.std.specs.Prelude.{◌≡◌, OnOk, OnErr};
+ghost use Rattle.ui_machine.specs.Instructions.{in_front};
+ghost use Rattle.ui_machine.specs.Instructions.Sources.{attaching, removing, with_source};
+ghost use Rattle.ui_machine.specs.State.Config.{World};
+ghost use Rattle.instances.specs.Store.{id_of};
+ghost use Rattle.engine_world.specs.SourceView.{with_new_source};
+ghost use Rattle.ui_machine.specs.Outcome.{Goes};
+ghost use Rattle.ui_machine.specs.Steps.{left};
+ghost use Rattle.frames.specs.FrameView.{frame_view};
+ghost use Rattle.engine_world.specs.View.{world_of};
+ghost use Rattle.engine_world.specs.TaskView.{agenda_of};
+ghost use Rattle.engine_world.specs.Counting.{Counts, in_frame, nothing};
+ghost use Rattle.engine_world.specs.EngineView.{config_of};
+ghost use Rattle.engine_instructions.specs.AttachView.{attach_of};
+
+use crate::operands::{data_in, program_named};
+use crate::registers::{write_null_and_say_limit, write_register};
+use bytecode::Register;
+use definitions::Definition;
+use engine_world::engine::Engine;
+use engine_world::program_frames::push_frame;
+use engine_world::sources::{NewSource, attach_source, remove_sources};
+use frames::Frame;
+use g_values::Value;
+use ui_machine::{Halt, ObjectId, ProgramId};
+
+/// What `idle` and `timeout` say beside the register that they write. An idle has no interval.
+#[derive(Clone, Copy, Debug)]
+pub(crate) struct Attach<'a> {
+    /// The instruction's word, which the limit's line says.
+    pub(crate) word: &'a str,
+    pub(crate) program: &'a str,
+    pub(crate) priority: i32,
+    pub(crate) interval: Option<u32>,
+    /// The register of the object that is the data.
+    pub(crate) with: Option<Register>,
+}
+
+impl Attach<'_> {
+    // The source that it asks for, which runs a program and has this data.
+    fn source(self, program: ProgramId, arg: Option<ObjectId>) -> NewSource
+        ensures { (w : World) → with_new_source w result ≡ with_source w (attach_of self.entry) program (id_of arg) }
+    {
+        NewSource {
+            program,
+            priority: self.priority,
+            interval: self.interval,
+            arg,
+        }
+    }
+}
+
+/// A source is attached, unless as many are attached as may be, which a line says. A register gets whether it was.
+pub(crate) fn attach_from_program(
+    engine: &mut Engine,
+    definition: &Definition,
+    frame: Frame,
+    to: Register,
+    attach: Attach<'_>,
+) -> Result<(), Halt>
+    requires counted { Counts definition.now (λ o. in_frame o (frame_view frame)) engine.now }
+    ensures step { Goes result
+        (left engine.old.counted (in_front (agenda_of definition.now engine.old) (attaching definition.now (world_of engine.old.world) (frame_view frame) to.0 (attach_of attach.entry))))
+        (config_of definition.now engine.new) }
+    ensures quiet { OnErr result ((world_of engine.new.world).transcript ≡ (world_of engine.old.world).transcript) }
+    ensures counted { OnOk result (Counts definition.now nothing engine.new) }
+{
+    let program = program_named(definition, attach.program)?;
+    let arg = data_in(engine, &frame, attach.with)?;
+    let source = attach.source(program, arg);
+    if attach_source(engine, source)? {
+        return write_register(engine, definition, frame, to, Some(Value::Bool(true)));
+    }
+    write_null_and_say_limit(
+        engine,
+        definition,
+        frame,
+        to,
+        Value::Bool(false),
+        attach.word,
+    )
+}
+
+/// Each source of a program is removed.
+pub(crate) fn remove_from_program(
+    engine: &mut Engine,
+    definition: &Definition,
+    frame: Frame,
+    program: &str,
+) -> Result<(), Halt>
+    requires counted { Counts definition.now (λ o. in_frame o (frame_view frame)) engine.now }
+    ensures step { Goes result
+        (left engine.old.counted (in_front (agenda_of definition.now engine.old) (removing definition.now (world_of engine.old.world) (frame_view frame) program.now)))
+        (config_of definition.now engine.new) }
+    ensures quiet { OnErr result ((world_of engine.new.world).transcript ≡ (world_of engine.old.world).transcript) }
+    ensures counted { OnOk result (Counts definition.now nothing engine.new) }
+{
+    let number = program_named(definition, program)?;
+    remove_sources(engine, number);
+    push_frame(engine, frame)?;
+    Ok(())
+}

@@ -1,0 +1,46 @@
+use Rattle.std.proofs.Common.{◌∷◌, [], Ok, ap, refl, sym, subst, map, ◌∙◌}
+use Rattle.ui_machine.specs.Outcome.{Answer, Goes}
+use Rattle.ui_machine.specs.Rules.MainLoop.{source_data}
+use Rattle.ui_machine.specs.State.Config.{Config, Started}
+use Rattle.ui_machine.specs.State.Tasks.{Answering}
+use Rattle.ui_machine.specs.Steps.{uncounted}
+use Rattle.g_values.specs.View.{value_view}
+use Rattle.instances.specs.Store.{id_of}
+use Rattle.engine_world.specs.EngineView.{config_of}
+use Rattle.engine_world.specs.View.{world_of}
+use Rattle.engine_world.specs.TaskView.{agenda_of}
+use Rattle.ui_machine.specs.State.Sources.{source_of}
+use Rattle.engine_world.proofs.Counts.{keeps_on}
+use Rattle.engine_world.proofs.SourceCounts.{found_none}
+use Rattle.engine_world.proofs.Registers.{on_ok}
+use Rattle.engine_tasks.proofs.TurnTaking.{begins_as}
+use Rattle.engine_tasks.proofs.ProgramStarts.{begins_before}
+use Rattle.engine_tasks.proofs.Sourcing.{source_absent, source_begins}
+use Rattle.engine_tasks.proofs.sources.run_source.Goals as goal
+
+pub returns-in_default-clause-step : goal.returns-in_default-clause-step
+returns-in_default-clause-step c =
+    let d = c.args.definition.now in
+    let e = c.args.engine.now in
+    let none = found_none (source_of c.args.source e.world.context.sources) c.find.result c.find.ensures c.in_default.not-Some in
+    ap (λ (a : Answer Started). uncounted (agenda_of d e) e.counted a) (source_absent d (world_of e.world) c.args.source none)
+
+pub returns-clause-step : goal.returns-clause-step
+returns-clause-step c =
+    let d = c.args.definition.now in
+    let e = c.args.engine.now in
+    let b = c.push_task.new.engine in
+    let due = c.in-Some.due in
+    let given = source_data (id_of due.arg) in
+    let so = ap (λ (a : Answer Started). uncounted (agenda_of d e) e.counted a) (source_begins d (world_of e.world) c.args.source due c.in-Some.ensures) in
+    subst (λ (a : Answer Config). Goes c.begin_program.result a (config_of d c.begin_program.new.engine))
+    (begins_as d (agenda_of d b) _ b.counted e.counted (world_of b.world) (world_of e.world) due.program due.program (map value_view c.in_ok-args.args.items) given
+    (c.in_ok-push_task.ensures.agenda d) c.push_task.ensures.same c.push_task.ensures.world refl c.in_ok-args.ensures
+    ∙ sym (begins_before d (world_of e.world) due.program given (Answering c.args.source ∷ []) (agenda_of d e) e.counted)
+    ∙ sym so)
+    c.begin_program.ensures.step
+
+pub returns-clause-counted : goal.returns-clause-counted
+returns-clause-counted c =
+    let d = c.args.definition.now in
+    on_ok c.begin_program.result (λ kept. keeps_on d _ _ _ (c.in_ok-push_task.ensures.counted d) kept) c.begin_program.ensures.counted

@@ -1,0 +1,50 @@
+//! Sources: how a due one runs (GLib manual, The Main Event Loop: `g_main_context_dispatch`).
+
+ghost use Rattle.std.specs.Prelude.{◌≡◌, map, IfOk, OnOk, OnErr};
+ghost use Rattle.ui_machine.specs.Outcome.{Goes};
+ghost use Rattle.ui_machine.specs.Rules.MainLoop.{source_data, sourcing};
+ghost use Rattle.ui_machine.specs.Steps.{uncounted};
+ghost use Rattle.g_values.specs.View.{value_view};
+ghost use Rattle.instances.specs.Store.{id_of};
+ghost use Rattle.engine_world.specs.View.{world_of};
+ghost use Rattle.engine_world.specs.TaskView.{agenda_of};
+ghost use Rattle.engine_world.specs.Counting.{KeepsCounts};
+ghost use Rattle.engine_world.specs.EngineView.{config_of};
+
+use crate::programs::begin_program;
+use definitions::Definition;
+use engine_world::engine::Engine;
+use engine_world::given::object_value;
+use engine_world::references::push_task;
+use engine_world::task::Task;
+use g_values::Value;
+use std::alloc::{AllocError, Global};
+use ui_machine::{Arm, Halt, ObjectId};
+
+// What the program of a source is given: the source's data, if it has some.
+fn source_data(alloc: Global, arg: Option<ObjectId>) -> Result<Vec<Value>, AllocError>
+    ensures { IfOk result (λ given. map value_view given.items ≡ source_data (id_of arg)) }
+{
+    let mut given = Vec::new(alloc);
+    let Some(arg) = arg else {
+        return Ok(given);
+    };
+    given.push(object_value(arg))?;
+    Ok(given)
+}
+
+/// A due source runs: its program begins, with the source's data.
+pub fn run_source(engine: &mut Engine, definition: &Definition, source: u64) -> Result<(), Halt>
+    ensures step { Goes result
+        (uncounted (agenda_of definition.now engine.old) engine.old.counted (sourcing definition.now (world_of engine.old.world) source))
+        (config_of definition.now engine.new) }
+    ensures quiet { OnErr result ((world_of engine.new.world).transcript ≡ (world_of engine.old.world).transcript) }
+    ensures counted { OnOk result (KeepsCounts definition.now engine.old engine.new) }
+{
+    let Some(due) = engine.world.context.find(source) else {
+        return Err(Halt::Stuck(Arm::Code));
+    };
+    let args = source_data(engine.alloc, due.arg)?;
+    push_task(engine, Task::Answering { source })?;
+    begin_program(engine, definition, due.program, args)
+}

@@ -1,0 +1,70 @@
+//! Turns of the main loop (GLib manual, `g_main_context_iteration`).
+
+ghost use Rattle.std.specs.Prelude.{◌≡◌, ◌<◌, ◌≤◌, ◌↔◌, None, IfOk, OnErr, OnOk, length};
+ghost use Rattle.ui_machine.specs.Prefix.{IsPrefix};
+ghost use Rattle.engine_world.specs.View.{world_of};
+ghost use Rattle.ui_engine.specs.Stepping.{IsAtRest};
+ghost use Rattle.ui_engine.specs.TurnView.{IsSmall, RanSources, TurnBegins};
+
+use crate::dispatch::{Reply, dispatch};
+use definitions::Definition;
+use engine_world::engine::Engine;
+use engine_world::lines::Line;
+use engine_world::task::Task;
+use main_context::{Batch, TurnError};
+use ui_machine::Halt;
+
+/// Begins a turn at a moment: takes the sources that are to run, and says its line.
+///
+/// # Errors
+///
+/// `ClockBack` if the moment is before the latest one: nothing has changed. `OutOfMemory` after that.
+pub(crate) fn begin_turn(
+    engine: &mut Engine,
+    definition: &Definition,
+    moment: u64,
+) -> Result<Batch, TurnError>
+    requires rests { IsAtRest definition.now engine.now }
+    ensures rests { IsAtRest definition.now engine.new }
+    ensures begins { IfOk result (λ batch. TurnBegins definition.now moment (world_of engine.old.world) batch (world_of engine.new.world)) }
+    ensures clock_back { (result ≡ Err TurnError.ClockBack) ↔ (moment < (world_of engine.old.world).moment) }
+    ensures back { result ≡ Err TurnError.ClockBack → engine.new ≡ engine.old }
+    ensures quiet { OnErr result ((world_of engine.new.world).transcript ≡ (world_of engine.old.world).transcript) }
+    ensures grows { IsPrefix (world_of engine.old.world).transcript (world_of engine.new.world).transcript }
+{
+    let batch = engine.world.context.iteration(moment)?;
+    let line = Line::Turn { moment }.text(engine.alloc, definition.types())?;
+    engine.world.say(line)?;
+    engine.world.result = None;
+    Ok(batch)
+}
+
+/// Runs the sources of a batch, each in a dispatch of its own. One that was removed since is passed over.
+pub(crate) fn run_sources(
+    engine: &mut Engine,
+    definition: &Definition,
+    mut batch: Batch,
+) -> Result<Reply, Halt>
+    requires rests { IsAtRest definition.now engine.now }
+    requires fresh { (world_of engine.now.world).result ≡ None }
+    requires few { length batch ≤ 256 }
+    ensures rests { OnOk result (IsAtRest definition.now engine.new) }
+    ensures ran { RanSources result definition.now batch (world_of engine.old.world) (world_of engine.new.world) }
+    ensures grows { IsPrefix (world_of engine.old.world).transcript (world_of engine.new.world).transcript }
+{
+    let mut reply = Reply {
+        result: None,
+        dispatches: 0,
+        steps: 0,
+    };
+    while let Some(due) = engine.world.context.next_of(&mut batch) {
+        let task = Task::Due { source: due.source };
+        let one = dispatch(engine, definition, task)?;
+        reply = Reply {
+            result: one.result,
+            dispatches: reply.dispatches + 1,
+            steps: reply.steps + one.steps,
+        };
+    }
+    Ok(reply)
+}
