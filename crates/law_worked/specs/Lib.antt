@@ -1,0 +1,4 @@
+pub mod Gathering
+pub mod Middles
+pub mod WorkedSources
+pub mod WorkedTurn

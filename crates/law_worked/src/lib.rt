@@ -1,0 +1,22 @@
+//! Worked examples: what the laws ask is met, and what is good holds in the middle of runs.
+#![tactic(auto)]
+
+ghost use Rattle.law_worked.specs.Middles.{Middles};
+ghost use Rattle.law_worked.specs.WorkedSources.{PremisesMet};
+ghost use Rattle.law_worked.specs.WorkedTurn.{TurnKeeps};
+
+/// In the middle of worked runs what each step is to keep holds.
+pub fn middles()
+    ensures { Middles }
+{}
+
+/// The bytes of a definition with programs, a connected signal, a prototype that a program makes and sources, and lines with turns, meet what the
+/// promise of bytes asks.
+pub fn premises()
+    ensures { PremisesMet }
+{}
+
+/// The dispatch of a source in a turn, after another one of the same turn, meets what the laws on dispatches ask, so that it keeps what is promised.
+pub fn turn()
+    ensures { TurnKeeps }
+{}
