@@ -1,0 +1,4 @@
+mod FirstFaults
+mod InstructionSteps
+mod OpenBrackets
+mod BlockBrackets

@@ -1,0 +1,2 @@
+pub mod BracketSteps
+pub mod Faults
