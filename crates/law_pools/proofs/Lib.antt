@@ -1,2 +1,3 @@
 pub mod PoolProofs
 pub mod WorkedProofs
+pub mod ApartProofs

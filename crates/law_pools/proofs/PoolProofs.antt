@@ -24,7 +24,7 @@ use Rattle.law_pools.specs.MatchedPools.{AllFree, MatchedIsReady, ReadyMatches}
 
 -- ** shapes that are one
 
-name_true : (xs ys : List ℕ) → same_name xs ys ≡ true → xs ≡ ys
+pub name_true : (xs ys : List ℕ) → same_name xs ys ≡ true → xs ≡ ys
 name_true [] [] e = refl
 name_true [] (y ∷ ys) e = absurd (cc)
 name_true (x ∷ xs) [] e = absurd (cc)
@@ -34,7 +34,7 @@ name_true (x ∷ xs) (y ∷ ys) e = go (nat_eq x y) refl e (name_true xs ys)
     go true h e later = let s = eqb-true x y h in let t = later e in rw (s, t) refl
     go false h e later = absurd (cc)
 
-name_refl : (xs : List ℕ) → same_name xs xs ≡ true
+pub name_refl : (xs : List ℕ) → same_name xs xs ≡ true
 name_refl [] = refl
 name_refl (x ∷ xs) = ap (λ b. cond b (same_name xs xs) false) (eq-eqb x x refl) ∙ name_refl xs
 
@@ -117,7 +117,7 @@ shape_refl (m ∷ ms) = both_true (same_method m m) (same_shape ms ms) (method_r
 abbrev Right : List Peer → Need → Type 0
 Right pool n = wrong_with n (peer_named pool n.name) ≡ None
 
-neither : (a b : Option Mismatch) → or_else a b ≡ None → (a ≡ None) × (b ≡ None)
+pub neither : (a b : Option Mismatch) → or_else a b ≡ None → (a ≡ None) × (b ≡ None)
 neither None b e = (refl, e)
 neither (Some m) b e = absurd (cc)
 

@@ -1,7 +1,8 @@
 -- The worked pools compute.
-use Rattle.std.proofs.Common.{refl}
+use Rattle.std.proofs.Common.{refl, arith}
 use Rattle.law_pools.specs.WorkedPools.{definition, pool, WorkedPools}
 use Rattle.law_pools.proofs.PoolProofs.{matched_is_ready}
+use Rattle.law_pools.proofs.ApartProofs.{matched_is_apart}
 
 pub worked_pools : WorkedPools
 worked_pools = record {
@@ -9,6 +10,9 @@ worked_pools = record {
   matches = refl;
   free = (refl, (refl, tt));
   ready = matched_is_ready definition pool refl (refl, (refl, tt));
+  plain = refl;
+  two = refl;
+  apart = matched_is_apart definition pool 1 refl refl refl (omega arith);
   empty = refl;
   without = refl;
   shut = refl;

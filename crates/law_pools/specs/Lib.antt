@@ -1,3 +1,4 @@
 pub mod Needs
 pub mod MatchedPools
 pub mod WorkedPools
+pub mod NamesApart

@@ -1,5 +1,8 @@
 -- Worked pools for a definition whose prototype names the peer `t`, and whose object `i` names `o`, both of the shape `Tally`.
-use Rattle.std.specs.Prelude.{◌≡◌, ℕ, List, [], ◌∷◌, codes, map, None, Some}
+use Rattle.std.specs.Prelude.{◌≡◌, true, ℕ, List, [], ◌∷◌, codes, map, None, Some}
+use Rattle.std.specs.List.{flat_map, list_all}
+use Rattle.ui_machine.specs.Definition.Names.{same_name}
+use Rattle.ui_machine.specs.Definition.Places.{Place}
 use Rattle.ui_machine.specs.Definition.{Definition}
 use Rattle.ui_machine.specs.Definition.Signals.{Method}
 use Rattle.ui_machine.specs.Definition.Kinds as kinds
@@ -9,6 +12,9 @@ use Rattle.law_typing.specs.Laws.StepsKeepGood.{PoolReady}
 use Rattle.law_typing.specs.Examples.LastReference as last_reference
 use Rattle.law_pools.specs.Needs.{Need, missing, closed, misshapen, unused, needs_of, mismatch}
 use Rattle.law_pools.specs.MatchedPools.{AllFree}
+use Rattle.law_pools.specs.NamesApart.{is_plain}
+use Rattle.law_typing.specs.Laws.WellRead.{no_two}
+use Rattle.law_peers.specs.PeerLaws.{IsNamedApart}
 
 -- the one with a peer, and one object more, which has a peer of its own
 abbrev pub definition : Definition
@@ -44,6 +50,10 @@ pub record WorkedPools : Type 0 where
   pub matches : mismatch definition pool ≡ None
   pub free : AllFree pool
   pub ready : PoolReady definition pool
+  -- its names are plain, no two are one, and so the names of its peers are apart
+  pub plain : list_all is_plain (flat_map (λ (p : Place). p.peers) definition.places) ≡ true
+  pub two : no_two same_name (map (λ (p : Peer). p.name) pool) ≡ true
+  pub apart : IsNamedApart pool 1
   -- nothing is there
   pub empty : mismatch definition [] ≡ Some (missing (codes "t"))
   pub without : mismatch definition (tally (codes "t") ∷ []) ≡ Some (missing (codes "o"))
