@@ -3,8 +3,10 @@
  *     speed_gobject DEF EVENTS
  *
  * It reads the same two files as `ui run` and writes the same transcript, for definitions with one class at most whose properties are
- * of the kind int and whose signals have no arguments, for programs of one block with `const`, `set`, `add` and `return` over whole
- * numbers, and for the events set, get and emit. Anything else ends it with status 1, so that nothing is compared that it can't do.
+ * of the kind int and whose signals have no arguments, for programs of one block with `const`, `set`, `add`, `idle`, `timeout` and
+ * `return` over whole numbers and truth values, for bindings without flags, and for the events set, get, emit and turn. Anything else
+ * ends it with status 1, so that nothing is compared that it can't do. The moments of turns are those of the events, so its timeouts are
+ * sources of its own kind, with GLib's priorities and order.
  */
 #include <glib-object.h>
 #include <json-glib/json-glib.h>
@@ -26,6 +28,8 @@ typedef struct {
 static guint property_count;
 static const char **property_names;
 static guint counted;
+static GHashTable *programs;
+static gint64 moment;
 
 static void give_up(const char *why) {
   fprintf(stderr, "speed_gobject: %s\n", why);
@@ -73,8 +77,9 @@ static void on_notify(GObject *object, GParamSpec *spec, gpointer data) {
 
 /* An instruction, with what it names looked up. */
 typedef struct {
-  enum { CONST, SET, ADD } word;
-  gint a, b, c;
+  enum { CONST, SET, ADD, IDLE, TIMEOUT } word;
+  gint a, b;
+  gint64 c;
   const char *name;
 } Instruction;
 
@@ -82,6 +87,7 @@ typedef struct {
   const char *name;
   guint length;
   Instruction *code;
+  gint result; /* the register of the result, or -1 */
 } Program;
 
 static Program *read_program(JsonObject *entry) {
@@ -89,17 +95,31 @@ static Program *read_program(JsonObject *entry) {
   JsonArray *code = json_object_get_array_member(json_array_get_object_element(blocks, 0), "code");
   Program *program = g_new0(Program, 1);
   program->name = json_object_get_string_member(entry, "name");
+  program->result = -1;
   program->code = g_new0(Instruction, json_array_get_length(code));
   for (guint i = 0; i < json_array_get_length(code); i++) {
     JsonArray *words = json_array_get_array_element(code, i);
     const char *word = json_array_get_string_element(words, 0);
     Instruction *instruction = &program->code[program->length];
-    if (strcmp(word, "return") == 0)
+    if (strcmp(word, "return") == 0) {
+      if (!json_array_get_null_element(words, 1))
+        program->result = json_array_get_int_element(words, 1);
       break;
+    }
     instruction->a = json_array_get_int_element(words, 1);
     if (strcmp(word, "const") == 0) {
+      gboolean is_bool = strcmp(json_array_get_string_element(words, 2), "bool") == 0;
       instruction->word = CONST;
+      instruction->b = is_bool ? json_array_get_boolean_element(words, 3) : json_array_get_int_element(words, 3);
+    } else if (strcmp(word, "idle") == 0 || strcmp(word, "timeout") == 0) {
+      gboolean is_timeout = *word == 't';
+      instruction->word = is_timeout ? TIMEOUT : IDLE;
+      instruction->name = json_array_get_string_element(words, 2);
       instruction->b = json_array_get_int_element(words, 3);
+      if (is_timeout)
+        instruction->c = json_array_get_int_element(words, 4);
+      if (!json_array_get_null_element(words, is_timeout ? 5 : 4))
+        give_up("a source has data");
     } else if (strcmp(word, "set") == 0) {
       instruction->word = SET;
       instruction->name = json_array_get_string_element(words, 2);
@@ -109,15 +129,61 @@ static Program *read_program(JsonObject *entry) {
       instruction->b = json_array_get_int_element(words, 2);
       instruction->c = json_array_get_int_element(words, 3);
     } else {
-      give_up("an instruction is another than const, set, add and return");
+      give_up("an instruction is another than const, set, add, idle, timeout and return");
     }
     program->length++;
   }
   return program;
 }
 
-static void run_program(GObject *object, gpointer data) {
-  const Program *program = data;
+/* A source of the main loop that is ready from a moment of turns on. */
+typedef struct {
+  GSource source;
+  const Program *program;
+  gboolean is_idle;
+  gint64 due, interval;
+} Attached;
+
+static gboolean is_ready(GSource *source) {
+  Attached *attached = (Attached *)source;
+  return attached->is_idle || attached->due <= moment;
+}
+
+static gboolean prepare_attached(GSource *source, gint *timeout) {
+  *timeout = -1;
+  return is_ready(source);
+}
+
+static gint carry_out(GObject *object, const Program *program);
+
+static gboolean dispatch_attached(GSource *source, GSourceFunc callback, gpointer data) {
+  Attached *attached = (Attached *)source;
+  (void)callback;
+  (void)data;
+  counted = 0;
+  gboolean stays = carry_out(NULL, attached->program);
+  attached->due = moment + attached->interval;
+  printf("end %u\n", counted);
+  return stays;
+}
+
+static GSourceFuncs attached_funcs = {prepare_attached, is_ready, dispatch_attached, NULL, NULL, NULL};
+
+static void attach(const Instruction *instruction) {
+  Attached *attached = (Attached *)g_source_new(&attached_funcs, sizeof(Attached));
+  attached->program = g_hash_table_lookup(programs, instruction->name);
+  attached->is_idle = instruction->word == IDLE;
+  attached->interval = instruction->c;
+  attached->due = moment + instruction->c;
+  if (!attached->program)
+    give_up("a source has no program");
+  g_source_set_priority(&attached->source, instruction->b);
+  g_source_attach(&attached->source, NULL);
+  g_source_unref(&attached->source);
+}
+
+/* The result of a program: a number, or 0 where it has none. */
+static gint carry_out(GObject *object, const Program *program) {
   GValue registers[32] = {G_VALUE_INIT};
   printf("run %s\n", program->name);
   for (guint i = 0; i < program->length; i++) {
@@ -130,15 +196,21 @@ static void run_program(GObject *object, gpointer data) {
     }
     if (!G_IS_VALUE(to))
       g_value_init(to, G_TYPE_INT);
-    if (instruction->word == CONST)
+    if (instruction->word == IDLE || instruction->word == TIMEOUT) {
+      attach(instruction);
+      g_value_set_int(to, TRUE);
+    } else if (instruction->word == CONST)
       g_value_set_int(to, instruction->b);
     else
       g_value_set_int(to, (gint)((guint)g_value_get_int(&registers[instruction->b]) + (guint)g_value_get_int(&registers[instruction->c])));
   }
   counted++;
+  return program->result < 0 ? 0 : g_value_get_int(&registers[program->result]);
 }
 
-static void connect_signals(Box *box, JsonObject *entry, GHashTable *programs) {
+static void run_program(GObject *object, gpointer data) { carry_out(object, data); }
+
+static void connect_signals(Box *box, JsonObject *entry) {
   if (!json_object_has_member(entry, "signals"))
     return;
   JsonArray *signals = json_object_get_array_member(entry, "signals");
@@ -149,16 +221,43 @@ static void connect_signals(Box *box, JsonObject *entry, GHashTable *programs) {
   }
 }
 
-static GHashTable *read_programs(JsonObject *root) {
-  GHashTable *programs = g_hash_table_new(g_str_hash, g_str_equal);
+static void read_programs(JsonObject *root) {
+  programs = g_hash_table_new(g_str_hash, g_str_equal);
   if (!json_object_has_member(root, "programs"))
-    return programs;
+    return;
   JsonArray *entries = json_object_get_array_member(root, "programs");
   for (guint i = 0; i < json_array_get_length(entries); i++) {
     Program *program = read_program(json_array_get_object_element(entries, i));
     g_hash_table_insert(programs, (gpointer)program->name, program);
   }
-  return programs;
+}
+
+/* What a binding does with a value: a counted step. */
+static gboolean transfer(GBinding *binding, const GValue *from, GValue *to, gpointer data) {
+  (void)binding;
+  (void)data;
+  counted++;
+  g_value_copy(from, to);
+  return TRUE;
+}
+
+static void bind_properties(GHashTable *ids, Box *box, JsonObject *entry) {
+  if (!json_object_has_member(entry, "properties"))
+    return;
+  JsonArray *properties = json_object_get_array_member(entry, "properties");
+  for (guint i = 0; i < json_array_get_length(properties); i++) {
+    JsonObject *property = json_array_get_object_element(properties, i);
+    if (!json_object_has_member(property, "bind"))
+      give_up("a property is given");
+    const char *name = json_object_get_string_member(property, "name");
+    JsonObject *bind = json_object_get_object_member(property, "bind");
+    if (json_object_get_size(bind) != 1)
+      give_up("a binding has more than a source");
+    Box *source = g_hash_table_lookup(ids, json_object_get_string_member(bind, "source"));
+    if (!source)
+      give_up("a binding has no source");
+    g_object_bind_property_full(source, name, box, name, G_BINDING_DEFAULT, transfer, NULL, NULL, NULL);
+  }
 }
 
 static void add_signals(GType type, JsonObject *class) {
@@ -196,7 +295,7 @@ static GHashTable *build(JsonObject *root) {
     if (json_array_get_length(classes) != 1)
       give_up("there is not one class");
     GType type = register_class(json_array_get_object_element(classes, 0));
-    GHashTable *programs = read_programs(root);
+    read_programs(root);
     JsonArray *objects = json_object_get_array_member(root, "objects");
     for (guint i = 0; i < json_array_get_length(objects); i++) {
       JsonObject *entry = json_array_get_object_element(objects, i);
@@ -204,8 +303,12 @@ static GHashTable *build(JsonObject *root) {
       box->identity = i + 1;
       printf("construct #%u %s\n", box->identity, G_OBJECT_TYPE_NAME(box));
       g_signal_connect(box, "notify", G_CALLBACK(on_notify), NULL);
-      connect_signals(box, entry, programs);
+      connect_signals(box, entry);
       g_hash_table_insert(ids, (gpointer)json_object_get_string_member(entry, "id"), box);
+    }
+    for (guint i = 0; i < json_array_get_length(objects); i++) {
+      JsonObject *entry = json_array_get_object_element(objects, i);
+      bind_properties(ids, g_hash_table_lookup(ids, json_object_get_string_member(entry, "id")), entry);
     }
   }
   puts("end 0");
@@ -223,7 +326,17 @@ static void emit(GHashTable *ids, JsonArray *words) {
   printf("end %u\n", counted);
 }
 
+static void turn(gint64 at) {
+  moment = at;
+  printf("turn %" G_GINT64_FORMAT "\n", moment);
+  g_main_context_iteration(NULL, FALSE);
+}
+
 static void serve(GHashTable *ids, JsonObject *event) {
+  if (json_object_has_member(event, "turn")) {
+    turn(json_object_get_int_member(event, "turn"));
+    return;
+  }
   if (json_object_has_member(event, "emit")) {
     emit(ids, json_object_get_array_member(event, "emit"));
     return;
