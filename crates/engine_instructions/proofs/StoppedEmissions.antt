@@ -36,6 +36,7 @@ use Rattle.engine_world.proofs.SameTurns.{both_entries, entries}
 no_transfers : (due : List DueTransfer) → filter is_of_cleanup (entries_due_of due) ≡ []
 no_transfers [] = refl
 no_transfers (t ∷ due) = no_transfers due
+
 module _ (l : List DueTransfer) where
   abbrev of : List PlanEntry
   of = entries_due_of l

@@ -1,5 +1,5 @@
 -- Which bindings an `unbind` ends.
-use Rattle.std.proofs.Common.{◌≡◌, ◌∙◌, ◌||◌, ◌≤◌, refl, sym, ap, ℕ, zero, suc, Bool, true, false, List, [], ◌∷◌, drop, length, Option, None, Some, slice_get, Ok, Err, arith}
+use Rattle.std.proofs.Common.{◌≡◌, ◌∙◌, ◌||◌, ◌≤◌, refl, ap, ℕ, zero, suc, Bool, true, false, List, [], ◌∷◌, drop, length, slice_get, Err, arith}
 use Rattle.std.specs.List.{list_any}
 use Rattle.std.specs.Option.{option_map_or}
 use Rattle.ui_machine.specs.declared.arm.Arm.TheVariants as arms
@@ -8,13 +8,13 @@ use Rattle.ui_machine.specs.Instructions.Registers.{goes_on}
 use Rattle.ui_machine.specs.Instructions.Signals.{unbinding}
 use Rattle.ui_machine.specs.Outcome.{only_if}
 use Rattle.ui_machine.specs.State.Bindings.{bindings_without, is_binding}
-use Rattle.ui_machine.specs.State.Config.{World, starts}
-use Rattle.ui_machine.specs.State.Tasks.{Frame, Running}
+use Rattle.ui_machine.specs.State.Config.{World}
+use Rattle.ui_machine.specs.State.Tasks.{Frame}
 
 -- ** one after the other
 
 module _ {A : Type 0} (p : A → Bool) where
-  -- from a place on the first one tells, or those behind it
+  -- from a place on it is so of the first one, or of those behind it
   pub any_from : (xs : List A) (i : ℕ) → list_any p (drop i xs) ≡ (option_map_or p (slice_get xs i) false || list_any p (drop (suc i) xs))
   any_from [] zero = refl
   any_from [] (suc i) = refl

@@ -65,7 +65,7 @@ fn unbind(engine: &mut Engine, name: &str)
     engine.world.bindings.unbind(name);
 }
 
-/// The binding of a name ends, if it stands.
+/// The binding of a name ends, if it has not ended before.
 pub(crate) fn unbind_from_program(
     engine: &mut Engine,
     definition: &Definition,

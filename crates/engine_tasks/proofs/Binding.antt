@@ -1,16 +1,16 @@
 -- How the bindings of the definition are made.
-use Rattle.std.proofs.Common.{◌≡◌, ◌∙◌, refl, sym, ap, ℕ, zero, suc, ◌<◌, ◌≤◌, ◌++◌, ◌||◌, Bool, true, false, cond, List, [], ◌∷◌, drop, length, Option, None, Some, slice_get, Ok, Err, arith}
+use Rattle.std.proofs.Common.{◌≡◌, ◌∙◌, refl, ap, ℕ, zero, suc, ◌<◌, ◌≤◌, ◌++◌, ◌||◌, true, false, cond, List, [], ◌∷◌, drop, length, Option, None, Some, slice_get, Ok, Err, arith}
 use Rattle.ui_machine.specs.declared.arm.Arm.{Arm}
 use Rattle.ui_machine.specs.declared.arm.Arm.TheVariants as arms
 use Rattle.ui_machine.specs.Definition.{Definition}
 use Rattle.ui_machine.specs.Definition.Places.{Bind}
 use Rattle.ui_machine.specs.Definition.Properties.{has_flags}
 use Rattle.ui_machine.specs.Outcome.{Answer, known, ◌>>=◌}
-use Rattle.ui_machine.specs.Rules.Build.{building, building_binding, connected_items, first_transfer, held_object, new_binding, numbered, with_binding}
+use Rattle.ui_machine.specs.Rules.Build.{building_binding, connected_items, first_transfer, held_object, new_binding, numbered, with_binding}
 use Rattle.ui_machine.specs.Rules.Sets.{is_disposed}
 use Rattle.ui_machine.specs.State.Config.{Started, World, starts}
 use Rattle.ui_machine.specs.State.Objects.{living}
-use Rattle.ui_machine.specs.State.Tasks.{Building, Item, Task, Transferring, binds}
+use Rattle.ui_machine.specs.State.Tasks.{Building, Item, Transferring, binds}
 use Rattle.engine_world.specs.TaskView.{binds_from}
 use Rattle.engine_tasks.specs.BindView.{Ends, ends_at}
 

@@ -1,17 +1,15 @@
 -- What a transfer of a binding leads to, by the value that it carries.
-use Rattle.std.proofs.Common.{◌≡◌, ◌∙◌, refl, sym, ap, ℕ, suc, ◌<◌, Bool, true, false, not, List, Option, None, Some, option_map, Ok, Err}
-use Rattle.ui_machine.specs.declared.arm.Arm.{Arm}
+use Rattle.std.proofs.Common.{◌≡◌, ◌∙◌, refl, ap, ℕ, Bool, true, false, not, Option, None, Some, option_map, Ok}
 use Rattle.ui_machine.specs.declared.arm.Arm.TheVariants as arms
-use Rattle.ui_machine.specs.declared.arm.Halt.{Halt}
 use Rattle.ui_machine.specs.Definition.{Definition}
-use Rattle.ui_machine.specs.Definition.Properties.{Spec, is_construct_only, is_readable, is_writable}
+use Rattle.ui_machine.specs.Definition.Properties.{is_construct_only, is_readable, is_writable}
 use Rattle.ui_machine.specs.Definition.Values.{Value}
-use Rattle.ui_machine.specs.Outcome.{Answer, Stops, only_if, ◌>>=◌}
+use Rattle.ui_machine.specs.Outcome.{Answer, only_if, ◌>>=◌}
 use Rattle.ui_machine.specs.Rules.Sets.{spec_at}
 use Rattle.ui_machine.specs.Rules.Transform.{transformed}
 use Rattle.ui_machine.specs.Rules.Transfers.{End, carried, carried_by, inverted, set_by, transferring}
 use Rattle.ui_machine.specs.State.Bindings.{Binding, binding_of}
-use Rattle.ui_machine.specs.State.Config.{Started, World}
+use Rattle.ui_machine.specs.State.Config.{World}
 use Rattle.ui_machine.specs.State.Objects.{asked, value_at}
 use Rattle.bindings.specs.Made.{back, forth, transfer_by}
 use Rattle.bindings.specs.declared.binding.Transfer.{Transfer}

@@ -1,13 +1,13 @@
 -- The turns of emissions, and their transfers.
-use Rattle.std.proofs.Common.{◌≡◌, ◌∙◌, refl, sym, ap, subst, ℕ, ◌<◌, ◌++◌, append_assoc, Bool, true, false, cond, not, map, nat_eq, nat_lt, List, [], ◌∷◌, Option, None, Some, option_map, arith}
-use Rattle.std.specs.List.{filter, find, flat_map}
+use Rattle.std.proofs.Common.{◌≡◌, ◌∙◌, refl, sym, ap, subst, ℕ, ◌++◌, Bool, true, false, cond, not, map, nat_eq, nat_lt, List, [], ◌∷◌, Option, None, Some, option_map}
+use Rattle.std.specs.List.{filter, find}
 use Rattle.ui_machine.specs.Definition.Properties.{has_flags}
 use Rattle.ui_machine.specs.Definition.Signals.{Accumulator}
 use Rattle.ui_machine.specs.Rules.EmissionPlan.{Planned, plan}
 use Rattle.ui_machine.specs.State.Bindings.{Binding, binding_of}
 use Rattle.ui_machine.specs.State.Config.{World}
 use Rattle.ui_machine.specs.State.Handlers.{Handler, handler_of}
-use Rattle.ui_machine.specs.State.Tasks.{PlanEntry, class_handler, handler}
+use Rattle.ui_machine.specs.State.Tasks.{PlanEntry, handler}
 use Rattle.bindings.specs.Due.{entry_of, from_ready, is_free}
 use Rattle.bindings.specs.declared.due.DueTransfer.{DueTransfer}
 use Rattle.signal_core.specs.Connected.{Numbered}
@@ -21,9 +21,7 @@ use Rattle.signal_core.proofs.GoingOn.{turns_go_on}
 use Rattle.signal_core.proofs.PlanProofs.{plan_is_walked}
 use Rattle.signal_core.proofs.Telling.{all_stand}
 use Rattle.engine_world.specs.Standing.{entries_due, makes_no_transfer}
-use Rattle.engine_world.specs.TaskView.{entries_to_come}
 use Rattle.engine_world.specs.TransferView.{entries_due_of}
-use Rattle.engine_world.specs.declared.task.Transfers.TheVariants as at
 use Rattle.engine_world.proofs.SameTurns.{both_entries, entries}
 
 -- ** as an emission begins
@@ -60,7 +58,7 @@ due_left w (t ∷ l) rest =
     by true same = refl
     by false same = same
 
--- the binding of the first that is left stands, and does not set
+-- the binding of the first that is left has not ended, and does not set
 pub ready_free : (bs : List Binding) (l : List DueTransfer) (t : DueTransfer) (r : List DueTransfer) → from_ready bs l ≡ t ∷ r → is_free (binding_of t.number bs) ≡ true
 ready_free bs [] t r is = absurd (cc is)
 ready_free bs (x ∷ l) t r is = by (is_free (binding_of x.number bs)) refl is (ready_free bs l t r)
@@ -72,7 +70,7 @@ ready_free bs (x ∷ l) t r is = by (is_free (binding_of x.number bs)) refl is (
 
 -- ** what is to come
 
--- each of these handlers stands under its number
+-- each of these handlers is found by its number
 abbrev AllStand : List Handler → List Handler → Type 0
 AllStand hs [] = Unit {0}
 AllStand hs (x ∷ xs) = (handler_of x.number hs ≡ Some x) × AllStand hs xs
@@ -218,8 +216,7 @@ module _ (w : World) (of : List PlanEntry) where
       let so : is_transfers d.step.turn ≡ true = ap (λ (x : Due). is_transfers x.step.turn) is in absurd (cc (so, plain))
   entry_of_turn binds d rest (of_standing h stage same early stands is) free plain =
       let open_now : nat_lt 0 h.blocks ≡ false = sym (ap (λ (x : Due). x.is_blocked) is) ∙ free in
-      subst (λ (x : Due). HasEntry x (entries_of of x ++ rest) rest) (sym is)
-      (
+      subst (λ (x : Due). HasEntry x (entries_of of x ++ rest) rest) (sym is) (
         handler h.number,
         ap (λ n. entries_due w (handler n ∷ rest)) same
             ∙ ap (λ o. cond (is_passed_over o) (entries_due w rest) (handler h.number ∷ rest)) stands
@@ -317,8 +314,7 @@ module _ (v : World) (last : ℕ) (rises : Numbered 0 v.handlers last) (w : Walk
           let here = transfers_first v of true d (entries of (after_next (to_come w v.handlers))) f.of_sort so in
           let plain : entries of (to_come (at_turn d) v.handlers) ≡ entries [] (to_come (at_turn d) v.handlers) =
           subst (λ (stage : Stage). entries of (turns_from stage (record w { stage = stage }) v.handlers) ≡ entries [] (turns_from stage (record w { stage = stage }) v.handlers)) (sym here.1)
-          (before_plain of (record w { stage = stages.Before 0 }) v.handlers 0) in
-          (
+          (before_plain of (record w { stage = stages.Before 0 }) v.handlers 0) in (
             here.1,
             f.left ∙ ap (entries_due v) here.0
                 ∙ ap (λ (dues : List Due). entries_due v (of ++ entries of dues)) (sym (goes_on d next))

@@ -10,7 +10,7 @@ use Rattle.ui_machine.specs.Output.Lines as lines
 use Rattle.ui_machine.specs.Rules.Accumulation.{ending, passed_down, result_of, resulting, told}
 use Rattle.ui_machine.specs.Definition.Lookups.{spec_of}
 use Rattle.ui_machine.specs.Definition.Properties.{Spec}
-use Rattle.ui_machine.specs.Rules.EmissionPlan.{beginning_emission, emission_plan, notification, notifying, plan, signal_at, signal_of}
+use Rattle.ui_machine.specs.Rules.EmissionPlan.{beginning_emission, emission_plan, notification, notifying, signal_at, signal_of}
 use Rattle.ui_machine.specs.State.Bindings.{transfers}
 use Rattle.bindings.specs.declared.due.DueTransfer.{DueTransfer}
 use Rattle.ui_machine.specs.Rules.Programs.{all_fit}

@@ -126,7 +126,7 @@ module _ (d : Definition) (v : World) (rest : List Task) (n : ℕ) (last : ℕ) 
   takes_turn {X} result c t next plain all is u moved left behind goes =
       let first = program_first v last rises w of t next plain in
       let here : act d v None (Emitting (emission_of w args by_event) all ∷ rest) n
-          ≡ uncounted (Emitting (emission_of u args by_event) left ∷ rest) n (beginning_program d v (program_of_turn t.step.turn) (given_by (emission_of u args by_event) t.step.turn)) =
+      ≡ uncounted (Emitting (emission_of u args by_event) left ∷ rest) n (beginning_program d v (program_of_turn t.step.turn) (given_by (emission_of u args by_event) t.step.turn)) =
       ap (λ (es : List PlanEntry). act d v None (Emitting (emission_of w args by_event) es ∷ rest) n) (is ∙ first.1)
       ∙ takes_entry d v rest n w args by_event (not_over v last rises w t next) t.step.then_at t.step.turn first.0 first.2 first.3 (entries of (to_come (record w { stage = t.step.then_at }) v.handlers))
       ∙ ap (λ (x : Walk). uncounted (Emitting (emission_of x args by_event) (entries of (to_come x v.handlers)) ∷ rest) n (beginning_program d v (program_of_turn t.step.turn) (given_by (emission_of x args by_event) t.step.turn))) (sym moved)

@@ -1,5 +1,5 @@
 -- What a transfer sets, and where.
-use Rattle.std.specs.Prelude.{Bool, Ok, Option, not}
+use Rattle.std.specs.Prelude.{Ok, Option, not}
 use Rattle.ui_machine.specs.declared.arm.Arm.TheVariants as arms
 use Rattle.ui_machine.specs.Definition.{Definition}
 use Rattle.ui_machine.specs.Definition.Properties.{is_construct_only, is_readable, is_writable}

@@ -80,11 +80,7 @@ fn new_binding(alloc: Global, bind: &Bind, ends: Ends) -> Result<Binding, AllocE
 }
 
 // With SYNC_CREATE the binding is to set its target at once.
-fn push_first_transfer(
-    engine: &mut Engine,
-    number: usize,
-    bind: &Bind,
-) -> Result<(), AllocError>
+fn push_first_transfer(engine: &mut Engine, number: usize, bind: &Bind) -> Result<(), AllocError>
     ensures agenda { OnOk result ((d : machine.Definition) → agenda_of d engine.new ≡ first_transfer number (bind_view bind.now) ++ agenda_of d engine.old) }
     ensures world { world_of engine.new.world ≡ world_of engine.old.world }
     ensures same { engine.new.counted ≡ engine.old.counted }

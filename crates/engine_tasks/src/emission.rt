@@ -298,7 +298,7 @@ fn take_turn(
     begin_program(engine, definition, runs.program, given)
 }
 
-// A transfer is due, in front of the rest of the emission. Its binding stands, and does not set.
+// A transfer is due, in front of the rest of the emission. Its binding has not ended, and does not set.
 fn take_transfer(
     engine: &mut Engine,
     definition: &Definition,

@@ -11,15 +11,14 @@ use Rattle.ui_machine.specs.State.Config as config
 use Rattle.ui_machine.specs.State.Handlers.{Handler, handler_of}
 use Rattle.ui_machine.specs.State.Tasks.{Emission, Emitting, PlanEntry, Task, class_handler, handler, transfer}
 use Rattle.machine_laws.proofs.GoneProofs.{given_are_gone}
-use Rattle.machine_laws.specs.GoneLaws.{AreGone, Gone, gone_in, is_next, pruned, stays}
+use Rattle.machine_laws.specs.GoneLaws.{AreGone, Gone, is_next, pruned, stays}
 use Rattle.bindings.specs.Due.{entry_of}
 use Rattle.bindings.specs.declared.due.DueTransfer.{DueTransfer}
 use Rattle.signal_core.specs.Connected.{Numbered}
 use Rattle.signal_core.specs.Emission.{Due, Walk, due, from_after, from_before, from_cleanup, from_last, from_transfers, is_ahead, of_class, of_handler, of_handlers, to_come, turns_from}
-use Rattle.signal_core.specs.Laws.{entries_left, entries_of, is_passed_over, number_at}
+use Rattle.signal_core.specs.Laws.{entries_of, is_passed_over, number_at}
 use Rattle.signal_core.specs.declared.stage.Stage.{Stage}
 use Rattle.signal_core.specs.declared.stage.Stage.TheVariants as stages
-use Rattle.signal_core.specs.declared.turn.Turn.{Turn}
 use Rattle.signal_core.specs.declared.turn.Turn.TheVariants as turns
 use Rattle.signal_core.proofs.Numbers.{numbered_lower, numbered_within}
 use Rattle.engine_world.specs.declared.task.Stack.{Stack}

@@ -7,7 +7,7 @@ use Rattle.ui_machine.specs.Outcome.{Answer, Stops}
 use Rattle.ui_machine.specs.Runs.{Halts, Reaches}
 use Rattle.ui_machine.specs.State.Bindings.{Binding, binding_of}
 use Rattle.ui_machine.specs.State.Config.{Config, World}
-use Rattle.ui_machine.specs.State.Handlers.{Handler, handler_of}
+use Rattle.ui_machine.specs.State.Handlers.{handler_of}
 use Rattle.ui_machine.specs.State.Tasks.{Emitting, PlanEntry, Task, class_handler, handler, transfer}
 use Rattle.machine_laws.specs.GoneLaws.{Gone, gone_in, pruned_at}
 use Rattle.signal_core.specs.Laws.{is_passed_over}

@@ -70,15 +70,15 @@ pub accumulate-requires : goal.accumulate-requires
 accumulate-requires c =
     let last = c.args.engine.now.world.handlers.last in
     let known = subst (λ (t : code.Task). TakesKnownHandlers last t) c.in-Emitting.is (c.in-Some.ensures.first last c.requires.begun) in record {
-  held = λ o.
-      let d = c.args.definition.now in
-      let hs = c.args.engine.now.world.handlers.handlers in
-      let first = ap (λ (ts : List Task). total (in_task o) ts) (c.in-Some.ensures.tasks d hs) in
-      let emission = ap (λ (t : code.Task). in_task o (task_of d hs t)) c.in-Emitting.is in
-      omega (arith, c.requires.held.at o, first, emission);
-  begun = known.0;
-  ends = known.1;
-}
+      held = λ o.
+          let d = c.args.definition.now in
+          let hs = c.args.engine.now.world.handlers.handlers in
+          let first = ap (λ (ts : List Task). total (in_task o) ts) (c.in-Some.ensures.tasks d hs) in
+          let emission = ap (λ (t : code.Task). in_task o (task_of d hs t)) c.in-Emitting.is in
+          omega (arith, c.requires.held.at o, first, emission);
+      begun = known.0;
+      ends = known.1;
+    }
 
 pub returns-in-Emitting-clause-step : goal.returns-in-Emitting-clause-step
 returns-in-Emitting-clause-step c =

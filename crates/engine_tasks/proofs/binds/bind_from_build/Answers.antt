@@ -1,4 +1,4 @@
-use Rattle.std.proofs.Common.{◌≡◌, ◌∙◌, ◌+◌, ◌<◌, suc, ℕ, append_assoc, ◌++◌, [], ◌∷◌, List, Option, Some, length, option_map, refl, sym, ap, arith}
+use Rattle.std.proofs.Common.{◌≡◌, ◌∙◌, ◌+◌, ◌<◌, suc, ℕ, append_assoc, ◌++◌, [], ◌∷◌, List, length, option_map, refl, sym, ap, arith}
 use Rattle.std.proofs.lemmas.Result.{err_from_is_err_and}
 use Rattle.ui_machine.specs.Rules.Build.{building, first_transfer, new_binding, with_binding}
 use Rattle.ui_machine.specs.State.Config.{World}

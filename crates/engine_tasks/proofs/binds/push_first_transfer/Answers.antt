@@ -1,5 +1,4 @@
 use Rattle.std.proofs.Common.{◌≡◌, true, List, ◌++◌, ap, sym, ◌∙◌}
-use Rattle.std.specs.Prelude.{OnOk}
 use Rattle.ui_machine.specs.Definition.Properties.{has_flags}
 use Rattle.ui_machine.specs.State.Tasks.{Task}
 use Rattle.definition_format.specs.Meaning.{bind_view}

@@ -1,16 +1,15 @@
-use Rattle.std.proofs.Common.{◌≡◌, ◌∙◌, None, Some, true, false, List, [], ◌∷◌, refl, subst, sym, ap, option_map}
+use Rattle.std.proofs.Common.{◌≡◌, ◌∙◌, None, true, false, List, ◌∷◌, subst, sym, ap}
 use Rattle.ui_machine.specs.Outcome.{Goes}
 use Rattle.ui_machine.specs.State.Tasks.{Emitting, PlanEntry}
 use Rattle.ui_machine.specs.Steps.{act, uncounted}
 use Rattle.ui_machine.specs.Rules.Programs.{beginning_program}
-use Rattle.signal_core.specs.Emission.{Due, Walk, is_transfers}
+use Rattle.signal_core.specs.Emission.{is_transfers}
 use Rattle.signal_core.specs.declared.turn.Turn.{Turn}
 use Rattle.engine_world.specs.View.{world_of}
 use Rattle.engine_world.specs.TaskView.{agenda_of, emission_of, entries_to_come}
 use Rattle.engine_world.specs.TransferView.{due_now}
 use Rattle.engine_world.specs.EngineView.{config_of}
 use Rattle.engine_tasks.specs.TurnView.{given_by, program_of_turn}
-
 use Rattle.engine_tasks.proofs.EmissionTurns.{ready_free}
 use Rattle.engine_tasks.proofs.EmissionSteps.{at_before, bindings_with, due_of, ends_with, no_due, of_program, transfer_first, turns_with}
 use Rattle.engine_tasks.proofs.emission.emit.Goals as goal

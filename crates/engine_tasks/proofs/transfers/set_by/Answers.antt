@@ -1,9 +1,7 @@
-use Rattle.std.proofs.Common.{true, List, ◌∷◌, refl, ap, ◌∙◌}
-use Rattle.ui_machine.specs.State.Bindings.{Binding}
+use Rattle.std.proofs.Common.{List, ◌∷◌, refl, ap, ◌∙◌}
 use Rattle.ui_machine.specs.State.Tasks.{Setting, Task}
 use Rattle.bindings.specs.Made.{Made}
 use Rattle.g_values.specs.View.{value_view}
-use Rattle.engine_world.specs.TaskView.{agenda_of}
 use Rattle.engine_world.specs.View.{world_of}
 use Rattle.engine_world.proofs.Counts.{keeps_on, keeps_same}
 use Rattle.engine_tasks.proofs.transfers.set_by.Goals as goal

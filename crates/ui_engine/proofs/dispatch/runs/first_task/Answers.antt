@@ -1,4 +1,4 @@
-use Rattle.std.proofs.Common.{Ok, Err, ◌∙◌, refl, sym, subst, arith}
+use Rattle.std.proofs.Common.{Ok, Err, ◌∙◌, sym, subst, arith}
 use Rattle.std.proofs.lemmas.Result.{err_from_is_err_and}
 use Rattle.ui_machine.specs.State.Config.{Config}
 use Rattle.engine_world.specs.Counting.{in_subject}
