@@ -12,7 +12,7 @@ entry_of due = transfer due.number due.back
 abbrev pub due_of : (object slot : ℕ) → Binding → DueTransfer
 due_of object slot b = record { number = b.number; back = goes_back object slot b }
 
--- whether a binding makes a transfer that is due: it stands, and does not set
+-- whether a binding makes a transfer that is due: it has not ended, and does not set
 abbrev pub is_free : Option Binding → Bool
 is_free None = false
 is_free (Some b) = not b.busy

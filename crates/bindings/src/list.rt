@@ -133,6 +133,10 @@ impl Bindings {
     }
 
     /// The transfers that a notification is to make: those of the bindings that listen at the property, in document order.
+    ///
+    /// # Errors
+    ///
+    /// Where there is no memory for them.
     pub fn due(
         &self,
         alloc: Global,
@@ -153,14 +157,14 @@ impl Bindings {
         Ok(due)
     }
 
-    // The binding of a number, while it stands.
+    // The binding of a number, until it ends.
     fn bound(&self, number: u64) -> Option<&Bound>
         ensures { option_map (λ b. b.now) result ≡ binding_of number self.now.bindings }
     {
         self.bound.iter().find(|bound| bound.has_number(number))
     }
 
-    /// Whether the binding of a number makes a transfer that is due: it stands, and does not set.
+    /// Whether the binding of a number makes a transfer that is due: it has not ended, and does not set.
     pub fn is_ready(&self, number: u64) -> bool
         ensures { result ≡ is_free (binding_of number self.now.bindings) }
     {
@@ -170,7 +174,7 @@ impl Bindings {
         }
     }
 
-    /// The transfer of the binding of a number, while it stands: from its source to its target, or back.
+    /// The transfer of the binding of a number, until it ends: from its source to its target, or back.
     pub fn transfer(&self, number: u64, back: bool) -> Option<Transfer>
         ensures { result ≡ option_map (transfer_by back) (binding_of number self.now.bindings) }
     {
