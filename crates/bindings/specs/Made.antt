@@ -1,5 +1,5 @@
 -- What a list of bindings stands for.
-use Rattle.std.specs.Prelude.{ℕ, ◌+◌, ◌^◌, ◌<◌, All, Bool, false, cond, not, ◌&&◌, nat_le, List, [], ◌∷◌, ◌++◌, option_map, string_bytes}
+use Rattle.std.specs.Prelude.{ℕ, ◌+◌, ◌^◌, ◌<◌, All, Bool, false, cond, not, ◌&&◌, nat_le, max, List, [], ◌∷◌, ◌++◌, option_map, string_bytes}
 use Rattle.ui_machine.specs.Definition.Properties.{has_flags}
 use Rattle.ui_machine.specs.State.Bindings.{listens, goes_back}
 use Rattle.ui_machine.specs.State.Bindings as config
@@ -50,9 +50,13 @@ back b = record {
   invert = has_flags 4 b.flags;
 }
 
+-- from the target to the source, or the other way
+abbrev pub transfer_by : Bool → config.Binding → Transfer
+transfer_by is_back b = cond is_back (back b) (forth b)
+
 -- from the property that was notified to the other end
 abbrev pub transfer_of : (object slot : ℕ) → config.Binding → Transfer
-transfer_of object slot b = cond (goes_back object slot b) (back b) (forth b)
+transfer_of object slot b = transfer_by (goes_back object slot b) b
 
 -- the numbers are below the next one, which a number of 64 bits holds
 abbrev pub AreNumbered : List config.Binding → ℕ → Type 0
@@ -65,3 +69,7 @@ is_next object slot from b = nat_le from b.number && listens object slot b && no
 -- the list with one binding more, that does not set
 abbrev pub with_binding : Made → Binding → Made
 with_binding made b = record { bindings = made.bindings ++ binding_of made.next false b ∷ []; next = made.next + 1 }
+
+-- the same under a number; the numbers up to it are used up
+abbrev pub with_binding_as : ℕ → Made → Binding → Made
+with_binding_as number made b = record { bindings = made.bindings ++ binding_of number false b ∷ []; next = max made.next (number + 1) }

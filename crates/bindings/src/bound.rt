@@ -4,6 +4,7 @@ ghost use Rattle.std.specs.Prelude.{◌≡◌, false, nat_eq};
 ghost use Rattle.ui_machine.specs.State.Bindings.{listens, is_source, is_called, is_end};
 
 use crate::binding::{Binding, Transfer};
+use crate::due::DueTransfer;
 use crate::flags::BindingFlags;
 use bitflags::Flags;
 use std::marker::Model;
@@ -28,7 +29,8 @@ impl Model for Bound {
 }
 
 impl Bound {
-    ghost use Rattle.bindings.specs.Made.{binding_of, transfer_of};
+    ghost use Rattle.bindings.specs.Made.{binding_of, transfer_by, transfer_of};
+    ghost use Rattle.bindings.specs.Due.{due_of};
 
     /// A binding that does not set.
     pub(crate) fn new(number: u64, binding: Binding) -> Self
@@ -99,25 +101,42 @@ impl Bound {
     pub(crate) fn transfer(&self, object: ObjectId, slot: Slot) -> Transfer
         ensures { result ≡ transfer_of object.0 slot self.now }
     {
+        self.transfer_by(!self.is_source(object, slot))
+    }
+
+    /// The transfer from its source to its target, or back.
+    pub(crate) fn transfer_by(&self, back: bool) -> Transfer
+        ensures { result ≡ transfer_by back self.now }
+    {
         let binding = &self.binding;
         let invert = binding.flags.contains(BindingFlags::INVERT_BOOLEAN);
-        if self.is_source(object, slot) {
+        if back {
             return Transfer {
                 number: self.number,
-                source: binding.source,
-                source_slot: binding.source_slot,
-                target: binding.target,
-                target_slot: binding.target_slot,
+                source: binding.target,
+                source_slot: binding.target_slot,
+                target: binding.source,
+                target_slot: binding.source_slot,
                 invert,
             };
         }
         Transfer {
             number: self.number,
-            source: binding.target,
-            source_slot: binding.target_slot,
-            target: binding.source,
-            target_slot: binding.source_slot,
+            source: binding.source,
+            source_slot: binding.source_slot,
+            target: binding.target,
+            target_slot: binding.target_slot,
             invert,
+        }
+    }
+
+    /// What it is to do when the property, one of its ends, was notified, by its number and the way that it goes.
+    pub(crate) fn due(&self, object: ObjectId, slot: Slot) -> DueTransfer
+        ensures { result ≡ due_of object.0 slot self.now }
+    {
+        DueTransfer {
+            number: self.number,
+            back: !self.is_source(object, slot),
         }
     }
 }

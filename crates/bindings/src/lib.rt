@@ -8,11 +8,13 @@
 
 mod binding;
 mod bound;
+mod due;
 mod fault;
 mod flags;
 mod list;
 
 pub use binding::{Binding, Transfer};
+pub use due::{DueTransfer, DueTransfers};
 pub use fault::BindError;
 pub use flags::BindingFlags;
 pub use list::Bindings;

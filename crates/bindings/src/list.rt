@@ -1,13 +1,15 @@
 //! The bindings that stand.
 
-ghost use Rattle.std.specs.Prelude.{◌≡◌, ◌+◌, ◌-◌, ◌^◌, ◌<◌, ◌↔◌, [], OnOk, OnErr, IfOk, IfSome, option_map, count_by};
+ghost use Rattle.std.specs.Prelude.{◌≡◌, ◌+◌, ◌-◌, ◌^◌, ◌<◌, ◌↔◌, [], map, OnOk, OnErr, IfOk, IfSome, option_map, count_by};
 ghost use Rattle.std.specs.List.{find, list_any};
-ghost use Rattle.ui_machine.specs.State.Bindings.{is_called, is_end, bindings_without, bindings_without_end, with_busy};
+ghost use Rattle.ui_machine.specs.State.Bindings.{binding_of, is_called, is_end, bindings_without, bindings_without_end, transfers, with_busy};
+ghost use Rattle.bindings.specs.Due.{entry_of, is_free};
 
 use crate::binding::{Binding, Transfer};
 use crate::bound::Bound;
+use crate::due::DueTransfers;
 use crate::fault::BindError;
-use std::alloc::Global;
+use std::alloc::{AllocError, Global};
 use std::marker::Model;
 use ui_machine::{ObjectId, Slot};
 
@@ -29,7 +31,7 @@ impl Model for Bindings {
 }
 
 impl Bindings {
-    ghost use Rattle.bindings.specs.Made.{transfer_of, is_next, with_binding};
+    ghost use Rattle.bindings.specs.Made.{transfer_of, transfer_by, is_next, with_binding, with_binding_as};
 
     /// No bindings. It takes no memory.
     pub fn new(alloc: Global) -> Self
@@ -57,6 +59,22 @@ impl Bindings {
         self.bound.push(Bound::new(number, binding))?;
         self.next = next;
         Ok(number)
+    }
+
+    /// Makes a binding under its number in the document. Those below it that were not used are used up.
+    ///
+    /// `BindingLimit` where the number is 2^64 - 1, then `OutOfMemory`. An error changes nothing.
+    pub fn bind_as(&mut self, number: u64, binding: Binding) -> Result<(), BindError>
+        ensures ok { OnOk result (self.new ≡ with_binding_as number self.old binding) }
+        ensures limit { (result ≡ Err BindError.BindingLimit) ↔ (number ≡ 2 ^ 64 - 1) }
+        ensures err { OnErr result (self.new ≡ self.old) }
+    {
+        let Some(next) = number.checked_add(1) else {
+            return Err(BindError::BindingLimit);
+        };
+        self.bound.push(Bound::new(number, binding))?;
+        self.next = self.next.max(next);
+        Ok(())
     }
 
     /// Uses up the number of a binding that is not made, so that numbers stay places in the document.
@@ -112,6 +130,56 @@ impl Bindings {
                 bound.number() >= from && bound.listens(object, slot) && !bound.is_setting()
             })
             .map(|bound| bound.transfer(object, slot))
+    }
+
+    /// The transfers that a notification is to make: those of the bindings that listen at the property, in document order.
+    ///
+    /// # Errors
+    ///
+    /// Where there is no memory for them.
+    pub fn due(
+        &self,
+        alloc: Global,
+        object: ObjectId,
+        slot: Slot,
+    ) -> Result<DueTransfers, AllocError>
+        ensures { IfOk result (λ due. map entry_of due ≡ transfers object.0 slot self.now.bindings) }
+    {
+        let mut due = DueTransfers::new(alloc);
+        let mut left = self.bound.len();
+        'bindings: while left > 0 {
+            left -= 1;
+            let bound = &self.bound[left];
+            if bound.listens(object, slot) {
+                due.put_first(bound.due(object, slot))?;
+            }
+        }
+        Ok(due)
+    }
+
+    // The binding of a number, until it ends.
+    fn bound(&self, number: u64) -> Option<&Bound>
+        ensures { option_map (λ b. b.now) result ≡ binding_of number self.now.bindings }
+    {
+        self.bound.iter().find(|bound| bound.has_number(number))
+    }
+
+    /// Whether the binding of a number makes a transfer that is due: it has not ended, and does not set.
+    pub fn is_ready(&self, number: u64) -> bool
+        ensures { result ≡ is_free (binding_of number self.now.bindings) }
+    {
+        match self.bound(number) {
+            Some(bound) => !bound.is_setting(),
+            None => false,
+        }
+    }
+
+    /// The transfer of the binding of a number, until it ends: from its source to its target, or back.
+    pub fn transfer(&self, number: u64, back: bool) -> Option<Transfer>
+        ensures { result ≡ option_map (transfer_by back) (binding_of number self.now.bindings) }
+    {
+        let bound = self.bound(number)?;
+        Some(bound.transfer_by(back))
     }
 
     /// Marks the binding of a number as setting or not. Where it has ended, nothing happens.

@@ -1,5 +1,5 @@
 -- What an emission collects of its programs, and where else a program's result goes.
-use Rattle.std.proofs.Common.{◌≡◌, ◌≤◌, ◌∙◌, refl, sym, ap, subst, ℕ, ◌+◌, Bool, true, false, cond, List, [], ◌∷◌, Option, None, Some, Result, Ok, Err, arith}
+use Rattle.std.proofs.Common.{◌≡◌, ◌≤◌, ◌∙◌, refl, sym, ap, subst, ℕ, ◌+◌, ◌++◌, Bool, true, false, cond, List, [], ◌∷◌, Option, None, Some, Result, Ok, Err, arith}
 use Rattle.std.specs.Prelude.{OnOk}
 use Rattle.ui_machine.specs.declared.arm.Arm.{Arm}
 use Rattle.ui_machine.specs.declared.arm.Arm.TheVariants as arms
@@ -22,9 +22,9 @@ use Rattle.ui_machine.specs.State.References.{in_emission, in_object, in_registe
 use Rattle.ui_machine.specs.State.Tasks.{Answering, Emission, Emitting, PlanEntry, Task}
 use Rattle.g_values.specs.declared.value.Value as values
 use Rattle.instances.specs.Store.{Store, count_of}
-use Rattle.signal_core.specs.Emission.{Walk, is_over, stopped}
-use Rattle.engine_world.specs.KnownHandlers.{AllTakeKnownHandlers}
-use Rattle.engine_instructions.specs.CollectView.{TestsNone, collects, gives_none}
+use Rattle.signal_core.specs.Emission.{Due, Walk, is_over, stopped}
+use Rattle.engine_world.specs.KnownHandlers.{AllTakeKnownHandlers, EndsWithoutTransfers}
+use Rattle.engine_instructions.specs.CollectView.{TestsNone, collects, gives_none, stops_at}
 use Rattle.engine_world.specs.Counting.{Counts, OnlyCounts}
 use Rattle.engine_world.specs.TaskView.{agenda_of, emission_of, entries_to_come, task_of, tasks_of}
 use Rattle.engine_world.specs.declared.engine.Engine.{Engine}
@@ -32,7 +32,10 @@ use Rattle.engine_world.specs.declared.task.Stack.{Stack}
 use Rattle.engine_world.specs.declared.task.Task as code
 use Rattle.engine_world.specs.declared.task.Task.TheVariants as tasks
 use Rattle.engine_world.proofs.Counts.{restacked}
-use Rattle.engine_instructions.proofs.StoppedEmissions.{stop_leaves, stop_same, turns_alike}
+use Rattle.engine_instructions.proofs.StoppedEmissions.{over_leaves, stop_leaves, stop_same, turns_alike}
+use Rattle.engine_world.specs.TransferView.{due_later, due_now, entries_due_of}
+use Rattle.engine_world.specs.declared.task.Transfers.{Transfers}
+use Rattle.engine_world.specs.declared.task.Transfers.TheVariants as at
 use Rattle.engine_world.proofs.SameTurns.{entries}
 
 -- ** what an emission takes
@@ -41,35 +44,49 @@ module _ (w : Walk) (hs : List Handler) (args : List values.Value) (by_event : B
   abbrev own : Emission
   own = emission_of w args by_event
 
-  abbrev left : List PlanEntry
-  left = entries_to_come w hs
+  abbrev rest_of : Walk → Transfers → Task
+  rest_of u ts = Emitting (emission_of u args by_event) (entries_to_come u hs ts)
 
-  abbrev rest_of : Walk → Task
-  rest_of u = Emitting (emission_of u args by_event) (entries_to_come u hs)
+  module _ (ts : Transfers) (ends : EndsWithoutTransfers w ts) where
+    abbrev left : List PlanEntry
+    left = entries_to_come w hs ts
 
-  module _ (v : Value) where
-    abbrev with_it : Walk
-    with_it = record w { value = Some v }
+    module _ (v : Value) where
+      abbrev with_it : Walk
+      with_it = record w { value = Some v }
 
-    same_left : left ≡ entries_to_come with_it hs
-    same_left = sym (ap entries (turns_alike w hs w.stage w.stage (Some v)))
+      same_left : left ≡ entries_to_come with_it hs ts
+      same_left =
+          sym (ap (λ (dues : List Due). entries_due_of (due_now ts) ++ entries (entries_due_of (due_later ts)) dues) (turns_alike w hs w.stage w.stage (Some v)))
 
-    -- before its cleanup stage it takes a value, which may stop it
-    takes : (last : Bool) → Emitting (record own { value = Some v }) (entries_after last own left) ≡ rest_of (cond last (stopped with_it) with_it)
-    takes false = ap (Emitting (emission_of with_it args by_event)) same_left
-    takes true =
-        ap (λ (es : List PlanEntry). Emitting (emission_of with_it args by_event) (left_by_stop own es)) same_left
-        ∙ ap (Emitting (emission_of with_it args by_event)) (stop_leaves with_it hs args by_event)
-        ∙ ap (λ (e : Emission). Emitting e (entries_to_come (stopped with_it) hs)) (stop_same with_it hs args by_event)
+      -- before its cleanup stage it takes a value, which may stop it
+      takes : (last : Bool) → Emitting (record own { value = Some v }) (entries_after last own left) ≡ rest_of (cond last (stopped with_it) with_it) (cond last (at.Due []) ts)
+      takes false = ap (Emitting (emission_of with_it args by_event)) same_left
+      takes true =
+          ap (λ (es : List PlanEntry). Emitting (emission_of with_it args by_event) (left_by_stop own es)) same_left
+          ∙ ap (Emitting (emission_of with_it args by_event)) (stop_leaves with_it hs args by_event ts ends)
+          ∙ ap (λ (e : Emission). Emitting e (entries_to_come (stopped with_it) hs (at.Due []))) (stop_same with_it hs args by_event)
 
-    takes_by : (over last : Bool) → cond over (Emitting own left) (Emitting (record own { value = Some v }) (entries_after last own left)) ≡ rest_of (cond over w (cond last (stopped with_it) with_it))
-    takes_by true last = refl
-    takes_by false last = takes last
+      takes_by : (over last : Bool) → is_over w.stage ≡ over
+          → cond over (Emitting own left) (Emitting (record own { value = Some v }) (entries_after last own left)) ≡ rest_of (cond over w (cond last (stopped with_it) with_it)) (cond last (at.Due []) ts)
+      takes_by true true is = ap (Emitting own) (over_leaves w hs args by_event ts ends is)
+      takes_by true false is = refl
+      takes_by false last is = takes last
 
-  -- what code leaves is the machine's
-  pub collected_as : (s : Signal) (given : Option Value) → machine.collected s own left given ≡ rest_of (collects s.accumulator given w)
-  collected_as s None = refl
-  collected_as s (Some v) = takes_by v (is_over w.stage) (is_last s.accumulator v)
+    -- what code leaves is the machine's
+    pub collected_as : (s : Signal) (given : Option Value) → machine.collected s own left given ≡ rest_of (collects s.accumulator given w) (cond (stops_at s.accumulator given) (at.Due []) ts)
+    collected_as s None = refl
+    collected_as s (Some v) = takes_by v (is_over w.stage) (is_last s.accumulator v) refl
+
+    -- and no transfer is due at its end
+    pub still_ends : (a : Option Accumulator) (given : Option Value) → EndsWithoutTransfers (collects a given w) (cond (stops_at a given) (at.Due []) ts)
+    still_ends a None = ends
+    still_ends a (Some v) = by (is_over w.stage) (is_last a v)
+      where
+        by : (over last : Bool) → EndsWithoutTransfers (cond over w (cond last (stopped (record w { value = Some v })) (record w { value = Some v }))) (cond last (at.Due []) ts)
+        by over true = λ _. refl
+        by true false = ends
+        by false false = ends
 
   -- it is an emission by the same object
   pub collects_object : (a : Option Accumulator) (given : Option Value) → (collects a given w).object ≡ w.object
@@ -143,7 +160,7 @@ gives_last d w (Some v) = refl
 
 -- a task that takes nothing of what a program gives
 abbrev pub TakesNone : code.Task → Type 0
-TakesNone (tasks.Emitting cursor args by_event) = ⊥
+TakesNone (tasks.Emitting cursor args by_event transfers) = ⊥
 TakesNone (tasks.Answering source) = ⊥
 TakesNone _ = Unit {0}
 
@@ -153,7 +170,7 @@ module _ (d : Definition) (hs : List Handler) (w : World) (rest : List Task) whe
 
   -- a task that is no emission's and no source's is given nothing
   pub gives_other : (t : code.Task) (given : Option Value) → TakesNone t → GivesNone t given
-  gives_other (tasks.Emitting cursor args by_event) given other = absurd other
+  gives_other (tasks.Emitting cursor args by_event transfers) given other = absurd other
   gives_other (tasks.Setting id slot x) None other = refl
   gives_other (tasks.Setting id slot x) (Some v) other = refl
   gives_other (tasks.Notifying id slot) None other = refl
@@ -170,6 +187,12 @@ module _ (d : Definition) (hs : List Handler) (w : World) (rest : List Task) whe
   gives_other (tasks.Building place forwards) (Some v) other = refl
   gives_other (tasks.Adopting place forwards) None other = refl
   gives_other (tasks.Adopting place forwards) (Some v) other = refl
+  gives_other (tasks.Transferring number back) None other = refl
+  gives_other (tasks.Transferring number back) (Some v) other = refl
+  gives_other (tasks.Unsetting number) None other = refl
+  gives_other (tasks.Unsetting number) (Some v) other = refl
+  gives_other (tasks.Binding number) None other = refl
+  gives_other (tasks.Binding number) (Some v) other = refl
   gives_other (tasks.Connecting place number) None other = refl
   gives_other (tasks.Connecting place number) (Some v) other = refl
   gives_other (tasks.Answering source) given other = absurd other

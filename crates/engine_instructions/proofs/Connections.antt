@@ -15,12 +15,12 @@ use Rattle.ui_machine.specs.Rules.Connections.{is_on}
 use Rattle.ui_machine.specs.Seq.{total}
 use Rattle.ui_machine.specs.State.Handlers.{Handler}
 use Rattle.ui_machine.specs.State.References.{in_task}
-use Rattle.machine_laws.specs.GoneLaws.{gone_in, pruned}
+use Rattle.machine_laws.specs.GoneLaws.{pruned}
 use Rattle.machine_laws.proofs.GoneProofs.{hold_as}
 use Rattle.signal_core.specs.Connected.{Connected, Numbered, without_matched}
 use Rattle.engine_world.specs.Counting.{KeepsCounts}
 use Rattle.engine_instructions.specs.HandlersView.{Matched, matched_in}
-use Rattle.engine_world.specs.Standing.{without_gone}
+use Rattle.engine_world.specs.Standing.{gone_handlers, without_gone}
 use Rattle.engine_world.specs.TaskView.{agenda_of, tasks_of}
 use Rattle.engine_world.specs.View.{world_of}
 use Rattle.engine_world.specs.declared.engine.Engine.{Engine}
@@ -80,21 +80,21 @@ module _ (d : Definition) (e : Engine) (hs : Connected) (object program : ℕ) (
   own : hs.handlers ≡ without_matched object program e.world.handlers.handlers
   own = ap (λ (c : Connected). c.handlers) is
 
-  pub disconnect_leaves : agenda_of d (with_handlers e hs) ≡ map (pruned (gone_in (world_of (with_handlers e hs).world))) (agenda_of d e)
+  pub disconnect_leaves : agenda_of d (with_handlers e hs) ≡ map (pruned (gone_handlers (world_of (with_handlers e hs).world))) (agenda_of d e)
   disconnect_leaves =
       let keeps = λ (h : Handler). not (is_on object program h) in
       let numbered : Numbered 0 e.world.handlers.handlers hs.last = subst (λ (c : Connected). Numbered 0 e.world.handlers.handlers c.last) (sym is) rises in
       ap (λ (l : List Handler). tasks_of d l e.stack) own
-      ∙ sym (tasks_alike (gone_in (world_of (with_handlers e hs).world)) keeps d e.world.handlers.handlers
+      ∙ sym (tasks_alike (gone_handlers (world_of (with_handlers e hs).world)) (λ n. refl) keeps d e.world.handlers.handlers
       (kept_left keeps (world_of (with_handlers e hs).world) e.world.handlers.handlers own numbered) e.stack)
 
   pub keeps_disconnected : KeepsCounts d e (with_handlers e hs)
   keeps_disconnected = keeps_by d e (with_handlers e hs) refl refl (handled d e (with_handlers e hs) hs refl (only_list hs e.world.handlers _ is) refl) (λ taken _ h o.
-      omega (arith, h o, ap (λ (ts : List Task). total (in_task o) ts) disconnect_leaves, hold_as (gone_in (world_of (with_handlers e hs).world)) d o (agenda_of d e)))
+      omega (arith, h o, ap (λ (ts : List Task). total (in_task o) ts) disconnect_leaves, hold_as (gone_handlers (world_of (with_handlers e hs).world)) d o (agenda_of d e)))
 
 -- a program that goes on in a world where handlers are gone is all that is put in front
 pub pruned_left : (n : ℕ) (rest : List Task) (a : Answer Started) (w : World) (f : Frame) (world' : World) (agenda' : List Task) (counted' : ℕ) → a ≡ goes_on w [] f
-    → world' ≡ w → agenda' ≡ Running f ∷ map (pruned (gone_in w)) rest → counted' ≡ n
+    → world' ≡ w → agenda' ≡ Running f ∷ map (pruned (gone_handlers w)) rest → counted' ≡ n
     → (x : Config) × (left n (in_front rest a) ≡ Ok x) × (without_gone x ≡ record { world = world'; agenda = agenda'; counted = counted' })
 unfolding left in_front
 pruned_left n rest a w f world' agenda' counted' is world agenda count = (

@@ -9,7 +9,7 @@ use Rattle.ui_machine.specs.declared.arm.Halt.{Halt}
 use Rattle.ui_machine.specs.declared.arm.Halt.TheVariants as halts
 use Rattle.ui_machine.specs.Definition.{Definition}
 use Rattle.ui_machine.specs.Definition.Lookups.{place_at, place_of}
-use Rattle.ui_machine.specs.Definition.Places.{Attached, Place}
+use Rattle.ui_machine.specs.Definition.Places.{Attached, Bind, Place}
 use Rattle.ui_machine.specs.Definition.Values.{Value}
 use Rattle.ui_machine.specs.Definition.Values as values
 use Rattle.ui_machine.specs.Instructions.{in_front}
@@ -22,12 +22,12 @@ use Rattle.ui_machine.specs.Rules.Construction.{making, peer_left}
 use Rattle.ui_machine.specs.Seq.{total}
 use Rattle.ui_machine.specs.State.Config.{Config, Started, World, said, starts}
 use Rattle.ui_machine.specs.State.Objects.{live, most_identities}
-use Rattle.ui_machine.specs.State.Tasks.{Frame, Registers, Running, Task, adopts, connects, makes}
+use Rattle.ui_machine.specs.State.Tasks.{Frame, Registers, Running, Task, adopts, connects, makes, binds}
 use Rattle.ui_machine.specs.Steps.{left}
 use Rattle.definition_format.specs.Meaning.{IsBasic, is_object, object_count}
 use Rattle.engine_instructions.specs.CreateView.{created, created_if, has_room, prototype_named}
 use Rattle.engine_world.specs.EngineView.{config_of}
-use Rattle.engine_world.specs.TaskView.{agenda_of, build_end, build_from, connects_from, item_of, signals_of}
+use Rattle.engine_world.specs.TaskView.{agenda_of, build_end, build_from, connects_from, item_of, signals_of, binds_from}
 use Rattle.engine_world.specs.View.{world_of}
 use Rattle.engine_world.specs.declared.engine.Engine.{Engine}
 use Rattle.engine_world.specs.declared.task.ForwardReference.{ForwardReference}
@@ -217,7 +217,20 @@ left_count (p ∷ ps) (suc n) (suc k) first =
     let behind = left_count ps n k (λ i q at. first (suc i) q at ∙ grind (arith, nat_tests)) in
     omega (arith, more, one, behind)
 
+none_bound : (n : ℕ) (bs : List Bind) → total is_making (numbered binds n bs) ≡ 0
+none_bound n [] = refl
+none_bound n (b ∷ bs) = omega (arith, none_bound (suc n) bs)
+
 module _ (d : Definition) where
+  pub making_bound : (number : ℕ) → total is_making (binds_from d number) ≡ 0
+  making_bound number =
+      omega (
+        arith,
+        total-append is_making (numbered binds number (drop number d.bindings)) (connected_items 0 d.places),
+        none_bound number (drop number d.bindings),
+        none_connected 0 d.places,
+      )
+
   pub making_none : (place number : ℕ) → total is_making (connects_from d place number) ≡ 0
   making_none place number =
       omega (
@@ -234,9 +247,9 @@ module _ (d : Definition) where
         omega (
           arith,
           total-append is_making (made_items place (drop place d.places)) (build_end d fs),
-          total-append is_making (map item_of fs) (connected_items 0 d.places),
+          total-append is_making (map item_of fs) (binds_from d 0),
           none_forward fs,
-          none_connected 0 d.places,
+          making_bound 0,
           makings place (drop place d.places),
           left_count d.places (object_count d) place basic.prototypes,
         )

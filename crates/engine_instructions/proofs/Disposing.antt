@@ -20,16 +20,18 @@ use Rattle.ui_machine.specs.State.Objects.{living}
 use Rattle.ui_machine.specs.State.References.{in_task}
 use Rattle.ui_machine.specs.State.Tasks.{Frame, Running, Task}
 use Rattle.ui_machine.specs.Steps.{left}
+use Rattle.ui_machine.specs.State.Bindings.{bindings_without_end}
+use Rattle.bindings.specs.Made.{Made}
 use Rattle.instances.specs.Release.{Disposes}
 use Rattle.instances.specs.Store.{Store}
 use Rattle.instances.specs.Weak.{Knows}
 use Rattle.instances.proofs.Disposed.{dispose_exact}
 use Rattle.signal_core.specs.Connected.{Connected, without_object}
-use Rattle.machine_laws.specs.GoneLaws.{Gone, gone_in, pruned}
+use Rattle.machine_laws.specs.GoneLaws.{Gone, pruned}
 use Rattle.machine_laws.proofs.GoneProofs.{hold_as}
 use Rattle.engine_world.specs.Counting.{KeepsCounts}
 use Rattle.engine_world.specs.EngineView.{config_of}
-use Rattle.engine_world.specs.Standing.{GoesWithoutGone}
+use Rattle.engine_world.specs.Standing.{GoesWithoutGone, gone_handlers}
 use Rattle.engine_world.specs.TaskView.{agenda_of, tasks_of}
 use Rattle.engine_world.specs.View.{held_of, world_of}
 use Rattle.engine_world.specs.declared.engine.Engine.{Engine}
@@ -58,21 +60,22 @@ module _ (d : Definition) (v : code.World) (id : ℕ) where
       by false = refl
 
   -- what code leaves after it
-  pub disposed_now : (t : Store) (hs : Connected) (x : List ℕ) (new : World) → peer_of (living v.table.objects id) ≡ None → is_first (living v.table.objects id) ≡ true
-      → Disposes d id v.table t → hs ≡ record v.handlers { handlers = without_object id v.handlers.handlers } → x ≡ text_of_line d.types (lines.dispose id)
-      → new ≡ record (world_of (record v { table = t; handlers = hs })) { transcript = (world_of v).transcript ++ x ∷ [] } → disposed d (world_of v) id ≡ Ok new
+  pub disposed_now : (t : Store) (hs : Connected) (bs : Made) (x : List ℕ) (new : World) → peer_of (living v.table.objects id) ≡ None → is_first (living v.table.objects id) ≡ true
+      → Disposes d id v.table t → hs ≡ record v.handlers { handlers = without_object id v.handlers.handlers }
+      → bs ≡ record v.bindings { bindings = bindings_without_end id v.bindings.bindings } → x ≡ text_of_line d.types (lines.dispose id)
+      → new ≡ record (world_of (record v { table = t; handlers = hs; bindings = bs })) { transcript = (world_of v).transcript ++ x ∷ [] } → disposed d (world_of v) id ≡ Ok new
   unfolding closing
-  disposed_now t hs x new none first disposes left ex is =
+  disposed_now t hs bs x new none first disposes left ends ex is =
       let objects = disposes.objects in
       let floating = disposes.floating in
-      by_peer None none ∙ ap (λ b. closing d None (gone b)) first ∙ rw (is, objects, floating, left, ex) refl
+      by_peer None none ∙ ap (λ b. closing d None (gone b)) first ∙ rw (is, objects, floating, left, ends, ex) refl
 
 -- what is disposed held what it let go of; its handlers hold nothing
-pub keeps_disposed : (d : Definition) (e : Engine) (t : Store) (hs : Connected) (w : code.World) (gone : Gone) (id : ℕ) → (Knows d e.world.weak → Disposes d id e.world.table t)
+pub keeps_disposed : (d : Definition) (e : Engine) (t : Store) (hs : Connected) (bs : Made) (w : code.World) (gone : Gone) (id : ℕ) → (Knows d e.world.weak → Disposes d id e.world.table t)
     → hs ≡ record e.world.handlers { handlers = hs.handlers }
-    → w ≡ record (record e.world { table = t; handlers = hs }) { transcript = w.transcript } → tasks_of d hs.handlers e.stack ≡ map (pruned gone) (agenda_of d e)
+    → w ≡ record (record e.world { table = t; handlers = hs; bindings = bs }) { transcript = w.transcript } → tasks_of d hs.handlers e.stack ≡ map (pruned gone) (agenda_of d e)
     → KeepsCounts d e (record e { world = w })
-keeps_disposed d e t hs w gone id disposes only is left =
+keeps_disposed d e t hs bs w gone id disposes only is left =
     keeps_by d e (record e { world = w }) (ap (λ (v : code.World). v.weak) is) (ap (λ (v : code.World). v.context) is)
     (λ h. handled d e (record e { world = w }) hs (ap (λ (v : code.World). v.handlers) is) only refl h) (λ taken knows h.
     let b = map held_of e.world.builder.items in
@@ -91,18 +94,18 @@ module _ (d : Definition) (e b new : Engine) (f : Frame) (object id : ℕ) (is :
   stays_stuck (halts.Stuck arm) s = dispose_stuck d (world_of e.world) f object id is first arm s
 
   pub disposes_behind : {X : Type 0} (result : Result X Halt) → Goes result (disposed d (world_of b.world) id) (world_of new.world)
-      → OnOk result (agenda_of d new ≡ map (pruned (gone_in (world_of new.world))) (agenda_of d b)) → OnOk result (new.counted ≡ b.counted)
+      → OnOk result (agenda_of d new ≡ map (pruned (gone_handlers (world_of new.world))) (agenda_of d b)) → OnOk result (new.counted ≡ b.counted)
       → GoesWithoutGone result (left e.counted (in_front (agenda_of d e) (disposing d (world_of e.world) f object))) (config_of d new)
   disposes_behind {X} result goes tasks count = by result (subst (λ (w : World). Goes result (disposed d w id) (world_of new.world)) (world_pushed d e b f beside) goes) tasks count
     where
       by : (result : Result X Halt) → Goes result (disposed d (world_of e.world) id) (world_of new.world)
-          → OnOk result (agenda_of d new ≡ map (pruned (gone_in (world_of new.world))) (agenda_of d b)) → OnOk result (new.counted ≡ b.counted)
+          → OnOk result (agenda_of d new ≡ map (pruned (gone_handlers (world_of new.world))) (agenda_of d b)) → OnOk result (new.counted ≡ b.counted)
           → GoesWithoutGone result (left e.counted (in_front (agenda_of d e) (disposing d (world_of e.world) f object))) (config_of d new)
       by (Ok x) done tasks count = (
         record { world = world_of new.world; agenda = Running f ∷ agenda_of d e; counted = e.counted },
         started_left e.counted (agenda_of d e) (disposing d (world_of e.world) f object) (world_of new.world) [] f _ _ _
             (disposes d (world_of e.world) f object id is first (world_of new.world) done) refl refl refl,
-        (let left_so = tasks ∙ ap (λ (ts : List Task). map (pruned (gone_in (world_of new.world))) ts) agenda in
+        (let left_so = tasks ∙ ap (λ (ts : List Task). map (pruned (gone_handlers (world_of new.world))) ts) agenda in
             let counted_so = count ∙ count_pushed d e b f beside in
             rw (left_so, counted_so) refl),
       )

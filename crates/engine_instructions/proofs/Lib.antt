@@ -16,3 +16,4 @@ mod Calling
 pub mod Whole
 mod Creating
 mod SourceSteps
+mod Unbinding

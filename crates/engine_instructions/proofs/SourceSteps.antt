@@ -1,5 +1,5 @@
 -- What the instructions on sources lead to.
-use Rattle.std.proofs.Common.{◌≡◌, ◌∙◌, true, false, [], Option, Some, Ok, refl, sym, ap, ℕ}
+use Rattle.std.proofs.Common.{◌≡◌, ◌∙◌, true, false, [], Option, Some, Ok, refl, ap, ℕ}
 use Rattle.ui_machine.specs.declared.arm.Arm.TheVariants as arms
 use Rattle.ui_machine.specs.declared.arm.Halt.{Halt}
 use Rattle.ui_machine.specs.Definition.{Definition}
@@ -7,9 +7,9 @@ use Rattle.ui_machine.specs.Definition.Lookups.{program_of}
 use Rattle.ui_machine.specs.Definition.Values as values
 use Rattle.ui_machine.specs.Instructions.Registers.{data_in, goes_on, tells, written_to}
 use Rattle.ui_machine.specs.Instructions.Sources.{Attach, attached_to, attaching, removing, with_source}
-use Rattle.ui_machine.specs.Outcome.{After, Answer, Stops, known, ◌>>=◌}
+use Rattle.ui_machine.specs.Outcome.{Answer, Stops, known, ◌>>=◌}
 use Rattle.ui_machine.specs.Output.Lines as lines
-use Rattle.ui_machine.specs.State.Config.{Started, World, said}
+use Rattle.ui_machine.specs.State.Config.{World, said}
 use Rattle.ui_machine.specs.State.Sources as sources
 use Rattle.ui_machine.specs.State.Tasks.{Frame}
 use Rattle.std.specs.Prelude.{List}

@@ -1,5 +1,5 @@
 -- What a stop leaves of an emission, and of the tasks.
-use Rattle.engine_world.specs.KnownHandlers.{AllTakeKnownHandlers}
+use Rattle.engine_world.specs.KnownHandlers.{AllTakeKnownHandlers, EndsWithoutTransfers}
 use Rattle.engine_world.proofs.Counts.{restacked}
 use Rattle.std.proofs.Common.{◌≡◌, ◌∙◌, refl, sym, ap, subst, ℕ, ◌++◌, Bool, true, false, cond, map, nat_eq, List, [], ◌∷◌, Option, None, Some, arith}
 use Rattle.std.specs.List.{filter}
@@ -15,86 +15,109 @@ use Rattle.ui_machine.specs.State.References.{in_task}
 use Rattle.ui_machine.specs.State.Tasks as config
 use Rattle.ui_machine.specs.State.Tasks.{Emission, Emitting, PlanEntry, Task, class_handler}
 use Rattle.g_values.specs.declared.value.Value as values
-use Rattle.signal_core.specs.Emission.{Due, Walk, due, from_after, from_before, from_cleanup, from_last, from_transfers, is_ahead, is_over, of_bindings, of_class, of_handler, of_handlers, stopped, turns_from}
+use Rattle.signal_core.specs.Emission.{Due, Walk, due, from_after, from_before, from_cleanup, from_last, from_transfers, is_ahead, is_over, of_bindings, of_class, of_handler, of_handlers, stopped, to_come, turns_from}
 use Rattle.signal_core.specs.declared.stage.Stage.{Stage}
 use Rattle.signal_core.specs.declared.stage.Stage.TheVariants as stages
 use Rattle.signal_core.specs.declared.turn.Turn.TheVariants as turns
+use Rattle.bindings.specs.declared.due.DueTransfer.{DueTransfer}
 use Rattle.engine_world.specs.Counting.{Counts}
 use Rattle.engine_world.specs.TaskView.{agenda_of, emission_of, entries_to_come, task_of, tasks_of}
 use Rattle.engine_world.specs.declared.engine.Engine.{Engine}
 use Rattle.engine_world.specs.declared.task.Task as code
 use Rattle.engine_world.specs.declared.task.Task.TheVariants as tasks
+use Rattle.engine_world.specs.TransferView.{due_later, due_now, entries_due_of}
+use Rattle.engine_world.specs.declared.task.Transfers.{Transfers}
+use Rattle.engine_world.specs.declared.task.Transfers.TheVariants as at
 use Rattle.engine_world.proofs.SameTurns.{both_entries, entries}
 
 -- ** stops
 
--- those of the cleanup stage
-abbrev of_cleanup : List Due → List PlanEntry
-of_cleanup dues = filter is_of_cleanup (entries dues)
+-- no transfer is of the cleanup stage
+no_transfers : (due : List DueTransfer) → filter is_of_cleanup (entries_due_of due) ≡ []
+no_transfers [] = refl
+no_transfers (t ∷ due) = no_transfers due
 
--- what comes before it goes
-goes : (xs ys : List Due) → of_cleanup xs ≡ [] → of_cleanup (xs ++ ys) ≡ of_cleanup ys
-goes xs ys none =
-    ap (filter is_of_cleanup) (both_entries xs ys) ∙ filter-append is_of_cleanup (entries xs) (entries ys) ∙ ap (λ l. l ++ of_cleanup ys) none
+module _ (l : List DueTransfer) where
+  abbrev of : List PlanEntry
+  of = entries_due_of l
 
-handlers_go : (w : Walk) (given : ℕ) (after : Bool) (stage : ℕ → Stage) (hs : List Handler) → of_cleanup (of_handlers w given after stage hs) ≡ []
-handlers_go w given after stage [] = refl
-handlers_go w given after stage (h ∷ hs) = by (is_ahead w given after h) (handlers_go w given after stage hs)
-  where
-    by : (b : Bool) → of_cleanup (of_handlers w given after stage hs) ≡ []
-        → of_cleanup (map (of_handler stage) (cond b (h ∷ filter (is_ahead w given after) hs) (filter (is_ahead w given after) hs))) ≡ []
-    by true rest = rest
-    by false rest = rest
+  -- those of the cleanup stage
+  abbrev of_cleanup : List Due → List PlanEntry
+  of_cleanup dues = filter is_of_cleanup (entries of dues)
 
-class_goes : (runs : Bool) (program : Option ℕ) (next : Stage) → is_over next ≡ false → of_cleanup (of_class runs program next) ≡ []
-class_goes runs None next early = refl
-class_goes false (Some program) next early = refl
-class_goes true (Some program) next early = ap (λ b. filter is_of_cleanup (entries_with b)) early
-  where
-    entries_with : Bool → List PlanEntry
-    entries_with b = class_handler program b ∷ []
+  -- what comes before it goes
+  goes : (xs ys : List Due) → of_cleanup xs ≡ [] → of_cleanup (xs ++ ys) ≡ of_cleanup ys
+  goes xs ys none =
+      ap (filter is_of_cleanup) (both_entries of xs ys) ∙ filter-append is_of_cleanup (entries of xs) (entries of ys) ∙ ap (λ l. l ++ of_cleanup ys) none
 
-class_stays : (runs : Bool) (program : Option ℕ) → of_cleanup (of_class runs program stages.Over) ≡ entries (of_class runs program stages.Over)
-class_stays runs None = refl
-class_stays false (Some program) = refl
-class_stays true (Some program) = refl
-
-module _ (w : Walk) (hs : List Handler) where
-  cleanup_stays : of_cleanup (from_cleanup w) ≡ entries (from_cleanup w)
-  cleanup_stays = class_stays (has_flags 4 w.flags) w.class_program
-
-  after_left : (given : ℕ) → of_cleanup (from_after given w hs) ≡ entries (from_cleanup w)
-  after_left given = goes (of_handlers w given true stages.After hs) (from_cleanup w) (handlers_go w given true stages.After hs) ∙ cleanup_stays
-
-  last_left : of_cleanup (from_last w hs) ≡ entries (from_cleanup w)
-  last_left =
-      let class = of_class (has_flags 2 w.flags) w.class_program (stages.After 0) in
-      goes class (from_after 0 w hs) (class_goes (has_flags 2 w.flags) w.class_program (stages.After 0) refl) ∙ after_left 0
-
-  before_left : (given : ℕ) → of_cleanup (from_before given w hs) ≡ entries (from_cleanup w)
-  before_left given = goes (of_handlers w given false stages.Before hs) (from_last w hs) (handlers_go w given false stages.Before hs) ∙ last_left
-
-  bindings_go : of_cleanup (of_bindings w) ≡ []
-  bindings_go = by (nat_eq w.signal 0)
+  handlers_go : (w : Walk) (given : ℕ) (after : Bool) (stage : ℕ → Stage) (hs : List Handler) → of_cleanup (of_handlers w given after stage hs) ≡ []
+  handlers_go w given after stage [] = refl
+  handlers_go w given after stage (h ∷ hs) = by (is_ahead w given after h) (handlers_go w given after stage hs)
     where
-      by : (b : Bool) → of_cleanup (cond b (due turns.Transfers (stages.Before 0) ∷ []) []) ≡ []
-      by true = refl
-      by false = refl
+      by : (b : Bool) → of_cleanup (of_handlers w given after stage hs) ≡ []
+          → of_cleanup (map (of_handler stage) (cond b (h ∷ filter (is_ahead w given after) hs) (filter (is_ahead w given after) hs))) ≡ []
+      by true rest = rest
+      by false rest = rest
 
-  transfers_left : of_cleanup (from_transfers w hs) ≡ entries (from_cleanup w)
-  transfers_left = goes (of_bindings w) (from_before 0 w hs) bindings_go ∙ before_left 0
+  class_goes : (runs : Bool) (program : Option ℕ) (next : Stage) → is_over next ≡ false → of_cleanup (of_class runs program next) ≡ []
+  class_goes runs None next early = refl
+  class_goes false (Some program) next early = refl
+  class_goes true (Some program) next early = ap (λ b. filter is_of_cleanup (entries_with b)) early
+    where
+      entries_with : Bool → List PlanEntry
+      entries_with b = class_handler program b ∷ []
 
-  -- a stop leaves the cleanup stage, and in it does nothing
-  stop_at : (stage : Stage) → cond (is_over stage) (entries (turns_from stage w hs)) (of_cleanup (turns_from stage w hs)) ≡ entries (turns_from (cond (is_over stage) stages.Over stages.Cleanup) w hs)
-  stop_at stages.First =
-      let class = of_class (has_flags 1 w.flags) w.class_program stages.Transfers in
-      goes class (from_transfers w hs) (class_goes (has_flags 1 w.flags) w.class_program stages.Transfers refl) ∙ transfers_left
-  stop_at stages.Transfers = transfers_left
-  stop_at (stages.Before given) = before_left given
-  stop_at stages.Last = last_left
-  stop_at (stages.After given) = after_left given
-  stop_at stages.Cleanup = cleanup_stays
-  stop_at stages.Over = refl
+  class_stays : (runs : Bool) (program : Option ℕ) → of_cleanup (of_class runs program stages.Over) ≡ entries of (of_class runs program stages.Over)
+  class_stays runs None = refl
+  class_stays false (Some program) = refl
+  class_stays true (Some program) = refl
+
+  module _ (w : Walk) (hs : List Handler) where
+    cleanup_stays : of_cleanup (from_cleanup w) ≡ entries of (from_cleanup w)
+    cleanup_stays = class_stays (has_flags 4 w.flags) w.class_program
+
+    after_left : (given : ℕ) → of_cleanup (from_after given w hs) ≡ entries of (from_cleanup w)
+    after_left given = goes (of_handlers w given true stages.After hs) (from_cleanup w) (handlers_go w given true stages.After hs) ∙ cleanup_stays
+
+    last_left : of_cleanup (from_last w hs) ≡ entries of (from_cleanup w)
+    last_left =
+        let class = of_class (has_flags 2 w.flags) w.class_program (stages.After 0) in
+        goes class (from_after 0 w hs) (class_goes (has_flags 2 w.flags) w.class_program (stages.After 0) refl) ∙ after_left 0
+
+    before_left : (given : ℕ) → of_cleanup (from_before given w hs) ≡ entries of (from_cleanup w)
+    before_left given = goes (of_handlers w given false stages.Before hs) (from_last w hs) (handlers_go w given false stages.Before hs) ∙ last_left
+
+    bindings_go : of_cleanup (of_bindings w) ≡ []
+    bindings_go = by (nat_eq w.signal 0)
+      where
+        by : (b : Bool) → of_cleanup (cond b (due turns.Transfers (stages.Before 0) ∷ []) []) ≡ []
+        by true = filter-append is_of_cleanup of [] ∙ ap (λ (es : List PlanEntry). es ++ []) (no_transfers l)
+        by false = refl
+
+    transfers_left : of_cleanup (from_transfers w hs) ≡ entries of (from_cleanup w)
+    transfers_left = goes (of_bindings w) (from_before 0 w hs) bindings_go ∙ before_left 0
+
+    -- a stop leaves the cleanup stage, and in it does nothing
+    stop_at : (stage : Stage) → cond (is_over stage) (entries of (turns_from stage w hs)) (of_cleanup (turns_from stage w hs)) ≡ entries of (turns_from (cond (is_over stage) stages.Over stages.Cleanup) w hs)
+    stop_at stages.First =
+        let class = of_class (has_flags 1 w.flags) w.class_program stages.Transfers in
+        goes class (from_transfers w hs) (class_goes (has_flags 1 w.flags) w.class_program stages.Transfers refl) ∙ transfers_left
+    stop_at stages.Transfers = transfers_left
+    stop_at (stages.Before given) = before_left given
+    stop_at stages.Last = last_left
+    stop_at (stages.After given) = after_left given
+    stop_at stages.Cleanup = cleanup_stays
+    stop_at stages.Over = refl
+
+    -- what is left makes no transfers
+    left_plain : (over : Bool) → entries of (turns_from (cond over stages.Over stages.Cleanup) w hs) ≡ entries [] (turns_from (cond over stages.Over stages.Cleanup) w hs)
+    left_plain true = refl
+    left_plain false = by (has_flags 4 w.flags) w.class_program
+      where
+        by : (runs : Bool) (program : Option ℕ) → entries of (of_class runs program stages.Over) ≡ entries [] (of_class runs program stages.Over)
+        by runs None = refl
+        by true (Some program) = refl
+        by false (Some program) = refl
 
 -- where it stands and what it has accumulated make no difference to the turns from a stage on
 pub turns_alike : (w : Walk) (hs : List Handler) (at stage : Stage) (v : Option Value) → turns_from at (record w { stage = stage; value = v }) hs ≡ turns_from at w hs
@@ -119,8 +142,41 @@ module _ (w : Walk) (hs : List Handler) (args : List values.Value) (by_event : B
   abbrev own : Emission
   own = emission_of w args by_event
 
-  pub stop_leaves : left_by_stop own (entries_to_come w hs) ≡ entries_to_come (stopped w) hs
-  stop_leaves = stop_at w hs w.stage ∙ ap entries (sym (turns_alike w hs (cond (is_over w.stage) stages.Over stages.Cleanup) (cond (is_over w.stage) stages.Over stages.Cleanup) w.value))
+  module _ (ts : Transfers) (ends : EndsWithoutTransfers w ts) where
+    abbrev now : List PlanEntry
+    now = entries_due_of (due_now ts)
+
+    abbrev behind : List PlanEntry
+    behind = entries (entries_due_of (due_later ts)) (to_come w hs)
+
+    -- the transfers that are due go
+    turns_left : (over : Bool) → is_over w.stage ≡ over → cond over (now ++ behind) (filter is_of_cleanup (now ++ behind)) ≡ cond over behind (filter is_of_cleanup behind)
+    turns_left true is = ap (λ (l : List DueTransfer). entries_due_of l ++ behind) (ends is)
+    turns_left false is = filter-append is_of_cleanup now behind ∙ ap (λ (es : List PlanEntry). es ++ filter is_of_cleanup behind) (no_transfers (due_now ts))
+
+    pub stop_leaves : left_by_stop own (entries_to_come w hs ts) ≡ entries_to_come (stopped w) hs (at.Due [])
+    stop_leaves =
+        let next = cond (is_over w.stage) stages.Over stages.Cleanup in
+        turns_left (is_over w.stage) refl
+        ∙ stop_at (due_later ts) w hs w.stage
+        ∙ left_plain (due_later ts) w hs (is_over w.stage)
+        ∙ ap (entries []) (sym (turns_alike w hs next next w.value))
+
+    -- at its end nothing is left
+    pub over_leaves : is_over w.stage ≡ true → entries_to_come w hs ts ≡ entries_to_come w hs (at.Due [])
+    over_leaves over =
+        let none = ends over in
+        ap (λ (l : List DueTransfer). entries_due_of l ++ behind) none
+        ∙ by w.stage over
+      where
+        by : (stage : Stage) → is_over stage ≡ true → entries (entries_due_of (due_later ts)) (turns_from stage w hs) ≡ entries [] (turns_from stage w hs)
+        by stages.First e = cc e
+        by stages.Transfers e = cc e
+        by (stages.Before given) e = cc e
+        by stages.Last e = cc e
+        by (stages.After given) e = cc e
+        by stages.Cleanup e = cc e
+        by stages.Over e = refl
 
   pub stop_same : own ≡ emission_of (stopped w) args by_event
   stop_same = ap (λ b. record own { cleanup = b }) (sym (over_stays w.stage))
@@ -129,13 +185,13 @@ module _ (w : Walk) (hs : List Handler) (args : List values.Value) (by_event : B
 
 -- a task that is no emission's
 abbrev pub IsOther : code.Task → Type 0
-IsOther (tasks.Emitting cursor args by_event) = ⊥
+IsOther (tasks.Emitting cursor args by_event transfers) = ⊥
 IsOther _ = Unit {0}
 
 module _ (d : Definition) (hs : List Handler) where
   -- a stop leaves it
   pub stops_none : (t : code.Task) (rest : List Task) → IsOther t → machine.stopped (task_of d hs t ∷ rest) ≡ task_of d hs t ∷ rest
-  stops_none (tasks.Emitting cursor args by_event) rest other = absurd other
+  stops_none (tasks.Emitting cursor args by_event transfers) rest other = absurd other
   stops_none (tasks.Setting id slot v) rest other = refl
   stops_none (tasks.Notifying id slot) rest other = refl
   stops_none (tasks.Beginning e) rest other = refl
@@ -144,6 +200,9 @@ module _ (d : Definition) (hs : List Handler) where
   stops_none (tasks.Constructing id steps held) rest other = refl
   stops_none (tasks.Building place forwards) rest other = refl
   stops_none (tasks.Adopting place forwards) rest other = refl
+  stops_none (tasks.Transferring number back) rest other = refl
+  stops_none (tasks.Unsetting number) rest other = refl
+  stops_none (tasks.Binding number) rest other = refl
   stops_none (tasks.Connecting place number) rest other = refl
   stops_none (tasks.Answering source) rest other = refl
   stops_none (tasks.Due source) rest other = refl

@@ -1,21 +1,20 @@
--- The engine's configuration has no turns of those that are gone.
-use Rattle.std.proofs.Common.{◌≡◌, List, Result, Ok, Err, ap}
+-- The engine's configuration has no turns of handlers that are gone.
+use Rattle.std.proofs.Common.{◌≡◌, List, Result, Ok, Err, ap, refl}
 use Rattle.ui_machine.specs.declared.arm.Halt.{Halt}
 use Rattle.ui_machine.specs.Definition.{Definition}
 use Rattle.ui_machine.specs.Outcome.{Answer, Goes}
 use Rattle.ui_machine.specs.State.Config.{Config}
 use Rattle.ui_machine.specs.State.Tasks.{Task}
-use Rattle.machine_laws.specs.GoneLaws.{gone_in}
 use Rattle.machine_laws.proofs.GoneProofs.{given_are_gone}
 use Rattle.engine_world.specs.EngineView.{config_of}
-use Rattle.engine_world.specs.Standing.{GoesWithoutGone, without_gone}
+use Rattle.engine_world.specs.Standing.{GoesWithoutGone, gone_handlers, without_gone}
 use Rattle.engine_world.specs.View.{world_of}
 use Rattle.engine_world.specs.declared.engine.Engine.{Engine}
 use Rattle.engine_world.proofs.Gone.{none_gone}
 
 pub engine_whole : (d : Definition) (e : Engine) → without_gone (config_of d e) ≡ config_of d e
 engine_whole d e =
-    ap (λ (ts : List Task). record (config_of d e) { agenda = ts }) (none_gone d (gone_in (world_of e.world)) e.world.handlers.handlers e.stack (given_are_gone (world_of e.world)).handlers)
+    ap (λ (ts : List Task). record (config_of d e) { agenda = ts }) (none_gone d (gone_handlers (world_of e.world)) (λ n. refl) e.world.handlers.handlers e.stack (given_are_gone (world_of e.world)).handlers)
 
 -- what code leads to exactly has none of them
 pub goes_whole : {X : Type 0} (d : Definition) (e : Engine) (r : Result X Halt) (a : Answer Config) → Goes r a (config_of d e) → GoesWithoutGone r a (config_of d e)

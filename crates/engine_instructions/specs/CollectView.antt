@@ -1,5 +1,5 @@
 -- What an emission collects, and where else a program's result goes.
-use Rattle.std.specs.Prelude.{List, Option, None, Some, Result, Err}
+use Rattle.std.specs.Prelude.{Bool, false, List, Option, None, Some, Result, Err}
 use Rattle.ui_machine.specs.declared.arm.Arm.TheVariants as arms
 use Rattle.ui_machine.specs.Definition.Signals.{Accumulator}
 use Rattle.ui_machine.specs.Definition.Values.{Value}
@@ -14,6 +14,11 @@ use Rattle.signal_core.specs.Emission.{Walk, collected}
 abbrev pub collects : Option Accumulator → Option Value → Walk → Walk
 collects accumulator None w = w
 collects accumulator (Some v) w = collected v (is_last accumulator v) w
+
+-- whether what a program gave, or gave not, is the last that the emission takes
+abbrev pub stops_at : Option Accumulator → Option Value → Bool
+stops_at accumulator None = false
+stops_at accumulator (Some v) = is_last accumulator v
 
 -- a program above a task that is no emission's gives none
 abbrev pub gives_none : World → List Task → Option Value → Answer Left

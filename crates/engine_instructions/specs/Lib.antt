@@ -5,6 +5,7 @@ pub mod HandlersView
 pub mod JumpView
 pub mod PropertyView
 pub mod CreateView
+pub mod UnbindView
 pub use Rattle.engine_world.specs.ConnectView
 pub use Rattle.engine_world.specs.Counting
 pub use Rattle.engine_world.specs.EngineView

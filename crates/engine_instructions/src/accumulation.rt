@@ -1,6 +1,6 @@
 //! What programs give: an emission collects it (GObject manual, Signals: GSignalAccumulator).
 
-ghost use Rattle.std.specs.Prelude.{◌≡◌, ℕ, ◌+◌, ◌≤◌, option_map, IfSome, OnOk};
+ghost use Rattle.std.specs.Prelude.{◌≡◌, ℕ, ◌+◌, ◌≤◌, [], cond, option_map, IfOk, IfSome, OnOk};
 ghost use Rattle.ui_machine.specs.Outcome.{Goes};
 ghost use Rattle.ui_machine.specs.Rules.Accumulation.{down_to_emission, given_down, suits};
 ghost use Rattle.ui_machine.specs.Definition as machine;
@@ -12,8 +12,9 @@ ghost use Rattle.g_values.specs.View.{kind_view, value_view};
 ghost use Rattle.signal_core.specs.Emission.{accumulator_of};
 ghost use Rattle.definition_format.specs.Meaning.{IsKnownKind};
 ghost use Rattle.instances.specs.Store.{count_of};
-ghost use Rattle.engine_world.specs.KnownHandlers.{AllTakeKnownHandlers};
-ghost use Rattle.engine_instructions.specs.CollectView.{TestsNone, collects};
+ghost use Rattle.engine_world.specs.KnownHandlers.{AllTakeKnownHandlers, EndsWithoutTransfers};
+ghost use Rattle.engine_world.specs.declared.task.Transfers.TheVariants as at;
+ghost use Rattle.engine_instructions.specs.CollectView.{TestsNone, collects, stops_at};
 ghost use Rattle.engine_world.specs.Counting.{Counts, HoldsTasks, KeepsCounts, OnlyCounts, OnlyTasks};
 ghost use Rattle.engine_world.specs.SourceView.{HoldsSources};
 ghost use Rattle.engine_world.specs.TaskView.{agenda_of, emission_of, entries_to_come};
@@ -24,11 +25,11 @@ use engine_world::arguments::fits;
 use engine_world::engine::Engine;
 use engine_world::references::{accumulated, hold_any, let_go_any};
 use engine_world::sources::answer_source;
-use engine_world::task::Task;
+use engine_world::task::{Task, Transfers};
 use g_values::{Kind, Value};
 use instances::Table;
 use signal_core::{Accumulator, Cursor, is_last};
-use std::alloc::AllocError;
+use std::alloc::{AllocError, Global};
 use type_tree::TypeTree;
 use ui_machine::{Arm, Halt};
 
@@ -49,27 +50,40 @@ pub(crate) fn suits(
     }
 }
 
-// An emission takes what its program gave, if it gave something. It holds what that names, and lets go what the value before it named.
+// An emission takes what its program gave, if it gave something, and answers whether that was the last. It holds what that names, and lets
+// go what the value before it named.
 fn collect(
     table: &mut Table,
     cursor: &mut Cursor,
     accumulator: Option<Accumulator>,
     given: Option<Value>,
-) -> Result<(), AllocError>
+) -> Result<bool, AllocError>
     requires held { (o : ℕ) → in_register o cursor.now.value ≤ count_of table.now.counts o }
+    ensures last { IfOk result (λ last. last ≡ stops_at (option_map accumulator_of accumulator) (option_map value_view given)) }
     ensures taken { OnOk result (cursor.new ≡ collects (option_map accumulator_of accumulator) (option_map value_view given) cursor.old) }
     ensures only { OnlyCounts table.old table.new }
     ensures counts { OnOk result ((o : ℕ) → count_of table.new.counts o + in_register o cursor.old.value ≡ count_of table.old.counts o + in_register o cursor.new.value) }
 {
     let Some(value) = given else {
-        return Ok(());
+        return Ok(false);
     };
     let held = accumulated(cursor);
     let is_last = is_last(accumulator, &value);
     cursor.collect(value, is_last);
     hold_any(table, accumulated(cursor))?;
     let_go_any(table, held);
-    Ok(())
+    Ok(is_last)
+}
+
+// The transfers of an emission, of which none are left where it stopped.
+fn unless_stopped(alloc: Global, transfers: Transfers, is_stopped: bool) -> Transfers
+    ensures { result ≡ cond is_stopped (at.Due []) transfers }
+{
+    if is_stopped {
+        Transfers::new(alloc)
+    } else {
+        transfers
+    }
 }
 
 // Whether a program gives nothing, as it has to where no emission is below it.
@@ -89,12 +103,14 @@ fn accumulate(
     mut cursor: Cursor,
     args: Vec<Value>,
     by_event: bool,
+    transfers: Transfers,
     given: Option<Value>,
 ) -> Result<(), Halt>
     requires held { (o : ℕ) → in_register o cursor.value ≤ count_of engine.now.world.table.counts o }
     requires begun { cursor.greatest ≤ engine.now.world.handlers.last }
+    requires ends { EndsWithoutTransfers cursor transfers }
     ensures step { Goes result
-        (down_to_emission definition.now (world_of engine.old.world) (emission_of cursor args.items by_event) (entries_to_come cursor engine.old.world.handlers.handlers)
+        (down_to_emission definition.now (world_of engine.old.world) (emission_of cursor args.items by_event) (entries_to_come cursor engine.old.world.handlers.handlers transfers)
         (agenda_of definition.now engine.old) (option_map value_view given))
         (record { world = world_of engine.new.world; agenda = agenda_of definition.now engine.new }) }
     ensures only { OnlyTasks engine.old engine.new }
@@ -111,16 +127,18 @@ fn accumulate(
     if !suits(&engine.world.table, types, &given, signal.result) {
         return Err(Halt::Stuck(Arm::Result));
     }
-    collect(
+    let is_last = collect(
         &mut engine.world.table,
         &mut cursor,
         signal.accumulator,
         given,
     )?;
+    let left = unless_stopped(engine.alloc, transfers, is_last);
     engine.stack.push(Task::Emitting {
         cursor,
         args,
         by_event,
+        transfers: left,
     })?;
     Ok(())
 }
@@ -165,7 +183,8 @@ pub(crate) fn give_down(
             cursor,
             args,
             by_event,
-        } => accumulate(engine, definition, cursor, args, by_event, given),
+            transfers,
+        } => accumulate(engine, definition, cursor, args, by_event, transfers, given),
         Task::Answering { source } => answer(engine, source, given),
         task => {
             engine.stack.push(task)?;

@@ -29,6 +29,7 @@ use crate::registers::compute_register;
 use crate::returns::return_from_program;
 use crate::sources::{Attach, attach_from_program, remove_from_program};
 use crate::stops::stop_from_program;
+use crate::unbinds::unbind_from_program;
 use bytecode::{
     ControlInstruction, Instruction, ObjectInstruction, Program, PropertyInstruction,
     SignalInstruction, SourceInstruction,
@@ -234,7 +235,9 @@ fn execute_on_sources(
     ensures counted { OnOk result (Counts definition.now nothing engine.new) }
 {
     match instruction {
-        SourceInstruction::Unbind(_) => Err(Halt::Stuck(Arm::Code)),
+        SourceInstruction::Unbind(name) => {
+            unbind_from_program(engine, definition, frame, name.as_str())
+        }
         SourceInstruction::Idle {
             to,
             program,

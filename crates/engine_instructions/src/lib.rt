@@ -15,3 +15,4 @@ pub mod registers;
 pub mod returns;
 pub mod sources;
 pub mod stops;
+pub mod unbinds;

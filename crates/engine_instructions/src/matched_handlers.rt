@@ -8,12 +8,12 @@ ghost use Rattle.ui_machine.specs.Outcome.{Goes};
 ghost use Rattle.ui_machine.specs.Rules.Connections.{blocked, disconnected, unblocked, with_handlers_on};
 ghost use Rattle.ui_machine.specs.Steps.{left};
 ghost use Rattle.frames.specs.FrameView.{frame_view};
-ghost use Rattle.machine_laws.specs.GoneLaws.{gone_in, pruned};
+ghost use Rattle.machine_laws.specs.GoneLaws.{pruned};
 ghost use Rattle.engine_world.specs.Counting.{Counts, KeepsCounts, in_frame, nothing};
 ghost use Rattle.engine_world.specs.EngineView.{config_of};
 ghost use Rattle.engine_world.specs.GivenView.{Finds};
 ghost use Rattle.engine_instructions.specs.HandlersView.{matched_in, matched_of};
-ghost use Rattle.engine_world.specs.Standing.{GoesWithoutGone};
+ghost use Rattle.engine_world.specs.Standing.{GoesWithoutGone, gone_handlers};
 ghost use Rattle.engine_world.specs.TaskView.{agenda_of};
 ghost use Rattle.engine_world.specs.View.{world_of};
 
@@ -50,7 +50,7 @@ fn matched_in(
 // Disconnects them. They have no more turns in the emissions that go on.
 fn disconnect(engine: &mut Engine, definition: &Definition, matched: Matched)
     ensures world { world_of engine.new.world ≡ disconnected (world_of engine.old.world) matched.object.0 matched.program }
-    ensures agenda { agenda_of definition.now engine.new ≡ map (pruned (gone_in (world_of engine.new.world))) (agenda_of definition.now engine.old) }
+    ensures agenda { agenda_of definition.now engine.new ≡ map (pruned (gone_handlers (world_of engine.new.world))) (agenda_of definition.now engine.old) }
     ensures same { engine.new.counted ≡ engine.old.counted }
     ensures counted { KeepsCounts definition.now engine.old engine.new }
 {

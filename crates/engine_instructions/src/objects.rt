@@ -12,12 +12,12 @@ ghost use Rattle.ui_machine.specs.Steps.{left};
 ghost use Rattle.frames.specs.FrameView.{frame_view};
 ghost use Rattle.instances.specs.Family.{parent_in};
 ghost use Rattle.instances.specs.Weak.{Knows};
-ghost use Rattle.machine_laws.specs.GoneLaws.{gone_in, pruned};
+ghost use Rattle.machine_laws.specs.GoneLaws.{pruned};
 ghost use Rattle.engine_world.specs.View.{world_of};
 ghost use Rattle.engine_world.specs.TaskView.{agenda_of};
 ghost use Rattle.engine_world.specs.Counting.{Counts, KeepsCounts, in_frame, nothing};
 ghost use Rattle.engine_world.specs.EngineView.{config_of};
-ghost use Rattle.engine_world.specs.Standing.{GoesWithoutGone};
+ghost use Rattle.engine_world.specs.Standing.{GoesWithoutGone, gone_handlers};
 
 use crate::operands::object_in;
 use crate::registers::write_register;
@@ -198,13 +198,13 @@ pub(crate) fn adopt_from_program(
 }
 
 // An object that was not disposed is: it lets go what it holds, and all forget it. Its handlers go, and have no more turns in the
-// emissions that go on.
+// emissions that go on, and its bindings end.
 fn dispose(engine: &mut Engine, definition: &Definition, object: ObjectId) -> Result<(), Halt>
     requires live { IsSome (living engine.now.world.table.objects object.0) }
     requires first { is_disposed (living engine.now.world.table.objects object.0) ≡ false }
     requires knows { Knows definition.now engine.now.world.weak }
     ensures step { Goes result (disposed definition.now (world_of engine.old.world) object.0) (world_of engine.new.world) }
-    ensures agenda { OnOk result (agenda_of definition.now engine.new ≡ map (pruned (gone_in (world_of engine.new.world))) (agenda_of definition.now engine.old)) }
+    ensures agenda { OnOk result (agenda_of definition.now engine.new ≡ map (pruned (gone_handlers (world_of engine.new.world))) (agenda_of definition.now engine.old)) }
     ensures quiet { OnErr result ((world_of engine.new.world).transcript ≡ (world_of engine.old.world).transcript) }
     ensures same { OnOk result (engine.new.counted ≡ engine.old.counted) }
     ensures counted { OnOk result (KeepsCounts definition.now engine.old engine.new) }
@@ -218,12 +218,13 @@ fn dispose(engine: &mut Engine, definition: &Definition, object: ObjectId) -> Re
     let _last = engine.world.handlers.last();
     engine.world.table.dispose(&engine.world.weak, object);
     engine.world.handlers.disconnect_object(object);
+    engine.world.bindings.end_of(object);
     engine.world.say(line)?;
     Ok(())
 }
 
 /// An object is disposed, unless it was before: it lets go what it holds, and all forget it. Its handlers have no more turns in the
-/// emissions that go on.
+/// emissions that go on, and its bindings end.
 pub(crate) fn run_dispose(
     engine: &mut Engine,
     definition: &Definition,

@@ -17,13 +17,14 @@ ghost use Rattle.engine_world.specs.View.{world_of};
 use definitions::Definition;
 use engine_world::engine::Engine;
 use engine_world::program_frames::push_frame;
-use engine_world::task::Task;
+use engine_world::task::{Task, Transfers};
 use frames::Frame;
 use std::alloc::AllocError;
 use ui_machine::Halt;
 
-// The emission that runs the program stops: what is left of it is its cleanup stage.
+// The emission that runs the program stops: what is left of it is its cleanup stage, which makes no transfers.
 fn stop_emission(engine: &mut Engine) -> Result<(), AllocError>
+    requires begun { AllTakeKnownHandlers engine.now.world.handlers.last engine.now.stack }
     ensures agenda { OnOk result ((d : machine.Definition) → agenda_of d engine.new ≡ stopped (agenda_of d engine.old)) }
     ensures beside { engine.new ≡ record engine.old { stack = engine.new.stack } }
     ensures begun { OnOk result ((last : ℕ) → AllTakeKnownHandlers last engine.old.stack → AllTakeKnownHandlers last engine.new.stack) }
@@ -35,6 +36,7 @@ fn stop_emission(engine: &mut Engine) -> Result<(), AllocError>
         mut cursor,
         args,
         by_event,
+        transfers: _,
     } = task
     else {
         engine.stack.push(task)?;
@@ -45,6 +47,7 @@ fn stop_emission(engine: &mut Engine) -> Result<(), AllocError>
         cursor,
         args,
         by_event,
+        transfers: Transfers::new(engine.alloc),
     })?;
     Ok(())
 }

@@ -1,5 +1,5 @@
 -- How emissions begin and end, by the class of the object that emits.
-use Rattle.std.proofs.Common.{◌≡◌, ℕ, Bool, true, false, List, [], ◌∷◌, Option, Some, None, option_map, is_some, Result, Ok, Err, refl, sym, ap, subst, ◌∙◌}
+use Rattle.std.proofs.Common.{◌≡◌, ℕ, Bool, true, false, List, [], ◌∷◌, Option, Some, None, option_map, Result, Ok, Err, refl, sym, ap, subst, ◌∙◌}
 use Rattle.ui_machine.specs.declared.arm.Arm.{Arm}
 use Rattle.ui_machine.specs.declared.arm.Arm.TheVariants as arms
 use Rattle.ui_machine.specs.Definition.{Definition}
@@ -10,8 +10,9 @@ use Rattle.ui_machine.specs.Output.Lines as lines
 use Rattle.ui_machine.specs.Rules.Accumulation.{ending, passed_down, result_of, resulting, told}
 use Rattle.ui_machine.specs.Definition.Lookups.{spec_of}
 use Rattle.ui_machine.specs.Definition.Properties.{Spec}
-use Rattle.ui_machine.specs.Rules.EmissionPlan.{beginning_emission, emission_plan, notification, notifying, plan, signal_at, signal_of}
-use Rattle.ui_machine.specs.State.Bindings.{Binding, transfers}
+use Rattle.ui_machine.specs.Rules.EmissionPlan.{beginning_emission, emission_plan, notification, notifying, signal_at, signal_of}
+use Rattle.ui_machine.specs.State.Bindings.{transfers}
+use Rattle.bindings.specs.declared.due.DueTransfer.{DueTransfer}
 use Rattle.ui_machine.specs.Rules.Programs.{all_fit}
 use Rattle.ui_machine.specs.Rules.Transform.{kind_fits}
 use Rattle.ui_machine.specs.State.Config.{Config, Left, Started, World, leaves, said, starts}
@@ -19,17 +20,20 @@ use Rattle.ui_machine.specs.State.Objects.{Object, asked, class_in, living}
 use Rattle.ui_machine.specs.State.Tasks.{Emission, Emitting, PlanEntry, Task}
 use Rattle.definition_format.specs.Meaning.{planned}
 use Rattle.signal_core.specs.Connected.{Numbered}
-use Rattle.signal_core.specs.Emission.{Walk, after_program, is_over, program_turn}
-use Rattle.signal_core.specs.Laws.{entries_left, walk_for}
+use Rattle.signal_core.specs.Emission.{Walk, is_over, to_come}
+use Rattle.signal_core.specs.declared.stage.Stage.{Stage}
+use Rattle.signal_core.specs.Laws.{walk_for}
 use Rattle.engine_world.specs.TaskView.{emission_of, entries_to_come, new_of}
+use Rattle.engine_world.specs.TransferView.{entries_due_of}
+use Rattle.engine_world.specs.declared.task.Transfers.TheVariants as at
+use Rattle.engine_world.proofs.SameTurns.{entries}
 use Rattle.engine_world.specs.declared.task.NewEmission.{NewEmission}
 use Rattle.engine_world.proofs.Notified.{begun}
-use Rattle.engine_tasks.proofs.EmissionTurns.{entries_planned, left_none}
+use Rattle.engine_tasks.proofs.EmissionTurns.{entries_planned}
 use Rattle.g_values.specs.declared.value.Value as code
 use Rattle.ui_machine.specs.declared.arm.Halt.{Halt}
 use Rattle.ui_machine.specs.declared.arm.Halt.TheVariants as halts
 use Rattle.ui_machine.specs.Steps.{act, left}
-use Rattle.signal_core.specs.declared.turn.Turn.{Turn}
 
 -- ** the beginning
 
@@ -135,36 +139,36 @@ end_alike d w e b rest = refl
 -- ** what the engine puts before the other tasks
 
 -- a notification that begins
-pub notifying_starts : (d : Definition) (w : World) → Numbered 0 w.handlers w.last_handler → w.bindings ≡ [] → (id slot class : ℕ) → asked w.objects id (λ o. Ok o.class) ≡ Ok class
+pub notifying_starts : (d : Definition) (w : World) → Numbered 0 w.handlers w.last_handler → (id slot class : ℕ) (due : List DueTransfer) → entries_due_of due ≡ transfers id slot w.bindings → asked w.objects id (λ o. Ok o.class) ≡ Ok class
     → (p : Spec) → spec_of d class slot ≡ Some p → (s : Signal) → signal_of d class 0 ≡ Some s
     → (walk : Walk) → walk ≡ walk_for w.last_handler s.accumulator (planned d class id 0 (Some p.name) s)
-    → notifying d w id slot ≡ starts (said d w (lines.notify id p.name)) (Emitting (emission_of walk [] false) (entries_to_come walk w.handlers) ∷ [])
-notifying_starts d w rises none id slot class of p some s declared walk is =
-    let plain = planned d class id 0 (Some p.name) s in
+    → notifying d w id slot ≡ starts (said d w (lines.notify id p.name)) (Emitting (emission_of walk [] false) (entries_to_come walk w.handlers (at.Ahead due)) ∷ [])
+notifying_starts d w rises id slot class due takes of p some s declared walk is =
+    let full = record (planned d class id 0 (Some p.name) s) { transfers = transfers id slot w.bindings } in
+    let plain = walk_for w.last_handler s.accumulator full in
     begun d w id slot class of p some s declared
-    ∙ ap (λ (bs : List Binding). starts (said d w (lines.notify id p.name)) (Emitting (notification id p.name) (plan w (record plain { transfers = transfers id slot bs })) ∷ [])) none
-    ∙ ap (λ (entries : List PlanEntry). starts (said d w (lines.notify id p.name)) (Emitting (notification id p.name) entries ∷ [])) (sym (entries_planned w s.accumulator plain rises refl))
-    ∙ ap (λ (v : Walk). starts (said d w (lines.notify id p.name)) (Emitting (emission_of v [] false) (entries_to_come v w.handlers) ∷ [])) (sym is)
+    ∙ ap (λ (all : List PlanEntry). starts (said d w (lines.notify id p.name)) (Emitting (notification id p.name) all ∷ [])) (sym (entries_planned w s.accumulator full rises (λ other. cc other)))
+    ∙ ap (λ (of : List PlanEntry). starts (said d w (lines.notify id p.name)) (Emitting (notification id p.name) (entries of (to_come plain w.handlers)) ∷ [])) (sym takes)
+    ∙ ap (λ (v : Walk). starts (said d w (lines.notify id p.name)) (Emitting (emission_of v [] false) (entries_to_come v w.handlers (at.Ahead due)) ∷ [])) (sym is)
 
 -- another emission that begins
 pub beginning_starts : (d : Definition) (w : World) → Numbered 0 w.handlers w.last_handler → (e : NewEmission) (class : ℕ) → asked w.objects e.object.0 (λ o. Ok o.class) ≡ Ok class
     → (s : Signal) → signal_of d class e.signal ≡ Some s → all_fit (kind_fits (class_in w.objects) d.types) (new_of e).args s.params ≡ true
     → (walk : Walk) → walk ≡ walk_for w.last_handler s.accumulator (planned d class e.object.0 e.signal (new_of e).detail s)
     → beginning_emission d w (new_of e)
-    ≡ starts (said d w (lines.emit e.object.0 s.name (new_of e).detail (new_of e).args)) (Emitting (emission_of walk e.args.items e.by_event) (entries_to_come walk w.handlers) ∷ [])
+    ≡ starts (said d w (lines.emit e.object.0 s.name (new_of e).detail (new_of e).args)) (Emitting (emission_of walk e.args.items e.by_event) (entries_to_come walk w.handlers (at.Due [])) ∷ [])
 beginning_starts d w rises e class of s declared fit walk is =
     let plain = planned d class e.object.0 e.signal (new_of e).detail s in
     let line = lines.emit e.object.0 s.name (new_of e).detail (new_of e).args in
     begin_known d w (new_of e) class of s declared fit
-    ∙ ap (λ (entries : List PlanEntry). starts (said d w line) (Emitting (new_of e) entries ∷ [])) (sym (entries_planned w s.accumulator plain rises refl))
-    ∙ ap (λ (v : Walk). starts (said d w line) (Emitting (emission_of v e.args.items e.by_event) (entries_to_come v w.handlers) ∷ [])) (sym is)
+    ∙ ap (λ (entries : List PlanEntry). starts (said d w line) (Emitting (new_of e) entries ∷ [])) (sym (entries_planned w s.accumulator plain rises (λ _. refl)))
+    ∙ ap (λ (v : Walk). starts (said d w line) (Emitting (emission_of v e.args.items e.by_event) (entries_to_come v w.handlers (at.Due [])) ∷ [])) (sym is)
 
--- an emission without a turn ends
-pub onward : {X : Type 0} (d : Definition) (v : World) (rest : List Task) (n : ℕ) (w u : Walk) (last : ℕ) → Numbered 0 v.handlers last → (args : List code.Value) (by_event : Bool)
-    → (turn : Option Turn) → program_turn w v.handlers ≡ turn → is_some turn ≡ false → u ≡ after_program w v.handlers
-    → (result : Result X Halt) (new : Config) → Goes result (left n (ending d v (emission_of u args by_event) rest)) new
-    → Goes result (act d v None (Emitting (emission_of w args by_event) (entries_left v.handlers (entries_to_come w v.handlers)) ∷ rest) n) new
-onward d v rest n w u last rises args by_event turn is none goes_on result new goes =
-    subst (λ (entries : List PlanEntry). Goes result (act d v None (Emitting (emission_of w args by_event) entries ∷ rest) n) new) (sym (left_none w v.handlers last rises turn is none))
+-- an emission without a turn ends, wherever it is
+pub ends_on : {X : Type 0} (d : Definition) (v : World) (rest : List Task) (n : ℕ) (w u : Walk) (args : List code.Value) (by_event : Bool) (stage : Stage) → u ≡ record w { stage = stage }
+    → (all : List PlanEntry) → all ≡ [] → (result : Result X Halt) (new : Config) → Goes result (left n (ending d v (emission_of u args by_event) rest)) new
+    → Goes result (act d v None (Emitting (emission_of w args by_event) all ∷ rest) n) new
+ends_on d v rest n w u args by_event stage is all none result new goes =
+    subst (λ (es : List PlanEntry). Goes result (act d v None (Emitting (emission_of w args by_event) es ∷ rest) n) new) (sym none)
     (subst (λ (a : Answer Left). Goes result (left n a) new)
-    (ap (λ (x : Walk). ending d v (emission_of x args by_event) rest) goes_on ∙ end_alike d v (emission_of w args by_event) (is_over (after_program w v.handlers).stage) rest) goes)
+    (ap (λ (x : Walk). ending d v (emission_of x args by_event) rest) is ∙ end_alike d v (emission_of w args by_event) (is_over stage) rest) goes)

@@ -1,7 +1,9 @@
 mod PlainSets
 mod EmissionTurns
-mod TurnStages
+mod EmissionSteps
 mod TurnTaking
 mod ProgramStarts
 mod Emitted
+mod Binding
+mod Carrying
 mod Sourcing

@@ -1,6 +1,5 @@
 -- What the program of a turn is given, and how it begins in front of the rest of its emission.
-use Rattle.std.proofs.Common.{◌≡◌, ◌∙◌, refl, sym, ap, subst, append_assoc, ℕ, suc, ◌+◌, ◌<◌, ◌≤◌, ◌++◌, ◌||◌, Bool, cond, List, [], ◌∷◌, length, map, drop, get_or, Option, None, Some, Result, arith, add-one}
-use Rattle.std.specs.List.{flat_map}
+use Rattle.std.proofs.Common.{◌≡◌, ◌∙◌, refl, sym, ap, subst, append_assoc, ℕ, suc, ◌+◌, ◌<◌, ◌≤◌, ◌++◌, ◌||◌, Bool, true, false, cond, not, List, [], ◌∷◌, length, map, drop, get_or, Option, None, Some, Ok, Result, arith, add-one}
 use Rattle.std.proofs.Math.Seq.{drop-cons}
 use Rattle.std.proofs.lemmas.List.{append-nil, length-drop, map-append, nil_from_length}
 use Rattle.ui_machine.specs.Definition.{Definition}
@@ -9,23 +8,29 @@ use Rattle.ui_machine.specs.Rules.Accumulation.{given_to, in_stage, instance_of,
 use Rattle.ui_machine.specs.Rules.Programs.{beginning_program, program_before}
 use Rattle.ui_machine.specs.State.Config.{Config, World, starts}
 use Rattle.ui_machine.specs.State.Handlers.{Handler}
-use Rattle.ui_machine.specs.State.Tasks.{Emission, Emitting, PlanEntry, Task}
+use Rattle.ui_machine.specs.Rules.Transfers.{transfer_for}
+use Rattle.ui_machine.specs.State.Bindings.{Binding, binding_of}
+use Rattle.ui_machine.specs.State.Tasks.{Emission, Emitting, PlanEntry, Task, Transferring}
 use Rattle.ui_machine.specs.declared.arm.Halt.{Halt}
 use Rattle.ui_machine.specs.Outcome.{Answer, Goes}
 use Rattle.ui_machine.specs.Steps.{act, uncounted}
 use Rattle.g_values.specs.View.{value_view}
 use Rattle.g_values.specs.declared.value.Value.{Value}
 use Rattle.signal_core.specs.Connected.{Numbered}
-use Rattle.signal_core.specs.Emission.{Walk, after_program, is_over, of_handler, program_turn, to_come}
-use Rattle.signal_core.specs.Laws.{IsEntry, entries_left, entries_of}
+use Rattle.bindings.specs.Due.{entry_of, is_free}
+use Rattle.bindings.specs.declared.due.DueTransfer.{DueTransfer}
+use Rattle.signal_core.specs.Emission.{Due, Walk, is_over, is_transfers, of_handler, to_come}
+use Rattle.signal_core.specs.Laws.{IsEntry}
+use Rattle.signal_core.specs.declared.stage.Stage.{Stage}
 use Rattle.signal_core.specs.declared.stage.Stage.TheVariants as stages
 use Rattle.signal_core.specs.declared.turn.Turn.{Turn}
 use Rattle.signal_core.specs.declared.turn.Turn.TheVariants as turns
-use Rattle.engine_world.specs.TaskView.{emission_of, entries_to_come}
+use Rattle.engine_world.specs.Standing.{entries_due}
+use Rattle.engine_world.specs.TaskView.{emission_of}
+use Rattle.engine_world.proofs.SameTurns.{entries}
 use Rattle.engine_tasks.specs.TurnView.{RunsProgram, given_by, program_of_turn}
 use Rattle.engine_tasks.proofs.ProgramStarts.{begins_before}
-use Rattle.engine_tasks.proofs.TurnStages.{turn_before_end, turn_goes_on}
-use Rattle.engine_tasks.proofs.EmissionTurns.{told}
+use Rattle.engine_tasks.proofs.EmissionTurns.{GoesOn, IsNext, not_over, program_first}
 
 -- ** values once more
 
@@ -73,15 +78,15 @@ begins_as d ts us n m w v p q xs ys tasks count world program given = rw (tasks,
 
 -- ** turns
 
--- a turn that is told of runs a program
-pub runs_program : (hs : List Handler) (t : Turn) (w : Walk) (entry : PlanEntry) → IsEntry hs t w.stage entry → RunsProgram t
-runs_program hs (turns.Class program) w entry is = tt
-runs_program hs (turns.Handler program swapped arg) w entry is = tt
-runs_program hs turns.Transfers w entry never = absurd never
+-- a turn that has an entry runs a program
+pub runs_program : (hs : List Handler) (t : Turn) (next : Stage) (entry : PlanEntry) → IsEntry hs t next entry → RunsProgram t
+runs_program hs (turns.Class program) next entry is = tt
+runs_program hs (turns.Handler program swapped arg) next entry is = tt
+runs_program hs turns.Transfers next entry never = absurd never
 
-module _ (d : Definition) (v : World) (rest : List Task) (n : ℕ) (w : Walk) (args : List Value) (by_event : Bool) where
+module _ (d : Definition) (v : World) (rest : List Task) (n : ℕ) (w : Walk) (args : List Value) (by_event : Bool) (early : is_over w.stage ≡ false) (next : Stage) where
   abbrev new_walk : Walk
-  new_walk = after_program w v.handlers
+  new_walk = record w { stage = next }
 
   abbrev old : Emission
   old = emission_of w args by_event
@@ -90,44 +95,58 @@ module _ (d : Definition) (v : World) (rest : List Task) (n : ℕ) (w : Walk) (a
   new = emission_of new_walk args by_event
 
   abbrev begins : Turn → Emission → List PlanEntry → Answer Config
-  begins t e entries = uncounted (Emitting e entries ∷ rest) n (beginning_program d v (program_of_turn t) (given_by new t))
+  begins t e left = uncounted (Emitting e left ∷ rest) n (beginning_program d v (program_of_turn t) (given_by new t))
 
-  takes_entry : (t : Turn) → program_turn w v.handlers ≡ Some t → (entry : PlanEntry) → IsEntry v.handlers t new_walk.stage entry → (entries : List PlanEntry)
-      → act d v None (Emitting old (entry ∷ entries) ∷ rest) n ≡ begins t new entries
-  takes_entry (turns.Class program) turn entry is entries =
-      let early = turn_before_end w v.handlers (turns.Class program) turn in
+  pub takes_entry : (t : Turn) (entry : PlanEntry) → IsEntry v.handlers t next entry → GoesOn v [] t next → (left : List PlanEntry)
+      → act d v None (Emitting old (entry ∷ left) ∷ rest) n ≡ begins t new left
+  takes_entry (turns.Class program) entry is onward left =
       let given = instance_of old ∷ old.args in
-      ap (λ (x : PlanEntry). act d v None (Emitting old (x ∷ entries) ∷ rest) n) is
-      ∙ begins_before d v program given (Emitting (in_stage (is_over new_walk.stage) old) entries ∷ []) rest n
-      ∙ ap (λ b. uncounted (Emitting (record old { cleanup = b || is_over new_walk.stage }) entries ∷ rest) n (beginning_program d v program given)) early
-  takes_entry (turns.Handler program swapped arg) turn entry of entries =
+      ap (λ (x : PlanEntry). act d v None (Emitting old (x ∷ left) ∷ rest) n) is
+      ∙ begins_before d v program given (Emitting (in_stage (is_over next) old) left ∷ []) rest n
+      ∙ ap (λ b. uncounted (Emitting (record old { cleanup = b || is_over next }) left ∷ rest) n (beginning_program d v program given)) early
+  takes_entry (turns.Handler program swapped arg) entry of onward left =
       let h = of.from in
-      let early = turn_before_end w v.handlers (turns.Handler program swapped arg) turn in
-      let later = turn_goes_on w v.handlers (turns.Handler program swapped arg) turn in
-      ap (λ (x : PlanEntry). act d v None (Emitting old (x ∷ entries) ∷ rest) n) of.has_entry
-      ∙ ap (λ (o : Option Handler). uncounted rest n (running_handler d v old entries o)) of.stands
-      ∙ ap (λ (b : Bool). uncounted rest n (cond b (starts v (Emitting old entries ∷ [])) (program_before d v h.program (given_to old h) (Emitting old entries ∷ [])))) of.is_free
-      ∙ begins_before d v h.program (given_to old h) (Emitting old entries ∷ []) rest n
-      ∙ ap (λ (given : List values.Value). uncounted (Emitting old entries ∷ rest) n (beginning_program d v h.program given)) (sym (same_given old h))
-      ∙ ap (λ (t : Turn). uncounted (Emitting old entries ∷ rest) n (beginning_program d v (program_of_turn t) (given_by old t))) (sym of.has_turn)
-      ∙ ap (λ b. uncounted (Emitting (record old { cleanup = b }) entries ∷ rest) n (beginning_program d v program (given_by old (turns.Handler program swapped arg)))) (early ∙ sym later)
-  takes_entry turns.Transfers turn entry never entries = absurd never
+      ap (λ (x : PlanEntry). act d v None (Emitting old (x ∷ left) ∷ rest) n) of.has_entry
+      ∙ ap (λ (o : Option Handler). uncounted rest n (running_handler d v old left o)) of.stands
+      ∙ ap (λ (b : Bool). uncounted rest n (cond b (starts v (Emitting old left ∷ [])) (program_before d v h.program (given_to old h) (Emitting old left ∷ [])))) of.is_free
+      ∙ begins_before d v h.program (given_to old h) (Emitting old left ∷ []) rest n
+      ∙ ap (λ (given : List values.Value). uncounted (Emitting old left ∷ rest) n (beginning_program d v h.program given)) (sym (same_given old h))
+      ∙ ap (λ (t : Turn). uncounted (Emitting old left ∷ rest) n (beginning_program d v (program_of_turn t) (given_by old t))) (sym of.has_turn)
+      ∙ ap (λ b. uncounted (Emitting (record old { cleanup = b }) left ∷ rest) n (beginning_program d v program (given_by old (turns.Handler program swapped arg)))) (early ∙ sym onward)
+  takes_entry turns.Transfers entry never onward left = absurd never
 
-  module _ (last : ℕ) (rises : Numbered 0 v.handlers last) (t : Turn) (turn : program_turn w v.handlers ≡ Some t) where
-    -- the program of the next turn begins
-    pub takes_turn : act d v None (Emitting old (entries_left v.handlers (entries_to_come w v.handlers)) ∷ rest) n ≡ begins t new (entries_to_come new_walk v.handlers)
-    takes_turn =
-        let next = told w v.handlers last rises (Some t) turn in
-        ap (λ (entries : List PlanEntry). act d v None (Emitting old entries ∷ rest) n) next.1
-        ∙ takes_entry t turn next.0 next.2 (flat_map (entries_of []) (to_come new_walk v.handlers))
+-- the next turn, where no transfer is due
+module _ (d : Definition) (v : World) (rest : List Task) (n : ℕ) (last : ℕ) (rises : Numbered 0 v.handlers last) (w : Walk) (args : List Value) (by_event : Bool) (of : List PlanEntry) where
+  -- a program's turn begins its program
+  pub takes_turn : {X : Type 0} (result : Result X Halt) (c : Config) (t : Due) → IsNext v last rises w t → is_transfers t.step.turn ≡ false
+      → (all : List PlanEntry) → all ≡ entries_due v (entries of (to_come w v.handlers))
+      → (u : Walk) → u ≡ record w { stage = t.step.then_at } → (left : List PlanEntry) → left ≡ entries of (to_come u v.handlers)
+      → Goes result (uncounted (Emitting (emission_of u args by_event) left ∷ rest) n (beginning_program d v (program_of_turn t.step.turn) (given_by (emission_of u args by_event) t.step.turn))) c
+      → Goes result (act d v None (Emitting (emission_of w args by_event) all ∷ rest) n) c
+  takes_turn {X} result c t next plain all is u moved left behind goes =
+      let first = program_first v last rises w of t next plain in
+      let here : act d v None (Emitting (emission_of w args by_event) all ∷ rest) n
+      ≡ uncounted (Emitting (emission_of u args by_event) left ∷ rest) n (beginning_program d v (program_of_turn t.step.turn) (given_by (emission_of u args by_event) t.step.turn)) =
+      ap (λ (es : List PlanEntry). act d v None (Emitting (emission_of w args by_event) es ∷ rest) n) (is ∙ first.1)
+      ∙ takes_entry d v rest n w args by_event (not_over v last rises w t next) t.step.then_at t.step.turn first.0 first.2 first.3 (entries of (to_come (record w { stage = t.step.then_at }) v.handlers))
+      ∙ ap (λ (x : Walk). uncounted (Emitting (emission_of x args by_event) (entries of (to_come x v.handlers)) ∷ rest) n (beginning_program d v (program_of_turn t.step.turn) (given_by (emission_of x args by_event) t.step.turn))) (sym moved)
+      ∙ ap (λ (es : List PlanEntry). uncounted (Emitting (emission_of u args by_event) es ∷ rest) n (beginning_program d v (program_of_turn t.step.turn) (given_by (emission_of u args by_event) t.step.turn))) (sym behind) in
+      subst (λ (a : Answer Config). Goes result a c) (sym here) goes
 
-    pub turn_runs : RunsProgram t
-    turn_runs = let next = told w v.handlers last rises (Some t) turn in runs_program v.handlers t new_walk next.0 next.2
+  pub turn_runs : (t : Due) → IsNext v last rises w t → is_transfers t.step.turn ≡ false → RunsProgram t.step.turn
+  turn_runs t next plain = let first = program_first v last rises w of t next plain in runs_program v.handlers t.step.turn t.step.then_at first.0 first.2
 
-    -- the same, where the code is at that turn
-    pub takes_so : (u : Walk) → u ≡ new_walk → {X : Type 0} (result : Result X Halt) (c : Config)
-        → Goes result (uncounted (Emitting (emission_of u args by_event) (entries_to_come u v.handlers) ∷ rest) n (beginning_program d v (program_of_turn t) (given_by (emission_of u args by_event) t))) c
-        → Goes result (act d v None (Emitting old (entries_left v.handlers (entries_to_come w v.handlers)) ∷ rest) n) c
-    takes_so u is {X} result c goes =
-        subst (λ (a : Answer Config). Goes result a c) (sym takes_turn)
-        (subst (λ (x : Walk). Goes result (uncounted (Emitting (emission_of x args by_event) (entries_to_come x v.handlers) ∷ rest) n (beginning_program d v (program_of_turn t) (given_by (emission_of x args by_event) t))) c) is goes)
+-- ** transfers
+
+-- one that is due is put in front
+pub takes_due : (d : Definition) (v : World) (rest : List Task) (n : ℕ) (e : Emission) (t : DueTransfer) (left : List PlanEntry) → is_free (binding_of t.number v.bindings) ≡ true
+    → act d v None (Emitting e (entry_of t ∷ left) ∷ rest) n ≡ Ok (record { world = v; agenda = Transferring t.number t.back ∷ Emitting e left ∷ rest; counted = n })
+takes_due d v rest n e t left free = ap (uncounted rest n) (by (binding_of t.number v.bindings) free)
+  where
+    by : (o : Option Binding) → is_free o ≡ true → starts v (transfer_for o t.number t.back ++ Emitting e left ∷ []) ≡ starts v (Transferring t.number t.back ∷ Emitting e left ∷ [])
+    by None none = cc none
+    by (Some b) free = made b.busy free
+      where
+        made : (busy : Bool) → not busy ≡ true → starts v (cond busy [] (Transferring t.number t.back ∷ []) ++ Emitting e left ∷ []) ≡ starts v (Transferring t.number t.back ∷ Emitting e left ∷ [])
+        made true not_so = cc not_so
+        made false so = refl

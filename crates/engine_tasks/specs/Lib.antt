@@ -1,4 +1,6 @@
+pub mod BindView
 pub mod TurnView
+pub mod TransferSteps
 pub use Rattle.engine_world.specs.ConnectView
 pub use Rattle.engine_world.specs.Counting
 pub use Rattle.engine_world.specs.EngineView
@@ -7,4 +9,5 @@ pub use Rattle.engine_world.specs.KinView
 pub use Rattle.engine_world.specs.KnownHandlers
 pub use Rattle.engine_world.specs.Standing
 pub use Rattle.engine_world.specs.TaskView
+pub use Rattle.engine_world.specs.TransferView
 pub use Rattle.engine_world.specs.View

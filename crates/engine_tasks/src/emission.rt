@@ -1,6 +1,6 @@
 //! Emissions: how one begins, takes its turns and ends (GObject manual, Signals: `g_signal_emit`).
 
-ghost use Rattle.std.specs.Prelude.{◌≡◌, ◌≤◌, ◌+◌, ◌∷◌, ℕ, None, map, option_map, string_bytes, true, IfSome, IfOk, OnOk, OnErr};
+ghost use Rattle.std.specs.Prelude.{◌≡◌, ◌≤◌, ◌+◌, ◌∷◌, [], ℕ, None, map, option_map, string_bytes, true, IfSome, IfOk, MatchOption, OnOk, OnErr};
 ghost use Rattle.ui_machine.specs.Definition as machine;
 ghost use Rattle.ui_machine.specs.Seq.{total};
 ghost use Rattle.ui_machine.specs.Outcome.{Goes};
@@ -9,31 +9,38 @@ ghost use Rattle.ui_machine.specs.Output.Text.{text_of_line};
 ghost use Rattle.ui_machine.specs.Rules.Accumulation.{ending, result_of, told};
 ghost use Rattle.ui_machine.specs.Rules.EmissionPlan.{beginning_emission};
 ghost use Rattle.ui_machine.specs.Rules.Programs.{beginning_program};
+ghost use Rattle.ui_machine.specs.State.Bindings.{binding_of};
 ghost use Rattle.ui_machine.specs.State.References.{in_task, in_value, same};
 ghost use Rattle.ui_machine.specs.State.Tasks.{Beginning, Emitting};
 ghost use Rattle.ui_machine.specs.Steps.{act, counted, left, uncounted};
-ghost use Rattle.signal_core.specs.Emission.{after_program, begun, program_turn};
+ghost use Rattle.bindings.specs.Due.{entry_of, from_ready, is_free};
+ghost use Rattle.signal_core.specs.Emission.{begun};
+ghost use Rattle.signal_core.specs.declared.stage.Stage.TheVariants as stages;
 ghost use Rattle.g_values.specs.View.{kind_view, value_view};
 ghost use Rattle.definition_format.specs.Meaning.{IsKnownKind};
 ghost use Rattle.engine_world.specs.View.{world_of, with_line};
+ghost use Rattle.engine_world.specs.KnownHandlers.{EndsWithoutTransfers};
 ghost use Rattle.engine_world.specs.TaskView.{new_of, emission_of, entries_to_come, agenda_of};
+ghost use Rattle.engine_world.specs.TransferView.{due_later, due_now};
+ghost use Rattle.engine_world.specs.declared.task.Transfers.TheVariants as at;
 ghost use Rattle.engine_world.specs.Counting.{Counts, KeepsCounts, in_emitted};
 ghost use Rattle.engine_world.specs.EngineView.{config_of};
-ghost use Rattle.engine_world.specs.Standing.{past_skipped_turns};
+ghost use Rattle.engine_world.specs.Standing.{entries_due, past_turns};
 ghost use Rattle.engine_tasks.specs.TurnView.{RunsProgram, given_by, program_of_turn};
 
 use crate::programs::begin_program;
 use crate::turns::Invocation;
+use bindings::{Bindings, DueTransfer};
 use definitions::Definition;
 use engine_world::arguments::{all_fit, as_text};
 use engine_world::counted_steps::count;
 use engine_world::engine::Engine;
 use engine_world::lines::Line;
 use engine_world::program_frames::pass_down;
-use engine_world::references::{accumulated, hold_any, let_go_any, let_go_values};
-use engine_world::task::{NewEmission, Task};
+use engine_world::references::{accumulated, hold_any, let_go_any, let_go_values, push_task};
+use engine_world::task::{NewEmission, Task, Transfers};
 use g_values::{Kind, Value, zero_of};
-use signal_core::{Cursor, Emission, Handlers, Turn};
+use signal_core::{Cursor, Emission, Turn};
 use std::alloc::{AllocError, Global};
 use type_tree::TypeTree;
 use ui_machine::{Arm, Halt};
@@ -50,14 +57,27 @@ fn result_of(definition: &Definition, kind: Option<Kind>, value: Option<Value>) 
     }
 }
 
-// The next turn of an emission that runs a program. No binding is there that would transfer a value.
-fn next_program(handlers: &Handlers, cursor: &mut Cursor) -> Option<Turn>
-    ensures turn { result ≡ program_turn cursor.old handlers.now.handlers }
-    ensures goes_on { cursor.new ≡ after_program cursor.old handlers.now.handlers }
+// The next transfer that comes before all turns that are left. What is left has none where there is none.
+fn next_transfer(bindings: &Bindings, transfers: &mut Transfers) -> Option<DueTransfer>
+    ensures next { MatchOption result
+        ((from_ready bindings.now.bindings (due_now transfers.old) ≡ []) × (due_now transfers.new ≡ []))
+        (λ due. from_ready bindings.now.bindings (due_now transfers.old) ≡ due ∷ due_now transfers.new) }
+    ensures later { due_later transfers.new ≡ due_later transfers.old }
 {
-    match handlers.next(cursor) {
-        Some(Turn::Transfers) => handlers.next(cursor),
-        turn => turn,
+    match transfers {
+        Transfers::Ahead(_) => None,
+        Transfers::Due(due) => due.take_next(bindings),
+    }
+}
+
+// The bindings have their turn: their transfers come before all other turns.
+fn begin_transfers(transfers: Transfers) -> Transfers
+    requires { due_now transfers ≡ [] }
+    ensures { result ≡ at.Due (due_later transfers) }
+{
+    match transfers {
+        Transfers::Ahead(due) => Transfers::Due(due),
+        Transfers::Due(due) => Transfers::Due(due),
     }
 }
 
@@ -88,12 +108,15 @@ fn push_rest(
     cursor: Cursor,
     args: Vec<Value>,
     by_event: bool,
+    transfers: Transfers,
 ) -> Result<(), AllocError>
-    requires { cursor.greatest ≤ engine.now.world.handlers.last }
+    requires begun { cursor.greatest ≤ engine.now.world.handlers.last }
+    requires ends { EndsWithoutTransfers cursor transfers }
     ensures agenda { OnOk result ((d : machine.Definition) → agenda_of d engine.new
-        ≡ Emitting (emission_of cursor args.items by_event) (entries_to_come cursor engine.old.world.handlers.handlers) ∷ agenda_of d engine.old) }
+        ≡ Emitting (emission_of cursor args.items by_event) (entries_to_come cursor engine.old.world.handlers.handlers transfers) ∷ agenda_of d engine.old) }
     ensures world { world_of engine.new.world ≡ world_of engine.old.world }
     ensures same { engine.new.counted ≡ engine.old.counted }
+    ensures handlers { engine.new.world.handlers ≡ engine.old.world.handlers }
     ensures counted { OnOk result ((d : machine.Definition) (taken : ℕ → ℕ)
         → Counts d (λ o. taken o + in_emitted o (emission_of cursor args.items by_event)) engine.old → Counts d taken engine.new) }
 {
@@ -102,21 +125,24 @@ fn push_rest(
         cursor,
         args,
         by_event,
+        transfers,
     })?;
     Ok(())
 }
 
-/// An emission begins that is counted already. Its line is said, and what is connected later has no turn in it.
+/// An emission begins that is counted already, with the transfers that it is to make. Its line is said, and what is connected later has no
+/// turn in it.
 pub(crate) fn start_emission(
     engine: &mut Engine,
     emission: Emission,
     args: Vec<Value>,
     by_event: bool,
+    transfers: Transfers,
     line: String,
 ) -> Result<(), AllocError>
     ensures agenda { OnOk result ((d : machine.Definition) → agenda_of d engine.new
         ≡ Emitting (emission_of (begun emission engine.old.world.handlers.last) args.items by_event)
-        (entries_to_come (begun emission engine.old.world.handlers.last) engine.old.world.handlers.handlers)
+        (entries_to_come (begun emission engine.old.world.handlers.last) engine.old.world.handlers.handlers transfers)
         ∷ agenda_of d engine.old) }
     ensures world { OnOk result (world_of engine.new.world ≡ with_line (string_bytes line) (world_of engine.old.world)) }
     ensures quiet { OnErr result ((world_of engine.new.world).transcript ≡ (world_of engine.old.world).transcript) }
@@ -125,7 +151,7 @@ pub(crate) fn start_emission(
         → Counts d (λ o. taken o + total (in_value o) (map value_view args.items)) engine.old → Counts d taken engine.new) }
 {
     let cursor = engine.world.handlers.begin_emission(emission);
-    push_rest(engine, cursor, args, by_event)?;
+    push_rest(engine, cursor, args, by_event, transfers)?;
     engine.world.say(line)?;
     Ok(())
 }
@@ -167,7 +193,8 @@ pub fn begin_emission(
     let Some(planned) = definition.emission(class, object, signal, detail) else {
         return Err(Halt::Stuck(Arm::Code));
     };
-    start_emission(engine, planned, args, by_event, line)?;
+    let transfers = Transfers::new(engine.alloc);
+    start_emission(engine, planned, args, by_event, transfers, line)?;
     Ok(())
 }
 
@@ -252,12 +279,14 @@ fn take_turn(
     cursor: Cursor,
     args: Vec<Value>,
     by_event: bool,
+    transfers: Transfers,
 ) -> Result<(), Halt>
     requires runs { RunsProgram turn }
     requires begun { cursor.greatest ≤ engine.now.world.handlers.last }
+    requires ends { EndsWithoutTransfers cursor transfers }
     requires counted { Counts definition.now (λ o. same o cursor.object + in_emitted o (emission_of cursor args.items by_event)) engine.now }
     ensures step { Goes result
-        (uncounted (Emitting (emission_of cursor args.items by_event) (entries_to_come cursor engine.old.world.handlers.handlers) ∷ agenda_of definition.now engine.old) engine.old.counted
+        (uncounted (Emitting (emission_of cursor args.items by_event) (entries_to_come cursor engine.old.world.handlers.handlers transfers) ∷ agenda_of definition.now engine.old) engine.old.counted
         (beginning_program definition.now (world_of engine.old.world) (program_of_turn turn) (given_by (emission_of cursor args.items by_event) turn)))
         (config_of definition.now engine.new) }
     ensures quiet { OnErr result ((world_of engine.new.world).transcript ≡ (world_of engine.old.world).transcript) }
@@ -265,23 +294,91 @@ fn take_turn(
 {
     let runs = Invocation::new(turn, cursor.object());
     let given = runs.given(engine.alloc, args.as_slice())?;
-    push_rest(engine, cursor, args, by_event)?;
+    push_rest(engine, cursor, args, by_event, transfers)?;
     begin_program(engine, definition, runs.program, given)
 }
 
-/// An emission takes its next turn, or ends where there is none. What is blocked has none.
+// A transfer is due, in front of the rest of the emission. Its binding has not ended, and does not set.
+fn take_transfer(
+    engine: &mut Engine,
+    definition: &Definition,
+    due: DueTransfer,
+    cursor: Cursor,
+    args: Vec<Value>,
+    by_event: bool,
+    transfers: Transfers,
+) -> Result<(), Halt>
+    requires free { is_free (binding_of due.number engine.now.world.bindings.bindings) ≡ true }
+    requires begun { cursor.greatest ≤ engine.now.world.handlers.last }
+    requires ends { EndsWithoutTransfers cursor transfers }
+    requires counted { Counts definition.now (λ o. same o cursor.object + in_emitted o (emission_of cursor args.items by_event)) engine.now }
+    ensures step { Goes result
+        (act definition.now (world_of engine.old.world) None
+        (Emitting (emission_of cursor args.items by_event) (entry_of due ∷ entries_to_come cursor engine.old.world.handlers.handlers transfers) ∷ agenda_of definition.now engine.old) engine.old.counted)
+        (config_of definition.now engine.new) }
+    ensures quiet { OnErr result ((world_of engine.new.world).transcript ≡ (world_of engine.old.world).transcript) }
+    ensures counted { OnOk result (Counts definition.now (λ o. same o cursor.object) engine.new) }
+{
+    // For the proof: the clauses speak of the definition.
+    let _ = definition;
+    push_rest(engine, cursor, args, by_event, transfers)?;
+    push_task(
+        engine,
+        Task::Transferring {
+            number: due.number,
+            back: due.back,
+        },
+    )?;
+    Ok(())
+}
+
+// An emission whose bindings have their turn makes the next of their transfers, and behind them takes the next turn of a program, or ends
+// where there is none.
+fn emit_transfers(
+    engine: &mut Engine,
+    definition: &Definition,
+    mut cursor: Cursor,
+    args: Vec<Value>,
+    by_event: bool,
+    mut transfers: Transfers,
+) -> Result<(), Halt>
+    requires behind { cursor.stage ≡ stages.Before 0 }
+    requires later { due_later transfers ≡ [] }
+    requires begun { cursor.greatest ≤ engine.now.world.handlers.last }
+    requires counted { Counts definition.now (λ o. same o cursor.object + in_emitted o (emission_of cursor args.items by_event)) engine.now }
+    ensures step { Goes result
+        (act definition.now (world_of engine.old.world) None
+        (Emitting (emission_of cursor args.items by_event) (entries_due (world_of engine.old.world) (entries_to_come cursor engine.old.world.handlers.handlers transfers)) ∷ agenda_of definition.now engine.old) engine.old.counted)
+        (config_of definition.now engine.new) }
+    ensures quiet { OnErr result ((world_of engine.new.world).transcript ≡ (world_of engine.old.world).transcript) }
+    ensures counted { OnOk result (Counts definition.now (λ o. same o cursor.object) engine.new) }
+{
+    // For the proof: what is known of the numbers of handlers.
+    let _last = engine.world.handlers.last();
+    if let Some(due) = next_transfer(&engine.world.bindings, &mut transfers) {
+        return take_transfer(engine, definition, due, cursor, args, by_event, transfers);
+    }
+    let Some(turn) = engine.world.handlers.next(&mut cursor) else {
+        return end_emission(engine, definition, cursor, args, by_event);
+    };
+    take_turn(engine, definition, turn, cursor, args, by_event, transfers)
+}
+
+/// An emission takes its next turn, or ends where there is none. Handlers that are blocked have none, and bindings that set or have ended.
 pub fn emit(
     engine: &mut Engine,
     definition: &Definition,
     mut cursor: Cursor,
     args: Vec<Value>,
     by_event: bool,
+    mut transfers: Transfers,
 ) -> Result<(), Halt>
     requires begun { cursor.greatest ≤ engine.now.world.handlers.last }
+    requires ends { EndsWithoutTransfers cursor transfers }
     requires counted { Counts definition.now (λ o. same o cursor.object + in_emitted o (emission_of cursor args.items by_event)) engine.now }
     ensures step { Goes result
         (act definition.now (world_of engine.old.world) None
-        (past_skipped_turns engine.old.world.handlers.handlers (Emitting (emission_of cursor args.items by_event) (entries_to_come cursor engine.old.world.handlers.handlers))
+        (past_turns (world_of engine.old.world) (Emitting (emission_of cursor args.items by_event) (entries_to_come cursor engine.old.world.handlers.handlers transfers))
         ∷ agenda_of definition.now engine.old) engine.old.counted)
         (config_of definition.now engine.new) }
     ensures quiet { OnErr result ((world_of engine.new.world).transcript ≡ (world_of engine.old.world).transcript) }
@@ -289,8 +386,17 @@ pub fn emit(
 {
     // For the proof: what is known of the numbers of handlers.
     let _last = engine.world.handlers.last();
-    let Some(turn) = next_program(&engine.world.handlers, &mut cursor) else {
+    if let Some(due) = next_transfer(&engine.world.bindings, &mut transfers) {
+        return take_transfer(engine, definition, due, cursor, args, by_event, transfers);
+    }
+    let Some(turn) = engine.world.handlers.next(&mut cursor) else {
         return end_emission(engine, definition, cursor, args, by_event);
     };
-    take_turn(engine, definition, turn, cursor, args, by_event)
+    match turn {
+        Turn::Transfers => {
+            let due = begin_transfers(transfers);
+            emit_transfers(engine, definition, cursor, args, by_event, due)
+        }
+        turn => take_turn(engine, definition, turn, cursor, args, by_event, transfers),
+    }
 }

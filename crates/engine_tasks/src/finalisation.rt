@@ -8,10 +8,11 @@ ghost use Rattle.ui_machine.specs.State.Tasks.{Task};
 ghost use Rattle.ui_machine.specs.Steps.{counted, finalising, most_steps};
 ghost use Rattle.instances.specs.Store.{count_of};
 ghost use Rattle.instances.specs.Weak.{Knows};
-ghost use Rattle.machine_laws.specs.GoneLaws.{gone_in, pruned};
+ghost use Rattle.machine_laws.specs.GoneLaws.{pruned};
 ghost use Rattle.engine_world.specs.View.{world_of};
 ghost use Rattle.engine_world.specs.TaskView.{agenda_of};
 ghost use Rattle.engine_world.specs.Counting.{KeepsCounts};
+ghost use Rattle.engine_world.specs.Standing.{gone_handlers};
 
 use definitions::Definition;
 use engine_world::counted_steps::count;
@@ -20,7 +21,7 @@ use engine_world::lines::Line;
 use ui_machine::{Arm, Halt, ObjectId};
 
 /// An object that nothing holds is disposed, again if it was, and taken out. Its handlers go, and have no more turns in the emissions that
-/// go on. It is a counted step.
+/// go on, and its bindings end. It is a counted step.
 pub fn finalise(engine: &mut Engine, definition: &Definition, object: ObjectId) -> Result<(), Halt>
     requires live { IsSome (living engine.now.world.table.objects object.0) }
     requires unheld { count_of engine.now.world.table.counts object.0 ≡ 0 }
@@ -28,7 +29,7 @@ pub fn finalise(engine: &mut Engine, definition: &Definition, object: ObjectId) 
     ensures step { (rest : List Task) → Goes result
         (counted rest engine.old.counted (finalising definition.now (world_of engine.old.world) object.0))
         (record { world = world_of engine.new.world; agenda = rest; counted = engine.new.counted }) }
-    ensures agenda { OnOk result (agenda_of definition.now engine.new ≡ map (pruned (gone_in (world_of engine.new.world))) (agenda_of definition.now engine.old)) }
+    ensures agenda { OnOk result (agenda_of definition.now engine.new ≡ map (pruned (gone_handlers (world_of engine.new.world))) (agenda_of definition.now engine.old)) }
     ensures quiet { OnErr result ((world_of engine.new.world).transcript ≡ (world_of engine.old.world).transcript) }
     ensures counts { OnOk result ((engine.old.counted < most_steps) × (engine.new.counted ≡ suc engine.old.counted)) }
     ensures same { OnOk result ((engine.new.stack ≡ engine.old.stack) × (engine.new.world.table.floating ≡ engine.old.world.table.floating)) }
@@ -48,6 +49,7 @@ pub fn finalise(engine: &mut Engine, definition: &Definition, object: ObjectId) 
     let _last = engine.world.handlers.last();
     engine.world.table.finalise(&engine.world.weak, object);
     engine.world.handlers.disconnect_object(object);
+    engine.world.bindings.end_of(object);
     engine.world.say_both(is_first, disposed, finalised)?;
     Ok(())
 }

@@ -11,12 +11,12 @@ ghost use Rattle.engine_world.specs.TaskView.{agenda_of, item_of, items_of, forw
 ghost use Rattle.engine_world.specs.Counting.{Connects, KeepsCounts};
 ghost use Rattle.engine_world.specs.EngineView.{config_of};
 
-use crate::signals::connect_from_build;
+use crate::binds::bind_from_build;
 use definition_format::{Given, GivenValue};
 use definitions::Definition;
 use engine_world::engine::Engine;
 use engine_world::given::{held_value, settable};
-use engine_world::places::{FIRST_PLACE, entry_at, place_numbered};
+use engine_world::places::{entry_at, place_numbered};
 use engine_world::references::push_task;
 use engine_world::task::{ForwardReference, ForwardReferences, Task};
 use std::alloc::{AllocError, Global};
@@ -92,7 +92,7 @@ pub fn forward_references(
     Ok(ForwardReferences::new(forwards))
 }
 
-/// The next forward reference is set, where all objects stand, or else the first signal is connected.
+/// The next forward reference is set, where all objects stand, or else the first binding is made.
 #[tactic(auto, unfolding(ui_machine::specs::Rules::Build::building_forward, ui_machine::specs::Rules::Build::set_forward))]
 pub(crate) fn set_forward_reference(
     engine: &mut Engine,
@@ -111,7 +111,7 @@ pub(crate) fn set_forward_reference(
     // For the proof: what is known of a definition's places.
     let _types = definition.types();
     let Some(forward) = forwards.take() else {
-        return connect_from_build(engine, definition, FIRST_PLACE, 0);
+        return bind_from_build(engine, definition, 0);
     };
     let object = settable(engine, definition, forward.object, forward.slot)?;
     let value = held_value(engine, forward.to)?;

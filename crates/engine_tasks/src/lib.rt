@@ -1,6 +1,7 @@
 //! Tasks: what each one does, as the machine's, but for a program's, which takes an instruction.
 #![tactic(auto)]
 
+pub mod binds;
 pub mod builds;
 pub mod children;
 pub mod emission;
@@ -12,4 +13,5 @@ pub mod programs;
 pub mod sets;
 pub mod signals;
 pub mod sources;
+pub mod transfers;
 pub mod turns;

@@ -16,13 +16,13 @@ use engine_world::counted_steps::count;
 use engine_world::engine::Engine;
 use engine_world::lines::Line;
 use engine_world::references::push_task;
-use engine_world::task::{Slots, Task};
+use engine_world::task::{Slots, Task, Transfers};
 use ui_machine::{Arm, Halt, ObjectId, SignalId, Slot};
 
 // The number of the signal `notify`.
 const NOTIFY: SignalId = 0;
 
-/// A due notification begins. It is counted and told of.
+/// A due notification begins, with the transfers of the bindings that listen at the property. It is counted and told of.
 #[tactic(auto, unfolding(ui_machine::specs::Rules::EmissionPlan::notifying))]
 pub fn notify(
     engine: &mut Engine,
@@ -52,7 +52,9 @@ pub fn notify(
         property: spec.name.as_str(),
     };
     let line = told.text(engine.alloc, definition.types())?;
-    start_emission(engine, emission, Vec::new(engine.alloc), false, line)?;
+    let due = engine.world.bindings.due(engine.alloc, object, slot)?;
+    let args = Vec::new(engine.alloc);
+    start_emission(engine, emission, args, false, Transfers::Ahead(due), line)?;
     Ok(())
 }
 

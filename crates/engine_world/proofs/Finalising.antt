@@ -12,10 +12,13 @@ use Rattle.ui_machine.specs.State.Config.{World, Started, starts, said, with_obj
 use Rattle.ui_machine.specs.State.Objects.{Object, Objects, living, put}
 use Rattle.ui_machine.specs.State.Tasks.{Task}
 use Rattle.ui_machine.specs.Steps.{finalising, uncounted}
+use Rattle.ui_machine.specs.State.Bindings.{bindings_without_end}
+use Rattle.bindings.specs.Made.{Made}
 use Rattle.instances.specs.Store.{Store}
 use Rattle.instances.specs.Release.{Finalises}
 use Rattle.signal_core.specs.Connected.{Connected, Numbered, without_object}
-use Rattle.machine_laws.specs.GoneLaws.{gone_in, pruned}
+use Rattle.machine_laws.specs.GoneLaws.{pruned}
+use Rattle.engine_world.specs.Standing.{gone_handlers}
 use Rattle.ui_machine.specs.State.Handlers.{Handler}
 use Rattle.engine_world.specs.TaskView.{agenda_of, tasks_of}
 use Rattle.engine_world.specs.declared.engine.Engine.{Engine}
@@ -64,6 +67,7 @@ module _ (d : Definition) (v : code.World) (id : ℕ) where
       → finalising d (world_of v) id ≡ starts (record (world_of v) {
         objects = put (objects_disposed d id v.table.objects) id None;
         handlers = without_object id v.handlers.handlers;
+        bindings = bindings_without_end id v.bindings.bindings;
         transcript = cond first ((world_of v).transcript ++ text_of_line d.types (lines.dispose id) ∷ []) (world_of v).transcript ++ text_of_line d.types (lines.final id) ∷ [];
       }) []
   unfolding closing
@@ -72,25 +76,28 @@ module _ (d : Definition) (v : code.World) (id : ℕ) where
       by : (f : Bool) → taken_out (gone f) ≡ starts (record (world_of v) {
         objects = put (objects_disposed d id v.table.objects) id None;
         handlers = without_object id v.handlers.handlers;
+        bindings = bindings_without_end id v.bindings.bindings;
         transcript = cond f ((world_of v).transcript ++ text_of_line d.types (lines.dispose id) ∷ []) (world_of v).transcript ++ text_of_line d.types (lines.final id) ∷ [];
       }) []
       by true = refl
       by false = refl
 
 -- what code leaves after it
-pub last_config : (d : Definition) (rest : List Task) (n : ℕ) (w : code.World) (t : Store) (hs : Connected) (id : ℕ) (first : Bool) (x y : List ℕ) (new : World) (m : ℕ)
-    → new ≡ record (world_of (record w { table = t; handlers = hs })) { transcript = cond first ((world_of w).transcript ++ x ∷ []) (world_of w).transcript ++ y ∷ [] }
+pub last_config : (d : Definition) (rest : List Task) (n : ℕ) (w : code.World) (t : Store) (hs : Connected) (bs : Made) (id : ℕ) (first : Bool) (x y : List ℕ) (new : World) (m : ℕ)
+    → new ≡ record (world_of (record w { table = t; handlers = hs; bindings = bs })) { transcript = cond first ((world_of w).transcript ++ x ∷ []) (world_of w).transcript ++ y ∷ [] }
     → Finalises d id w.table t → hs ≡ record w.handlers { handlers = without_object id w.handlers.handlers }
+    → bs ≡ record w.bindings { bindings = bindings_without_end id w.bindings.bindings }
     → x ≡ text_of_line d.types (lines.dispose id) → y ≡ text_of_line d.types (lines.final id) → m ≡ suc n
     → uncounted rest (suc n) (starts (record (world_of w) {
       objects = put (objects_disposed d id w.table.objects) id None;
       handlers = without_object id w.handlers.handlers;
+      bindings = bindings_without_end id w.bindings.bindings;
       transcript = cond first ((world_of w).transcript ++ text_of_line d.types (lines.dispose id) ∷ []) (world_of w).transcript ++ text_of_line d.types (lines.final id) ∷ [];
     }) []) ≡ Ok (record { world = new; agenda = rest; counted = m })
-last_config d rest n w t hs id first x y new m is fin left ex ey em =
+last_config d rest n w t hs bs id first x y new m is fin left ends ex ey em =
     let objects = fin.objects in
     let floating = fin.floating in
-    rw (is, objects, floating, left, ex, ey, em) refl
+    rw (is, objects, floating, left, ends, ex, ey, em) refl
 
 -- ** handlers of an object that goes
 
@@ -104,9 +111,9 @@ module _ (e : Engine) (hs : Connected) (w : code.World) (id : ℕ) (left : hs �
 -- the emissions have no more turns of them
 pub finalised_agenda : (d : Definition) (e : Engine) (hs : Connected) (w : code.World) (id : ℕ) → hs ≡ record e.world.handlers { handlers = without_object id e.world.handlers.handlers }
     → w.handlers ≡ hs → Numbered 0 e.world.handlers.handlers e.world.handlers.last
-    → tasks_of d w.handlers.handlers e.stack ≡ map (pruned (gone_in (world_of w))) (agenda_of d e)
+    → tasks_of d w.handlers.handlers e.stack ≡ map (pruned (gone_handlers (world_of w))) (agenda_of d e)
 finalised_agenda d e hs w id left same rises =
     let kept = own e hs w id left same in
     let numbered : Numbered 0 e.world.handlers.handlers w.handlers.last = subst (λ n. Numbered 0 e.world.handlers.handlers n) (sym (last e hs w id left same)) rises in
     ap (λ (l : List Handler). tasks_of d l e.stack) kept
-    ∙ sym (tasks_alike (gone_in (world_of w)) (λ h. not (is_of_object id h)) d e.world.handlers.handlers (kept_left (λ h. not (is_of_object id h)) (world_of w) e.world.handlers.handlers kept numbered) e.stack)
+    ∙ sym (tasks_alike (gone_handlers (world_of w)) (λ n. refl) (λ h. not (is_of_object id h)) d e.world.handlers.handlers (kept_left (λ h. not (is_of_object id h)) (world_of w) e.world.handlers.handlers kept numbered) e.stack)

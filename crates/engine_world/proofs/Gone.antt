@@ -1,4 +1,4 @@
--- Which handlers and bindings are gone, and what emissions have of them.
+-- Which handlers are gone, and what emissions have of them.
 use Rattle.std.proofs.Common.{◌≡◌, ◌∙◌, refl, sym, ap, append_assoc, ℕ, ◌<◌, ◌≤◌, ◌&&◌, ◌++◌, Bool, true, false, cond, not, map, nat_eq, nat_le, List, [], ◌∷◌, reverse, Option, None, Some, is_some, arith}
 use Rattle.std.specs.List.{filter, flat_map, list_all}
 use Rattle.std.proofs.lemmas.Bool.{false≢true}
@@ -10,20 +10,24 @@ use Rattle.ui_machine.specs.State.Bindings.{Binding, binding_of}
 use Rattle.ui_machine.specs.State.Config as config
 use Rattle.ui_machine.specs.State.Handlers.{Handler, handler_of}
 use Rattle.ui_machine.specs.State.Tasks.{Emission, Emitting, PlanEntry, Task, class_handler, handler, transfer}
-use Rattle.machine_laws.specs.GoneLaws.{Gone, gone_in, is_next, pruned, stays}
+use Rattle.machine_laws.proofs.GoneProofs.{given_are_gone}
+use Rattle.machine_laws.specs.GoneLaws.{AreGone, Gone, is_next, pruned, stays}
+use Rattle.bindings.specs.Due.{entry_of}
+use Rattle.bindings.specs.declared.due.DueTransfer.{DueTransfer}
 use Rattle.signal_core.specs.Connected.{Numbered}
 use Rattle.signal_core.specs.Emission.{Due, Walk, due, from_after, from_before, from_cleanup, from_last, from_transfers, is_ahead, of_class, of_handler, of_handlers, to_come, turns_from}
-use Rattle.signal_core.specs.Laws.{entries_left, entries_of, is_passed_over, number_at}
+use Rattle.signal_core.specs.Laws.{entries_of, is_passed_over, number_at}
 use Rattle.signal_core.specs.declared.stage.Stage.{Stage}
 use Rattle.signal_core.specs.declared.stage.Stage.TheVariants as stages
-use Rattle.signal_core.specs.declared.turn.Turn.{Turn}
 use Rattle.signal_core.specs.declared.turn.Turn.TheVariants as turns
 use Rattle.signal_core.proofs.Numbers.{numbered_lower, numbered_within}
 use Rattle.engine_world.specs.declared.task.Stack.{Stack}
 use Rattle.engine_world.specs.declared.task.Task as code
 use Rattle.engine_world.specs.declared.task.Task.TheVariants as tasks
-use Rattle.engine_world.specs.Standing.{entries_due, makes_no_transfer, past_skipped_turns, past_turns, with_first}
+use Rattle.engine_world.specs.Standing.{entries_due, gone_handlers, makes_no_transfer, past_turns, with_first}
 use Rattle.engine_world.specs.TaskView.{emission_of, entries_to_come, task_of, tasks_of}
+use Rattle.engine_world.specs.TransferView.{due_later, due_now, entries_due_of}
+use Rattle.engine_world.specs.declared.task.Transfers.{Transfers}
 use Rattle.engine_world.proofs.Notified.{reverse-map}
 
 -- ** who is gone
@@ -32,7 +36,7 @@ both_true : (a b : Bool) → (a && b) ≡ true → (a ≡ true) × (b ≡ true)
 both_true true b h = (refl, h)
 both_true false b h = absurd (false≢true h)
 
-pub none_stands : (w : config.World) (number : ℕ) → (gone_in w).handlers number ≡ true → handler_of number w.handlers ≡ None
+pub none_stands : (w : config.World) (number : ℕ) → (gone_handlers w).handlers number ≡ true → handler_of number w.handlers ≡ None
 none_stands w number is = by (handler_of number w.handlers) (both_true (nat_le number w.last_handler) (not (is_some (handler_of number w.handlers))) is).1
   where
     by : (o : Option Handler) → not (is_some o) ≡ true → o ≡ None
@@ -40,15 +44,16 @@ none_stands w number is = by (handler_of number w.handlers) (both_true (nat_le n
     by (Some h) none = absurd (false≢true none)
 
 -- they are passed over
-pub gone_passed : (w : config.World) (number : ℕ) → (gone_in w).handlers number ≡ true → is_passed_over (handler_of number w.handlers) ≡ true
+pub gone_passed : (w : config.World) (number : ℕ) → (gone_handlers w).handlers number ≡ true → is_passed_over (handler_of number w.handlers) ≡ true
 gone_passed w number is = ap is_passed_over (none_stands w number is)
 
-pub ended_passed : (w : config.World) (number : ℕ) → (gone_in w).bindings number ≡ true → makes_no_transfer (binding_of number w.bindings) ≡ true
-ended_passed w number is = by (binding_of number w.bindings) is
+-- handlers that are gone are so by the laws
+pub handlers_are_gone : (w : config.World) → AreGone (gone_handlers w) w
+handlers_are_gone w = record { handlers = (given_are_gone w).handlers; bindings = all w.bindings }
   where
-    by : (o : Option Binding) → not (is_some o) ≡ true → makes_no_transfer o ≡ true
-    by None none = refl
-    by (Some b) none = absurd (false≢true none)
+    all : (bs : List Binding) → list_all (λ (b : Binding). not false) bs ≡ true
+    all [] = refl
+    all (b ∷ bs) = all bs
 
 went : (b : Bool) → not b ≡ false → b ≡ true
 went true e = refl
@@ -62,17 +67,17 @@ module _ (w : config.World) where
   still_due entries = entries_due w entries
 
   abbrev staying : List PlanEntry → List PlanEntry
-  staying entries = filter (stays (gone_in w)) entries
+  staying entries = filter (stays (gone_handlers w)) entries
 
   -- an entry that is passed over, or stays
   one_left : (entry : PlanEntry) (passed : Bool) → ((es : List PlanEntry) → still_due (entry ∷ es) ≡ cond passed (still_due es) (entry ∷ es))
-      → (stays (gone_in w) entry ≡ false → passed ≡ true) → (entries : List PlanEntry) → staying (still_due entries) ≡ still_due (staying entries) → staying (still_due (entry ∷ entries)) ≡ still_due (staying (entry ∷ entries))
-  one_left entry passed is over entries same = ap staying (is entries) ∙ by passed (stays (gone_in w) entry) refl refl
+      → (stays (gone_handlers w) entry ≡ false → passed ≡ true) → (entries : List PlanEntry) → staying (still_due entries) ≡ still_due (staying entries) → staying (still_due (entry ∷ entries)) ≡ still_due (staying (entry ∷ entries))
+  one_left entry passed is over entries same = ap staying (is entries) ∙ by passed (stays (gone_handlers w) entry) refl refl
     where
       again : (p : Bool) → passed ≡ p → still_due (entry ∷ staying entries) ≡ cond p (still_due (staying entries)) (entry ∷ staying entries)
       again p e = is (staying entries) ∙ ap (λ b. cond b (still_due (staying entries)) (entry ∷ staying entries)) e
 
-      by : (p s : Bool) → passed ≡ p → stays (gone_in w) entry ≡ s → staying (cond p (still_due entries) (entry ∷ entries)) ≡ still_due (cond s (entry ∷ staying entries) (staying entries))
+      by : (p s : Bool) → passed ≡ p → stays (gone_handlers w) entry ≡ s → staying (cond p (still_due entries) (entry ∷ entries)) ≡ still_due (cond s (entry ∷ staying entries) (staying entries))
       by true true e f = same ∙ sym (again true e)
       by true false e f = same
       by false true e f = ap (λ b. cond b (entry ∷ staying entries) (staying entries)) f ∙ sym (again false e)
@@ -84,83 +89,44 @@ module _ (w : config.World) where
   left_stays [] = refl
   left_stays (class_handler program cleanup ∷ entries) = refl
   left_stays (transfer number back ∷ entries) =
-      one_left (transfer number back) (makes_no_transfer (binding_of number w.bindings)) (λ es. refl) (λ e. ended_passed w number (went ((gone_in w).bindings number) e)) entries (left_stays entries)
+      one_left (transfer number back) (makes_no_transfer (binding_of number w.bindings)) (λ es. refl) (λ e. absurd (false≢true (sym e))) entries (left_stays entries)
   left_stays (handler number ∷ entries) =
-      one_left (handler number) (is_passed_over (handler_of number w.handlers)) (λ es. refl) (λ e. gone_passed w number (went ((gone_in w).handlers number) e)) entries (left_stays entries)
+      one_left (handler number) (is_passed_over (handler_of number w.handlers)) (λ es. refl) (λ e. gone_passed w number (went ((gone_handlers w).handlers number) e)) entries (left_stays entries)
 
-  pub first_stays : (task : Task) → pruned (gone_in w) (past_turns w task) ≡ past_turns w (pruned (gone_in w) task)
+  pub first_stays : (task : Task) → pruned (gone_handlers w) (past_turns w task) ≡ past_turns w (pruned (gone_handlers w) task)
   first_stays (Emitting e entries) = ap (Emitting e) (left_stays entries)
   first_stays task = refl
 
   pub with_first_stays : (agenda : List Task)
-      → map (pruned (gone_in w)) (with_first w agenda) ≡ with_first w (map (pruned (gone_in w)) agenda)
+      → map (pruned (gone_handlers w)) (with_first w agenda) ≡ with_first w (map (pruned (gone_handlers w)) agenda)
   with_first_stays [] = refl
-  with_first_stays (task ∷ rest) = ap (λ t. t ∷ map (pruned (gone_in w)) rest) (first_stays task)
+  with_first_stays (task ∷ rest) = ap (λ t. t ∷ map (pruned (gone_handlers w)) rest) (first_stays task)
 
   -- the first turn that is left is of none that is gone
-  left_stands : (e : Emission) (rest : List Task) (entries : List PlanEntry) → is_next (gone_in w) (Emitting e (entries_due w entries) ∷ rest) ≡ false
+  left_stands : (e : Emission) (rest : List Task) (entries : List PlanEntry) → is_next (gone_handlers w) (Emitting e (entries_due w entries) ∷ rest) ≡ false
   left_stands e rest [] = refl
   left_stands e rest (class_handler program cleanup ∷ entries) = refl
-  left_stands e rest (transfer number back ∷ entries) = by (makes_no_transfer (binding_of number w.bindings)) refl (left_stands e rest entries)
+  left_stands e rest (transfer number back ∷ entries) = by (makes_no_transfer (binding_of number w.bindings)) (left_stands e rest entries)
     where
-      stood : (g : Bool) → (gone_in w).bindings number ≡ g → makes_no_transfer (binding_of number w.bindings) ≡ false → g ≡ false
-      stood true so free = absurd (false≢true (sym free ∙ ended_passed w number so))
-      stood false not_so free = refl
-
-      by : (b : Bool) → makes_no_transfer (binding_of number w.bindings) ≡ b → is_next (gone_in w) (Emitting e (entries_due w entries) ∷ rest) ≡ false
-          → is_next (gone_in w) (Emitting e (cond b (entries_due w entries) (transfer number back ∷ entries)) ∷ rest) ≡ false
-      by true passed later = later
-      by false free later = stood ((gone_in w).bindings number) refl free
+      by : (b : Bool) → is_next (gone_handlers w) (Emitting e (entries_due w entries) ∷ rest) ≡ false
+          → is_next (gone_handlers w) (Emitting e (cond b (entries_due w entries) (transfer number back ∷ entries)) ∷ rest) ≡ false
+      by true later = later
+      by false later = refl
   left_stands e rest (handler number ∷ entries) = by (is_passed_over (handler_of number w.handlers)) refl (left_stands e rest entries)
     where
-      stood : (g : Bool) → (gone_in w).handlers number ≡ g → is_passed_over (handler_of number w.handlers) ≡ false → g ≡ false
+      stood : (g : Bool) → (gone_handlers w).handlers number ≡ g → is_passed_over (handler_of number w.handlers) ≡ false → g ≡ false
       stood true so free = absurd (false≢true (sym free ∙ gone_passed w number so))
       stood false not_so free = refl
 
-      by : (b : Bool) → is_passed_over (handler_of number w.handlers) ≡ b → is_next (gone_in w) (Emitting e (entries_due w entries) ∷ rest) ≡ false
-          → is_next (gone_in w) (Emitting e (cond b (entries_due w entries) (handler number ∷ entries)) ∷ rest) ≡ false
+      by : (b : Bool) → is_passed_over (handler_of number w.handlers) ≡ b → is_next (gone_handlers w) (Emitting e (entries_due w entries) ∷ rest) ≡ false
+          → is_next (gone_handlers w) (Emitting e (cond b (entries_due w entries) (handler number ∷ entries)) ∷ rest) ≡ false
       by true passed later = later
-      by false free later = stood ((gone_in w).handlers number) refl free
+      by false free later = stood ((gone_handlers w).handlers number) refl free
 
-  pub first_stands : (agenda : List Task) → is_next (gone_in w) (with_first w agenda) ≡ false
+  pub first_stands : (agenda : List Task) → is_next (gone_handlers w) (with_first w agenda) ≡ false
   first_stands [] = refl
   first_stands (Emitting e entries ∷ rest) = left_stands e rest entries
   first_stands (task ∷ rest) = refl
-
--- the engine's emissions have no transfers
-due_as_left : (w : config.World) (dues : List Due) → entries_due w (flat_map (entries_of []) dues) ≡ entries_left w.handlers (flat_map (entries_of []) dues)
-due_as_left w [] = refl
-due_as_left w (d ∷ dues) = by d.step.turn (due_as_left w dues)
-  where
-    later : List PlanEntry
-    later = flat_map (entries_of []) dues
-
-    first : Turn → List PlanEntry
-    first t = entries_of [] (record d { step = record d.step { turn = t } })
-
-    by : (t : Turn) → entries_due w later ≡ entries_left w.handlers later → entries_due w (first t ++ later) ≡ entries_left w.handlers (first t ++ later)
-    by (turns.Class program) same = refl
-    by (turns.Handler program swapped arg) same =
-        let number = number_at d.step.then_at in
-        ap (λ (es : List PlanEntry). cond (is_passed_over (handler_of number w.handlers)) es (handler number ∷ later)) same
-    by turns.Transfers same = same
-
--- so that a task of the engine comes first as the machine's does
-pub past_as_skipped : (d : Definition) (hs : List Handler) (w : config.World) → hs ≡ w.handlers → (t : code.Task) → past_turns w (task_of d hs t) ≡ past_skipped_turns hs (task_of d hs t)
-past_as_skipped d hs w own (tasks.Emitting cursor args by_event) =
-    ap (Emitting (emission_of cursor args.items by_event)) (due_as_left w (to_come cursor hs) ∙ ap (λ (all : List Handler). entries_left all (entries_to_come cursor hs)) (sym own))
-past_as_skipped d hs w own (tasks.Setting id slot v) = refl
-past_as_skipped d hs w own (tasks.Notifying id slot) = refl
-past_as_skipped d hs w own (tasks.Beginning e) = refl
-past_as_skipped d hs w own (tasks.Running frame) = refl
-past_as_skipped d hs w own (tasks.Thawing id slots) = refl
-past_as_skipped d hs w own (tasks.Constructing id steps held) = refl
-past_as_skipped d hs w own (tasks.Building place forwards) = refl
-past_as_skipped d hs w own (tasks.Adopting place forwards) = refl
-past_as_skipped d hs w own (tasks.Connecting place number) = refl
-past_as_skipped d hs w own (tasks.Answering source) = refl
-past_as_skipped d hs w own (tasks.Due source) = refl
-past_as_skipped d hs w own (tasks.Handling event) = refl
 
 -- ** what is to come, where some handlers go
 
@@ -169,23 +135,23 @@ abbrev pub AreLeft : Gone → (Handler → Bool) → List Handler → Type 0
 AreLeft gone keeps [] = Unit {0}
 AreLeft gone keeps (h ∷ hs) = (not (gone.handlers h.number) ≡ keeps h) × AreLeft gone keeps hs
 
-module _ (gone : Gone) (keeps : Handler → Bool) where
+module _ (gone : Gone) (keeps : Handler → Bool) (of : List PlanEntry) (stay : filter (stays gone) of ≡ of) where
   abbrev kept_entries : List Due → List PlanEntry
-  kept_entries dues = filter (stays gone) (flat_map (entries_of []) dues)
+  kept_entries dues = filter (stays gone) (flat_map (entries_of of) dues)
 
   -- the turns of two lists have the same entries, but for those that are gone
   abbrev Alike : List Due → List Due → Type 0
-  Alike dues left = kept_entries dues ≡ flat_map (entries_of []) left
+  Alike dues left = kept_entries dues ≡ flat_map (entries_of of) left
 
-  flat-append : (xs ys : List Due) → flat_map (entries_of []) (xs ++ ys) ≡ flat_map (entries_of []) xs ++ flat_map (entries_of []) ys
+  flat-append : (xs ys : List Due) → flat_map (entries_of of) (xs ++ ys) ≡ flat_map (entries_of of) xs ++ flat_map (entries_of of) ys
   flat-append [] ys = refl
-  flat-append (d ∷ xs) ys = ap (λ l. entries_of [] d ++ l) (flat-append xs ys) ∙ sym (append_assoc (entries_of [] d) (flat_map (entries_of []) xs) (flat_map (entries_of []) ys))
+  flat-append (d ∷ xs) ys = ap (λ l. entries_of of d ++ l) (flat-append xs ys) ∙ sym (append_assoc (entries_of of d) (flat_map (entries_of of) xs) (flat_map (entries_of of) ys))
 
   alike_append : (xs ys us vs : List Due) → Alike xs us → Alike ys vs → Alike (xs ++ ys) (us ++ vs)
   alike_append xs ys us vs first later =
       ap (filter (stays gone)) (flat-append xs ys)
-      ∙ filter-append (stays gone) (flat_map (entries_of []) xs) (flat_map (entries_of []) ys)
-      ∙ ap (λ l. l ++ kept_entries ys) first ∙ ap (λ l. flat_map (entries_of []) us ++ l) later ∙ sym (flat-append us vs)
+      ∙ filter-append (stays gone) (flat_map (entries_of of) xs) (flat_map (entries_of of) ys)
+      ∙ ap (λ l. l ++ kept_entries ys) first ∙ ap (λ l. flat_map (entries_of of) us ++ l) later ∙ sym (flat-append us vs)
 
   class_alike : (runs : Bool) (program : Option ℕ) (next : Stage) → Alike (of_class runs program next) (of_class runs program next)
   class_alike runs None next = refl
@@ -198,10 +164,10 @@ module _ (gone : Gone) (keeps : Handler → Bool) where
   handlers_alike stage same meant (h ∷ hs) left = by (meant h) refl (keeps h) left.0 (handlers_alike stage same meant hs left.1)
     where
       whole : List PlanEntry
-      whole = flat_map (entries_of []) (map (of_handler stage) (filter meant hs))
+      whole = flat_map (entries_of of) (map (of_handler stage) (filter meant hs))
 
       fewer : List PlanEntry
-      fewer = flat_map (entries_of []) (map (of_handler stage) (filter meant (filter keeps hs)))
+      fewer = flat_map (entries_of of) (map (of_handler stage) (filter meant (filter keeps hs)))
 
       Rest : Type 0
       Rest = filter (stays gone) whole ≡ fewer
@@ -213,11 +179,11 @@ module _ (gone : Gone) (keeps : Handler → Bool) where
           ∙ ap (λ b. cond b (handler h.number ∷ filter (stays gone) whole) (filter (stays gone) whole)) stays_on
           ∙ ap (λ l. handler h.number ∷ l) rest
           ∙ ap (λ n. handler n ∷ fewer) (sym (same h.number))
-          ∙ ap (λ b. flat_map (entries_of []) (map (of_handler stage) (cond b (h ∷ filter meant (filter keeps hs)) (filter meant (filter keeps hs))))) (sym so)
+          ∙ ap (λ b. flat_map (entries_of of) (map (of_handler stage) (cond b (h ∷ filter meant (filter keeps hs)) (filter meant (filter keeps hs))))) (sym so)
       by true so false goes rest =
           ap (λ n. filter (stays gone) (handler n ∷ whole)) (same h.number)
           ∙ ap (λ b. cond b (handler h.number ∷ filter (stays gone) whole) (filter (stays gone) whole)) goes ∙ rest
-      by false not_so true stays_on rest = rest ∙ ap (λ b. flat_map (entries_of []) (map (of_handler stage) (cond b (h ∷ filter meant (filter keeps hs)) (filter meant (filter keeps hs))))) (sym not_so)
+      by false not_so true stays_on rest = rest ∙ ap (λ b. flat_map (entries_of of) (map (of_handler stage) (cond b (h ∷ filter meant (filter keeps hs)) (filter meant (filter keeps hs))))) (sym not_so)
       by false not_so false goes rest = rest
 
   module _ (w : Walk) (hs : List Handler) (left : AreLeft gone keeps hs) where
@@ -247,7 +213,9 @@ module _ (gone : Gone) (keeps : Handler → Bool) where
       where
         by : (b : Bool) → Alike (from_before 0 w hs) (from_before 0 w (filter keeps hs))
             → Alike (cond b (due turns.Transfers (stages.Before 0) ∷ []) [] ++ from_before 0 w hs) (cond b (due turns.Transfers (stages.Before 0) ∷ []) [] ++ from_before 0 w (filter keeps hs))
-        by true rest = rest
+        by true rest =
+            filter-append (stays gone) of (flat_map (entries_of of) (from_before 0 w hs))
+            ∙ ap (λ l. l ++ kept_entries (from_before 0 w hs)) stay ∙ ap (λ l. of ++ l) rest
         by false rest = rest
 
     turns_alike : (stage : Stage) → Alike (turns_from stage w hs) (turns_from stage w (filter keeps hs))
@@ -261,20 +229,43 @@ module _ (gone : Gone) (keeps : Handler → Bool) where
     turns_alike stages.Cleanup = cleanup_alike
     turns_alike stages.Over = refl
 
-    pub entries_alike : filter (stays gone) (entries_to_come w hs) ≡ entries_to_come w (filter keeps hs)
-    entries_alike = turns_alike w.stage
+    turns_left : kept_entries (to_come w hs) ≡ flat_map (entries_of of) (to_come w (filter keeps hs))
+    turns_left = turns_alike w.stage
+
+-- transfers stay, where only handlers are gone
+abbrev pub OnlyHandlers : Gone → Type 0
+OnlyHandlers gone = (number : ℕ) → gone.bindings number ≡ false
+
+pub transfers_stay : (gone : Gone) → OnlyHandlers gone → (due : List DueTransfer) → filter (stays gone) (entries_due_of due) ≡ entries_due_of due
+transfers_stay gone free [] = refl
+transfers_stay gone free (t ∷ due) =
+    ap (λ b. cond (not b) (entry_of t ∷ filter (stays gone) (entries_due_of due)) (filter (stays gone) (entries_due_of due))) (free t.number)
+    ∙ ap (λ l. entry_of t ∷ l) (transfers_stay gone free due)
+
+module _ (gone : Gone) (free : OnlyHandlers gone) (keeps : Handler → Bool) where
+  entries_alike : (w : Walk) (ts : Transfers) (hs : List Handler) → AreLeft gone keeps hs → filter (stays gone) (entries_to_come w hs ts) ≡ entries_to_come w (filter keeps hs) ts
+  entries_alike w ts hs left =
+      let now = entries_due_of (due_now ts) in
+      let later = entries_due_of (due_later ts) in
+      let turns = flat_map (entries_of later) (to_come w hs) in
+      filter-append (stays gone) now turns
+      ∙ ap (λ l. l ++ filter (stays gone) turns) (transfers_stay gone free (due_now ts))
+      ∙ ap (λ l. now ++ l) (turns_left gone keeps later (transfers_stay gone free (due_later ts)) w hs left)
 
   module _ (d : Definition) (hs : List Handler) (left : AreLeft gone keeps hs) where
     task_alike : (t : code.Task) → pruned gone (task_of d hs t) ≡ task_of d (filter keeps hs) t
     task_alike (tasks.Setting id slot v) = refl
     task_alike (tasks.Notifying id slot) = refl
     task_alike (tasks.Beginning e) = refl
-    task_alike (tasks.Emitting cursor args by_event) = ap (Emitting (emission_of cursor args.items by_event)) (entries_alike cursor hs left)
+    task_alike (tasks.Emitting cursor args by_event transfers) = ap (Emitting (emission_of cursor args.items by_event)) (entries_alike cursor transfers hs left)
     task_alike (tasks.Running frame) = refl
     task_alike (tasks.Thawing id slots) = refl
     task_alike (tasks.Constructing id steps held) = refl
     task_alike (tasks.Building place forwards) = refl
     task_alike (tasks.Adopting place forwards) = refl
+    task_alike (tasks.Transferring number back) = refl
+    task_alike (tasks.Unsetting number) = refl
+    task_alike (tasks.Binding number) = refl
     task_alike (tasks.Connecting place number) = refl
     task_alike (tasks.Answering source) = refl
     task_alike (tasks.Due source) = refl
@@ -338,7 +329,7 @@ stand_as keeps above (h ∷ hs) last n = (
     by false = ap (λ o. is_some o) (below_none keeps h.number hs last n.1)
 
 are_left : (keeps : Handler → Bool) (v : config.World) (all hs : List Handler) (above : ℕ) → v.handlers ≡ filter keeps all → Numbered above hs v.last_handler → StandAs keeps all hs
-    → AreLeft (gone_in v) keeps hs
+    → AreLeft (gone_handlers v) keeps hs
 are_left keeps v all [] above is n s = tt
 are_left keeps v all (h ∷ hs) above is n s = (
   ap (λ (hs : List Handler). not (nat_le h.number v.last_handler && not (is_some (handler_of h.number hs)))) is
@@ -355,7 +346,7 @@ are_left keeps v all (h ∷ hs) above is n s = (
     twice false = refl
 
 -- in a world where some are kept
-pub kept_left : (keeps : Handler → Bool) (v : config.World) (hs : List Handler) → v.handlers ≡ filter keeps hs → Numbered 0 hs v.last_handler → AreLeft (gone_in v) keeps hs
+pub kept_left : (keeps : Handler → Bool) (v : config.World) (hs : List Handler) → v.handlers ≡ filter keeps hs → Numbered 0 hs v.last_handler → AreLeft (gone_handlers v) keeps hs
 kept_left keeps v hs is n = are_left keeps v hs hs 0 is n (stand_as keeps 0 hs v.last_handler n)
 
 -- ** where none goes
@@ -371,7 +362,7 @@ left_by_itself : (gone : Gone) (hs : List Handler) → AreLeft gone (λ (h : Han
 left_by_itself gone [] = tt
 left_by_itself gone (h ∷ hs) = (refl, left_by_itself gone hs)
 
-pub none_gone : (d : Definition) (gone : Gone) (hs : List Handler) (s : Stack) → list_all (λ (h : Handler). not (gone.handlers h.number)) hs ≡ true → map (pruned gone) (tasks_of d hs s) ≡ tasks_of d hs s
-none_gone d gone hs s apart =
-    tasks_alike gone (λ (h : Handler). not (gone.handlers h.number)) d hs (left_by_itself gone hs) s
+pub none_gone : (d : Definition) (gone : Gone) → OnlyHandlers gone → (hs : List Handler) (s : Stack) → list_all (λ (h : Handler). not (gone.handlers h.number)) hs ≡ true → map (pruned gone) (tasks_of d hs s) ≡ tasks_of d hs s
+none_gone d gone free hs s apart =
+    tasks_alike gone free (λ (h : Handler). not (gone.handlers h.number)) d hs (left_by_itself gone hs) s
     ∙ ap (λ (l : List Handler). tasks_of d l s) (all_kept (λ (h : Handler). not (gone.handlers h.number)) hs apart)

@@ -12,12 +12,15 @@ pub parts : (d : Definition) (hs : List Handler) (t : Task) (o : ℕ) → in_tas
 parts d hs (tasks.Setting id slot x) o = omega arith
 parts d hs (tasks.Notifying id slot) o = omega arith
 parts d hs (tasks.Beginning emission) o = refl
-parts d hs (tasks.Emitting cursor args by_event) o = refl
+parts d hs (tasks.Emitting cursor args by_event transfers) o = refl
 parts d hs (tasks.Running frame) o = omega arith
 parts d hs (tasks.Thawing id slots) o = omega arith
 parts d hs (tasks.Constructing id steps held) o = omega arith
 parts d hs (tasks.Building place forwards) o = omega arith
 parts d hs (tasks.Adopting place forwards) o = omega arith
+parts d hs (tasks.Transferring number back) o = omega arith
+parts d hs (tasks.Unsetting number) o = omega arith
+parts d hs (tasks.Binding number) o = omega arith
 parts d hs (tasks.Connecting place number) o = omega arith
 parts d hs (tasks.Answering source) o = omega arith
 parts d hs (tasks.Due source) o = omega arith

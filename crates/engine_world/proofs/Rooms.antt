@@ -75,7 +75,7 @@ task_most d hs o (tasks.Beginning e) =
       e.args.ok.1,
       e.args.small,
     )
-task_most d hs o (tasks.Emitting cursor args by_event) =
+task_most d hs o (tasks.Emitting cursor args by_event transfers) =
     omega (
       arith,
       same_most o cursor.object,
@@ -99,6 +99,9 @@ task_most d hs o (tasks.Thawing id slots) = omega (arith, same_most o id.0)
 task_most d hs o (tasks.Constructing id steps held) = omega (arith, same_most o id.0)
 task_most d hs o (tasks.Building place forwards) = omega arith
 task_most d hs o (tasks.Adopting place forwards) = omega arith
+task_most d hs o (tasks.Transferring number back) = omega arith
+task_most d hs o (tasks.Unsetting number) = omega arith
+task_most d hs o (tasks.Binding number) = omega arith
 task_most d hs o (tasks.Connecting place number) = omega arith
 task_most d hs o (tasks.Answering source) = omega arith
 task_most d hs o (tasks.Due source) = omega arith

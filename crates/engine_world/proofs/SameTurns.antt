@@ -16,46 +16,50 @@ use Rattle.signal_core.specs.Laws.{entries_of, number_at}
 use Rattle.signal_core.specs.declared.stage.Stage.{Stage}
 use Rattle.signal_core.specs.declared.stage.Stage.TheVariants as stages
 use Rattle.engine_world.specs.TaskView.{emission_of, entries_to_come, task_of, tasks_of}
+use Rattle.engine_world.specs.TransferView.{due_later, due_now, entries_due_of}
+use Rattle.engine_world.specs.declared.task.Transfers.{Transfers}
 use Rattle.engine_world.specs.declared.task.Stack.{Stack}
 use Rattle.engine_world.specs.declared.task.Task as code
 use Rattle.engine_world.specs.declared.task.Task.TheVariants as tasks
 
-abbrev pub entries : List Due → List PlanEntry
-entries dues = flat_map (entries_of []) dues
+-- the entries of these turns, where the bindings have these transfers
+abbrev pub entries : List PlanEntry → List Due → List PlanEntry
+entries transfers dues = flat_map (entries_of transfers) dues
 
-pub both_entries : (xs ys : List Due) → entries (xs ++ ys) ≡ entries xs ++ entries ys
-both_entries [] ys = refl
-both_entries (x ∷ xs) ys = ap (λ l. entries_of [] x ++ l) (both_entries xs ys) ∙ sym (append_assoc (entries_of [] x) (entries xs) (entries ys))
+module _ (of : List PlanEntry) where
+  pub both_entries : (xs ys : List Due) → entries of (xs ++ ys) ≡ entries of xs ++ entries of ys
+  both_entries [] ys = refl
+  both_entries (x ∷ xs) ys = ap (λ l. entries_of of x ++ l) (both_entries xs ys) ∙ sym (append_assoc (entries_of of x) (entries of xs) (entries of ys))
 
-same_append : (xs ys us vs : List Due) → entries xs ≡ entries us → entries ys ≡ entries vs → entries (xs ++ ys) ≡ entries (us ++ vs)
-same_append xs ys us vs first later =
-    both_entries xs ys ∙ ap (λ l. l ++ entries ys) first ∙ ap (λ l. entries us ++ l) later ∙ sym (both_entries us vs)
+  same_append : (xs ys us vs : List Due) → entries of xs ≡ entries of us → entries of ys ≡ entries of vs → entries of (xs ++ ys) ≡ entries of (us ++ vs)
+  same_append xs ys us vs first later =
+      both_entries xs ys ∙ ap (λ l. l ++ entries of ys) first ∙ ap (λ l. entries of us ++ l) later ∙ sym (both_entries us vs)
 
 -- each stage has the same turns of these handlers and of those
-abbrev pub SameAhead : Walk → List Handler → List Handler → Type 0
-SameAhead w hs ks = (given : ℕ) (after : Bool) (stage : ℕ → Stage) → entries (of_handlers w given after stage hs) ≡ entries (of_handlers w given after stage ks)
+abbrev pub SameAhead : List PlanEntry → Walk → List Handler → List Handler → Type 0
+SameAhead of w hs ks = (given : ℕ) (after : Bool) (stage : ℕ → Stage) → entries of (of_handlers w given after stage hs) ≡ entries of (of_handlers w given after stage ks)
 
-module _ (w : Walk) (hs ks : List Handler) (same : SameAhead w hs ks) where
-  after_same : (given : ℕ) → entries (from_after given w hs) ≡ entries (from_after given w ks)
+module _ (of : List PlanEntry) (w : Walk) (hs ks : List Handler) (same : SameAhead of w hs ks) where
+  after_same : (given : ℕ) → entries of (from_after given w hs) ≡ entries of (from_after given w ks)
   after_same given =
-      same_append (of_handlers w given true stages.After hs) (from_cleanup w) (of_handlers w given true stages.After ks) (from_cleanup w) (same given true stages.After) refl
+      same_append of (of_handlers w given true stages.After hs) (from_cleanup w) (of_handlers w given true stages.After ks) (from_cleanup w) (same given true stages.After) refl
 
-  last_same : entries (from_last w hs) ≡ entries (from_last w ks)
+  last_same : entries of (from_last w hs) ≡ entries of (from_last w ks)
   last_same =
       let class = of_class (has_flags 2 w.flags) w.class_program (stages.After 0) in
-      same_append class (from_after 0 w hs) class (from_after 0 w ks) refl (after_same 0)
+      same_append of class (from_after 0 w hs) class (from_after 0 w ks) refl (after_same 0)
 
-  before_same : (given : ℕ) → entries (from_before given w hs) ≡ entries (from_before given w ks)
+  before_same : (given : ℕ) → entries of (from_before given w hs) ≡ entries of (from_before given w ks)
   before_same given =
-      same_append (of_handlers w given false stages.Before hs) (from_last w hs) (of_handlers w given false stages.Before ks) (from_last w ks) (same given false stages.Before) last_same
+      same_append of (of_handlers w given false stages.Before hs) (from_last w hs) (of_handlers w given false stages.Before ks) (from_last w ks) (same given false stages.Before) last_same
 
-  transfers_same : entries (from_transfers w hs) ≡ entries (from_transfers w ks)
-  transfers_same = same_append (of_bindings w) (from_before 0 w hs) (of_bindings w) (from_before 0 w ks) refl (before_same 0)
+  transfers_same : entries of (from_transfers w hs) ≡ entries of (from_transfers w ks)
+  transfers_same = same_append of (of_bindings w) (from_before 0 w hs) (of_bindings w) (from_before 0 w ks) refl (before_same 0)
 
-  turns_same : (stage : Stage) → entries (turns_from stage w hs) ≡ entries (turns_from stage w ks)
+  turns_same : (stage : Stage) → entries of (turns_from stage w hs) ≡ entries of (turns_from stage w ks)
   turns_same stages.First =
       let class = of_class (has_flags 1 w.flags) w.class_program stages.Transfers in
-      same_append class (from_transfers w hs) class (from_transfers w ks) refl transfers_same
+      same_append of class (from_transfers w hs) class (from_transfers w ks) refl transfers_same
   turns_same stages.Transfers = transfers_same
   turns_same (stages.Before given) = before_same given
   turns_same stages.Last = last_same
@@ -63,34 +67,41 @@ module _ (w : Walk) (hs ks : List Handler) (same : SameAhead w hs ks) where
   turns_same stages.Cleanup = refl
   turns_same stages.Over = refl
 
-  pub entries_same : entries_to_come w hs ≡ entries_to_come w ks
-  entries_same = turns_same w.stage
+  entries_alike : entries of (turns_from w.stage w hs) ≡ entries of (turns_from w.stage w ks)
+  entries_alike = turns_same w.stage
+
+-- and so all that is to come is the same
+pub entries_same : (w : Walk) (ts : Transfers) (hs ks : List Handler) → SameAhead (entries_due_of (due_later ts)) w hs ks → entries_to_come w hs ts ≡ entries_to_come w ks ts
+entries_same w ts hs ks same = ap (λ l. entries_due_of (due_now ts) ++ l) (entries_alike (entries_due_of (due_later ts)) w hs ks same)
 
 -- ** tasks
 
 -- what holds of the emission of a task that goes on
-abbrev pub OfEmission : (Walk → Type 0) → code.Task → Type 0
-OfEmission P (tasks.Emitting cursor args by_event) = P cursor
+abbrev pub OfEmission : (Walk → Transfers → Type 0) → code.Task → Type 0
+OfEmission P (tasks.Emitting cursor args by_event transfers) = P cursor transfers
 OfEmission P _ = Unit {0}
 
-abbrev pub OfEmissions : (Walk → Type 0) → List code.Task → Type 0
+abbrev pub OfEmissions : (Walk → Transfers → Type 0) → List code.Task → Type 0
 OfEmissions P [] = Unit {0}
 OfEmissions P (t ∷ ts) = OfEmission P t × OfEmissions P ts
 
 module _ (d : Definition) (hs ks : List Handler) where
-  abbrev Same : Walk → Type 0
-  Same w = entries_to_come w hs ≡ entries_to_come w ks
+  abbrev Same : Walk → Transfers → Type 0
+  Same w ts = entries_to_come w hs ts ≡ entries_to_come w ks ts
 
   task_same : (t : code.Task) → OfEmission Same t → task_of d hs t ≡ task_of d ks t
   task_same (tasks.Setting id slot v) is = refl
   task_same (tasks.Notifying id slot) is = refl
   task_same (tasks.Beginning e) is = refl
-  task_same (tasks.Emitting cursor args by_event) is = ap (Emitting (emission_of cursor args.items by_event)) is
+  task_same (tasks.Emitting cursor args by_event transfers) is = ap (Emitting (emission_of cursor args.items by_event)) is
   task_same (tasks.Running frame) is = refl
   task_same (tasks.Thawing id slots) is = refl
   task_same (tasks.Constructing id steps held) is = refl
   task_same (tasks.Building place forwards) is = refl
   task_same (tasks.Adopting place forwards) is = refl
+  task_same (tasks.Transferring number back) is = refl
+  task_same (tasks.Unsetting number) is = refl
+  task_same (tasks.Binding number) is = refl
   task_same (tasks.Connecting place number) is = refl
   task_same (tasks.Answering source) is = refl
   task_same (tasks.Due source) is = refl
@@ -117,22 +128,22 @@ some_blocks change meant only h = by (meant h)
     by true = only h
     by false = refl
 
-module _ (change : Handler → Handler) (only : OnlyBlocks change) (w : Walk) (given : ℕ) (after : Bool) (stage : ℕ → Stage) where
+module _ (of : List PlanEntry) (change : Handler → Handler) (only : OnlyBlocks change) (w : Walk) (given : ℕ) (after : Bool) (stage : ℕ → Stage) where
   ahead_same : (h : Handler) → is_ahead w given after (change h) ≡ is_ahead w given after h
   ahead_same h = ap (is_ahead w given after) (only h)
 
-  handlers_same : (hs : List Handler) → entries (of_handlers w given after stage (map change hs)) ≡ entries (of_handlers w given after stage hs)
+  handlers_same : (hs : List Handler) → entries of (of_handlers w given after stage (map change hs)) ≡ entries of (of_handlers w given after stage hs)
   handlers_same [] = refl
   handlers_same (h ∷ hs) =
-      ap (λ b. entries (map (of_handler stage) (cond b (change h ∷ filter (is_ahead w given after) (map change hs)) (filter (is_ahead w given after) (map change hs))))) (ahead_same h)
+      ap (λ b. entries of (map (of_handler stage) (cond b (change h ∷ filter (is_ahead w given after) (map change hs)) (filter (is_ahead w given after) (map change hs))))) (ahead_same h)
       ∙ by (is_ahead w given after h) (handlers_same hs)
     where
       changed : List PlanEntry
-      changed = entries (of_handlers w given after stage (map change hs))
+      changed = entries of (of_handlers w given after stage (map change hs))
 
-      by : (b : Bool) → entries (of_handlers w given after stage (map change hs)) ≡ entries (of_handlers w given after stage hs)
-          → entries (map (of_handler stage) (cond b (change h ∷ filter (is_ahead w given after) (map change hs)) (filter (is_ahead w given after) (map change hs))))
-          ≡ entries (map (of_handler stage) (cond b (h ∷ filter (is_ahead w given after) hs) (filter (is_ahead w given after) hs)))
+      by : (b : Bool) → entries of (of_handlers w given after stage (map change hs)) ≡ entries of (of_handlers w given after stage hs)
+          → entries of (map (of_handler stage) (cond b (change h ∷ filter (is_ahead w given after) (map change hs)) (filter (is_ahead w given after) (map change hs))))
+          ≡ entries of (map (of_handler stage) (cond b (h ∷ filter (is_ahead w given after) hs) (filter (is_ahead w given after) hs)))
       by true rest = ap (λ (k : Handler). handler (number_at (stage k.number)) ∷ changed) (only h) ∙ ap (λ l. handler (number_at (stage h.number)) ∷ l) rest
       by false rest = rest
 
@@ -143,7 +154,7 @@ module _ (d : Definition) (change : Handler → Handler) (only : OnlyBlocks chan
   all_turns (t ∷ ts) = (by t, all_turns ts)
     where
       by : (t : code.Task) → OfEmission (Same d (map change hs) hs) t
-      by (tasks.Emitting cursor args by_event) = entries_same cursor (map change hs) hs (λ given after stage. handlers_same change only cursor given after stage hs)
+      by (tasks.Emitting cursor args by_event transfers) = entries_same cursor transfers (map change hs) hs (λ given after stage. handlers_same (entries_due_of (due_later transfers)) change only cursor given after stage hs)
       by (tasks.Setting id slot v) = tt
       by (tasks.Notifying id slot) = tt
       by (tasks.Beginning e) = tt
@@ -152,6 +163,9 @@ module _ (d : Definition) (change : Handler → Handler) (only : OnlyBlocks chan
       by (tasks.Constructing id steps held) = tt
       by (tasks.Building place forwards) = tt
       by (tasks.Adopting place forwards) = tt
+      by (tasks.Transferring number back) = tt
+      by (tasks.Unsetting number) = tt
+      by (tasks.Binding number) = tt
       by (tasks.Connecting place number) = tt
       by (tasks.Answering source) = tt
       by (tasks.Due source) = tt
@@ -163,7 +177,7 @@ module _ (d : Definition) (change : Handler → Handler) (only : OnlyBlocks chan
 -- ** a handler more
 
 -- one that is connected after an emission began has no turn in it
-module _ (w : Walk) (h : Handler) (later : w.greatest < h.number) (given : ℕ) (after : Bool) (stage : ℕ → Stage) where
+module _ (of : List PlanEntry) (w : Walk) (h : Handler) (later : w.greatest < h.number) (given : ℕ) (after : Bool) (stage : ℕ → Stage) where
   not_ahead : is_ahead w given after h ≡ false
   not_ahead = by (nat_lt given h.number)
     where
@@ -178,8 +192,8 @@ module _ (w : Walk) (h : Handler) (later : w.greatest < h.number) (given : ℕ) 
   ahead_without [] = ap (λ b. cond b (h ∷ []) []) not_ahead
   ahead_without (k ∷ hs) = ap (λ l. cond (is_ahead w given after k) (k ∷ l) l) (ahead_without hs)
 
-  later_same : (hs : List Handler) → entries (of_handlers w given after stage (hs ++ h ∷ [])) ≡ entries (of_handlers w given after stage hs)
-  later_same hs = ap (λ l. entries (map (of_handler stage) l)) (ahead_without hs)
+  later_same : (hs : List Handler) → entries of (of_handlers w given after stage (hs ++ h ∷ [])) ≡ entries of (of_handlers w given after stage hs)
+  later_same hs = ap (λ l. entries of (map (of_handler stage) l)) (ahead_without hs)
 
 -- the tasks stay
 module _ (d : Definition) (h : Handler) (hs : List Handler) (last : ℕ) (later : last < h.number) where
@@ -188,8 +202,9 @@ module _ (d : Definition) (h : Handler) (hs : List Handler) (last : ℕ) (later 
   begun_turns (t ∷ ts) begun = (by t (All-head (TakesKnownHandlers last) t ts begun), begun_turns ts (All-tail (TakesKnownHandlers last) t ts begun))
     where
       by : (t : code.Task) → TakesKnownHandlers last t → OfEmission (Same d (hs ++ h ∷ []) hs) t
-      by (tasks.Emitting cursor args by_event) begun =
-          entries_same cursor (hs ++ h ∷ []) hs (λ given after stage. later_same cursor h (omega (arith, later, begun)) given after stage hs)
+      by (tasks.Emitting cursor args by_event transfers) begun =
+          let b : cursor.greatest ≤ last = begun.0 in
+          entries_same cursor transfers (hs ++ h ∷ []) hs (λ given after stage. later_same (entries_due_of (due_later transfers)) cursor h (omega (arith, later, b)) given after stage hs)
       by (tasks.Setting id slot v) begun = tt
       by (tasks.Notifying id slot) begun = tt
       by (tasks.Beginning e) begun = tt
@@ -198,6 +213,9 @@ module _ (d : Definition) (h : Handler) (hs : List Handler) (last : ℕ) (later 
       by (tasks.Constructing id steps held) begun = tt
       by (tasks.Building place forwards) begun = tt
       by (tasks.Adopting place forwards) begun = tt
+      by (tasks.Transferring number back) begun = tt
+      by (tasks.Unsetting number) begun = tt
+      by (tasks.Binding number) begun = tt
       by (tasks.Connecting place number) begun = tt
       by (tasks.Answering source) begun = tt
       by (tasks.Due source) begun = tt
@@ -211,7 +229,7 @@ pub begun_more : (last more : ℕ) → last ≤ more → (s : Stack) → AllTake
 begun_more last more few s begun = all_more s.tasks.items begun
   where
     one_more : (t : code.Task) → TakesKnownHandlers last t → TakesKnownHandlers more t
-    one_more (tasks.Emitting cursor args by_event) begun = let b : cursor.greatest ≤ last = begun in omega (arith, few, b)
+    one_more (tasks.Emitting cursor args by_event transfers) begun = let b : cursor.greatest ≤ last = begun.0 in (omega (arith, few, b), begun.1)
     one_more (tasks.Setting id slot v) begun = tt
     one_more (tasks.Notifying id slot) begun = tt
     one_more (tasks.Beginning e) begun = tt
@@ -220,6 +238,9 @@ begun_more last more few s begun = all_more s.tasks.items begun
     one_more (tasks.Constructing id steps held) begun = tt
     one_more (tasks.Building place forwards) begun = tt
     one_more (tasks.Adopting place forwards) begun = tt
+    one_more (tasks.Transferring number back) begun = tt
+    one_more (tasks.Unsetting number) begun = tt
+    one_more (tasks.Binding number) begun = tt
     one_more (tasks.Connecting place number) begun = tt
     one_more (tasks.Answering source) begun = tt
     one_more (tasks.Due source) begun = tt

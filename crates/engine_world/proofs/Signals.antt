@@ -9,7 +9,7 @@ use Rattle.engine_world.proofs.Emits.{stops_on}
 use Rattle.engine_world.proofs.Lists.{total-append}
 use Rattle.ui_machine.specs.Definition.{Definition}
 use Rattle.ui_machine.specs.Definition.Lookups.{place_at}
-use Rattle.ui_machine.specs.Definition.Places.{Attached, Place}
+use Rattle.ui_machine.specs.Definition.Places.{Attached, Bind, Place}
 use Rattle.ui_machine.specs.Rules.Build.{adopts_if, building, building_handler, connected_items, held_data, held_object, is_connecting, made_items, numbered, of_items, with_signal}
 use Rattle.ui_machine.specs.Seq.{total}
 use Rattle.ui_machine.specs.declared.arm.Arm.TheVariants as arms
@@ -19,7 +19,7 @@ use Rattle.ui_machine.specs.Steps.{before, uncounted}
 use Rattle.ui_machine.specs.State.Config.{Started, World, starts}
 use Rattle.ui_machine.specs.State.Tasks.{Building, Item, Task, connects}
 use Rattle.ui_machine.specs.State.Tasks as tasks
-use Rattle.engine_world.specs.TaskView.{build_end, build_from, connects_from, item_of, signals_of}
+use Rattle.engine_world.specs.TaskView.{binds_from, build_end, build_from, connects_from, item_of, signals_of}
 use Rattle.engine_world.specs.declared.task.ForwardReference.{ForwardReference}
 use Rattle.definition_format.specs.Meaning.{IsBasic, object_count}
 use Rattle.engine_world.proofs.Prototypes.{connected_past, signals_past}
@@ -112,16 +112,30 @@ taken_step t c rest next is more =
 
 -- ** of the tasks that are left
 
--- the builder is to connect all signals, where it has still to make objects
+-- the builder is to connect all signals, where it has still to make bindings
+pub bind_count : (d : Definition) (number : ℕ) → total is_connecting (binds_from d number) ≡ total is_connecting (connects_from d 0 0)
+bind_count d number =
+    omega (
+      arith,
+      total-append is_connecting (numbered tasks.binds number (drop number d.bindings)) (connected_items 0 d.places),
+      none_bound number (drop number d.bindings),
+      ap (total is_connecting) (connects_all d),
+    )
+  where
+    none_bound : (n : ℕ) (bs : List Bind) → total is_connecting (numbered tasks.binds n bs) ≡ 0
+    none_bound n [] = refl
+    none_bound n (b ∷ bs) = omega (arith, none_bound (suc n) bs)
+
+-- and so where it has still to make objects
 pub build_count : (d : Definition) (place : ℕ) (fs : List ForwardReference) → total is_connecting (build_from d place fs) ≡ total is_connecting (connects_from d 0 0)
 build_count d place fs =
     omega (
       arith,
       total-append is_connecting (made_items place (drop place d.places)) (build_end d fs),
       none_made place (drop place d.places),
-      total-append is_connecting (map item_of fs) (connected_items 0 d.places),
+      total-append is_connecting (map item_of fs) (binds_from d 0),
       none_forward fs,
-      ap (total is_connecting) (connects_all d),
+      bind_count d 0,
     )
   where
     none_adopted : (place : ℕ) (parent : Option ℕ) → total is_connecting (adopts_if place parent) ≡ 0

@@ -1,6 +1,6 @@
 -- Sources hold their data: what is attached is counted, and what is removed is let go.
-use Rattle.std.proofs.Common.{◌≡◌, ℕ, ◌+◌, ◌≤◌, ◌<◌, Bool, true, false, cond, not, ◌&&◌, List, [], ◌∷◌, ◌++◌, length, Option, Some, None, is_some, option_and_then, option_map, refl, sym, ap, ◌∙◌, arith}
-use Rattle.std.specs.List.{filter, find}
+use Rattle.std.proofs.Common.{◌≡◌, ℕ, ◌+◌, ◌<◌, Bool, true, false, cond, not, ◌&&◌, List, [], ◌∷◌, ◌++◌, length, Option, Some, None, is_some, option_and_then, option_map, refl, ap, ◌∙◌, arith}
+use Rattle.std.specs.List.{find}
 use Rattle.ui_machine.specs.Definition.{Definition}
 use Rattle.ui_machine.specs.Seq.{total}
 use Rattle.ui_machine.specs.State.References.{in_object, in_option, in_source, same}
@@ -11,7 +11,7 @@ use Rattle.main_context.specs.Attached.{Attached, is_attached}
 use Rattle.main_context.specs.Dues.{due_of, identity_of}
 use Rattle.main_context.specs.declared.source.Due.{Due}
 use Rattle.main_context.proofs.First.{total_without_first, without_none}
-use Rattle.engine_world.specs.Counting.{Counts, KeepsCounts, OnlyCounts}
+use Rattle.engine_world.specs.Counting.{KeepsCounts, OnlyCounts}
 use Rattle.engine_world.specs.declared.engine.Engine.{Engine}
 use Rattle.engine_world.proofs.Counts.{stays}
 use Rattle.engine_world.proofs.Lists.{total-append}

@@ -1,12 +1,19 @@
--- Emissions that go on, and the handlers that are connected behind their beginning.
-use Rattle.std.specs.Prelude.{ℕ, ◌≤◌, All}
+-- Emissions that go on: the handlers that are connected behind their beginning, and the transfers that they have left.
+use Rattle.std.specs.Prelude.{◌≡◌, ℕ, ◌≤◌, All, true, []}
+use Rattle.signal_core.specs.Emission.{Walk, is_over}
 use Rattle.engine_world.specs.declared.task.Stack.{Stack}
 use Rattle.engine_world.specs.declared.task.Task.{Task}
 use Rattle.engine_world.specs.declared.task.Task.TheVariants as tasks
+use Rattle.engine_world.specs.declared.task.Transfers.{Transfers}
+use Rattle.engine_world.specs.TransferView.{due_now}
 
--- an emission takes no handler with a number above this one; the other tasks take none
+-- where an emission has come to its end no transfer is due
+abbrev pub EndsWithoutTransfers : Walk → Transfers → Type 0
+EndsWithoutTransfers w ts = is_over w.stage ≡ true → due_now ts ≡ []
+
+-- an emission takes no handler with a number above this one, and no transfer at its end; the other tasks take none
 abbrev pub TakesKnownHandlers : (last : ℕ) → Task → Type 0
-TakesKnownHandlers last (tasks.Emitting cursor args by_event) = cursor.greatest ≤ last
+TakesKnownHandlers last (tasks.Emitting cursor args by_event transfers) = (cursor.greatest ≤ last) × EndsWithoutTransfers cursor transfers
 TakesKnownHandlers last _ = Unit {0}
 
 -- the same of all tasks of a stack

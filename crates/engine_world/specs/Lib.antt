@@ -4,6 +4,7 @@ pub mod WeakView
 pub mod View
 pub mod MakingView
 pub mod LineView
+pub mod TransferView
 pub mod TaskView
 pub mod KnownHandlers
 pub mod ConnectView

@@ -1,21 +1,24 @@
--- What the engine's configuration stands for. An emission of the engine has no turns of handlers and no transfers of bindings that are gone,
--- and passes over handlers that are blocked and bindings that set as it takes the next one; the machine passes over all of them by steps
--- of its own.
-use Rattle.std.specs.Prelude.{◌≡◌, ℕ, Bool, true, cond, List, [], ◌∷◌, Option, None, Some, Result, Ok, Err}
+-- What the engine's configuration stands for. An emission of the engine has no turns of handlers that are gone, and passes over handlers that
+-- are blocked, and bindings that set or have ended, as it takes the next one; the machine passes over all of them by steps of its own.
+use Rattle.std.specs.Prelude.{◌≡◌, ℕ, Bool, true, false, cond, List, [], ◌∷◌, Option, None, Some, Result, Ok, Err}
 use Rattle.ui_machine.specs.declared.arm.Halt.{Halt}
 use Rattle.ui_machine.specs.Definition.{Definition}
 use Rattle.ui_machine.specs.Outcome.{Answer, Stops}
 use Rattle.ui_machine.specs.Runs.{Halts, Reaches}
 use Rattle.ui_machine.specs.State.Bindings.{Binding, binding_of}
 use Rattle.ui_machine.specs.State.Config.{Config, World}
-use Rattle.ui_machine.specs.State.Handlers.{Handler, handler_of}
+use Rattle.ui_machine.specs.State.Handlers.{handler_of}
 use Rattle.ui_machine.specs.State.Tasks.{Emitting, PlanEntry, Task, class_handler, handler, transfer}
-use Rattle.machine_laws.specs.GoneLaws.{gone_in, pruned_at}
-use Rattle.signal_core.specs.Laws.{entries_left, is_passed_over}
+use Rattle.machine_laws.specs.GoneLaws.{Gone, gone_in, pruned_at}
+use Rattle.signal_core.specs.Laws.{is_passed_over}
 
--- a configuration without the turns of those that are gone
+-- the handlers that are gone; transfers of bindings that have ended are not left out
+abbrev pub gone_handlers : World → Gone
+gone_handlers w = record { handlers = (gone_in w).handlers; bindings = λ number. false }
+
+-- a configuration without the turns of handlers that are gone
 abbrev pub without_gone : Config → Config
-without_gone c = pruned_at (gone_in c.world) c
+without_gone c = pruned_at (gone_handlers c.world) c
 
 -- from a configuration of the machine steps lead to one that the engine's stands for
 pub record Arrives (d : Definition) (c view : Config) : Type 0 where
@@ -40,11 +43,6 @@ GoesWithoutGone (Err halt) answer new = Stops halt answer
 
 -- ** turns that are passed over
 
--- a task of the engine as it comes first: an emission is past the turns of handlers that are gone or blocked
-abbrev pub past_skipped_turns : List Handler → Task → Task
-past_skipped_turns hs (Emitting e entries) = Emitting e (entries_left hs entries)
-past_skipped_turns hs task = task
-
 -- whether the transfer of a binding is passed over: the binding sets already, or it is gone
 abbrev pub makes_no_transfer : Option Binding → Bool
 makes_no_transfer None = true
@@ -59,7 +57,7 @@ entries_due w (handler number ∷ entries) =
 entries_due w (transfer number back ∷ entries) =
     cond (makes_no_transfer (binding_of number w.bindings)) (entries_due w entries) (transfer number back ∷ entries)
 
--- a task of the machine as it comes first
+-- a task as it comes first
 abbrev pub past_turns : World → Task → Task
 past_turns w (Emitting e entries) = Emitting e (entries_due w entries)
 past_turns w task = task

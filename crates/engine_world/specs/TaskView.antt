@@ -20,6 +20,8 @@ use Rattle.engine_world.specs.declared.task.ForwardReference.{ForwardReference}
 use Rattle.engine_world.specs.declared.task.NewEmission.{NewEmission}
 use Rattle.engine_world.specs.declared.engine.Engine.{Engine}
 use Rattle.engine_world.specs.declared.task.Stack.{Stack}
+use Rattle.engine_world.specs.declared.task.Transfers.{Transfers}
+use Rattle.engine_world.specs.TransferView.{due_later, due_now, entries_due_of}
 pub use Rattle.engine_world.specs.MakingView.{making_of_code}
 
 -- the item of the build that sets a forward reference
@@ -48,9 +50,13 @@ abbrev pub connects_from : machine.Definition → (place number : ℕ) → List 
 connects_from d place number =
     numbered (config.connects place) number (drop number (signals_of (place_at d place))) ++ connected_items (suc place) (drop (suc place) d.places)
 
--- what the build does once all objects stand: these forward references, and the signals of the objects
+-- the items that make the bindings from one on, and connect the signals of the objects
+abbrev pub binds_from : machine.Definition → (number : ℕ) → List config.Item
+binds_from d number = numbered config.binds number (drop number d.bindings) ++ connected_items 0 d.places
+
+-- what the build does once all objects stand: these forward references, the bindings, and the signals of the objects
 abbrev pub build_end : machine.Definition → List ForwardReference → List config.Item
-build_end d forwards = map item_of forwards ++ connected_items 0 d.places
+build_end d forwards = map item_of forwards ++ binds_from d 0
 
 -- the build of the objects from a place on, and what comes behind them
 abbrev pub build_from : machine.Definition → ℕ → List ForwardReference → List config.Item
@@ -83,9 +89,9 @@ emission_of w args by_event = record {
   cleanup = is_over w.stage;
 }
 
--- the entries that it has still to come, of the handlers as they stand; there are no bindings, and so no transfers
-abbrev pub entries_to_come : Walk → List Handler → List config.PlanEntry
-entries_to_come w hs = flat_map (entries_of []) (to_come w hs)
+-- the entries that it has still to come, of the handlers as they stand and of these transfers
+abbrev pub entries_to_come : Walk → List Handler → Transfers → List config.PlanEntry
+entries_to_come w hs ts = entries_due_of (due_now ts) ++ flat_map (entries_of (entries_due_of (due_later ts))) (to_come w hs)
 
 -- ** tasks
 
@@ -94,12 +100,15 @@ abbrev pub task_of : machine.Definition → List Handler → Task → config.Tas
 task_of d hs (tasks.Setting id slot v) = config.Setting id.0 slot (value_view v)
 task_of d hs (tasks.Notifying id slot) = config.Notifying id.0 slot
 task_of d hs (tasks.Beginning e) = config.Beginning (new_of e)
-task_of d hs (tasks.Emitting cursor args by_event) = config.Emitting (emission_of cursor args.items by_event) (entries_to_come cursor hs)
+task_of d hs (tasks.Emitting cursor args by_event transfers) = config.Emitting (emission_of cursor args.items by_event) (entries_to_come cursor hs transfers)
+task_of d hs (tasks.Transferring number back) = config.Transferring number back
+task_of d hs (tasks.Unsetting number) = config.Unsetting number
 task_of d hs (tasks.Running frame) = config.Running (frame_view frame)
 task_of d hs (tasks.Thawing id slots) = config.Thawing id.0 slots
 task_of d hs (tasks.Constructing id steps held) = config.Constructing id.0 steps held
 task_of d hs (tasks.Building place forwards) = config.Building (build_from d place.0 forwards)
 task_of d hs (tasks.Adopting place forwards) = config.Building (config.adopts place.0 ∷ build_from d (suc place.0) forwards)
+task_of d hs (tasks.Binding number) = config.Building (binds_from d number)
 task_of d hs (tasks.Connecting place number) = config.Building (connects_from d place.0 number)
 task_of d hs (tasks.Answering source) = config.Answering source
 task_of d hs (tasks.Handling event) = config.Handling (request_of event)

@@ -182,6 +182,7 @@ impl Task {
         match self {
             Task::Building { .. } => taken_from(definition, last, FIRST_PLACE, 0),
             Task::Adopting { .. } => taken_from(definition, last, FIRST_PLACE, 0),
+            Task::Binding { .. } => taken_from(definition, last, FIRST_PLACE, 0),
             Task::Connecting { place, number } => taken_from(definition, last, *place, *number),
             _ => last,
         }

@@ -10,6 +10,7 @@ ghost use Rattle.engine_world.specs.TaskView.{agenda_of};
 
 use crate::task::Stack;
 use crate::world::World;
+use bindings::Bindings;
 use instances::{Table, WeakSlots};
 use main_context::Context;
 use signal_core::Handlers;
@@ -50,6 +51,7 @@ impl Engine {
                 table: Table::new(alloc, limits.objects),
                 weak,
                 handlers: Handlers::new(alloc, limits.handlers, 0),
+                bindings: Bindings::new(alloc),
                 context: Context::new(alloc),
                 builder: Vec::new(alloc),
                 transcript: Vec::new(alloc),

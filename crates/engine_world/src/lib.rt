@@ -20,5 +20,6 @@ pub mod references;
 pub mod refusals;
 pub mod sources;
 pub mod task;
+pub mod transformations;
 pub mod weak_slots;
 pub mod world;

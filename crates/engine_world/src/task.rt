@@ -6,6 +6,7 @@ ghost use Rattle.ui_machine.specs.State.Tasks as config;
 ghost use Rattle.ui_machine.specs.State.Handlers.{Handler};
 ghost use Rattle.engine_world.specs.TaskView.{making_of_code, task_of, tasks_of};
 
+use bindings::DueTransfers;
 use definition_format::Request;
 use frames::Frame;
 use g_values::Value;
@@ -139,6 +140,26 @@ pub struct NewEmission {
     pub by_event: bool,
 }
 
+/// The transfers of bindings that an emission has still to make. They are taken as a notification begins.
+#[derive(Drop)]
+pub enum Transfers {
+    /// Their turn is to come among the others.
+    Ahead(DueTransfers),
+    /// They come before all turns that are left.
+    Due(DueTransfers),
+}
+
+impl Transfers {
+    ghost use Rattle.engine_world.specs.declared.task.Transfers.TheVariants as at;
+
+    /// No transfers.
+    pub fn new(alloc: Global) -> Self
+        ensures { result ≡ at.Due [] }
+    {
+        Transfers::Due(DueTransfers::new(alloc))
+    }
+}
+
 /// What there is to do.
 #[derive(Drop)]
 pub enum Task {
@@ -160,6 +181,16 @@ pub enum Task {
         cursor: Cursor,
         args: Vec<Value>,
         by_event: bool,
+        transfers: Transfers,
+    },
+    /// A binding is to set one of its ends, by its number: its target, or back its source.
+    Transferring {
+        number: u64,
+        back: bool,
+    },
+    /// What a binding set has ended, so that it no longer sets.
+    Unsetting {
+        number: u64,
     },
     /// The rest of a program.
     Running(Frame),
@@ -185,6 +216,10 @@ pub enum Task {
     Adopting {
         place: Place,
         forwards: ForwardReferences,
+    },
+    /// The bindings of the definition are made from one on, and then the signals are connected.
+    Binding {
+        number: usize,
     },
     /// The signals of an object are connected from one on, and then those of the objects behind it.
     Connecting {

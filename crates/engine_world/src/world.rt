@@ -7,6 +7,7 @@ ghost use Rattle.instances.specs.Store.{id_of};
 ghost use Rattle.engine_world.specs.View.{held_of, world_of};
 
 use crate::builder::BuilderEntry;
+use bindings::Bindings;
 use g_values::Value;
 use instances::{Table, WeakSlots};
 use main_context::Context;
@@ -14,14 +15,16 @@ use signal_core::Handlers;
 use std::alloc::AllocError;
 use ui_machine::{ObjectId, Place};
 
-/// The objects, which of their properties are weak, the handlers, the sources, what the builder holds of the objects, the transcript, and
-/// what the event answered.
+/// The objects, which of their properties are weak, the handlers, the bindings, the sources, what the builder holds of the objects, the
+/// transcript, and what the event answered.
 #[derive(Drop)]
 pub struct World {
     pub table: Table,
     pub weak: WeakSlots,
     /// What is connected to the objects' signals.
     pub handlers: Handlers,
+    /// The bindings that were made.
+    pub bindings: Bindings,
     /// The sources of the main context.
     pub context: Context,
     /// What the builder has of each place, as far as it has built.

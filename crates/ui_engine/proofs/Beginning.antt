@@ -1,15 +1,11 @@
 -- How the build begins: nothing lives, and objects are all that there is to make.
-use Rattle.std.proofs.Common.{◌≡◌, List, ◌++◌, map, sym, ap, ◌∙◌}
+use Rattle.std.proofs.Common.{◌≡◌, List, ◌++◌, map, sym, ap}
 use Rattle.ui_machine.specs.Definition.{Definition}
-use Rattle.ui_machine.specs.Definition.Places.{Bind}
 use Rattle.ui_machine.specs.State.Tasks.{binds}
 use Rattle.ui_machine.specs.Rules.Build.{made_items, forward_items, numbered, connected_items, build_items}
-use Rattle.definition_format.specs.Meaning.{IsBasic}
 use Rattle.engine_world.specs.declared.task.ForwardReference.{ForwardReference}
 use Rattle.engine_world.specs.TaskView.{item_of, build_from}
 
--- objects, and then forward references and signals
-pub only_objects : (d : Definition) → IsBasic d → (fs : List ForwardReference) → map item_of fs ≡ forward_items 0 d.places → build_items d ≡ build_from d 0 fs
-only_objects d basic fs all =
-    ap (λ (bound : List Bind). made_items 0 d.places ++ (forward_items 0 d.places ++ (numbered binds 0 bound ++ connected_items 0 d.places))) basic.bindings
-    ∙ ap (λ forwards. made_items 0 d.places ++ (forwards ++ connected_items 0 d.places)) (sym all)
+-- objects, and then forward references, bindings and signals
+pub only_objects : (d : Definition) (fs : List ForwardReference) → map item_of fs ≡ forward_items 0 d.places → build_items d ≡ build_from d 0 fs
+only_objects d fs all = ap (λ forwards. made_items 0 d.places ++ (forwards ++ (numbered binds 0 d.bindings ++ connected_items 0 d.places))) (sym all)

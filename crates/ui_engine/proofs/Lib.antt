@@ -4,7 +4,6 @@ mod Joining
 mod Reaching
 mod Standing
 mod Acts
-mod Unbound
 mod Stepping
 mod Beginning
 mod Serving

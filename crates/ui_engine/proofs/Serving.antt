@@ -12,7 +12,7 @@ use Rattle.definition_format.specs.Meaning.{request_of}
 use Rattle.ui_engine.specs.declared.dispatch.Reply.{Reply}
 use Rattle.ui_engine.specs.declared.session.SessionFault.{SessionFault}
 use Rattle.ui_engine.specs.declared.session.SessionFault.TheVariants as faults
-use Rattle.ui_engine.specs.SessionView.{SessionState, tally_of, serving, carrying_out, Comes, AnswersBy, AnswersEvent}
+use Rattle.ui_engine.specs.SessionView.{SessionState, tally_of, serving, carrying_out, Comes, AnswersBy}
 
 module _ (d : Definition) (w : World) (r : Request) where
   refused_by : (released : Bool) → names_released w r ≡ released → refusal w (config.request r) ≡ elim released as (λ _. Option Refusal) [ true ↦ Some gone | false ↦ None ]

@@ -1,31 +1,35 @@
--- How the machine follows the engine: it passes over the turns of handlers that are gone or blocked and of bindings that are gone or set, and
--- then does the same step.
+-- How the machine follows the engine: it passes over the turns of handlers that are gone or blocked, and of bindings that set or have ended,
+-- and then does the same step.
 use Rattle.std.proofs.Common.{◌≡◌, ◌∙◌, refl, sym, ap, subst, ℕ, Bool, true, false, cond, map, List, [], ◌∷◌, ◌++◌, Option, None, Some, Ok, Err}
-use Rattle.std.specs.List.{list_any}
+use Rattle.std.specs.Prelude.{IfOk, slice_get, ◌||◌}
 use Rattle.ui_machine.specs.declared.arm.Arm.{Arm}
+use Rattle.ui_machine.specs.declared.arm.Arm.TheVariants as arms
 use Rattle.ui_machine.specs.declared.arm.Halt.{Halt}
 use Rattle.ui_machine.specs.declared.arm.Halt.TheVariants as halts
 use Rattle.ui_machine.specs.Definition.{Definition}
-use Rattle.ui_machine.specs.Outcome.{Answer, Stops}
+use Rattle.ui_machine.specs.Outcome.{Answer, Stops, known}
 use Rattle.ui_machine.specs.Rules.Accumulation.{given_to, running_handler}
+use Rattle.ui_machine.specs.Rules.Build.{building_binding, first_transfer, held_object, new_binding, with_binding}
 use Rattle.ui_machine.specs.Rules.Programs.{program_before}
+use Rattle.ui_machine.specs.Rules.Sets.{is_disposed}
 use Rattle.ui_machine.specs.Runs.{Halts, HaltsAt, HasEnded, Reaches}
 use Rattle.ui_machine.specs.Rules.Transfers.{transfer_for}
 use Rattle.ui_machine.specs.State.Bindings.{Binding, binding_of}
-use Rattle.ui_machine.specs.State.Config.{Config, World, starts}
+use Rattle.ui_machine.specs.State.Config.{Config, Started, World, starts}
 use Rattle.ui_machine.specs.State.Handlers.{Handler, handler_of}
+use Rattle.ui_machine.specs.State.Objects.{living}
 use Rattle.ui_machine.specs.State.References.{mentions, next_unheld}
-use Rattle.ui_machine.specs.State.Tasks.{Emission, Emitting, PlanEntry, Task, Transferring, class_handler, handler, transfer}
-use Rattle.ui_machine.specs.Steps.{act, asked_after, asked_first, first_of, question, step, uncounted}
+use Rattle.ui_machine.specs.State.Tasks.{Building, Emission, Emitting, Item, PlanEntry, Task, Transferring, binds, class_handler, handler, transfer}
+use Rattle.ui_machine.specs.Steps.{act, asked_after, asked_first, before, first_of, question, step, uncounted}
 use Rattle.machine_laws.specs.FrontLaws.{mapped}
-use Rattle.machine_laws.specs.GoneLaws.{AreStillGone, Gone, gone_in, is_emitting, is_next, makes_binding, pruned, pruned_at}
-use Rattle.machine_laws.proofs.GoneProofs.{given_are_gone, pruned_again, question_does_without, step_does_without, unheld_as}
-use Rattle.machine_laws.proofs.KeptSteps.{steps_keep_gone, whole_without_emissions}
+use Rattle.machine_laws.specs.GoneLaws.{AreStillGone, Gone, gone_in, is_next, makes_binding, pruned, pruned_at}
+use Rattle.machine_laws.proofs.GoneProofs.{pruned_again, question_does_without, step_does_without, unheld_as}
+use Rattle.machine_laws.proofs.KeptSteps.{steps_keep_gone}
 use Rattle.signal_core.specs.Laws.{is_passed_over}
-use Rattle.engine_world.specs.Standing.{Arrives, Breaks, Follows, entries_due, makes_no_transfer, with_first, without_gone}
+use Rattle.engine_world.specs.Standing.{Arrives, Breaks, Follows, entries_due, gone_handlers, makes_no_transfer, with_first, without_gone}
 use Rattle.ui_engine.specs.Stepping.{NoneUnheld}
-use Rattle.engine_world.proofs.Gone.{first_stands, with_first_stays}
-use Rattle.engine_world.proofs.Floats.{if_ok_at}
+use Rattle.engine_world.proofs.Gone.{first_stands, handlers_are_gone, with_first_stays}
+use Rattle.engine_world.proofs.Floats.{bind_ok, if_ok_at}
 use Rattle.ui_engine.proofs.Reaching.{halts_on, reaches_here, reaches_on, reaches_once}
 
 -- a configuration whose first task is past the turns that are passed over
@@ -90,6 +94,51 @@ module _ (d : Definition) where
   first_asks w (Emitting e entries ∷ rest) = refl
   first_asks w (task ∷ rest) = refl
 
+  -- ** handlers that are gone stay so
+
+  module _ (w : World) where
+    SameHandlers : World → Type 0
+    SameHandlers v = (v.handlers ≡ w.handlers) × (v.last_handler ≡ w.last_handler)
+
+    gone_as : (v : World) → SameHandlers v → AreStillGone (gone_handlers w) (gone_handlers v)
+    unfolding SameHandlers
+    gone_as v same = let handlers = same.0 in let last = same.1 in record { handlers = λ number is. rw (handlers, last) is; bindings = λ number is. is }
+
+    -- also where the build makes a binding
+    binding_same : (number : ℕ) (items : List Item) → IfOk (building_binding d w number items) (λ s. SameHandlers s.world)
+    unfolding building_binding SameHandlers
+    binding_same number items =
+        bind_ok (known arms.Code (slice_get d.bindings number)) _ P (λ b _. bind_ok (held_object w b.source) _ P (λ source _. bind_ok (held_object w b.target) _ P (λ target _.
+        by (is_disposed (living w.objects source) || is_disposed (living w.objects target)) (new_binding number b source target) (first_transfer number b))))
+      where
+        P : Started → Type 0
+        P = λ s. SameHandlers s.world
+
+        by : (late : Bool) (b : Binding) (ts : List Task) → IfOk (cond late (starts w (Building items ∷ [])) (starts (with_binding w b) (ts ++ Building items ∷ []))) P
+        by true b ts = (refl, refl)
+        by false b ts = (refl, refl)
+
+    led_same : (rest : List Task) (n : ℕ) (a : Answer Started) → IfOk a (λ s. SameHandlers s.world) → (x : Config) → uncounted rest n a ≡ Ok x → SameHandlers x.world
+    led_same rest n (Ok s) same x is = let led : before rest n s ≡ x = cc is in subst (λ (y : Config). SameHandlers y.world) led same
+    led_same rest n (Err arm) same x is = cc is
+
+    acts_same : (agenda : List Task) (n : ℕ) (x : Config) → makes_binding agenda ≡ true → act d w None agenda n ≡ Ok x → SameHandlers x.world
+    acts_same (Building (binds number ∷ items) ∷ rest) n x makes is = led_same rest n (building_binding d w number items) (binding_same number items) x is
+    acts_same other n x never is = absurd (cc never)
+
+  handlers_stay : (c x : Config) → step d None c ≡ Ok x → AreStillGone (gone_handlers c.world) (gone_handlers x.world)
+  handlers_stay c x is = by (makes_binding c.agenda) refl (next_unheld (mentions d c) c.world.objects) refl
+    where
+      kept : (next_unheld (mentions d c) c.world.objects ≡ None → makes_binding c.agenda ≡ false) → AreStillGone (gone_handlers c.world) (gone_handlers x.world)
+      kept apart =
+          let stay = if_ok_at (λ (y : Config). AreStillGone (gone_in c.world) (gone_in y.world)) (step d None c) x (steps_keep_gone d None c apart) is in
+          record { handlers = stay.handlers; bindings = λ number never. never }
+
+      by : (makes : Bool) → makes_binding c.agenda ≡ makes → (unheld : Option ℕ) → next_unheld (mentions d c) c.world.objects ≡ unheld → AreStillGone (gone_handlers c.world) (gone_handlers x.world)
+      by false none unheld at = kept (λ _. none)
+      by true makes (Some id) at = kept (λ none. let never : ◌≡◌ {A = Option ℕ} (Some id) None = sym at ∙ none in absurd (cc never))
+      by true makes None at = gone_as c.world x.world (acts_same c.world c.agenda c.counted x makes (sym (ap (first_of d None c) at) ∙ is))
+
   -- ** steps of the machine that the engine's stand for
 
   module _ (c m : Config) (stands : without_gone m ≡ c) where
@@ -97,7 +146,7 @@ module _ (d : Definition) where
     same_world = ap (λ (x : Config). x.world) stands
 
     gone : Gone
-    gone = gone_in m.world
+    gone = gone_handlers m.world
 
     -- what the step leads to where the engine's configuration leads to another
     leads : {A B : Type 0} (f : A → B) (a : Answer A) (x : B) → mapped f a ≡ Ok x → (y : A) × (a ≡ Ok y) × (f y ≡ x)
@@ -109,36 +158,35 @@ module _ (d : Definition) where
     stuck f (Err other) arm is = cc is
 
     -- one step
-    steps_so : (None_or : next_unheld (mentions d m) m.world.objects ≡ None → is_next (gone_in m.world) m.agenda ≡ false) → step d None c ≡ mapped (pruned_at (gone_in m.world)) (step d None m)
-    steps_so apart = ap (step d None) (sym stands) ∙ step_does_without (gone_in m.world) d None m (given_are_gone m.world) apart
+    steps_so : (None_or : next_unheld (mentions d m) m.world.objects ≡ None → is_next (gone_handlers m.world) m.agenda ≡ false) → step d None c ≡ mapped (pruned_at (gone_handlers m.world)) (step d None m)
+    steps_so apart = ap (step d None) (sym stands) ∙ step_does_without (gone_handlers m.world) d None m (handlers_are_gone m.world) apart
 
     asks_so : question d m ≡ question d c
-    asks_so = sym (question_does_without (gone_in m.world) d m) ∙ ap (question d) stands
+    asks_so = sym (question_does_without (gone_handlers m.world) d m) ∙ ap (question d) stands
 
     unheld_so : next_unheld (mentions d m) m.world.objects ≡ next_unheld (mentions d c) c.world.objects
-    unheld_so = sym (unheld_as (gone_in m.world) d m) ∙ ap (λ (x : Config). next_unheld (mentions d x) x.world.objects) stands
+    unheld_so = sym (unheld_as (gone_handlers m.world) d m) ∙ ap (λ (x : Config). next_unheld (mentions d x) x.world.objects) stands
 
-    arrives_by : (x : Config) → (next_unheld (mentions d m) m.world.objects ≡ None → is_next (gone_in m.world) m.agenda ≡ false) → question d c ≡ None → step d None c ≡ Ok x
-        → (next_unheld (mentions d c) c.world.objects ≡ None → makes_binding c.agenda ≡ false) → Arrives d m (without_gone x)
-    arrives_by x apart asks leads_to unbound =
-        let to = leads (pruned_at (gone_in m.world)) (step d None m) x (sym (steps_so apart) ∙ leads_to) in
+    arrives_by : (x : Config) → (next_unheld (mentions d m) m.world.objects ≡ None → is_next (gone_handlers m.world) m.agenda ≡ false) → question d c ≡ None → step d None c ≡ Ok x → Arrives d m (without_gone x)
+    arrives_by x apart asks leads_to =
+        let to = leads (pruned_at (gone_handlers m.world)) (step d None m) x (sym (steps_so apart) ∙ leads_to) in
         let world : to.0.world ≡ x.world = ap (λ (y : Config). y.world) to.2 in
-        let stay = if_ok_at (λ (y : Config). AreStillGone (gone_in c.world) (gone_in y.world)) (step d None c) x (steps_keep_gone d None c unbound) leads_to in
-        let more = subst (λ (w : World). AreStillGone (gone_in w) (gone_in x.world)) (sym same_world) stay in
+        let stay = handlers_stay c x leads_to in
+        let more = subst (λ (w : World). AreStillGone (gone_handlers w) (gone_handlers x.world)) (sym same_world) stay in
         record {
           at = to.0;
           reached = reaches_once d (record { asks = asks_so ∙ asks; leads = to.1 });
           stands =
-              ap (λ (w : World). pruned_at (gone_in w) to.0) world
-              ∙ sym (pruned_again (gone_in m.world) (gone_in x.world) more to.0)
-              ∙ ap (pruned_at (gone_in x.world)) to.2;
+              ap (λ (w : World). pruned_at (gone_handlers w) to.0) world
+              ∙ sym (pruned_again (gone_handlers m.world) (gone_handlers x.world) more to.0)
+              ∙ ap (pruned_at (gone_handlers x.world)) to.2;
         }
 
-    halts_by : (arm : Arm) → (next_unheld (mentions d m) m.world.objects ≡ None → is_next (gone_in m.world) m.agenda ≡ false) → question d c ≡ None → step d None c ≡ Err arm → HaltsAt d m (halts.Stuck arm)
+    halts_by : (arm : Arm) → (next_unheld (mentions d m) m.world.objects ≡ None → is_next (gone_handlers m.world) m.agenda ≡ false) → question d c ≡ None → step d None c ≡ Err arm → HaltsAt d m (halts.Stuck arm)
     halts_by arm apart asks is = record {
       reply = None;
       asks = asks_so ∙ asks;
-      stuck = stuck (pruned_at (gone_in m.world)) (step d None m) arm (sym (steps_so apart) ∙ is);
+      stuck = stuck (pruned_at (gone_handlers m.world)) (step d None m) arm (sym (steps_so apart) ∙ is);
     }
 
   -- where nothing is to be finalised the first task comes first
@@ -149,7 +197,7 @@ module _ (d : Definition) where
     first_shows : (m : Config) → without_gone m ≡ c → without_gone (at_first m) ≡ at_first c
     first_shows m stands = ap (λ (l : List Task). record m { agenda = l }) (with_first_stays m.world m.agenda) ∙ ap at_first stands
 
-    first_apart : (m : Config) → is_next (gone_in m.world) (at_first m).agenda ≡ false
+    first_apart : (m : Config) → is_next (gone_handlers m.world) (at_first m).agenda ≡ false
     first_apart m = first_stands m.world m.agenda
 
     first_none : NoneUnheld d (at_first c)
@@ -162,10 +210,10 @@ module _ (d : Definition) where
     asks_first asks = ap (asked_after (at_first c)) first_none ∙ first_asks c.world c.agenda ∙ asks
 
     pub first_follows : (x new : Config) → asked_first c.world c.agenda ≡ None → act d c.world None (with_first c.world c.agenda) c.counted ≡ Ok x
-        → makes_binding (with_first c.world c.agenda) ≡ false → without_gone x ≡ new → Follows d c new
-    first_follows x new asks is unbound shows = record {
+        → without_gone x ≡ new → Follows d c new
+    first_follows x new asks is shows = record {
       arrives = λ m stands.
-          let next = arrives_by (at_first c) (at_first m) (first_shows m stands) x (λ _. first_apart m) (asks_first asks) (acts_first ∙ is) (λ _. unbound) in
+          let next = arrives_by (at_first c) (at_first m) (first_shows m stands) x (λ _. first_apart m) (asks_first asks) (acts_first ∙ is) in
           record { at = next.at; reached = reaches_on d (first_on m stands) next.reached; stands = next.stands ∙ shows };
     }
 
@@ -188,7 +236,7 @@ module _ (d : Definition) where
     some_none : ◌≡◌ {A = Option ℕ} (Some id) None → ⊥
     some_none e = cc e
 
-    not_none : (m : Config) → without_gone m ≡ c → next_unheld (mentions d m) m.world.objects ≡ None → is_next (gone_in m.world) m.agenda ≡ false
+    not_none : (m : Config) → without_gone m ≡ c → next_unheld (mentions d m) m.world.objects ≡ None → is_next (gone_handlers m.world) m.agenda ≡ false
     not_none m stands none = absurd (some_none (sym unheld ∙ sym (unheld_so c m stands) ∙ none))
 
     asks_nothing : question d c ≡ None
@@ -197,7 +245,7 @@ module _ (d : Definition) where
     pub last_follows : (x new : Config) → step d None c ≡ Ok x → without_gone x ≡ new → Follows d c new
     last_follows x new is shows = record {
       arrives = λ m stands.
-          let next = arrives_by c m stands x (not_none m stands) asks_nothing is (λ none. absurd (some_none (sym unheld ∙ none))) in
+          let next = arrives_by c m stands x (not_none m stands) asks_nothing is in
           record { at = next.at; reached = next.reached; stands = next.stands ∙ shows };
     }
 
@@ -213,14 +261,6 @@ module _ (d : Definition) where
         lines = ap (λ (w : World). w.transcript) (same_world c m stands) ∙ sym same;
       };
     }
-
-  -- where no emission goes on nothing was left out, so that a step may as well make a binding
-  pub whole_follows : (c x new : Config) → list_any is_emitting c.agenda ≡ false → question d c ≡ None → step d None c ≡ Ok x → without_gone x ≡ new → Follows d c new
-  whole_follows c x new none asks is shows = record {
-    arrives = λ m stands.
-        let same : m ≡ c = sym (whole_without_emissions (gone_in m.world) m (ap (λ (y : Config). list_any is_emitting y.agenda) stands ∙ none)) ∙ stands in
-        record { at = x; reached = reaches_once d (record { asks = ap (question d) same ∙ asks; leads = ap (step d None) same ∙ is }); stands = shows };
-  }
 
   -- ** runs
 
@@ -247,8 +287,8 @@ module _ (d : Definition) where
   pub ends_there : (c e : Config) → without_gone c ≡ c → Follows d c e → HasEnded d e → Reaches d [] c e
   ends_there c e whole follows ended =
       let there = follows.arrives c whole in
-      let none : map (pruned (gone_in there.at.world)) there.at.agenda ≡ [] = ap (λ (x : Config). x.agenda) there.stands ∙ ended.agenda in
-      let idle : there.at.agenda ≡ [] = no_tasks (pruned (gone_in there.at.world)) there.at.agenda none in
+      let none : map (pruned (gone_handlers there.at.world)) there.at.agenda ≡ [] = ap (λ (x : Config). x.agenda) there.stands ∙ ended.agenda in
+      let idle : there.at.agenda ≡ [] = no_tasks (pruned (gone_handlers there.at.world)) there.at.agenda none in
       let same : there.at ≡ e =
       sym (ap (λ (l : List Task). record there.at { agenda = l }) (none ∙ sym idle)) ∙ there.stands in
       subst (λ (x : Config). Reaches d [] c x) same there.reached

@@ -6,7 +6,7 @@ use Rattle.ui_machine.specs.declared.arm.Halt.{Halt}
 use Rattle.ui_machine.specs.Definition.{Definition}
 use Rattle.ui_machine.specs.State.Handlers.{Handler}
 use Rattle.ui_machine.specs.State.Tasks.{Answering, Beginning, Building, Calling, Handling, Constructing, Due, Emitting, Notifying, PlanEntry, Running, Setting, Task, Thawing, Transferring, Unsetting}
-use Rattle.machine_laws.specs.GoneLaws.{Gone, gone_in, makes_binding, pruned, stays}
+use Rattle.machine_laws.specs.GoneLaws.{Gone, pruned, stays}
 use Rattle.ui_machine.specs.State.Config.{World, Config, sunk}
 use Rattle.ui_machine.specs.Outcome.{Stops}
 use Rattle.ui_machine.specs.State.References.{mentions, next_unheld}
@@ -22,25 +22,26 @@ use Rattle.engine_world.specs.TaskView.{task_of, tasks_of}
 use Rattle.engine_world.specs.EngineView.{IsOfKind}
 use Rattle.ui_machine.specs.Prefix.{IsPrefix}
 use Rattle.ui_machine.proofs.Prefixes.{prefix_by}
-use Rattle.engine_world.specs.Standing.{Breaks, Follows, GoesWithoutGone, past_skipped_turns, past_turns, with_first, without_gone}
+use Rattle.engine_world.specs.Standing.{Breaks, Follows, GoesWithoutGone, gone_handlers, past_turns, with_first, without_gone}
 use Rattle.ui_engine.specs.Stepping.{NoneUnheld, Stepped}
 use Rattle.ui_engine.proofs.Standing.{first_breaks, first_follows, last_breaks, last_follows}
 use Rattle.engine_world.proofs.Floats.{if_ok_at, first_gone}
 use Rattle.ui_engine.proofs.Acts.{Passes, acted}
-use Rattle.engine_world.proofs.Gone.{past_as_skipped}
-use Rattle.ui_engine.proofs.Unbound.{makes_none}
 
 -- no task of the engine asks a peer
 asks_none : (d : Definition) (hs : List Handler) (w : World) (task : code.Task) (rest : List Task) → asked_first w (task_of d hs task ∷ rest) ≡ None
 asks_none d hs w (tasks.Setting id slot v) rest = refl
 asks_none d hs w (tasks.Notifying id slot) rest = refl
 asks_none d hs w (tasks.Beginning emission) rest = refl
-asks_none d hs w (tasks.Emitting cursor args by_event) rest = refl
+asks_none d hs w (tasks.Emitting cursor args by_event transfers) rest = refl
 asks_none d hs w (tasks.Running frame) rest = refl
 asks_none d hs w (tasks.Thawing id slots) rest = refl
 asks_none d hs w (tasks.Constructing id steps held) rest = refl
 asks_none d hs w (tasks.Building place forwards) rest = refl
 asks_none d hs w (tasks.Adopting place forwards) rest = refl
+asks_none d hs w (tasks.Transferring number back) rest = refl
+asks_none d hs w (tasks.Unsetting number) rest = refl
+asks_none d hs w (tasks.Binding number) rest = refl
 asks_none d hs w (tasks.Connecting place number) rest = refl
 asks_none d hs w (tasks.Answering source) rest = refl
 asks_none d hs w (tasks.Due source) rest = refl
@@ -75,34 +76,27 @@ pruned_weighs d gone (task ∷ ts) = let rest = pruned_weighs d gone ts in omega
     one (Handling request) = omega arith
     one (Due source) = omega arith
 
-module _ (d : Definition) (hs : List Handler) (c e : Config) (own : hs ≡ c.world.handlers) (none : NoneUnheld d c) (task : code.Task) (s : Stack)
+module _ (d : Definition) (hs : List Handler) (c e : Config) (none : NoneUnheld d c) (task : code.Task) (s : Stack)
     (first : c.agenda ≡ task_of d hs task ∷ tasks_of d hs s) where
-  acts : act d c.world None (with_first c.world c.agenda) c.counted ≡ act d c.world None (past_skipped_turns hs (task_of d hs task) ∷ tasks_of d hs s) c.counted
-  acts =
-      ap (λ (ts : List Task). act d c.world None (with_first c.world ts) c.counted) first
-      ∙ ap (λ (t : Task). act d c.world None (t ∷ tasks_of d hs s) c.counted) (past_as_skipped d hs c.world own task)
+  acts : act d c.world None (with_first c.world c.agenda) c.counted ≡ act d c.world None (past_turns c.world (task_of d hs task) ∷ tasks_of d hs s) c.counted
+  acts = ap (λ (ts : List Task). act d c.world None (with_first c.world ts) c.counted) first
 
   asks : asked_first c.world c.agenda ≡ None
   asks = ap (λ (ts : List Task). asked_first c.world ts) first ∙ asks_none d hs c.world task (tasks_of d hs s)
 
-  -- none of the engine's tasks makes a binding
-  unbound : makes_binding (with_first c.world c.agenda) ≡ false
-  unbound = ap (λ (ts : List Task). makes_binding (with_first c.world ts)) first ∙ makes_none d hs c.world task (tasks_of d hs s)
-
-  passes : (x : Config) → act d c.world None (past_skipped_turns hs (task_of d hs task) ∷ tasks_of d hs s) c.counted ≡ Ok x → Passes d c.world (task_of d hs task) (tasks_of d hs s) c.counted x
+  passes : (x : Config) → act d c.world None (past_turns c.world (task_of d hs task) ∷ tasks_of d hs s) c.counted ≡ Ok x → Passes d c.world (task_of d hs task) (tasks_of d hs s) c.counted x
   passes x is =
       if_ok_at (Passes d c.world (task_of d hs task) (tasks_of d hs s) c.counted) (act d c.world None (past_turns c.world (task_of d hs task) ∷ tasks_of d hs s) c.counted) x
-      (acted d c.world (tasks_of d hs s) c.counted None (task_of d hs task))
-      (ap (λ (t : Task). act d c.world None (t ∷ tasks_of d hs s) c.counted) (past_as_skipped d hs c.world own task) ∙ is)
+      (acted d c.world (tasks_of d hs s) c.counted None (task_of d hs task)) is
 
-  follows : (x : Config) → act d c.world None (past_skipped_turns hs (task_of d hs task) ∷ tasks_of d hs s) c.counted ≡ Ok x → without_gone x ≡ e → Follows d c e
-  follows x is shows = first_follows d c none x e asks (acts ∙ is) unbound shows
+  follows : (x : Config) → act d c.world None (past_turns c.world (task_of d hs task) ∷ tasks_of d hs s) c.counted ≡ Ok x → without_gone x ≡ e → Follows d c e
+  follows x is shows = first_follows d c none x e asks (acts ∙ is) shows
 
   -- without the turns of handlers that are gone there is no more to do
   less : (x : Config) → without_gone x ≡ e → work d e ≤ work d x
-  less x shows = subst (λ (y : Config). work d y ≤ work d x) shows (let fewer = pruned_weighs d (gone_in x.world) x.agenda in omega (arith, fewer))
+  less x shows = subst (λ (y : Config). work d y ≤ work d x) shows (let fewer = pruned_weighs d (gone_handlers x.world) x.agenda in omega (arith, fewer))
 
-  pub first_stepped : (result : Result StepKind Halt) → GoesWithoutGone result (act d c.world None (past_skipped_turns hs (task_of d hs task) ∷ tasks_of d hs s) c.counted) e → IfOk result (λ made. IsOfKind made (task_of d hs task)) → OnErr result (e.world.transcript ≡ c.world.transcript) → Stepped result d c e
+  pub first_stepped : (result : Result StepKind Halt) → GoesWithoutGone result (act d c.world None (past_turns c.world (task_of d hs task) ∷ tasks_of d hs s) c.counted) e → IfOk result (λ made. IsOfKind made (task_of d hs task)) → OnErr result (e.world.transcript ≡ c.world.transcript) → Stepped result d c e
   first_stepped (Ok mades.Nothing) goes made quiet = absurd made
   first_stepped (Ok mades.Uncounted) goes made quiet =
       let p = passes goes.0 goes.1 in
@@ -115,7 +109,7 @@ module _ (d : Definition) (hs : List Handler) (c e : Config) (own : hs ≡ c.wor
       (follows goes.0 goes.1 goes.2, (p.counts made).0, sym now ∙ (p.counts made).1)
   first_stepped (Err halt) goes made quiet = first_breaks d c none halt e.world.transcript asks (subst (Stops halt) (sym acts) goes) quiet
 
-  pub first_grows : (result : Result StepKind Halt) → GoesWithoutGone result (act d c.world None (past_skipped_turns hs (task_of d hs task) ∷ tasks_of d hs s) c.counted) e → OnErr result (e.world.transcript ≡ c.world.transcript) → IsPrefix c.world.transcript e.world.transcript
+  pub first_grows : (result : Result StepKind Halt) → GoesWithoutGone result (act d c.world None (past_turns c.world (task_of d hs task) ∷ tasks_of d hs s) c.counted) e → OnErr result (e.world.transcript ≡ c.world.transcript) → IsPrefix c.world.transcript e.world.transcript
   first_grows (Ok made) goes quiet = subst (λ (y : Config). IsPrefix c.world.transcript y.world.transcript) goes.2 (passes goes.0 goes.1).grows
   first_grows (Err halt) goes quiet = prefix_by quiet
 
@@ -145,8 +139,7 @@ module _ (d : Definition) (c e : Config) (none : NoneUnheld d c) (idle : c.agend
       let waits : waiting e.world.objects ≡ waiting c.world.objects = ap (λ (x : Config). waiting x.world.objects) is in
       let weighs : total (weight d) e.agenda ≡ total (weight d) c.agenda = ap (λ (x : Config). total (weight d) x.agenda) is in
       let there : record { world = sunk c.world id; agenda = []; counted = c.counted } ≡ e = ap (λ (ts : List Task). record { world = sunk c.world id; agenda = ts; counted = c.counted }) (sym idle) ∙ sym is in (
-        first_follows d c none (record { world = sunk c.world id; agenda = []; counted = c.counted }) e (ap (λ (ts : List Task). asked_first c.world ts) idle) settles
-            (ap (λ (ts : List Task). makes_binding (with_first c.world ts)) idle) there,
+        first_follows d c none (record { world = sunk c.world id; agenda = []; counted = c.counted }) e (ap (λ (ts : List Task). asked_first c.world ts) idle) settles there,
         omega (arith, fewer, many, waits, weighs),
         ap (λ (x : Config). x.counted) is,
       )

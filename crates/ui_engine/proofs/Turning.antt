@@ -1,12 +1,12 @@
 -- Sources that run one after the other, and how a turn of them ends.
-use Rattle.std.proofs.Common.{◌≡◌, ◌≤◌, ◌<◌, ◌+◌, ◌*◌, ℕ, Bool, true, false, cond, not, nat_eq, nat_lt, IsSome, List, [], ◌∷◌, ◌++◌, length, map, option_map, is_some, Option, None, Some, Result, Ok, Err, refl, sym, ap, subst, ◌∙◌, append_assoc, append-nil, length-append, arith}
+use Rattle.std.proofs.Common.{◌≡◌, ◌<◌, ◌+◌, ℕ, Bool, true, false, cond, nat_eq, nat_lt, List, [], ◌∷◌, ◌++◌, length, option_map, is_some, Option, None, Some, Result, Ok, Err, refl, sym, ap, subst, ◌∙◌, append_assoc, append-nil, length-append, arith}
 use Rattle.std.specs.Option.{option_or}
 use Rattle.std.proofs.lemmas.Bool.Decides.{nat_tests}
 use Rattle.ui_machine.specs.declared.arm.Halt.{Halt}
 use Rattle.ui_machine.specs.declared.arm.Halt.TheVariants as halts
 use Rattle.ui_machine.specs.Definition.{Definition}
 use Rattle.ui_machine.specs.Rules.Events.{Refusal, clock_back, refusal}
-use Rattle.ui_machine.specs.Rules.MainLoop.{is_back, ready_at, turned}
+use Rattle.ui_machine.specs.Rules.MainLoop.{is_back, turned}
 use Rattle.ui_machine.specs.Runs.{Carries, Dispatches, Halts, Rests, RunsSource, RunsSources, Tally, Then, TurnIsCut, at_a_source, at_its_beginning, beginning, no_dispatch, one_dispatch, tallied}
 use Rattle.ui_machine.specs.Runs as runs
 use Rattle.ui_machine.specs.State.Peers as peers
@@ -19,11 +19,10 @@ use Rattle.ui_engine.specs.Stepping.{IsAtRest}
 use Rattle.ui_machine.specs.State.Sources.{Source, source_of}
 use Rattle.ui_machine.specs.State.Tasks.{turn}
 use Rattle.ui_machine.specs.State.Tasks as tasks
-use Rattle.ui_machine.specs.Steps.{most_steps}
 use Rattle.g_values.specs.View.{value_view}
 use Rattle.main_context.specs.Dues.{due_of}
 use Rattle.main_context.specs.declared.source.Due.{Due}
-use Rattle.main_context.specs.Attached.{is_attached, next_source, numbers_after}
+use Rattle.main_context.specs.Attached.{next_source, numbers_after}
 use Rattle.ui_engine.specs.declared.dispatch.Reply.{Reply}
 use Rattle.ui_engine.specs.declared.session.SessionFault.{SessionFault}
 use Rattle.ui_engine.specs.declared.session.SessionFault.TheVariants as faults

@@ -8,10 +8,11 @@ ghost use Rattle.engine_world.specs.View.{world_of};
 ghost use Rattle.engine_world.specs.TaskView.{task_in, agenda_of};
 ghost use Rattle.engine_world.specs.Counting.{Counts, in_subject};
 ghost use Rattle.engine_world.specs.EngineView.{config_of, IsOfKind};
-ghost use Rattle.engine_world.specs.Standing.{GoesWithoutGone, past_skipped_turns};
+ghost use Rattle.engine_world.specs.Standing.{GoesWithoutGone, past_turns};
 
 use crate::program_steps::run_program;
 use definitions::Definition;
+use engine_tasks::binds::bind_from_build;
 use engine_tasks::builds::{build, construct};
 use engine_tasks::children::adopt_from_build;
 use engine_tasks::emission::{begin_emission, emit};
@@ -20,11 +21,13 @@ use engine_tasks::notifications::{notify, notify_thawed};
 use engine_tasks::sets::validate_and_set;
 use engine_tasks::signals::connect_from_build;
 use engine_tasks::sources::run_source;
+use engine_tasks::transfers::{transfer, unset};
 use engine_world::engine::{Engine, StepKind};
 use engine_world::task::Task;
 use ui_machine::{Arm, Halt};
 
-/// Does what a task says, and answers whether that was counted. An emission passes over what is blocked.
+/// Does what a task says, and answers whether that was counted. An emission passes over handlers that are blocked, and bindings that set or
+/// have ended.
 pub(crate) fn act(
     engine: &mut Engine,
     definition: &Definition,
@@ -34,7 +37,7 @@ pub(crate) fn act(
     requires counted { Counts definition.now (λ o. in_task o (task_in definition.now engine.now task)) engine.now }
     ensures step { GoesWithoutGone result
         (act definition.now (world_of engine.old.world) None
-        (past_skipped_turns engine.old.world.handlers.handlers (task_in definition.now engine.old task) ∷ agenda_of definition.now engine.old) engine.old.counted)
+        (past_turns (world_of engine.old.world) (task_in definition.now engine.old task) ∷ agenda_of definition.now engine.old) engine.old.counted)
         (config_of definition.now engine.new) }
     ensures quiet { OnErr result ((world_of engine.new.world).transcript ≡ (world_of engine.old.world).transcript) }
     ensures counted { OnOk result (Counts definition.now (λ o. in_subject o (task_in definition.now engine.old task)) engine.new) }
@@ -61,8 +64,17 @@ pub(crate) fn act(
             cursor,
             args,
             by_event,
+            transfers,
         } => {
-            emit(engine, definition, cursor, args, by_event)?;
+            emit(engine, definition, cursor, args, by_event, transfers)?;
+            return Ok(StepKind::Uncounted);
+        }
+        Task::Transferring { number, back } => {
+            transfer(engine, definition, number, back)?;
+            return Ok(StepKind::Counted);
+        }
+        Task::Unsetting { number } => {
+            unset(engine, definition, number);
             return Ok(StepKind::Uncounted);
         }
         Task::Running(frame) => {
@@ -87,6 +99,10 @@ pub(crate) fn act(
         }
         Task::Adopting { place, forwards } => {
             adopt_from_build(engine, definition, place, forwards)?;
+            return Ok(StepKind::Uncounted);
+        }
+        Task::Binding { number } => {
+            bind_from_build(engine, definition, number)?;
             return Ok(StepKind::Uncounted);
         }
         Task::Connecting { place, number } => {

@@ -1,4 +1,4 @@
-use Rattle.std.proofs.Common.{◌∷◌, option_map, refl, sym, ap, ◌∙◌}
+use Rattle.std.proofs.Common.{[], ◌∷◌, Bool, cond, option_map, refl, sym, ap, ◌∙◌}
 use Rattle.std.proofs.lemmas.Result.{err_from_is_err_and}
 use Rattle.ui_machine.specs.State.Tasks.{Emitting, Task}
 use Rattle.g_values.specs.View.{value_view}
@@ -6,7 +6,10 @@ use Rattle.signal_core.specs.Emission.{Walk, accumulator_of}
 use Rattle.signal_core.specs.SignalView.{declared_view}
 use Rattle.engine_world.specs.TaskView.{agenda_of, emission_of, entries_to_come}
 use Rattle.engine_world.specs.View.{world_of}
-use Rattle.engine_instructions.proofs.Collecting.{collect_suited, collect_unheard, collect_unknown, collect_unsuited, collected_as, collected_counts, still_begun, collects_object, leaves_as}
+use Rattle.engine_world.specs.declared.task.Transfers.{Transfers}
+use Rattle.engine_world.specs.declared.task.Transfers.TheVariants as at
+use Rattle.engine_instructions.specs.CollectView.{collects}
+use Rattle.engine_instructions.proofs.Collecting.{collect_suited, collect_unheard, collect_unknown, collect_unsuited, collected_as, collected_counts, still_begun, still_ends, collects_object, leaves_as}
 use Rattle.engine_world.proofs.Registers.{table_world}
 use Rattle.engine_instructions.proofs.accumulation.accumulate.Goals as goal
 
@@ -18,7 +21,7 @@ returns-in_err-class-clause-step c =
     let hs = e.world.handlers.handlers in
     let p = err_from_is_err_and c.from_residual.result c.from_residual.ensures.1 in
     rw (p.1, p.2)
-    (collect_unheard d (world_of e.world) (emission_of w c.args.args.items c.args.by_event) (entries_to_come w hs) (agenda_of d e) (option_map value_view c.args.given) _
+    (collect_unheard d (world_of e.world) (emission_of w c.args.args.items c.args.by_event) (entries_to_come w hs c.args.transfers) (agenda_of d e) (option_map value_view c.args.given) _
     (rw c.object-object.ensures at c.in_err-class.ensures))
 
 pub returns-in_default-clause-step : goal.returns-in_default-clause-step
@@ -28,7 +31,7 @@ returns-in_default-clause-step c =
     let w = c.args.cursor in
     let hs = e.world.handlers.handlers in
     let none = sym c.signal.ensures ∙ ap (option_map declared_view) c.in_default.is in
-    collect_unknown d (world_of e.world) (emission_of w c.args.args.items c.args.by_event) (entries_to_come w hs) (agenda_of d e) (option_map value_view c.args.given) _
+    collect_unknown d (world_of e.world) (emission_of w c.args.args.items c.args.by_event) (entries_to_come w hs c.args.transfers) (agenda_of d e) (option_map value_view c.args.given) _
     (rw c.object-object.ensures at c.in_ok-class.ensures) (rw c.signal-number.ensures at none)
 
 pub suits-requires : goal.suits-requires
@@ -46,7 +49,7 @@ returns-then-not-suits-clause-step c =
     let hs = e.world.handlers.handlers in
     let declared = sym c.signal.ensures ∙ ap (option_map declared_view) c.in-Some.is in
     let misfit = rw c.types-types.ensures.types at (sym c.if-not-suits.ensures) in
-    collect_unsuited d (world_of e.world) (emission_of w c.args.args.items c.args.by_event) (entries_to_come w hs) (agenda_of d e) (option_map value_view c.args.given) _
+    collect_unsuited d (world_of e.world) (emission_of w c.args.args.items c.args.by_event) (entries_to_come w hs c.args.transfers) (agenda_of d e) (option_map value_view c.args.given) _
     (rw c.object-object.ensures at c.in_ok-class.ensures) (declared_view c.in-Some.signal) (rw c.signal-number.ensures at declared) misfit
 
 pub returns-clause-step : goal.returns-clause-step
@@ -60,11 +63,13 @@ returns-clause-step c =
     let given = option_map value_view c.args.given in
     let declared = sym c.signal.ensures ∙ ap (option_map declared_view) c.in-Some.is in
     let fit = rw c.types-types.ensures.types at (sym c.if-not-suits.ensures) in
-    collect_suited d (world_of e.world) (emission_of w args c.args.by_event) (entries_to_come w hs) (agenda_of d e) given _
+    collect_suited d (world_of e.world) (emission_of w args c.args.by_event) (entries_to_come w hs c.args.transfers) (agenda_of d e) given _
     (rw c.object-object.ensures at c.in_ok-class.ensures) s (rw c.signal-number.ensures at declared) fit
     ∙ leaves_as _ _ _ _ (sym (table_world e c.collect.new.table c.collect.ensures.only))
-    (ap (λ (t : Task). t ∷ agenda_of d e) (collected_as w hs args c.args.by_event s given)
-    ∙ ap (λ (u : Walk). Emitting (emission_of u args c.args.by_event) (entries_to_come u hs) ∷ agenda_of d e) (sym c.in_ok-collect.ensures.taken)
+    (ap (λ (t : Task). t ∷ agenda_of d e) (collected_as w hs args c.args.by_event c.args.transfers c.requires.ends s given)
+    ∙ ap (λ (b : Bool). Emitting (emission_of (collects s.accumulator given w) args c.args.by_event) (entries_to_come (collects s.accumulator given w) hs (cond b (at.Due []) c.args.transfers)) ∷ agenda_of d e) (sym c.in_ok-is_last.ensures.last)
+    ∙ ap (λ (u : Walk). Emitting (emission_of u args c.args.by_event) (entries_to_come u hs (cond c.in_ok-is_last.is_last (at.Due []) c.args.transfers)) ∷ agenda_of d e) (sym c.in_ok-is_last.ensures.taken)
+    ∙ ap (λ (ts : Transfers). Emitting (emission_of c.collect.new.cursor args c.args.by_event) (entries_to_come c.collect.new.cursor hs ts) ∷ agenda_of d e) (sym c.unless_stopped-left.ensures)
     ∙ sym (c.in_ok-push.ensures.tasks d hs))
 
 pub returns-clause-counted : goal.returns-clause-counted
@@ -76,7 +81,10 @@ returns-clause-counted c taken h =
     let args = c.args.args.items in
     let s = declared_view c.in-Some.signal in
     let given = option_map value_view c.args.given in
-    let object = ap (λ (u : Walk). u.object) c.in_ok-collect.ensures.taken ∙ collects_object w hs args c.args.by_event s.accumulator given in
+    let object = ap (λ (u : Walk). u.object) c.in_ok-is_last.ensures.taken ∙ collects_object w hs args c.args.by_event s.accumulator given in
     collected_counts d e c.collect.new.table c.push.new.self taken (emission_of w args c.args.by_event) (emission_of c.collect.new.cursor args c.args.by_event) _ c.collect.ensures.only
-    c.in_ok-collect.ensures.counts object refl (c.in_ok-push.ensures.tasks d hs)
-    (c.in_ok-push.ensures.begun e.world.handlers.last (still_begun e.world.handlers.last w (option_map accumulator_of c.in-Some.signal.accumulator) given c.collect.new.cursor c.in_ok-collect.ensures.taken c.requires.begun)) h
+    c.in_ok-is_last.ensures.counts object refl (c.in_ok-push.ensures.tasks d hs)
+    (c.in_ok-push.ensures.begun e.world.handlers.last (
+      still_begun e.world.handlers.last w (option_map accumulator_of c.in-Some.signal.accumulator) given c.collect.new.cursor c.in_ok-is_last.ensures.taken c.requires.begun,
+      rw (c.unless_stopped-left.ensures, c.in_ok-is_last.ensures.taken, c.in_ok-is_last.ensures.last) (still_ends w hs args c.args.by_event c.args.transfers c.requires.ends s.accumulator given),
+    )) h

@@ -41,7 +41,7 @@ returns-in_ok-push-in_default-task-clause-step c =
     (c.in-Some.ensures.tasks d hs) (c.in_ok-push-in_default-task.ensures.tasks d hs) (gives_other d hs (world_of e.world) rest t given (other t refl))
   where
     other : (t : code.Task) → c.in-Some.task ≡ t → TakesNone t
-    other (tasks.Emitting cursor args by_event) is = absurd (c.in_default-task.not-Emitting cursor args by_event is)
+    other (tasks.Emitting cursor args by_event transfers) is = absurd (c.in_default-task.not-Emitting cursor args by_event transfers is)
     other (tasks.Setting id slot v) is = tt
     other (tasks.Notifying id slot) is = tt
     other (tasks.Beginning e) is = tt
@@ -50,6 +50,9 @@ returns-in_ok-push-in_default-task-clause-step c =
     other (tasks.Constructing id steps held) is = tt
     other (tasks.Building place forwards) is = tt
     other (tasks.Adopting place forwards) is = tt
+    other (tasks.Transferring number back) is = tt
+    other (tasks.Unsetting number) is = tt
+    other (tasks.Binding number) is = tt
     other (tasks.Connecting place number) is = tt
     other (tasks.Answering source) is = absurd (c.in_default-task.not-Answering source is)
     other (tasks.Due source) is = tt
@@ -64,17 +67,18 @@ returns-in_ok-push-in_default-task-clause-counted c =
     (λ last h. c.in_ok-push-in_default-task.ensures.begun last (c.in-Some.ensures.first last h) (c.in-Some.ensures.begun last h)))
 
 pub accumulate-requires : goal.accumulate-requires
-accumulate-requires c = record {
-  held = λ o.
-      let d = c.args.definition.now in
-      let hs = c.args.engine.now.world.handlers.handlers in
-      let first = ap (λ (ts : List Task). total (in_task o) ts) (c.in-Some.ensures.tasks d hs) in
-      let emission = ap (λ (t : code.Task). in_task o (task_of d hs t)) c.in-Emitting.is in
-      omega (arith, c.requires.held.at o, first, emission);
-  begun =
-      let last = c.args.engine.now.world.handlers.last in
-      subst (λ (t : code.Task). TakesKnownHandlers last t) c.in-Emitting.is (c.in-Some.ensures.first last c.requires.begun);
-}
+accumulate-requires c =
+    let last = c.args.engine.now.world.handlers.last in
+    let known = subst (λ (t : code.Task). TakesKnownHandlers last t) c.in-Emitting.is (c.in-Some.ensures.first last c.requires.begun) in record {
+      held = λ o.
+          let d = c.args.definition.now in
+          let hs = c.args.engine.now.world.handlers.handlers in
+          let first = ap (λ (ts : List Task). total (in_task o) ts) (c.in-Some.ensures.tasks d hs) in
+          let emission = ap (λ (t : code.Task). in_task o (task_of d hs t)) c.in-Emitting.is in
+          omega (arith, c.requires.held.at o, first, emission);
+      begun = known.0;
+      ends = known.1;
+    }
 
 pub returns-in-Emitting-clause-step : goal.returns-in-Emitting-clause-step
 returns-in-Emitting-clause-step c =
@@ -95,7 +99,7 @@ returns-in-Emitting-clause-counted c =
     let rest = tasks_of d hs c.pop.new.self in
     let first = c.in-Some.ensures.tasks d hs ∙ ap (λ (t : code.Task). task_of d hs t ∷ rest) c.in-Emitting.is in
     let m = emission_of c.in-Emitting.cursor c.in-Emitting.args.items c.in-Emitting.by_event in
-    on_ok c.accumulate.result (λ f. record { at = λ taken h. f taken (popped_emission d e c.pop.new.self taken m (entries_to_come c.in-Emitting.cursor hs) first c.in-Some.ensures.begun h) }) c.accumulate.ensures.counted
+    on_ok c.accumulate.result (λ f. record { at = λ taken h. f taken (popped_emission d e c.pop.new.self taken m (entries_to_come c.in-Emitting.cursor hs c.in-Emitting.transfers) first c.in-Some.ensures.begun h) }) c.accumulate.ensures.counted
 
 pub returns-in-Answering-clause-step : goal.returns-in-Answering-clause-step
 returns-in-Answering-clause-step c =

@@ -3,7 +3,8 @@ use Rattle.std.proofs.lemmas.Result.{err_from_is_err_and}
 use Rattle.ui_machine.specs.Rules.Connections.{disconnected}
 use Rattle.ui_machine.specs.State.Config.{World}
 use Rattle.ui_machine.specs.State.Tasks.{Running, Task}
-use Rattle.machine_laws.specs.GoneLaws.{gone_in, pruned}
+use Rattle.machine_laws.specs.GoneLaws.{pruned}
+use Rattle.engine_world.specs.Standing.{gone_handlers}
 use Rattle.frames.specs.FrameView.{frame_view}
 use Rattle.engine_world.specs.Counting.{in_frame, nothing}
 use Rattle.engine_instructions.specs.HandlersView.{matched_of}
@@ -31,7 +32,7 @@ returns-clause-step c =
     pruned_left e.counted (agenda_of d e) _ w f _ _ _
     (matched_goes d (world_of e.world) f c.args.object.0 c.args.program.now disconnected (matched_of c.in_ok-matched.matched) c.in_ok-matched.ensures)
     (ap (λ (x : Engine). world_of x.world) beside ∙ c.disconnect.ensures.world)
-    (c.in_ok-push_frame.ensures.agenda d ∙ ap (λ (ts : List Task). Running f ∷ ts) (c.disconnect.ensures.agenda ∙ ap (λ (v : World). map (pruned (gone_in v)) (agenda_of d e)) c.disconnect.ensures.world))
+    (c.in_ok-push_frame.ensures.agenda d ∙ ap (λ (ts : List Task). Running f ∷ ts) (c.disconnect.ensures.agenda ∙ ap (λ (v : World). map (pruned (gone_handlers v)) (agenda_of d e)) c.disconnect.ensures.world))
     (ap (λ (x : Engine). x.counted) beside ∙ c.disconnect.ensures.same)
 
 pub returns-clause-counted : goal.returns-clause-counted

@@ -3,7 +3,7 @@ use Rattle.ui_machine.specs.Rules.Build.{is_making, of_items}
 use Rattle.engine_world.specs.TaskView.{task_of}
 use Rattle.engine_world.specs.declared.task.Task.{Task}
 use Rattle.engine_world.specs.declared.task.Task.TheVariants as tasks
-use Rattle.engine_instructions.proofs.Creating.{making_behind, making_from, making_none}
+use Rattle.engine_instructions.proofs.Creating.{making_behind, making_bound, making_from, making_none}
 use Rattle.engine_instructions.proofs.new_objects.made_by.Goals as goal
 
 pub returns-in-Building : goal.returns-in-Building
@@ -26,7 +26,10 @@ returns-in_default c hs = by c.args.task.now refl
     by (tasks.Setting object slot value) is = refl
     by (tasks.Notifying object slot) is = refl
     by (tasks.Beginning e) is = refl
-    by (tasks.Emitting cursor args by_event) is = refl
+    by (tasks.Emitting cursor args by_event transfers) is = refl
+    by (tasks.Transferring number back) is = refl
+    by (tasks.Unsetting number) is = refl
+    by (tasks.Binding number) is = sym (making_bound c.args.definition.now number)
     by (tasks.Running frame) is = refl
     by (tasks.Thawing object slots) is = refl
     by (tasks.Constructing object steps held) is = refl

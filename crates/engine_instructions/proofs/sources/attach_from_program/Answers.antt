@@ -1,23 +1,16 @@
-use Rattle.std.proofs.Common.{◌≡◌, true, false, Some, refl, ap, sym, ◌∙◌, option_map}
+use Rattle.std.proofs.Common.{◌≡◌, true, false, Some, refl, ap, sym, ◌∙◌}
 use Rattle.std.proofs.lemmas.Result.{err_from_is_err_and}
 use Rattle.ui_machine.specs.Definition.Values as values
-use Rattle.ui_machine.specs.Instructions.{in_front}
 use Rattle.ui_machine.specs.Instructions.Registers.{written_to}
 use Rattle.ui_machine.specs.Instructions.Sources.{attaching, with_source}
-use Rattle.ui_machine.specs.Outcome.{Answer, Goes}
 use Rattle.ui_machine.specs.Output.Lines as lines
-use Rattle.ui_machine.specs.State.Config.{Config, Started, World, said}
+use Rattle.ui_machine.specs.State.Config.{World, said}
 use Rattle.ui_machine.specs.State.Sources.{has_room}
-use Rattle.ui_machine.specs.State.Tasks.{Task}
-use Rattle.ui_machine.specs.Steps.{left}
 use Rattle.frames.specs.FrameView.{frame_view}
 use Rattle.instances.specs.Store.{id_of}
-use Rattle.engine_world.specs.Counting.{Counts}
 use Rattle.engine_world.specs.EngineView.{config_of}
-use Rattle.engine_world.specs.SourceView.{with_new_source}
 use Rattle.engine_world.specs.TaskView.{agenda_of}
 use Rattle.engine_world.specs.View.{world_of}
-use Rattle.engine_world.specs.declared.sources.NewSource.{NewSource}
 use Rattle.engine_world.proofs.Left.{same_agenda}
 use Rattle.engine_world.proofs.Registers.{stops_left}
 use Rattle.engine_instructions.specs.AttachView.{attach_of}

@@ -27,3 +27,6 @@ returns-clause-counted c =
     let f = frame_view c.args.frame in
     frame_held d c.stop_emission.new.engine c.push_frame.new.engine f (c.in_ok-push_frame.ensures.counted d)
     (stop_counts d c.args.engine.now c.stop_emission.new.engine (λ o. in_frame o f) c.stop_emission.ensures.beside (c.in_ok-stop_emission.ensures.agenda d) c.in_ok-stop_emission.ensures.begun c.requires.counted)
+
+pub stop_emission-requires : goal.stop_emission-requires
+stop_emission-requires c = record { begun = c.requires.counted.connects.begun }

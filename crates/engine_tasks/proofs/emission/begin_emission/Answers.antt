@@ -1,4 +1,4 @@
-use Rattle.std.proofs.Common.{ℕ, suc, List, ◌∷◌, option_map, sym, ap, subst, ◌∙◌, arith}
+use Rattle.std.proofs.Common.{[], ℕ, suc, List, ◌∷◌, option_map, sym, ap, subst, ◌∙◌, arith}
 use Rattle.std.proofs.lemmas.Result.{err_from_is_err_and}
 use Rattle.ui_machine.specs.Definition.Types.{GType}
 use Rattle.ui_machine.specs.Definition.Signals.{Signal}
@@ -17,6 +17,8 @@ use Rattle.definition_format.specs.Meaning.{planned}
 use Rattle.engine_world.specs.View.{with_line, world_of}
 use Rattle.engine_world.specs.TaskView.{agenda_of, emission_of, entries_to_come, new_of}
 use Rattle.engine_world.specs.declared.engine.Engine.{Engine}
+use Rattle.engine_world.specs.declared.task.Transfers.{Transfers}
+use Rattle.engine_world.specs.declared.task.Transfers.TheVariants as at
 use Rattle.engine_world.proofs.Counts.{keeps_same, taken_alike}
 use Rattle.engine_tasks.proofs.Emitted.{begin_misfit, begin_unheard, begin_unknown, beginning_starts, begun_as, begun_none}
 use Rattle.engine_world.proofs.Left.{left_with}
@@ -95,7 +97,8 @@ returns-clause-step c =
     let line = c.in_ok-line.ensures ∙ ap (λ (types : List GType). text_of_line types (lines.emit m.object.0 s.name (new_of m).detail (new_of m).args)) c.types-types.ensures.types in
     let world = c.in_ok-start_emission.ensures.world ∙ ap (λ (text : List ℕ). with_line text w) line in
     let agenda = c.in_ok-start_emission.ensures.agenda d
-    ∙ ap (λ (ts : List Task). Emitting (emission_of (begun c.in-Some-emission.planned last) m.args.items m.by_event) (entries_to_come (begun c.in-Some-emission.planned last) f.world.handlers.handlers) ∷ ts) (ap (λ (h : Engine). agenda_of d h) is) in
+    ∙ ap (λ (ts : Transfers). Emitting (emission_of (begun c.in-Some-emission.planned last) m.args.items m.by_event) (entries_to_come (begun c.in-Some-emission.planned last) f.world.handlers.handlers ts) ∷ agenda_of d f) c.new-transfers.ensures
+    ∙ ap (λ (ts : List Task). Emitting (emission_of (begun c.in-Some-emission.planned last) m.args.items m.by_event) (entries_to_come (begun c.in-Some-emission.planned last) f.world.handlers.handlers (at.Due [])) ∷ ts) (ap (λ (h : Engine). agenda_of d h) is) in
     ap (λ (h : Engine). counted rest n (beginning_emission d (world_of h.world) (new_of m))) (sym is)
     ∙ counted_on rest n _ c.in_ok-count.ensures.ok.0
     ∙ left_with (world_of c.start_emission.new.engine.world) (agenda_of d c.start_emission.new.engine) (suc n) c.start_emission.new.engine.counted rest (beginning_emission d w (new_of m)) _ _ starts_so world agenda

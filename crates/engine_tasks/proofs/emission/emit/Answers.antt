@@ -1,34 +1,74 @@
-use Rattle.std.proofs.Common.{None, ◌≤◌, refl, subst, sym, ◌∙◌}
-use Rattle.signal_core.specs.Emission.{Walk}
+use Rattle.std.proofs.Common.{◌≡◌, ◌∙◌, None, true, false, List, ◌∷◌, subst, sym, ap}
+use Rattle.ui_machine.specs.Outcome.{Goes}
+use Rattle.ui_machine.specs.State.Tasks.{Emitting, PlanEntry}
+use Rattle.ui_machine.specs.Steps.{act, uncounted}
+use Rattle.ui_machine.specs.Rules.Programs.{beginning_program}
+use Rattle.signal_core.specs.Emission.{is_transfers}
+use Rattle.signal_core.specs.declared.turn.Turn.{Turn}
 use Rattle.engine_world.specs.View.{world_of}
-use Rattle.engine_world.specs.TaskView.{agenda_of}
+use Rattle.engine_world.specs.TaskView.{agenda_of, emission_of, entries_to_come}
+use Rattle.engine_world.specs.TransferView.{due_now}
 use Rattle.engine_world.specs.EngineView.{config_of}
-use Rattle.engine_tasks.proofs.Emitted.{onward}
-use Rattle.engine_tasks.proofs.TurnTaking.{takes_so, turn_runs}
+use Rattle.engine_tasks.specs.TurnView.{given_by, program_of_turn}
+use Rattle.engine_tasks.proofs.EmissionTurns.{ready_free}
+use Rattle.engine_tasks.proofs.EmissionSteps.{at_before, bindings_with, due_of, ends_with, no_due, of_program, transfer_first, turns_with}
 use Rattle.engine_tasks.proofs.emission.emit.Goals as goal
 
-pub returns-in_default-clause-step : goal.returns-in_default-clause-step
-returns-in_default-clause-step c =
+pub take_transfer-requires-clause-free : goal.take_transfer-requires-clause-free
+take_transfer-requires-clause-free c = ready_free c.args.engine.now.world.bindings.bindings (due_now c.args.transfers) c.in-Some.due _ c.in-Some.ensures.next
+
+pub returns-in-Some-clause-step : goal.returns-in-Some-clause-step
+returns-in-Some-clause-step c =
     let d = c.args.definition.now in
     let e = c.args.engine.now in
-    onward d (world_of e.world) (agenda_of d e) e.counted c.args.cursor c.next_program.new.cursor e.world.handlers.last c.last-last.ensures.rises
-    c.args.args.items c.args.by_event None (sym c.next_program.ensures.turn ∙ c.in_default.is) refl c.next_program.ensures.goes_on
-    c.end_emission.result (config_of d c.end_emission.new.engine) c.end_emission.ensures.step
+    let m = emission_of c.args.cursor c.args.args.items c.args.by_event in
+    subst (λ (es : List PlanEntry). Goes c.take_transfer.result (act d (world_of e.world) None (Emitting m es ∷ agenda_of d e) e.counted) (config_of d c.take_transfer.new.engine))
+    (sym (transfer_first (world_of e.world) c.args.cursor c.args.transfers c.next_transfer.new.transfers c.next_transfer.ensures.later c.in-Some.due c.in-Some.ensures.next)) c.take_transfer.ensures.step
 
-pub take_turn-requires-clause-runs : goal.take_turn-requires-clause-runs
-take_turn-requires-clause-runs c =
+pub returns-in_default-next-clause-step : goal.returns-in_default-next-clause-step
+returns-in_default-next-clause-step c =
     let d = c.args.definition.now in
     let e = c.args.engine.now in
-    turn_runs d (world_of e.world) (agenda_of d e) e.counted c.args.cursor c.args.args.items c.args.by_event e.world.handlers.last c.last-last.ensures.rises
-    c.in-Some.turn (sym c.next_program.ensures.turn ∙ c.in-Some.is)
+    let hs = e.world.handlers.handlers in
+    let none = no_due c.args.cursor hs (sym c.next.ensures.turn ∙ c.in_default-next.is) in
+    ends_with (world_of e.world) c.args.cursor c.args.transfers c.next_transfer.new.transfers c.next_transfer.ensures.later c.in_default.ensures.next.0 c.in_default.ensures.next.1 d (agenda_of d e) e.counted
+    e.world.handlers.last c.last-last.ensures.rises c.args.args.items c.args.by_event c.next.new.cursor c.next.ensures.stage none c.end_emission.result (config_of d c.end_emission.new.engine) c.end_emission.ensures.step
 
-pub take_turn-requires-clause-begun : goal.take_turn-requires-clause-begun
-take_turn-requires-clause-begun c = subst (λ (u : Walk). u.greatest ≤ c.args.engine.now.world.handlers.last) (sym c.next_program.ensures.goes_on) c.requires.begun
+pub emit_transfers-requires-clause-behind : goal.emit_transfers-requires-clause-behind
+emit_transfers-requires-clause-behind c =
+    let v = world_of c.args.engine.now.world in
+    let w = c.args.cursor in
+    let last = c.args.engine.now.world.handlers.last in
+    let next = due_of w v.handlers c.in-Some-next.turn (sym c.next.ensures.turn ∙ c.in-Some-next.is) in
+    let so : is_transfers next.0.step.turn ≡ true = ap (λ (t : Turn). is_transfers t) (next.2 ∙ c.in-Transfers.is) in
+    at_before v w c.args.transfers c.next_transfer.new.transfers c.next_transfer.ensures.later c.in_default.ensures.next.0 c.in_default.ensures.next.1 last c.last-last.ensures.rises c.next.new.cursor c.next.ensures.stage next.0 next.1 so
 
-pub returns-clause-step : goal.returns-clause-step
-returns-clause-step c =
+pub returns-in-Transfers-clause-step : goal.returns-in-Transfers-clause-step
+returns-in-Transfers-clause-step c =
     let d = c.args.definition.now in
     let e = c.args.engine.now in
-    takes_so d (world_of e.world) (agenda_of d e) e.counted c.args.cursor c.args.args.items c.args.by_event e.world.handlers.last c.last-last.ensures.rises
-    c.in-Some.turn (sym c.next_program.ensures.turn ∙ c.in-Some.is) c.next_program.new.cursor c.next_program.ensures.goes_on
-    c.take_turn.result (config_of d c.take_turn.new.engine) c.take_turn.ensures.step
+    let v = world_of e.world in
+    let w = c.args.cursor in
+    let last = e.world.handlers.last in
+    let next = due_of w v.handlers c.in-Some-next.turn (sym c.next.ensures.turn ∙ c.in-Some-next.is) in
+    let so : is_transfers next.0.step.turn ≡ true = ap (λ (t : Turn). is_transfers t) (next.2 ∙ c.in-Transfers.is) in
+    bindings_with v w c.args.transfers c.next_transfer.new.transfers c.next_transfer.ensures.later c.in_default.ensures.next.0 c.in_default.ensures.next.1 d (agenda_of d e) e.counted last c.last-last.ensures.rises
+    c.args.args.items c.args.by_event c.next.new.cursor c.next.ensures.stage next.0 next.1 so c.emit_transfers.result (config_of d c.emit_transfers.new.engine) c.begin_transfers-due.result c.begin_transfers-due.ensures
+    c.emit_transfers.ensures.step
+
+pub returns-in_default-turn-clause-step : goal.returns-in_default-turn-clause-step
+returns-in_default-turn-clause-step c =
+    let d = c.args.definition.now in
+    let e = c.args.engine.now in
+    let v = world_of e.world in
+    let w = c.args.cursor in
+    let u = c.next.new.cursor in
+    let args = c.args.args.items in
+    let ts = c.next_transfer.new.transfers in
+    let last = e.world.handlers.last in
+    let next = due_of w v.handlers c.in-Some-next.turn (sym c.next.ensures.turn ∙ c.in-Some-next.is) in
+    let plain : is_transfers next.0.step.turn ≡ false = ap (λ (t : Turn). is_transfers t) next.2 ∙ of_program c.in-Some-next.turn c.in_default-turn.not-Transfers in
+    turns_with v w c.args.transfers ts c.next_transfer.ensures.later c.in_default.ensures.next.0 c.in_default.ensures.next.1 d (agenda_of d e) e.counted last c.last-last.ensures.rises args c.args.by_event
+    u c.next.ensures.stage next.0 next.1 plain c.take_turn.result (config_of d c.take_turn.new.engine)
+    (subst (λ (t : Turn). Goes c.take_turn.result (uncounted (Emitting (emission_of u args c.args.by_event) (entries_to_come u v.handlers ts) ∷ agenda_of d e) e.counted (beginning_program d v (program_of_turn t) (given_by (emission_of u args c.args.by_event) t))) (config_of d c.take_turn.new.engine))
+    (sym next.2) c.take_turn.ensures.step)

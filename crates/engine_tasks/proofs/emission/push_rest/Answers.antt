@@ -11,4 +11,4 @@ pub returns-clause-counted : goal.returns-clause-counted
 returns-clause-counted c d taken h =
     let e = c.args.engine.now in
     pushed_rest d e c.hold_any.new.table c.push.new.self taken (emission_of c.args.cursor c.args.args.items c.args.by_event) _ c.hold_any.ensures.only
-    (λ o. omega (arith, c.in_ok-hold_any.ensures.counts o, ap (same o) c.object.ensures)) (c.in_ok-push.ensures.tasks d e.world.handlers.handlers) (c.in_ok-push.ensures.begun e.world.handlers.last c.requires) h
+    (λ o. omega (arith, c.in_ok-hold_any.ensures.counts o, ap (same o) c.object.ensures)) (c.in_ok-push.ensures.tasks d e.world.handlers.handlers) (c.in_ok-push.ensures.begun e.world.handlers.last (c.requires.begun, c.requires.ends)) h

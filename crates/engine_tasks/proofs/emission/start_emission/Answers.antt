@@ -15,7 +15,7 @@ returns-clause-agenda c d =
     let a = c.args.args.items in
     ap (λ (h : Connected). tasks_of d h.handlers c.push_rest.new.engine.stack) c.say.ensures.handlers
     ∙ c.in_ok-push_rest.ensures.agenda d
-    ∙ ap (λ (v : Walk). Emitting (emission_of v a c.args.by_event) (entries_to_come v e.world.handlers.handlers) ∷ agenda_of d e) c.begin_emission-cursor.ensures
+    ∙ ap (λ (v : Walk). Emitting (emission_of v a c.args.by_event) (entries_to_come v e.world.handlers.handlers c.args.transfers) ∷ agenda_of d e) c.begin_emission-cursor.ensures
 
 pub returns-clause-world : goal.returns-clause-world
 returns-clause-world c = c.in_ok-say.ensures.ok ∙ ap (λ (w : World). with_line (string_bytes c.args.line) w) c.push_rest.ensures.world

@@ -13,7 +13,7 @@ use Rattle.engine_tasks.proofs.TurnTaking.{begins_as}
 use Rattle.engine_tasks.proofs.emission.take_turn.Goals as goal
 
 pub push_rest-requires : goal.push_rest-requires
-push_rest-requires c = c.requires.begun
+push_rest-requires c = record { begun = c.requires.begun; ends = c.requires.ends }
 
 pub returns-clause-step : goal.returns-clause-step
 returns-clause-step c =

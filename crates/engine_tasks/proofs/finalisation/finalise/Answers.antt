@@ -12,7 +12,8 @@ use Rattle.engine_world.specs.View.{world_of}
 use Rattle.engine_world.specs.TaskView.{tasks_of, agenda_of}
 use Rattle.signal_core.specs.Connected.{Connected, without_object}
 use Rattle.engine_world.proofs.Counts.{keeps_on, keeps_same, keeps_finalised, only_list}
-use Rattle.machine_laws.specs.GoneLaws.{gone_in, pruned}
+use Rattle.machine_laws.specs.GoneLaws.{pruned}
+use Rattle.engine_world.specs.Standing.{gone_handlers}
 use Rattle.engine_world.proofs.Finalising.{first_time, no_such_peer, no_peer_there, finalised_now, finalised_agenda, last_config}
 use Rattle.engine_world.proofs.Notified.{counted_on}
 use Rattle.engine_tasks.proofs.finalisation.finalise.Goals as goal
@@ -46,8 +47,8 @@ returns-clause-step c rest =
     counted_on rest n _ c.in_ok-count.ensures.ok.0
     ∙ ap (λ (v : World). uncounted rest (suc n) (finalising d (world_of v) id)) (sym world)
     ∙ ap (uncounted rest (suc n)) (finalised_now d w id none first told)
-    ∙ last_config d rest n w c.finalise.new.self c.disconnect_object.new.self id first _ _ _ c.count.new.engine.counted
-    c.in_ok-say_both.ensures.ok (c.finalise.ensures.finalises d knows) c.disconnect_object.ensures.left x y (ap (λ (f : Engine). f.counted) is)
+    ∙ last_config d rest n w c.finalise.new.self c.disconnect_object.new.self c.end_of.new.self id first _ _ _ c.count.new.engine.counted
+    c.in_ok-say_both.ensures.ok (c.finalise.ensures.finalises d knows) c.disconnect_object.ensures.left c.end_of.ensures.left x y (ap (λ (f : Engine). f.counted) is)
 
 -- the tasks as they are left
 pub returns-clause-agenda : goal.returns-clause-agenda
@@ -58,7 +59,7 @@ returns-clause-agenda c =
     let is = c.in_ok-count.ensures.ok.1 in
     let rises = c.last-last.ensures.rises in
     finalised_agenda d f c.disconnect_object.new.self c.say_both.new.self c.args.object.0 c.disconnect_object.ensures.left c.say_both.ensures.handlers rises
-    ∙ ap (λ (g : Engine). map (pruned (gone_in (world_of c.say_both.new.self))) (agenda_of d g)) is
+    ∙ ap (λ (g : Engine). map (pruned (gone_handlers (world_of c.say_both.new.self))) (agenda_of d g)) is
 
 pub returns-clause-counted : goal.returns-clause-counted
 returns-clause-counted c =
@@ -69,5 +70,5 @@ returns-clause-counted c =
     let same = keeps_same d e f (ap (λ (g : Engine). g.world.table) is) (ap (λ (g : Engine). g.world.weak) is) (ap (λ (g : Engine). g.world.context) is) (ap (λ (g : Engine). g.world.builder) is) (ap (λ (g : Engine). g.stack) is) (ap (λ (g : Engine). g.world.handlers) is) in
     let left = finalised_agenda d f c.disconnect_object.new.self c.say_both.new.self c.args.object.0 c.disconnect_object.ensures.left c.say_both.ensures.handlers c.last-last.ensures.rises in
     keeps_on d _ _ _ same
-    (keeps_finalised d f c.finalise.new.self c.disconnect_object.new.self c.say_both.new.self (gone_in (world_of c.say_both.new.self)) c.args.object.0 f.counted (c.finalise.ensures.finalises d) (only_list c.disconnect_object.new.self f.world.handlers (without_object c.args.object.0 f.world.handlers.handlers) c.disconnect_object.ensures.left)
+    (keeps_finalised d f c.finalise.new.self c.disconnect_object.new.self c.end_of.new.self c.say_both.new.self (gone_handlers (world_of c.say_both.new.self)) c.args.object.0 f.counted (c.finalise.ensures.finalises d) (only_list c.disconnect_object.new.self f.world.handlers (without_object c.args.object.0 f.world.handlers.handlers) c.disconnect_object.ensures.left)
     c.in_ok-say_both.ensures.beside (ap (λ (h : Connected). tasks_of d h.handlers f.stack) (sym c.say_both.ensures.handlers) ∙ left))

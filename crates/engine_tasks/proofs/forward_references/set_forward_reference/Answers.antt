@@ -4,7 +4,6 @@ use Rattle.ui_machine.specs.State.Tasks.{Item, Task, Setting, Building}
 use Rattle.ui_machine.specs.State.Config.{starts}
 use Rattle.ui_machine.specs.Outcome.{Answer, Goes, ◌>>=◌}
 use Rattle.engine_world.specs.EngineView.{config_of}
-use Rattle.engine_world.proofs.Signals.{connects_all}
 use Rattle.ui_machine.specs.Rules.Build.{held_object, building, building_forward, set_forward}
 use Rattle.ui_machine.specs.Rules.Sets.{spec_at}
 use Rattle.ui_machine.specs.Steps.{uncounted}
@@ -17,15 +16,15 @@ use Rattle.engine_world.proofs.Forwarded.{settable_then, held_then}
 use Rattle.engine_world.proofs.Counts.{keeps_on}
 use Rattle.engine_tasks.proofs.forward_references.set_forward_reference.Goals as goal
 
--- no reference is left: the signals come next
+-- no reference is left: the bindings come next
 pub returns-in_default-clause-step : goal.returns-in_default-clause-step
 returns-in_default-clause-step c =
     let d = c.args.definition.now in
     let w = world_of c.args.engine.now.world in
     let rest = agenda_of d c.args.engine.now in
     let n = c.args.engine.now.counted in
-    let items = ap (λ (fs : List ForwardReference). build_end d fs) c.in_default.ensures.0 ∙ connects_all d in
-    subst (λ (its : List Item). Goes c.connect_from_build.result (uncounted rest n (building d w its)) (config_of d c.connect_from_build.new.engine)) (sym items) c.connect_from_build.ensures.step
+    let items = ap (λ (fs : List ForwardReference). build_end d fs) c.in_default.ensures.0 in
+    subst (λ (its : List Item). Goes c.bind_from_build.result (uncounted rest n (building d w its)) (config_of d c.bind_from_build.new.engine)) (sym items) c.bind_from_build.ensures.step
 
 pub returns-clause-step : goal.returns-clause-step
 unfolding building_forward set_forward

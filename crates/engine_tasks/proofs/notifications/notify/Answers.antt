@@ -1,4 +1,4 @@
-use Rattle.std.proofs.Common.{ℕ, suc, List, [], ◌∷◌, map, false, Some, Bor, option_map, string_bytes, refl, sym, ap, subst, ◌∙◌, arith}
+use Rattle.std.proofs.Common.{ℕ, suc, List, [], ◌∷◌, map, false, Some, Bor, option_map, string_bytes, sym, ap, subst, ◌∙◌, arith}
 use Rattle.std.proofs.lemmas.Result.{err_from_is_err_and}
 use Rattle.ui_machine.specs.Definition.Types.{GType}
 use Rattle.ui_machine.specs.Definition.Signals.{Signal}
@@ -21,6 +21,7 @@ use Rattle.definition_format.specs.Meaning.{planned}
 use Rattle.engine_world.specs.View.{with_line, world_of}
 use Rattle.engine_world.specs.TaskView.{agenda_of, emission_of, entries_to_come}
 use Rattle.engine_world.specs.declared.engine.Engine.{Engine}
+use Rattle.engine_world.specs.declared.task.Transfers.TheVariants as at
 use Rattle.engine_world.proofs.Counts.{keeps_same, taken_alike}
 use Rattle.engine_tasks.proofs.Emitted.{begun_as, begun_none, begun_some, notifying_starts}
 use Rattle.engine_world.proofs.Left.{left_with}
@@ -74,12 +75,13 @@ returns-clause-step c =
     let declared = begun_some (λ (m : Emission). begun m last) (g (string_bytes c.in_ok-name.name)) c.in-Some-emission.emission _ found in
     let walk = begun_as (λ (m : Emission). begun m last) (g (string_bytes c.in_ok-name.name)) c.in-Some-emission.emission _ declared.0 found declared.1 ∙ ap (λ (detail : List ℕ). g detail declared.0) name in
     let rises = subst (λ (h : Engine). Numbered 0 h.world.handlers.handlers h.world.handlers.last) (sym is) c.last-last.ensures.rises in
-    let starts_so = notifying_starts d w rises refl id c.args.slot class c.in_ok-class.ensures p some declared.0 declared.1 (begun c.in-Some-emission.emission last) walk in
+    let due = c.in_ok-due.ensures in
+    let starts_so = notifying_starts d w rises id c.args.slot class c.in_ok-due.due due c.in_ok-class.ensures p some declared.0 declared.1 (begun c.in-Some-emission.emission last) walk in
     let line = (rw c.as_str-2.ensures.value at c.in_ok-line.ensures) ∙ ap (λ (types : List GType). text_of_line types (lines.notify id p.name)) c.types.ensures.types in
     let world = c.in_ok-start_emission.ensures.world ∙ ap (λ (text : List ℕ). with_line text w) line in
     let agenda = c.in_ok-start_emission.ensures.agenda d
-    ∙ ap (λ (vs : List Value). Emitting (emission_of (begun c.in-Some-emission.emission last) vs false) (entries_to_come (begun c.in-Some-emission.emission last) f.world.handlers.handlers) ∷ agenda_of d f) c.new.ensures.items
-    ∙ ap (λ (ts : List Task). Emitting (emission_of (begun c.in-Some-emission.emission last) [] false) (entries_to_come (begun c.in-Some-emission.emission last) f.world.handlers.handlers) ∷ ts) (ap (λ (h : Engine). agenda_of d h) is) in
+    ∙ ap (λ (vs : List Value). Emitting (emission_of (begun c.in-Some-emission.emission last) vs false) (entries_to_come (begun c.in-Some-emission.emission last) f.world.handlers.handlers (at.Ahead c.in_ok-due.due)) ∷ agenda_of d f) c.new-args.ensures.items
+    ∙ ap (λ (ts : List Task). Emitting (emission_of (begun c.in-Some-emission.emission last) [] false) (entries_to_come (begun c.in-Some-emission.emission last) f.world.handlers.handlers (at.Ahead c.in_ok-due.due)) ∷ ts) (ap (λ (h : Engine). agenda_of d h) is) in
     ap (λ (h : Engine). counted rest n (notifying d (world_of h.world) id c.args.slot)) (sym is)
     ∙ counted_on rest n _ c.in_ok-count.ensures.ok.0
     ∙ left_with (world_of c.start_emission.new.engine.world) (agenda_of d c.start_emission.new.engine) (suc n) c.start_emission.new.engine.counted rest (notifying d w id c.args.slot) _ _ starts_so world agenda
@@ -92,4 +94,4 @@ returns-clause-counted c =
     let is = c.in_ok-count.ensures.ok.1 in
     let same = keeps_same d e c.count.new.engine (ap (λ (f : Engine). f.world.table) is) (ap (λ (f : Engine). f.world.weak) is) (ap (λ (f : Engine). f.world.context) is) (ap (λ (f : Engine). f.world.builder) is) (ap (λ (f : Engine). f.stack) is)
     (ap (λ (f : Engine). f.world.handlers) is) in
-    record { at = λ taken h. c.in_ok-start_emission.ensures.counted d taken (taken_alike d c.count.new.engine _ _ (λ o. omega (arith, ap (λ (vs : List Value). total (in_value o) (map value_view vs)) c.new.ensures.items)) (same.at taken h)) }
+    record { at = λ taken h. c.in_ok-start_emission.ensures.counted d taken (taken_alike d c.count.new.engine _ _ (λ o. omega (arith, ap (λ (vs : List Value). total (in_value o) (map value_view vs)) c.new-args.ensures.items)) (same.at taken h)) }

@@ -1,4 +1,4 @@
-use Rattle.std.proofs.Common.{◌∷◌, [], Ok, ap, refl, sym, subst, map, ◌∙◌}
+use Rattle.std.proofs.Common.{◌∷◌, [], ap, refl, sym, subst, map, ◌∙◌}
 use Rattle.ui_machine.specs.Outcome.{Answer, Goes}
 use Rattle.ui_machine.specs.Rules.MainLoop.{source_data}
 use Rattle.ui_machine.specs.State.Config.{Config, Started}

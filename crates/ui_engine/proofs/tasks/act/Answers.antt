@@ -71,3 +71,24 @@ returns-in-Due-clause-counted c =
 
 pub returns-in-Due-clause-step : goal.returns-in-Due-clause-step
 returns-in-Due-clause-step c = rw c.in-Due.is (goes_whole c.args.definition.now c.run_source.new.engine (Ok (tt {0})) _ c.in_ok-run_source-in-Due.ensures.step)
+
+pub returns-in-Transferring-clause-counted : goal.returns-in-Transferring-clause-counted
+returns-in-Transferring-clause-counted c =
+    done_plain c.args.definition.now c.args.engine.now c.transfer.new.engine c.args.task _ c.in-Transferring.is (λ o. refl) c.in_ok-transfer-in-Transferring.ensures.counted c.requires.counted
+
+pub returns-in-Transferring-clause-step : goal.returns-in-Transferring-clause-step
+returns-in-Transferring-clause-step c = rw c.in-Transferring.is (goes_whole c.args.definition.now c.transfer.new.engine (Ok (tt {0})) _ c.in_ok-transfer-in-Transferring.ensures.step)
+
+pub returns-in-Unsetting-clause-counted : goal.returns-in-Unsetting-clause-counted
+returns-in-Unsetting-clause-counted c =
+    done_plain c.args.definition.now c.args.engine.now c.unset.new.engine c.args.task _ c.in-Unsetting.is (λ o. refl) c.unset.ensures.counted c.requires.counted
+
+pub returns-in-Unsetting-clause-step : goal.returns-in-Unsetting-clause-step
+returns-in-Unsetting-clause-step c = rw c.in-Unsetting.is (goes_whole c.args.definition.now c.unset.new.engine (Ok (tt {0})) _ c.unset.ensures.step)
+
+pub returns-in-Binding-clause-counted : goal.returns-in-Binding-clause-counted
+returns-in-Binding-clause-counted c =
+    done_plain c.args.definition.now c.args.engine.now c.bind_from_build.new.engine c.args.task _ c.in-Binding.is (λ o. refl) c.in_ok-bind_from_build-in-Binding.ensures.counted c.requires.counted
+
+pub returns-in-Binding-clause-step : goal.returns-in-Binding-clause-step
+returns-in-Binding-clause-step c = rw c.in-Binding.is (goes_whole c.args.definition.now c.bind_from_build.new.engine (Ok (tt {0})) _ c.in_ok-bind_from_build-in-Binding.ensures.step)

@@ -1,9 +1,7 @@
-use Rattle.std.proofs.Common.{◌≡◌, ◌+◌, ◌*◌, ◌≤◌, ◌<◌, ℕ, List, [], Ok, Err, length, refl, sym, ap, subst, ◌∙◌, arith}
+use Rattle.std.proofs.Common.{◌≡◌, ◌+◌, ℕ, List, [], length, refl, sym, ap, subst, arith}
 use Rattle.std.proofs.lemmas.Result.{err_from_is_err_and}
 use Rattle.ui_machine.specs.Runs.{Dispatches, Halts, beginning}
-use Rattle.ui_machine.specs.State.Config.{World}
 use Rattle.ui_machine.specs.State.Tasks as tasks
-use Rattle.ui_machine.specs.Steps.{most_steps}
 use Rattle.ui_machine.proofs.Prefixes.{prefix_on, prefix_same}
 use Rattle.engine_world.specs.View.{world_of}
 use Rattle.main_context.specs.Attached.{next_source, numbers_after}

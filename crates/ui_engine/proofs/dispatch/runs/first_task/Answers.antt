@@ -1,4 +1,4 @@
-use Rattle.std.proofs.Common.{Ok, Err, ◌∙◌, refl, sym, subst, arith}
+use Rattle.std.proofs.Common.{Ok, Err, ◌∙◌, sym, subst, arith}
 use Rattle.std.proofs.lemmas.Result.{err_from_is_err_and}
 use Rattle.ui_machine.specs.State.Config.{Config}
 use Rattle.engine_world.specs.Counting.{in_subject}
@@ -38,7 +38,7 @@ returns-in_err-made-clause-stepped c =
     let p = err_from_is_err_and c.from_residual.result c.from_residual.ensures.1 in
     let d = c.args.definition.now in
     rw (p.1, p.2)
-    (first_stepped d c.args.engine.now.world.handlers.handlers (config_of d c.args.engine.now) (config_of d c.act.new.engine) refl c.requires.none c.in-Some.task c.pop.new.self (c.in-Some.ensures.tasks d c.args.engine.now.world.handlers.handlers)
+    (first_stepped d c.args.engine.now.world.handlers.handlers (config_of d c.args.engine.now) (config_of d c.act.new.engine) c.requires.none c.in-Some.task c.pop.new.self (c.in-Some.ensures.tasks d c.args.engine.now.world.handlers.handlers)
     (Err _) c.in_err-made.ensures.step tt c.in_err-made.ensures.quiet)
 
 pub act-requires : goal.act-requires
@@ -68,11 +68,11 @@ pub returns-clause-stepped : goal.returns-clause-stepped
 returns-clause-stepped c =
     let d = c.args.definition.now in
     subst (λ (e : Config). Stepped (Ok c.in_ok-made.made) d (config_of d c.args.engine.now) e) (sym (config_same d c.act.new.engine c.let_go_any.new.table c.let_go_any.ensures.only))
-    (first_stepped d c.args.engine.now.world.handlers.handlers (config_of d c.args.engine.now) (config_of d c.act.new.engine) refl c.requires.none c.in-Some.task c.pop.new.self (c.in-Some.ensures.tasks d c.args.engine.now.world.handlers.handlers)
+    (first_stepped d c.args.engine.now.world.handlers.handlers (config_of d c.args.engine.now) (config_of d c.act.new.engine) c.requires.none c.in-Some.task c.pop.new.self (c.in-Some.ensures.tasks d c.args.engine.now.world.handlers.handlers)
     (Ok c.in_ok-made.made) c.in_ok-made.ensures.step c.in_ok-made.ensures.made tt)
 
 pub returns-clause-grows : goal.returns-clause-grows
 returns-clause-grows c =
     let d = c.args.definition.now in
-    first_grows d c.args.engine.now.world.handlers.handlers (config_of d c.args.engine.now) (config_of d c.act.new.engine) refl c.requires.none c.in-Some.task c.pop.new.self (c.in-Some.ensures.tasks d c.args.engine.now.world.handlers.handlers)
+    first_grows d c.args.engine.now.world.handlers.handlers (config_of d c.args.engine.now) (config_of d c.act.new.engine) c.requires.none c.in-Some.task c.pop.new.self (c.in-Some.ensures.tasks d c.args.engine.now.world.handlers.handlers)
     (Ok c.in_ok-made.made) c.in_ok-made.ensures.step tt

@@ -42,6 +42,6 @@ returns-clause-built c =
     let d = c.args.definition in
     let announced = c.in-Ok-announce.ensures.line ∙ ap (λ w. said d w lines.build) (c.new-engine.ensures.world d) in
     let fs = c.in-Ok-forward_references.forwards in
-    let items = only_objects d c.types-types.ensures.basic fs c.in-Ok-forward_references.ensures in
+    let items = only_objects d fs c.in-Ok-forward_references.ensures in
     let start = ap (λ w. beginning w (Building (build_from d 0 fs))) announced ∙ ap (λ items. beginning (said d (first_world d []) lines.build) (Building items)) (sym items) in
     subst (λ (from : Config). Comes c.run_task-build.result (carrying_out d from) d c.run_task-build.new.self) start c.run_task-build.ensures.comes

@@ -1,0 +1,22 @@
+use Rattle.std.proofs.Common.{List, ◌∷◌, refl, ap, ◌∙◌}
+use Rattle.ui_machine.specs.State.Tasks.{Setting, Task}
+use Rattle.bindings.specs.Made.{Made}
+use Rattle.g_values.specs.View.{value_view}
+use Rattle.engine_world.specs.View.{world_of}
+use Rattle.engine_world.proofs.Counts.{keeps_on, keeps_same}
+use Rattle.engine_tasks.proofs.transfers.set_by.Goals as goal
+
+pub returns-clause-step : goal.returns-clause-step
+returns-clause-step c =
+    let d = c.args.definition.now in
+    let e = c.args.engine.now in
+    let t = c.args.transfer in
+    let world = c.push_task-2.ensures.world ∙ c.push_task.ensures.world ∙ ap (λ (m : Made). record (world_of e.world) { bindings = m.bindings }) c.setting.ensures in
+    let agenda = c.in_ok-push_task-2.ensures.agenda d ∙ ap (λ (ts : List Task). Setting t.target.0 t.target_slot (value_view c.in-Some.value) ∷ ts) (c.in_ok-push_task.ensures.agenda d) in
+    let count = c.push_task-2.ensures.same ∙ c.push_task.ensures.same in
+    rw (c.in-Some.is, world, agenda, count) refl
+
+pub returns-clause-counted : goal.returns-clause-counted
+returns-clause-counted c =
+    let d = c.args.definition.now in
+    keeps_on d _ _ _ (keeps_same d c.args.engine.now _ refl refl refl refl refl refl) (keeps_on d _ _ _ (c.in_ok-push_task.ensures.counted d) (c.in_ok-push_task-2.ensures.counted d))

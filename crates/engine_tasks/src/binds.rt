@@ -1,0 +1,154 @@
+//! The bindings of the definition: they are made once all objects stand (GTK manual, GtkBuilder: the attribute `bind-source`).
+
+ghost use Rattle.std.specs.Prelude.{◌≡◌, ◌||◌, ◌++◌, ℕ, false, option_map, string_bytes, IfOk, OnOk, OnErr};
+ghost use Rattle.ui_machine.specs.Definition as machine;
+ghost use Rattle.ui_machine.specs.Outcome.{Goes};
+ghost use Rattle.ui_machine.specs.Rules.Build.{building, first_transfer, new_binding, with_binding};
+ghost use Rattle.ui_machine.specs.Rules.Sets.{is_disposed};
+ghost use Rattle.ui_machine.specs.State.Objects.{living};
+ghost use Rattle.ui_machine.specs.Steps.{uncounted};
+ghost use Rattle.bindings.specs.Made.{binding_of};
+ghost use Rattle.definition_format.specs.Meaning.{bind_view};
+ghost use Rattle.instances.specs.Store.{Shows};
+ghost use Rattle.engine_world.specs.Counting.{Connects, KeepsCounts};
+ghost use Rattle.engine_world.specs.EngineView.{config_of};
+ghost use Rattle.engine_world.specs.TaskView.{agenda_of, binds_from};
+ghost use Rattle.engine_world.specs.View.{world_of};
+ghost use Rattle.engine_tasks.specs.BindView.{ends_at, ends_of};
+
+use crate::signals::connect_from_build;
+use bindings::{Binding, BindingFlags};
+use bitflags::Flags;
+use definition_format::Bind;
+use definitions::Definition;
+use engine_world::engine::Engine;
+use engine_world::given::held_object;
+use engine_world::places::FIRST_PLACE;
+use engine_world::references::push_task;
+use engine_world::task::Task;
+use instances::Table;
+use std::alloc::{AllocError, Global};
+use ui_machine::{Arm, Halt, ObjectId};
+
+/// The objects that a binding is between.
+#[derive(Clone, Copy, Debug)]
+struct Ends {
+    source: ObjectId,
+    target: ObjectId,
+}
+
+// The objects that the builder has for a binding of the definition.
+fn ends_of(engine: &Engine, bind: &Bind) -> Result<Ends, Arm>
+    ensures { Shows ends_of result (ends_at (world_of engine.now.world) (bind_view bind.now)) }
+{
+    let source = held_object(engine, bind.source)?;
+    let target = held_object(engine, bind.target)?;
+    Ok(Ends { source, target })
+}
+
+// Whether one of them is disposed.
+fn is_any_disposed(table: &Table, ends: Ends) -> bool
+    ensures { result ≡ (is_disposed (living table.now.objects ends.source.0) || is_disposed (living table.now.objects ends.target.0)) }
+{
+    table.is_disposed(ends.source) || table.is_disposed(ends.target)
+}
+
+// A name once more, if there is one.
+fn copied_name(alloc: Global, name: &Option<String>) -> Result<Option<String>, AllocError>
+    ensures { IfOk result (λ copy. option_map (λ text. string_bytes text) copy ≡ option_map (λ text. string_bytes text) name.now) }
+{
+    let Some(name) = name else {
+        return Ok(None);
+    };
+    let copy = String::from_str(alloc, name.as_str())?;
+    Ok(Some(copy))
+}
+
+// What is bound by a binding of the definition, between these objects.
+fn new_binding(alloc: Global, bind: &Bind, ends: Ends) -> Result<Binding, AllocError>
+    ensures { IfOk result (λ b. (number : ℕ) → binding_of number false b ≡ new_binding number (bind_view bind.now) ends.source.0 ends.target.0) }
+{
+    let name = copied_name(alloc, &bind.name)?;
+    Ok(Binding {
+        name,
+        source: ends.source,
+        source_slot: bind.source_slot,
+        target: ends.target,
+        target_slot: bind.target_slot,
+        flags: bind.flags,
+    })
+}
+
+// With SYNC_CREATE the binding is to set its target at once.
+fn push_first_transfer(engine: &mut Engine, number: usize, bind: &Bind) -> Result<(), AllocError>
+    ensures agenda { OnOk result ((d : machine.Definition) → agenda_of d engine.new ≡ first_transfer number (bind_view bind.now) ++ agenda_of d engine.old) }
+    ensures world { world_of engine.new.world ≡ world_of engine.old.world }
+    ensures same { engine.new.counted ≡ engine.old.counted }
+    ensures counted { OnOk result ((d : machine.Definition) → KeepsCounts d engine.old engine.new) }
+{
+    if !bind.flags.contains(BindingFlags::SYNC_CREATE) {
+        return Ok(());
+    }
+    push_task(
+        engine,
+        Task::Transferring {
+            number: number as u64,
+            back: false,
+        },
+    )
+}
+
+// A binding of the definition is made, under its number there.
+fn bind(
+    engine: &mut Engine,
+    definition: &Definition,
+    number: usize,
+    bind: &Bind,
+    ends: Ends,
+) -> Result<(), AllocError>
+    ensures world { OnOk result (world_of engine.new.world ≡ with_binding (world_of engine.old.world) (new_binding number (bind_view bind.now) ends.source.0 ends.target.0)) }
+    ensures quiet { (world_of engine.new.world).transcript ≡ (world_of engine.old.world).transcript }
+    ensures same { (engine.new.stack ≡ engine.old.stack) × (engine.new.counted ≡ engine.old.counted) }
+    ensures handlers { engine.new.world.handlers ≡ engine.old.world.handlers }
+    ensures counted { KeepsCounts definition.now engine.old engine.new }
+{
+    // For the proof: the clauses speak of the definition.
+    let _ = definition;
+    let binding = new_binding(engine.alloc, bind, ends)?;
+    // There are fewer bindings than numbers, so that what wants is memory.
+    let Ok(()) = engine.world.bindings.bind_as(number as u64, binding) else {
+        return Err(AllocError);
+    };
+    Ok(())
+}
+
+/// The next binding of the definition is made, unless one of its objects is disposed, or the first signal is connected where none is left.
+#[tactic(auto, unfolding(ui_machine::specs::Rules::Build::building_binding))]
+pub fn bind_from_build(
+    engine: &mut Engine,
+    definition: &Definition,
+    number: usize,
+) -> Result<(), Halt>
+    requires connects { Connects definition.now engine.now }
+    ensures step { Goes result
+        (uncounted (agenda_of definition.now engine.old) engine.old.counted (building definition.now (world_of engine.old.world) (binds_from definition.now number)))
+        (config_of definition.now engine.new) }
+    ensures quiet { OnErr result ((world_of engine.new.world).transcript ≡ (world_of engine.old.world).transcript) }
+    ensures counted { OnOk result (KeepsCounts definition.now engine.old engine.new) }
+{
+    if number >= definition.binding_count() {
+        return connect_from_build(engine, definition, FIRST_PLACE, 0);
+    }
+    let Some(meant) = definition.binding(number) else {
+        return Err(Halt::Stuck(Arm::Code));
+    };
+    let ends = ends_of(engine, meant)?;
+    let is_late = is_any_disposed(&engine.world.table, ends);
+    push_task(engine, Task::Binding { number: number + 1 })?;
+    if is_late {
+        return Ok(());
+    }
+    push_first_transfer(engine, number, meant)?;
+    bind(engine, definition, number, meant, ends)?;
+    Ok(())
+}

@@ -1,0 +1,117 @@
+//! Transfers of bindings: a property's value is set at another property (GObject manual, GBinding).
+
+ghost use Rattle.std.specs.Prelude.{◌≡◌, Ok, option_map, OnOk, OnErr};
+ghost use Rattle.ui_machine.specs.Outcome.{Goes};
+ghost use Rattle.ui_machine.specs.Rules.Transfers.{set_by, transferring, unsetting};
+ghost use Rattle.ui_machine.specs.Steps.{counted, uncounted};
+ghost use Rattle.g_values.specs.View.{value_view};
+ghost use Rattle.engine_world.specs.Counting.{KeepsCounts};
+ghost use Rattle.engine_world.specs.EngineView.{config_of};
+ghost use Rattle.engine_world.specs.GivenView.{Finds};
+ghost use Rattle.engine_world.specs.TaskView.{agenda_of};
+ghost use Rattle.engine_world.specs.View.{world_of};
+ghost use Rattle.engine_tasks.specs.TransferSteps.{carried_value, to_end};
+
+use bindings::Transfer;
+use definitions::Definition;
+use engine_world::counted_steps::count;
+use engine_world::engine::Engine;
+use engine_world::properties::spec_of;
+use engine_world::references::push_task;
+use engine_world::task::Task;
+use engine_world::transformations::{inverted, transformed};
+use g_values::Value;
+use ui_machine::{Arm, Halt};
+
+// What a transfer sets: the value of its source, transformed and inverted. Nothing where the transformation fails.
+fn carried_value(
+    engine: &Engine,
+    definition: &Definition,
+    transfer: Transfer,
+) -> Result<Option<Value>, Halt>
+    ensures { Finds (λ value. option_map value_view value) result (carried_value definition.now (world_of engine.now.world) transfer) }
+{
+    // For the proof: what is known of a definition's types.
+    let types = definition.types();
+    let from = spec_of(engine, definition, transfer.source, transfer.source_slot)?;
+    let to = spec_of(engine, definition, transfer.target, transfer.target_slot)?;
+    let value = engine
+        .world
+        .table
+        .read(transfer.source, transfer.source_slot)?;
+    if !from.is_readable() || !to.is_writable() {
+        return Err(Halt::Stuck(Arm::Flags));
+    }
+    if to.is_construct_only() {
+        return Err(Halt::Stuck(Arm::ConstructOnly));
+    }
+    let value = transformed(engine.alloc, types, from.kind, to.kind, value)?;
+    Ok(inverted(transfer.invert, value))
+}
+
+// The value is set at the target, and the binding sets until all that this raises has ended. Without a value nothing is set.
+fn set_by(
+    engine: &mut Engine,
+    definition: &Definition,
+    transfer: Transfer,
+    value: Option<Value>,
+) -> Result<(), Halt>
+    ensures step { Goes result
+        (uncounted (agenda_of definition.now engine.old) engine.old.counted (set_by (world_of engine.old.world) transfer.number (to_end transfer) (option_map value_view value)))
+        (config_of definition.now engine.new) }
+    ensures quiet { OnErr result ((world_of engine.new.world).transcript ≡ (world_of engine.old.world).transcript) }
+    ensures counted { OnOk result (KeepsCounts definition.now engine.old engine.new) }
+{
+    // For the proof: the clauses speak of the definition.
+    let _ = definition;
+    let Some(value) = value else {
+        return Ok(());
+    };
+    engine.world.bindings.setting(transfer.number, true);
+    push_task(
+        engine,
+        Task::Unsetting {
+            number: transfer.number,
+        },
+    )?;
+    push_task(
+        engine,
+        Task::Setting {
+            object: transfer.target,
+            slot: transfer.target_slot,
+            value,
+        },
+    )?;
+    Ok(())
+}
+
+/// A due transfer is made. It is counted. A binding that has ended makes none.
+pub fn transfer(
+    engine: &mut Engine,
+    definition: &Definition,
+    number: u64,
+    back: bool,
+) -> Result<(), Halt>
+    ensures step { Goes result
+        (counted (agenda_of definition.now engine.old) engine.old.counted (transferring definition.now (world_of engine.old.world) number back))
+        (config_of definition.now engine.new) }
+    ensures quiet { OnErr result ((world_of engine.new.world).transcript ≡ (world_of engine.old.world).transcript) }
+    ensures counted { OnOk result (KeepsCounts definition.now engine.old engine.new) }
+{
+    count(engine)?;
+    let Some(transfer) = engine.world.bindings.transfer(number, back) else {
+        return Ok(());
+    };
+    let value = carried_value(engine, definition, transfer)?;
+    set_by(engine, definition, transfer, value)
+}
+
+/// What a binding set has ended: it sets no longer.
+pub fn unset(engine: &mut Engine, definition: &Definition, number: u64)
+    ensures step { uncounted (agenda_of definition.now engine.old) engine.old.counted (unsetting (world_of engine.old.world) number) ≡ Ok (config_of definition.now engine.new) }
+    ensures counted { KeepsCounts definition.now engine.old engine.new }
+{
+    // For the proof: the clauses speak of the definition.
+    let _ = definition;
+    engine.world.bindings.setting(number, false);
+}
