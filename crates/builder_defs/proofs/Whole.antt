@@ -11,7 +11,7 @@ use Rattle.ui_machine.specs.Definition.Programs.{Program}
 use Rattle.ui_machine.specs.declared.limits.Limits.{Limits}
 use Rattle.param_specs.specs.Table.{own_of, specs_of}
 use Rattle.signal_core.specs.Sources.{declared_of}
-use Rattle.definition_format.specs.Meaning.{Parts, meaning, bind_view, plain_object, plain_prototype, plain_program, places_of}
+use Rattle.definition_format.specs.Meaning.{Parts, meaning, bind_view, plain_prototype, plain_program, places_of}
 use Rattle.signal_core.specs.Table.{Declared}
 use Rattle.ui_machine.specs.Outcome.{◌>>=◌}
 use Rattle.definition_format.specs.declared.faults.ReadError.{ReadError}
@@ -21,6 +21,7 @@ use Rattle.definition_format.specs.Denoted.Properties.{specs_by}
 use Rattle.definition_format.specs.Denoted.Entries.{ProgramNames, TypeNames, program_names, type_names}
 use Rattle.definition_format.specs.Denoted.Drafts.{ClassDraft, Draft, answers_of, class_draft_of, draft_of, no_answers, with_answers}
 use Rattle.definition_format.specs.Denoted.SessionLimits.{limits_in}
+use Rattle.definition_format.specs.Denoted.Objects.{Built, built_view}
 use Rattle.definition_format.specs.Denoted.Programs.{programs_in}
 use Rattle.definition_format.specs.Denoted.Prototypes.{prototypes_in}
 use Rattle.definition_format.specs.Denoted.{format_of, enums_in, flags_in, interfaces_in, classes_in, draft_in, objects_in, definition_in, definition_with, keys_of_definition}
@@ -51,18 +52,19 @@ module _ (d : Data) (enums types more : List GType) (table : List (List Spec)) (
 -- ** the whole
 
 -- the definition of parts, as they are read
-meant : (p : Parts) → p.bindings ≡ []
-    → definition_with (class_draft_of p.types p.specs p.declared p.constructed) (map plain_program p.programs) (places_of p.objects p.prototypes) p.limits ≡ meaning p
+meant : (p : Parts)
+    → definition_with (class_draft_of p.types p.specs p.declared p.constructed) (map plain_program p.programs) (places_of p.objects p.prototypes)
+    (map bind_view p.bindings) p.limits ≡ meaning p
 unfolding specs_of declared_of
-meant p unbound = ap (λ (bs : List Bind). record (meaning p) { bindings = bs }) (sym (ap (map bind_view) unbound))
+meant p = refl
 
 module _ (d : Data) where
   -- what is left to read behind each part
-  after_places : Members → ClassDraft → Limits → List Program → List Place → Result Definition Refusal
-  after_places ms draft limits programs places = only_at [] ms keys_of_definition >>= λ o. Ok (definition_with draft programs places limits)
+  after_places : Members → ClassDraft → Limits → List Program → List Place → List Bind → Result Definition Refusal
+  after_places ms draft limits programs places bindings = only_at [] ms keys_of_definition >>= λ o. Ok (definition_with draft programs places bindings limits)
 
-  after_objects : Members → ClassDraft → Limits → List Program → (prototypes objects : List Place) → Result Definition Refusal
-  after_objects ms draft limits programs prototypes objects = after_places ms draft limits programs (objects ++ prototypes)
+  after_objects : Members → ClassDraft → Limits → List Program → List Place → Built → Result Definition Refusal
+  after_objects ms draft limits programs prototypes objects = after_places ms draft limits programs (objects.places ++ prototypes) objects.bindings
 
   after_prototypes : Members → ClassDraft → Limits → (programs : List Program) → List Place → Result Definition Refusal
   after_prototypes ms draft limits programs prototypes =
@@ -101,32 +103,32 @@ module _ (d : Data) where
         fails_as e _ _ up_to_objects
         (fails_first e (objects_in draft.types (specs_by draft.types draft.own) programs prototypes limits.objects d) (after_objects ms draft limits programs prototypes) h)
 
-  module _ (ms : Members) (format : Option ℕ) (limits : Limits) (draft : ClassDraft) (programs : List Program) (prototypes objects : List Place)
+  module _ (ms : Members) (format : Option ℕ) (limits : Limits) (draft : ClassDraft) (programs : List Program) (prototypes : List Place) (objects : Built)
       (members : members_at [] d ≡ Ok ms) (is : format ≡ option_and_then as_u64 (option_and_then as_number (get (codes "format") d))) (one : format_of format ≡ Ok tt)
       (limited : limits_in d ≡ Ok limits) (drafted : draft_in d ≡ Ok draft) (read : programs_in draft.types d ≡ Ok programs)
       (made : prototypes_in draft.types (specs_by draft.types draft.own) d ≡ Ok prototypes)
       (placed : objects_in draft.types (specs_by draft.types draft.own) programs prototypes limits.objects d ≡ Ok objects) where
-    definition_is : definition_in d ≡ after_places ms draft limits programs (objects ++ prototypes)
+    definition_is : definition_in d ≡ after_places ms draft limits programs (objects.places ++ prototypes) objects.bindings
     unfolding after_prototypes after_objects
     definition_is =
         up_to_objects ms format limits draft programs prototypes members is one limited drafted read made
-        ∙ ap (λ (r : Result (List Place) Refusal). r >>= after_objects ms draft limits programs prototypes) placed
+        ∙ ap (λ (r : Result Built Refusal). r >>= after_objects ms draft limits programs prototypes) placed
 
     pub definition_fails : (e : ReadError) → Fails e (only_at [] ms keys_of_definition) → Fails e (definition_in d)
     unfolding after_places
-    definition_fails e h = fails_as e _ _ definition_is (fails_first e (only_at [] ms keys_of_definition) (λ o. Ok (definition_with draft programs (objects ++ prototypes) limits)) h)
+    definition_fails e h = fails_as e _ _ definition_is (fails_first e (only_at [] ms keys_of_definition) (λ o. Ok (definition_with draft programs (objects.places ++ prototypes) objects.bindings limits)) h)
 
-    definition_whole : only_at [] ms keys_of_definition ≡ Ok tt → definition_in d ≡ Ok (definition_with draft programs (objects ++ prototypes) limits)
+    definition_whole : only_at [] ms keys_of_definition ≡ Ok tt → definition_in d ≡ Ok (definition_with draft programs (objects.places ++ prototypes) objects.bindings limits)
     unfolding after_places
-    definition_whole only = definition_is ∙ ap (λ (r : Result (Unit {0}) Refusal). r >>= λ o. Ok (definition_with draft programs (objects ++ prototypes) limits)) only
+    definition_whole only = definition_is ∙ ap (λ (r : Result (Unit {0}) Refusal). r >>= λ o. Ok (definition_with draft programs (objects.places ++ prototypes) objects.bindings limits)) only
 
   pub definition_done : (ms : Members) (format : Option ℕ) (p : Parts)
       → members_at [] d ≡ Ok ms → format ≡ option_and_then as_u64 (option_and_then as_number (get (codes "format") d)) → format_of format ≡ Ok tt
       → limits_in d ≡ Ok p.limits → draft_in d ≡ Ok (class_draft_of p.types p.specs p.declared p.constructed) → programs_in p.types d ≡ Ok (map plain_program p.programs)
       → prototypes_in p.types (specs_by p.types (own_of p.specs)) d ≡ Ok (map plain_prototype p.prototypes)
-      → objects_in p.types (specs_by p.types (own_of p.specs)) (map plain_program p.programs) (map plain_prototype p.prototypes) p.limits.objects d ≡ Ok (map plain_object p.objects)
-      → p.bindings ≡ [] → only_at [] ms keys_of_definition ≡ Ok tt → definition_in d ≡ Ok (meaning p)
-  definition_done ms format p members is one limited classes programs prototypes objects unbound only =
-      definition_whole ms format p.limits (class_draft_of p.types p.specs p.declared p.constructed) (map plain_program p.programs) (map plain_prototype p.prototypes) (map plain_object p.objects)
+      → objects_in p.types (specs_by p.types (own_of p.specs)) (map plain_program p.programs) (map plain_prototype p.prototypes) p.limits.objects d ≡ Ok (built_view p.objects p.bindings)
+      → only_at [] ms keys_of_definition ≡ Ok tt → definition_in d ≡ Ok (meaning p)
+  definition_done ms format p members is one limited classes programs prototypes objects only =
+      definition_whole ms format p.limits (class_draft_of p.types p.specs p.declared p.constructed) (map plain_program p.programs) (map plain_prototype p.prototypes) (built_view p.objects p.bindings)
       members is one limited classes programs prototypes objects only
-      ∙ ap (λ (m : Definition). Ok m) (meant p unbound)
+      ∙ ap (λ (m : Definition). Ok m) (meant p)

@@ -5,26 +5,27 @@ ghost use Rattle.serde_json.specs.Find.{get, as_number, as_u64};
 ghost use Rattle.std.specs.List.{AllByRecursion};
 ghost use Rattle.serde_json.specs.View.{view};
 ghost use Rattle.ui_machine.specs.Definition.Types.{predeclared};
-ghost use Rattle.definition_format.specs.Meaning.{ArePlain, HasOwnName, IsSound, IsSoundProgram, meaning, plain_object, plain_program, plain_prototype};
+ghost use Rattle.definition_format.specs.Meaning.{ArePlain, HasOwnName, IsSound, IsSoundProgram, meaning, plain_program, plain_prototype};
 ghost use Rattle.definitions.specs.PartsView.{parts_of};
 ghost use Rattle.definition_format.specs.Refusals.{Gives, Leads};
 ghost use Rattle.definition_format.specs.Document.{path_of};
 ghost use Rattle.param_specs.specs.Table.{own_of};
 ghost use Rattle.definition_format.specs.Denoted.Properties.{specs_by};
 ghost use Rattle.definition_format.specs.Denoted.Drafts.{class_draft_of, draft_of};
+ghost use Rattle.definition_format.specs.Denoted.Objects.{built_view};
 ghost use Rattle.definition_format.specs.Denoted.Programs.{programs_in};
 ghost use Rattle.definition_format.specs.Denoted.Prototypes.{prototypes_in};
 ghost use Rattle.definition_format.specs.Denoted.{format_of, enums_in, flags_in, interfaces_in, classes_in, draft_in, objects_in, definition_in, denoted};
 
 use crate::limits::limits_of;
 use definition_format::{DefinitionFault, Path, ReadError};
-use definition_objects::{read_objects, read_places, read_programs, read_prototypes};
+use definition_objects::{ReadObjects, read_objects, read_places, read_programs, read_prototypes};
 use definition_types::document::{Entries, Part, listed_ahead, parsed};
 use definition_types::entries::{ProgramNames, TypeNames};
 use definition_types::{
     ClassDraft, Draft, read_classes, read_enums, read_flags_types, read_interfaces,
 };
-use definitions::places::{Objects, Prototypes};
+use definitions::places::Prototypes;
 use definitions::programs::Programs;
 use definitions::{Definition, Parts};
 use handler_code::Names;
@@ -214,7 +215,7 @@ fn prototypes_of(
     Ok(prototypes)
 }
 
-// The objects of a definition beside these prototypes, where so many may live.
+// The objects of a definition beside these prototypes, where so many may live, and the bindings among them.
 #[tactic(auto, unfolding(definition_format::specs::Denoted::objects_in))]
 fn objects_of<'a>(
     part: Part<'a>,
@@ -223,13 +224,13 @@ fn objects_of<'a>(
     programs: &'a Programs,
     prototypes: &'a Prototypes,
     most: usize,
-) -> Result<Objects, ReadError>
+) -> Result<ReadObjects, ReadError>
     requires root { path_of part.path ≡ [] }
     requires plain { ArePlain types.now specs.now }
     requires named { AllByRecursion HasOwnName programs.now.entries }
     requires few { length programs.now.entries ≤ 256 }
     requires few_prototypes { length prototypes.now.entries ≤ 512 }
-    ensures { Gives (λ v. map plain_object v.entries) result (objects_in types.now (specs_by types.now (own_of specs.now)) (map plain_program programs.now.entries) (map plain_prototype prototypes.now.entries) most (view part.entry.value.now)) }
+    ensures { Gives (λ v. built_view v.objects.entries v.bindings.items) result (objects_in types.now (specs_by types.now (own_of specs.now)) (map plain_program programs.now.entries) (map plain_prototype prototypes.now.entries) most (view part.entry.value.now)) }
 {
     let items = part.entries("objects")?;
     let list = Entries {
@@ -262,7 +263,7 @@ fn parts_in(alloc: Global, value: &Value) -> Result<Parts, ReadError>
     let programs = programs_of(part, &draft.types)?;
     let prototypes = prototypes_of(part, &draft.types, &draft.specs)?;
     let most = limits.objects as usize;
-    let objects = objects_of(
+    let built = objects_of(
         part,
         &draft.types,
         &draft.specs,
@@ -278,8 +279,8 @@ fn parts_in(alloc: Global, value: &Value) -> Result<Parts, ReadError>
         constructed: draft.constructed,
         programs,
         prototypes,
-        objects,
-        bindings: Vec::new(alloc),
+        objects: built.objects,
+        bindings: built.bindings,
         limits,
     })
 }

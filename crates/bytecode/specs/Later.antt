@@ -1,10 +1,9 @@
--- Instructions that no program has so far: those on bindings and on peers.
+-- Instructions that no program has so far: those on peers.
 use Rattle.std.specs.Prelude.{Bool, true, false}
 use Rattle.ui_machine.specs.Definition.Programs.{Instruction}
 use Rattle.ui_machine.specs.Definition.Programs as words
 
--- whether an instruction ends a binding, or calls a method of a peer
+-- whether an instruction calls a method of a peer
 abbrev pub is_later : Instruction → Bool
-is_later (words.unbind name) = true
 is_later (words.call to object method args) = true
 is_later _ = false

@@ -52,7 +52,7 @@ use Rattle.definition_format.specs.Denoted.Implements.{implements_at}
 use Rattle.definition_format.specs.Denoted.Interfaces.{requires_at, interface_type_at, keys_of_interface, interface_at}
 use Rattle.definition_format.specs.Denoted.Classes.{parent_at, parent_ahead, check_depth, keys_of_class, declared_at, answers_at, answering_at, class_at}
 use Rattle.definition_format.specs.Denoted.Classes as classes
-use Rattle.definition_format.specs.Denoted.Objects.{Scope, room_for_object, keys_of_object, place_at, added_at, object_at}
+use Rattle.definition_format.specs.Denoted.Objects.{Scope, Built, Placed, built_view, no_objects, with_place, room_for_object, keys_of_object, place_at, added_at, object_at}
 use Rattle.definition_format.specs.Denoted.Prototypes.{room_for_prototype, prototype_in, prototype_at, prototypes_in}
 use Rattle.definition_format.specs.Denoted.{unset_before_classes, enums_in, flags_in, interfaces_in, classes_in, draft_in, scope_with, objects_in}
 use Rattle.definition_format.proofs.Elements.{both_all, flat_all, all_get, all_map}
@@ -611,48 +611,49 @@ room_below most prototypes places = by (nat_le 512 (length places + length proto
     by false false e f = record { place = grind (arith, nat_tests); life = grind (arith, nat_tests) }
 
 module _ (scope : Scope) where
-  abbrev Roomy : List Place → Type 0
-  Roomy places = HasRoom scope.most scope.prototypes places
+  abbrev Roomy : Built → Type 0
+  Roomy built = HasRoom scope.most scope.prototypes built.places
 
-  abbrev Few : List Place → Type 0
-  Few places = AreFew scope.most scope.prototypes places
+  abbrev Few : Built → Type 0
+  Few built = AreFew scope.most scope.prototypes built.places
 
-  place_few : (parent : Option ℕ) (path : List ℕ) (places : List Place) (d : Data) → OnRead (λ place. Roomy places) (place_at path scope parent places d)
+  place_few : (parent : Option ℕ) (path : List ℕ) (built : Built) (d : Data) → OnRead (λ placed. Roomy built) (place_at path scope parent built d)
   unfolding place_at
-  place_few parent path places d =
-      on_bind (λ x. Roomy places) (λ place. Roomy places) (room_for_object scope.most scope.prototypes places) _ (room_below scope.most scope.prototypes places) λ u room.
-      on_known (Roomy places) room _
+  place_few parent path built d =
+      on_bind (λ x. Roomy built) (λ placed. Roomy built) (room_for_object scope.most scope.prototypes built.places) _
+      (room_below scope.most scope.prototypes built.places) λ u room.
+      on_known (Roomy built) room _
 
-  one_place_more : (places : List Place) (place : Place) → Roomy places → Few (places ++ place ∷ [])
-  one_place_more places place room =
-      let one = length_push places place in
+  one_place_more : (built : Built) (placed : Placed) → Roomy built → Few (with_place built placed.place placed.bindings)
+  one_place_more built placed room =
+      let one = length_push built.places placed.place in
       record { placed = omega (arith, one, room.place); live = omega (arith, one, room.life) }
 
-  added_few : (parent : Option ℕ) (path : List ℕ) (places : List Place) (d : Data) → OnRead Few (added_at path scope parent places d)
+  added_few : (parent : Option ℕ) (path : List ℕ) (built : Built) (d : Data) → OnRead Few (added_at path scope parent built d)
   unfolding added_at
-  added_few parent path places d =
-      on_bind (λ place. Roomy places) Few (place_at path scope parent places d) (λ place. Ok (places ++ place ∷ []))
-      (place_few parent path places d) λ place room. one_place_more places place room
+  added_few parent path built d =
+      on_bind (λ placed. Roomy built) Few (place_at path scope parent built d) (λ placed. Ok (with_place built placed.place placed.bindings))
+      (place_few parent path built d) λ placed room. one_place_more built placed room
 
-  object_few : (levels : ℕ) (parent : Option ℕ) (path : List ℕ) (places : List Place) (d : Data) → OnRead Few (object_at levels scope parent path places d)
+  object_few : (levels : ℕ) (parent : Option ℕ) (path : List ℕ) (built : Built) (d : Data) → OnRead Few (object_at levels scope parent path built d)
   unfolding object_at
-  object_few zero parent path places d = tt
-  object_few (suc levels) parent path places d =
+  object_few zero parent path built d = tt
+  object_few (suc levels) parent path built d =
       on_bind (λ x. Unit {0}) Few (members_at path d) _ (on_all _) λ ms u.
-      on_bind Few Few (added_at path scope parent places d) _ (added_few parent path places d) λ more few.
+      on_bind Few Few (added_at path scope parent built d) _ (added_few parent path built d) λ more few.
       on_bind (λ x. Unit {0}) Few (entries_at path d (codes "children")) _ (on_all _) λ list u.
-      on_bind Few Few (each (at_entry (object_at levels scope (Some (length places))) (under path (codes "children"))) 0 more list) _
-      (on_each Few (at_entry (object_at levels scope (Some (length places))) (under path (codes "children")))
-      (λ i others entry fewer. object_few levels (Some (length places)) (nth (under path (codes "children")) i) others entry) 0 more list few) λ all fewer.
+      on_bind Few Few (each (at_entry (object_at levels scope (Some (length built.places))) (under path (codes "children"))) 0 more list) _
+      (on_each Few (at_entry (object_at levels scope (Some (length built.places))) (under path (codes "children")))
+      (λ i others entry fewer. object_few levels (Some (length built.places)) (nth (under path (codes "children")) i) others entry) 0 more list few) λ all fewer.
       on_bind (λ x. Unit {0}) Few (only_at path ms keys_of_object) _ (on_all _) λ only u. fewer
 
 pub objects_few : (types : List GType) (specs : ℕ → List Spec) (programs : List Program) (prototypes : List Place) (most : ℕ) (d : Data) → AreWithin prototypes
-    → OnRead (AreFew most prototypes) (objects_in types specs programs prototypes most d)
+    → OnRead (λ built. AreFew most prototypes built.places) (objects_in types specs programs prototypes most d)
 unfolding objects_in
 objects_few types specs programs prototypes most d within =
-    on_bind (λ x. Unit {0}) (AreFew most prototypes) (entries_at [] d (codes "objects")) _ (on_all _) λ list u.
-    on_each (AreFew most prototypes) (at_entry (object_at most_levels (scope_with types specs programs prototypes most list) None) (under [] (codes "objects")))
-    (λ i others entry fewer. object_few (scope_with types specs programs prototypes most list) most_levels None (nth (under [] (codes "objects")) i) others entry) 0 [] list
+    on_bind (λ x. Unit {0}) (λ built. AreFew most prototypes built.places) (entries_at [] d (codes "objects")) _ (on_all _) λ list u.
+    on_each (λ (built : Built). AreFew most prototypes built.places) (at_entry (object_at most_levels (scope_with types specs programs prototypes most list) None) (under [] (codes "objects")))
+    (λ i others entry fewer. object_few (scope_with types specs programs prototypes most list) most_levels None (nth (under [] (codes "objects")) i) others entry) 0 no_objects list
     (record { placed = omega (arith, within); live = omega arith })
 
 -- the properties of types that were read are plain
@@ -684,22 +685,21 @@ handlers_read types table declared constructed d read = (subst (OnRead PlainClas
 -- a definition of what was read
 pub sound : (p : Parts) (d : Data) → draft_in d ≡ Ok (class_draft_of p.types p.specs p.declared p.constructed) → AreLimits p.limits
     → prototypes_in p.types (specs_by p.types (own_of p.specs)) d ≡ Ok (map plain_prototype p.prototypes)
-    → objects_in p.types (specs_by p.types (own_of p.specs)) (map plain_program p.programs) (map plain_prototype p.prototypes) p.limits.objects d ≡ Ok (map plain_object p.objects)
+    → objects_in p.types (specs_by p.types (own_of p.specs)) (map plain_program p.programs) (map plain_prototype p.prototypes) p.limits.objects d ≡ Ok (built_view p.objects p.bindings)
     → AllByRecursion HasOwnName p.programs → AllByRecursion (IsSoundProgram p.types) p.programs
-    → length p.programs ≤ 256 → p.bindings ≡ [] → IsSound p
-sound p d read within prototypes objects named programs fewer unbound =
+    → length p.programs ≤ 256 → IsSound p
+sound p d read within prototypes objects named programs fewer =
     let specs = specs_by p.types (own_of p.specs) in
     let made = map plain_prototype p.prototypes in
     let most = p.limits.objects in
     let fit : AreWithin made = subst (OnRead AreWithin) prototypes (prototypes_within p.types specs d) in
-    let few : AreFew most made (map plain_object p.objects) = subst (OnRead (AreFew most made)) objects (objects_few p.types specs (map plain_program p.programs) made most d fit) in
+    let few : AreFew most made (map plain_object p.objects) = subst (OnRead (λ (built : Built). AreFew most made built.places)) objects (objects_few p.types specs (map plain_program p.programs) made most d fit) in
     record {
       plain = plain_read p.types p.specs p.declared p.constructed d read;
       kinds = kinds_read p.types p.specs p.declared p.constructed d read;
       limited = within;
       few = omega (arith, few.live, length-map p.objects plain_object);
       places = omega (arith, few.placed, length-map p.objects plain_object, length-map p.prototypes plain_prototype);
-      unbound = unbound;
       named = named;
       programs = programs;
       few_programs = fewer;

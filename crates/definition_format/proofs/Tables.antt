@@ -133,7 +133,6 @@ module _ (p : Parts) (sound : IsSound p) where
     no_parents = each_place p.prototypes (λ (place : Place). place.is_prototype ≡ true → place.parent ≡ None) (λ o h. absurd (cc)) (λ q h. refl) p.objects;
     silent = each_place p.prototypes (λ (place : Place). place.is_prototype ≡ true → place.signals ≡ []) (λ o h. absurd (cc)) (λ q h. refl) p.objects;
     peers = each_place p.prototypes (λ (place : Place). place.peers ≡ []) (λ o. refl) (λ q. refl) p.objects;
-    bindings = ap (map bind_view) sound.unbound;
     few_programs = omega (arith, sound.few_programs, length-map p.programs plain_program);
     shaped = well_shaped;
     few_registers = λ number q h. few_registers q (well_shaped number q h);

@@ -21,6 +21,8 @@ pub mod Classes
 pub mod Programs
 pub mod Given
 pub mod Attached
+pub mod Binds
+pub mod Filled
 pub mod Objects
 pub mod Prototypes
 use Rattle.std.specs.Prelude.{ℕ, List, [], ◌∷◌, ◌++◌, length, codes, ◌==◌, if◌then◌else◌, Option, None, Some, option_and_then, Result, Ok, Err}
@@ -46,7 +48,7 @@ use Rattle.definition_format.specs.Denoted.Drafts.{ClassDraft, Draft, bare_draft
 use Rattle.definition_format.specs.Denoted.Interfaces.{interface_at}
 use Rattle.definition_format.specs.Denoted.Classes.{class_at}
 use Rattle.definition_format.specs.Denoted.Programs.{programs_in}
-use Rattle.definition_format.specs.Denoted.Objects.{Scope, object_at}
+use Rattle.definition_format.specs.Denoted.Objects.{Scope, Built, no_objects, object_at}
 use Rattle.definition_format.specs.Denoted.Prototypes.{prototypes_in}
 
 -- the member `format`, which is 1
@@ -60,15 +62,15 @@ unset_before_classes = codes "shapes" ∷ []
 abbrev pub keys_of_definition : List (List ℕ)
 keys_of_definition = codes "format" ∷ codes "limits" ∷ codes "enums" ∷ codes "flags" ∷ codes "interfaces" ∷ codes "shapes" ∷ codes "classes" ∷ codes "programs" ∷ codes "prototypes" ∷ codes "objects" ∷ []
 
--- the definition of these classes, programs and places, with these limits
-abbrev pub definition_with : ClassDraft → List Program → List machine.Place → Limits → definition.Definition
-definition_with draft programs places limits = record {
+-- the definition of these classes, programs, places and bindings, with these limits
+abbrev pub definition_with : ClassDraft → List Program → List machine.Place → List machine.Bind → Limits → definition.Definition
+definition_with draft programs places bindings limits = record {
   types = draft.types;
   classes = listed (λ t. type_with (specs_by draft.types draft.own t) (signals_by draft.types draft.signals t) (draft.answers.handlers t) (draft.answers.constructed t)) (length draft.types);
   shapes = [];
   programs = programs;
   places = places;
-  bindings = [];
+  bindings = bindings;
   most_objects = limits.objects;
   most_handlers = limits.handlers;
 }
@@ -112,10 +114,10 @@ scope_with types specs programs prototypes most list =
     record { types = types; specs = specs; programs = programs; prototypes = prototypes; most = most; names = object_names list }
 
 -- the objects of these types with their properties, which may run these programs, beside these prototypes, where so many may live
-unfoldable pub objects_in : List GType → (ℕ → List Spec) → List Program → List machine.Place → ℕ → Data → Result (List machine.Place) Refusal
+unfoldable pub objects_in : List GType → (ℕ → List Spec) → List Program → List machine.Place → ℕ → Data → Result Built Refusal
 objects_in types specs programs prototypes most d = do
   list ← entries_at [] d (codes "objects")
-  each (at_entry (object_at most_levels (scope_with types specs programs prototypes most list) None) (under [] (codes "objects"))) 0 [] list
+  each (at_entry (object_at most_levels (scope_with types specs programs prototypes most list) None) (under [] (codes "objects"))) 0 no_objects list
 
 unfoldable pub definition_in : Data → Result definition.Definition Refusal
 definition_in d = do
@@ -127,7 +129,7 @@ definition_in d = do
   prototypes ← prototypes_in draft.types (specs_by draft.types draft.own) d
   objects ← objects_in draft.types (specs_by draft.types draft.own) programs prototypes limits.objects d
   only ← only_at [] members keys_of_definition
-  Ok (definition_with draft programs (objects ++ prototypes) limits)
+  Ok (definition_with draft programs (objects.places ++ prototypes) objects.bindings limits)
 
 -- the definition that bytes denote
 unfoldable pub denoted : List ℕ → Result definition.Definition Refusal

@@ -227,7 +227,6 @@ pub record IsSound (p : Parts) : Type 0 where
   pub limited : AreLimits p.limits
   pub few : length p.objects ≤ p.limits.objects
   pub places : length p.objects + length p.prototypes ≤ 512
-  pub unbound : p.bindings ≡ []
   pub named : AllByRecursion HasOwnName p.programs
   pub programs : AllByRecursion (IsSoundProgram p.types) p.programs
   pub few_programs : length p.programs ≤ 256
@@ -261,7 +260,7 @@ if_object d place = if is_object_there (lookups.place_at d place) then Some plac
 abbrev pub object_place : definition.Definition → List ℕ → Option ℕ
 object_place d id = option_and_then (if_object d) (lookups.place_of d id)
 
--- What a definition does not have so far: shapes, bindings and peers. Its objects come first among its places.
+-- What a definition does not have so far: shapes and peers. Its objects come first among its places.
 pub record IsBasic (d : definition.Definition) : Type 0 where
   pub shapes : (t : ℕ) → (lookups.class_of d t).shape ≡ None
   pub plain : (t slot : ℕ) (s : Spec) → lookups.spec_of d t slot ≡ Some s → IsPlain d.types s
@@ -269,7 +268,6 @@ pub record IsBasic (d : definition.Definition) : Type 0 where
   pub no_parents : (p : ℕ) (place : machine.Place) → slice_get d.places p ≡ Some place → place.is_prototype ≡ true → place.parent ≡ None
   pub silent : (p : ℕ) (place : machine.Place) → slice_get d.places p ≡ Some place → place.is_prototype ≡ true → place.signals ≡ []
   pub peers : (p : ℕ) (place : machine.Place) → slice_get d.places p ≡ Some place → place.peers ≡ []
-  pub bindings : d.bindings ≡ []
   pub few_programs : length d.programs ≤ 256
   pub shaped : (number : ℕ) (p : Program) → lookups.program_at d number ≡ Some p → shape_fault p ≡ None
   pub few_registers : (number : ℕ) (p : Program) → lookups.program_at d number ≡ Some p → p.registers ≤ 32

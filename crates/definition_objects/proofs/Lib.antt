@@ -5,3 +5,5 @@ pub mod AddedPrototypes
 pub mod PlaceIds
 pub mod Outlines
 pub mod PlainKinds
+pub mod BindNames
+pub mod Filling

@@ -1,1 +1,3 @@
+pub mod BindNames
+pub mod BindView
 pub mod ScopeView

@@ -2,8 +2,9 @@
 use Rattle.std.specs.Prelude.{◌≤◌, length, map}
 use Rattle.std.specs.List.{AllByRecursion}
 use Rattle.param_specs.specs.Table.{own_of}
+use Rattle.definition_objects.specs.declared.objects.Built.{Built}
 use Rattle.definition_objects.specs.declared.objects.Scope.{Scope}
-use Rattle.definition_format.specs.Meaning.{ArePlain, HasOwnName, plain_program, plain_prototype}
+use Rattle.definition_format.specs.Meaning.{ArePlain, HasOwnName, plain_object, plain_program, plain_prototype}
 use Rattle.definition_format.specs.Denoted.Objects as pure
 use Rattle.definition_format.specs.Denoted.Properties.{specs_by}
 
@@ -16,6 +17,10 @@ scope_of scope = record {
   most = scope.most;
   names = scope.names.now;
 }
+
+-- the objects that were read so far, and the bindings among them
+abbrev pub built_of : Built → pure.Built
+built_of built = record { places = map plain_object built.objects.entries; bindings = built.bindings }
 
 -- what must be known of it
 pub record IsReady (scope : Scope) : Type 0 where

@@ -20,8 +20,12 @@ use ui_machine::{Place, ProgramId};
 
 const MEMBERS: [&str; 6] = ["name", "handler", "detail", "after", "swapped", "object"];
 
-// A name at a member: of a program, a detail or an object.
-fn name_of<'a>(part: Part<'_>, key: &str, text: Option<&'a str>) -> Result<&'a str, ReadError>
+// A name at a member: of a program, a detail, an object or a binding.
+pub(crate) fn name_of<'a>(
+    part: Part<'_>,
+    key: &str,
+    text: Option<&'a str>,
+) -> Result<&'a str, ReadError>
     ensures { Gives (λ s. s.now) result (name_of (under (path_of part.entry.path) key.now) (option_map (λ s. s.now) text.entry)) }
 {
     let Some(name) = text else {

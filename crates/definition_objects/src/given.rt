@@ -6,28 +6,22 @@ ghost use Rattle.serde_json.specs.Find.{get, as_str};
 ghost use Rattle.serde_json.specs.View.{view};
 ghost use Rattle.g_values.specs.View.{kind_view, IsKnown};
 ghost use Rattle.param_specs.specs.View.{spec_view};
-ghost use Rattle.param_specs.specs.Table.{own_of, specs_of};
-ghost use Rattle.definition_format.specs.Meaning.{ArePlain, given_view, given_property};
-ghost use Rattle.definition_format.specs.Refusals.{Gives, Leads};
+ghost use Rattle.param_specs.specs.Table.{specs_of};
+ghost use Rattle.definition_format.specs.Meaning.{given_view, given_property};
+ghost use Rattle.definition_format.specs.Refusals.{Gives};
 ghost use Rattle.definition_format.specs.Document.{under, path_of};
-ghost use Rattle.definition_format.specs.Denoted.Properties.{specs_by};
 ghost use Rattle.definition_format.specs.Denoted.Entries.{name_under};
-ghost use Rattle.definition_format.specs.Denoted.Given.{property_named, is_given, named_once, takes_value, reference, class_ahead, may_be, place_called, of_type, referred, given_by, value_at, spec_ahead, place_ahead, is_too_late, in_time, given_at, givens_at};
+ghost use Rattle.definition_format.specs.Denoted.Given.{property_named, is_given, named_once, takes_value, reference, class_ahead, may_be, place_called, of_type, referred, given_by, spec_ahead, place_ahead, is_too_late, in_time};
 
 use definition_format::{DefinitionFault, Given, GivenValue, ReadError, SpecCause};
-use definition_types::document::{
-    Entries, Part, bad_shape, bad_value, path_text, path_under, unknown_name,
-};
+use definition_types::document::{Part, bad_shape, bad_value, path_text, path_under, unknown_name};
 use definition_types::entries::{ObjectNames, at_most, name_under};
 use definition_types::names::is_name;
-use definition_types::reads::{Reads, read_each};
 use definition_types::value_of;
 use g_values::{JsonFault, Kind};
 use param_specs::{Spec, SpecTable};
 use type_tree::{TypeId, TypeTree};
 use ui_machine::{Place, Slot};
-
-const MEMBERS: [&str; 3] = ["name", "value", "bind"];
 
 // A property of a class, by its slot.
 #[derive(Clone, Copy)]
@@ -36,23 +30,24 @@ pub(crate) struct Property<'a> {
     pub(crate) spec: &'a Spec,
 }
 
-// The property of a class that a name names.
+// The property of a class that a name at a member names.
 #[tactic(auto, unfolding(definition_format::specs::Denoted::Given::property_named))]
 pub(crate) fn property_named<'a>(
     part: Part<'_>,
+    key: &str,
     types: &TypeTree,
     specs: &'a SpecTable,
     class: TypeId,
     name: &str,
 ) -> Result<Property<'a>, ReadError>
-    ensures property { Gives (λ p. record { slot = p.slot; spec = spec_view p.spec.now }) result (property_named (under (path_of part.entry.path) (codes "name")) (specs_of types.now specs.now class) name.now) }
+    ensures property { Gives (λ p. record { slot = p.slot; spec = spec_view p.spec.now }) result (property_named (under (path_of part.entry.path) key.now) (specs_of types.now specs.now class) name.now) }
     ensures spec { IfOk result (λ p. slice_get (specs_of types.now specs.now class) p.slot ≡ Some (spec_view p.spec.now)) }
 {
     let Some(slot) = specs.find(types, class, name) else {
-        return Err(unknown_name(part, "name", name)?);
+        return Err(unknown_name(part, key, name)?);
     };
     if usize::from(slot) >= specs.slots_of(types, class) {
-        return Err(unknown_name(part, "name", name)?);
+        return Err(unknown_name(part, key, name)?);
     }
     let spec = specs.spec(types, class, slot);
     Ok(Property { slot, spec })
@@ -85,7 +80,7 @@ pub(crate) fn check_once(part: Part<'_>, given: &[GivenValue], slot: Slot) -> Re
 }
 
 // Tests that a property can be written, where a value is given.
-fn check_writable(part: Part<'_>, spec: &Spec) -> Result<(), ReadError>
+pub(crate) fn check_writable(part: Part<'_>, spec: &Spec) -> Result<(), ReadError>
     ensures { Gives (λ _. tt) result (takes_value (under (path_of part.entry.path) (codes "name")) (get (codes "value") (view part.entry.value.now)) (spec_view spec.now)) }
 {
     if part.value.get("value").is_some() && !spec.is_writable() {
@@ -96,7 +91,11 @@ fn check_writable(part: Part<'_>, spec: &Spec) -> Result<(), ReadError>
 }
 
 // The class that the entry of an object names, if there is one of the name.
-fn class_ahead(types: &TypeTree, objects: &ObjectNames<'_>, place: usize) -> Option<TypeId>
+pub(crate) fn class_ahead(
+    types: &TypeTree,
+    objects: &ObjectNames<'_>,
+    place: usize,
+) -> Option<TypeId>
     ensures { result ≡ class_ahead types.now objects.now place }
 {
     types.find_class(objects.class(place)?)
@@ -168,7 +167,7 @@ fn referred(
 }
 
 // A value of a kind, or the object that it refers to.
-fn given_by(
+pub(crate) fn given_by(
     part: Part<'_>,
     types: &TypeTree,
     objects: &ObjectNames<'_>,
@@ -185,25 +184,8 @@ fn given_by(
     Ok(Given::Value(value))
 }
 
-// The value that an entry gives.
-fn value_in(
-    part: Part<'_>,
-    types: &TypeTree,
-    objects: &ObjectNames<'_>,
-    kind: Kind,
-) -> Result<Given, ReadError>
-    requires { IsKnown types.now kind }
-    ensures { Gives given_view result (value_at (path_of part.entry.path) types.now objects.now (kind_view kind) (view part.entry.value.now)) }
-{
-    match (part.value.get("value"), part.value.get("bind")) {
-        (Some(value), _) => given_by(part, types, objects, kind, value),
-        (None, None) => Err(bad_shape(part.alloc, part.path, "value")?),
-        (None, Some(_)) => Err(bad_shape(part.alloc, part.path, "bind")?),
-    }
-}
-
 // The property that an entry names, if there is one.
-fn spec_ahead<'a>(
+pub(crate) fn spec_ahead<'a>(
     value: &serde_json::Value,
     types: &TypeTree,
     specs: &'a SpecTable,
@@ -257,7 +239,7 @@ fn is_too_late(
 }
 
 // Tests that an entry gives no object too late.
-fn check_in_time(
+pub(crate) fn check_in_time(
     part: Part<'_>,
     objects: &ObjectNames<'_>,
     place: usize,
@@ -271,109 +253,4 @@ fn check_in_time(
         )),
         _ => Ok(()),
     }
-}
-
-// Adds the value that an entry gives to a property of a class.
-#[tactic(auto, unfolding(definition_format::specs::Denoted::Given::given_at))]
-fn read_given(
-    part: Part<'_>,
-    types: &TypeTree,
-    objects: &ObjectNames<'_>,
-    place: usize,
-    specs: &SpecTable,
-    class: TypeId,
-    given: &mut Vec<GivenValue>,
-) -> Result<(), ReadError>
-    requires { ArePlain types.now specs.now }
-    ensures { Leads result (given_at (path_of part.entry.path) types.now objects.now place (specs_of types.now specs.now class) (map given_property given.old.items) (view part.entry.value.now)) (map given_property given.new.items) }
-{
-    let members = part.members()?;
-    let named = spec_ahead(part.value, types, specs, class);
-    check_in_time(part, objects, place, named)?;
-    let name = part.text("name")?;
-    let property = property_named(part, types, specs, class, name)?;
-    check_once(part, given.as_slice(), property.slot)?;
-    check_writable(part, property.spec)?;
-    let value = value_in(part, types, objects, property.spec.kind)?;
-    part.check_absent(&["bind"])?;
-    part.check_only(members, &MEMBERS)?;
-    given.push(GivenValue {
-        slot: property.slot,
-        given: value,
-    })?;
-    Ok(())
-}
-
-// How the entries of an object's properties are read, where the object is of this class and stands at this place.
-#[derive(Clone, Copy)]
-struct GivenEntries<'a> {
-    types: &'a TypeTree,
-    objects: &'a ObjectNames<'a>,
-    place: usize,
-    specs: &'a SpecTable,
-    class: TypeId,
-}
-
-impl<'a> Reads<Vec<GivenValue>> for GivenEntries<'a> {
-    ghost use Rattle.std.specs.Prelude.{List, map};
-    ghost use Rattle.ui_machine.specs.Definition.Places as machine;
-    ghost use Rattle.param_specs.specs.Table.{specs_of};
-    ghost use Rattle.definition_format.specs.Meaning.{ArePlain, given_property};
-    ghost use Rattle.definition_format.specs.Denoted.Given.{given_at};
-
-    ghost State = { List machine.GivenProperty };
-
-    ghost seen = { λ given. map given_property given.items };
-
-    ghost Unchanged = { Unit {0} };
-
-    ghost kept = { λ given. tt };
-
-    ghost known = { λ r. ArePlain r.types.now r.specs.now };
-
-    ghost step = { λ r path given d. given_at path r.types.now r.objects.now r.place (specs_of r.types.now r.specs.now r.class) given d };
-
-    fn read(&self, part: Part<'_>, given: &mut Vec<GivenValue>) -> Result<(), ReadError> {
-        read_given(
-            part,
-            self.types,
-            self.objects,
-            self.place,
-            self.specs,
-            self.class,
-            given,
-        )
-    }
-}
-
-// The values that an object of a class is given.
-#[tactic(auto, unfolding(definition_format::specs::Denoted::Given::givens_at, param_specs::specs::Table::specs_of))]
-pub(crate) fn read_givens(
-    part: Part<'_>,
-    types: &TypeTree,
-    objects: &ObjectNames<'_>,
-    place: usize,
-    specs: &SpecTable,
-    class: TypeId,
-) -> Result<Vec<GivenValue>, ReadError>
-    requires { ArePlain types.now specs.now }
-    ensures { Gives (λ v. map given_property v.items) result (givens_at (path_of part.entry.path) types.now objects.now place (specs_by types.now (own_of specs.now) class) (view part.entry.value.now)) }
-{
-    let items = part.entries("properties")?;
-    let path = path_under(part.alloc, part.path, "properties")?;
-    let list = Entries {
-        alloc: part.alloc,
-        path: path.as_str(),
-        items,
-    };
-    let mut given = Vec::new(part.alloc);
-    let reader = GivenEntries {
-        types,
-        objects,
-        place,
-        specs,
-        class,
-    };
-    read_each(&reader, list, &mut given)?;
-    Ok(given)
 }

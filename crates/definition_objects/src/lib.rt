@@ -1,15 +1,19 @@
-//! The programs, prototypes and objects of a definition, read from its document.
+//! The programs, prototypes and objects of a definition, and the bindings among them, read from its document.
 #![tactic(auto)]
 
 mod attached;
+mod bind_lists;
+mod binds;
+mod filled;
 mod given;
 mod objects;
 mod places;
 mod programs;
 mod prototypes;
+mod targets;
 
 pub use given::reference;
-pub use objects::read_objects;
+pub use objects::{ReadObjects, read_objects};
 pub use places::read_places;
 pub use programs::read_programs;
 pub use prototypes::read_prototypes;

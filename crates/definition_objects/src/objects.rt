@@ -1,4 +1,4 @@
-//! The objects of a definition.
+//! The objects of a definition, and the bindings among them.
 
 ghost use Rattle.std.specs.Prelude.{◌≡◌, ◌+◌, ◌<◌, ◌≤◌, false, [], codes, map, length, is_some, string_bytes, None, IfOk};
 ghost use Rattle.serde_json.specs.View.{view, items_view};
@@ -8,15 +8,19 @@ ghost use Rattle.definition_format.specs.Meaning.{ArePlain, HasOwnName, plain_ob
 ghost use Rattle.param_specs.specs.Table.{own_of};
 ghost use Rattle.definition_format.specs.Refusals.{Gives, Leads};
 ghost use Rattle.definition_format.specs.Document.{under, path_of, each, at_entry};
-ghost use Rattle.definition_format.specs.Denoted.Objects.{room_for_object, unless_taken, unless_abstract, class_at_key, place_at, added_at, object_at};
+ghost use Rattle.definition_format.specs.Denoted.Objects.{room_for_object, unless_taken, unless_abstract, class_at_key, built_view, no_objects, place_at, added_at, object_at};
 ghost use Rattle.definition_format.specs.Denoted.{scope_with};
-ghost use Rattle.definition_objects.specs.ScopeView.{scope_of, IsReady};
+ghost use Rattle.definition_objects.specs.ScopeView.{scope_of, built_of, IsReady};
 ghost use Rattle.definition_format.specs.Denoted.Entries.{most_levels, object_names};
 ghost use Rattle.definition_format.specs.Denoted.Properties.{specs_by};
 
 use crate::attached::read_attached;
-use crate::given::read_givens;
-use definition_format::{DefinitionFault, DefinitionLimit, ObjectBody, Path, ReadError, TypeCause};
+use crate::bind_lists::BindList;
+use crate::filled::read_properties;
+use crate::targets::Target;
+use definition_format::{
+    Bind, DefinitionFault, DefinitionLimit, ObjectBody, Path, ReadError, TypeCause,
+};
 use definition_types::document::{Entries, Part, bad_shape, path_text, path_under, unknown_name};
 use definition_types::entries::{MOST_LEVELS, ObjectNames};
 use definition_types::names::is_name;
@@ -100,6 +104,20 @@ struct NewObject {
     body: ObjectBody,
 }
 
+// The objects that were read so far, and the bindings among them.
+#[derive(Drop)]
+struct Built {
+    objects: Objects,
+    bindings: BindList,
+}
+
+/// The objects of a definition, and its bindings in document order.
+#[derive(Drop)]
+pub struct ReadObjects {
+    pub objects: Objects,
+    pub bindings: Vec<Bind>,
+}
+
 // What is known where objects are read: the types with their properties, the programs, the prototypes, how many objects may live, and the names
 // of all objects.
 #[derive(Clone, Copy)]
@@ -113,16 +131,17 @@ struct Scope<'a, 'b> {
 }
 
 impl<'a, 'b> Scope<'a, 'b> {
-    // The object of an entry, the child of the object at a place, if it is a child.
+    // The object of an entry, the child of the object at a place, if it is a child. Its bindings come behind these.
     #[tactic(auto, unfolding(definition_format::specs::Denoted::Objects::place_at))]
     fn read_object(
         &self,
         part: Part<'_>,
         parent: Option<Place>,
         objects: &Objects,
+        bindings: &mut BindList,
     ) -> Result<NewObject, ReadError>
         requires { IsReady self.now }
-        ensures object { Gives (λ o. plain_object (o.id, o.body)) result (place_at (path_of part.entry.path) (scope_of self.now) (place_number parent) (map plain_object objects.now.entries) (view part.entry.value.now)) }
+        ensures object { Gives (λ o. record { place = plain_object (o.id, o.body); bindings = bindings.new }) result (place_at (path_of part.entry.path) (scope_of self.now) (place_number parent) (record { places = map plain_object objects.now.entries; bindings = bindings.old }) (view part.entry.value.now)) }
         ensures new { IfOk result (λ o. place_named (λ p. p.id) (map plain_object objects.now.entries) (string_bytes o.id) ≡ None) }
         ensures room { IfOk result (λ o. length objects.now.entries < 512) }
     {
@@ -131,20 +150,20 @@ impl<'a, 'b> Scope<'a, 'b> {
         check_id(part, id, has_place(objects, self.prototypes, id))?;
         let class = class_of(part, self.types)?;
         part.check_absent(&["peer"])?;
-        let given = read_givens(
-            part,
-            self.types,
-            self.names,
-            objects.len(),
-            self.specs,
+        let target = Target {
+            types: self.types,
+            specs: self.specs,
+            objects: self.names,
+            place: Place(objects.len() as u16),
             class,
-        )?;
+        };
+        let filled = read_properties(part, &target, bindings)?;
         let signals = read_attached(part, self.programs, self.names)?;
         let id = String::from_str(part.alloc, id)?;
         let body = ObjectBody {
             class,
             parent,
-            given,
+            given: filled.given,
             signals,
         };
         Ok(NewObject { id, body })
@@ -155,15 +174,15 @@ impl<'a, 'b> Scope<'a, 'b> {
         &self,
         part: Part<'_>,
         parent: Option<Place>,
-        objects: &mut Objects,
+        built: &mut Built,
     ) -> Result<Place, ReadError>
         requires { IsReady self.now }
-        ensures objects { Leads result (added_at (path_of part.entry.path) (scope_of self.now) (place_number parent) (map plain_object objects.old.entries) (view part.entry.value.now)) (map plain_object objects.new.entries) }
-        ensures place { IfOk result (λ place. place.0 ≡ length (map plain_object objects.old.entries)) }
+        ensures objects { Leads result (added_at (path_of part.entry.path) (scope_of self.now) (place_number parent) (built_of built.old) (view part.entry.value.now)) (built_of built.new) }
+        ensures place { IfOk result (λ place. place.0 ≡ length (built_of built.old).places) }
     {
-        let object = self.read_object(part, parent, objects)?;
-        let place = Place(objects.len() as u16);
-        objects.insert(object.id, object.body)?;
+        let object = self.read_object(part, parent, &built.objects, &mut built.bindings)?;
+        let place = Place(built.objects.len() as u16);
+        built.objects.insert(object.id, object.body)?;
         Ok(place)
     }
 
@@ -175,10 +194,10 @@ impl<'a, 'b> Scope<'a, 'b> {
         part: Part<'_>,
         levels: usize,
         parent: Option<Place>,
-        objects: &mut Objects,
+        built: &mut Built,
     ) -> Result<(), ReadError>
         requires { IsReady self.now }
-        ensures { Leads result (object_at levels (scope_of self.now) (place_number parent) (path_of part.entry.path) (map plain_object objects.old.entries) (view part.entry.value.now)) (map plain_object objects.new.entries) }
+        ensures { Leads result (object_at levels (scope_of self.now) (place_number parent) (path_of part.entry.path) (built_of built.old) (view part.entry.value.now)) (built_of built.new) }
     {
         if levels == 0 {
             return Err(ReadError::Refused(DefinitionFault::Shape(path_text(
@@ -186,7 +205,7 @@ impl<'a, 'b> Scope<'a, 'b> {
             )?)));
         }
         let members = part.members()?;
-        let place = self.add_object(part, parent, objects)?;
+        let place = self.add_object(part, parent, built)?;
         let items = part.entries("children")?;
         let path = path_under(part.alloc, part.path, "children")?;
         let list = Entries {
@@ -194,7 +213,7 @@ impl<'a, 'b> Scope<'a, 'b> {
             path: path.as_str(),
             items,
         };
-        self.read_list(list, levels - 1, Some(place), objects)?;
+        self.read_list(list, levels - 1, Some(place), built)?;
         part.check_only(members, &MEMBERS)?;
         Ok(())
     }
@@ -206,10 +225,10 @@ impl<'a, 'b> Scope<'a, 'b> {
         list: Entries<'_>,
         levels: usize,
         parent: Option<Place>,
-        objects: &mut Objects,
+        built: &mut Built,
     ) -> Result<(), ReadError>
         requires { IsReady self.now }
-        ensures { Leads result (each (at_entry (object_at levels (scope_of self.now) (place_number parent)) list.entry.path.now) 0 (map plain_object objects.old.entries) (items_view list.entry.items.now)) (map plain_object objects.new.entries) }
+        ensures { Leads result (each (at_entry (object_at levels (scope_of self.now) (place_number parent)) list.entry.path.now) 0 (built_of built.old) (items_view list.entry.items.now)) (built_of built.new) }
     {
         'items: for (index, value) in list.items.iter().enumerate() {
             let path = Path {
@@ -221,20 +240,26 @@ impl<'a, 'b> Scope<'a, 'b> {
                 path,
                 value,
             };
-            self.read_entry(part, levels, parent, objects)?;
+            self.read_entry(part, levels, parent, built)?;
         }
         Ok(())
     }
 }
 
 // The objects of a list in a scope.
-fn read_within(list: Entries<'_>, scope: &Scope<'_, '_>) -> Result<Objects, ReadError>
+fn read_within(list: Entries<'_>, scope: &Scope<'_, '_>) -> Result<ReadObjects, ReadError>
     requires { IsReady scope.now }
-    ensures { Gives (λ v. map plain_object v.entries) result (each (at_entry (object_at most_levels (scope_of scope.now) None) list.entry.path.now) 0 [] (items_view list.entry.items.now)) }
+    ensures { Gives (λ v. built_view v.objects.entries v.bindings.items) result (each (at_entry (object_at most_levels (scope_of scope.now) None) list.entry.path.now) 0 no_objects (items_view list.entry.items.now)) }
 {
-    let mut objects = IndexMap::new(list.alloc);
-    scope.read_list(list, MOST_LEVELS, None, &mut objects)?;
-    Ok(objects)
+    let mut built = Built {
+        objects: IndexMap::new(list.alloc),
+        bindings: BindList::new(list.alloc),
+    };
+    scope.read_list(list, MOST_LEVELS, None, &mut built)?;
+    Ok(ReadObjects {
+        objects: built.objects,
+        bindings: built.bindings.into_binds(),
+    })
 }
 
 // The same, beside these prototypes, where so many may live and the names of all objects are known.
@@ -246,13 +271,13 @@ fn read_named<'a, 'b>(
     prototypes: &'a Prototypes,
     most: usize,
     names: &'b ObjectNames<'a>,
-) -> Result<Objects, ReadError>
+) -> Result<ReadObjects, ReadError>
     requires plain { ArePlain types.now specs.now }
     requires named { AllByRecursion HasOwnName programs.now.entries }
     requires few { length programs.now.entries ≤ 256 }
     requires few_prototypes { length prototypes.now.entries ≤ 512 }
     requires names { names.now ≡ object_names (items_view list.items.now) }
-    ensures { Gives (λ v. map plain_object v.entries) result (each (at_entry (object_at most_levels (scope_with types.now (specs_by types.now (own_of specs.now)) (map plain_program programs.now.entries) (map plain_prototype prototypes.now.entries) most (items_view list.entry.items.now)) None) list.entry.path.now) 0 [] (items_view list.entry.items.now)) }
+    ensures { Gives (λ v. built_view v.objects.entries v.bindings.items) result (each (at_entry (object_at most_levels (scope_with types.now (specs_by types.now (own_of specs.now)) (map plain_program programs.now.entries) (map plain_prototype prototypes.now.entries) most (items_view list.entry.items.now)) None) list.entry.path.now) 0 no_objects (items_view list.entry.items.now)) }
 {
     let scope = Scope {
         types,
@@ -265,7 +290,7 @@ fn read_named<'a, 'b>(
     read_within(list, &scope)
 }
 
-/// The objects of a list beside these prototypes, where so many may live.
+/// The objects of a list beside these prototypes, where so many may live, and the bindings among them.
 pub fn read_objects<'a>(
     list: Entries<'a>,
     types: &'a TypeTree,
@@ -273,12 +298,12 @@ pub fn read_objects<'a>(
     programs: &'a Programs,
     prototypes: &'a Prototypes,
     most: usize,
-) -> Result<Objects, ReadError>
+) -> Result<ReadObjects, ReadError>
     requires plain { ArePlain types.now specs.now }
     requires named { AllByRecursion HasOwnName programs.now.entries }
     requires few { length programs.now.entries ≤ 256 }
     requires few_prototypes { length prototypes.now.entries ≤ 512 }
-    ensures { Gives (λ v. map plain_object v.entries) result (each (at_entry (object_at most_levels (scope_with types.now (specs_by types.now (own_of specs.now)) (map plain_program programs.now.entries) (map plain_prototype prototypes.now.entries) most (items_view list.entry.items.now)) None) list.entry.path.now) 0 [] (items_view list.entry.items.now)) }
+    ensures { Gives (λ v. built_view v.objects.entries v.bindings.items) result (each (at_entry (object_at most_levels (scope_with types.now (specs_by types.now (own_of specs.now)) (map plain_program programs.now.entries) (map plain_prototype prototypes.now.entries) most (items_view list.entry.items.now)) None) list.entry.path.now) 0 no_objects (items_view list.entry.items.now)) }
 {
     let names = ObjectNames::new(list.alloc, list.items)?;
     read_named(list, types, specs, programs, prototypes, most, &names)

@@ -68,7 +68,7 @@ fn read_given(
 {
     let members = part.members()?;
     let name = part.text("name")?;
-    let property = property_named(part, types, specs, class, name)?;
+    let property = property_named(part, "name", types, specs, class, name)?;
     check_once(part, given.as_slice(), property.slot)?;
     check_writable(part, property.spec)?;
     let value = value_in(part, types, property.spec.kind)?;

@@ -10,9 +10,11 @@ use Rattle.bytecode.specs.declared.instructions.ObjectInstruction.{ObjectInstruc
 use Rattle.bytecode.specs.declared.instructions.ObjectInstruction.TheVariants as objects
 use Rattle.bytecode.specs.declared.instructions.SignalInstruction.{SignalInstruction}
 use Rattle.bytecode.specs.declared.instructions.SignalInstruction.TheVariants as signals
+use Rattle.bytecode.specs.declared.instructions.SourceInstruction.{SourceInstruction}
+use Rattle.bytecode.specs.declared.instructions.SourceInstruction.TheVariants as sources
 use Rattle.bytecode.specs.Computing.{instruction_of}
 use Rattle.bytecode.specs.Later.{is_later}
-use Rattle.bytecode.specs.View.{control_view, property_instruction_view, object_instruction_view, signal_instruction_view}
+use Rattle.bytecode.specs.View.{control_view, property_instruction_view, object_instruction_view, signal_instruction_view, source_instruction_view}
 
 pub compute_now : (c : Computation) (to : ℕ) → is_later (instruction_of c to) ≡ false
 compute_now (computations.Const v) to = refl
@@ -55,3 +57,9 @@ signal_now (signals.Disconnect object program) = refl
 signal_now (signals.Block object program) = refl
 signal_now (signals.Unblock object program) = refl
 signal_now signals.Stop = refl
+
+pub source_now : (i : SourceInstruction) → is_later (source_instruction_view i) ≡ false
+source_now (sources.Unbind name) = refl
+source_now (sources.Idle to program priority with) = refl
+source_now (sources.Timeout to program priority interval with) = refl
+source_now (sources.Remove program) = refl

@@ -19,11 +19,10 @@ use Rattle.ui_machine.specs.Output.Text.{members_of}
 use Rattle.ui_machine.specs.Rules.Transform.{kind_fits}
 use Rattle.definition_format.specs.Causes.{not_writable}
 use Rattle.definition_format.specs.Refusals.{Refusal, shape, unknown, duplicate, bad_spec, value_fault, forward_construct_only, or_refused, or_value_fault}
-use Rattle.definition_format.specs.Document.{at_entry, under, nth, members_at, text_at, entries_at, absent_at, only_at}
 use Rattle.definition_format.specs.Denoted.Entries.{ObjectNames, name_under, number_from, at_most, is_called}
 use Rattle.definition_format.specs.Denoted.Names.{is_name}
-use Rattle.definition_format.specs.Denoted.Given.{property_named, is_given, named_once, takes_value, reference, class_ahead, may_be, place_called, referred, itself, given_by, value_or_bind, value_at, spec_ahead, place_ahead, is_from, is_too_late, in_time, keys_of_given, given_at, givens_at}
-use Rattle.definition_format.proofs.Soundness.{OnRead, on_bind, on_all, on_each}
+use Rattle.definition_format.specs.Denoted.Given.{property_named, is_given, named_once, takes_value, reference, class_ahead, may_be, place_called, referred, itself, given_by, spec_ahead, place_ahead, is_from, is_too_late, in_time}
+use Rattle.definition_format.proofs.Soundness.{OnRead, on_bind}
 use Rattle.law_typing.specs.Verdict.Accepted.{Each}
 use Rattle.law_typing.specs.Laws.WellRead.{no_two, no_class_of}
 use Rattle.law_typing.proofs.Lists.{each_append}
@@ -90,7 +89,7 @@ first_time path given slot = by (is_given given slot) refl
 module _ (types : List GType) (few : (t : ℕ) → HaveFewBits (members_of types t)) (objects : ObjectNames) (place : ℕ) (small : place < 512)
     (specs : List Spec) where
   -- where a value is given, the property takes it
-  takes : (path : List ℕ) (given : Option Data) (spec : Spec)
+  pub takes : (path : List ℕ) (given : Option Data) (spec : Spec)
       → OnRead (λ u. (d : Data) → given ≡ Some d → is_writable spec ≡ true) (takes_value path given spec)
   takes path None spec = λ d e. absurd (cc)
   takes path (Some given) spec = by (is_writable spec) refl
@@ -139,12 +138,10 @@ module _ (types : List GType) (few : (t : ℕ) → HaveFewBits (members_of types
 
   -- ** given values
 
-  -- a value was given, and is of the kind; where an object is given too late the property is not one that constructions alone set
-  record IsGiven (kind : Kind) (given : Option Data) (g : Given) : Type 0 where
-    from : Data
-    there : given ≡ Some from
-    fits : IsOfKind types objects kind g
-    late : is_forward place g ≡ true → is_from place (place_ahead objects (reference kind (as_str from))) ≡ true
+  -- a value is of the kind; where an object is given too late the property is not one that constructions alone set
+  pub record IsGiven (kind : Kind) (from : Data) (g : Given) : Type 0 where
+    pub fits : IsOfKind types objects kind g
+    pub late : is_forward place g ≡ true → is_from place (place_ahead objects (reference kind (as_str from))) ≡ true
 
   refers : (kind : Kind) (t : ℕ) (id : List ℕ) (g : Given) → kind ≡ kinds.object t → IsReferred t id g → IsOfKind types objects kind g
   refers kind t id g is r =
@@ -182,35 +179,26 @@ module _ (types : List GType) (few : (t : ℕ) → HaveFewBits (members_of types
   reference_is (kinds.enum u) said t id e = absurd (cc)
   reference_is (kinds.flags u) said t id e = absurd (cc)
 
-  of_kind : (path : List ℕ) (kind : Kind) (given bind : Option Data)
-      → OnRead (IsGiven kind given) (value_or_bind path types objects kind given bind)
-  of_kind path kind (Some d) bind = by (reference kind (as_str d)) refl
+  pub of_kind : (path : List ℕ) (kind : Kind) (d : Data) → OnRead (IsGiven kind d) (given_by path types objects kind d (reference kind (as_str d)))
+  of_kind path kind d = by (reference kind (as_str d)) refl
     where
       plain : (r : Result Value JsonFault) → IfOk r (λ v. kind_fits no_class_of types v kind ≡ true)
-          → OnRead (IsGiven kind (Some d)) (itself (or_value_fault (under path (codes "value")) r))
-      plain (Ok v) h = record { from = d; there = refl; fits = h; late = λ e. absurd (cc) }
+          → OnRead (IsGiven kind d) (itself (or_value_fault path r))
+      plain (Ok v) h = record { fits = h; late = λ e. absurd (cc) }
       plain (Err cause) h = tt
 
       object : (t : ℕ) (id : List ℕ) → reference kind (as_str d) ≡ Some (t, id) → (r : Result Given Refusal) → OnRead (IsReferred t id) r
-          → OnRead (IsGiven kind (Some d)) r
-      object t id e (Ok g) h = record {
-        from = d;
-        there = refl;
-        fits = refers kind t id g (reference_is kind (as_str d) t id e) h;
-        late = is_late kind t id d g e h;
-      }
+          → OnRead (IsGiven kind d) r
+      object t id e (Ok g) h = record { fits = refers kind t id g (reference_is kind (as_str d) t id e) h; late = is_late kind t id d g e h }
       object t id e (Err refusal) h = tt
 
-      by : (o : Option (ℕ × List ℕ)) → reference kind (as_str d) ≡ o
-          → OnRead (IsGiven kind (Some d)) (given_by (under path (codes "value")) types objects kind d o)
+      by : (o : Option (ℕ × List ℕ)) → reference kind (as_str d) ≡ o → OnRead (IsGiven kind d) (given_by path types objects kind d o)
       by None e = plain (json_value types kind d) (value_fits no_class_of types few kind d)
-      by (Some r) e = object r.0 r.1 e (referred (under path (codes "value")) types objects r) (is_referred (under path (codes "value")) r.0 r.1)
-  of_kind path kind None None = tt
-  of_kind path kind None (Some bind) = tt
+      by (Some r) e = object r.0 r.1 e (referred path types objects r) (is_referred path r.0 r.1)
 
   -- ** objects that come too late
 
-  early : (path : List ℕ) (d : Data) (ahead : Option Spec)
+  pub early : (path : List ℕ) (d : Data) (ahead : Option Spec)
       → OnRead (λ u. (spec : Spec) → ahead ≡ Some spec → is_too_late place objects d spec ≡ false) (in_time path place objects d ahead)
   early path d None = λ spec e. absurd (cc)
   early path d (Some s) = by (is_too_late place objects d s) refl
@@ -222,13 +210,13 @@ module _ (types : List GType) (few : (t : ℕ) → HaveFewBits (members_of types
       by false e = λ spec h. let same : s ≡ spec = cc in subst (λ x. is_too_late place objects d x ≡ false) same e
 
   -- the property of an entry, read ahead
-  ahead_is : (d : Data) (name : List ℕ) (slot : ℕ) (spec : Spec) → name_under (codes "name") d ≡ Some name → IsNamed specs name slot spec
+  pub ahead_is : (d : Data) (name : List ℕ) (slot : ℕ) (spec : Spec) → name_under (codes "name") d ≡ Some name → IsNamed specs name slot spec
       → spec_ahead specs d ≡ Some spec
   ahead_is d name slot spec e so =
       ap (option_and_then (λ n. option_and_then (slice_get specs) (slot_named specs n))) e
       ∙ ap (option_and_then (slice_get specs)) so.found ∙ so.is
 
-  not_late : (d from : Data) (spec : Spec) → get (codes "value") d ≡ Some from → is_too_late place objects d spec ≡ false
+  pub not_late : (d from : Data) (spec : Spec) → get (codes "value") d ≡ Some from → is_too_late place objects d spec ≡ false
       → is_from place (place_ahead objects (reference spec.kind (as_str from))) ≡ true → is_construct_only spec ≡ false
   not_late d from spec there e late =
       by (is_construct_only spec) refl
@@ -240,52 +228,10 @@ module _ (types : List GType) (few : (t : ℕ) → HaveFewBits (members_of types
       by false f h = f
       by true f h = absurd (let bad : (true && true) ≡ false = sym (ap (λ x. x && true) f) ∙ sym (ap (λ y. is_construct_only spec && y) late) ∙ h in cc)
 
-  one_more : (given : List GivenProperty) (g : GivenProperty) → AreGiven types objects place specs given → is_given given g.slot ≡ false
+  pub one_more : (given : List GivenProperty) (g : GivenProperty) → AreGiven types objects place specs given → is_given given g.slot ≡ false
       → IsFit types objects place specs g
       → AreGiven types objects place specs (given ++ g ∷ [])
   one_more given g old new fit = record {
     fit = each_append (IsFit types objects place specs) given (g ∷ []) old.fit (fit, tt);
     apart = apart_push (λ (x : GivenProperty). x.slot) nat_eq given g old.apart new;
   }
-
-  abbrev Fits : List GivenProperty → Type 0
-  Fits given = AreGiven types objects place specs given
-
-  one_given : (path : List ℕ) (given : List GivenProperty) (d : Data) → Fits given
-      → OnRead Fits (given_at path types objects place specs given d)
-  unfolding given_at
-  one_given path given d old =
-      on_bind (λ x. Unit {0}) Fits (members_at path d) _ (on_all _) λ ms u.
-      on_bind (λ x. (spec : Spec) → spec_ahead specs d ≡ Some spec → is_too_late place objects d spec ≡ false) Fits
-      (in_time path place objects d (spec_ahead specs d)) _ (early path d (spec_ahead specs d)) λ x soon.
-      on_read Fits (text_at path d (codes "name")) _ λ name said.
-      on_bind (λ p. IsNamed specs name p.slot p.spec) Fits (property_named (under path (codes "name")) specs name) _
-      (property_is specs (under path (codes "name")) name) λ property is.
-      on_bind (λ x. is_given given property.slot ≡ false) Fits
-      (named_once (under path (codes "name")) given property.slot) _
-      (first_time (under path (codes "name")) given property.slot) λ once new.
-      on_bind (λ x. (v : Data) → get (codes "value") d ≡ Some v → is_writable property.spec ≡ true) Fits
-      (takes_value (under path (codes "name")) (get (codes "value") d) property.spec) _
-      (takes (under path (codes "name")) (get (codes "value") d) property.spec) λ may writable.
-      on_bind (IsGiven property.spec.kind (get (codes "value") d)) Fits (value_at path types objects property.spec.kind d) _
-      (of_kind path property.spec.kind (get (codes "value") d) (get (codes "bind") d)) λ g fits.
-      on_bind (λ x. Unit {0}) Fits (absent_at path d (codes "bind" ∷ [])) _ (on_all _) λ single u.
-      on_bind (λ x. Unit {0}) Fits (only_at path ms keys_of_given) _ (on_all _) λ only u.
-      let called : name_under (codes "name") d ≡ Some name = taken (shape (under path (codes "name"))) (name_under (codes "name") d) name said in
-      let in_time : is_too_late place objects d property.spec ≡ false =
-      soon property.spec (ahead_is d name property.slot property.spec called is) in
-      one_more given (record { slot = property.slot; given = g }) old new
-      (record {
-        spec = property.spec;
-        is = is.is;
-        writable = writable fits.from fits.there;
-        fits = fits.fits;
-        forward = λ h. not_late d fits.from property.spec fits.there in_time (fits.late h);
-      })
-
-  pub all_given : (path : List ℕ) (d : Data) → OnRead (AreGiven types objects place specs) (givens_at path types objects place specs d)
-  unfolding givens_at
-  all_given path d =
-      on_bind (λ x. Unit {0}) Fits (entries_at path d (codes "properties")) _ (on_all _) λ list u.
-      on_each Fits (at_entry (λ entry. given_at entry types objects place specs) (under path (codes "properties")))
-      (λ i given d old. one_given (nth (under path (codes "properties")) i) given d old) 0 [] list (record { fit = tt; apart = refl })

@@ -27,6 +27,8 @@ pub mod TreeProofs
 pub mod SpecProofs
 pub mod GivenProofs
 pub mod AttachedProofs
+pub mod BindProofs
+pub mod FilledProofs
 pub mod ObjectProofs
 pub mod PrototypeProofs
 pub mod PlaceProofs

@@ -1,4 +1,4 @@
--- The objects of a definition that was read: of concrete classes, each behind its parent, without peers.
+-- The objects of a definition that was read: of concrete classes, each behind its parent, without peers, and bindings between them.
 use Rattle.std.proofs.Common.{◌≡◌, ℕ, zero, suc, ◌+◌, ◌<◌, ◌⊎◌, inl, inr, Bool, true, false, nat_le, List, [], ◌∷◌, ◌++◌, length, slice_get, Option, None, Some, option_and_then, Ok, Err, codes, map, refl, sym, ap, subst, ◌∙◌, arith, length-append}
 use Rattle.std.proofs.lemmas.List.{append_assoc, append-nil, length-map}
 use Rattle.std.proofs.lemmas.Bool.Decides.{nat_tests}
@@ -17,14 +17,17 @@ use Rattle.definition_format.specs.declared.faults.DefinitionLimit.TheVariants.{
 use Rattle.definition_format.specs.Refusals.{shape, unknown, bad_type, limit, or_refused}
 use Rattle.definition_format.specs.Document.{each, at_entry, under, nth, members_at, text_at, entries_at, absent_at, only_at}
 use Rattle.definition_format.specs.Denoted.Attached.{all_attached}
-use Rattle.definition_format.specs.Denoted.Objects.{Scope, room_for_object, new_id, unless_abstract, class_at_key, keys_of_object, place_at, added_at, object_at}
+use Rattle.definition_format.specs.Denoted.Filled.{all_filled}
+use Rattle.definition_format.specs.Denoted.Objects.{Built, Placed, Scope, no_objects, target_in, with_place, room_for_object, new_id, unless_abstract, class_at_key, keys_of_object, place_at, added_at, object_at}
 use Rattle.definition_format.specs.Denoted.Entries.{ObjectNames, names_of, name_under, section, with_all, in_order, most_levels}
-use Rattle.definition_format.specs.Denoted.Given.{class_ahead, givens_at}
+use Rattle.definition_format.specs.Denoted.Given.{class_ahead}
 use Rattle.definition_format.specs.Denoted.{objects_in}
 use Rattle.definition_format.proofs.Soundness.{OnRead, on_bind, on_all}
 use Rattle.law_typing.specs.Verdict.Accepted.{Each}
 use Rattle.law_reading.proofs.AttachedProofs.{HasData, attached_read}
-use Rattle.law_reading.proofs.GivenProofs.{AreGiven, all_given}
+use Rattle.law_reading.proofs.BindProofs.{IsBetween}
+use Rattle.law_reading.proofs.FilledProofs.{IsFilled, filled_read}
+use Rattle.law_reading.proofs.GivenProofs.{AreGiven}
 use Rattle.law_reading.proofs.ListProofs.{get_push, read_behind}
 use Rattle.law_reading.proofs.Parts.{on_read, more_on, section_is, taken}
 use Rattle.law_reading.proofs.TreeProofs.{IsClass, class_is}
@@ -51,11 +54,12 @@ pub record IsObjectRead (types : List GType) (specs : ℕ → List Spec) (names 
 abbrev pub AreRead : List GType → (ℕ → List Spec) → ObjectNames → List Place → Type 0
 AreRead types specs names places = (i : ℕ) (p : Place) → slice_get places i ≡ Some p → IsObjectRead types specs names i p
 
--- all objects of a document, by names of as many
-pub record AreObjects (types : List GType) (specs : ℕ → List Spec) (places : List Place) : Type 0 where
+-- all objects of a document, by names of as many, and bindings between them
+pub record AreObjects (types : List GType) (specs : ℕ → List Spec) (built : Built) : Type 0 where
   pub names : ObjectNames
-  pub many : length names.ids ≡ length places
-  pub all : AreRead types specs names places
+  pub many : length names.ids ≡ length built.places
+  pub all : AreRead types specs names built.places
+  pub bound : Each (IsBetween names) built.bindings
 
 -- the class that an entry names
 pub record IsClassOf (types : List GType) (d : Data) (class : ℕ) : Type 0 where
@@ -108,150 +112,176 @@ module _ (types : List GType) (few : (t : ℕ) → HaveFewBits (members_of types
 
   -- ** one object
 
-  abbrev One : List Place → Place → Type 0
-  One places p = IsObjectRead types specs names (length places) p
+  abbrev IsOne : List Place → Place → Type 0
+  IsOne places p = IsObjectRead types specs names (length places) p
 
-  one_object : (path : List ℕ) (parent : Option ℕ) (places : List Place) (d : Data) → IsAbove parent places
-      → option_and_then (class_named types) (name_under (codes "class") d) ≡ class_ahead types names (length places)
-      → OnRead (One places) (place_at path scope parent places d)
+  -- with the bindings up to it
+  record One (places : List Place) (placed : Placed) : Type 0 where
+    object : IsOne places placed.place
+    bound : Each (IsBetween names) placed.bindings
+
+  one_object : (path : List ℕ) (parent : Option ℕ) (built : Built) (d : Data) → IsAbove parent built.places → length built.places < length names.ids
+      → Each (IsBetween names) built.bindings
+      → option_and_then (class_named types) (name_under (codes "class") d) ≡ class_ahead types names (length built.places)
+      → OnRead (One built.places) (place_at path scope parent built d)
   unfolding place_at
-  one_object path parent places d higher ahead =
-      on_bind (λ x. length places < 512) (One places) (room_for_object most prototypes places) _ (place_left most prototypes places) λ u room.
-      on_bind (λ x. Unit {0}) (One places) (text_at path d (codes "id")) _ (on_all _) λ id u.
-      on_bind (λ x. Unit {0}) (One places) (new_id (under path (codes "id")) (places ++ prototypes) id) _ (on_all _) λ new u.
-      on_bind (IsClassOf types d) (One places) (class_at_key path types d) _ (class_read path types d) λ class is.
-      on_bind (λ x. Unit {0}) (One places) (absent_at path d (codes "peer" ∷ [])) _ (on_all _) λ peer u.
-      on_bind (AreGiven types names (length places) (specs class)) (One places) (givens_at path types names (length places) (specs class) d) _
-      (all_given types few names (length places) room (specs class) path d) λ given fit.
-      on_bind (Each (HasData names)) (One places) (all_attached path programs names d) _ (attached_read programs names path d) λ signals have.
+  one_object path parent built d higher there bound ahead =
+      on_bind (λ x. length built.places < 512) (One built.places) (room_for_object most prototypes built.places) _ (place_left most prototypes built.places) λ u room.
+      on_bind (λ x. Unit {0}) (One built.places) (text_at path d (codes "id")) _ (on_all _) λ id u.
+      on_bind (λ x. Unit {0}) (One built.places) (new_id (under path (codes "id")) (built.places ++ prototypes) id) _ (on_all _) λ new u.
+      on_bind (IsClassOf types d) (One built.places) (class_at_key path types d) _ (class_read path types d) λ class is.
+      on_bind (λ x. Unit {0}) (One built.places) (absent_at path d (codes "peer" ∷ [])) _ (on_all _) λ peer u.
+      on_bind (IsFilled (target_in scope (length built.places) class) few room there) (One built.places)
+      (all_filled path (target_in scope (length built.places) class) built.bindings d) _
+      (filled_read (target_in scope (length built.places) class) few room there path built.bindings d bound) λ filled fit.
+      on_bind (Each (HasData names)) (One built.places) (all_attached path programs names d) _ (attached_read programs names path d) λ signals have.
       record {
-        class = is.concrete;
-        given = fit;
-        named = sym ahead ∙ is.named;
-        object = refl;
-        parent = higher;
-        peers = refl;
-        signals = have;
+        object = record {
+          class = is.concrete;
+          given = fit.given;
+          named = sym ahead ∙ is.named;
+          object = refl;
+          parent = higher;
+          peers = refl;
+          signals = have;
+        };
+        bound = fit.bound;
       }
 
   -- ** all objects, in document order
 
   -- what is so while these entries are left, of which the next are children of the parent
-  record Reading (parent : Option ℕ) (left : List Data) (places : List Place) : Type 0 where
+  record Reading (parent : Option ℕ) (left : List Data) (built : Built) : Type 0 where
     done : List Data
     is : order ≡ done ++ left
-    count : length done ≡ length places
-    above : IsAbove parent places
-    so : AreRead types specs names places
+    count : length done ≡ length built.places
+    above : IsAbove parent built.places
+    so : AreRead types specs names built.places
+    bound : Each (IsBetween names) built.bindings
 
-  next_class : (parent : Option ℕ) (d : Data) (left : List Data) (places : List Place) → Reading parent (d ∷ left) places
-      → option_and_then (class_named types) (name_under (codes "class") d) ≡ class_ahead types names (length places)
-  next_class parent d left places r =
+  next_class : (parent : Option ℕ) (d : Data) (left : List Data) (built : Built) → Reading parent (d ∷ left) built
+      → option_and_then (class_named types) (name_under (codes "class") d) ≡ class_ahead types names (length built.places)
+  next_class parent d left built r =
       ap (option_and_then (class_named types)) (
       sym (read_behind None (name_under (codes "class")) r.done d left)
       ∙ ap (λ ds. read None (map (name_under (codes "class")) ds) (length r.done)) (sym r.is)
       ∙ ap (read None names.classes) r.count)
 
+  -- there is an entry for the next
+  next_there : (parent : Option ℕ) (d : Data) (left : List Data) (built : Built) → Reading parent (d ∷ left) built → length built.places < length names.ids
+  next_there parent d left built r =
+      let named = length-map order (name_under (codes "id")) in
+      let all = ap length r.is in
+      let parts = length-append r.done (d ∷ left) in
+      let n = r.count in
+      omega (arith, named, all, parts, n)
+
   -- behind an object its children come
-  grown : (parent : Option ℕ) (d : Data) (left : List Data) (places : List Place) (place : Place) → Reading parent (d ∷ left) places
-      → One places place → Reading (Some (length places)) left (places ++ place ∷ [])
-  grown parent d left places place r one = record {
+  grown : (parent : Option ℕ) (d : Data) (left : List Data) (built : Built) (placed : Placed) → Reading parent (d ∷ left) built
+      → One built.places placed → Reading (Some (length built.places)) left (with_place built placed.place placed.bindings)
+  grown parent d left built placed r one = record {
     done = r.done ++ d ∷ [];
     is = r.is ∙ sym (append_assoc r.done (d ∷ []) left);
     count = let n = r.count in let more = length-append r.done (d ∷ []) in omega (arith, n, more, longer);
-    above = λ above e. let same : length places ≡ above = cc in omega (arith, same, longer);
-    so = λ k p e. by k p (get_push places place k p e);
+    above = λ above e. let same : length built.places ≡ above = cc in omega (arith, same, longer);
+    so = λ k p e. by k p (get_push built.places placed.place k p e);
+    bound = one.bound;
   }
     where
-      longer : length (places ++ place ∷ []) ≡ length places + 1
-      longer = length-append places (place ∷ [])
+      longer : length (built.places ++ placed.place ∷ []) ≡ length built.places + 1
+      longer = length-append built.places (placed.place ∷ [])
 
-      by : (k : ℕ) (p : Place) → (slice_get places k ≡ Some p) ⊎ ((k ≡ length places) × (p ≡ place)) → IsObjectRead types specs names k p
+      by : (k : ℕ) (p : Place) → (slice_get built.places k ≡ Some p) ⊎ ((k ≡ length built.places) × (p ≡ placed.place)) → IsObjectRead types specs names k p
       by k p (inl e) = r.so k p e
-      by k p (inr e) = subst (λ n. IsObjectRead types specs names n p) (sym e.0) (subst (One places) (sym e.1) one)
+      by k p (inr e) = subst (λ n. IsObjectRead types specs names n p) (sym e.0) (subst (IsOne built.places) (sym e.1) one.object)
 
   -- behind its children its parent's next child comes
-  after_children : (parent : Option ℕ) (before left : List Data) (places all : List Place) → Reading parent before places
-      → Reading (Some (length places)) left all → Reading parent left all
-  after_children parent before left places all r q = record {
+  after_children : (parent : Option ℕ) (before left : List Data) (built all : Built) → Reading parent before built
+      → Reading (Some (length built.places)) left all → Reading parent left all
+  after_children parent before left built all r q = record {
     done = q.done;
     is = q.is;
     count = q.count;
-    above = λ above e. let first = r.above above e in let here = q.above (length places) refl in omega (arith, first, here);
+    above = λ above e. let first = r.above above e in let here = q.above (length built.places) refl in omega (arith, first, here);
     so = q.so;
+    bound = q.bound;
   }
 
-  added_read : (path : List ℕ) (parent : Option ℕ) (places : List Place) (d : Data) (left : List Data) → Reading parent (d ∷ left) places
-      → OnRead (Reading (Some (length places)) left) (added_at path scope parent places d)
+  added_read : (path : List ℕ) (parent : Option ℕ) (built : Built) (d : Data) (left : List Data) → Reading parent (d ∷ left) built
+      → OnRead (Reading (Some (length built.places)) left) (added_at path scope parent built d)
   unfolding added_at
-  added_read path parent places d left r =
-      on_bind (One places) (Reading (Some (length places)) left) (place_at path scope parent places d) (λ place. Ok (places ++ place ∷ []))
-      (one_object path parent places d r.above (next_class parent d left places r)) λ place one. grown parent d left places place r one
+  added_read path parent built d left r =
+      on_bind (One built.places) (Reading (Some (length built.places)) left) (place_at path scope parent built d)
+      (λ placed. Ok (with_place built placed.place placed.bindings))
+      (one_object path parent built d r.above (next_there parent d left built r) r.bound (next_class parent d left built r))
+      λ placed one. grown parent d left built placed r one
 
   -- what a list gives that nests so many levels deep: its objects are read, and these entries are left
   abbrev ListRead : ℕ → Type 0
   ListRead levels =
-      (parent : Option ℕ) (path : List ℕ) (i : ℕ) (list : Items) (places : List Place) (left : List Data)
-      → Reading parent (in_order levels list ++ left) places
-      → OnRead (Reading parent left) (each (at_entry (object_at levels scope parent) path) i places list)
+      (parent : Option ℕ) (path : List ℕ) (i : ℕ) (list : Items) (built : Built) (left : List Data)
+      → Reading parent (in_order levels list ++ left) built
+      → OnRead (Reading parent left) (each (at_entry (object_at levels scope parent) path) i built list)
 
   module _ (levels : ℕ) (children : ListRead levels) where
     abbrev below : Data → List Data
     below d = in_order levels (section (codes "children") d)
 
-    object_read : (parent : Option ℕ) (path : List ℕ) (places : List Place) (d : Data) (left : List Data)
-        → Reading parent (d ∷ (below d ++ left)) places → OnRead (Reading parent left) (object_at (suc levels) scope parent path places d)
+    object_read : (parent : Option ℕ) (path : List ℕ) (built : Built) (d : Data) (left : List Data)
+        → Reading parent (d ∷ (below d ++ left)) built → OnRead (Reading parent left) (object_at (suc levels) scope parent path built d)
     unfolding object_at
-    object_read parent path places d left r =
+    object_read parent path built d left r =
         on_bind (λ x. Unit {0}) (Reading parent left) (members_at path d) _ (on_all _) λ ms u.
-        on_bind (Reading (Some (length places)) (below d ++ left)) (Reading parent left) (added_at path scope parent places d) _
-        (added_read path parent places d (below d ++ left) r) λ more q.
+        on_bind (Reading (Some (length built.places)) (below d ++ left)) (Reading parent left) (added_at path scope parent built d) _
+        (added_read path parent built d (below d ++ left) r) λ more q.
         on_read (Reading parent left) (entries_at path d (codes "children")) _ λ list e.
-        on_bind (Reading (Some (length places)) left) (Reading parent left)
-        (each (at_entry (object_at levels scope (Some (length places))) (under path (codes "children"))) 0 more list) _
-        (children (Some (length places)) (under path (codes "children")) 0 list more left
-        (subst (λ ds. Reading (Some (length places)) (in_order levels ds ++ left) more) (section_is path (codes "children") d list e) q))
+        on_bind (Reading (Some (length built.places)) left) (Reading parent left)
+        (each (at_entry (object_at levels scope (Some (length built.places))) (under path (codes "children"))) 0 more list) _
+        (children (Some (length built.places)) (under path (codes "children")) 0 list more left
+        (subst (λ ds. Reading (Some (length built.places)) (in_order levels ds ++ left) more) (section_is path (codes "children") d list e) q))
         λ all s.
         on_bind (λ x. Unit {0}) (Reading parent left) (only_at path ms keys_of_object) _ (on_all _) λ only u.
-        after_children parent (d ∷ (below d ++ left)) left places all r s
+        after_children parent (d ∷ (below d ++ left)) left built all r s
 
-    entries_read : (parent : Option ℕ) (path : List ℕ) (i : ℕ) (list : Items) (places : List Place) (left : List Data)
-        → Reading parent (with_all below list ++ left) places
-        → OnRead (Reading parent left) (each (at_entry (object_at (suc levels) scope parent) path) i places list)
+    entries_read : (parent : Option ℕ) (path : List ℕ) (i : ℕ) (list : Items) (built : Built) (left : List Data)
+        → Reading parent (with_all below list ++ left) built
+        → OnRead (Reading parent left) (each (at_entry (object_at (suc levels) scope parent) path) i built list)
     unfolding each
-    entries_read parent path i no_items places left r = r
-    entries_read parent path i (item d ds) places left r =
-        on_bind (Reading parent (with_all below ds ++ left)) (Reading parent left) (object_at (suc levels) scope parent (nth path i) places d) _
-        (object_read parent (nth path i) places d (with_all below ds ++ left)
-        (subst (λ es. Reading parent (d ∷ es) places) (append_assoc (below d) (with_all below ds) left) r))
+    entries_read parent path i no_items built left r = r
+    entries_read parent path i (item d ds) built left r =
+        on_bind (Reading parent (with_all below ds ++ left)) (Reading parent left) (object_at (suc levels) scope parent (nth path i) built d) _
+        (object_read parent (nth path i) built d (with_all below ds ++ left)
+        (subst (λ es. Reading parent (d ∷ es) built) (append_assoc (below d) (with_all below ds) left) r))
         λ more q. entries_read parent path (i + 1) ds more left q
 
   list_read : (levels : ℕ) → ListRead levels
   unfolding each object_at
-  list_read zero parent path i no_items places left r = r
-  list_read zero parent path i (item d ds) places left r = tt
-  list_read (suc levels) parent path i list places left r = entries_read levels (list_read levels) parent path i list places left r
+  list_read zero parent path i no_items built left r = r
+  list_read zero parent path i (item d ds) built left r = tt
+  list_read (suc levels) parent path i list built left r = entries_read levels (list_read levels) parent path i list built left r
 
-  all_done : (places : List Place) → Reading None [] places → AreObjects types specs places
-  all_done places r = record {
+  all_done : (built : Built) → Reading None [] built → AreObjects types specs built
+  all_done built r = record {
     names = names;
     many = length-map order (name_under (codes "id")) ∙ ap length (r.is ∙ append-nil r.done) ∙ r.count;
     all = r.so;
+    bound = r.bound;
   }
 
   read_all : (levels : ℕ) (list : Items) → in_order levels list ≡ order
-      → OnRead (AreObjects types specs) (each (at_entry (object_at levels scope None) (under [] (codes "objects"))) 0 [] list)
+      → OnRead (AreObjects types specs) (each (at_entry (object_at levels scope None) (under [] (codes "objects"))) 0 no_objects list)
   read_all levels list e =
-      more_on (Reading None []) (AreObjects types specs) (each (at_entry (object_at levels scope None) (under [] (codes "objects"))) 0 [] list)
-      all_done (list_read levels None (under [] (codes "objects")) 0 list [] [] first)
+      more_on (Reading None []) (AreObjects types specs) (each (at_entry (object_at levels scope None) (under [] (codes "objects"))) 0 no_objects list)
+      all_done (list_read levels None (under [] (codes "objects")) 0 list no_objects [] first)
     where
-      first : Reading None (in_order levels list ++ []) []
+      first : Reading None (in_order levels list ++ []) no_objects
       first = record {
         done = [];
         is = sym (append-nil (in_order levels list) ∙ e);
         count = refl;
         above = λ above h. absurd (cc);
         so = λ i p h. absurd (cc);
+        bound = tt;
       }
 
 module _ (types : List GType) (few : (t : ℕ) → HaveFewBits (members_of types t)) (specs : ℕ → List Spec) (programs : List Program) (prototypes : List Place)

@@ -12,6 +12,7 @@ use Rattle.definition_format.specs.Document.{document, under, members_at, entrie
 use Rattle.definition_format.specs.Denoted.Entries.{listed, section}
 use Rattle.definition_format.specs.Denoted.Properties.{specs_by}
 use Rattle.definition_format.specs.Denoted.Drafts.{ClassDraft}
+use Rattle.definition_format.specs.Denoted.Objects.{Built}
 use Rattle.definition_format.specs.Denoted.SessionLimits.{limits_in}
 use Rattle.definition_format.specs.Denoted.Programs.{programs_in}
 use Rattle.definition_format.specs.Denoted.Prototypes.{prototypes_in}
@@ -48,13 +49,13 @@ pub record IsRead (d : Definition) : Type 0 where
   pub limits : Limits
   pub programs : List Program
   pub prototypes : List Place
-  pub objects : List Place
+  pub objects : Built
   pub drafted : draft_in value ≡ Ok draft
   pub limited : limits_in value ≡ Ok limits
   pub programmed : programs_in draft.types value ≡ Ok programs
   pub made : prototypes_in draft.types (specs_by draft.types draft.own) value ≡ Ok prototypes
   pub placed : objects_in draft.types (specs_by draft.types draft.own) programs prototypes limits.objects value ≡ Ok objects
-  pub is : definition_with draft programs (objects ++ prototypes) limits ≡ d
+  pub is : definition_with draft programs (objects.places ++ prototypes) objects.bindings limits ≡ d
 
 of_value : (v : Data) → OnRead IsRead (definition_in v)
 unfolding definition_in
@@ -67,7 +68,7 @@ of_value v =
     on_read IsRead (prototypes_in draft.types (specs_by draft.types draft.own) v) _ λ prototypes q.
     on_read IsRead (objects_in draft.types (specs_by draft.types draft.own) programs prototypes limits.objects v) _ λ objects o.
     on_read IsRead (only_at [] ms keys_of_definition) _ λ u k.
-    let read : IsRead (definition_with draft programs (objects ++ prototypes) limits) =
+    let read : IsRead (definition_with draft programs (objects.places ++ prototypes) objects.bindings limits) =
     record {
       value = v;
       draft = draft;

@@ -8,7 +8,7 @@ use Rattle.ui_machine.specs.Definition.{Class, Definition}
 use Rattle.ui_machine.specs.Definition.Lookups.{place_at}
 use Rattle.ui_machine.specs.Definition.Names.{same_name}
 use Rattle.ui_machine.specs.Definition.Programs.{Program}
-use Rattle.ui_machine.specs.Definition.Places.{Attached, Given, GivenProperty, Place, value, named}
+use Rattle.ui_machine.specs.Definition.Places.{Attached, Bind, Given, GivenProperty, Place, value, named}
 use Rattle.ui_machine.specs.Definition.Properties.{Spec, is_construct_only}
 use Rattle.ui_machine.specs.Definition.Types.{GType}
 use Rattle.ui_machine.specs.Definition.Kinds.{Kind}
@@ -17,11 +17,13 @@ use Rattle.ui_machine.specs.declared.limits.Limits.{Limits}
 use Rattle.definition_format.specs.Denoted.Drafts.{ClassDraft}
 use Rattle.definition_format.specs.Denoted.Entries.{at_most}
 use Rattle.definition_format.specs.Denoted.Given.{may_be}
+use Rattle.definition_format.specs.Denoted.Objects.{Built}
 use Rattle.definition_format.specs.Denoted.Properties.{specs_by}
 use Rattle.definition_format.specs.Denoted.{definition_with}
 use Rattle.law_typing.specs.Verdict.Accepted.{Each}
 use Rattle.law_typing.specs.Laws.WellRead.{no_two, is_plain, GivenFits, GivenRead, IsObject, IsObjectIf, PlaceRead}
 use Rattle.law_reading.proofs.AttachedProofs.{HasData, IsEntry}
+use Rattle.law_reading.proofs.BindProofs.{IsBetween}
 use Rattle.law_reading.proofs.GivenProofs.{Refers, IsOfKind, IsFit}
 use Rattle.law_reading.proofs.ListProofs.{each_more, each_get, get_front, got_either, got_within}
 use Rattle.law_reading.proofs.ObjectProofs.{IsObjectRead, AreObjects}
@@ -41,11 +43,14 @@ all_plain types specs [] all = refl
 all_plain types specs (g ∷ gs) all =
     ap (λ b. b && list_all is_plain gs) (plain_given types all.0.spec.kind g all.0.itself) ∙ all_plain types specs gs all.1
 
-module _ (draft : ClassDraft) (programs : List Program) (objects prototypes : List Place) (limits : Limits)
-    (read : AreObjects draft.types (specs_by draft.types draft.own) objects) (made : ArePrototypes draft.types (specs_by draft.types draft.own) prototypes)
-    (fit : length objects + length prototypes ≤ 512) where
+module _ (draft : ClassDraft) (programs : List Program) (built : Built) (prototypes : List Place) (limits : Limits)
+    (read : AreObjects draft.types (specs_by draft.types draft.own) built) (made : ArePrototypes draft.types (specs_by draft.types draft.own) prototypes)
+    (fit : length built.places + length prototypes ≤ 512) where
+  abbrev objects : List Place
+  objects = built.places
+
   abbrev whole : Definition
-  whole = definition_with draft programs (objects ++ prototypes) limits
+  whole = definition_with draft programs (objects ++ prototypes) built.bindings limits
 
   abbrev Objectlike : ℕ → Place → Type 0
   Objectlike place p = IsObjectRead draft.types (specs_by draft.types draft.own) read.names place p
@@ -98,7 +103,7 @@ module _ (draft : ClassDraft) (programs : List Program) (objects prototypes : Li
       → IsFit draft.types read.names place (specs_by draft.types draft.own p.class) g → GivenRead whole place p g
   given_read place p there g fit = record {
     spec = fit.spec;
-    is = ap (λ (c : Class). slice_get c.specs g.slot) (known draft programs (objects ++ prototypes) limits p.class there) ∙ fit.is;
+    is = ap (λ (c : Class). slice_get c.specs g.slot) (known draft programs (objects ++ prototypes) built.bindings limits p.class there) ∙ fit.is;
     writable = fit.writable;
     fits = given_fits fit.spec.kind g.given fit.fits;
     forward = fit.forward;
@@ -115,7 +120,7 @@ module _ (draft : ClassDraft) (programs : List Program) (objects prototypes : Li
       → IsPlainFit draft.types (specs_by draft.types draft.own p.class) g → GivenRead whole place p g
   plain_read place p there g fit = record {
     spec = fit.spec;
-    is = ap (λ (c : Class). slice_get c.specs g.slot) (known draft programs (objects ++ prototypes) limits p.class there) ∙ fit.is;
+    is = ap (λ (c : Class). slice_get c.specs g.slot) (known draft programs (objects ++ prototypes) built.bindings limits p.class there) ∙ fit.is;
     writable = fit.writable;
     fits = itself_fits fit.spec.kind g.given fit.itself;
     forward = itself_in_time place fit.spec g.given fit.itself;
@@ -125,13 +130,16 @@ module _ (draft : ClassDraft) (programs : List Program) (objects prototypes : Li
   object_there : (place : ℕ) → place < length objects → IsObject whole place
   object_there place h = let o = object_at place h in (o.0, o.1, o.2.object)
 
+  -- what the number of an entry stands for is an object
+  entry_there : (to : ℕ) → IsEntry read.names to → IsObject whole to
+  entry_there to r =
+      let within : r.place < length objects = let n = read.many in let m = r.there in omega (arith, n, m) in
+      subst (IsObject whole) (sym (number_is r.place within) ∙ sym r.number) (object_there r.place within)
+
   -- the data of a signal is an object
   data_there : (with : Option ℕ) → ((to : ℕ) → with ≡ Some to → IsEntry read.names to) → IsObjectIf whole with
   data_there None is = tt
-  data_there (Some to) is =
-      let r = is to refl in
-      let within : r.place < length objects = let n = read.many in let m = r.there in omega (arith, n, m) in
-      subst (IsObject whole) (sym (number_is r.place within) ∙ sym r.number) (object_there r.place within)
+  data_there (Some to) is = entry_there to (is to refl)
 
   object_read : (place : ℕ) (p : Place) → place < length objects → Objectlike place p → PlaceRead whole place p
   object_read place p here o = record {
@@ -144,7 +152,7 @@ module _ (draft : ClassDraft) (programs : List Program) (objects prototypes : Li
     slots = o.given.apart;
     plain = λ h. absurd (let no = o.object in cc);
     silent = λ h. absurd (let no = o.object in cc);
-    peers = λ h. ap length o.peers ∙ sym (ap (λ shape. cond (is_some shape) 1 0) (no_shape draft programs (objects ++ prototypes) limits p.class));
+    peers = λ h. ap length o.peers ∙ sym (ap (λ shape. cond (is_some shape) 1 0) (no_shape draft programs (objects ++ prototypes) built.bindings limits p.class));
     signals = each_more (HasData read.names) (λ (a : Attached). IsObjectIf whole a.with) p.signals (λ a has. data_there a.with has.entry) o.signals;
   }
 
@@ -191,3 +199,9 @@ module _ (draft : ClassDraft) (programs : List Program) (objects prototypes : Li
       bare : (i : ℕ) (p : Place) → ((i < length objects) × Objectlike i p) ⊎ ((length objects ≤ i) × Prototypal p) → p.peers ≡ []
       bare i p (inl o) = o.1.peers
       bare i p (inr q) = q.1.peers
+
+  -- a binding is between two objects
+  pub binds_read : Each (λ (b : Bind). IsObject whole b.source × IsObject whole b.target) whole.bindings
+  binds_read =
+      each_more (IsBetween read.names) (λ (b : Bind). IsObject whole b.source × IsObject whole b.target) built.bindings
+      (λ b is. (entry_there b.source is.source, entry_there b.target is.target)) read.bound

@@ -8,7 +8,7 @@ use Rattle.ui_machine.specs.Definition.Types.{GType}
 use Rattle.ui_machine.specs.Definition.Kinds.{Kind}
 use Rattle.ui_machine.specs.Definition.Kinds as kinds
 use Rattle.ui_machine.specs.Definition.Programs.{Program}
-use Rattle.ui_machine.specs.Definition.Places.{Place}
+use Rattle.ui_machine.specs.Definition.Places.{Bind, Place}
 use Rattle.ui_machine.specs.Definition.Signals.{Signal}
 use Rattle.ui_machine.specs.Definition.Names.{place_named, canonical}
 use Rattle.ui_machine.specs.Definition.Lookups.{no_class, class_of}
@@ -136,17 +136,17 @@ result_filled d members s (Some k) known = known_filled d members k known
 
 -- ** classes
 
-module _ (draft : ClassDraft) (programs : List Program) (places : List Place) (limits : Limits) where
+module _ (draft : ClassDraft) (programs : List Program) (places : List Place) (bindings : List Bind) (limits : Limits) where
   abbrev class : ℕ → Class
   class t = type_with (specs_by draft.types draft.own t) (signals_by draft.types draft.signals t) (draft.answers.handlers t) (draft.answers.constructed t)
 
-  pub known : (t : ℕ) → t < length draft.types → class_of (definition_with draft programs places limits) t ≡ class t
+  pub known : (t : ℕ) → t < length draft.types → class_of (definition_with draft programs places bindings limits) t ≡ class t
   known t h = read-listed no_class class (length draft.types) t (λ past. absurd (omega arith))
 
-  pub past : (t : ℕ) → length draft.types ≤ t → class_of (definition_with draft programs places limits) t ≡ no_class
+  pub past : (t : ℕ) → length draft.types ≤ t → class_of (definition_with draft programs places bindings limits) t ≡ no_class
   past t h = read_past no_class class (length draft.types) t h
 
-  pub has_notify : (t : ℕ) → t < length draft.types → HasNotify (definition_with draft programs places limits) t
+  pub has_notify : (t : ℕ) → t < length draft.types → HasNotify (definition_with draft programs places bindings limits) t
   has_notify t h = record {
     signal = notify;
     is = ap (λ (c : Class). slice_get c.signals 0) (known t h);
@@ -156,47 +156,47 @@ module _ (draft : ClassDraft) (programs : List Program) (places : List Place) (l
     result = refl;
   }
 
-  pub some_signal : (t number : ℕ) (s : Signal) → signal_of (definition_with draft programs places limits) t number ≡ Some s → t < length draft.types
+  pub some_signal : (t number : ℕ) (s : Signal) → signal_of (definition_with draft programs places bindings limits) t number ≡ Some s → t < length draft.types
   some_signal t number s e = by (cases_lt t (length draft.types))
     where
       by : (t < length draft.types) ⊎ (length draft.types ≤ t) → t < length draft.types
       by (inl h) = h
       by (inr h) = absurd (none-some s (sym (ap (λ (c : Class). slice_get c.signals number) (past t h)) ∙ e))
 
-  there : (t number : ℕ) (s : Signal) → signal_of (definition_with draft programs places limits) t number ≡ Some s
+  there : (t number : ℕ) (s : Signal) → signal_of (definition_with draft programs places bindings limits) t number ≡ Some s
       → slice_get (signals_by draft.types draft.signals t) number ≡ Some s
   there t number s e = sym (ap (λ (c : Class). slice_get c.signals number) (known t (some_signal t number s e))) ∙ e
 
-  pub as_many : length (definition_with draft programs places limits).classes ≡ length draft.types
+  pub as_many : length (definition_with draft programs places bindings limits).classes ≡ length draft.types
   as_many = length-listed class (length draft.types)
 
-  bare_shape : (t : ℕ) → (class_of (definition_with draft programs places limits) t).shape ≡ None
+  bare_shape : (t : ℕ) → (class_of (definition_with draft programs places bindings limits) t).shape ≡ None
   bare_shape t = by (cases_lt t (length draft.types))
     where
-      by : (t < length draft.types) ⊎ (length draft.types ≤ t) → (class_of (definition_with draft programs places limits) t).shape ≡ None
+      by : (t < length draft.types) ⊎ (length draft.types ≤ t) → (class_of (definition_with draft programs places bindings limits) t).shape ≡ None
       by (inl h) = ap (λ (c : Class). c.shape) (known t h)
       by (inr h) = ap (λ (c : Class). c.shape) (past t h)
 
-  pub no_shape : (t : ℕ) → nearest_shape (definition_with draft programs places limits) t ≡ None
-  no_shape t = none_given (λ c. (class_of (definition_with draft programs places limits) c).shape) bare_shape (lineage draft.types t)
+  pub no_shape : (t : ℕ) → nearest_shape (definition_with draft programs places bindings limits) t ≡ None
+  no_shape t = none_given (λ c. (class_of (definition_with draft programs places bindings limits) c).shape) bare_shape (lineage draft.types t)
 
   module _ (all : SignalsRead draft.types draft.signals) where
-    pub signals_apart : (t : ℕ) → t < length draft.types → AreApart signal_name (class_of (definition_with draft programs places limits) t).signals
+    pub signals_apart : (t : ℕ) → t < length draft.types → AreApart signal_name (class_of (definition_with draft programs places bindings limits) t).signals
     signals_apart t h = subst (λ (c : Class). AreApart signal_name c.signals) (sym (known t h)) (all.apart t h)
 
-    pub found : (t number : ℕ) (s : Signal) → signal_of (definition_with draft programs places limits) t number ≡ Some s
-        → signal_number (definition_with draft programs places limits) t s.name ≡ Some number
+    pub found : (t number : ℕ) (s : Signal) → signal_of (definition_with draft programs places bindings limits) t number ≡ Some s
+        → signal_number (definition_with draft programs places bindings limits) t s.name ≡ Some number
     found t number s e =
         let h = some_signal t number s e in
         let same : 0 + number ≡ number = omega arith in
-        ap (place_named signal_name (class_of (definition_with draft programs places limits) t).signals)
+        ap (place_named signal_name (class_of (definition_with draft programs places bindings limits) t).signals)
         (is_canonical draft.types draft.signals all t number s (there t number s e))
-        ∙ named_found signal_name 0 (class_of (definition_with draft programs places limits) t).signals number s (signals_apart t h) e ∙ ap Some same
+        ∙ named_found signal_name 0 (class_of (definition_with draft programs places bindings limits) t).signals number s (signals_apart t h) e ∙ ap Some same
 
     -- a class has each signal of each type that it is
     pub inherited_signal : Grown draft.types → (class type : ℕ) → class < length draft.types → is_a draft.types class type ≡ true
-        → (number : ℕ) (s : Signal) → signal_of (definition_with draft programs places limits) type number ≡ Some s
-        → (canonical s.name ≡ s.name) × ((at : ℕ) × (signal_of (definition_with draft programs places limits) class at ≡ Some s))
+        → (number : ℕ) (s : Signal) → signal_of (definition_with draft programs places bindings limits) type number ≡ Some s
+        → (canonical s.name ≡ s.name) × ((at : ℕ) × (signal_of (definition_with draft programs places bindings limits) class at ≡ Some s))
     inherited_signal grown class type within is number s e =
         let over = transitive draft.types grown.tree grown.heirs in
         let has = has_signal draft.types draft.signals all over class type number s is (there type number s e) in (
@@ -205,13 +205,13 @@ module _ (draft : ClassDraft) (programs : List Program) (places : List Place) (l
         )
 
     pub results_filled : Grown draft.types → AllSignals draft.types draft.signals
-        → list_all (λ (c : Class). list_all (result_has_values (definition_with draft programs places limits)) c.signals)
-        (definition_with draft programs places limits).classes ≡ true
+        → list_all (λ (c : Class). list_all (result_has_values (definition_with draft programs places bindings limits)) c.signals)
+        (definition_with draft programs places bindings limits).classes ≡ true
     results_filled grown kinds =
-        all_listed (λ (c : Class). list_all (result_has_values (definition_with draft programs places limits)) c.signals) class (length draft.types)
+        all_listed (λ (c : Class). list_all (result_has_values (definition_with draft programs places bindings limits)) c.signals) class (length draft.types)
         (λ t h.
-        all_entries (result_has_values (definition_with draft programs places limits)) (signals_by draft.types draft.signals t) (λ number s e.
-        result_filled (definition_with draft programs places limits) grown.members s s.result
+        all_entries (result_has_values (definition_with draft programs places bindings limits)) (signals_by draft.types draft.signals t) (λ number s e.
+        result_filled (definition_with draft programs places bindings limits) grown.members s s.result
         (result_known s t (some_source draft.types draft.signals all t number s e))))
       where
         result_known : (s : Signal) (t : ℕ) → (s ≡ notify) ⊎ ((u : ℕ) × (is_a draft.types t u ≡ true) × Has (draft.signals u) s)

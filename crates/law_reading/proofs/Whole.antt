@@ -3,11 +3,12 @@ use Rattle.std.proofs.Common.{◌≡◌, ℕ, true, List, ◌++◌, refl, sym, s
 use Rattle.std.proofs.lemmas.Option.{none-some}
 use Rattle.ui_machine.specs.Definition.{Definition}
 use Rattle.ui_machine.specs.Definition.Programs.{Program}
-use Rattle.ui_machine.specs.Definition.Places.{Place}
+use Rattle.ui_machine.specs.Definition.Places.{Bind, Place}
 use Rattle.ui_machine.specs.Output.Text.{no_type, members_of}
 use Rattle.ui_machine.specs.declared.limits.Limits.{Limits}
 use Rattle.definition_format.specs.Denoted.{definition_with}
 use Rattle.definition_format.specs.Denoted.Drafts.{ClassDraft, unanswered}
+use Rattle.definition_format.specs.Denoted.Objects.{Built}
 use Rattle.definition_format.specs.Denoted.Properties.{specs_by}
 use Rattle.definition_format.proofs.Soundness as soundness
 use Rattle.definition_format.proofs.Soundness.{OnRead, AreFew, AreWithin, PlainDraft, draft_plain, prototypes_within, PlainClasses}
@@ -24,47 +25,50 @@ use Rattle.law_reading.proofs.ListProofs.{all_read, each_more, each_get}
 use Rattle.law_reading.proofs.ListedPrograms.{programs_read}
 use Rattle.law_reading.proofs.ObjectProofs.{AreObjects, all_objects}
 use Rattle.law_reading.proofs.PrototypeProofs.{IsPrototypeRead, ArePrototypes, all_prototypes}
-use Rattle.law_reading.proofs.PlaceProofs.{place_read, place_order, peers_apart}
+use Rattle.law_reading.proofs.PlaceProofs.{binds_read, place_read, place_order, peers_apart}
 use Rattle.law_reading.proofs.SignalProofs.{as_many, has_notify, some_signal, found, results_filled, no_shape}
 use Rattle.law_reading.proofs.SpecProofs.{spec_read, names_apart, specs_inherited}
 use Rattle.law_reading.proofs.TreeProofs.{GrownClasses, draft_grown}
 
-module _ (draft : ClassDraft) (programs : List Program) (objects prototypes : List Place) (limits : Limits) (grown : GrownClasses draft) (plain : PlainDraft (unanswered draft))
+module _ (draft : ClassDraft) (programs : List Program) (objects : Built) (prototypes : List Place) (limits : Limits) (grown : GrownClasses draft) (plain : PlainDraft (unanswered draft))
     (placed : AreObjects draft.types (specs_by draft.types draft.own) objects) (made : ArePrototypes draft.types (specs_by draft.types draft.own) prototypes)
-    (small : Small limits) (few : AreFew limits.objects prototypes objects)
-    (read : Each (ProgramRead (definition_with draft programs (objects ++ prototypes) limits)) programs) where
+    (small : Small limits) (few : AreFew limits.objects prototypes objects.places)
+    (read : Each (ProgramRead (definition_with draft programs (objects.places ++ prototypes) objects.bindings limits)) programs) where
   abbrev places : List Place
-  places = objects ++ prototypes
+  places = objects.places ++ prototypes
 
-  types_read : TypesRead (definition_with draft programs places limits)
+  abbrev bindings : List Bind
+  bindings = objects.bindings
+
+  types_read : TypesRead (definition_with draft programs places bindings limits)
   types_read = record {
-    classes = as_many draft programs places limits;
+    classes = as_many draft programs places bindings limits;
     parents = grown.0.tree.parents_first;
     transitive = transitive draft.types grown.0.tree grown.0.heirs;
-    inherits = specs_inherited draft programs places limits grown plain;
-    shapes = λ class type shape h e. absurd (none-some shape (sym (no_shape draft programs places limits type) ∙ e));
-    notify = λ class known sort. has_notify draft programs places limits class known;
-    first = λ type number s e. has_notify draft programs places limits type (some_signal draft programs places limits type number s e);
-    specs = spec_read draft programs places limits grown plain;
-    names = names_apart draft programs places limits grown plain;
+    inherits = specs_inherited draft programs places bindings limits grown plain;
+    shapes = λ class type shape h e. absurd (none-some shape (sym (no_shape draft programs places bindings limits type) ∙ e));
+    notify = λ class known sort. has_notify draft programs places bindings limits class known;
+    first = λ type number s e. has_notify draft programs places bindings limits type (some_signal draft programs places bindings limits type number s e);
+    specs = spec_read draft programs places bindings limits grown plain;
+    names = names_apart draft programs places bindings limits grown plain;
     replies = refl;
-    results = results_filled draft programs places limits grown.3 grown.0 plain.known;
-    signals = found draft programs places limits grown.3;
+    results = results_filled draft programs places bindings limits grown.3 grown.0 plain.known;
+    signals = found draft programs places bindings limits grown.3;
     members = all_read no_type _ draft.types (λ t. (grown.0.members t).few);
   }
 
-  well : WellRead (definition_with draft programs places limits)
+  well : WellRead (definition_with draft programs places bindings limits)
   well =
       let live =
-      objects_few objects prototypes
+      objects_few objects.places prototypes
       (each_more (IsPrototypeRead draft.types (specs_by draft.types draft.own)) (λ p. p.is_prototype ≡ true) prototypes (λ p q. q.prototype) made) in
       record {
         types = types_read;
-        programs = λ number p e. each_get (ProgramRead (definition_with draft programs places limits)) programs number p read e;
+        programs = λ number p e. each_get (ProgramRead (definition_with draft programs places bindings limits)) programs number p read e;
         places = place_read draft programs objects prototypes limits placed made few.placed;
         order = place_order draft programs objects prototypes limits placed made few.placed;
         peers = peers_apart draft programs objects prototypes limits placed made few.placed;
-        bindings = tt;
+        bindings = binds_read draft programs objects prototypes limits placed made few.placed;
         objects = omega (arith, live, few.live);
         most_objects = small.objects;
         most_handlers = small.handlers;
@@ -78,7 +82,7 @@ pub record Facts (d : Definition) : Type 0 where
   pub objects : AreObjects read.draft.types (specs_by read.draft.types read.draft.own) read.objects
   pub prototypes : ArePrototypes read.draft.types (specs_by read.draft.types read.draft.own) read.prototypes
   pub small : Small read.limits
-  pub few : AreFew read.limits.objects read.prototypes read.objects
+  pub few : AreFew read.limits.objects read.prototypes read.objects.places
   pub programs : Each (ProgramRead d) read.programs
 
 pub facts : (d : Definition) → IsRead d → Facts d
@@ -94,11 +98,11 @@ facts d r =
           (all_objects r.draft.types (λ t. (grown.0.members t).few) specs r.programs r.prototypes r.limits.objects r.value);
       prototypes = subst (OnRead (ArePrototypes r.draft.types specs)) r.made (all_prototypes r.draft.types (λ t. (grown.0.members t).few) specs r.value);
       small = subst (OnRead Small) r.limited (limits_small r.value);
-      few = subst (OnRead (AreFew r.limits.objects r.prototypes)) r.placed
+      few = subst (OnRead (λ (built : Built). AreFew r.limits.objects r.prototypes built.places)) r.placed
           (soundness.objects_few r.draft.types specs r.programs r.prototypes r.limits.objects r.value within);
       programs = subst (λ (x : Definition). Each (ProgramRead x) r.programs) r.is
-          (subst (OnRead (Each (ProgramRead (definition_with r.draft r.programs (r.objects ++ r.prototypes) r.limits)))) r.programmed
-          (programs_read (definition_with r.draft r.programs (r.objects ++ r.prototypes) r.limits) (λ t. grown.0.members t) r.value));
+          (subst (OnRead (Each (ProgramRead (definition_with r.draft r.programs (r.objects.places ++ r.prototypes) r.objects.bindings r.limits)))) r.programmed
+          (programs_read (definition_with r.draft r.programs (r.objects.places ++ r.prototypes) r.objects.bindings r.limits) (λ t. grown.0.members t) r.value));
     }
 
 few_bits : (d : Definition) → Facts d → (t : ℕ) → HaveFewBits (members_of d.types t)

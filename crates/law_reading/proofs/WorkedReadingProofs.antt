@@ -18,7 +18,8 @@ use Rattle.definition_format.specs.Denoted.Implements.{implements_at}
 use Rattle.definition_format.specs.Denoted.Attached.{all_attached}
 use Rattle.definition_format.specs.Denoted.Programs.{programs_in}
 use Rattle.definition_format.specs.Denoted.Prototypes.{plain_at, all_plain_at, prototype_in, prototype_at, prototypes_in}
-use Rattle.definition_format.specs.Denoted.Given.{property_named, given_at, givens_at}
+use Rattle.definition_format.specs.Denoted.Filled.{all_filled}
+use Rattle.definition_format.specs.Denoted.Given.{property_named}
 use Rattle.definition_format.specs.Denoted.Objects.{place_at, added_at, object_at}
 use Rattle.definition_format.specs.Denoted.Properties.{valued_at, spec_at, property_at}
 use Rattle.definition_format.specs.Denoted.Ranges.{range_at}
@@ -47,7 +48,7 @@ unfolding property_at spec_at valued_at range_at
 properties_on_literals = tt
 
 unfoldable objects_on_literals : ⊤
-unfolding programs_in prototypes_in prototype_at prototype_in all_plain_at plain_at objects_in object_at added_at place_at givens_at given_at property_named all_attached
+unfolding programs_in prototypes_in prototype_at prototype_in all_plain_at plain_at objects_in object_at added_at place_at all_filled property_named all_attached
 objects_on_literals = tt
 
 unfoldable lines_on_literals : ⊤

@@ -4,5 +4,6 @@ pub mod Judging
 pub mod Begun
 pub mod MiddleProofs
 pub mod OnLiterals
+pub mod PairReads
 pub mod SourceReads
 pub mod TurnProofs

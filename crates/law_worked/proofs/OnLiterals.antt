@@ -15,7 +15,9 @@ use Rattle.definition_format.specs.Denoted.Implements.{implements_at}
 use Rattle.definition_format.specs.Denoted.Attached.{all_attached}
 use Rattle.definition_format.specs.Denoted.Programs.{programs_in}
 use Rattle.definition_format.specs.Denoted.Prototypes.{plain_at, all_plain_at, prototype_in, prototype_at, prototypes_in}
-use Rattle.definition_format.specs.Denoted.Given.{property_named, given_at, givens_at}
+use Rattle.definition_format.specs.Denoted.Binds.{bind_at, bind_flag_at, bind_flags_at, slot_called, some_bind_name, source_at}
+use Rattle.definition_format.specs.Denoted.Filled.{all_filled, bound_at, filled_at}
+use Rattle.definition_format.specs.Denoted.Given.{property_named}
 use Rattle.definition_format.specs.Denoted.Objects.{place_at, added_at, object_at}
 use Rattle.definition_format.specs.Denoted.Properties.{valued_at, spec_at, property_at}
 use Rattle.definition_format.specs.Denoted.Ranges.{range_at}
@@ -49,7 +51,7 @@ programs_on_literals = tt
 
 -- the objects, and the lines of events
 unfoldable pub objects_on_literals : ⊤
-unfolding prototypes_in prototype_at prototype_in all_plain_at plain_at objects_in object_at added_at place_at givens_at given_at property_named all_attached attached_at attached_in program_under some_detail some_data some_truth
+unfolding prototypes_in prototype_at prototype_in all_plain_at plain_at objects_in object_at added_at place_at all_filled filled_at bound_at bind_at source_at slot_called bind_flags_at bind_flag_at some_bind_name property_named all_attached attached_at attached_in program_under some_detail some_data some_truth
 objects_on_literals = tt
 
 unfoldable pub lines_on_literals : ⊤

@@ -1,4 +1,5 @@
 pub mod Gathering
 pub mod Middles
+pub mod WorkedPair
 pub mod WorkedSources
 pub mod WorkedTurn

@@ -2,6 +2,7 @@
 #![tactic(auto)]
 
 ghost use Rattle.law_worked.specs.Middles.{Middles};
+ghost use Rattle.law_worked.specs.WorkedPair.{PairMet};
 ghost use Rattle.law_worked.specs.WorkedSources.{PremisesMet};
 ghost use Rattle.law_worked.specs.WorkedTurn.{TurnKeeps};
 
@@ -14,6 +15,11 @@ pub fn middles()
 /// promise of bytes asks.
 pub fn premises()
     ensures { PremisesMet }
+{}
+
+/// So do the bytes of a definition with a pair, two properties that are bound both ways, and lines that set each of them.
+pub fn pair()
+    ensures { PairMet }
 {}
 
 /// The dispatch of a source in a turn, after another one of the same turn, meets what the laws on dispatches ask, so that it keeps what is promised.

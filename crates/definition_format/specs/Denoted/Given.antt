@@ -1,8 +1,8 @@
 -- The values that are given to an object's properties.
-use Rattle.std.specs.Prelude.{ℕ, List, [], ◌∷◌, ◌++◌, codes, Bool, true, false, ◌&&◌, not, nat_eq, nat_le, if◌then◌else◌, slice_get, Option, None, Some, is_some, option_and_then, Result, Ok, Err}
+use Rattle.std.specs.Prelude.{ℕ, List, codes, Bool, true, false, ◌&&◌, not, nat_eq, nat_le, if◌then◌else◌, slice_get, Option, None, Some, is_some, option_and_then, Result, Ok, Err}
 use Rattle.std.specs.List.{list_any}
 use Rattle.serde_json.specs.Data.{Data}
-use Rattle.serde_json.specs.Find.{get, as_str}
+use Rattle.serde_json.specs.Find.{as_str}
 use Rattle.ui_machine.specs.Outcome.{◌>>=◌}
 use Rattle.ui_machine.specs.Seq.{read}
 use Rattle.ui_machine.specs.Definition.Kinds.{Kind}
@@ -18,7 +18,6 @@ use Rattle.g_values.specs.declared.error.JsonFault.TheVariants.{WrongJson}
 use Rattle.param_specs.specs.Table.{slot_named}
 use Rattle.definition_format.specs.Causes.{not_writable}
 use Rattle.definition_format.specs.Refusals.{Refusal, shape, unknown, duplicate, bad_spec, value_fault, forward_construct_only, or_refused, or_value_fault}
-use Rattle.definition_format.specs.Document.{under, members_at, text_at, entries_at, absent_at, only_at, each, at_entry}
 use Rattle.definition_format.specs.Denoted.Names.{is_name}
 use Rattle.definition_format.specs.Denoted.Entries.{ObjectNames, name_under, number_from, at_most}
 
@@ -94,15 +93,6 @@ abbrev pub given_by : List ℕ → List GType → ObjectNames → Kind → Data 
 given_by path types objects kind d None = itself (or_value_fault path (json_value types kind d))
 given_by path types objects kind d (Some r) = referred path types objects r
 
--- The value of an entry. One without a value has a binding, and there are none so far.
-abbrev pub value_or_bind : List ℕ → List GType → ObjectNames → Kind → Option Data → Option Data → Result Given Refusal
-value_or_bind path types objects kind (Some d) bind = given_by (under path (codes "value")) types objects kind d (reference kind (as_str d))
-value_or_bind path types objects kind None None = Err (shape (under path (codes "value")))
-value_or_bind path types objects kind None (Some bind) = Err (shape (under path (codes "bind")))
-
-abbrev pub value_at : List ℕ → List GType → ObjectNames → Kind → Data → Result Given Refusal
-value_at path types objects kind d = value_or_bind path types objects kind (get (codes "value") d) (get (codes "bind") d)
-
 -- ** objects that come too late
 
 -- the property that an entry names, if there is one
@@ -128,26 +118,3 @@ is_too_late place objects d spec =
 abbrev pub in_time : List ℕ → ℕ → ObjectNames → Data → Option Spec → Result (Unit {0}) Refusal
 in_time path place objects d None = Ok tt
 in_time path place objects d (Some spec) = if is_too_late place objects d spec then Err (forward_construct_only path) else Ok tt
-
-abbrev pub keys_of_given : List (List ℕ)
-keys_of_given = codes "name" ∷ codes "value" ∷ codes "bind" ∷ []
-
--- these given values of the object of a place, with the one that an entry gives to one of these properties, among the names of all objects
-unfoldable pub given_at : List ℕ → List GType → ObjectNames → ℕ → List Spec → List GivenProperty → Data → Result (List GivenProperty) Refusal
-given_at path types objects place specs given d = do
-  members ← members_at path d
-  early ← in_time path place objects d (spec_ahead specs d)
-  name ← text_at path d (codes "name")
-  property ← property_named (under path (codes "name")) specs name
-  once ← named_once (under path (codes "name")) given property.slot
-  writable ← takes_value (under path (codes "name")) (get (codes "value") d) property.spec
-  v ← value_at path types objects property.spec.kind d
-  single ← absent_at path d (codes "bind" ∷ [])
-  only ← only_at path members keys_of_given
-  Ok (given ++ record { slot = property.slot; given = v } ∷ [])
-
--- the values that the object of a place is given, where its class has these properties
-unfoldable pub givens_at : List ℕ → List GType → ObjectNames → ℕ → List Spec → Data → Result (List GivenProperty) Refusal
-givens_at path types objects place specs d = do
-  list ← entries_at path d (codes "properties")
-  each (at_entry (λ entry. given_at entry types objects place specs) (under path (codes "properties"))) 0 [] list

@@ -1,5 +1,5 @@
--- The objects of a definition.
-use Rattle.std.specs.Prelude.{ℕ, zero, suc, ◌+◌, List, [], ◌∷◌, ◌++◌, length, codes, Bool, nat_le, if◌then◌else◌, Option, Some, is_some, Result, Ok, Err}
+-- The objects of a definition, and the bindings among them.
+use Rattle.std.specs.Prelude.{ℕ, zero, suc, ◌+◌, List, [], ◌∷◌, ◌++◌, length, map, codes, Bool, nat_le, if◌then◌else◌, Option, Some, is_some, Result, Ok, Err}
 use Rattle.serde_json.specs.Data.{Data}
 use Rattle.ui_machine.specs.Outcome.{◌>>=◌}
 use Rattle.ui_machine.specs.Definition.Types.{GType}
@@ -12,12 +12,14 @@ use Rattle.ui_machine.specs.Output.Text.{no_type}
 use Rattle.type_tree.specs.Adding.{class_named}
 use Rattle.definition_format.specs.Causes.{abstract_class}
 use Rattle.definition_format.specs.declared.faults.DefinitionLimit.TheVariants.{Places, Objects}
-use Rattle.definition_format.specs.Meaning.{plain_place}
+use Rattle.definition_format.specs.declared.objects.Bind.{Bind}
+use Rattle.definition_format.specs.Meaning.{Entry, bind_view, plain_object, plain_place}
 use Rattle.definition_format.specs.Refusals.{Refusal, shape, unknown, duplicate, bad_type, limit, or_refused}
 use Rattle.definition_format.specs.Document.{under, members_at, text_at, entries_at, absent_at, only_at, each, at_entry}
 use Rattle.definition_format.specs.Denoted.Names.{is_name}
 use Rattle.definition_format.specs.Denoted.Entries.{ObjectNames}
-use Rattle.definition_format.specs.Denoted.Given.{givens_at}
+use Rattle.definition_format.specs.Denoted.Binds.{Target}
+use Rattle.definition_format.specs.Denoted.Filled.{all_filled}
 use Rattle.definition_format.specs.Denoted.Attached.{all_attached}
 
 -- there is a place for one more beside these prototypes and objects, and it may live
@@ -56,31 +58,56 @@ pub record Scope : Type 0 where
   pub most : ℕ
   pub names : ObjectNames
 
+-- objects that were read, and the bindings among the properties of these
+pub record Built : Type 0 where
+  pub places : List machine.Place
+  pub bindings : List machine.Bind
+
+-- of the code's objects and bindings
+abbrev pub built_view : List Entry → List Bind → Built
+built_view objects bindings = record { places = map plain_object objects; bindings = map bind_view bindings }
+
+abbrev pub no_objects : Built
+no_objects = record { places = []; bindings = [] }
+
+-- an object more, and these bindings
+abbrev pub with_place : Built → machine.Place → List machine.Bind → Built
+with_place built place bindings = record { places = built.places ++ place ∷ []; bindings = bindings }
+
+-- an object, and all bindings up to it
+pub record Placed : Type 0 where
+  pub place : machine.Place
+  pub bindings : List machine.Bind
+
+-- what is known where the properties of an object of a class are read, at this place
+abbrev pub target_in : Scope → ℕ → ℕ → Target
+target_in scope place class = record { types = scope.types; specs = scope.specs; objects = scope.names; place = place; class = class }
+
 -- The object that an entry gives beside these, the child of the object at a place, if it is a child. It has no peer so far.
-unfoldable pub place_at : List ℕ → Scope → Option ℕ → List machine.Place → Data → Result machine.Place Refusal
-place_at path scope parent places d = do
-  room ← room_for_object scope.most scope.prototypes places
+unfoldable pub place_at : List ℕ → Scope → Option ℕ → Built → Data → Result Placed Refusal
+place_at path scope parent built d = do
+  room ← room_for_object scope.most scope.prototypes built.places
   id ← text_at path d (codes "id")
-  new ← new_id (under path (codes "id")) (places ++ scope.prototypes) id
+  new ← new_id (under path (codes "id")) (built.places ++ scope.prototypes) id
   class ← class_at_key path scope.types d
   peer ← absent_at path d (codes "peer" ∷ [])
-  given ← givens_at path scope.types scope.names (length places) (scope.specs class) d
+  filled ← all_filled path (target_in scope (length built.places) class) built.bindings d
   signals ← all_attached path scope.programs scope.names d
-  Ok (plain_place id class parent given signals)
+  Ok (record { place = plain_place id class parent filled.given signals; bindings = filled.bindings })
 
 -- these objects, with the one that an entry gives
-unfoldable pub added_at : List ℕ → Scope → Option ℕ → List machine.Place → Data → Result (List machine.Place) Refusal
-added_at path scope parent places d = do
-  place ← place_at path scope parent places d
-  Ok (places ++ place ∷ [])
+unfoldable pub added_at : List ℕ → Scope → Option ℕ → Built → Data → Result Built Refusal
+added_at path scope parent built d = do
+  placed ← place_at path scope parent built d
+  Ok (with_place built placed.place placed.bindings)
 
 -- The same, with its children behind it. Lists nest so many levels deep.
-unfoldable pub object_at : (levels : ℕ) → Scope → Option ℕ → List ℕ → List machine.Place → Data → Result (List machine.Place) Refusal
-object_at zero scope parent path places d = Err (shape path)
-object_at (suc levels) scope parent path places d = do
+unfoldable pub object_at : (levels : ℕ) → Scope → Option ℕ → List ℕ → Built → Data → Result Built Refusal
+object_at zero scope parent path built d = Err (shape path)
+object_at (suc levels) scope parent path built d = do
   members ← members_at path d
-  more ← added_at path scope parent places d
+  more ← added_at path scope parent built d
   list ← entries_at path d (codes "children")
-  all ← each (at_entry (object_at levels scope (Some (length places))) (under path (codes "children"))) 0 more list
+  all ← each (at_entry (object_at levels scope (Some (length built.places))) (under path (codes "children"))) 0 more list
   only ← only_at path members keys_of_object
   Ok all

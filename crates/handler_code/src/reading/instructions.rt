@@ -26,7 +26,7 @@ use crate::reading::signal_rows::{
     read_block, read_connect, read_disconnect, read_emit, read_stop, read_unbind, read_unblock,
 };
 use crate::reading::source_rows::{read_call, read_idle, read_remove, read_timeout};
-use bytecode::{Arithmetic, Instruction, InstructionError, SourceInstruction};
+use bytecode::{Arithmetic, Instruction, InstructionError};
 use serde_json::Value;
 use std::alloc::Global;
 
@@ -37,7 +37,7 @@ use std::alloc::Global;
 /// kinds, is not tested here.
 ///
 /// `BadInstruction` where the value is no array, its first entry is no word, or its operands are not those of the word: too few, too many, or
-/// of another sort. `unbind` and `call` are BadInstruction too, since no program has them so far. `OutOfMemory` where a name, a text or a list can't be made.
+/// of another sort. `call` is BadInstruction too, since no program has it so far. `OutOfMemory` where a name, a text or a list can't be made.
 #[tactic(auto, unfolding(bytecode::specs::Reading::Words::instruction_at))]
 pub fn read_instruction(
     alloc: Global,
@@ -53,15 +53,12 @@ pub fn read_instruction(
     Ok(instruction)
 }
 
-// Whether an instruction ends a binding, or calls a method of a peer.
-#[tactic(auto, using(crate::proofs::LaterGroups::compute_now, crate::proofs::LaterGroups::control_now, crate::proofs::LaterGroups::property_now, crate::proofs::LaterGroups::object_now, crate::proofs::LaterGroups::signal_now))]
+// Whether an instruction calls a method of a peer.
+#[tactic(auto, using(crate::proofs::LaterGroups::compute_now, crate::proofs::LaterGroups::control_now, crate::proofs::LaterGroups::property_now, crate::proofs::LaterGroups::object_now, crate::proofs::LaterGroups::signal_now, crate::proofs::LaterGroups::source_now))]
 fn is_later(instruction: &Instruction) -> bool
     ensures { result ≡ is_later (instruction_view instruction.now) }
 {
-    matches!(
-        instruction,
-        Instruction::Source(SourceInstruction::Unbind(_)) | Instruction::Peer(_)
-    )
+    matches!(instruction, Instruction::Peer(_))
 }
 
 // An instruction, unless no program has such a one so far.

@@ -2,7 +2,8 @@ use Rattle.std.proofs.Common.{map, refl}
 use Rattle.std.proofs.lemmas.Result.{err_from_is_err_and}
 use Rattle.serde_json.specs.View.{view, members_view}
 use Rattle.param_specs.specs.Table.{own_of}
-use Rattle.definition_format.specs.Meaning.{parts, plain_object, plain_prototype, plain_program}
+use Rattle.definition_format.specs.Meaning.{parts, plain_prototype, plain_program}
+use Rattle.definition_format.specs.Denoted.Objects.{built_view}
 use Rattle.definition_format.specs.Denoted.Properties.{specs_by}
 use Rattle.definition_format.specs.Denoted.Drafts.{class_draft_of}
 use Rattle.definition_format.proofs.Soundness.{sound, plain_read, few_prototypes}
@@ -23,30 +24,30 @@ objects_of-requires c = record {
 
 pub returns-clause-sound : goal.returns-clause-sound
 returns-clause-sound c =
-    sound (parts c.in_ok-draft.draft.types c.in_ok-draft.draft.specs c.in_ok-draft.draft.signals c.in_ok-draft.draft.constructed.items c.in_ok-programs.programs.entries c.in_ok-prototypes.prototypes.entries c.in_ok-objects.objects.entries c.new.result.items c.in_ok-limits.limits) (view c.args.value.now)
-    c.in_ok-draft.ensures c.in_ok-limits.ensures.checked c.in_ok-prototypes.ensures c.in_ok-objects.ensures
-    c.in_ok-programs.ensures.named c.in_ok-programs.ensures.sound c.in_ok-programs.ensures.few c.new.ensures.items
+    sound (parts c.in_ok-draft.draft.types c.in_ok-draft.draft.specs c.in_ok-draft.draft.signals c.in_ok-draft.draft.constructed.items c.in_ok-programs.programs.entries c.in_ok-prototypes.prototypes.entries c.in_ok-built.built.objects.entries c.in_ok-built.built.bindings.items c.in_ok-limits.limits) (view c.args.value.now)
+    c.in_ok-draft.ensures c.in_ok-limits.ensures.checked c.in_ok-prototypes.ensures c.in_ok-built.ensures
+    c.in_ok-programs.ensures.named c.in_ok-programs.ensures.sound c.in_ok-programs.ensures.few
 
-pub returns-in_err-objects-clause-read : goal.returns-in_err-objects-clause-read
-returns-in_err-objects-clause-read c =
-    let p = err_from_is_err_and c.from_residual-in_err-objects.result c.from_residual-in_err-objects.ensures.1 in
+pub returns-in_err-built-clause-read : goal.returns-in_err-built-clause-read
+returns-in_err-built-clause-read c =
+    let p = err_from_is_err_and c.from_residual-in_err-built.result c.from_residual-in_err-built.ensures.1 in
     rw (p.1, p.2) (objects_fail (view c.args.value.now) (members_view c.in_ok-members.members.now.entries) c.format_in.result c.in_ok-limits.limits
     (class_draft_of c.in_ok-draft.draft.types c.in_ok-draft.draft.specs c.in_ok-draft.draft.signals c.in_ok-draft.draft.constructed.items) (map plain_program c.in_ok-programs.programs.entries)
     (map plain_prototype c.in_ok-prototypes.prototypes.entries)
     c.in_ok-members.ensures c.format_in.ensures c.in_ok-check_format.ensures c.in_ok-limits.ensures.limits c.in_ok-draft.ensures c.in_ok-programs.ensures.read c.in_ok-prototypes.ensures
-    c.in_err-objects.field-0.0 c.in_err-objects.ensures)
+    c.in_err-built.field-0.0 c.in_err-built.ensures)
 
 pub returns-in_err-check_only-clause-read : goal.returns-in_err-check_only-clause-read
 returns-in_err-check_only-clause-read c =
     let p = err_from_is_err_and c.from_residual-in_err-check_only.result c.from_residual-in_err-check_only.ensures.1 in
     rw (p.1, p.2) (definition_fails (view c.args.value.now) (members_view c.in_ok-members.members.now.entries) c.format_in.result c.in_ok-limits.limits
     (class_draft_of c.in_ok-draft.draft.types c.in_ok-draft.draft.specs c.in_ok-draft.draft.signals c.in_ok-draft.draft.constructed.items) (map plain_program c.in_ok-programs.programs.entries)
-    (map plain_prototype c.in_ok-prototypes.prototypes.entries) (map plain_object c.in_ok-objects.objects.entries)
-    c.in_ok-members.ensures c.format_in.ensures c.in_ok-check_format.ensures c.in_ok-limits.ensures.limits c.in_ok-draft.ensures c.in_ok-programs.ensures.read c.in_ok-prototypes.ensures c.in_ok-objects.ensures
+    (map plain_prototype c.in_ok-prototypes.prototypes.entries) (built_view c.in_ok-built.built.objects.entries c.in_ok-built.built.bindings.items)
+    c.in_ok-members.ensures c.format_in.ensures c.in_ok-check_format.ensures c.in_ok-limits.ensures.limits c.in_ok-draft.ensures c.in_ok-programs.ensures.read c.in_ok-prototypes.ensures c.in_ok-built.ensures
     c.in_err-check_only.field-0.0 c.in_err-check_only.ensures)
 
 pub returns-clause-read : goal.returns-clause-read
 returns-clause-read c =
     definition_done (view c.args.value.now) (members_view c.in_ok-members.members.now.entries) c.format_in.result
-    (parts c.in_ok-draft.draft.types c.in_ok-draft.draft.specs c.in_ok-draft.draft.signals c.in_ok-draft.draft.constructed.items c.in_ok-programs.programs.entries c.in_ok-prototypes.prototypes.entries c.in_ok-objects.objects.entries c.new.result.items c.in_ok-limits.limits)
-    c.in_ok-members.ensures c.format_in.ensures c.in_ok-check_format.ensures c.in_ok-limits.ensures.limits c.in_ok-draft.ensures c.in_ok-programs.ensures.read c.in_ok-prototypes.ensures c.in_ok-objects.ensures c.new.ensures.items c.in_ok-check_only.ensures
+    (parts c.in_ok-draft.draft.types c.in_ok-draft.draft.specs c.in_ok-draft.draft.signals c.in_ok-draft.draft.constructed.items c.in_ok-programs.programs.entries c.in_ok-prototypes.prototypes.entries c.in_ok-built.built.objects.entries c.in_ok-built.built.bindings.items c.in_ok-limits.limits)
+    c.in_ok-members.ensures c.format_in.ensures c.in_ok-check_format.ensures c.in_ok-limits.ensures.limits c.in_ok-draft.ensures c.in_ok-programs.ensures.read c.in_ok-prototypes.ensures c.in_ok-built.ensures c.in_ok-check_only.ensures

@@ -1,8 +1,8 @@
-use Rattle.std.proofs.Common.{◌≡◌, ◌*◌, ◌+◌, drop, map}
+use Rattle.std.proofs.Common.{◌≡◌, ◌*◌, ◌+◌, drop}
 use Rattle.serde_json.specs.View.{items_view}
 use Rattle.definition_format.specs.Document.{each, at_entry}
-use Rattle.definition_format.specs.Meaning.{plain_object, place_number}
-use Rattle.definition_objects.specs.ScopeView.{scope_of}
+use Rattle.definition_format.specs.Meaning.{place_number}
+use Rattle.definition_objects.specs.ScopeView.{built_of, scope_of}
 use Rattle.definition_format.specs.Denoted.Objects.{object_at}
 use Rattle.definition_objects.proofs.objects.Scope.+objects.Given as goal
 
@@ -14,5 +14,5 @@ decreases-read_list l = 2 * l.levels + 1
 
 abbrev pub invariant-read_list-items : goal.invariant-read_list-items
 invariant-read_list-items l =
-    each (at_entry (object_at l.fn.levels (scope_of l.fn.self) (place_number l.fn.parent)) l.fn.list.path.now) l.index (map plain_object l.objects.entries) (items_view (drop l.index l.fn.list.items.now))
-    ≡ each (at_entry (object_at l.fn.levels (scope_of l.fn.self) (place_number l.fn.parent)) l.fn.list.path.now) 0 (map plain_object l.fn.objects.entries) (items_view l.fn.list.items.now)
+    each (at_entry (object_at l.fn.levels (scope_of l.fn.self) (place_number l.fn.parent)) l.fn.list.path.now) l.index (built_of l.built) (items_view (drop l.index l.fn.list.items.now))
+    ≡ each (at_entry (object_at l.fn.levels (scope_of l.fn.self) (place_number l.fn.parent)) l.fn.list.path.now) 0 (built_of l.fn.built) (items_view l.fn.list.items.now)
