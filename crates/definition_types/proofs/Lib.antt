@@ -1,13 +1,4 @@
-pub mod Numbered
-pub mod Each
-pub mod InOrder
-pub mod Chains
-pub mod Declaring
-pub mod Escapes
-pub mod Members
 pub mod Parents
-pub mod Values
-pub mod Sections
 pub mod Finding
 pub mod OwnAhead
 pub mod NamesAhead

@@ -1,2 +1,1 @@
-pub mod EntryViews
 pub mod OverrideView

@@ -12,12 +12,12 @@ ghost use Rattle.definition_format.specs.Refusals.{Gives, Leads, IsRefusal, shap
 ghost use Rattle.definition_format.specs.Document.{path_of, nth, under, each, at_entry};
 ghost use Rattle.definition_format.specs.Denoted.Enums.{three_in, parts_at, name_if, name_at, number_if, number_at, unless_there, has_name, some_items, some_entries_at, enum_member_at, flags_member_at, members_with, enum_at, flags_at};
 
-use crate::document::{Entries, Part, bad_shape, path_text, path_under, path_within};
-use crate::names::is_name;
-use crate::numbers::whole_number;
-use crate::reads::{Reads, read_each};
 use crate::types::{check_room, check_type_name};
 use definition_format::{DefinitionFault, ReadError};
+use definition_parts::document::{Entries, Part, bad_shape, path_text, path_under, path_within};
+use definition_parts::names::is_name;
+use definition_parts::numbers::whole_number;
+use definition_parts::reads::{Reads, read_each};
 use g_values::has_number;
 use serde_json::Value;
 use type_tree::{EnumMember, FlagsMember, TypeTree};
@@ -104,7 +104,7 @@ fn number_part(part: Part<'_>, value: &Value, low: i128, high: i128) -> Result<i
 }
 
 // Whether one of these members has the name.
-#[tactic(auto, using(crate::proofs::Members::any_mapped))]
+#[tactic(auto, using(definition_parts::proofs::Members::any_mapped))]
 fn has_name(members: &[EnumMember], name: &str) -> bool
     ensures { result ≡ has_name (map enum_member members.now) name.now }
 {
