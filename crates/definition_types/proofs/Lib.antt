@@ -5,3 +5,4 @@ pub mod NamesAhead
 pub mod Implementing
 pub mod ByType
 pub mod Answering
+pub mod EnumParts

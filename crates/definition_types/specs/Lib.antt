@@ -1,1 +1,2 @@
 pub mod OverrideView
+pub mod EnumDrafts

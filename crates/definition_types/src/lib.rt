@@ -5,6 +5,7 @@
 mod class_handlers;
 mod classes;
 mod constructed;
+mod enum_drafts;
 mod enums;
 mod implements;
 mod interfaces;
