@@ -25,7 +25,7 @@ use Rattle.definition_format.specs.Denoted.Objects.{Built, built_view}
 use Rattle.definition_format.specs.Denoted.Programs.{programs_in}
 use Rattle.definition_format.specs.Denoted.Prototypes.{prototypes_in}
 use Rattle.definition_format.specs.Denoted.{format_of, enums_in, flags_in, interfaces_in, classes_in, draft_in, objects_in, definition_in, definition_with, keys_of_definition}
-use Rattle.definition_types.proofs.Chains.{fails_as, fails_first}
+use Rattle.definition_parts.proofs.Chains.{fails_as, fails_first}
 
 -- ** its types
 

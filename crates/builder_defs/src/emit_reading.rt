@@ -14,7 +14,7 @@ ghost use Rattle.definition_format.specs.EventMeaning.{Gives, Leads, detail_word
 use crate::event_reading::{given_by, object_named};
 use bitflags::Flags;
 use definition_format::{Event, EventError, EventFault, Given, Request};
-use definition_types::names::is_name;
+use definition_parts::names::is_name;
 use definitions::Definition;
 use g_values::Kind;
 use serde_json::Value;

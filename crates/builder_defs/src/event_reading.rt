@@ -58,7 +58,7 @@ fn parsed_line(alloc: Global, bytes: &[u8]) -> Result<Value, EventError>
 }
 
 // Whether a value is an object of exactly one member.
-#[tactic(auto, using(definition_types::proofs::Values::one_member_is))]
+#[tactic(auto, using(definition_parts::proofs::Values::one_member_is))]
 fn has_one_member(value: &Value) -> bool
     ensures { result ≡ has_one_member (view value.now) }
 {

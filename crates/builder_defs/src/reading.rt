@@ -20,8 +20,8 @@ ghost use Rattle.definition_format.specs.Denoted.{format_of, enums_in, flags_in,
 use crate::limits::limits_of;
 use definition_format::{DefinitionFault, Path, ReadError};
 use definition_objects::{ReadObjects, read_objects, read_places, read_programs, read_prototypes};
-use definition_types::document::{Entries, Part, listed_ahead, parsed};
-use definition_types::entries::{ProgramNames, TypeNames};
+use definition_parts::document::{Entries, Part, listed_ahead, parsed};
+use definition_parts::entries::{ProgramNames, TypeNames};
 use definition_types::{
     ClassDraft, Draft, read_classes, read_enums, read_flags_types, read_interfaces,
 };

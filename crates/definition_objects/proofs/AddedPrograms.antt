@@ -9,7 +9,7 @@ use Rattle.definition_format.specs.declared.faults.ReadError.{ReadError}
 use Rattle.definition_format.specs.Meaning.{NamedProgram, plain_program}
 use Rattle.definition_format.specs.Refusals.{Refusal, Fails}
 use Rattle.definition_format.specs.Denoted.Programs.{program_in, program_at}
-use Rattle.definition_types.proofs.Chains.{fails_first}
+use Rattle.definition_parts.proofs.Chains.{fails_first}
 
 module _ (path : List ℕ) (names : Names) (es : List NamedProgram) (d : Data) where
   added : Program → Result (List Program) Refusal

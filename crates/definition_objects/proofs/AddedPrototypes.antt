@@ -10,7 +10,7 @@ use Rattle.definition_format.specs.declared.faults.ReadError.{ReadError}
 use Rattle.definition_format.specs.Meaning.{Prototype, plain_prototype}
 use Rattle.definition_format.specs.Refusals.{Refusal, Fails}
 use Rattle.definition_format.specs.Denoted.Prototypes.{prototype_in, prototype_at}
-use Rattle.definition_types.proofs.Chains.{fails_first}
+use Rattle.definition_parts.proofs.Chains.{fails_first}
 
 module _ (path : List ℕ) (types : List GType) (specs : ℕ → List Spec) (es : List Prototype) (d : Data) where
   added : Place → Result (List Place) Refusal

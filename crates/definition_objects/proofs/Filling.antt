@@ -8,7 +8,7 @@ use Rattle.definition_format.specs.Refusals.{Refusal, Fails}
 use Rattle.definition_format.specs.Document.{under, entries_at, each, at_entry}
 use Rattle.definition_format.specs.Denoted.Binds.{Target}
 use Rattle.definition_format.specs.Denoted.Filled.{Filled, all_filled, filled_at, unfilled}
-use Rattle.definition_types.proofs.Chains.{fails_as}
+use Rattle.definition_parts.proofs.Chains.{fails_as}
 
 module _ (path base : List ℕ) (target : Target) (bindings : List Bind) (d : Data) (list : Items) (start : Filled)
     (entries : entries_at path d (codes "properties") ≡ Ok list) (based : base ≡ under path (codes "properties")) (first : start ≡ unfilled bindings) where

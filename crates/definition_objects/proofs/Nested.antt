@@ -6,7 +6,7 @@ use Rattle.definition_format.specs.declared.faults.ReadError.{ReadError}
 use Rattle.definition_format.specs.Refusals.{Refusal, Fails}
 use Rattle.definition_format.specs.Document.{under, members_at, entries_at, only_at, each, at_entry}
 use Rattle.definition_format.specs.Denoted.Objects.{Built, Scope, keys_of_object, added_at, object_at}
-use Rattle.definition_types.proofs.Chains.{fails_first, fails_as}
+use Rattle.definition_parts.proofs.Chains.{fails_first, fails_as}
 
 module _ (levels k : ℕ) (level : levels ≡ suc k) (scope : Scope) (parent here : Option ℕ) (path base : List ℕ) (built : Built) (d : Data)
     (ms : Members) (more : Built) (list : Items) (place : here ≡ Some (length built.places)) (based : base ≡ under path (codes "children"))

@@ -13,7 +13,7 @@ use Rattle.bytecode.specs.Reading.RegisterKinds.{Names}
 use Rattle.bytecode.specs.Shape.{shape_fault}
 use Rattle.definition_format.specs.Refusals.{Refusal, or_refused}
 use Rattle.definition_format.specs.Denoted.Programs.{or_bad_program, read_ahead}
-use Rattle.definition_types.proofs.Chains.{bound}
+use Rattle.definition_parts.proofs.Chains.{bound}
 
 -- what is refused is refused of the outline
 pub refused_outline : (names : Names) (d : Data) (fault : OutlineFault) → tested names d ≡ Err fault → outline_in names d ≡ Err fault

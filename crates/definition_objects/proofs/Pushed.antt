@@ -8,7 +8,7 @@ use Rattle.definition_format.specs.Meaning.{Entry, plain_object}
 use Rattle.ui_machine.specs.Outcome.{◌>>=◌}
 use Rattle.definition_format.specs.Refusals.{Refusal, Fails}
 use Rattle.definition_format.specs.Denoted.Objects.{Built, Placed, Scope, place_at, added_at, with_place}
-use Rattle.definition_types.proofs.Chains.{fails_first}
+use Rattle.definition_parts.proofs.Chains.{fails_first}
 
 module _ (path : List ℕ) (scope : Scope) (parent : Option ℕ) (os : List Entry) (before : List Bind) (d : Data) where
   abbrev built : Built

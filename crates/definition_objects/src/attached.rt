@@ -10,10 +10,10 @@ ghost use Rattle.definition_format.specs.Document.{under, path_of};
 ghost use Rattle.definition_format.specs.Denoted.Attached.{name_of, program_under, some_detail, detail_or, some_data, data_or, some_truth, truth_if, is_swapped, attached_in, attached_at, all_attached};
 
 use definition_format::{Attached, ReadError};
-use definition_types::document::{Entries, Part, bad_shape, path_under, unknown_name};
-use definition_types::entries::{ObjectNames, at_most};
-use definition_types::names::is_name;
-use definition_types::reads::{Reads, read_each};
+use definition_parts::document::{Entries, Part, bad_shape, path_under, unknown_name};
+use definition_parts::entries::{ObjectNames, at_most};
+use definition_parts::names::is_name;
+use definition_parts::reads::{Reads, read_each};
 use definitions::programs::{Programs, number_of};
 use serde_json::Value;
 use ui_machine::{Place, ProgramId};

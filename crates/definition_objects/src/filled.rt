@@ -16,7 +16,7 @@ use crate::binds::read_bind;
 use crate::given::{Property, check_in_time, check_writable, given_by, property_named, spec_ahead};
 use crate::targets::Target;
 use definition_format::{DefinitionFault, GivenValue, Path, ReadError};
-use definition_types::document::{Entries, Part, bad_shape, path_under};
+use definition_parts::document::{Entries, Part, bad_shape, path_under};
 use serde_json::Value;
 use std::alloc::Global;
 use ui_machine::Slot;

@@ -14,9 +14,9 @@ ghost use Rattle.definition_format.specs.Denoted.Entries.{name_under};
 ghost use Rattle.definition_format.specs.Denoted.Given.{property_named, is_given, named_once, takes_value, reference, class_ahead, may_be, place_called, of_type, referred, given_by, spec_ahead, place_ahead, is_too_late, in_time};
 
 use definition_format::{DefinitionFault, Given, GivenValue, ReadError, SpecCause};
-use definition_types::document::{Part, bad_shape, bad_value, path_text, path_under, unknown_name};
-use definition_types::entries::{ObjectNames, at_most, name_under};
-use definition_types::names::is_name;
+use definition_parts::document::{Part, bad_shape, bad_value, path_text, path_under, unknown_name};
+use definition_parts::entries::{ObjectNames, at_most, name_under};
+use definition_parts::names::is_name;
 use definition_types::value_of;
 use g_values::{JsonFault, Kind};
 use param_specs::{Spec, SpecTable};

@@ -21,9 +21,9 @@ use crate::targets::Target;
 use definition_format::{
     Bind, DefinitionFault, DefinitionLimit, ObjectBody, Path, ReadError, TypeCause,
 };
-use definition_types::document::{Entries, Part, bad_shape, path_text, path_under, unknown_name};
-use definition_types::entries::{MOST_LEVELS, ObjectNames};
-use definition_types::names::is_name;
+use definition_parts::document::{Entries, Part, bad_shape, path_text, path_under, unknown_name};
+use definition_parts::entries::{MOST_LEVELS, ObjectNames};
+use definition_parts::names::is_name;
 use definitions::places::{MOST_PLACES, Objects, Prototypes, place_in};
 use definitions::programs::Programs;
 use indexmap::IndexMap;

@@ -5,9 +5,9 @@ ghost use Rattle.std.specs.BTreeMap.{get_by_text};
 ghost use Rattle.serde_json.specs.View.{view};
 ghost use Rattle.bytecode.specs.Reading.RegisterKinds.{number_of_place};
 ghost use Rattle.definition_format.specs.Denoted.Entries.{at_most, is_called, name_under, number_from, place_with_id};
-ghost use Rattle.definition_types.specs.EntryViews.{views};
+ghost use Rattle.definition_parts.specs.EntryViews.{views};
 
-use definition_types::entries::{MOST_LEVELS, add_objects, at_most, name_under, section};
+use definition_parts::entries::{MOST_LEVELS, add_objects, at_most, name_under, section};
 use serde_json::Value;
 use std::alloc::{AllocError, Global};
 use std::collections::BTreeMap;

@@ -20,10 +20,10 @@ ghost use Rattle.definition_format.specs.Denoted.Programs.{block_path, member_pa
 
 use bytecode::{OutlineError, OutlineFault, Program, ProgramError, ProgramFault, ProgramPart};
 use definition_format::{DefinitionFault, DefinitionLimit, Path, ReadError};
-use definition_types::document::{
+use definition_parts::document::{
     Entries, Part, bad_shape, escaped, path_text, path_under, path_within,
 };
-use definition_types::names::is_name;
+use definition_parts::names::is_name;
 use definitions::programs::Programs;
 use handler_code::{Names, check_outline, read_program};
 use indexmap::IndexMap;

@@ -18,8 +18,8 @@ use crate::objects::{check_id, class_of};
 use definition_format::{
     DefinitionFault, DefinitionLimit, Given, GivenValue, PrototypeBody, ReadError, SpecCause,
 };
-use definition_types::document::{Entries, Part, bad_shape, path_under};
-use definition_types::reads::{Reads, read_each};
+use definition_parts::document::{Entries, Part, bad_shape, path_under};
+use definition_parts::reads::{Reads, read_each};
 use definition_types::value_of;
 use definitions::places::{MOST_PLACES, Prototypes, prototype_of};
 use g_values::Kind;

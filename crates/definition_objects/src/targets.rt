@@ -1,6 +1,6 @@
 //! Objects whose properties are read.
 
-use definition_types::entries::ObjectNames;
+use definition_parts::entries::ObjectNames;
 use param_specs::SpecTable;
 use type_tree::{TypeId, TypeTree};
 use ui_machine::Place;

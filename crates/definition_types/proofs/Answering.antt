@@ -13,7 +13,7 @@ use Rattle.definition_format.specs.Denoted.Drafts.{Answers, ClassDraft, Draft, a
 use Rattle.definition_format.specs.Denoted.ClassHandlers.{add_handler, class_handler_in, class_handler_at, class_handlers_at}
 use Rattle.definition_format.specs.Denoted.Constructed.{constructed_at}
 use Rattle.definition_format.specs.Denoted.Classes.{answers_at, answering_at}
-use Rattle.definition_types.proofs.Chains.{fails_first, fails_as}
+use Rattle.definition_parts.proofs.Chains.{fails_first, fails_as}
 
 -- a class handler that was added, seen as the types' own
 pub handler_added : (old new : List (List ClassHandler)) (t : ℕ) (h : ClassHandler) → AddsHandler old new t h → add_handler (named_of old) t h ≡ named_of new

@@ -1,16 +1,8 @@
-pub mod Numbered
-pub mod Each
-pub mod InOrder
-pub mod Chains
-pub mod Declaring
-pub mod Escapes
-pub mod Members
 pub mod Parents
-pub mod Values
-pub mod Sections
 pub mod Finding
 pub mod OwnAhead
 pub mod NamesAhead
 pub mod Implementing
 pub mod ByType
 pub mod Answering
+pub mod EnumParts

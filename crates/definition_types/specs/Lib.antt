@@ -1,2 +1,2 @@
-pub mod EntryViews
 pub mod OverrideView
+pub mod EnumDrafts

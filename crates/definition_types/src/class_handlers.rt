@@ -8,11 +8,11 @@ ghost use Rattle.definition_format.specs.Refusals.{Gives, Leads, IsRefusal, or_r
 ghost use Rattle.definition_format.specs.Document.{each, at_entry, nth, path_of};
 ghost use Rattle.definition_format.specs.Denoted.ClassHandlers.{two_in, pair_at, program_at, handler_for, class_handler_in, add_handler, class_handler_at, class_handlers_at};
 
-use crate::document::{Entries, Part, path_text, path_under, path_within};
-use crate::entries::ProgramNames;
 use crate::enums::{bad_part, check_new, name_part};
-use crate::reads::{Reads, read_each};
 use definition_format::{DefinitionFault, ReadError};
+use definition_parts::document::{Entries, Part, path_text, path_under, path_within};
+use definition_parts::entries::ProgramNames;
+use definition_parts::reads::{Reads, read_each};
 use serde_json::Value;
 use signal_core::SignalTable;
 use type_tree::TypeId;

@@ -11,13 +11,13 @@ ghost use Rattle.definition_format.specs.Denoted.Classes.{parent_called, named_p
 
 use crate::class_handlers::give_class_handlers;
 use crate::constructed::give_constructed;
-use crate::document::{Entries, Part, bad_shape, path_under, unknown_name};
-use crate::drafts::{ClassDraft, give_members};
-use crate::entries::{ProgramNames, TypeNames};
 use crate::implements::read_implements;
-use crate::reads::{Reads, read_each};
 use crate::types::{check_room, check_type_name, is_declared};
 use definition_format::{DefinitionFault, DefinitionLimit, ReadError, TypeCause};
+use definition_members::drafts::{ClassDraft, give_members};
+use definition_parts::document::{Entries, Part, bad_shape, path_under, unknown_name};
+use definition_parts::entries::{ProgramNames, TypeNames};
+use definition_parts::reads::{Reads, read_each};
 use param_specs::SpecTable;
 use serde_json::Value;
 use signal_core::SignalTable;

@@ -10,10 +10,10 @@ ghost use Rattle.definition_format.specs.Denoted.Enums.{name_at};
 ghost use Rattle.definition_format.specs.Denoted.ClassHandlers.{program_at};
 ghost use Rattle.definition_format.specs.Denoted.Constructed.{add_program, constructed_at, program_or, set_program};
 
-use crate::document::{Part, bad_shape, unknown_name};
-use crate::entries::ProgramNames;
 use crate::enums::name_in;
 use definition_format::ReadError;
+use definition_parts::document::{Part, bad_shape, unknown_name};
+use definition_parts::entries::ProgramNames;
 use serde_json::Value;
 use std::alloc::AllocError;
 use type_tree::TypeId;

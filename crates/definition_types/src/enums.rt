@@ -1,7 +1,8 @@
 //! The enums and flags types of a definition.
 
-ghost use Rattle.std.specs.Prelude.{◌≡◌, ◌≤ℤ◌, ◌∷◌, ◌++◌, [], codes, pos, map, length, option_and_then, option_map, None, IfOk, IfSome, OnOk, string_bytes};
+ghost use Rattle.std.specs.Prelude.{◌≡◌, ◌≤ℤ◌, ◌∷◌, ◌++◌, [], codes, false, pos, map, length, option_and_then, option_map, None, IfOk, IfSome, OnOk, string_bytes};
 ghost use Rattle.std.specs.List.{list_any};
+ghost use Rattle.std.specs.Ordering.{int_eq};
 ghost use Rattle.std.specs.Str.{bytes_eq};
 ghost use Rattle.serde_json.specs.View.{view, items_view};
 ghost use Rattle.serde_json.specs.Find.{get, as_array, as_str};
@@ -9,16 +10,17 @@ ghost use Rattle.type_tree.specs.Adding.{new_enum, new_flags};
 ghost use Rattle.type_tree.specs.Entry.{enum_member, flags_member};
 ghost use Rattle.g_values.specs.Reading.{whole_number};
 ghost use Rattle.definition_format.specs.Refusals.{Gives, Leads, IsRefusal, shape};
+ghost use Rattle.definition_types.specs.EnumDrafts.{enum_part_at, with_member};
 ghost use Rattle.definition_format.specs.Document.{path_of, nth, under, each, at_entry};
 ghost use Rattle.definition_format.specs.Denoted.Enums.{three_in, parts_at, name_if, name_at, number_if, number_at, unless_there, has_name, some_items, some_entries_at, enum_member_at, flags_member_at, members_with, enum_at, flags_at};
 
-use crate::document::{Entries, Part, bad_shape, path_text, path_under, path_within};
-use crate::names::is_name;
-use crate::numbers::whole_number;
-use crate::reads::{Reads, read_each};
+use crate::enum_drafts::EnumDraft;
 use crate::types::{check_room, check_type_name};
 use definition_format::{DefinitionFault, ReadError};
-use g_values::has_number;
+use definition_parts::document::{Entries, Part, bad_shape, path_text, path_under, path_within};
+use definition_parts::names::is_name;
+use definition_parts::numbers::whole_number;
+use definition_parts::reads::{Reads, read_each};
 use serde_json::Value;
 use type_tree::{EnumMember, FlagsMember, TypeTree};
 
@@ -103,23 +105,10 @@ fn number_part(part: Part<'_>, value: &Value, low: i128, high: i128) -> Result<i
     }
 }
 
-// Whether one of these members has the name.
-#[tactic(auto, using(crate::proofs::Members::any_mapped))]
-fn has_name(members: &[EnumMember], name: &str) -> bool
-    ensures { result ≡ has_name (map enum_member members.now) name.now }
-{
-    any_named(members, name)
-}
-
-fn any_named(members: &[EnumMember], name: &str) -> bool
-    ensures { result ≡ list_any (λ m. bytes_eq (string_bytes m.name) name.now) members.now }
-{
-    members.iter().any(|member| member.name.as_str() == name)
-}
-
 // Refuses a part of an entry that an earlier entry has.
 pub(crate) fn check_new(part: Part<'_>, index: usize, there: bool) -> Result<(), ReadError>
-    ensures { Gives (λ _. tt) result (unless_there (nth (path_of part.entry.path) index) there) }
+    ensures new { Gives (λ _. tt) result (unless_there (nth (path_of part.entry.path) index) there) }
+    ensures fresh { OnOk result (there ≡ false) }
 {
     if there {
         return Err(ReadError::Refused(DefinitionFault::Duplicate(path_within(
@@ -130,19 +119,21 @@ pub(crate) fn check_new(part: Part<'_>, index: usize, there: bool) -> Result<(),
 }
 
 // A member of an enum, beside those before.
-#[tactic(auto, unfolding(definition_format::specs::Denoted::Enums::enum_member_at))]
-fn enum_member_of(part: Part<'_>, members: &[EnumMember]) -> Result<EnumMember, ReadError>
-    ensures { Gives (λ m. map enum_member members.now ++ enum_member m ∷ []) result (enum_member_at (path_of part.entry.path) (map enum_member members.now) (view part.entry.value.now)) }
+#[tactic(auto, unfolding(crate::specs::EnumDrafts::enum_part_at))]
+fn enum_member_of(part: Part<'_>, draft: &EnumDraft) -> Result<EnumMember, ReadError>
+    ensures member { Gives (λ m. with_member draft.now (enum_member m)) result (enum_part_at (path_of part.entry.path) draft.now (view part.entry.value.now)) }
+    ensures name { IfOk result (λ m. list_any (bytes_eq (string_bytes m.name)) draft.now.names ≡ false) }
+    ensures number { IfOk result (λ m. list_any (int_eq m.number) draft.now.numbers ≡ false) }
 {
     let (name, nick, number) = parts_of(part)?;
     let name = name_part(part, 0, name)?;
-    check_new(part, 0, has_name(members, name))?;
+    check_new(part, 0, draft.has_name(name))?;
     let nick = name_part(part, 1, nick)?;
     let number = number_part(part, number, i128::from(i32::MIN), i128::from(i32::MAX))?;
-    check_new(part, 2, has_number(members, number))?;
+    let number = number as i32;
+    check_new(part, 2, draft.has_number(number))?;
     let name = String::from_str(part.alloc, name)?;
     let nick = String::from_str(part.alloc, nick)?;
-    let number = number as i32;
     Ok(EnumMember { name, nick, number })
 }
 
@@ -150,30 +141,36 @@ fn enum_member_of(part: Part<'_>, members: &[EnumMember]) -> Result<EnumMember, 
 #[derive(Clone, Copy)]
 struct EnumMembers;
 
-impl Reads<Vec<EnumMember>> for EnumMembers {
-    ghost use Rattle.std.specs.Prelude.{List, map};
-    ghost use Rattle.ui_machine.specs.Definition.Types.{Member};
-    ghost use Rattle.type_tree.specs.Entry.{enum_member};
-    ghost use Rattle.definition_format.specs.Denoted.Enums.{enum_member_at};
+impl Reads<EnumDraft> for EnumMembers {
+    ghost use Rattle.definition_types.specs.EnumDrafts.{EnumParts, enum_part_at};
 
-    ghost State = { List Member };
+    ghost State = { EnumParts };
 
-    ghost seen = { λ members. map enum_member members.items };
+    ghost seen = { λ draft. draft };
 
     ghost Unchanged = { Unit {0} };
 
-    ghost kept = { λ members. tt };
+    ghost kept = { λ draft. tt };
 
     ghost known = { λ r. Unit {0} };
 
-    ghost step = { λ r path members d. enum_member_at path members d };
+    ghost step = { λ r path e d. enum_part_at path e d };
 
-    #[tactic(auto, using(std::proofs::lemmas::List::map_push))]
-    fn read(&self, part: Part<'_>, members: &mut Vec<EnumMember>) -> Result<(), ReadError> {
-        let member = enum_member_of(part, members.as_slice())?;
-        members.push(member)?;
+    fn read(&self, part: Part<'_>, draft: &mut EnumDraft) -> Result<(), ReadError> {
+        let member = enum_member_of(part, draft)?;
+        let key = String::from_str(part.alloc, member.name.as_str())?;
+        draft.add(key, member.number, member)?;
         Ok(())
     }
+}
+
+// The members of an enum that a list has.
+fn read_enum_members(list: Entries<'_>) -> Result<Vec<EnumMember>, ReadError>
+    ensures { Gives (λ v. map enum_member v.items) result (each (at_entry enum_member_at list.entry.path.now) 0 [] (items_view list.entry.items.now)) }
+{
+    let mut draft = EnumDraft::new(list.alloc);
+    read_each(&EnumMembers, list, &mut draft)?;
+    Ok(draft.into_members())
 }
 
 // A member of a flags type, beside those before.
@@ -252,8 +249,7 @@ fn enum_members(part: Part<'_>) -> Result<Vec<EnumMember>, ReadError>
         path: path.as_str(),
         items,
     };
-    let mut members = Vec::new(part.alloc);
-    read_each(&EnumMembers, list, &mut members)?;
+    let members = read_enum_members(list)?;
     Ok(members)
 }
 

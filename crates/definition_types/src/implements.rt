@@ -14,12 +14,12 @@ ghost use Rattle.definition_format.specs.Denoted.Brought.{is_brought, is_again};
 ghost use Rattle.definition_format.specs.Denoted.Drafts.{draft_of};
 ghost use Rattle.definition_format.specs.Denoted.Implements.{type_with, named_at, brings_again, check_brought, check_prerequisites, check_overrides, implemented_once, implemented_at, implements_listed, implements_at, interface_at_entry};
 
-use crate::document::{Entries, Part, path_text, path_under};
-use crate::entries::TypeNames;
 use crate::overrides::{Heir, read_own};
 use crate::own_signals::{has_own_signal, read_own_signals};
-use crate::reads::{Reads, read_each};
 use definition_format::{DefinitionFault, ReadError, TypeCause};
+use definition_parts::document::{Entries, Part, entry_name, path_text, path_under};
+use definition_parts::entries::TypeNames;
+use definition_parts::reads::{Reads, read_each};
 use definitions::types::type_name;
 use param_specs::SpecTable;
 use serde_json::Value;
@@ -43,16 +43,6 @@ pub(crate) fn add_type(types: &mut Vec<TypeId>, t: TypeId) -> Result<(), AllocEr
     }
     types.push(t)?;
     Ok(())
-}
-
-// A name that is an entry of a list.
-pub(crate) fn entry_name<'a>(part: Part<'a>) -> Result<&'a str, ReadError>
-    ensures { Gives (λ s. s.now) result (or_refused (shape (path_of part.entry.path)) (as_str (view part.entry.value.now))) }
-{
-    match part.value.as_str() {
-        Some(name) => Ok(name),
-        None => Err(ReadError::Refused(DefinitionFault::Shape(path_text(part.alloc, part.path)?))),
-    }
 }
 
 // A name that is an entry of a list, which nothing has.

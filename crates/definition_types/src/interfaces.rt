@@ -10,13 +10,13 @@ ghost use Rattle.definition_format.specs.Denoted.Types.{is_declared};
 ghost use Rattle.definition_format.specs.Denoted.Drafts.{draft_of};
 ghost use Rattle.definition_format.specs.Denoted.Interfaces.{required_or, required_at, requires_at, interface_type_at, interface_at};
 
-use crate::document::{Entries, Part, path_text, path_under};
-use crate::drafts::{Draft, give_members};
-use crate::entries::TypeNames;
-use crate::implements::{add_type, entry_name, unknown_entry};
-use crate::reads::{Reads, read_each};
+use crate::implements::{add_type, unknown_entry};
 use crate::types::{check_room, check_type_name, is_declared};
 use definition_format::{DefinitionFault, ReadError, TypeCause};
+use definition_members::drafts::{Draft, give_members};
+use definition_parts::document::{Entries, Part, entry_name, path_text, path_under};
+use definition_parts::entries::TypeNames;
+use definition_parts::reads::{Reads, read_each};
 use param_specs::SpecTable;
 use serde_json::Value;
 use signal_core::SignalTable;

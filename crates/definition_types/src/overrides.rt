@@ -14,12 +14,12 @@ ghost use Rattle.definition_format.specs.Denoted.Properties.{inherited_of, spec_
 ghost use Rattle.definition_format.specs.Denoted.Overrides.{if_read, own_name, is_own, own_named, compared, override_by, override_of, is_missing, is_different, override_cause, own_at, own_ahead};
 ghost use Rattle.definition_types.specs.OverrideView.{own_view, override_view};
 
-use crate::document::{Entries, Part, listed_ahead, path_under};
-use crate::entries::TypeNames;
 use crate::own_signals::OwnSignals;
-use crate::properties::spec_in;
-use crate::reads::{Reads, read_each};
 use definition_format::{ReadError, SpecCause};
+use definition_members::properties::spec_in;
+use definition_parts::document::{Entries, Part, listed_ahead, path_under};
+use definition_parts::entries::TypeNames;
+use definition_parts::reads::{Reads, read_each};
 use indexmap::IndexMap;
 use param_specs::{Spec, SpecTable, is_same_spec};
 use serde_json::Value;

@@ -9,10 +9,10 @@ ghost use Rattle.definition_format.specs.Document.{path_of, each, at_entry};
 ghost use Rattle.definition_types.specs.OverrideView.{names_of};
 ghost use Rattle.definition_format.specs.Denoted.Brought.{own_signal_at, own_signals_ahead};
 
-use crate::document::{Entries, Part, listed_ahead, path_under};
 use crate::overrides::own_name;
-use crate::reads::{Reads, read_each};
 use definition_format::ReadError;
+use definition_parts::document::{Entries, Part, listed_ahead, path_under};
+use definition_parts::reads::{Reads, read_each};
 use indexmap::IndexMap;
 
 /// The names of a class's own signals, in canonical spelling.

@@ -12,9 +12,9 @@ ghost use Rattle.definition_format.specs.Document.{path_of, under};
 ghost use Rattle.definition_format.specs.Denoted.Entries.{is_called, name_under};
 ghost use Rattle.definition_format.specs.Denoted.Types.{is_declared, is_from, room_for_type, new_type_name};
 
-use crate::document::{Part, path_under};
-use crate::entries::name_under;
 use definition_format::{DefinitionFault, DefinitionLimit, ReadError, TypeCause};
+use definition_parts::document::{Part, path_under};
+use definition_parts::entries::name_under;
 use definitions::types::type_name;
 use serde_json::Value;
 use std::alloc::{AllocError, Global};

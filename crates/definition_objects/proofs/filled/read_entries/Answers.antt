@@ -2,7 +2,7 @@ use Rattle.std.proofs.lemmas.Result.{err_from_is_err_and}
 use Rattle.serde_json.specs.View.{items_view}
 use Rattle.definition_format.specs.Document.{each, at_entry}
 use Rattle.definition_format.specs.Denoted.Filled.{filled_at}
-use Rattle.definition_types.proofs.Each.{goes_on, ends, is_done}
+use Rattle.definition_parts.proofs.Each.{goes_on, ends, is_done}
 use Rattle.definition_objects.specs.BindView.{filled_view, target_of}
 use Rattle.definition_objects.proofs.filled.read_entries.Goals as goal
 

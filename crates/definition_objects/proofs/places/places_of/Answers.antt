@@ -3,9 +3,9 @@ use Rattle.std.proofs.lemmas.Option.{slice_get-map}
 use Rattle.std.specs.BTreeMap.{get_by_text}
 use Rattle.serde_json.specs.View.{view}
 use Rattle.bytecode.specs.Reading.RegisterKinds.{number_of_place}
-use Rattle.definition_types.specs.EntryViews.{views}
+use Rattle.definition_parts.specs.EntryViews.{views}
 use Rattle.definition_format.specs.Denoted.Entries.{at_most, is_called, name_under, number_from}
-use Rattle.definition_types.proofs.Numbered.{number_before, slice_got}
+use Rattle.definition_parts.proofs.Numbered.{number_before, slice_got}
 use Rattle.definition_objects.proofs.PlaceIds.{kept_of_given}
 use Rattle.definition_objects.proofs.places.places_of.Goals as goal
 

@@ -1,7 +1,7 @@
 use Rattle.std.proofs.Common.{◌≡◌, ◌≤◌, ℕ, List, codes, drop, length, map, option_map}
 use Rattle.std.specs.BTreeMap.{get_by_text}
 use Rattle.bytecode.specs.Reading.RegisterKinds.{number_of_place}
-use Rattle.definition_types.specs.EntryViews.{views}
+use Rattle.definition_parts.specs.EntryViews.{views}
 use Rattle.definition_format.specs.Denoted.Entries.{at_most, name_under, number_from}
 use Rattle.definition_objects.proofs.places.places_of.Given as goal
 

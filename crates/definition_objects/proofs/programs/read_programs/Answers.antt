@@ -5,7 +5,7 @@ use Rattle.handler_code.specs.Reading.ReaderViews.{names_view}
 use Rattle.definition_format.specs.Meaning.{plain_program}
 use Rattle.definition_format.specs.Document.{each, at_entry}
 use Rattle.definition_format.specs.Denoted.Programs.{program_at}
-use Rattle.definition_types.proofs.Each.{goes_on, ends, is_done}
+use Rattle.definition_parts.proofs.Each.{goes_on, ends, is_done}
 use Rattle.definition_objects.proofs.programs.read_programs.Goals as goal
 
 pub returns-in_err-read_entry-clause-read : goal.returns-in_err-read_entry-clause-read

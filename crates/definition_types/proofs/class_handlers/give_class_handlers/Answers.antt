@@ -5,7 +5,7 @@ use Rattle.signal_core.specs.Table.{named_of}
 use Rattle.definition_format.specs.Refusals.{Fails}
 use Rattle.definition_format.specs.Document.{path_of, each, at_entry}
 use Rattle.definition_format.specs.Denoted.ClassHandlers.{class_handler_at}
-use Rattle.definition_types.proofs.Sections.{class_handlers_read_fail}
+use Rattle.definition_parts.proofs.Sections.{class_handlers_read_fail}
 use Rattle.definition_types.proofs.class_handlers.give_class_handlers.Goals as goal
 
 pub returns-in_err-read_class_handlers-clause-handlers : goal.returns-in_err-read_class_handlers-clause-handlers

@@ -1,5 +1,5 @@
 use Rattle.std.proofs.Common.{arith}
-use Rattle.definition_types.proofs.Sections.{not_two}
+use Rattle.definition_parts.proofs.Sections.{not_two}
 use Rattle.definition_types.proofs.class_handlers.two_in.Goals as goal
 
 pub returns-in-len1 : goal.returns-in-len1

@@ -6,7 +6,7 @@ use Rattle.definition_format.specs.Document.{path_of}
 use Rattle.definition_format.specs.Denoted.Drafts.{answers_of, draft_of, with_answers}
 use Rattle.definition_format.specs.Denoted.Classes.{keys_of_class, declared_at, answering_at}
 use Rattle.definition_types.proofs.Answering.{answering_fails, answering_with}
-use Rattle.definition_types.proofs.Chains.{members_fail, unset_fails, only_fails, type_done}
+use Rattle.definition_parts.proofs.Chains.{members_fail, unset_fails, only_fails, type_done}
 use Rattle.definition_format.proofs.Soundness.{within_declared}
 use Rattle.definition_types.proofs.classes.read_class.Goals as goal
 

@@ -1,7 +1,7 @@
 use Rattle.std.proofs.Common.{codes}
 use Rattle.serde_json.specs.View.{view}
 use Rattle.definition_format.specs.Document.{path_of}
-use Rattle.definition_types.proofs.Sections.{some_there}
+use Rattle.definition_parts.proofs.Sections.{some_there}
 use Rattle.definition_types.proofs.enums.some_entries.Goals as goal
 
 pub returns-in-Some : goal.returns-in-Some

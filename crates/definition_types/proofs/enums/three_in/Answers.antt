@@ -1,5 +1,5 @@
 use Rattle.std.proofs.Common.{arith}
-use Rattle.definition_types.proofs.Sections.{not_three}
+use Rattle.definition_parts.proofs.Sections.{not_three}
 use Rattle.definition_types.proofs.enums.three_in.Goals as goal
 
 pub returns-in-len1 : goal.returns-in-len1

@@ -3,7 +3,7 @@ use Rattle.std.proofs.lemmas.Result.{err_from_is_err_and}
 use Rattle.serde_json.specs.View.{view}
 use Rattle.definition_format.specs.Document.{path_of}
 use Rattle.definition_format.specs.Denoted.Drafts.{draft_of}
-use Rattle.definition_types.proofs.Chains.{fails_as}
+use Rattle.definition_parts.proofs.Chains.{fails_as}
 use Rattle.definition_types.proofs.Implementing.{implements_with}
 use Rattle.definition_types.proofs.implements.read_implements.Goals as goal
 

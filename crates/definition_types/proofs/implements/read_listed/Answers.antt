@@ -4,7 +4,7 @@ use Rattle.serde_json.specs.View.{view, items_view}
 use Rattle.definition_format.specs.Document.{path_of, under}
 use Rattle.definition_types.specs.OverrideView.{own_view, names_of}
 use Rattle.definition_format.specs.Denoted.Drafts.{draft_of}
-use Rattle.definition_types.proofs.Chains.{fails_as}
+use Rattle.definition_parts.proofs.Chains.{fails_as}
 use Rattle.definition_types.proofs.Implementing.{listed_with}
 use Rattle.definition_types.proofs.implements.read_listed.Goals as goal
 

@@ -4,7 +4,7 @@ use Rattle.serde_json.specs.View.{view, items_view, members_view}
 use Rattle.definition_format.specs.Document.{path_of}
 use Rattle.definition_format.specs.Denoted.Drafts.{draft_of}
 use Rattle.definition_format.specs.Denoted.Interfaces.{keys_of_interface, interface_type_at}
-use Rattle.definition_types.proofs.Chains.{members_fail, only_fails, type_done}
+use Rattle.definition_parts.proofs.Chains.{members_fail, only_fails, type_done}
 use Rattle.definition_format.proofs.Soundness.{within_interface}
 use Rattle.definition_types.proofs.interfaces.read_interface.Goals as goal
 

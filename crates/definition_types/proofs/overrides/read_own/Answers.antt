@@ -3,7 +3,7 @@ use Rattle.std.proofs.lemmas.Result.{err_from_is_err_and}
 use Rattle.serde_json.specs.View.{view, items_view}
 use Rattle.param_specs.specs.Table.{own_of}
 use Rattle.definition_format.specs.Document.{path_of, under}
-use Rattle.definition_types.proofs.Chains.{fails_as}
+use Rattle.definition_parts.proofs.Chains.{fails_as}
 use Rattle.definition_types.proofs.OwnAhead.{own_ahead_is}
 use Rattle.definition_types.proofs.overrides.read_own.Goals as goal
 

@@ -2,7 +2,7 @@ use Rattle.std.proofs.Common.{◌≡◌, ◌∙◌, codes}
 use Rattle.std.proofs.lemmas.Result.{err_from_is_err_and}
 use Rattle.serde_json.specs.View.{view, items_view}
 use Rattle.definition_format.specs.Document.{path_of, under}
-use Rattle.definition_types.proofs.Chains.{fails_as}
+use Rattle.definition_parts.proofs.Chains.{fails_as}
 use Rattle.definition_types.proofs.NamesAhead.{names_ahead_are}
 use Rattle.definition_types.proofs.own_signals.read_own_signals.Goals as goal
 

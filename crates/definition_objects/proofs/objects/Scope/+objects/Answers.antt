@@ -5,7 +5,7 @@ use Rattle.definition_format.specs.Document.{path_of, each, at_entry}
 use Rattle.definition_format.specs.Meaning.{place_number}
 use Rattle.definition_objects.specs.ScopeView.{built_of, scope_of}
 use Rattle.definition_format.specs.Denoted.Objects.{object_at}
-use Rattle.definition_types.proofs.Each.{goes_on, ends, is_done}
+use Rattle.definition_parts.proofs.Each.{goes_on, ends, is_done}
 use Rattle.definition_objects.proofs.Nested.{children_fail, other_member, all_read}
 use Rattle.definition_objects.proofs.objects.Scope.+objects.Goals as goal
 

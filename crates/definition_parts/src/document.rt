@@ -1,0 +1,320 @@
+//! The parts of a JSON document, with their paths.
+
+ghost use Rattle.std.specs.Prelude.{◌≡◌, ◌∷◌, [], map, not, is_some, string_bytes, option_copied, option_map, IfOk, ◌++◌, OnOk};
+ghost use Rattle.std.specs.Char.{encode_utf8};
+ghost use Rattle.std.specs.List.{find, list_any};
+ghost use Rattle.std.specs.Str.{bytes_eq};
+ghost use Rattle.std.specs.BTreeMap.{keys};
+ghost use Rattle.serde_json.specs.View.{view, items_view, members_view};
+ghost use Rattle.serde_json.specs.Find.{as_str, get};
+ghost use Rattle.definition_format.specs.Refusals.{Gives, IsRefusal, or_refused, shape, unknown, value_fault};
+ghost use Rattle.definition_format.specs.Document.{under, nth, path_of, at_key, members_at, text_at, truth_at, entries_at, is_absent_or_empty, listed_ahead, nothing_at, absent_at, escaped, only_at, document};
+
+use definition_format::{DefinitionFault, Path, ReadError};
+use g_values::JsonFault;
+use serde_json::{Map, Value};
+use std::alloc::{AllocError, Global};
+
+/// The most bytes of a definition.
+pub const MAX_BYTES: usize = 4_194_304;
+
+/// The JSON value that the bytes hold.
+#[tactic(auto, unfolding(definition_format::specs::Document::document))]
+pub fn parsed(alloc: Global, bytes: &[u8]) -> Result<Value, ReadError>
+    ensures { Gives view result (document bytes.now) }
+{
+    if bytes.len() > MAX_BYTES {
+        return Err(ReadError::Refused(DefinitionFault::TooLong));
+    }
+    let Ok(text) = str::from_utf8(bytes) else {
+        return Err(ReadError::Refused(DefinitionFault::NotUtf8));
+    };
+    match Value::from_str(alloc, text) {
+        Ok(value) => Ok(value),
+        Err(error) if error.is_memory() => Err(ReadError::OutOfMemory),
+        Err(_) => Err(ReadError::Refused(DefinitionFault::NotJson)),
+    }
+}
+
+/// A value of a document, and where it stands.
+#[derive(Clone, Copy)]
+pub struct Part<'a> {
+    pub alloc: Global,
+    pub path: Path<'a>,
+    pub value: &'a Value,
+}
+
+/// The entries of a list of a document, and the path of the list.
+#[derive(Clone, Copy)]
+pub struct Entries<'a> {
+    pub alloc: Global,
+    pub path: &'a str,
+    pub items: &'a [Value],
+}
+
+// The path of an entry of a list.
+fn path_of_entry(alloc: Global, path: &str, index: usize) -> Result<String, AllocError>
+    ensures { IfOk result (λ s. string_bytes s ≡ nth path.now index) }
+{
+    Ok(format!(in alloc; "{path}/{index}")?)
+}
+
+/// The path as a text.
+pub fn path_text(alloc: Global, path: Path<'_>) -> Result<String, AllocError>
+    ensures { IfOk result (λ s. string_bytes s ≡ path_of path.entry) }
+{
+    match path.index {
+        Some(index) => path_of_entry(alloc, path.base, index),
+        None => String::from_str(alloc, path.base),
+    }
+}
+
+/// The path of a member of the value there.
+pub fn path_under(alloc: Global, path: Path<'_>, key: &str) -> Result<String, AllocError>
+    ensures { IfOk result (λ s. string_bytes s ≡ under (path_of path.entry) key.now) }
+{
+    let whole = path_text(alloc, path)?;
+    let start = whole.as_str();
+    Ok(format!(in alloc; "{start}/{key}")?)
+}
+
+/// The path of an entry of the list there.
+pub fn path_within(alloc: Global, path: Path<'_>, index: usize) -> Result<String, AllocError>
+    ensures { IfOk result (λ s. string_bytes s ≡ nth (path_of path.entry) index) }
+{
+    let whole = path_text(alloc, path)?;
+    path_of_entry(alloc, whole.as_str(), index)
+}
+
+/// A name that is an entry of a list.
+///
+/// # Errors
+///
+/// `Shape` at the entry if it is no text.
+pub fn entry_name<'a>(part: Part<'a>) -> Result<&'a str, ReadError>
+    ensures { Gives (λ s. s.now) result (or_refused (shape (path_of part.entry.path)) (as_str (view part.entry.value.now))) }
+{
+    match part.value.as_str() {
+        Some(name) => Ok(name),
+        None => Err(ReadError::Refused(DefinitionFault::Shape(path_text(part.alloc, part.path)?))),
+    }
+}
+
+/// A fault of shape at a member.
+pub fn bad_shape(alloc: Global, path: Path<'_>, key: &str) -> Result<ReadError, ReadError>
+    ensures { IsRefusal (shape (under (path_of path.entry) key.now)) result }
+{
+    Ok(ReadError::Refused(DefinitionFault::Shape(path_under(alloc, path, key)?)))
+}
+
+/// A fault of a name at a member, which nothing has.
+pub fn unknown_name(part: Part<'_>, key: &str, name: &str) -> Result<ReadError, ReadError>
+    ensures { IsRefusal (unknown (under (path_of part.entry.path) key.now) name.now) result }
+{
+    let path = path_under(part.alloc, part.path, key)?;
+    let name = String::from_str(part.alloc, name)?;
+    Ok(ReadError::Refused(DefinitionFault::Unknown(path, name)))
+}
+
+// The path of a member of the value there, or of the value itself.
+fn path_at(alloc: Global, path: Path<'_>, key: Option<&str>) -> Result<String, AllocError>
+    ensures { IfOk result (λ s. string_bytes s ≡ at_key (path_of path.entry) (option_map (λ k. k.now) key.entry)) }
+{
+    match key {
+        Some(key) => path_under(alloc, path, key),
+        None => path_text(alloc, path),
+    }
+}
+
+/// A fault of shape at a member, or at the value itself.
+pub fn bad_shape_at(part: Part<'_>, key: Option<&str>) -> Result<ReadError, ReadError>
+    ensures { IsRefusal (shape (at_key (path_of part.entry.path) (option_map (λ k. k.now) key.entry))) result }
+{
+    Ok(ReadError::Refused(DefinitionFault::Shape(path_at(part.alloc, part.path, key)?)))
+}
+
+/// A fault of a name there, which nothing has.
+pub fn unknown_at(part: Part<'_>, key: Option<&str>, name: &str) -> Result<ReadError, ReadError>
+    ensures { IsRefusal (unknown (at_key (path_of part.entry.path) (option_map (λ k. k.now) key.entry)) name.now) result }
+{
+    let path = path_at(part.alloc, part.path, key)?;
+    let name = String::from_str(part.alloc, name)?;
+    Ok(ReadError::Refused(DefinitionFault::Unknown(path, name)))
+}
+
+/// A fault of a value at a member.
+pub fn bad_value(
+    alloc: Global,
+    path: Path<'_>,
+    key: &str,
+    cause: JsonFault,
+) -> Result<ReadError, ReadError>
+    ensures { IsRefusal (value_fault (under (path_of path.entry) key.now) cause) result }
+{
+    let path = path_under(alloc, path, key)?;
+    Ok(ReadError::Refused(DefinitionFault::ValueFault(path, cause)))
+}
+
+// Whether a member is absent or an empty list.
+#[tactic(auto, using(crate::proofs::Members::no_items_is))]
+fn is_absent_or_empty(member: Option<&Value>) -> bool
+    ensures { result ≡ is_absent_or_empty (option_map (λ m. view m.now) member.entry) }
+{
+    match member {
+        None => true,
+        Some(value) => match value.as_array() {
+            Some(items) => items.is_empty(),
+            None => false,
+        },
+    }
+}
+
+/// The entries of a member that is a list, read ahead; none where it is no list.
+pub fn listed_ahead<'a>(value: &'a Value, key: &str) -> &'a [Value]
+    ensures { items_view result.now ≡ listed_ahead key.now (view value.now) }
+{
+    match value.get(key).and_then(Value::as_array) {
+        Some(items) => items.as_slice(),
+        None => &[],
+    }
+}
+
+impl<'a> Part<'a> {
+    /// The members of the value, which must be an object.
+    pub fn members(self) -> Result<&'a Map<String, Value>, ReadError>
+        ensures { Gives (λ m. members_view m.now.entries) result (members_at (path_of self.entry.path) (view self.entry.value.now)) }
+    {
+        match self.value.as_object() {
+            Some(members) => Ok(members),
+            None => Err(ReadError::Refused(DefinitionFault::Shape(path_text(
+                self.alloc, self.path,
+            )?))),
+        }
+    }
+
+    /// A member that must be a text.
+    pub fn text(self, key: &str) -> Result<&'a str, ReadError>
+        ensures { Gives (λ s. s.now) result (text_at (path_of self.entry.path) (view self.entry.value.now) key.now) }
+    {
+        match self.value.get(key).and_then(Value::as_str) {
+            Some(text) => Ok(text),
+            None => Err(bad_shape(self.alloc, self.path, key)?),
+        }
+    }
+
+    /// A truth value, which is false where it is absent.
+    pub fn truth(self, key: &str) -> Result<bool, ReadError>
+        ensures { Gives (λ b. b) result (truth_at (path_of self.entry.path) (view self.entry.value.now) key.now) }
+    {
+        let Some(value) = self.value.get(key) else {
+            return Ok(false);
+        };
+        match value.as_bool() {
+            Some(truth) => Ok(truth),
+            None => Err(bad_shape(self.alloc, self.path, key)?),
+        }
+    }
+
+    /// The entries of a list, which may be absent.
+    pub fn entries(self, key: &str) -> Result<&'a [Value], ReadError>
+        ensures { Gives (λ s. items_view s.now) result (entries_at (path_of self.entry.path) (view self.entry.value.now) key.now) }
+    {
+        let Some(list) = self.value.get(key) else {
+            return Ok(&[]);
+        };
+        match list.as_array() {
+            Some(items) => Ok(items.as_slice()),
+            None => Err(bad_shape(self.alloc, self.path, key)?),
+        }
+    }
+
+    /// Tests that lists, of which there is nothing so far, are absent or empty.
+    #[tactic(auto, using(crate::proofs::Members::find_map))]
+    pub fn check_nothing(self, keys: &[&str]) -> Result<(), ReadError>
+        ensures { Gives (λ _. tt) result (nothing_at (path_of self.entry.path) (view self.entry.value.now) (map (λ k. k.now) keys.now)) }
+    {
+        match first_given(self.value, keys) {
+            None => Ok(()),
+            Some(key) => Err(bad_shape(self.alloc, self.path, key)?),
+        }
+    }
+
+    /// Tests that members, which are no lists, are absent so far.
+    #[tactic(auto, using(crate::proofs::Members::find_map))]
+    pub fn check_absent(self, keys: &[&str]) -> Result<(), ReadError>
+        ensures { Gives (λ _. tt) result (absent_at (path_of self.entry.path) (view self.entry.value.now) (map (λ k. k.now) keys.now)) }
+    {
+        match first_present(self.value, keys) {
+            None => Ok(()),
+            Some(key) => Err(bad_shape(self.alloc, self.path, key)?),
+        }
+    }
+
+    /// Tests that the members have no other keys.
+    #[tactic(auto, using(crate::proofs::Members::first_other_is))]
+    pub fn check_only(self, members: &Map<String, Value>, keys: &[&str]) -> Result<(), ReadError>
+        ensures { Gives (λ _. tt) result (only_at (path_of self.entry.path) (members_view members.now.entries) (map (λ k. k.now) keys.now)) }
+    {
+        match first_other(members, keys) {
+            None => Ok(()),
+            Some(key) => {
+                let key = escaped(self.alloc, key.as_str())?;
+                Err(bad_shape(self.alloc, self.path, key.as_str())?)
+            }
+        }
+    }
+}
+
+// The first member of these that is there.
+fn first_present<'a>(value: &Value, keys: &[&'a str]) -> Option<&'a str>
+    ensures { result ≡ find (λ k. is_some (get k.now (view value.now))) keys.now }
+{
+    keys.iter().copied().find(|key| value.get(*key).is_some())
+}
+
+// The first member of these that is neither absent nor an empty list.
+fn first_given<'a>(value: &Value, keys: &[&'a str]) -> Option<&'a str>
+    ensures { result ≡ find (λ k. not (is_absent_or_empty (get k.now (view value.now)))) keys.now }
+{
+    keys.iter()
+        .copied()
+        .find(|key| !is_absent_or_empty(value.get(*key)))
+}
+
+// Whether a key is one of these.
+fn is_among(keys: &[&str], key: &str) -> bool
+    ensures { result ≡ list_any (λ k. bytes_eq k.now key.now) keys.now }
+{
+    keys.iter().any(|known| *known == key)
+}
+
+// The first key that is none of these.
+fn first_other<'a>(members: &'a Map<String, Value>, known: &[&str]) -> Option<&'a String>
+    ensures { option_copied result ≡ find (λ key. not (list_any (λ k. bytes_eq k.now (string_bytes key)) known.now)) (keys members.now) }
+{
+    members.keys().find(|key| !is_among(known, key.as_str()))
+}
+
+// Adds a character as a path writes it.
+#[tactic(auto, using(crate::proofs::Escapes::escaped_plain))]
+fn push_escaped(out: &mut String, c: char) -> Result<(), AllocError>
+    ensures { OnOk result (string_bytes out.new ≡ string_bytes out.old ++ escaped (encode_utf8 c)) }
+{
+    match c {
+        '~' => out.push_str("~0")?,
+        '/' => out.push_str("~1")?,
+        _ => out.push(c)?,
+    }
+    Ok(())
+}
+
+/// A key as a path writes it: `~0` for `~`, and `~1` for `/`.
+pub fn escaped(alloc: Global, key: &str) -> Result<String, AllocError>
+    ensures { IfOk result (λ s. string_bytes s ≡ escaped key.now) }
+{
+    let mut out = String::new(alloc);
+    for c in key.chars() {
+        push_escaped(&mut out, c)?;
+    }
+    Ok(out)
+}
