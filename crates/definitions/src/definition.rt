@@ -24,7 +24,7 @@ use crate::types::type_name;
 use bytecode::Program;
 use definition_format::Bind;
 use param_specs::{Spec, SpecTable};
-use signal_core::{DeclaredSignal, Emission, SignalTable};
+use signal_core::{ClassHandler, DeclaredSignal, Emission, SignalTable};
 use std::marker::Model;
 use type_tree::{TypeId, TypeTree};
 use ui_machine::{Limits, ObjectId, Place, ProgramId, SignalId, Slot};
@@ -243,6 +243,26 @@ impl Definition {
             return None;
         }
         number_at(self.constructed.as_slice(), class.index())
+    }
+
+    /// How many types it has, classes among them.
+    pub fn class_count(&self) -> usize
+        ensures count { result ≡ length self.now.classes }
+        ensures few { result ≤ 256 }
+    {
+        // For the proof: a tree has few types.
+        let _ = self.types.parent(TypeId::new(0));
+        self.types.len()
+    }
+
+    /// The programs that a class itself names for signals, in document order.
+    pub fn class_handlers(&self, class: TypeId) -> &[ClassHandler]
+        ensures { result.now ≡ (class_of self.now class).handlers }
+    {
+        if class.index() >= self.types.len() {
+            return &[];
+        }
+        self.signals.own_handlers(class)
     }
 
     /// The program of a number, if there is one. The kinds in its code are known, and it has at most 32 registers.

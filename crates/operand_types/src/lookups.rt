@@ -60,6 +60,13 @@ impl<'a> Lookups<'a> {
         })
     }
 
+    /// The definition itself.
+    pub fn definition(&self) -> &'a Definition
+        ensures { result.now ≡ self.now }
+    {
+        self.definition
+    }
+
     /// Its types. No class has a shape so far.
     pub fn types(&self) -> &TypeTree
         ensures types { result.now ≡ self.now.types }

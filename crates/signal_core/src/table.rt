@@ -81,8 +81,8 @@ impl SignalTable {
         add(alloc, &mut self.handlers, t.index(), handler)
     }
 
-    /// The class handlers that a type names itself.
-    pub(crate) fn own_handlers(&self, t: TypeId) -> &[ClassHandler]
+    /// The class handlers that a type names itself, in the order of naming.
+    pub fn own_handlers(&self, t: TypeId) -> &[ClassHandler]
         ensures { result.now ≡ named_of self.now.handlers t }
     {
         let at = t.index();
