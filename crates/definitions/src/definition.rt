@@ -1,11 +1,11 @@
 //! What a definition says.
 
-ghost use Rattle.std.specs.Prelude.{◌≡◌, ◌<◌, ◌≤◌, ◌+◌, None, ℕ, length, option_map, slice_get, string_bytes, IfSome, map};
+ghost use Rattle.std.specs.Prelude.{◌≡◌, ◌<◌, ◌≤◌, ◌+◌, None, ℕ, length, option_and_then, option_map, slice_get, string_bytes, IfSome, map};
 ghost use Rattle.ui_machine.specs.Definition.Names.{place_named};
 ghost use Rattle.ui_machine.specs.Definition.Lookups.{class_of, place_of, program_at, program_of, spec_of, specs_of, slot_of, type_of};
 ghost use Rattle.ui_machine.specs.Seq.{read};
 ghost use Rattle.ui_machine.specs.Rules.Connections.{signal_number};
-ghost use Rattle.ui_machine.specs.Rules.EmissionPlan.{signal_of};
+ghost use Rattle.ui_machine.specs.Rules.EmissionPlan.{class_handler_of, signal_of};
 ghost use Rattle.bytecode.specs.Known.{HasKnownBlocks};
 ghost use Rattle.bytecode.specs.View.{program_view};
 ghost use Rattle.param_specs.specs.View.{spec_view};
@@ -212,6 +212,27 @@ impl Definition {
             return None;
         }
         self.signals.signal(&self.types, class, number)
+    }
+
+    /// How many signals a class has, `notify` among them.
+    pub fn signal_count(&self, class: TypeId) -> usize
+        ensures count { result ≡ length (class_of self.now class).signals }
+        ensures few { result ≤ 16385 }
+    {
+        if class.index() >= self.types.len() {
+            return 0;
+        }
+        self.signals.signal_count(&self.types, class)
+    }
+
+    /// The program that a class runs for the signal of a number: its own, or that of its nearest ancestor that names one.
+    pub fn class_handler(&self, class: TypeId, number: SignalId) -> Option<ProgramId>
+        ensures { result ≡ option_and_then (λ s. class_handler_of self.now class s.name) (signal_of self.now class number) }
+    {
+        if class.index() >= self.types.len() {
+            return None;
+        }
+        self.signals.class_handler(&self.types, class, number)
     }
 
     /// What an emission by an object begins with: of the signal of its class of a number, with a detail. `None` where the class has no signal of

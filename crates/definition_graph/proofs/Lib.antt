@@ -1,0 +1,2 @@
+pub mod Constructed
+pub mod ChannelLists
