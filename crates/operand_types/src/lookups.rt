@@ -27,6 +27,7 @@ use ui_machine::{Place, ProgramId, SignalId, Slot};
 const MOST_PROGRAMS: ProgramId = 256;
 
 /// A definition, with a table of which types are which. A contract sees the definition.
+#[derive(Drop)]
 pub struct Lookups<'a> {
     definition: &'a Definition,
     // Of each type, whether it is each other.
