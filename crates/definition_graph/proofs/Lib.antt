@@ -1,2 +1,3 @@
 pub mod Constructed
 pub mod ChannelLists
+pub mod Numbered

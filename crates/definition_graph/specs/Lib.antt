@@ -1,1 +1,2 @@
 pub mod ChannelView
+pub mod Numbering

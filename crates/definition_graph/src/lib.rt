@@ -4,6 +4,8 @@
 //! numbered in the order of the report.
 #![tactic(auto)]
 
+mod channel_numbers;
 mod report_channels;
 
+pub use channel_numbers::ChannelNumbers;
 pub use report_channels::channels;
