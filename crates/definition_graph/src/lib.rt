@@ -5,7 +5,9 @@
 #![tactic(auto)]
 
 mod channel_numbers;
+mod makings;
 mod report_channels;
 
 pub use channel_numbers::ChannelNumbers;
+pub use makings::making;
 pub use report_channels::channels;

@@ -25,8 +25,8 @@ fn runs_constructed(definition: &Definition, class: TypeId) -> bool
     }
 }
 
-// The end of a construction, where it runs a program.
-fn add_constructed(
+/// The end of a construction, where it runs a program.
+pub(crate) fn add_constructed(
     channels: &mut Vec<Channel>,
     lookups: &Lookups<'_>,
     place: Place,
