@@ -1,10 +1,9 @@
 -- A block that is read from its end.
-use Rattle.std.proofs.Common.{Bool, true, false, ◌≡◌, refl, sym, ap, ◌∙◌, subst, ℕ, zero, suc, ◌+◌, ◌-◌, ◌<◌, ◌≤◌, ◌^◌, List, [], ◌∷◌, length, map, drop, cond, nat_eq, slice_index_or, arith}
+use Rattle.std.proofs.Common.{Bool, true, false, ◌≡◌, refl, sym, ap, ◌∙◌, subst, ℕ, zero, suc, ◌<◌, ◌≤◌, ◌^◌, List, [], ◌∷◌, length, drop, cond, nat_eq, arith}
 use Rattle.std.specs.Prelude.{◌&&◌}
-use Rattle.ui_machine.specs.Seq.{read}
 use Rattle.ui_machine.specs.Definition.Programs.{Instruction}
-use Rattle.law_typing.specs.Rules.Brackets.{is_among, is_balanced, is_bracketed, is_empty, keeps_brackets, less_one, opened}
-use Rattle.definition_rules.specs.BracketSteps.{AreFew, Counts, Goes, Step, freezes, is_kept, opened_by, step_of, thaws, writes}
+use Rattle.law_typing.specs.Rules.Brackets.{is_balanced, is_bracketed, is_empty, keeps_brackets, less_one, opened}
+use Rattle.definition_rules.specs.BracketSteps.{AreFew, Counts, Goes, Step, freezes, opened_by, step_of, thaws, writes}
 use Rattle.definition_rules.proofs.InstructionSteps.{kept_by, opened_before}
 use Rattle.definition_rules.proofs.OpenBrackets.{times_within}
 

@@ -2,3 +2,4 @@ mod FirstFaults
 mod InstructionSteps
 mod OpenBrackets
 mod BlockBrackets
+mod PairedEnds

@@ -1,10 +1,10 @@
 -- How often the bracket of each register is open.
-use Rattle.std.proofs.Common.{Bool, true, false, inl, inr, ◌≡◌, refl, sym, ap, ◌∙◌, subst, ℕ, zero, suc, ◌+◌, ◌-◌, ◌<◌, ◌≤◌, List, [], ◌∷◌, length, Option, None, Some, cond, nat_eq, slice_index_or, arith}
+use Rattle.std.proofs.Common.{Bool, true, false, inl, inr, ◌≡◌, refl, sym, ap, ◌∙◌, subst, ℕ, zero, suc, ◌+◌, ◌-◌, ◌<◌, ◌≤◌, List, [], ◌∷◌, length, None, Some, cond, nat_eq, slice_index_or, arith}
 use Rattle.std.specs.Prelude.{◌||◌, not}
 use Rattle.std.proofs.lemmas.Bool.{cases_lt}
 use Rattle.std.proofs.lemmas.Bool.Decides.{nat_tests}
 use Rattle.ui_machine.specs.Seq.{read, write}
-use Rattle.law_typing.specs.Rules.Brackets.{is_among, is_empty, keeps, less_one}
+use Rattle.law_typing.specs.Rules.Brackets.{is_among, is_empty, less_one}
 use Rattle.definition_rules.specs.BracketSteps.{Counts, Goes, freezes, thaws, times, writes}
 
 eq_swapped : (x y : ℕ) → nat_eq x y ≡ nat_eq y x

@@ -1,2 +1,4 @@
 pub mod BracketSteps
 pub mod Faults
+pub mod PairedEnds
+pub mod Parts

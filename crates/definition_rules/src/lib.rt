@@ -1,10 +1,17 @@
-//! A rule of a definition beside those of its instructions: freezes and thaws match within a block.
+//! The rules of a definition beside those of its instructions: handlers take what they are given, bindings fit the properties that they
+//! bind, no property is in two pairs, and freezes and thaws match within a block.
 //!
-//! Nothing runs. The rule is that of the law on typing. The first fault in document order is looked for, and the contract says that it is the
-//! first of the law's list.
+//! Nothing runs. The rules are those of the law on typing. Of each the first fault in document order is looked for, and the contract says that
+//! it is the first of the law's list.
 #![tactic(auto)]
 
+mod binding_rules;
 mod brackets;
+mod handlers;
 mod open_brackets;
+mod pairs;
 
+pub use binding_rules::{BindingRule, BrokenBinding, binding_fault};
 pub use brackets::{Unbalanced, bracket_fault, is_balanced};
+pub use handlers::{Handling, handler_fault};
+pub use pairs::{SecondPair, pair_fault};

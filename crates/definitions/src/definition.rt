@@ -1,11 +1,11 @@
 //! What a definition says.
 
-ghost use Rattle.std.specs.Prelude.{◌≡◌, ◌<◌, ◌≤◌, ◌+◌, None, ℕ, length, option_map, slice_get, string_bytes, IfSome, map};
+ghost use Rattle.std.specs.Prelude.{◌≡◌, ◌<◌, ◌≤◌, ◌+◌, None, ℕ, length, option_and_then, option_map, slice_get, string_bytes, IfSome, map};
 ghost use Rattle.ui_machine.specs.Definition.Names.{place_named};
 ghost use Rattle.ui_machine.specs.Definition.Lookups.{class_of, place_of, program_at, program_of, spec_of, specs_of, slot_of, type_of};
 ghost use Rattle.ui_machine.specs.Seq.{read};
 ghost use Rattle.ui_machine.specs.Rules.Connections.{signal_number};
-ghost use Rattle.ui_machine.specs.Rules.EmissionPlan.{signal_of};
+ghost use Rattle.ui_machine.specs.Rules.EmissionPlan.{class_handler_of, signal_of};
 ghost use Rattle.bytecode.specs.Known.{HasKnownBlocks};
 ghost use Rattle.bytecode.specs.View.{program_view};
 ghost use Rattle.param_specs.specs.View.{spec_view};
@@ -24,7 +24,7 @@ use crate::types::type_name;
 use bytecode::Program;
 use definition_format::Bind;
 use param_specs::{Spec, SpecTable};
-use signal_core::{DeclaredSignal, Emission, SignalTable};
+use signal_core::{ClassHandler, DeclaredSignal, Emission, SignalTable};
 use std::marker::Model;
 use type_tree::{TypeId, TypeTree};
 use ui_machine::{Limits, ObjectId, Place, ProgramId, SignalId, Slot};
@@ -214,6 +214,27 @@ impl Definition {
         self.signals.signal(&self.types, class, number)
     }
 
+    /// How many signals a class has, `notify` among them.
+    pub fn signal_count(&self, class: TypeId) -> usize
+        ensures count { result ≡ length (class_of self.now class).signals }
+        ensures few { result ≤ 16385 }
+    {
+        if class.index() >= self.types.len() {
+            return 0;
+        }
+        self.signals.signal_count(&self.types, class)
+    }
+
+    /// The program that a class runs for the signal of a number: its own, or that of its nearest ancestor that names one.
+    pub fn class_handler(&self, class: TypeId, number: SignalId) -> Option<ProgramId>
+        ensures { result ≡ option_and_then (λ s. class_handler_of self.now class s.name) (signal_of self.now class number) }
+    {
+        if class.index() >= self.types.len() {
+            return None;
+        }
+        self.signals.class_handler(&self.types, class, number)
+    }
+
     /// What an emission by an object begins with: of the signal of its class of a number, with a detail. `None` where the class has no signal of
     /// the number.
     pub fn emission(
@@ -243,6 +264,26 @@ impl Definition {
             return None;
         }
         number_at(self.constructed.as_slice(), class.index())
+    }
+
+    /// How many types it has, classes among them.
+    pub fn class_count(&self) -> usize
+        ensures count { result ≡ length self.now.classes }
+        ensures few { result ≤ 256 }
+    {
+        // For the proof: a tree has few types.
+        let _ = self.types.parent(TypeId::new(0));
+        self.types.len()
+    }
+
+    /// The programs that a class itself names for signals, in document order.
+    pub fn class_handlers(&self, class: TypeId) -> &[ClassHandler]
+        ensures { result.now ≡ (class_of self.now class).handlers }
+    {
+        if class.index() >= self.types.len() {
+            return &[];
+        }
+        self.signals.own_handlers(class)
     }
 
     /// The program of a number, if there is one. The kinds in its code are known, and it has at most 32 registers.

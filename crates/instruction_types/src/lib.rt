@@ -13,7 +13,7 @@ mod instructions;
 mod objects;
 mod properties;
 mod signals;
-mod signatures;
+pub mod signatures;
 mod sources;
 
 pub use blocks::{BrokenRule, IllTyped, block_fault, program_fault, typing_fault};

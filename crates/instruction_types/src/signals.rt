@@ -1,22 +1,18 @@
 //! Instructions on signals and handlers.
 
-ghost use Rattle.std.specs.Prelude.{◌≡◌, map, option_map, string_bytes};
+ghost use Rattle.std.specs.Prelude.{map, option_map};
 ghost use Rattle.g_values.specs.View.{kind_view};
 ghost use Rattle.bytecode.specs.View.{connect_view, number_of, signal_instruction_view};
-ghost use Rattle.signal_core.specs.SignalView.{declared_view};
 ghost use Rattle.ui_machine.specs.Definition.Programs as words;
-ghost use Rattle.law_typing.specs.Rules.Signatures.{takes_detail};
 ghost use Rattle.law_typing.specs.Rules.Typing.{connecting, emitting, on_handlers, signal_named, takes_result, typed};
 ghost use Rattle.operand_types.specs.Views.{Leaves, Tests, kinds_of};
 
 use crate::arguments::check_arguments;
-use crate::signatures::{given_kinds, program_named, takes};
-use bitflags::Flags;
+use crate::signatures::{given_kinds, program_named, takes, takes_detail, text_of};
 use bytecode::{Connection, Register, RegisterKind, SignalInstruction};
 use g_values::Kind;
 use operand_types::operands::{data_in, kind_in, operand};
 use operand_types::{Lookups, Rule, TypingError, Written};
-use signal_core::{DeclaredSignal, SignalFlags};
 use std::alloc::Global;
 use type_tree::TypeId;
 use ui_machine::SignalId;
@@ -28,36 +24,6 @@ fn signal_named(lookups: &Lookups<'_>, class: TypeId, name: &str) -> Result<Sign
     match lookups.signal_number(class, name) {
         Some(number) => Ok(number),
         None => Err(Rule::Unknown),
-    }
-}
-
-// A text that may be left out.
-fn text_of(text: &Option<String>) -> Option<&str>
-    ensures { option_map (λ s. s.now) result ≡ option_map string_bytes text.now }
-{
-    match text {
-        Some(text) => Some(text.as_str()),
-        None => None,
-    }
-}
-
-// Whether a signal takes a detail. That of `notify` names a property.
-fn takes_detail(
-    lookups: &Lookups<'_>,
-    class: TypeId,
-    number: SignalId,
-    signal: &DeclaredSignal<'_>,
-    detail: Option<&str>,
-) -> bool
-    ensures { result ≡ takes_detail lookups.now class number (declared_view signal.now) (option_map (λ s. s.now) detail.entry) }
-{
-    let Some(detail) = detail else {
-        return true;
-    };
-    if number == 0 {
-        lookups.slot(class, detail).is_some()
-    } else {
-        signal.flags.contains(SignalFlags::DETAILED)
     }
 }
 

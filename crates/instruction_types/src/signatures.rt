@@ -1,18 +1,23 @@
-//! What programs are given, and whether they take it.
+//! What programs are given as they run for signals and sources, and whether they take it.
 
-ghost use Rattle.std.specs.Prelude.{◌≡◌, ◌++◌, length, map, option_map, IfOk, OnOk, Some};
+ghost use Rattle.std.specs.Prelude.{◌≡◌, ◌++◌, length, map, option_map, string_bytes, IfOk, OnOk, Some};
 ghost use Rattle.g_values.specs.View.{kind_view};
 ghost use Rattle.bytecode.specs.View.{program_view, register_kind_view};
+ghost use Rattle.signal_core.specs.SignalView.{declared_view};
 ghost use Rattle.ui_machine.specs.Definition.Kinds as kinds;
-ghost use Rattle.law_typing.specs.Rules.Signatures.{data_kinds, given_kinds, parameters_fit, result_fits, takes};
+ghost use Rattle.law_typing.specs.Rules.Signatures.{data_kinds, given_kinds, parameters_fit, result_fits, takes, takes_detail};
 ghost use Rattle.law_typing.specs.Rules.Typing.{program_named};
 ghost use Rattle.operand_types.specs.Views.{Tests, kinds_of};
 
+use bitflags::Flags;
 use bytecode::{Program, RegisterKind};
 use g_values::Kind;
 use operand_types::fits::{fits, fits_plain};
 use operand_types::{Lookups, Rule};
+use signal_core::{DeclaredSignal, SignalFlags};
 use std::alloc::{AllocError, Global};
+use type_tree::TypeId;
+use ui_machine::SignalId;
 
 /// The program of a name.
 #[tactic(auto, unfolding(law_typing::specs::Rules::Typing::program_named))]
@@ -49,7 +54,11 @@ fn push_params(given: &mut Vec<RegisterKind>, params: &[Kind]) -> Result<(), All
 }
 
 /// What a handler is given: the instance, the arguments and its data; swapped, the data, the arguments and the instance.
-pub(crate) fn given_kinds(
+///
+/// # Errors
+///
+/// `AllocError` where no memory is found.
+pub fn given_kinds(
     alloc: Global,
     swapped: bool,
     instance: RegisterKind,
@@ -128,7 +137,7 @@ fn result_fits(lookups: &Lookups<'_>, result_kind: Option<Kind>, wanted: Option<
 }
 
 /// Whether a program takes what it is given, and gives what is wanted.
-pub(crate) fn takes(
+pub fn takes(
     lookups: &Lookups<'_>,
     program: &Program,
     given: &[RegisterKind],
@@ -138,4 +147,34 @@ pub(crate) fn takes(
 {
     parameters_fit(lookups, given, program.params.as_slice())
         && result_fits(lookups, program.result, wanted)
+}
+
+/// A text that may be left out.
+pub fn text_of(text: &Option<String>) -> Option<&str>
+    ensures { option_map (λ s. s.now) result ≡ option_map string_bytes text.now }
+{
+    match text {
+        Some(text) => Some(text.as_str()),
+        None => None,
+    }
+}
+
+/// Whether a signal of a class, by its number, takes a detail. That of `notify` names a property.
+pub fn takes_detail(
+    lookups: &Lookups<'_>,
+    class: TypeId,
+    number: SignalId,
+    signal: &DeclaredSignal<'_>,
+    detail: Option<&str>,
+) -> bool
+    ensures { result ≡ takes_detail lookups.now class number (declared_view signal.now) (option_map (λ s. s.now) detail.entry) }
+{
+    let Some(detail) = detail else {
+        return true;
+    };
+    if number == 0 {
+        lookups.slot(class, detail).is_some()
+    } else {
+        signal.flags.contains(SignalFlags::DETAILED)
+    }
 }

@@ -27,6 +27,7 @@ use ui_machine::{Place, ProgramId, SignalId, Slot};
 const MOST_PROGRAMS: ProgramId = 256;
 
 /// A definition, with a table of which types are which. A contract sees the definition.
+#[derive(Drop)]
 pub struct Lookups<'a> {
     definition: &'a Definition,
     // Of each type, whether it is each other.
@@ -58,6 +59,13 @@ impl<'a> Lookups<'a> {
             definition,
             ancestry: rows(alloc, definition.types())?,
         })
+    }
+
+    /// The definition itself.
+    pub fn definition(&self) -> &'a Definition
+        ensures { result.now ≡ self.now }
+    {
+        self.definition
     }
 
     /// Its types. No class has a shape so far.

@@ -7,9 +7,9 @@ use std::marker::Model;
 use type_tree::is_spelling;
 use ui_machine::ProgramId;
 
-/// The program that a class names for a signal, by the signal's canonical name.
+/// The program that a class names for a signal, by the signal's canonical name. A contract sees the machine's.
 #[derive(Drop)]
-pub(crate) struct ClassHandler {
+pub struct ClassHandler {
     signal: String,
     program: ProgramId,
 }
@@ -44,7 +44,15 @@ impl ClassHandler {
         is_spelling(self.signal.as_str(), name)
     }
 
-    pub(crate) fn program(&self) -> ProgramId
+    /// The signal, by its canonical name.
+    pub fn signal(&self) -> &str
+        ensures { result.now ≡ self.now.signal }
+    {
+        self.signal.as_str()
+    }
+
+    /// The program, by its number.
+    pub fn program(&self) -> ProgramId
         ensures { result ≡ self.now.program }
     {
         self.program

@@ -34,6 +34,7 @@ mod table;
 mod turn;
 mod walking;
 
+pub use class_handler::ClassHandler;
 pub use connection::Connection;
 pub use cursor::Cursor;
 pub use emission::{Accumulator, Emission, is_last};

@@ -21,6 +21,9 @@ use ui_machine::{ProgramId, SignalId};
 /// The most signals of a type and its ancestors. `notify` and the signals of interfaces do not count.
 pub const MOST_SIGNALS: usize = 64;
 
+// The most signals of a type, those of interfaces among them: those of 256 types.
+const MOST_DECLARED: usize = 16384;
+
 /// The signals of each type's own, in the order of declaration, and the class handlers that it names.
 ///
 /// A type's signals have numbers: 0 is `notify`, then from the root down come each class's own and those of the interfaces that it names. An
@@ -81,8 +84,8 @@ impl SignalTable {
         add(alloc, &mut self.handlers, t.index(), handler)
     }
 
-    /// The class handlers that a type names itself.
-    pub(crate) fn own_handlers(&self, t: TypeId) -> &[ClassHandler]
+    /// The class handlers that a type names itself, in the order of naming.
+    pub fn own_handlers(&self, t: TypeId) -> &[ClassHandler]
         ensures { result.now ≡ named_of self.now.handlers t }
     {
         let at = t.index();
@@ -222,6 +225,18 @@ impl SignalTable {
             count += added.len();
         }
         Err(count)
+    }
+
+    /// How many signals a type has, `notify` among them.
+    pub fn signal_count(&self, tree: &TypeTree, t: TypeId) -> usize
+        ensures count { result ≡ length (signals_of tree.now self.now.signals t) }
+        ensures few { result ≤ 16385 }
+    {
+        let _ = &self.own;
+        match self.signal_at(tree, t, MOST_DECLARED) {
+            Ok(_) => unreachable!(),
+            Err(count) => count + 1,
+        }
     }
 
     /// The number of a type's signal, by any spelling of its name.

@@ -1,7 +1,7 @@
-use Rattle.std.proofs.Common.{◌≡◌, ◌∙◌, true, false, sym, ap, subst, ◌+◌, ◌-◌, ◌<◌, ◌^◌, ◌∷◌, length, drop, map, slice_index_or, arith}
+use Rattle.std.proofs.Common.{◌≡◌, ◌∙◌, sym, ap, subst, ◌+◌, ◌-◌, ◌<◌, ◌^◌, ◌∷◌, length, drop, map, slice_index_or, arith}
 use Rattle.std.proofs.lemmas.List.{length-map}
 use Rattle.bytecode.specs.View.{instruction_view}
-use Rattle.definition_rules.specs.BracketSteps.{Goes, step_of, step_view}
+use Rattle.definition_rules.specs.BracketSteps.{Goes, step_of}
 use Rattle.operand_types.proofs.MappedLists.{from_entry}
 use Rattle.definition_rules.proofs.BlockBrackets.{IsRead, few, stops, goes_on}
 use Rattle.definition_rules.proofs.brackets.is_balanced.Goals as goal

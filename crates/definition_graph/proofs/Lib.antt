@@ -1,0 +1,4 @@
+pub mod Constructed
+pub mod ChannelLists
+pub mod Numbered
+pub mod MakingLists

@@ -1,0 +1,3 @@
+pub mod ChannelView
+pub mod Makings
+pub mod Numbering

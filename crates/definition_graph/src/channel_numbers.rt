@@ -1,0 +1,110 @@
+//! The numbers of channels, in the order of the report.
+
+ghost use Rattle.std.specs.Prelude.{◌≡◌, ◌<◌, ℕ, length, slice_get, Some, IfNone, IfOk, IfSome, OnOk};
+ghost use Rattle.law_typing.specs.Graph.Channels.{channels};
+ghost use Rattle.definition_graph.specs.ChannelView.{channel_of, channels_of};
+ghost use Rattle.definition_graph.specs.Numbering.{AreNumbered, key_of, keyed};
+
+use crate::report_channels::channels;
+use operand_types::Lookups;
+use std::alloc::{AllocError, Global};
+use std::collections::BTreeMap;
+use std::marker::Model;
+use ui_machine::{Channel, Member};
+
+/// The channels of a definition, numbered in the order of the report. A contract sees the list of them.
+#[derive(Drop)]
+pub struct ChannelNumbers {
+    channels: Vec<Channel>,
+    // The number of each, by its place, what sort of channel it is, and its slot or number there.
+    numbers: BTreeMap<(u16, u16, u16), usize>,
+}
+
+impl Model for ChannelNumbers {
+    ghost use Rattle.std.specs.Prelude.{List, length};
+    ghost use Rattle.law_typing.specs.Graph.Channels as law;
+    ghost use Rattle.definition_graph.specs.ChannelView.{channels_of};
+    ghost use Rattle.definition_graph.specs.Numbering.{AreNumbered};
+
+    ghost Value = { List law.Channel };
+
+    ghost view = { λ n. channels_of n.channels.items };
+
+    ghost invariant = { λ n. AreNumbered (channels_of n.channels.items) n.numbers (length n.channels.items) };
+}
+
+// What tells a channel from others.
+fn key_of(channel: &Channel) -> (u16, u16, u16)
+    ensures { result ≡ key_of (channel_of channel.now) }
+{
+    let place = channel.place.0;
+    match channel.member {
+        Member::Constructed => (place, 0, 0),
+        Member::Property(slot) => (place, 1, slot),
+        Member::Signal(number) => (place, 2, number),
+    }
+}
+
+// One of some channels.
+fn channel_at(channels: &[Channel], number: usize) -> Channel
+    requires { number < length channels.now }
+    ensures { slice_get (channels_of channels.now) number ≡ Some (channel_of result) }
+{
+    channels[number]
+}
+
+// The numbers of some channels.
+fn numbers_of(
+    alloc: Global,
+    channels: &[Channel],
+) -> Result<BTreeMap<(u16, u16, u16), usize>, AllocError>
+    ensures { IfOk result (λ numbers. AreNumbered (channels_of channels.now) numbers (length channels.now)) }
+{
+    let mut numbers = BTreeMap::new(alloc);
+    for number in 0..channels.len() {
+        let channel = channel_at(channels, number);
+        numbers.insert(key_of(&channel), number)?;
+    }
+    Ok(numbers)
+}
+
+impl ChannelNumbers {
+    /// The channels of a definition.
+    ///
+    /// # Errors
+    ///
+    /// `AllocError` where no memory is found.
+    pub fn new(alloc: Global, lookups: &Lookups<'_>) -> Result<ChannelNumbers, AllocError>
+        ensures { IfOk result (λ numbers. numbers ≡ channels lookups.now) }
+    {
+        let channels = channels(alloc, lookups)?;
+        let numbers = numbers_of(alloc, channels.as_slice())?;
+        Ok(ChannelNumbers { channels, numbers })
+    }
+
+    /// How many there are.
+    pub fn count(&self) -> usize
+        ensures { result ≡ length self.now }
+    {
+        self.channels.len()
+    }
+
+    /// The channel of a number.
+    pub fn channel(&self, number: usize) -> Channel
+        requires { number < length self.now }
+        ensures { slice_get self.now number ≡ Some (channel_of result) }
+    {
+        channel_at(self.channels.as_slice(), number)
+    }
+
+    /// The number of a channel, if it is one of the definition's.
+    pub fn number(&self, channel: &Channel) -> Option<usize>
+        ensures found { IfSome result (λ number. slice_get self.now number ≡ Some (channel_of channel.now)) }
+        ensures none { IfNone result ((number : ℕ) → slice_get self.now number ≡ Some (channel_of channel.now) → ⊥) }
+    {
+        match self.numbers.get(&key_of(channel)) {
+            Some(number) => Some(*number),
+            None => None,
+        }
+    }
+}

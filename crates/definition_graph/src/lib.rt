@@ -1,0 +1,13 @@
+//! The channels' graph of a definition: what may be raised at the places of its objects.
+//!
+//! A channel is the notification of a readable property of a place, a signal of a place, or the end of a construction there. Channels are
+//! numbered in the order of the report.
+#![tactic(auto)]
+
+mod channel_numbers;
+mod makings;
+mod report_channels;
+
+pub use channel_numbers::ChannelNumbers;
+pub use makings::making;
+pub use report_channels::channels;

@@ -1,0 +1,128 @@
+//! The channels of a definition, in the order of the report.
+
+ghost use Rattle.std.specs.Prelude.{◌≡◌, ◌++◌, map, IfOk, OnOk};
+ghost use Rattle.ui_machine.specs.Definition.Lookups.{class_of, spec_of, specs_of};
+ghost use Rattle.ui_machine.specs.Rules.Construction.{constructed_runs};
+ghost use Rattle.law_typing.specs.Graph.Channels.{channels, channels_at, emitted_at, is_filled, programs_of, readable_from};
+ghost use Rattle.definition_graph.specs.ChannelView.{channels_of, constructed_if, readable_one};
+
+use definitions::Definition;
+use operand_types::Lookups;
+use std::alloc::{AllocError, Global};
+use type_tree::TypeId;
+use ui_machine::{Channel, Member, Place, Slot};
+
+// Whether a class or an ancestor of it names a program for its objects once they are constructed.
+fn runs_constructed(definition: &Definition, class: TypeId) -> bool
+    ensures { result ≡ is_filled (programs_of (constructed_runs definition.now class)) }
+{
+    if definition.constructed(class).is_some() {
+        return true;
+    }
+    match definition.types().parent(class) {
+        Some(parent) => runs_constructed(definition, parent),
+        None => false,
+    }
+}
+
+/// The end of a construction, where it runs a program.
+pub(crate) fn add_constructed(
+    channels: &mut Vec<Channel>,
+    lookups: &Lookups<'_>,
+    place: Place,
+    class: TypeId,
+) -> Result<(), AllocError>
+    ensures { OnOk result (channels_of channels.new.items ≡ channels_of channels.old.items ++ constructed_if lookups.now place.0 class) }
+{
+    if !runs_constructed(lookups.definition(), class) {
+        return Ok(());
+    }
+    let member = Member::Constructed;
+    channels.push(Channel { place, member })?;
+    Ok(())
+}
+
+// A property, where it is there and readable.
+fn add_property(
+    channels: &mut Vec<Channel>,
+    lookups: &Lookups<'_>,
+    place: Place,
+    class: TypeId,
+    slot: Slot,
+) -> Result<(), AllocError>
+    ensures { OnOk result (channels_of channels.new.items ≡ channels_of channels.old.items ++ readable_one place.0 slot (spec_of lookups.now class slot)) }
+{
+    let Some(spec) = lookups.spec(class, slot) else {
+        return Ok(());
+    };
+    if !spec.is_readable() {
+        return Ok(());
+    }
+    let member = Member::Property(slot);
+    channels.push(Channel { place, member })?;
+    Ok(())
+}
+
+// The readable properties of a place of a class.
+fn add_properties(
+    channels: &mut Vec<Channel>,
+    lookups: &Lookups<'_>,
+    place: Place,
+    class: TypeId,
+) -> Result<(), AllocError>
+    ensures { OnOk result (channels_of channels.new.items ≡ channels_of channels.old.items ++ readable_from place.0 0 (specs_of lookups.now class)) }
+{
+    for slot in 0..lookups.definition().slots(class) {
+        add_property(channels, lookups, place, class, slot as Slot)?;
+    }
+    Ok(())
+}
+
+// The signals of a place of a class, but for `notify`.
+fn add_signals(
+    channels: &mut Vec<Channel>,
+    lookups: &Lookups<'_>,
+    place: Place,
+    class: TypeId,
+) -> Result<(), AllocError>
+    ensures { OnOk result (channels_of channels.new.items ≡ channels_of channels.old.items ++ emitted_at place.0 (class_of lookups.now class).signals) }
+{
+    for number in 1..lookups.definition().signal_count(class) {
+        let member = Member::Signal(number as u16);
+        channels.push(Channel { place, member })?;
+    }
+    Ok(())
+}
+
+// The channels of a place.
+fn add_channels_at(
+    channels: &mut Vec<Channel>,
+    lookups: &Lookups<'_>,
+    place: Place,
+) -> Result<(), AllocError>
+    ensures { OnOk result (channels_of channels.new.items ≡ channels_of channels.old.items ++ channels_at lookups.now place.0) }
+{
+    let Some(class) = lookups.class_at(place) else {
+        return Ok(());
+    };
+    add_constructed(channels, lookups, place, class)?;
+    add_properties(channels, lookups, place, class)?;
+    add_signals(channels, lookups, place, class)?;
+    Ok(())
+}
+
+/// The channels of a definition, in the order of the report: place by place, and at each the end of a construction that runs a program, the
+/// readable properties, and the signals but `notify`.
+///
+/// # Errors
+///
+/// `AllocError` where no memory is found.
+pub fn channels(alloc: Global, lookups: &Lookups<'_>) -> Result<Vec<Channel>, AllocError>
+    ensures { IfOk result (λ found. channels_of found.items ≡ channels lookups.now) }
+{
+    let mut found = Vec::new(alloc);
+    for place in 0..lookups.definition().place_count() {
+        add_channels_at(&mut found, lookups, Place(place as u16))?;
+    }
+    Ok(found)
+}

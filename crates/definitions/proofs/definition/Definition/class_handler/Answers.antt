@@ -1,0 +1,15 @@
+use Rattle.std.proofs.Common.{◌∙◌, arith}
+use Rattle.definition_format.specs.Meaning.{parts}
+use Rattle.definitions.proofs.ClassHandlers.{known_handler, unknown_handler}
+use Rattle.definitions.proofs.definition.Definition.class_handler.Goals as goal
+
+pub returns-then-index-len : goal.returns-then-index-len
+returns-then-index-len c =
+    unknown_handler (parts c.self.inside.types c.self.inside.specs c.self.inside.signals c.self.inside.constructed.items c.self.inside.programs.entries c.self.inside.prototypes.entries c.self.inside.objects.entries c.self.inside.bindings.items c.self.inside.limits)
+    c.self.invariant.sound c.args.self.now c.self.view_is c.args.class c.args.number (omega (arith, c.len.ensures, c.index.ensures))
+
+pub returns : goal.returns
+returns c =
+    c.class_handler.ensures
+    ∙ known_handler (parts c.self.inside.types c.self.inside.specs c.self.inside.signals c.self.inside.constructed.items c.self.inside.programs.entries c.self.inside.prototypes.entries c.self.inside.objects.entries c.self.inside.bindings.items c.self.inside.limits)
+    c.self.invariant.sound c.args.self.now c.self.view_is c.args.class c.args.number (omega (arith, c.len.ensures, c.index.ensures))

@@ -1,0 +1,4 @@
+pub mod FaultProofs
+pub mod TurnProofs
+pub mod CapProofs
+pub mod ReckonProofs

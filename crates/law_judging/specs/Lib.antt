@@ -1,0 +1,3 @@
+pub mod FirstFaults
+pub mod Cycles
+pub mod CappedNumbers

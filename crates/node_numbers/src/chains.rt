@@ -1,0 +1,61 @@
+//! How many nodes that count stand on the longest chain that ends in a node.
+
+ghost use Rattle.std.specs.Prelude.{◌≡◌, ◌<◌, ◌≤◌, ℕ, length, replicate, slice_index_or, false, IfOk};
+ghost use Rattle.dependency_order.specs.Graphs.{IsOrder};
+ghost use Rattle.node_numbers.specs.Chains.{AreRanks, handed_on, one_if};
+ghost use Rattle.node_numbers.specs.Numbers.{LeadInside};
+
+use dependency_order::Dependencies;
+use std::alloc::{AllocError, Global};
+
+// Some nodes have this number at least.
+fn hand_on(ranks: &mut Vec<u64>, nodes: &[u32], number: u64)
+    requires { LeadInside nodes.now ranks.old.items }
+    ensures { ranks.new.items ≡ handed_on nodes.now number ranks.old.items }
+{
+    for place in 0..nodes.len() {
+        let node = nodes[place] as usize;
+        ranks[node] = ranks[node].max(number);
+    }
+}
+
+// As many zeros as this.
+fn zeros(alloc: Global, count: usize) -> Result<Vec<u64>, AllocError>
+    ensures { IfOk result (λ zeros. zeros.items ≡ replicate count 0) }
+{
+    Ok(vec![in alloc; 0; count]?)
+}
+
+// 1 for a node that counts.
+fn one_if(counts: &[bool], node: usize) -> u64
+    requires { node < length counts.now }
+    ensures { result ≡ one_if (slice_index_or counts.now node false) }
+{
+    if counts[node] { 1 } else { 0 }
+}
+
+/// Of each node, how many nodes that count stand before it on the longest chain that ends in it, where each node of a chain depends on the next
+/// one.
+///
+/// # Errors
+///
+/// `AllocError` where no memory is found.
+pub fn ranks(
+    alloc: Global,
+    counts: &[bool],
+    dependencies: &Dependencies,
+    order: &[usize],
+) -> Result<Vec<u64>, AllocError>
+    requires count { length counts.now ≡ length dependencies.now }
+    requires order { IsOrder dependencies.now order.now }
+    ensures { IfOk result (λ ranks. AreRanks counts.now dependencies.now ranks.items) }
+{
+    let mut ranks = zeros(alloc, counts.len())?;
+    let count = order.len();
+    for behind in 0..count {
+        let node = order[count - 1 - behind];
+        let number = ranks[node] + one_if(counts, node);
+        hand_on(&mut ranks, dependencies.edges(node), number);
+    }
+    Ok(ranks)
+}

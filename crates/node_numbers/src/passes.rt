@@ -1,0 +1,96 @@
+//! One pass over an order of nodes.
+
+ghost use Rattle.std.specs.Prelude.{◌≡◌, ◌<◌, ◌≤◌, ◌^◌, ℕ, length, min, slice_get, Some, IfOk};
+ghost use Rattle.dependency_order.specs.Graphs.{IsOrder};
+ghost use Rattle.node_numbers.specs.Numbers.{AreWithin, LeadInside, Solves, counted, greatest, number_by, of_node, total};
+
+use crate::rules::Rule;
+use dependency_order::Dependencies;
+use std::alloc::{AllocError, Global};
+
+// The sum of the numbers of some nodes, or the most where it is more.
+fn total(values: &[u64], nodes: &[u32], most: u64) -> u64
+    requires inside { LeadInside nodes.now values.now }
+    requires within { AreWithin values.now most }
+    requires few { most ≤ 2 ^ 40 }
+    ensures { result ≡ min (total (of_node values.now) nodes.now) most }
+{
+    let mut total = 0;
+    for number in 0..nodes.len() {
+        let node = nodes[number] as usize;
+        total = most.min(total + values[node]);
+    }
+    total
+}
+
+// The greatest of the numbers of some nodes, 0 of none.
+fn greatest(values: &[u64], nodes: &[u32]) -> u64
+    requires { LeadInside nodes.now values.now }
+    ensures { result ≡ greatest (of_node values.now) nodes.now }
+{
+    let mut greatest = 0;
+    for number in 0..nodes.len() {
+        let node = nodes[number] as usize;
+        greatest = values[node].max(greatest);
+    }
+    greatest
+}
+
+// What a rule counts of the numbers of some nodes, or the most where it is more.
+fn counted(adds: bool, values: &[u64], nodes: &[u32], most: u64) -> u64
+    requires inside { LeadInside nodes.now values.now }
+    requires within { AreWithin values.now most }
+    requires few { most ≤ 2 ^ 40 }
+    ensures { result ≡ min (counted adds (of_node values.now) nodes.now) most }
+{
+    if adds {
+        return total(values, nodes, most);
+    }
+    greatest(values, nodes).min(most)
+}
+
+// The number of a node that depends on these, by its rule.
+fn number_of(rule: &Rule, values: &[u64], nodes: &[u32], most: u64) -> u64
+    requires inside { LeadInside nodes.now values.now }
+    requires within { AreWithin values.now most }
+    requires few { most ≤ 2 ^ 40 }
+    ensures { result ≡ number_by rule.now most (of_node values.now) nodes.now }
+{
+    let counted = counted(rule.adds, values, nodes, most);
+    most.min(u64::from(rule.times) * counted + u64::from(rule.more))
+}
+
+// The rule of a node.
+fn rule_of(rules: &[Rule], node: usize) -> Rule
+    requires { node < length rules.now }
+    ensures { slice_get rules.now node ≡ Some result }
+{
+    rules[node]
+}
+
+/// The numbers of the nodes of a graph by these rules, one for each node, in an order in which each node comes behind those that it depends on.
+///
+/// # Errors
+///
+/// `AllocError` where no memory is found.
+pub fn numbers(
+    alloc: Global,
+    rules: &[Rule],
+    dependencies: &Dependencies,
+    order: &[usize],
+    most: u64,
+) -> Result<Vec<u64>, AllocError>
+    requires count { length rules.now ≡ length dependencies.now }
+    requires order { IsOrder dependencies.now order.now }
+    requires few { most ≤ 2 ^ 40 }
+    ensures { IfOk result (λ values. Solves rules.now most dependencies.now values.items) }
+{
+    let mut values = vec![in alloc; 0; rules.len()]?;
+    for place in 0..order.len() {
+        let node = order[place];
+        let rule = rule_of(rules, node);
+        let nodes = dependencies.edges(node);
+        values[node] = number_of(&rule, values.as_slice(), nodes, most);
+    }
+    Ok(values)
+}

@@ -1,0 +1,12 @@
+//! How the number of a node comes of others.
+
+/// How the number of a node comes of those of the nodes that it depends on.
+#[derive(Clone, Copy, Debug, PartialEq, Eq)]
+pub struct Rule {
+    /// Whether these are added. Else the greatest counts.
+    pub adds: bool,
+    /// How often that counts.
+    pub times: u16,
+    /// What comes on top of it.
+    pub more: u32,
+}
