@@ -2,3 +2,4 @@ pub mod MappedLists
 mod RegisterLists
 mod Tables
 pub mod Filled
+pub mod BindNames

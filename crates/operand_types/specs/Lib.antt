@@ -1,3 +1,4 @@
 pub mod Ancestry
 pub mod Parts
+pub mod BindNames
 pub mod Views

@@ -4,6 +4,7 @@
 //! kinds fit which, and the tests of operands: what a register that is read has to hold, and which rule is broken where it does not.
 #![tactic(auto)]
 
+mod bind_names;
 pub mod fits;
 pub mod kinds;
 pub mod lists;

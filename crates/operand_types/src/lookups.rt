@@ -14,11 +14,13 @@ ghost use Rattle.law_typing.specs.Rules.RegisterKinds.{class_at};
 ghost use Rattle.operand_types.specs.Ancestry.{AreRows, IsRow};
 ghost use Rattle.operand_types.specs.Parts.{is_named, is_of_prototype};
 
+use crate::bind_names::names_of;
 use bytecode::Program;
 use definitions::Definition;
 use param_specs::Spec;
 use signal_core::DeclaredSignal;
 use std::alloc::{AllocError, Global};
+use std::collections::BTreeSet;
 use std::marker::Model;
 use type_tree::{MOST_TYPES, TypeId, TypeTree};
 use ui_machine::{Place, ProgramId, SignalId, Slot};
@@ -26,12 +28,13 @@ use ui_machine::{Place, ProgramId, SignalId, Slot};
 // The most programs of a definition.
 const MOST_PROGRAMS: ProgramId = 256;
 
-/// A definition, with a table of which types are which. A contract sees the definition.
+/// A definition, with a table of which types are which and the names of its bindings. A contract sees the definition.
 #[derive(Drop)]
 pub struct Lookups<'a> {
     definition: &'a Definition,
     // Of each type, whether it is each other.
     ancestry: Vec<Vec<bool>>,
+    bind_names: BTreeSet<String>,
 }
 
 impl<'a> Model for Lookups<'a> {
@@ -40,10 +43,11 @@ impl<'a> Model for Lookups<'a> {
     ghost Value = { machine.Definition };
 
     ghost use Rattle.operand_types.specs.Ancestry.{AreRows};
+    ghost use Rattle.operand_types.specs.BindNames.{AreBindNames};
 
     ghost view = { λ l. l.definition.now };
 
-    ghost invariant = { λ l. AreRows (l.definition.now).types l.ancestry.items };
+    ghost invariant = { λ l. AreRows (l.definition.now).types l.ancestry.items × AreBindNames (l.definition.now).bindings l.bind_names };
 }
 
 impl<'a> Lookups<'a> {
@@ -51,13 +55,14 @@ impl<'a> Lookups<'a> {
     ///
     /// # Errors
     ///
-    /// `AllocError` where no memory is found for the table.
+    /// `AllocError` where no memory is found for the table or the names.
     pub fn new(alloc: Global, definition: &'a Definition) -> Result<Lookups<'a>, AllocError>
         ensures { IfOk result (λ lookups. lookups ≡ definition.now) }
     {
         Ok(Lookups {
             definition,
             ancestry: rows(alloc, definition.types())?,
+            bind_names: names_of(alloc, definition)?,
         })
     }
 
@@ -113,13 +118,11 @@ impl<'a> Lookups<'a> {
         }
     }
 
-    /// Whether a binding has this name. There are no bindings so far.
+    /// Whether a binding has this name.
     pub fn has_binding(&self, name: &str) -> bool
         ensures { result ≡ list_any (is_named name.now) self.now.bindings }
     {
-        // For the proof: there are no bindings.
-        let _ = self.definition.types();
-        false
+        self.bind_names.contains(name)
     }
 
     /// The slot of the property of a class that a name names.
