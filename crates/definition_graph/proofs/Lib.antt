@@ -2,3 +2,4 @@ pub mod Constructed
 pub mod ChannelLists
 pub mod Numbered
 pub mod MakingLists
+pub mod BoundLists
