@@ -6,18 +6,18 @@ use Rattle.std.proofs.lemmas.Option.{none-some, same_Some}
 more : (n : ℕ) → suc n + 1 ≡ suc (n + 1)
 more n = omega arith
 
-from_got : {A : Type 0} → (xs : List A) (n : ℕ) (x : A) → Some x ≡ slice_get xs n → drop n xs ≡ x ∷ drop (n + 1) xs
+pub from_got : {A : Type 0} → (xs : List A) (n : ℕ) (x : A) → Some x ≡ slice_get xs n → drop n xs ≡ x ∷ drop (n + 1) xs
 from_got [] n x is = absurd (none-some _ (sym is))
 from_got (y ∷ ys) zero x is = ap (λ z. z ∷ ys) (same_Some _ _ (sym is))
 from_got (y ∷ ys) (suc n) x is = from_got ys n x is ∙ ap (λ m. x ∷ drop m (y ∷ ys)) (sym (more n))
 
-none_got : {A : Type 0} → (xs : List A) (n : ℕ) → None ≡ slice_get xs n → drop n xs ≡ []
+pub none_got : {A : Type 0} → (xs : List A) (n : ℕ) → None ≡ slice_get xs n → drop n xs ≡ []
 none_got [] zero is = refl
 none_got [] (suc n) is = refl
 none_got (x ∷ xs) zero is = absurd (none-some _ is)
 none_got (x ∷ xs) (suc n) is = none_got xs n is
 
-none_left : {A : Type 0} → (xs : List A) (n : ℕ) → length xs ≤ n → drop n xs ≡ []
+pub none_left : {A : Type 0} → (xs : List A) (n : ℕ) → length xs ≤ n → drop n xs ≡ []
 none_left [] zero behind = refl
 none_left [] (suc n) behind = refl
 none_left (x ∷ xs) zero behind = absurd (omega (arith, behind))

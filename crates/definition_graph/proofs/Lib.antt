@@ -3,3 +3,4 @@ pub mod ChannelLists
 pub mod Numbered
 pub mod MakingLists
 pub mod BoundLists
+pub mod ForwardLists
