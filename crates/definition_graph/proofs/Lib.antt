@@ -2,3 +2,5 @@ pub mod Constructed
 pub mod ChannelLists
 pub mod Numbered
 pub mod MakingLists
+pub mod BoundLists
+pub mod ForwardLists

@@ -25,7 +25,7 @@ any_seen : (place slot : ℕ) (given : List GivenValue) → list_any (is_given p
 any_seen place slot [] = refl
 any_seen place slot (g ∷ gs) = ap (λ b. is_given place slot (given_property g) || b) (any_seen place slot gs)
 
-present_joined : (d : Definition) (xs ys : List Channel) → present d (xs ++ ys) ≡ present d xs ++ present d ys
+pub present_joined : (d : Definition) (xs ys : List Channel) → present d (xs ++ ys) ≡ present d xs ++ present d ys
 present_joined d [] ys = refl
 present_joined d (x ∷ xs) ys = by (is_channel d x) (present_joined d xs ys)
   where

@@ -1,3 +1,4 @@
 pub mod ChannelView
 pub mod Makings
 pub mod Numbering
+pub mod Pairs

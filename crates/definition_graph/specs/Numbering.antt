@@ -9,7 +9,7 @@ use Rattle.law_typing.specs.Graph.Channels.{Channel, constructed, property, sign
 abbrev pub Key : Type 0
 Key = ℕ × ℕ × ℕ
 
--- what tells a channel from others
+-- what no two channels share
 abbrev pub key_of : Channel → Key
 key_of (constructed place) = (place, 0, 0)
 key_of (property place slot) = (place, 1, slot)

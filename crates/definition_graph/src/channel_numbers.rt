@@ -33,7 +33,7 @@ impl Model for ChannelNumbers {
     ghost invariant = { λ n. AreNumbered (channels_of n.channels.items) n.numbers (length n.channels.items) };
 }
 
-// What tells a channel from others.
+// What no two channels share.
 fn key_of(channel: &Channel) -> (u16, u16, u16)
     ensures { result ≡ key_of (channel_of channel.now) }
 {

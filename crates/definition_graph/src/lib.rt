@@ -4,10 +4,14 @@
 //! numbered in the order of the report.
 #![tactic(auto)]
 
+mod bound_channels;
 mod channel_numbers;
+mod forward_values;
 mod makings;
 mod report_channels;
 
+pub use bound_channels::{Pair, created, pairs};
 pub use channel_numbers::ChannelNumbers;
+pub use forward_values::forwards;
 pub use makings::making;
 pub use report_channels::channels;

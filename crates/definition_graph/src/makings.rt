@@ -18,8 +18,8 @@ use std::alloc::{AllocError, Global};
 use type_tree::TypeId;
 use ui_machine::{Channel, Member, Place, Slot};
 
-// Whether a given value is an object that is built later, or the place's own.
-fn is_forward(place: Place, given: &Given) -> bool
+/// Whether a given value is an object that is built later, or the place's own.
+pub(crate) fn is_forward(place: Place, given: &Given) -> bool
     ensures { result ≡ is_forward place.0 (given_view given.now) }
 {
     match given {

@@ -34,13 +34,13 @@ pub record IsReckoned (d : Definition) (ranks : Table) (costs depths : Tables) :
   pub solves_costs : SolvesCapped (graph d) costs
   pub solves_depths : SolvesDepths (graph d) depths
 
--- a bound that is too large by them is told
+-- a bound that is too large by them is the answer
 abbrev pub LargeIsTold : Type 0
 LargeIsTold =
     (d : Definition) (ranks : Table) (costs depths : Tables) (e : Entry) → IsReckoned d ranks costs depths → too_large (graph d) costs ≡ Some e →
     Judges d (Some (bound_too_large e))
 
--- where none is, nothing is told
+-- where none is, there is none
 abbrev pub ReckonedIsJudged : Type 0
 ReckonedIsJudged =
     (d : Definition) (ranks : Table) (costs depths : Tables) → IsReckoned d ranks costs depths → too_large (graph d) costs ≡ None → Judges d None

@@ -1,4 +1,4 @@
--- Cycles that are told from their first channel.
+-- Cycles from their first channel.
 use Rattle.std.specs.Prelude.{◌≡◌, ℕ, zero, suc, true, List, [], ◌∷◌, ◌++◌, map, None, Some}
 use Rattle.ui_machine.specs.Definition.{Definition}
 use Rattle.law_typing.specs.Rules.Faults.{cycle}
@@ -29,6 +29,6 @@ TurnedIsOnce =
     (n : ℕ) (links : List Link) → no_two same_channel (map (λ (l : Link). l.from) links) ≡ true →
     no_two same_channel (map (λ (l : Link). l.from) (turned n links)) ≡ true
 
--- where no rule is broken, a cycle from its first channel is told
+-- where no rule is broken, a cycle from its first channel is an answer
 abbrev pub CycleIsTold : Type 0
 CycleIsTold = (d : Definition) (links : List Link) → first_fault d ≡ None → IsToldCycle (graph d) links → Judges d (Some (cycle links))

@@ -29,6 +29,6 @@ first_fault d =
 abbrev pub FaultsInOrder : Type 0
 FaultsInOrder = (d : Definition) → first_of (local_faults d) ≡ first_fault d
 
--- and it is told
+-- and it is the answer
 abbrev pub FirstIsTold : Type 0
 FirstIsTold = (d : Definition) (fault : Fault) → first_fault d ≡ Some fault → Judges d (Some fault)

@@ -191,7 +191,7 @@ hands counts g order ranks behind place node nodes sorted is at here there = rec
         let w = e.1 in
         omega (arith, w, f, one)
 
-    -- what stands at the place or behind it has its number
+    -- what is at the place or behind it has its number
     stays : (k from : ℕ) → place ≤ k → slice_get order k ≡ Some from → of_node new from ≡ of_node ranks from
     stays k from later stands = by (told nodes number ranks from inside)
       where

@@ -53,7 +53,7 @@ passes rules most g order values place node number rule nodes sorted is here rul
             let low = is.within n in
             omega (arith, kept, low)
 
-    -- what stands before the place is another node
+    -- what comes before the place is another node
     earlier : (j to : ℕ) → j < place → slice_get order j ≡ Some to → of_node (slice_set values node number) to ≡ of_node values to
     earlier j to below stands =
         get_or-set_other values node to number 0 (λ same. absurd (omega (arith, below, sorted.once j place node (stands ∙ ap Some same) here)))

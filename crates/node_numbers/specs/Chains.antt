@@ -1,4 +1,4 @@
--- How many nodes that count stand on the longest chain that ends in a node.
+-- How many nodes that count are on the longest chain that ends in a node.
 use Rattle.std.specs.Prelude.{◌≡◌, ◌≤◌, ◌+◌, ◌⊎◌, ℕ, Bool, true, false, List, [], ◌∷◌, length, max, slice_index_or, slice_set}
 use Rattle.dependency_order.specs.Graphs.{Edge, Graph}
 use Rattle.node_numbers.specs.Numbers.{of_node}

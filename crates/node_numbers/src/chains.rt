@@ -1,4 +1,4 @@
-//! How many nodes that count stand on the longest chain that ends in a node.
+//! How many nodes that count are on the longest chain that ends in a node.
 
 ghost use Rattle.std.specs.Prelude.{◌≡◌, ◌<◌, ◌≤◌, ℕ, length, replicate, slice_index_or, false, IfOk};
 ghost use Rattle.dependency_order.specs.Graphs.{IsOrder};
@@ -34,7 +34,7 @@ fn one_if(counts: &[bool], node: usize) -> u64
     if counts[node] { 1 } else { 0 }
 }
 
-/// Of each node, how many nodes that count stand before it on the longest chain that ends in it, where each node of a chain depends on the next
+/// Of each node, how many nodes that count come before it on the longest chain that ends in it, where each node of a chain depends on the next
 /// one.
 ///
 /// # Errors

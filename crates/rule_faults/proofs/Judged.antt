@@ -1,4 +1,4 @@
--- What is told of the first fault.
+-- What the judgement is by the first fault.
 use Rattle.std.proofs.Common.{◌≡◌, sym, Option, None, Some, Result, IfOk, IfSome, option_map}
 use Rattle.std.proofs.lemmas.Result.{IfOk-weaker}
 use Rattle.ui_machine.specs.Definition.{Definition}

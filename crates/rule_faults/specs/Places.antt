@@ -11,6 +11,6 @@ use Rattle.law_typing.specs.Verdict.FaultText.{is_class}
 abbrev pub entry_view : ObjectEntry → Place
 entry_view o = bare_place o.id.now o.class o.is_prototype (place_number o.parent) (map given_property o.given.now) (map attached_view o.signals.now)
 
--- how many classes stand before a type
+-- how many classes come before a type
 abbrev pub classes_before : List GType → ℕ → ℕ
 classes_before types class = length (filter is_class (take class types))

@@ -1,4 +1,4 @@
-//! Where the parts of a definition stand in its document.
+//! The places of a definition's parts in its document.
 
 ghost use Rattle.std.specs.Prelude.{◌≡◌, ◌<◌, ◌++◌, length, string_bytes, IfOk};
 ghost use Rattle.ui_machine.specs.Output.Text.{no_type};
@@ -29,7 +29,7 @@ fn is_class(types: &TypeTree, t: TypeId) -> bool
     matches!(types.sort(t), TypeSort::Class)
 }
 
-// How many classes stand before a type.
+// How many classes come before a type.
 fn classes_before(types: &TypeTree, class: TypeId) -> usize
     ensures { result ≡ classes_before types.now class }
 {
@@ -63,7 +63,7 @@ fn same_parent(parent: Option<Place>, other: Option<Place>) -> bool
     }
 }
 
-// Whether a place stands in the same list as another.
+// Whether a place is in the same list as another.
 fn is_beside(entry: &ObjectEntry<'_>, other: &ObjectEntry<'_>) -> bool
     ensures { result ≡ is_beside (entry_view entry.now) (entry_view other.now) }
 {
@@ -73,7 +73,7 @@ fn is_beside(entry: &ObjectEntry<'_>, other: &ObjectEntry<'_>) -> bool
     !other.is_prototype && same_parent(entry.parent, other.parent)
 }
 
-// How many places before this one stand in the same list.
+// How many places before this one are in the same list.
 fn before_in_list(definition: &Definition, place: usize, entry: &ObjectEntry<'_>) -> usize
     ensures { result ≡ before_in_list definition.now place (entry_view entry.now) }
 {
@@ -161,7 +161,7 @@ pub(crate) fn handling_path(
     }
 }
 
-/// Where a binding stands.
+/// The path of a binding.
 ///
 /// # Errors
 ///
