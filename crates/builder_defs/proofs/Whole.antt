@@ -1,7 +1,6 @@
 -- A whole definition, of its parts.
-use Rattle.std.proofs.Common.{◌≡◌, ℕ, List, [], ◌++◌, map, codes, Result, Ok, Option, option_and_then, sym, ap, ◌∙◌, refl}
+use Rattle.std.proofs.Common.{◌≡◌, ℕ, List, [], ◌++◌, map, Result, Ok, Option, sym, ap, ◌∙◌, refl}
 use Rattle.serde_json.specs.Data.{Data, Members}
-use Rattle.serde_json.specs.Find.{get, as_number, as_u64}
 use Rattle.ui_machine.specs.Definition.Types.{GType}
 use Rattle.ui_machine.specs.Definition.Properties.{Spec}
 use Rattle.ui_machine.specs.Definition.Signals.{ClassHandler}
@@ -11,6 +10,7 @@ use Rattle.ui_machine.specs.Definition.Programs.{Program}
 use Rattle.ui_machine.specs.declared.limits.Limits.{Limits}
 use Rattle.param_specs.specs.Table.{own_of, specs_of}
 use Rattle.signal_core.specs.Sources.{declared_of}
+use Rattle.bytecode.specs.declared.formats.Format.{Format}
 use Rattle.definition_format.specs.Meaning.{Parts, meaning, bind_view, plain_prototype, plain_program, places_of}
 use Rattle.signal_core.specs.Table.{Declared}
 use Rattle.ui_machine.specs.Outcome.{◌>>=◌}
@@ -24,7 +24,7 @@ use Rattle.definition_format.specs.Denoted.SessionLimits.{limits_in}
 use Rattle.definition_format.specs.Denoted.Objects.{Built, built_view}
 use Rattle.definition_format.specs.Denoted.Programs.{programs_in}
 use Rattle.definition_format.specs.Denoted.Prototypes.{prototypes_in}
-use Rattle.definition_format.specs.Denoted.{format_of, enums_in, flags_in, interfaces_in, classes_in, draft_in, objects_in, definition_in, definition_with, keys_of_definition}
+use Rattle.definition_format.specs.Denoted.{format_number, format_of, enums_in, flags_in, interfaces_in, classes_in, draft_in, objects_in, definition_in, definition_with, keys_of_definition}
 use Rattle.definition_parts.proofs.Chains.{fails_as, fails_first}
 
 -- ** its types
@@ -73,27 +73,27 @@ module _ (d : Data) where
   after_programs : Members → ClassDraft → Limits → List Program → Result Definition Refusal
   after_programs ms draft limits programs = prototypes_in draft.types (specs_by draft.types draft.own) d >>= after_prototypes ms draft limits programs
 
-  after_draft : Members → Limits → ClassDraft → Result Definition Refusal
-  after_draft ms limits draft = programs_in draft.types d >>= after_programs ms draft limits
+  after_draft : Members → Format → Limits → ClassDraft → Result Definition Refusal
+  after_draft ms format limits draft = programs_in format draft.types d >>= after_programs ms draft limits
 
-  after_limits : Members → Limits → Result Definition Refusal
-  after_limits ms limits = draft_in d >>= after_draft ms limits
+  after_limits : Members → Format → Limits → Result Definition Refusal
+  after_limits ms format limits = draft_in d >>= after_draft ms format limits
 
-  after_format : Members → Unit {0} → Result Definition Refusal
-  after_format ms u = limits_in d >>= after_limits ms
+  after_format : Members → Format → Result Definition Refusal
+  after_format ms format = limits_in d >>= after_limits ms format
 
-  module _ (ms : Members) (format : Option ℕ) (limits : Limits) (draft : ClassDraft) (programs : List Program) (prototypes : List Place)
-      (members : members_at [] d ≡ Ok ms) (is : format ≡ option_and_then as_u64 (option_and_then as_number (get (codes "format") d))) (one : format_of format ≡ Ok tt)
-      (limited : limits_in d ≡ Ok limits) (drafted : draft_in d ≡ Ok draft) (read : programs_in draft.types d ≡ Ok programs)
+  module _ (ms : Members) (number : Option ℕ) (format : Format) (limits : Limits) (draft : ClassDraft) (programs : List Program) (prototypes : List Place)
+      (members : members_at [] d ≡ Ok ms) (is : number ≡ format_number d) (one : format_of number ≡ Ok format)
+      (limited : limits_in d ≡ Ok limits) (drafted : draft_in d ≡ Ok draft) (read : programs_in format draft.types d ≡ Ok programs)
       (made : prototypes_in draft.types (specs_by draft.types draft.own) d ≡ Ok prototypes) where
     up_to_objects : definition_in d ≡ after_prototypes ms draft limits programs prototypes
     unfolding definition_in after_places after_objects after_prototypes after_programs after_draft after_limits after_format
     up_to_objects =
-        ap (λ (r : Result Members Refusal). r >>= λ m. format_of (option_and_then as_u64 (option_and_then as_number (get (codes "format") d))) >>= after_format m) members
+        ap (λ (r : Result Members Refusal). r >>= λ m. format_of (format_number d) >>= after_format m) members
         ∙ ap (λ (n : Option ℕ). format_of n >>= after_format ms) (sym is)
-        ∙ ap (λ (r : Result (Unit {0}) Refusal). r >>= after_format ms) one
-        ∙ ap (λ (r : Result Limits Refusal). r >>= after_limits ms) limited
-        ∙ ap (λ (r : Result ClassDraft Refusal). r >>= after_draft ms limits) drafted
+        ∙ ap (λ (r : Result Format Refusal). r >>= after_format ms) one
+        ∙ ap (λ (r : Result Limits Refusal). r >>= after_limits ms format) limited
+        ∙ ap (λ (r : Result ClassDraft Refusal). r >>= after_draft ms format limits) drafted
         ∙ ap (λ (r : Result (List Program) Refusal). r >>= after_programs ms draft limits) read
         ∙ ap (λ (r : Result (List Place) Refusal). r >>= after_prototypes ms draft limits programs) made
 
@@ -103,15 +103,15 @@ module _ (d : Data) where
         fails_as e _ _ up_to_objects
         (fails_first e (objects_in draft.types (specs_by draft.types draft.own) programs prototypes limits.objects d) (after_objects ms draft limits programs prototypes) h)
 
-  module _ (ms : Members) (format : Option ℕ) (limits : Limits) (draft : ClassDraft) (programs : List Program) (prototypes : List Place) (objects : Built)
-      (members : members_at [] d ≡ Ok ms) (is : format ≡ option_and_then as_u64 (option_and_then as_number (get (codes "format") d))) (one : format_of format ≡ Ok tt)
-      (limited : limits_in d ≡ Ok limits) (drafted : draft_in d ≡ Ok draft) (read : programs_in draft.types d ≡ Ok programs)
+  module _ (ms : Members) (number : Option ℕ) (format : Format) (limits : Limits) (draft : ClassDraft) (programs : List Program) (prototypes : List Place) (objects : Built)
+      (members : members_at [] d ≡ Ok ms) (is : number ≡ format_number d) (one : format_of number ≡ Ok format)
+      (limited : limits_in d ≡ Ok limits) (drafted : draft_in d ≡ Ok draft) (read : programs_in format draft.types d ≡ Ok programs)
       (made : prototypes_in draft.types (specs_by draft.types draft.own) d ≡ Ok prototypes)
       (placed : objects_in draft.types (specs_by draft.types draft.own) programs prototypes limits.objects d ≡ Ok objects) where
     definition_is : definition_in d ≡ after_places ms draft limits programs (objects.places ++ prototypes) objects.bindings
     unfolding after_prototypes after_objects
     definition_is =
-        up_to_objects ms format limits draft programs prototypes members is one limited drafted read made
+        up_to_objects ms number format limits draft programs prototypes members is one limited drafted read made
         ∙ ap (λ (r : Result Built Refusal). r >>= after_objects ms draft limits programs prototypes) placed
 
     pub definition_fails : (e : ReadError) → Fails e (only_at [] ms keys_of_definition) → Fails e (definition_in d)
@@ -122,13 +122,13 @@ module _ (d : Data) where
     unfolding after_places
     definition_whole only = definition_is ∙ ap (λ (r : Result (Unit {0}) Refusal). r >>= λ o. Ok (definition_with draft programs (objects.places ++ prototypes) objects.bindings limits)) only
 
-  pub definition_done : (ms : Members) (format : Option ℕ) (p : Parts)
-      → members_at [] d ≡ Ok ms → format ≡ option_and_then as_u64 (option_and_then as_number (get (codes "format") d)) → format_of format ≡ Ok tt
-      → limits_in d ≡ Ok p.limits → draft_in d ≡ Ok (class_draft_of p.types p.specs p.declared p.constructed) → programs_in p.types d ≡ Ok (map plain_program p.programs)
+  pub definition_done : (ms : Members) (number : Option ℕ) (format : Format) (p : Parts)
+      → members_at [] d ≡ Ok ms → number ≡ format_number d → format_of number ≡ Ok format
+      → limits_in d ≡ Ok p.limits → draft_in d ≡ Ok (class_draft_of p.types p.specs p.declared p.constructed) → programs_in format p.types d ≡ Ok (map plain_program p.programs)
       → prototypes_in p.types (specs_by p.types (own_of p.specs)) d ≡ Ok (map plain_prototype p.prototypes)
       → objects_in p.types (specs_by p.types (own_of p.specs)) (map plain_program p.programs) (map plain_prototype p.prototypes) p.limits.objects d ≡ Ok (built_view p.objects p.bindings)
       → only_at [] ms keys_of_definition ≡ Ok tt → definition_in d ≡ Ok (meaning p)
-  definition_done ms format p members is one limited classes programs prototypes objects only =
-      definition_whole ms format p.limits (class_draft_of p.types p.specs p.declared p.constructed) (map plain_program p.programs) (map plain_prototype p.prototypes) (built_view p.objects p.bindings)
+  definition_done ms number format p members is one limited classes programs prototypes objects only =
+      definition_whole ms number format p.limits (class_draft_of p.types p.specs p.declared p.constructed) (map plain_program p.programs) (map plain_prototype p.prototypes) (built_view p.objects p.bindings)
       members is one limited classes programs prototypes objects only
       ∙ ap (λ (m : Definition). Ok m) (meant p)

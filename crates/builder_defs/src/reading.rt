@@ -1,7 +1,6 @@
 //! Definitions, read from their bytes.
 
-ghost use Rattle.std.specs.Prelude.{◌≡◌, ◌≤◌, [], length, map, codes, option_and_then, IfOk};
-ghost use Rattle.serde_json.specs.Find.{get, as_number, as_u64};
+ghost use Rattle.std.specs.Prelude.{◌≡◌, ◌≤◌, [], length, map, IfOk};
 ghost use Rattle.std.specs.List.{AllByRecursion};
 ghost use Rattle.serde_json.specs.View.{view};
 ghost use Rattle.ui_machine.specs.Definition.Types.{predeclared};
@@ -15,7 +14,7 @@ ghost use Rattle.definition_format.specs.Denoted.Drafts.{class_draft_of, draft_o
 ghost use Rattle.definition_format.specs.Denoted.Objects.{built_view};
 ghost use Rattle.definition_format.specs.Denoted.Programs.{programs_in};
 ghost use Rattle.definition_format.specs.Denoted.Prototypes.{prototypes_in};
-ghost use Rattle.definition_format.specs.Denoted.{format_of, enums_in, flags_in, interfaces_in, classes_in, draft_in, objects_in, definition_in, denoted};
+ghost use Rattle.definition_format.specs.Denoted.{format_number, format_of, enums_in, flags_in, interfaces_in, classes_in, draft_in, objects_in, definition_in, denoted};
 
 use crate::limits::limits_of;
 use definition_format::{DefinitionFault, Path, ReadError};
@@ -28,7 +27,7 @@ use definition_types::{
 use definitions::places::Prototypes;
 use definitions::programs::Programs;
 use definitions::{Definition, Parts};
-use handler_code::Names;
+use handler_code::{Format, Names};
 use param_specs::SpecTable;
 use serde_json::Value;
 use signal_core::SignalTable;
@@ -50,19 +49,20 @@ const MEMBERS: [&str; 10] = [
     "objects",
 ];
 
-// Tests the member `format`, which is 1.
-fn check_format(alloc: Global, format: Option<u64>) -> Result<(), ReadError>
-    ensures { Gives (λ _. tt) result (format_of format) }
+// The format that the member `format` says, which is 1 or 2.
+fn format_of(alloc: Global, format: Option<u64>) -> Result<Format, ReadError>
+    ensures { Gives (λ f. f) result (format_of format) }
 {
     match format {
-        Some(1) => Ok(()),
+        Some(1) => Ok(Format::First),
+        Some(2) => Ok(Format::Second),
         _ => Err(ReadError::Refused(DefinitionFault::Shape(String::from_str(alloc, "/format")?))),
     }
 }
 
 // The number that the member `format` is.
 fn format_in(value: &Value) -> Option<u64>
-    ensures { result ≡ option_and_then as_u64 (option_and_then as_number (get (codes "format") (view value.now))) }
+    ensures { result ≡ format_number (view value.now) }
 {
     value.get("format").and_then(Value::as_u64)
 }
@@ -170,11 +170,11 @@ fn read_draft(part: Part<'_>) -> Result<ClassDraft, ReadError>
     Ok(draft)
 }
 
-// The programs of a definition whose types are these.
+// The programs of a definition of this format whose types are these.
 #[tactic(auto, unfolding(definition_format::specs::Denoted::Programs::programs_in))]
-fn programs_of(part: Part<'_>, types: &TypeTree) -> Result<Programs, ReadError>
+fn programs_of(part: Part<'_>, format: Format, types: &TypeTree) -> Result<Programs, ReadError>
     requires { path_of part.path ≡ [] }
-    ensures read { Gives (λ programs. map plain_program programs.entries) result (programs_in types.now (view part.entry.value.now)) }
+    ensures read { Gives (λ programs. map plain_program programs.entries) result (programs_in format types.now (view part.entry.value.now)) }
     ensures named { IfOk result (λ programs. AllByRecursion HasOwnName programs.entries) }
     ensures sound { IfOk result (λ programs. AllByRecursion (IsSoundProgram types.now) programs.entries) }
     ensures few { IfOk result (λ programs. length programs.entries ≤ 256) }
@@ -187,6 +187,7 @@ fn programs_of(part: Part<'_>, types: &TypeTree) -> Result<Programs, ReadError>
     };
     let places = read_places(part.alloc, part.value)?;
     let names = Names {
+        format,
         types,
         places: &places,
     };
@@ -257,10 +258,10 @@ fn parts_in(alloc: Global, value: &Value) -> Result<Parts, ReadError>
         value,
     };
     let members = part.members()?;
-    check_format(alloc, format_in(value))?;
+    let format = format_of(alloc, format_in(value))?;
     let limits = limits_of(part)?;
     let draft = read_draft(part)?;
-    let programs = programs_of(part, &draft.types)?;
+    let programs = programs_of(part, format, &draft.types)?;
     let prototypes = prototypes_of(part, &draft.types, &draft.specs)?;
     let most = limits.objects as usize;
     let built = objects_of(

@@ -19,7 +19,7 @@ use Rattle.bytecode.specs.declared.instructions.SourceInstruction.TheVariants as
 use Rattle.bytecode.specs.declared.programs.Block.{Block}
 use Rattle.bytecode.specs.Computing.{instruction_of}
 use Rattle.bytecode.specs.View.{instruction_view, block_view, control_view, property_instruction_view, object_instruction_view, signal_instruction_view, source_instruction_view}
-use Rattle.bytecode.specs.Shape.{ends_block, leads_back, is_ended, first_backward, first_open, instructions_in}
+use Rattle.bytecode.specs.Shape.{ends_block, leads_back, is_ended, is_jump, ends_in_jump, may_repeat, first_backward, first_open, first_bad_repeat, instructions_in}
 
 pub stays : (c : Computation) (to : ℕ) → ends_block (instruction_of c to) ≡ false
 stays (computations.Const v) to = refl
@@ -111,6 +111,61 @@ source_leads_nowhere n (sources.Idle to program priority with) = refl
 source_leads_nowhere n (sources.Timeout to program priority interval with) = refl
 source_leads_nowhere n (sources.Remove program) = refl
 
+-- ** jumps
+
+pub is_none : (c : Computation) (to : ℕ) → is_jump (instruction_of c to) ≡ false
+is_none (computations.Const v) to = refl
+is_none (computations.Move from) to = refl
+is_none computations.Clear to = refl
+is_none (computations.Arithmetic operation a b) to = refl
+is_none (computations.Compare comparison a b) to = refl
+is_none (computations.Same a b) to = refl
+is_none (computations.Not a) to = refl
+is_none (computations.And a b) to = refl
+is_none (computations.Or a b) to = refl
+is_none (computations.Join a b) to = refl
+is_none (computations.Convert a kind) to = refl
+
+pub property_is_none : (i : PropertyInstruction) → is_jump (property_instruction_view i) ≡ false
+property_is_none (properties.Get to object property) = refl
+property_is_none (properties.Set object property from) = refl
+property_is_none (properties.Notify object property) = refl
+property_is_none (properties.Freeze object) = refl
+property_is_none (properties.Thaw object) = refl
+
+pub object_is_none : (i : ObjectInstruction) → is_jump (object_instruction_view i) ≡ false
+object_is_none (objects.LookUp to id) = refl
+object_is_none (objects.New to id) = refl
+object_is_none (objects.Sink object) = refl
+object_is_none (objects.Orphan object) = refl
+object_is_none (objects.Dispose object) = refl
+object_is_none (objects.Adopt to parent child) = refl
+
+pub signal_is_none : (i : SignalInstruction) → is_jump (signal_instruction_view i) ≡ false
+signal_is_none (signals.Emit into object signal detail args) = refl
+signal_is_none (signals.Connect to object connection) = refl
+signal_is_none (signals.Disconnect object program) = refl
+signal_is_none (signals.Block object program) = refl
+signal_is_none (signals.Unblock object program) = refl
+signal_is_none signals.Stop = refl
+
+pub source_is_none : (i : SourceInstruction) → is_jump (source_instruction_view i) ≡ false
+source_is_none (sources.Unbind name) = refl
+source_is_none (sources.Idle to program priority with) = refl
+source_is_none (sources.Timeout to program priority interval with) = refl
+source_is_none (sources.Remove program) = refl
+
+pub repeat_from : (i : ℕ) (bs : List Block) → position_from (λ b. not (may_repeat b.repeat b.code)) i (map block_view bs)
+    ≡ position_from (λ b. not (may_repeat b.repeat (map instruction_view b.code.items))) i bs
+repeat_from i [] = refl
+repeat_from i (b ∷ bs) = ap (cond (not (may_repeat b.repeat (map instruction_view b.code.items))) (Some i)) (repeat_from (i + 1) bs)
+
+pub repeat_viewed : (bs : List Block) → first_bad_repeat (map block_view bs)
+    ≡ position_from (λ b. not (may_repeat b.repeat (map instruction_view b.code.items))) 0 bs
+repeat_viewed bs = repeat_from 0 bs
+
+-- ** mapped lists
+
 pub any_mapped : {A B : Type 0} (test : B → Bool) (f : A → B) (xs : List A) → list_any test (map f xs) ≡ list_any (λ x. test (f x)) xs
 any_mapped test f [] = refl
 any_mapped test f (x ∷ xs) = ap (λ b. test (f x) || b) (any_mapped test f xs)
@@ -162,3 +217,11 @@ last_ends (i ∷ []) zero x e h = ap (λ o. ends_block (instruction_view (unwrap
 last_ends (i ∷ []) (suc k) x e h = absurd (true≢false (ap is_some (sym h)))
 last_ends (i ∷ j ∷ is) zero x e h = absurd (omega (arith, e))
 last_ends (i ∷ j ∷ is) (suc k) x e h = last_ends (j ∷ is) k x (omega (arith, e)) h
+
+pub last_jumps : (is : List Instruction) (k : ℕ) (x : Instruction) → length is ≡ k + 1 → slice_get is k ≡ Some x
+    → ends_in_jump (map instruction_view is) ≡ is_jump (instruction_view x)
+last_jumps [] k x e h = absurd (true≢false (ap is_some (sym h)))
+last_jumps (i ∷ []) zero x e h = ap (λ o. is_jump (instruction_view (unwrap_or o i))) h
+last_jumps (i ∷ []) (suc k) x e h = absurd (true≢false (ap is_some (sym h)))
+last_jumps (i ∷ j ∷ is) zero x e h = absurd (omega (arith, e))
+last_jumps (i ∷ j ∷ is) (suc k) x e h = last_jumps (j ∷ is) k x (omega (arith, e)) h

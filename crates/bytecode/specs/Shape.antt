@@ -1,9 +1,10 @@
 -- Whether the blocks of a program fit together, and how much of each thing a program may have.
-use Rattle.std.specs.Prelude.{ℕ, Bool, true, false, not, nat_lt, ◌||◌, List, [], ◌∷◌, length, Option, None, Some, option_map, if◌then◌else◌}
+use Rattle.std.specs.Prelude.{ℕ, Bool, true, false, not, nat_lt, ◌||◌, ◌&&◌, List, [], ◌∷◌, length, Option, None, Some, option_map, if◌then◌else◌}
 use Rattle.std.specs.List.{list_any, enumerate_from, position_from}
 use Rattle.ui_machine.specs.Seq.{total}
 use Rattle.ui_machine.specs.Definition.Programs.{Instruction, Block, Program}
 use Rattle.ui_machine.specs.Definition.Programs as words
+use Rattle.type_tree.specs.TypeName.{is_within}
 use Rattle.bytecode.specs.declared.instructions.BlockNumber.{BlockNumber}
 use Rattle.bytecode.specs.declared.faults.ProgramLimit.{ProgramLimit}
 use Rattle.bytecode.specs.declared.faults.ProgramLimit.TheVariants as limits
@@ -39,6 +40,26 @@ first_backward blocks = position_from (λ e. list_any (leads_back e.0) (e.1).cod
 abbrev pub first_open : List Block → Option ℕ
 first_open blocks = position_from (λ b. not (is_ended b.code)) 0 blocks
 
+-- whether an instruction is a jump
+abbrev pub is_jump : Instruction → Bool
+is_jump (words.jump to) = true
+is_jump _ = false
+
+-- whether the last instruction is a jump
+abbrev pub ends_in_jump : List Instruction → Bool
+ends_in_jump [] = false
+ends_in_jump (i ∷ []) = is_jump i
+ends_in_jump (i ∷ j ∷ is) = ends_in_jump (j ∷ is)
+
+-- whether a block with this code may be passed so often: 1 to 65,535 times, if it ends with a jump; any may be that does not say how often
+abbrev pub may_repeat : Option ℕ → List Instruction → Bool
+may_repeat None code = true
+may_repeat (Some n) code = is_within 1 65535 n && ends_in_jump code
+
+-- the first block that may not be passed as often as it says
+abbrev pub first_bad_repeat : List Block → Option ℕ
+first_bad_repeat blocks = position_from (λ b. not (may_repeat b.repeat b.code)) 0 blocks
+
 -- all instructions of these blocks
 abbrev pub instructions_in : List Block → ℕ
 instructions_in blocks = total (λ b. length b.code) blocks
@@ -58,9 +79,10 @@ abbrev pub or_next : {A : Type 0} → Option A → Option A → Option A
 or_next None next = next
 or_next (Some x) next = Some x
 
--- why the blocks do not fit together: a jump back, then a block that leads nowhere, then a limit
+-- why the blocks do not fit together: a jump back, then a block that leads nowhere, then a limit, then a block that may not be repeated so
 abbrev pub shape_fault : Program → Option ProgramFault
 shape_fault p =
     or_next (option_map (λ b. faults.BackwardJump (at_block b)) (first_backward p.blocks))
     (or_next (option_map (λ b. faults.NoReturn (at_block b)) (first_open p.blocks))
-    (option_map faults.Limit (first_limit p)))
+    (or_next (option_map faults.Limit (first_limit p))
+    (option_map (λ b. faults.BadRepeat (at_block b)) (first_bad_repeat p.blocks))))

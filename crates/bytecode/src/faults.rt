@@ -24,4 +24,6 @@ pub enum ProgramFault {
     NoReturn(BlockNumber),
     /// There is too much of something.
     Limit(ProgramLimit),
+    /// This block is repeated other than 1 to 65,535 times, or is repeated and does not end with a jump.
+    BadRepeat(BlockNumber),
 }

@@ -8,6 +8,7 @@
 mod computations;
 mod errors;
 mod faults;
+mod formats;
 mod instructions;
 mod outline_faults;
 mod positions;
@@ -17,10 +18,11 @@ mod shapes;
 pub use computations::{Arithmetic, Comparison, Computation, Computed, Register};
 pub use errors::{InstructionError, ProgramError};
 pub use faults::{ProgramFault, ProgramLimit};
+pub use formats::Format;
 pub use instructions::{
     BlockNumber, Call, Connection, ControlInstruction, Instruction, ObjectInstruction,
     PropertyInstruction, SignalInstruction, SourceInstruction,
 };
 pub use outline_faults::{OutlineError, OutlineFault, ProgramPart};
 pub use programs::{Block, Program, RegisterKind};
-pub use shapes::{MOST_BLOCKS, MOST_INSTRUCTIONS, MOST_REGISTERS, is_ended};
+pub use shapes::{MOST_BLOCKS, MOST_INSTRUCTIONS, MOST_PASSES, MOST_REGISTERS, is_ended};

@@ -6,7 +6,7 @@ ghost use Rattle.std.specs.Prelude.{◌≡◌, not, map, length, nat_lt};
 ghost use Rattle.std.specs.List.{list_any, enumerate_from, position_from};
 ghost use Rattle.ui_machine.specs.Seq.{total};
 ghost use Rattle.bytecode.specs.View.{control_view, instruction_view, block_view, program_view};
-ghost use Rattle.bytecode.specs.Shape.{ends_block, leads_back, is_ended, first_backward, first_open, first_limit, instructions_in, shape_fault};
+ghost use Rattle.bytecode.specs.Shape.{ends_block, leads_back, is_ended, first_backward, first_open, is_jump, ends_in_jump, may_repeat, first_bad_repeat, first_limit, instructions_in, shape_fault};
 
 use crate::faults::{ProgramFault, ProgramLimit};
 use crate::instructions::{BlockNumber, ControlInstruction, Instruction};
@@ -18,6 +18,9 @@ pub const MOST_REGISTERS: usize = 32;
 /// The most blocks of a program.
 pub const MOST_BLOCKS: usize = 64;
 
+/// The most passes of a block.
+pub const MOST_PASSES: u32 = 65_535;
+
 /// The most instructions of a program, those of all its blocks together.
 pub const MOST_INSTRUCTIONS: usize = 512;
 
@@ -25,7 +28,8 @@ impl Program {
     /// Why the blocks of the program don't fit together, if they don't.
     ///
     /// `BackwardJump` with the first block that leads to itself or to an earlier one, else `NoReturn` with the first block that does not end
-    /// with a jump or a return, else `Limit` with what there is too much of: registers, then blocks, then instructions.
+    /// with a jump or a return, else `Limit` with what there is too much of: registers, then blocks, then instructions, else `BadRepeat` with
+    /// the first block that says that it is repeated, but other than 1 to 65,535 times or without a jump at its end.
     pub fn shape_fault(&self) -> Option<ProgramFault>
         ensures { result ≡ shape_fault (program_view self.now) }
     {
@@ -36,7 +40,10 @@ impl Program {
         if let Some(block) = first_open(blocks) {
             return Some(ProgramFault::NoReturn(BlockNumber(block)));
         }
-        first_limit(self).map(ProgramFault::Limit)
+        if let Some(limit) = first_limit(self) {
+            return Some(ProgramFault::Limit(limit));
+        }
+        first_bad_repeat(blocks).map(|block| ProgramFault::BadRepeat(BlockNumber(block)))
     }
 }
 
@@ -135,6 +142,53 @@ fn first_open(blocks: &[Block]) -> Option<usize>
     ensures { result ≡ first_open (map block_view blocks.now) }
 {
     open_in(blocks)
+}
+
+// Whether an instruction is a jump.
+#[tactic(auto, using(crate::proofs::BlockShapes::is_none, crate::proofs::BlockShapes::property_is_none, crate::proofs::BlockShapes::object_is_none, crate::proofs::BlockShapes::signal_is_none, crate::proofs::BlockShapes::source_is_none))]
+fn is_jump(instruction: &Instruction) -> bool
+    ensures { result ≡ is_jump (instruction_view instruction.now) }
+{
+    matches!(
+        instruction,
+        Instruction::Control(ControlInstruction::Jump(_))
+    )
+}
+
+// Whether the last instruction is a jump.
+fn ends_in_jump(code: &[Instruction]) -> bool
+    ensures { result ≡ ends_in_jump (map instruction_view code.now) }
+{
+    match code.last() {
+        Some(last) => is_jump(last),
+        None => false,
+    }
+}
+
+// Whether a block may be passed as often as it says.
+fn may_repeat(block: &Block) -> bool
+    ensures { result ≡ may_repeat block.now.repeat (map instruction_view block.now.code.items) }
+{
+    match block.repeat {
+        Some(passes) => {
+            (1..=MOST_PASSES).contains(&passes) && ends_in_jump(block.code.as_slice())
+        }
+        None => true,
+    }
+}
+
+fn bad_repeat_in(blocks: &[Block]) -> Option<usize>
+    ensures { result ≡ position_from (λ b. not (may_repeat b.repeat (map instruction_view b.code.items))) 0 blocks.now }
+{
+    blocks.iter().position(|block| !may_repeat(block))
+}
+
+// The first block that may not be passed as often as it says.
+#[tactic(auto, using(crate::proofs::BlockShapes::repeat_viewed))]
+fn first_bad_repeat(blocks: &[Block]) -> Option<usize>
+    ensures { result ≡ first_bad_repeat (map block_view blocks.now) }
+{
+    bad_repeat_in(blocks)
 }
 
 // Whether blocks have more instructions than a program may have.

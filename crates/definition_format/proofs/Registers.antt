@@ -7,12 +7,13 @@ use Rattle.bytecode.specs.declared.faults.ProgramFault.{ProgramFault}
 use Rattle.bytecode.specs.declared.faults.ProgramFault.TheVariants as faults
 use Rattle.bytecode.specs.declared.faults.ProgramLimit.{ProgramLimit}
 use Rattle.bytecode.specs.declared.faults.ProgramLimit.TheVariants as limits
-use Rattle.bytecode.specs.Shape.{at_block, first_backward, first_open, first_limit, instructions_in, or_next, shape_fault}
+use Rattle.bytecode.specs.Shape.{at_block, first_backward, first_open, first_limit, first_bad_repeat, instructions_in, or_next, shape_fault}
 
-last_none : (a b c : Option ProgramFault) → or_next a (or_next b c) ≡ None → c ≡ None
-last_none None None c h = h
-last_none None (Some f) c h = absurd (none-some f (sym h))
-last_none (Some f) b c h = absurd (none-some f (sym h))
+third_none : (a b c d : Option ProgramFault) → or_next a (or_next b (or_next c d)) ≡ None → c ≡ None
+third_none None None None d h = refl
+third_none None None (Some f) d h = absurd (none-some f (sym h))
+third_none None (Some f) c d h = absurd (none-some f (sym h))
+third_none (Some f) b c d h = absurd (none-some f (sym h))
 
 no_limit : (l : Option ProgramLimit) → option_map faults.Limit l ≡ None → l ≡ None
 no_limit None h = refl
@@ -30,5 +31,6 @@ within p none = by (nat_lt 32 p.registers) refl
 -- a program whose blocks fit together has at most 32 registers
 pub few_registers : (p : Program) → shape_fault p ≡ None → p.registers ≤ 32
 few_registers p none =
-    within p (no_limit (first_limit p) (last_none (option_map (λ b. faults.BackwardJump (at_block b)) (first_backward p.blocks))
-    (option_map (λ b. faults.NoReturn (at_block b)) (first_open p.blocks)) (option_map faults.Limit (first_limit p)) none))
+    within p (no_limit (first_limit p) (third_none (option_map (λ b. faults.BackwardJump (at_block b)) (first_backward p.blocks))
+    (option_map (λ b. faults.NoReturn (at_block b)) (first_open p.blocks)) (option_map faults.Limit (first_limit p))
+    (option_map (λ b. faults.BadRepeat (at_block b)) (first_bad_repeat p.blocks)) none))

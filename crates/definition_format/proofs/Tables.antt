@@ -20,7 +20,7 @@ use Rattle.param_specs.specs.Table.{specs_of}
 use Rattle.signal_core.specs.Laws.{walk_for}
 use Rattle.signal_core.specs.Sources.{signals_of}
 use Rattle.signal_core.specs.Table.{named_of, planned_for}
-use Rattle.definition_format.specs.Meaning.{Parts, class_in, plain_program, meaning, IsPlain, HasKnownKinds, IsSound, IsSoundProgram, IsBasic, bind_view, planned}
+use Rattle.definition_format.specs.Meaning.{Parts, class_in, plain_program, meaning, IsPlain, HasKnownKinds, IsSound, IsSoundProgram, IsBasic, planned}
 use Rattle.ui_machine.proofs.Listed.{read-listed}
 use Rattle.definition_format.proofs.AllPlaces.{objects_first, each_place}
 use Rattle.definition_format.proofs.Registers.{few_registers}

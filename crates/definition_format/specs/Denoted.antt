@@ -36,6 +36,8 @@ use Rattle.ui_machine.specs.Definition.Programs.{Program}
 use Rattle.ui_machine.specs.Definition.Places as machine
 use Rattle.ui_machine.specs.Definition as definition
 use Rattle.ui_machine.specs.declared.limits.Limits.{Limits}
+use Rattle.bytecode.specs.declared.formats.Format.{Format}
+use Rattle.bytecode.specs.declared.formats.Format.TheVariants as formats
 use Rattle.definition_format.specs.Meaning.{type_with}
 use Rattle.definition_format.specs.Refusals.{Refusal, shape}
 use Rattle.definition_format.specs.Document.{under, members_at, entries_at, listed_ahead, nothing_at, only_at, each, at_entry, document}
@@ -51,10 +53,14 @@ use Rattle.definition_format.specs.Denoted.Programs.{programs_in}
 use Rattle.definition_format.specs.Denoted.Objects.{Scope, Built, no_objects, object_at}
 use Rattle.definition_format.specs.Denoted.Prototypes.{prototypes_in}
 
--- the member `format`, which is 1
-abbrev pub format_of : Option ℕ → Result (Unit {0}) Refusal
+-- the number that the member `format` is
+abbrev pub format_number : Data → Option ℕ
+format_number d = option_and_then as_u64 (option_and_then as_number (get (codes "format") d))
+
+-- the format of a number, which is 1 or 2
+abbrev pub format_of : Option ℕ → Result Format Refusal
 format_of None = Err (shape (codes "/format"))
-format_of (Some n) = if n == 1 then Ok tt else Err (shape (codes "/format"))
+format_of (Some n) = if n == 1 then Ok formats.First else (if n == 2 then Ok formats.Second else Err (shape (codes "/format")))
 
 abbrev pub unset_before_classes : List (List ℕ)
 unset_before_classes = codes "shapes" ∷ []
@@ -122,10 +128,10 @@ objects_in types specs programs prototypes most d = do
 unfoldable pub definition_in : Data → Result definition.Definition Refusal
 definition_in d = do
   members ← members_at [] d
-  format ← format_of (option_and_then as_u64 (option_and_then as_number (get (codes "format") d)))
+  format ← format_of (format_number d)
   limits ← limits_in d
   draft ← draft_in d
-  programs ← programs_in draft.types d
+  programs ← programs_in format draft.types d
   prototypes ← prototypes_in draft.types (specs_by draft.types draft.own) d
   objects ← objects_in draft.types (specs_by draft.types draft.own) programs prototypes limits.objects d
   only ← only_at [] members keys_of_definition

@@ -84,6 +84,7 @@ program_cause_text (programs.BadInstruction block at) = codes "BadInstruction " 
 program_cause_text (programs.BackwardJump block) = codes "BackwardJump " ++ decimal block.0
 program_cause_text (programs.NoReturn block) = codes "NoReturn " ++ decimal block.0
 program_cause_text (programs.Limit l) = codes "Limit " ++ program_limit_name l
+program_cause_text (programs.BadRepeat block) = codes "BadRepeat " ++ decimal block.0
 
 -- why JSON stands for no value
 abbrev pub value_cause_text : JsonFault → List ℕ

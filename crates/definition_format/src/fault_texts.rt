@@ -192,6 +192,10 @@ fn program_cause_text(alloc: Global, cause: ProgramFault) -> Result<String, Allo
             let name = program_limit_name(limit);
             format!(in alloc; "Limit {name}")
         }
+        ProgramFault::BadRepeat(block) => {
+            let block = block.0;
+            format!(in alloc; "BadRepeat {block}")
+        }
     }
 }
 

@@ -4,3 +4,7 @@ pub mod Numbered
 pub mod MakingLists
 pub mod BoundLists
 pub mod ForwardLists
+pub mod Positions
+pub mod Once
+pub mod PairedLists
+pub mod Prefixes

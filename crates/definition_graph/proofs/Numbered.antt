@@ -31,12 +31,12 @@ at_key x y =
     ∙ (ap (λ b. (nat_eq x.0 y.0 && b) && is_eq (nat_cmp x.2 y.2)) (is_eq-cmp x.1 y.1)
     ∙ ap (λ b. (nat_eq x.0 y.0 && nat_eq x.1 y.1) && b) (is_eq-cmp x.2 y.2))))
 
-record SameKey (x y : Key) : Type 0 where
+pub record SameKey (x y : Key) : Type 0 where
   pub place : x.0 ≡ y.0
   pub sort : x.1 ≡ y.1
   pub number : x.2 ≡ y.2
 
-same_key : (x y : Key) → is_at (compared x) y ≡ true → SameKey x y
+pub same_key : (x y : Key) → is_at (compared x) y ≡ true → SameKey x y
 same_key x y e =
     let f = both_parts (nat_eq x.0 y.0 && nat_eq x.1 y.1) (nat_eq x.2 y.2) (sym (at_key x y) ∙ e) in
     let g = both_parts (nat_eq x.0 y.0) (nat_eq x.1 y.1) f.0 in

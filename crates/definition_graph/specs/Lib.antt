@@ -1,4 +1,6 @@
 pub mod ChannelView
 pub mod Makings
 pub mod Numbering
+pub mod Numbers
+pub mod Paired
 pub mod Pairs

@@ -1,9 +1,10 @@
 //! The numbers of channels, in the order of the report.
 
-ghost use Rattle.std.specs.Prelude.{◌≡◌, ◌<◌, ℕ, length, slice_get, Some, IfNone, IfOk, IfSome, OnOk};
+ghost use Rattle.std.specs.Prelude.{◌≡◌, ◌<◌, ◌≤◌, ℕ, length, slice_get, Some, IfNone, IfOk, IfSome};
 ghost use Rattle.law_typing.specs.Graph.Channels.{channels};
 ghost use Rattle.definition_graph.specs.ChannelView.{channel_of, channels_of};
-ghost use Rattle.definition_graph.specs.Numbering.{AreNumbered, key_of, keyed};
+ghost use Rattle.definition_graph.specs.Numbering.{AreNumbered, key_of};
+ghost use Rattle.definition_graph.specs.Numbers.{AreCountable, number_of};
 
 use crate::report_channels::channels;
 use operand_types::Lookups;
@@ -12,12 +13,15 @@ use std::collections::BTreeMap;
 use std::marker::Model;
 use ui_machine::{Channel, Member};
 
+// No definition has more channels.
+const MOST_CHANNELS: usize = 4294967295;
+
 /// The channels of a definition, numbered in the order of the report. A contract sees the list of them.
 #[derive(Drop)]
 pub struct ChannelNumbers {
     channels: Vec<Channel>,
     // The number of each, by its place, what sort of channel it is, and its slot or number there.
-    numbers: BTreeMap<(u16, u16, u16), usize>,
+    numbers: BTreeMap<(u16, u16, u16), u32>,
 }
 
 impl Model for ChannelNumbers {
@@ -25,12 +29,13 @@ impl Model for ChannelNumbers {
     ghost use Rattle.law_typing.specs.Graph.Channels as law;
     ghost use Rattle.definition_graph.specs.ChannelView.{channels_of};
     ghost use Rattle.definition_graph.specs.Numbering.{AreNumbered};
+    ghost use Rattle.definition_graph.specs.Numbers.{AreCountable};
 
     ghost Value = { List law.Channel };
 
     ghost view = { λ n. channels_of n.channels.items };
 
-    ghost invariant = { λ n. AreNumbered (channels_of n.channels.items) n.numbers (length n.channels.items) };
+    ghost invariant = { λ n. AreNumbered (channels_of n.channels.items) n.numbers (length n.channels.items) × AreCountable (channels_of n.channels.items) };
 }
 
 // What no two channels share.
@@ -57,13 +62,14 @@ fn channel_at(channels: &[Channel], number: usize) -> Channel
 fn numbers_of(
     alloc: Global,
     channels: &[Channel],
-) -> Result<BTreeMap<(u16, u16, u16), usize>, AllocError>
+) -> Result<BTreeMap<(u16, u16, u16), u32>, AllocError>
+    requires { length channels.now ≤ 4294967295 }
     ensures { IfOk result (λ numbers. AreNumbered (channels_of channels.now) numbers (length channels.now)) }
 {
     let mut numbers = BTreeMap::new(alloc);
     for number in 0..channels.len() {
         let channel = channel_at(channels, number);
-        numbers.insert(key_of(&channel), number)?;
+        numbers.insert(key_of(&channel), number as u32)?;
     }
     Ok(numbers)
 }
@@ -73,18 +79,23 @@ impl ChannelNumbers {
     ///
     /// # Errors
     ///
-    /// `AllocError` where no memory is found.
+    /// `AllocError` where no memory is found. There are never more channels than numbers.
     pub fn new(alloc: Global, lookups: &Lookups<'_>) -> Result<ChannelNumbers, AllocError>
         ensures { IfOk result (λ numbers. numbers ≡ channels lookups.now) }
     {
         let channels = channels(alloc, lookups)?;
+        if channels.len() > MOST_CHANNELS {
+            return Err(AllocError);
+        }
         let numbers = numbers_of(alloc, channels.as_slice())?;
         Ok(ChannelNumbers { channels, numbers })
     }
 
     /// How many there are.
     pub fn count(&self) -> usize
-        ensures { result ≡ length self.now }
+        ensures count { result ≡ length self.now }
+        ensures few { result ≤ 4294967295 }
+        ensures countable { AreCountable self.now }
     {
         self.channels.len()
     }
@@ -98,9 +109,11 @@ impl ChannelNumbers {
     }
 
     /// The number of a channel, if it is one of the definition's.
-    pub fn number(&self, channel: &Channel) -> Option<usize>
+    pub fn number(&self, channel: &Channel) -> Option<u32>
+        ensures number { result ≡ number_of self.now (channel_of channel.now) }
         ensures found { IfSome result (λ number. slice_get self.now number ≡ Some (channel_of channel.now)) }
         ensures none { IfNone result ((number : ℕ) → slice_get self.now number ≡ Some (channel_of channel.now) → ⊥) }
+        ensures within { IfSome result (λ number. number < length self.now) }
     {
         match self.numbers.get(&key_of(channel)) {
             Some(number) => Some(*number),

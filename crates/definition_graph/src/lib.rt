@@ -8,10 +8,14 @@ mod bound_channels;
 mod channel_numbers;
 mod forward_values;
 mod makings;
+mod paired_properties;
+mod pairs_by_number;
 mod report_channels;
 
 pub use bound_channels::{Pair, created, pairs};
 pub use channel_numbers::ChannelNumbers;
 pub use forward_values::forwards;
 pub use makings::making;
+pub use paired_properties::paired_places;
+pub use pairs_by_number::{PairedNumbers, paired_numbers};
 pub use report_channels::channels;

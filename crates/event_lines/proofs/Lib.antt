@@ -4,3 +4,4 @@ pub mod Runs
 pub mod EventLemmas
 pub mod RunOver
 pub mod Openings
+pub mod CheckProofs

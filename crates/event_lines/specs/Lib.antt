@@ -10,3 +10,5 @@ pub mod Opening
 pub mod OpeningView
 pub mod Files
 pub mod Endings
+pub mod Checks
+pub mod CheckView

@@ -3,9 +3,15 @@
 ghost use Rattle.std.specs.Prelude.{◌≡◌, ◌<◌, ◌+◌, ◌||◌, ℕ, Bool, true, false, List, Option, length, nat_eq, IfOk, MatchResult};
 ghost use Rattle.std.specs.Io.{ReadsAtMost, WritesAtMost};
 ghost use Rattle.std.specs.Io.KnownBytes.{ReadConsumes, WriteAppends};
+ghost use Rattle.law_typing.specs.Verdict.Accepted.{Accepted};
+ghost use Rattle.verified.specs.Lines.{report_of};
+ghost use Rattle.verified.specs.Writing as reports;
+ghost use Rattle.verified.specs.Writing.{Reports};
 ghost use Rattle.event_lines.specs.Writing.{Sent, CountsWrite};
 
+use std::alloc::Global;
 use ui_machine::{DeviceFault, Feed, Sink};
+use verified::{ReportFault, Verified};
 
 /// A feed that counts its reads.
 pub trait Reader {
@@ -46,6 +52,17 @@ pub trait Writer {
         ensures bytes { WriteAppends (sent self.old).bytes (sent self.new).bytes result bytes.now }
         ensures counts { CountsWrite result (length bytes.now) (sent self.old).writes (sent self.new).writes }
         ensures marks { MatchResult result (λ _. failed self.new ≡ false) (λ _. failed self.new ≡ true) };
+
+    /// Writes the report of a verified definition, line by line.
+    ///
+    /// # Errors
+    ///
+    /// `WriteFault` where a write failed, after a front of the report's bytes; `OutOfMemory` where no memory is found for a line, after the
+    /// lines before that one.
+    fn write_report(&mut self, alloc: Global, verified: &Verified) -> Result<(), ReportFault>
+        requires works { failed self.old ≡ false }
+        ensures lines { (a : Accepted verified.now) → Reports result (sent self.old).bytes (sent self.new).bytes (report_of verified.now a) }
+        ensures marks { reports.IsMarked result (failed self.new) };
 }
 
 /// A feed or a sink, and its calls so far. A call that can't be counted fails.
@@ -100,5 +117,23 @@ impl<D: Sink + Drop> Writer for Counted<D> {
             self.calls = calls;
         }
         Ok(count)
+    }
+
+    fn write_report(&mut self, alloc: Global, verified: &Verified) -> Result<(), ReportFault> {
+        verified.report(alloc, self)
+    }
+}
+
+impl<D: Sink + Drop> Sink for Counted<D> {
+    ghost taken = { λ c. D.taken c.device };
+
+    ghost failed = { λ c. D.failed c.device || nat_eq c.calls 18446744073709551615 };
+
+    fn write(&mut self, bytes: &[u8]) -> Result<usize, DeviceFault> {
+        Writer::write(self, bytes)
+    }
+
+    fn has_failed(&self) -> bool {
+        self.device.has_failed() || self.calls == u64::MAX
     }
 }

@@ -1,10 +1,12 @@
-//! Runs a definition over event lines, from the bytes of a reader to those of a writer.
+//! Runs a definition over event lines, from the bytes of a reader to those of a writer, and checks one before anything runs.
 //!
-//! [`run`] is the whole of it. What it is made of: the bytes of a reader in chunks, the lines in them, what each line comes to, and text
-//! that is gathered and written in large pieces. A program that embeds the runtime without files uses `ui_engine` instead.
+//! [`run`] is the whole of a run, and [`check`] that of a check. What they are made of: the bytes of a reader in chunks, the lines in
+//! them, what each line comes to, and text that is gathered and written in large pieces. A program that embeds the runtime without files
+//! uses `ui_engine` instead.
 #![tactic(auto)]
 
 mod chunk;
+mod definition_checks;
 mod definition_file;
 mod devices;
 mod ending;
@@ -19,6 +21,7 @@ mod refusal;
 mod whole_runs;
 mod writing;
 
+pub use definition_checks::check;
 pub use definition_file::{FileFault, definition_bytes};
 pub use devices::{Counted, Reader, Writer};
 pub use ending::Ending;

@@ -44,8 +44,8 @@ pub fn run<R: Reader, W: Writer>(
     }
 }
 
-// The one line of a definition that is refused.
-fn refuse<W: Writer>(writer: &mut W, text: &str) -> u8
+/// Writes the one line of a definition that is refused, and answers 1, or 4 where a write failed.
+pub(crate) fn refuse<W: Writer>(writer: &mut W, text: &str) -> u8
     requires works { W.failed writer.old ≡ false }
     ensures concludes { (out : List ℕ) × Concludes (joined (codes "refused: " ∷ text.now ∷ codes "\n" ∷ [])) 1 result (W.failed writer.new) out × Sends 0 0 (W.sent writer.old) (W.sent writer.new) out }
     ensures marks { IsMarked result (W.failed writer.new) }
@@ -57,8 +57,9 @@ fn refuse<W: Writer>(writer: &mut W, text: &str) -> u8
     gather.finish(writer, 1)
 }
 
-// The one line of a run that found no memory before the build.
-fn refuse_for_memory<W: Writer>(writer: &mut W) -> u8
+/// Writes the one line of a run that found no memory before the build, or of a check that found none, and answers 3, or 4 where a write
+/// failed.
+pub(crate) fn refuse_for_memory<W: Writer>(writer: &mut W) -> u8
     requires works { W.failed writer.old ≡ false }
     ensures concludes { (out : List ℕ) × Concludes nothing_begun 3 result (W.failed writer.new) out × Sends 0 0 (W.sent writer.old) (W.sent writer.new) out }
     ensures marks { IsMarked result (W.failed writer.new) }

@@ -6,9 +6,10 @@
 mod reading;
 
 pub use bytecode::{
-    Arithmetic, Block, BlockNumber, Comparison, Computation, Computed, Connection, Instruction,
-    InstructionError, MOST_BLOCKS, MOST_INSTRUCTIONS, MOST_REGISTERS, OutlineError, OutlineFault,
-    Program, ProgramError, ProgramFault, ProgramLimit, ProgramPart, Register, RegisterKind,
+    Arithmetic, Block, BlockNumber, Comparison, Computation, Computed, Connection, Format,
+    Instruction, InstructionError, MOST_BLOCKS, MOST_INSTRUCTIONS, MOST_PASSES, MOST_REGISTERS,
+    OutlineError, OutlineFault, Program, ProgramError, ProgramFault, ProgramLimit, ProgramPart,
+    Register, RegisterKind,
 };
 pub use frames::{
     Frame, MOST_TEXT_BYTES, compute, data_at, identity_at, text_at, truth_at, value_at, values_at,

@@ -1,16 +1,18 @@
 -- What is so of lists that are read one entry after the other, and of blocks: where they are entered, that the last instruction and no other
 -- ends one, and that they lead to later blocks.
-use Rattle.std.proofs.Common.{◌≡◌, ℕ, zero, suc, ◌+◌, ◌<◌, Bool, true, false, not, cond, ◌||◌, nat_lt, List, [], ◌∷◌, ◌++◌, length, None, Some, slice_get, Result, refl, sym, ap, subst, ◌∙◌, arith}
+use Rattle.std.proofs.Common.{◌≡◌, ℕ, zero, suc, ◌+◌, ◌<◌, Bool, true, false, not, cond, ◌||◌, ◌&&◌, nat_le, nat_lt, List, [], ◌∷◌, ◌++◌, length, Option, None, Some, slice_get, Result, refl, sym, ap, subst, ◌∙◌, arith}
 use Rattle.std.specs.Prelude.{IfOk}
 use Rattle.std.specs.List.{enumerate_from, list_any, position_from}
-use Rattle.std.proofs.lemmas.Bool.{ltb-true}
+use Rattle.std.proofs.lemmas.Bool.{leb-true, ltb-true}
 use Rattle.std.proofs.lemmas.Option.{none-some}
 use Rattle.ui_machine.specs.Definition.Programs.{Block, Instruction}
 use Rattle.ui_machine.specs.Definition.Programs as words
+use Rattle.type_tree.specs.TypeName.{is_within}
 use Rattle.bytecode.specs.Reading.Each.{each}
-use Rattle.bytecode.specs.Shape.{ends_block, first_backward, first_open, is_ended, leads_back}
+use Rattle.bytecode.specs.Shape.{ends_block, ends_in_jump, first_backward, first_bad_repeat, first_open, is_ended, is_jump, leads_back, may_repeat}
 use Rattle.law_typing.specs.Graph.{next_of}
-use Rattle.law_typing.specs.Laws.WellRead.{Ends, ends}
+use Rattle.law_typing.specs.Laws.WellRead as laws
+use Rattle.law_typing.specs.Laws.WellRead.{Ends, EndsInJump, RepeatRead, ends}
 use Rattle.law_typing.specs.Verdict.Accepted.{Each}
 use Rattle.law_reading.proofs.InstructionProofs.{on}
 
@@ -179,6 +181,63 @@ leads_on n (words.branch_null on then_to else_to) e =
     (ltb-true n then_to both.0, (ltb-true n else_to both.1, tt))
 leads_on n (words.return from) e = tt
 
+-- ** how often blocks are passed
+
+jumps_so : (i : Instruction) → laws.is_jump i ≡ is_jump i
+jumps_so (words.const to kind v) = refl
+jumps_so (words.move to from) = refl
+jumps_so (words.clear to) = refl
+jumps_so (words.arithmetic operation to a b) = refl
+jumps_so (words.compare comparison to a b) = refl
+jumps_so (words.same to a b) = refl
+jumps_so (words.negate to a) = refl
+jumps_so (words.both to a b) = refl
+jumps_so (words.either to a b) = refl
+jumps_so (words.join to a b) = refl
+jumps_so (words.convert to a kind) = refl
+jumps_so (words.get to object name) = refl
+jumps_so (words.set object name from) = refl
+jumps_so (words.object to id) = refl
+jumps_so (words.new to id) = refl
+jumps_so (words.sink object) = refl
+jumps_so (words.orphan object) = refl
+jumps_so (words.dispose object) = refl
+jumps_so (words.adopt to parent child) = refl
+jumps_so (words.freeze object) = refl
+jumps_so (words.thaw object) = refl
+jumps_so (words.emit into object signal detail args) = refl
+jumps_so (words.notify object name) = refl
+jumps_so (words.connect to object c) = refl
+jumps_so (words.disconnect object program) = refl
+jumps_so (words.block object program) = refl
+jumps_so (words.unblock object program) = refl
+jumps_so words.stop = refl
+jumps_so (words.unbind name) = refl
+jumps_so (words.idle to program priority with) = refl
+jumps_so (words.timeout to program priority interval with) = refl
+jumps_so (words.remove program) = refl
+jumps_so (words.call to object name args) = refl
+jumps_so (words.jump to) = refl
+jumps_so (words.branch on then_to else_to) = refl
+jumps_so (words.branch_null on then_to else_to) = refl
+jumps_so (words.return from) = refl
+
+jumps_at_end : (is : List Instruction) → ends_in_jump is ≡ true → EndsInJump is
+jumps_at_end [] e = absurd (cc)
+jumps_at_end (i ∷ []) e = jumps_so i ∙ e
+jumps_at_end (i ∷ j ∷ is) e = jumps_at_end (j ∷ is) e
+
+both_hold : (a b : Bool) → (a && b) ≡ true → (a ≡ true) × (b ≡ true)
+both_hold true b e = (refl, e)
+both_hold false b e = absurd (cc)
+
+repeat_so : (repeat : Option ℕ) (is : List Instruction) → may_repeat repeat is ≡ true → RepeatRead repeat is
+repeat_so None is e = tt
+repeat_so (Some n) is e =
+    let parts = both_hold (is_within 1 65535 n) (ends_in_jump is) e in
+    let ends = both_hold (nat_le 1 n) (nat_le n 65535) parts.0 in
+    (leb-true 1 n ends.0, leb-true n 65535 ends.1, jumps_at_end is parts.1)
+
 module _ (blocks : List Block) where
   -- each block ends, where no open one is found
   pub all_ended : first_open blocks ≡ None → (n : ℕ) (b : Block) → slice_get blocks n ≡ Some b → is_ended b.code ≡ true
@@ -191,3 +250,9 @@ module _ (blocks : List Block) where
       all_fail (leads_back n) b.code
       (none_passes (λ (x : ℕ × Block). list_any (leads_back x.0) (x.1).code) 0 (enumerate_from 0 blocks) e n (n, b)
       (enumerated 0 blocks n b h ∙ ap (λ k. Some (k, b)) same))
+
+  -- and none that is repeated is so but as it may be
+  pub all_repeat : first_bad_repeat blocks ≡ None → (n : ℕ) (b : Block) → slice_get blocks n ≡ Some b → RepeatRead b.repeat b.code
+  all_repeat e n b h =
+      repeat_so b.repeat b.code
+      (truly (may_repeat b.repeat b.code) (none_passes (λ (b : Block). not (may_repeat b.repeat b.code)) 0 blocks e n b h))

@@ -1,6 +1,5 @@
 -- What is so of each definition that bytes denote is so of each that the code holds.
 use Rattle.ui_machine.specs.Definition.{Definition}
-use Rattle.definition_format.specs.Origin.{IsDenoted}
 use Rattle.law_reading.specs.Reading.{HeldIsWell, OfEachHeld, OfEachRead}
 use Rattle.law_reading.proofs.Whole.{well_read}
 

@@ -35,5 +35,8 @@ pub mod PlaceProofs
 pub mod EventProofs
 pub mod Whole
 pub mod Held
+pub mod FormatCode
+pub mod FormatProofs
+pub mod FirstProofs
 pub mod RunProofs
 pub mod WorkedReadingProofs

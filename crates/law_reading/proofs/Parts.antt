@@ -7,6 +7,7 @@ use Rattle.ui_machine.specs.Definition.{Definition}
 use Rattle.ui_machine.specs.Definition.Programs.{Program}
 use Rattle.ui_machine.specs.Definition.Places.{Place}
 use Rattle.ui_machine.specs.declared.limits.Limits.{Limits}
+use Rattle.bytecode.specs.declared.formats.Format.{Format}
 use Rattle.definition_format.specs.Refusals.{Refusal, shape, or_refused}
 use Rattle.definition_format.specs.Document.{document, under, members_at, entries, entries_at, only_at}
 use Rattle.definition_format.specs.Denoted.Entries.{listed, section}
@@ -45,6 +46,7 @@ section_is path key d list = by (get key d)
 
 pub record IsRead (d : Definition) : Type 0 where
   pub value : Data
+  pub format : Format
   pub draft : ClassDraft
   pub limits : Limits
   pub programs : List Program
@@ -52,7 +54,7 @@ pub record IsRead (d : Definition) : Type 0 where
   pub objects : Built
   pub drafted : draft_in value ≡ Ok draft
   pub limited : limits_in value ≡ Ok limits
-  pub programmed : programs_in draft.types value ≡ Ok programs
+  pub programmed : programs_in format draft.types value ≡ Ok programs
   pub made : prototypes_in draft.types (specs_by draft.types draft.own) value ≡ Ok prototypes
   pub placed : objects_in draft.types (specs_by draft.types draft.own) programs prototypes limits.objects value ≡ Ok objects
   pub is : definition_with draft programs (objects.places ++ prototypes) objects.bindings limits ≡ d
@@ -61,16 +63,17 @@ of_value : (v : Data) → OnRead IsRead (definition_in v)
 unfolding definition_in
 of_value v =
     on_read IsRead (members_at [] v) _ λ ms m.
-    on_read IsRead (format_of (option_and_then as_u64 (option_and_then as_number (get (codes "format") v)))) _ λ u f.
+    on_read IsRead (format_of (option_and_then as_u64 (option_and_then as_number (get (codes "format") v)))) _ λ format f.
     on_read IsRead (limits_in v) _ λ limits l.
     on_read IsRead (draft_in v) _ λ draft c.
-    on_read IsRead (programs_in draft.types v) _ λ programs p.
+    on_read IsRead (programs_in format draft.types v) _ λ programs p.
     on_read IsRead (prototypes_in draft.types (specs_by draft.types draft.own) v) _ λ prototypes q.
     on_read IsRead (objects_in draft.types (specs_by draft.types draft.own) programs prototypes limits.objects v) _ λ objects o.
     on_read IsRead (only_at [] ms keys_of_definition) _ λ u k.
     let read : IsRead (definition_with draft programs (objects.places ++ prototypes) objects.bindings limits) =
     record {
       value = v;
+      format = format;
       draft = draft;
       limits = limits;
       programs = programs;

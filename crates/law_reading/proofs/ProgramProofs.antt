@@ -21,21 +21,22 @@ use Rattle.type_tree.specs.Adding.{required_named}
 use Rattle.bytecode.specs.declared.faults.ProgramFault.{ProgramFault}
 use Rattle.bytecode.specs.declared.faults.ProgramFault.TheVariants as faults
 use Rattle.bytecode.specs.declared.faults.ProgramLimit.TheVariants as limits
+use Rattle.bytecode.specs.declared.formats.Format.{Format}
 use Rattle.bytecode.specs.Reading.Each.{each, entries_of}
 use Rattle.bytecode.specs.Reading.KindWords.{KindFault, kind_named, kind_of_type, or_no_kind, or_unknown, parted}
 use Rattle.bytecode.specs.Reading.Operands.{Refusal, named}
 use Rattle.bytecode.specs.Reading.RegisterKinds.{Names, place_in, plain, register_kind_by, register_kind_in, register_kind_of}
 use Rattle.bytecode.specs.Reading.OutlineFaults.{Part, all_of, bad_shape, entry_of, kind_there, member_of, shaped}
-use Rattle.bytecode.specs.Reading.Outline.{BlockOutline, Outline, block_at, block_step, blocks_at, entries_or_none, entry_at, first_entry, fit_registers, keys_of_block, keys_of_program, kind_step, kinds_at, only_at, outline_in, registers_of, result_at, some_entries, some_entries_at}
+use Rattle.bytecode.specs.Reading.Outline.{BlockOutline, Outline, block_at, block_step, blocks_at, entries_or_none, entry_at, first_entry, fit_registers, keys_of_block, keys_of_program, kind_step, kinds_at, only_at, outline_in, registers_of, repeat_at, result_at, some_entries, some_entries_at}
 use Rattle.bytecode.specs.Reading.Programs.{blocks_in, code_in, code_step, filled, good_at, instruction_behind, with_next_instruction, program_of, program_with, scope_of, unless_fault}
 use Rattle.bytecode.specs.Reading.Words.{instruction_at}
-use Rattle.bytecode.specs.Shape.{at_block, first_backward, first_limit, first_open, instructions_in, is_ended, leads_back, or_next, shape_fault}
+use Rattle.bytecode.specs.Shape.{at_block, first_backward, first_bad_repeat, first_limit, first_open, instructions_in, is_ended, leads_back, or_next, shape_fault}
 use Rattle.law_typing.specs.Rules.Brackets.{written}
 use Rattle.law_typing.specs.Graph.{next_of}
-use Rattle.law_typing.specs.Laws.WellRead.{BlockRead, ConstantFits, ProgramRead, RepeatRead, Within, is_set}
+use Rattle.law_typing.specs.Laws.WellRead.{BlockRead, ConstantFits, ProgramRead, Within, is_set}
 use Rattle.law_typing.specs.Verdict.Accepted.{Each}
 use Rattle.law_typing.proofs.Lists.{each_append}
-use Rattle.law_reading.proofs.BlockProofs.{Open, all_ended, all_lead_on, each_at, ended_so, leads_on, open_more}
+use Rattle.law_reading.proofs.BlockProofs.{Open, all_ended, all_lead_on, all_repeat, each_at, ended_so, leads_on, open_more}
 use Rattle.law_reading.proofs.InstructionProofs.{InstructionRead, beside, chosen, instruction_read, on}
 use Rattle.law_reading.proofs.ListProofs.{each_more, get_push, got_within}
 use Rattle.law_reading.proofs.MemberProofs.{HasMembers}
@@ -177,8 +178,9 @@ module _ (names : Names) where
     block_read i d =
         beside (BlockSays i) (shaped (all_of (Some i)) (as_object d)) _ λ ms.
         on (EntryRead params registers i) (BlockSays i) (entry_at names params registers i d) _ (entry_read i d) λ entry h.
+        beside (BlockSays i) (repeat_at names.format i d) _ λ repeat.
         beside (BlockSays i) (shaped (member_of (Some i) (codes "code")) (option_map entries_of (option_and_then as_array (get (codes "code") d)))) _ λ code.
-        beside (BlockSays i) (only_at (Some i) ms keys_of_block) _ λ u. h
+        beside (BlockSays i) (only_at (Some i) ms (keys_of_block names.format)) _ λ u. h
 
     record BlocksSay (i : ℕ) (bs : List BlockOutline) : Type 0 where
       many : length bs ≡ i
@@ -245,15 +247,18 @@ record IsShaped (p : Program) : Type 0 where
   backward : first_backward p.blocks ≡ None
   ended : first_open p.blocks ≡ None
   few : p.registers ≤ 32
+  repeated : first_bad_repeat p.blocks ≡ None
 
 shaped_so : (p : Program) → shape_fault p ≡ None → IsShaped p
 shaped_so p e =
     let first = none_of (option_map (λ b. faults.BackwardJump (at_block b)) (first_backward p.blocks)) _ e in
     let second = none_of (option_map (λ b. faults.NoReturn (at_block b)) (first_open p.blocks)) _ first.1 in
+    let third = none_of (option_map faults.Limit (first_limit p)) _ second.1 in
     record {
       backward = none_mapped (λ b. faults.BackwardJump (at_block b)) (first_backward p.blocks) first.0;
       ended = none_mapped (λ b. faults.NoReturn (at_block b)) (first_open p.blocks) second.0;
-      few = by (nat_lt 32 p.registers) refl (none_mapped faults.Limit (first_limit p) second.1);
+      few = by (nat_lt 32 p.registers) refl (none_mapped faults.Limit (first_limit p) third.0);
+      repeated = none_mapped (λ b. faults.BadRepeat (at_block b)) (first_bad_repeat p.blocks) third.1;
     }
   where
     by : (b : Bool) → nat_lt 32 p.registers ≡ b
@@ -284,10 +289,10 @@ each_both P Q R (x ∷ xs) both p q = (both x p.0 q.0, each_both P Q R xs both p
 
 -- ** a program
 
-module _ (d : Definition) (members : (t : ℕ) → HasMembers (read no_type d.types t)) (place : List ℕ → Option ℕ) where
-  -- what kinds may name where its programs are read
+module _ (d : Definition) (members : (t : ℕ) → HasMembers (read no_type d.types t)) (format : Format) (place : List ℕ → Option ℕ) where
+  -- with what its programs are read
   abbrev names : Names
-  names = record { types = d.types; place = place }
+  names = record { format = format; types = d.types; place = place }
 
   module _ (o : Outline) (said : OutlineRead names o) where
     abbrev IsRead : Instruction → Type 0
@@ -332,7 +337,6 @@ module _ (d : Definition) (members : (t : ℕ) → HasMembers (read no_type d.ty
       said_so : BlockOutline
       there : slice_get o.blocks n ≡ Some said_so
       entry : b.entry ≡ filled o.registers said_so.entry
-      once : b.repeat ≡ None
       code : CodeRead b.code
 
     record BlocksMade (i : ℕ) (bs : List Block) : Type 0 where
@@ -349,8 +353,8 @@ module _ (d : Definition) (members : (t : ℕ) → HasMembers (read no_type d.ty
             → IfOk (code_step (scope_of names o) i bs b) (BlocksMade (suc i))
         one_more i bs b there old =
             on CodeRead (BlocksMade (suc i)) (code_in (scope_of names o) i b.code) _ (code_read i b.code) λ code h.
-            let new : Block = record { entry = filled o.registers b.entry; repeat = None; code = code } in
-            let made : BlockMade i new = record { said_so = b; there = there; entry = refl; once = refl; code = h } in
+            let new : Block = record { entry = filled o.registers b.entry; repeat = b.repeat; code = code } in
+            let made : BlockMade i new = record { said_so = b; there = there; entry = refl; code = h } in
             record {
               many = omega (arith, old.many, length-append bs (new ∷ []));
               at = λ n x e. elim (get_push bs new n x e) [
@@ -376,7 +380,7 @@ module _ (d : Definition) (members : (t : ℕ) → HasMembers (read no_type d.ty
           let entered = said.blocks n one.said_so one.there in
           record {
             entry = ap (λ (ks : List RegisterKind). length ks) one.entry ∙ length_filled o.registers (one.said_so).entry entered.fits shape.few;
-            repeat = subst (λ repeat. RepeatRead repeat b.code) (sym one.once) tt;
+            repeat = all_repeat blocks shape.repeated n b e;
             ends = ended_so b.code (one.code).last (all_ended blocks shape.ended n b e);
             constants = each_more IsRead (ConstantFits d) b.code (λ i h. h.constant) (one.code).each;
             written = each_more IsRead (λ i. Within o.registers (written i)) b.code (λ i h. h.register) (one.code).each;

@@ -102,7 +102,7 @@ facts d r =
           (soundness.objects_few r.draft.types specs r.programs r.prototypes r.limits.objects r.value within);
       programs = subst (λ (x : Definition). Each (ProgramRead x) r.programs) r.is
           (subst (OnRead (Each (ProgramRead (definition_with r.draft r.programs (r.objects.places ++ r.prototypes) r.objects.bindings r.limits)))) r.programmed
-          (programs_read (definition_with r.draft r.programs (r.objects.places ++ r.prototypes) r.objects.bindings r.limits) (λ t. grown.0.members t) r.value));
+          (programs_read (definition_with r.draft r.programs (r.objects.places ++ r.prototypes) r.objects.bindings r.limits) (λ t. grown.0.members t) r.format r.value));
     }
 
 few_bits : (d : Definition) → Facts d → (t : ℕ) → HaveFewBits (members_of d.types t)

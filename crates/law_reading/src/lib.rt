@@ -2,6 +2,7 @@
 #![tactic(auto)]
 
 ghost use Rattle.law_reading.specs.Reading.{ReadingIsWell, EventsAreRead, HeldIsWell};
+ghost use Rattle.law_reading.specs.Formats.{FirstIsAsBefore, FirstIsSecond, BytesAgree};
 ghost use Rattle.law_reading.specs.ReadRuns.{ReadNeverStuck, ReadReportIsKept, ReadRunsRest, ReadRunsAreThere, ReadHaltsForMemory};
 ghost use Rattle.law_reading.specs.WorkedReading.{PremisesMet};
 
@@ -11,6 +12,14 @@ pub fn reading()
     ensures well { ReadingIsWell }
     ensures events { EventsAreRead }
     ensures held { HeldIsWell }
+{}
+
+/// What is written in the first format denotes what it denoted when there was no other, and is refused as it was. And it denotes the same in
+/// the second: where only the member `format` differs, and the one that says 1 denotes a definition, the one that says 2 denotes it too.
+pub fn formats()
+    ensures before { FirstIsAsBefore }
+    ensures values { FirstIsSecond }
+    ensures bytes { BytesAgree }
 {}
 
 /// So what is promised of runs of an accepted definition is so of each that bytes denote, over the events that lines denote: each dispatch

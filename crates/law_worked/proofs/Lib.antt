@@ -4,6 +4,7 @@ pub mod Judging
 pub mod Begun
 pub mod MiddleProofs
 pub mod OnLiterals
+pub mod FormatReads
 pub mod PairReads
 pub mod SourceReads
 pub mod TurnProofs

@@ -23,12 +23,12 @@ use Rattle.definition_format.specs.Denoted.Properties.{valued_at, spec_at, prope
 use Rattle.definition_format.specs.Denoted.Ranges.{range_at}
 use Rattle.definition_format.specs.EventMeaning.{line_value, target, signal_target, object_of, each_of, id_known, argument, set_event, get_event, release_event, emit_event, event_meant, event_denoted}
 use Rattle.bytecode.specs.Reading.Each as code
-use Rattle.bytecode.specs.Reading.JumpRows.{return_row}
-use Rattle.bytecode.specs.Reading.ObjectRows.{new_row}
-use Rattle.bytecode.specs.Reading.OperandShapes.{one_register, two_registers, register_and_name, one_name}
+use Rattle.bytecode.specs.Reading.JumpRows.{jump_row, return_row}
+use Rattle.bytecode.specs.Reading.ObjectRows.{new_row, set_row}
+use Rattle.bytecode.specs.Reading.OperandShapes.{one_register, two_registers, three_registers, register_and_name, one_name}
 use Rattle.bytecode.specs.Reading.Outline.{kinds_at, block_at, blocks_at, outline_in}
 use Rattle.bytecode.specs.Reading.Programs.{code_in, blocks_in, program_of}
-use Rattle.bytecode.specs.Reading.RegisterRows.{const_row}
+use Rattle.bytecode.specs.Reading.RegisterRows.{arithmetic_row, const_row}
 use Rattle.bytecode.specs.Reading.SourceRows.{idle_row, timeout_row}
 use Rattle.bytecode.specs.Reading.Words.{jump_word, source_word, signal_word, object_word, register_word, instruction_at}
 use Rattle.definition_format.specs.Denoted.Programs.{program_in, program_at}
@@ -46,7 +46,7 @@ types_on_literals = tt
 
 -- the programs
 unfoldable pub programs_on_literals : ⊤
-unfolding programs_in program_in program_at outline_in blocks_at block_at kinds_at program_of blocks_in code_in code.each instruction_at jump_word source_word signal_word object_word register_word return_row new_row const_row idle_row timeout_row one_register two_registers register_and_name one_name
+unfolding programs_in program_in program_at outline_in blocks_at block_at kinds_at program_of blocks_in code_in code.each instruction_at jump_word source_word signal_word object_word register_word return_row jump_row set_row arithmetic_row new_row const_row idle_row timeout_row one_register two_registers three_registers register_and_name one_name
 programs_on_literals = tt
 
 -- the objects, and the lines of events

@@ -2,6 +2,7 @@
 #![tactic(auto)]
 
 ghost use Rattle.law_worked.specs.Middles.{Middles};
+ghost use Rattle.law_worked.specs.WorkedFormats.{FormatsMet};
 ghost use Rattle.law_worked.specs.WorkedPair.{PairMet};
 ghost use Rattle.law_worked.specs.WorkedSources.{PremisesMet};
 ghost use Rattle.law_worked.specs.WorkedTurn.{TurnKeeps};
@@ -20,6 +21,12 @@ pub fn premises()
 /// So do the bytes of a definition with a pair, two properties that are bound both ways, and lines that set each of them.
 pub fn pair()
     ensures { PairMet }
+{}
+
+/// A text of the first format, and the same text in the second, are as the law over formats asks, and denote one definition. With a block that is
+/// passed three times the text denotes another one in the second format, and none in the first.
+pub fn formats()
+    ensures { FormatsMet }
 {}
 
 /// The dispatch of a source in a turn, after another one of the same turn, meets what the laws on dispatches ask, so that it keeps what is promised.

@@ -57,7 +57,8 @@ fn number_of(rule: &Rule, values: &[u64], nodes: &[u32], most: u64) -> u64
     ensures { result ≡ number_by rule.now most (of_node values.now) nodes.now }
 {
     let counted = counted(rule.adds, values, nodes, most);
-    most.min(u64::from(rule.times) * counted + u64::from(rule.more))
+    let number = u128::from(rule.times) * u128::from(counted) + u128::from(rule.more);
+    u128::from(most).min(number) as u64
 }
 
 // The rule of a node.

@@ -6,7 +6,7 @@ pub struct Rule {
     /// Whether these are added. Else the greatest counts.
     pub adds: bool,
     /// How often that counts.
-    pub times: u16,
+    pub times: u32,
     /// What comes on top of it.
-    pub more: u32,
+    pub more: u64,
 }

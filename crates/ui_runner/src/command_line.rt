@@ -6,18 +6,27 @@
 ghost use Rattle.std.specs.Prelude.{◌≡◌, [], map, codes, is_some, option_and_then, option_map, Some, true, IfOk, IfErr, string_bytes};
 ghost use Rattle.clap.specs.Words.{app_of, fault_of, first_of, found_of, rows_of, subcommand_rows_of};
 ghost use Rattle.ui_runner.specs.declared.command_line.WordsFault.TheVariants.{OutOfMemory};
-ghost use Rattle.ui_runner.specs.CommandLine.{both, names_in, names_given, run_command, ui_command};
+ghost use Rattle.ui_runner.specs.CommandLine.{asked_in, asked_of, asked_view, both, checking_command, names_in, ui_command};
 
 use clap::error::ErrorKind;
 use clap::{Arg, ArgMatches, Command, Error};
 use std::alloc::{AllocError, Global};
 use std::io;
 
-/// What the words ask for: a definition is run over the lines of an event file.
+/// The names of the two files of a run.
 #[derive(Clone, Copy, Debug, PartialEq, Eq)]
-pub struct Request<'a> {
+pub struct RunFiles<'a> {
     pub definition: &'a str,
     pub events: &'a str,
+}
+
+/// What the words ask for.
+#[derive(Clone, Copy, Debug, PartialEq, Eq)]
+pub enum Request<'a> {
+    /// The definition of this file is checked.
+    Verify(&'a str),
+    /// A definition is run over the lines of an event file.
+    Run(RunFiles<'a>),
 }
 
 /// Why words ask for nothing.
@@ -58,6 +67,15 @@ impl From<Error> for WordsFault {
     }
 }
 
+// The command with the one subcommand that checks a definition.
+fn checking_command<'a>(alloc: Global) -> Result<Command<'a>, AllocError>
+    ensures { IfOk result (λ c. app_of c ≡ checking_command) }
+{
+    let definition = Arg::new(alloc, "DEF").required(true);
+    let verify = Command::new(alloc, "verify").arg(definition)?;
+    Command::new(alloc, "ui").subcommand(verify)
+}
+
 // The command of the program.
 fn command<'a>(alloc: Global) -> Result<Command<'a>, AllocError>
     ensures { IfOk result (λ c. app_of c ≡ ui_command) }
@@ -65,36 +83,56 @@ fn command<'a>(alloc: Global) -> Result<Command<'a>, AllocError>
     let definition = Arg::new(alloc, "DEF").required(true);
     let events = Arg::new(alloc, "EVENTS").required(true);
     let run = Command::new(alloc, "run").arg(definition)?.arg(events)?;
-    Command::new(alloc, "ui").subcommand(run)
+    checking_command(alloc)?.subcommand(run)
 }
 
-// The names of the two files, of what was given to the subcommand.
+// The names of the two files, of what was given to a subcommand.
 #[tactic(auto, using(crate::proofs::CommandLine::first_value_is))]
-fn names_in<'a>(matches: &ArgMatches<'a>) -> Option<Request<'a>>
+fn names_in<'a>(matches: &ArgMatches<'a>) -> Option<RunFiles<'a>>
     ensures { option_map (λ r. (r.definition.now, r.events.now)) result ≡ both (first_of (codes "DEF") (rows_of (found_of matches.now))) (first_of (codes "EVENTS") (rows_of (found_of matches.now))) }
 {
     let definition = matches.get_str("DEF")?;
     let events = matches.get_str("EVENTS")?;
-    Some(Request { definition, events })
+    Some(RunFiles { definition, events })
+}
+
+// The name of the definition, of what was given to a subcommand.
+#[tactic(auto, using(crate::proofs::CommandLine::first_value_is))]
+fn definition_in<'a>(matches: &ArgMatches<'a>) -> Option<&'a str>
+    ensures { option_map (λ s. s.now) result ≡ first_of (codes "DEF") (rows_of (found_of matches.now)) }
+{
+    matches.get_str("DEF")
+}
+
+// The request of a subcommand and of what was given to it.
+fn request_in<'a>(name: &str, matches: &ArgMatches<'a>) -> Option<Request<'a>>
+    ensures { option_map asked_view result ≡ asked_in (name.now, rows_of (found_of matches.now)) }
+{
+    if name == "verify" {
+        let definition = definition_in(matches)?;
+        return Some(Request::Verify(definition));
+    }
+    let files = names_in(matches)?;
+    Some(Request::Run(files))
 }
 
 // The request of words that were taken.
 fn request_of<'a>(matches: &ArgMatches<'a>) -> Option<Request<'a>>
-    ensures { option_map (λ r. (r.definition.now, r.events.now)) result ≡ option_and_then names_in (subcommand_rows_of matches.now) }
+    ensures { option_map asked_view result ≡ option_and_then asked_in (subcommand_rows_of matches.now) }
 {
-    let (_, used) = matches.subcommand()?;
-    names_in(used)
+    let (name, used) = matches.subcommand()?;
+    request_in(name, used)
 }
 
 /// Reads the words, the name of the program first.
 ///
 /// # Errors
 ///
-/// `Usage` where `clap` finds a fault in the words, or they ask for no run; `OutOfMemory` where memory was refused.
+/// `Usage` where `clap` finds a fault in the words, or they ask for nothing; `OutOfMemory` where memory was refused.
 pub fn read_words<'a>(alloc: Global, words: &'a [String]) -> Result<Request<'a>, WordsFault>
-    ensures request { IfOk result (λ r. names_given (map string_bytes words.now) ≡ Some (r.definition.now, r.events.now)) }
+    ensures request { IfOk result (λ r. asked_of (map string_bytes words.now) ≡ Some (asked_view r)) }
     ensures fitting { IfOk result (λ r. fault_of ui_command (map string_bytes words.now) ≡ []) }
-    ensures refused { IfErr result (λ e. fault_of ui_command (map string_bytes words.now) ≡ [] → is_some (names_given (map string_bytes words.now)) ≡ true → e ≡ OutOfMemory) }
+    ensures refused { IfErr result (λ e. fault_of ui_command (map string_bytes words.now) ≡ [] → is_some (asked_of (map string_bytes words.now)) ≡ true → e ≡ OutOfMemory) }
 {
     let matches = command(alloc)?.try_get_matches_from(words)?;
     request_of(&matches).ok_or(WordsFault::Usage)

@@ -1,12 +1,12 @@
-//! The program: `ui run DEF EVENTS`.
+//! The program: `ui verify DEF` and `ui run DEF EVENTS`.
 #![tactic(auto)]
 
 ghost use Rattle.std.specs.Prelude.{◌≡◌, false};
 
 mod command_line;
 
-use command_line::{Request, WordsFault, read_words};
-pub use event_lines::run;
+use command_line::{Request, RunFiles, WordsFault, read_words};
+pub use event_lines::{check, run};
 use event_lines::{Counted, Ending, FileFault, definition_bytes};
 use std::env;
 use std::fs::File;
@@ -50,15 +50,31 @@ fn refuse_words(rt: &HostRuntime, fault: WordsFault) -> u8 {
     }
 }
 
-// Reads the definition, opens the events, and runs.
 fn perform(rt: &HostRuntime, request: Request<'_>) -> u8 {
-    let bytes = match definition_at(rt, request.definition) {
+    match request {
+        Request::Verify(definition) => check_file(rt, definition),
+        Request::Run(files) => run_files(rt, files),
+    }
+}
+
+// Reads the definition, and checks it.
+fn check_file(rt: &HostRuntime, definition: &str) -> u8 {
+    let bytes = match definition_at(rt, definition) {
         Ok(bytes) => bytes,
-        Err(FileFault::OutOfMemory) => return out_of_memory(rt),
-        Err(FileFault::Unreadable) => return unreadable(rt, request.definition),
+        Err(fault) => return refuse_file(rt, fault, definition),
     };
-    let Ok(events) = File::open(rt, request.events) else {
-        return unreadable(rt, request.events);
+    let mut writer = device(rt.stdout());
+    check(rt.alloc(), bytes.as_slice(), &mut writer)
+}
+
+// Reads the definition, opens the events, and runs.
+fn run_files(rt: &HostRuntime, files: RunFiles<'_>) -> u8 {
+    let bytes = match definition_at(rt, files.definition) {
+        Ok(bytes) => bytes,
+        Err(fault) => return refuse_file(rt, fault, files.definition),
+    };
+    let Ok(events) = File::open(rt, files.events) else {
+        return unreadable(rt, files.events);
     };
     let mut reader = device(events);
     let mut writer = device(rt.stdout());
@@ -71,6 +87,13 @@ fn definition_at(rt: &HostRuntime, name: &str) -> Result<Vec<u8>, FileFault> {
     };
     let mut reader = Device::new(file);
     definition_bytes(rt.alloc(), &mut reader)
+}
+
+fn refuse_file(rt: &HostRuntime, fault: FileFault, name: &str) -> u8 {
+    match fault {
+        FileFault::OutOfMemory => out_of_memory(rt),
+        FileFault::Unreadable => unreadable(rt, name),
+    }
 }
 
 fn unreadable(rt: &HostRuntime, name: &str) -> u8 {

@@ -1,6 +1,6 @@
 -- What a program's value says beside its instructions, or the first fault in document order: a shape that the format does not give, or a
 -- name that nothing has. Such a value stands for no program and has no bad instruction.
-use Rattle.std.specs.Prelude.{◌≡◌, ℕ, List, [], ◌∷◌, ◌++◌, length, codes, Bool, true, false, nat_eq, nat_lt, if◌then◌else◌, Option, None, Some, option_map, option_and_then, Result, Ok, Err}
+use Rattle.std.specs.Prelude.{◌≡◌, ℕ, ℤ, pos, unsigned_abs, List, [], ◌∷◌, ◌++◌, length, codes, Bool, true, false, nat_eq, nat_lt, if◌then◌else◌, Option, None, Some, option_map, option_and_then, Result, Ok, Err}
 use Rattle.std.specs.List.{list_any}
 use Rattle.std.specs.Str.{bytes_eq}
 use Rattle.serde_json.specs.Data.{Data, Members, no_members, member}
@@ -8,15 +8,20 @@ use Rattle.serde_json.specs.Find.{get, as_str, as_number, as_u64, as_array, as_o
 use Rattle.ui_machine.specs.Outcome.{◌>>=◌}
 use Rattle.ui_machine.specs.Definition.Kinds.{Kind, RegisterKind}
 use Rattle.ui_machine.specs.Definition.Types.{GType}
+use Rattle.ui_machine.specs.Rules.Transform.{is_between}
+use Rattle.g_values.specs.Reading.{whole_number}
+use Rattle.bytecode.specs.declared.formats.Format.{Format}
+use Rattle.bytecode.specs.declared.formats.Format.TheVariants as formats
 use Rattle.bytecode.specs.Reading.KindWords.{KindFault, no_kind, kind_by, parted}
 use Rattle.bytecode.specs.Reading.Operands.{named}
 use Rattle.bytecode.specs.Reading.Each.{entries_of, each}
 use Rattle.bytecode.specs.Reading.RegisterKinds.{Names, register_kind_in}
 use Rattle.bytecode.specs.Reading.OutlineFaults.{Part, OutlineFault, bad_shape, all_of, member_of, entry_of, shaped, kind_there}
 
--- what a block says: the kinds of the first registers as it begins, and its instructions as JSON has them
+-- what a block says: the kinds of the first registers as it begins, how often it is passed, and its instructions as JSON has them
 pub record BlockOutline : Type 0 where
   pub entry : List RegisterKind
+  pub repeat : Option ℕ
   pub code : List Data
 
 pub record Outline : Type 0 where
@@ -96,16 +101,35 @@ abbrev pub entry_at : Names → List RegisterKind → ℕ → ℕ → Data → R
 entry_at names params registers block d =
     if nat_eq block 0 then first_entry params (get (codes "in") d) else kinds_at names true (member_of (Some block) (codes "in")) (Some registers) (get (codes "in") d)
 
-abbrev pub keys_of_block : List (List ℕ)
-keys_of_block = codes "in" ∷ codes "code" ∷ []
+-- as often as a whole number says; 0 for each that is none from 1 to 65,535, which no block may say
+abbrev pub passes_of : ℤ → ℕ
+passes_of n = if is_between (pos 1) (pos 65535) n then unsigned_abs n else 0
+
+abbrev pub passes_said : Data → Option ℕ
+passes_said d = option_map passes_of (whole_number d)
+
+abbrev pub repeat_said : ℕ → Option Data → Result (Option ℕ) OutlineFault
+repeat_said block None = Ok None
+repeat_said block (Some d) = shaped (member_of (Some block) (codes "repeat")) (option_map Some (passes_said d))
+
+-- how often a block is passed, which it may say in the second format
+abbrev pub repeat_at : Format → ℕ → Data → Result (Option ℕ) OutlineFault
+repeat_at formats.First block d = Ok None
+repeat_at formats.Second block d = repeat_said block (get (codes "repeat") d)
+
+-- the members that a block may have
+abbrev pub keys_of_block : Format → List (List ℕ)
+keys_of_block formats.First = codes "in" ∷ codes "code" ∷ []
+keys_of_block formats.Second = codes "in" ∷ codes "repeat" ∷ codes "code" ∷ []
 
 unfoldable pub block_at : Names → List RegisterKind → ℕ → ℕ → Data → Result BlockOutline OutlineFault
 block_at names params registers block d = do
   members ← shaped (all_of (Some block)) (as_object d)
   entry ← entry_at names params registers block d
+  repeat ← repeat_at names.format block d
   code ← shaped (member_of (Some block) (codes "code")) (option_map entries_of (option_and_then as_array (get (codes "code") d)))
-  only ← only_at (Some block) members keys_of_block
-  Ok (record { entry = entry; code = code })
+  only ← only_at (Some block) members (keys_of_block names.format)
+  Ok (record { entry = entry; repeat = repeat; code = code })
 
 -- the blocks, with the one that an entry gives
 abbrev pub block_step : Names → List RegisterKind → ℕ → ℕ → List BlockOutline → Data → Result (List BlockOutline) OutlineFault

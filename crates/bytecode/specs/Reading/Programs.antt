@@ -47,7 +47,7 @@ filled registers kinds = kinds ++ replicate (min (registers - length kinds) 32) 
 abbrev pub code_step : Scope → ℕ → List machine.Block → BlockOutline → Result (List machine.Block) ProgramFault
 code_step s i blocks b = do
   code ← code_in s i b.code
-  Ok (blocks ++ (record { entry = filled s.registers b.entry; repeat = None; code = code }) ∷ [])
+  Ok (blocks ++ (record { entry = filled s.registers b.entry; repeat = b.repeat; code = code }) ∷ [])
 
 unfoldable pub blocks_in : Scope → List BlockOutline → Result (List machine.Block) ProgramFault
 blocks_in s bs = each (code_step s) 0 [] bs

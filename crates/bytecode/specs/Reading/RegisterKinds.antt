@@ -7,11 +7,13 @@ use Rattle.ui_machine.specs.Definition.Kinds as kinds
 use Rattle.ui_machine.specs.Definition.Types.{GType}
 use Rattle.type_tree.specs.Adding.{required_named}
 use Rattle.ui_machine.specs.declared.ids.Place.{Place}
+use Rattle.bytecode.specs.declared.formats.Format.{Format}
 use Rattle.bytecode.specs.Reading.KindWords.{KindFault, no_kind, or_no_kind, or_unknown, kind_named, kind_of_type, parted}
 use Rattle.bytecode.specs.Reading.Operands.{is_name}
 
--- what kinds may name: types, and places by their ids
+-- with what a program is read: its format, and what kinds may name, which is types, and places by their ids
 pub record Names : Type 0 where
+  pub format : Format
   pub types : List GType
   pub place : List ℕ → Option ℕ
 

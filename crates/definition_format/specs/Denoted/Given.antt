@@ -2,7 +2,6 @@
 use Rattle.std.specs.Prelude.{ℕ, List, codes, Bool, true, false, ◌&&◌, not, nat_eq, nat_le, if◌then◌else◌, slice_get, Option, None, Some, is_some, option_and_then, Result, Ok, Err}
 use Rattle.std.specs.List.{list_any}
 use Rattle.serde_json.specs.Data.{Data}
-use Rattle.serde_json.specs.Find.{as_str}
 use Rattle.ui_machine.specs.Outcome.{◌>>=◌}
 use Rattle.ui_machine.specs.Seq.{read}
 use Rattle.ui_machine.specs.Definition.Kinds.{Kind}

@@ -6,6 +6,7 @@ use Rattle.ui_machine.specs.Definition.Names.{place_named}
 use Rattle.ui_machine.specs.Definition.Programs.{Program}
 use Rattle.ui_machine.specs.Definition.Types.{GType}
 use Rattle.bytecode.specs.declared.faults.ProgramFault.{ProgramFault}
+use Rattle.bytecode.specs.declared.formats.Format.{Format}
 use Rattle.bytecode.specs.Reading.Outline.{Outline, outline_in}
 use Rattle.bytecode.specs.Reading.OutlineFaults.{OutlineFault, Part, bad_shape, unknown_name}
 use Rattle.bytecode.specs.Reading.Programs.{program_of}
@@ -16,9 +17,9 @@ use Rattle.definition_format.specs.Document.{under, nth, escaped, members_at, te
 use Rattle.definition_format.specs.Denoted.Names.{is_name}
 use Rattle.definition_format.specs.Denoted.Entries.{place_with_id}
 
--- what the kinds of programs may name: these types, and the objects and prototypes of the document
-abbrev pub code_names : List GType → Data → Names
-code_names types d = record { types = types; place = place_with_id d }
+-- what the programs of a document are read with: its format, these types, and its objects and prototypes
+abbrev pub code_names : Format → List GType → Data → Names
+code_names format types d = record { format = format; types = types; place = place_with_id d }
 
 -- ** faults of an outline
 
@@ -84,8 +85,8 @@ program_at path names programs d = do
   program ← program_in path names programs d
   Ok (programs ++ program ∷ [])
 
--- the programs of a document with these types
-unfoldable pub programs_in : List GType → Data → Result (List Program) Refusal
-programs_in types d = do
+-- the programs of a document of this format with these types
+unfoldable pub programs_in : Format → List GType → Data → Result (List Program) Refusal
+programs_in format types d = do
   list ← entries_at [] d (codes "programs")
-  each (at_entry (λ path. program_at path (code_names types d)) (under [] (codes "programs"))) 0 [] list
+  each (at_entry (λ path. program_at path (code_names format types d)) (under [] (codes "programs"))) 0 [] list

@@ -18,7 +18,7 @@ use Rattle.handler_code.specs.declared.reading.outline.Outline as code
 use Rattle.handler_code.specs.declared.reading.scope.Scope as code_scope
 
 abbrev pub names_view : code_names.Names → Names
-names_view n = record { types = n.types.now; place = λ id. number_of_place (get_by_text n.places.now id) }
+names_view n = record { format = n.format; types = n.types.now; place = λ id. number_of_place (get_by_text n.places.now id) }
 
 abbrev pub scope_view : code_scope.Scope → Scope
 scope_view s = record { types = s.types.now; registers = s.registers; blocks = s.blocks }
@@ -32,7 +32,7 @@ abbrev pub options_view : ConnectOptions → Options
 options_view o = record { after = o.after; swapped = o.swapped }
 
 abbrev pub block_outline_view : code_block.BlockOutline → BlockOutline
-block_outline_view b = record { entry = map register_kind_view b.entry.items; code = map view b.code.now }
+block_outline_view b = record { entry = map register_kind_view b.entry.items; repeat = b.repeat; code = map view b.code.now }
 
 abbrev pub outline_view : code.Outline → Outline
 outline_view o = record {

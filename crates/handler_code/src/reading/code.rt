@@ -89,7 +89,7 @@ pub(crate) fn blocks_of(
         let entry = filled(alloc, scope.registers, outline.entry.as_slice())?;
         blocks.push(Block {
             entry,
-            repeat: None,
+            repeat: outline.repeat,
             code,
         })?;
     }

@@ -4,10 +4,12 @@ use bytecode::RegisterKind;
 use g_values::Kind;
 use serde_json::Value;
 
-// A block whose instructions are not read yet: the kinds of the first registers as it begins, and its instructions as JSON has them.
+// A block whose instructions are not read yet: the kinds of the first registers as it begins, how often it is passed, and its instructions as
+// JSON has them.
 #[derive(Drop)]
 pub(crate) struct BlockOutline<'a> {
     pub(crate) entry: Vec<RegisterKind>,
+    pub(crate) repeat: Option<u32>,
     pub(crate) code: &'a [Value],
 }
 

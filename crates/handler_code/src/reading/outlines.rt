@@ -11,14 +11,14 @@ ghost use Rattle.bytecode.specs.Reading.Operands.{named};
 ghost use Rattle.handler_code.specs.Reading.ReaderViews.{kind_fault, names_view, block_outline_view, outline_view};
 ghost use Rattle.bytecode.specs.Reading.Each.{entries_of, each};
 ghost use Rattle.bytecode.specs.Reading.OutlineFaults.{Gives, member_of, shaped};
-ghost use Rattle.bytecode.specs.Reading.Outline.{IsWellFormed, block_at, block_step, blocks_at, entry_at, first_entry, outline_in, registers_of, result_at, result_of, result_word, some_entries, some_entries_at, tested};
+ghost use Rattle.bytecode.specs.Reading.Outline.{IsWellFormed, block_at, block_step, blocks_at, entry_at, first_entry, keys_of_block, outline_in, passes_said, registers_of, repeat_at, repeat_said, result_at, result_of, result_word, some_entries, some_entries_at, tested};
 
 use crate::reading::kind_words::{KindFault, kind_of_word};
 use crate::reading::names::Names;
 use crate::reading::operand_words::name_in;
 use crate::reading::outline::{BlockOutline, Outline};
 use crate::reading::outline_parts::{check_only, entries_of, kind_refusal, kinds_at, members_of};
-use bytecode::{OutlineError, OutlineFault, ProgramPart, RegisterKind};
+use bytecode::{Format, MOST_PASSES, OutlineError, OutlineFault, ProgramPart, RegisterKind};
 use g_values::Kind;
 use serde_json::Value;
 use std::alloc::Global;
@@ -27,6 +27,8 @@ use type_tree::TypeTree;
 const MEMBERS: [&str; 5] = ["name", "params", "registers", "result", "blocks"];
 
 const BLOCK_MEMBERS: [&str; 2] = ["in", "code"];
+
+const REPEATED_BLOCK_MEMBERS: [&str; 3] = ["in", "repeat", "code"];
 
 // The name of the program.
 fn name_at<'a>(json: &'a Value) -> Result<&'a str, OutlineError<'a>>
@@ -137,6 +139,57 @@ fn entry_at<'a>(
     kinds_at(alloc, names, true, part, Some(registers), kinds)
 }
 
+// As often as a whole number says: 0 for each that is none from 1 to 65,535, which no block may say.
+fn passes_said(json: &Value) -> Option<u32>
+    ensures { result ≡ passes_said (view json.now) }
+{
+    let number = json.as_number()?.as_i128()?;
+    if number < 1 || number > i128::from(MOST_PASSES) {
+        return Some(0);
+    }
+    Some(number as u32)
+}
+
+// How often a block is passed, if it says so.
+fn repeat_said<'a>(block: usize, json: Option<&'a Value>) -> Result<Option<u32>, OutlineError<'a>>
+    ensures { Gives (λ r. r) result (repeat_said block (option_map (λ v. view v.now) json.entry)) }
+{
+    let Some(value) = json else {
+        return Ok(None);
+    };
+    match passes_said(value) {
+        Some(passes) => Ok(Some(passes)),
+        None => Err(OutlineError::Refused(OutlineFault::Shape(ProgramPart::member_of(
+            Some(block),
+            "repeat",
+        )))),
+    }
+}
+
+// How often a block is passed, which it may say in the second format.
+fn repeat_at<'a>(
+    format: Format,
+    block: usize,
+    json: &'a Value,
+) -> Result<Option<u32>, OutlineError<'a>>
+    ensures { Gives (λ r. r) result (repeat_at format block (view json.now)) }
+{
+    match format {
+        Format::First => Ok(None),
+        Format::Second => repeat_said(block, json.get("repeat")),
+    }
+}
+
+// The members that a block may have.
+fn keys_of_block(format: Format) -> &'static [&'static str]
+    ensures { map (λ k. k.now) result.now ≡ keys_of_block format }
+{
+    match format {
+        Format::First => &BLOCK_MEMBERS,
+        Format::Second => &REPEATED_BLOCK_MEMBERS,
+    }
+}
+
 // The instructions of a block, as JSON has them.
 fn code_at<'a>(block: usize, json: &'a Value) -> Result<&'a [Value], OutlineError<'a>>
     ensures { Gives (λ s. map view s.now) result (shaped (member_of (Some block) (codes "code")) (option_map entries_of (option_and_then as_array (get (codes "code") (view json.now))))) }
@@ -164,9 +217,14 @@ fn block_at<'a>(
 {
     let members = members_of(Some(block), json)?;
     let entry = entry_at(alloc, names, params, registers, block, json)?;
+    let repeat = repeat_at(names.format, block, json)?;
     let code = code_at(block, json)?;
-    check_only(Some(block), members, &BLOCK_MEMBERS)?;
-    Ok(BlockOutline { entry, code })
+    check_only(Some(block), members, keys_of_block(names.format))?;
+    Ok(BlockOutline {
+        entry,
+        repeat,
+        code,
+    })
 }
 
 // The blocks that entries give.
@@ -258,10 +316,11 @@ pub(crate) fn read_outline<'a>(
 /// Tests what a program's value says beside its instructions: that its parts are those of the format, and that the kinds name what is there.
 /// A value that passes can be given to [`read_program`](crate::read_program), with the same names.
 ///
-/// The members are `name`, `params`, `registers`, `result` and `blocks`, those of a block `in` and `code`. A name is 1 to 64 ASCII letters,
-/// digits, `-` and `_`. There are no more parameters, and no more kinds in `in`, than registers; the first block has no `in`; there is a block
-/// at least. A kind of a register is one of a value, `some:T` of a class or interface, or `at:ID` or `at?:ID` of an object or prototype, and
-/// in `in` also `unset`. The result is a kind of values, or `none`.
+/// The members are `name`, `params`, `registers`, `result` and `blocks`, those of a block `in` and `code`, and in the second format `repeat`
+/// between them. A name is 1 to 64 ASCII letters, digits, `-` and `_`. There are no more parameters, and no more kinds in `in`, than
+/// registers; the first block has no `in`; there is a block at least. A kind of a register is one of a value, `some:T` of a class or
+/// interface, or `at:ID` or `at?:ID` of an object or prototype, and in `in` also `unset`. The result is a kind of values, or `none`.
+/// `repeat` is a whole number; whether a block may be repeated so often is not answered here.
 ///
 /// # Errors
 ///

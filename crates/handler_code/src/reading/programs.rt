@@ -68,6 +68,7 @@ fn program_of(
 /// 2. `BackwardJump` with the first block that leads to itself or to an earlier one.
 /// 3. `NoReturn` with the first block that does not end with a jump or a return.
 /// 4. `Limit`: more than 32 registers, else more than 64 blocks, else more than 512 instructions in all blocks together.
+/// 5. `BadRepeat` with the first block that says that it is repeated, but other than 1 to 65,535 times or without a jump at its end.
 ///
 /// `OutOfMemory`, in place of any of them, where a list or a text can't be made.
 pub fn read_program(alloc: Global, json: &Value, names: &Names<'_>) -> Result<Program, ProgramError>

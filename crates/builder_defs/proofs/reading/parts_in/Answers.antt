@@ -31,23 +31,23 @@ returns-clause-sound c =
 pub returns-in_err-built-clause-read : goal.returns-in_err-built-clause-read
 returns-in_err-built-clause-read c =
     let p = err_from_is_err_and c.from_residual-in_err-built.result c.from_residual-in_err-built.ensures.1 in
-    rw (p.1, p.2) (objects_fail (view c.args.value.now) (members_view c.in_ok-members.members.now.entries) c.format_in.result c.in_ok-limits.limits
+    rw (p.1, p.2) (objects_fail (view c.args.value.now) (members_view c.in_ok-members.members.now.entries) c.format_in.result c.in_ok-format.format c.in_ok-limits.limits
     (class_draft_of c.in_ok-draft.draft.types c.in_ok-draft.draft.specs c.in_ok-draft.draft.signals c.in_ok-draft.draft.constructed.items) (map plain_program c.in_ok-programs.programs.entries)
     (map plain_prototype c.in_ok-prototypes.prototypes.entries)
-    c.in_ok-members.ensures c.format_in.ensures c.in_ok-check_format.ensures c.in_ok-limits.ensures.limits c.in_ok-draft.ensures c.in_ok-programs.ensures.read c.in_ok-prototypes.ensures
+    c.in_ok-members.ensures c.format_in.ensures c.in_ok-format.ensures c.in_ok-limits.ensures.limits c.in_ok-draft.ensures c.in_ok-programs.ensures.read c.in_ok-prototypes.ensures
     c.in_err-built.field-0.0 c.in_err-built.ensures)
 
 pub returns-in_err-check_only-clause-read : goal.returns-in_err-check_only-clause-read
 returns-in_err-check_only-clause-read c =
     let p = err_from_is_err_and c.from_residual-in_err-check_only.result c.from_residual-in_err-check_only.ensures.1 in
-    rw (p.1, p.2) (definition_fails (view c.args.value.now) (members_view c.in_ok-members.members.now.entries) c.format_in.result c.in_ok-limits.limits
+    rw (p.1, p.2) (definition_fails (view c.args.value.now) (members_view c.in_ok-members.members.now.entries) c.format_in.result c.in_ok-format.format c.in_ok-limits.limits
     (class_draft_of c.in_ok-draft.draft.types c.in_ok-draft.draft.specs c.in_ok-draft.draft.signals c.in_ok-draft.draft.constructed.items) (map plain_program c.in_ok-programs.programs.entries)
     (map plain_prototype c.in_ok-prototypes.prototypes.entries) (built_view c.in_ok-built.built.objects.entries c.in_ok-built.built.bindings.items)
-    c.in_ok-members.ensures c.format_in.ensures c.in_ok-check_format.ensures c.in_ok-limits.ensures.limits c.in_ok-draft.ensures c.in_ok-programs.ensures.read c.in_ok-prototypes.ensures c.in_ok-built.ensures
+    c.in_ok-members.ensures c.format_in.ensures c.in_ok-format.ensures c.in_ok-limits.ensures.limits c.in_ok-draft.ensures c.in_ok-programs.ensures.read c.in_ok-prototypes.ensures c.in_ok-built.ensures
     c.in_err-check_only.field-0.0 c.in_err-check_only.ensures)
 
 pub returns-clause-read : goal.returns-clause-read
 returns-clause-read c =
-    definition_done (view c.args.value.now) (members_view c.in_ok-members.members.now.entries) c.format_in.result
+    definition_done (view c.args.value.now) (members_view c.in_ok-members.members.now.entries) c.format_in.result c.in_ok-format.format
     (parts c.in_ok-draft.draft.types c.in_ok-draft.draft.specs c.in_ok-draft.draft.signals c.in_ok-draft.draft.constructed.items c.in_ok-programs.programs.entries c.in_ok-prototypes.prototypes.entries c.in_ok-built.built.objects.entries c.in_ok-built.built.bindings.items c.in_ok-limits.limits)
-    c.in_ok-members.ensures c.format_in.ensures c.in_ok-check_format.ensures c.in_ok-limits.ensures.limits c.in_ok-draft.ensures c.in_ok-programs.ensures.read c.in_ok-prototypes.ensures c.in_ok-built.ensures c.in_ok-check_only.ensures
+    c.in_ok-members.ensures c.format_in.ensures c.in_ok-format.ensures c.in_ok-limits.ensures.limits c.in_ok-draft.ensures c.in_ok-programs.ensures.read c.in_ok-prototypes.ensures c.in_ok-built.ensures c.in_ok-check_only.ensures

@@ -1,4 +1,4 @@
-use Rattle.std.proofs.Common.{◌≡◌, [], ◌∷◌, ◌++◌, All, List, None, map, refl, sym, subst, ap, ◌∙◌}
+use Rattle.std.proofs.Common.{◌≡◌, [], ◌∷◌, ◌++◌, All, List, map, refl, sym, subst, ap, ◌∙◌}
 use Rattle.std.proofs.lemmas.List.Elements.{All-push}
 use Rattle.std.proofs.lemmas.Result.{err_from_is_err_and}
 use Rattle.serde_json.specs.View.{view}
@@ -23,7 +23,7 @@ returns-in_err-code-clause-read c =
     rw (p.1, p.2) (stops_program (code_step scope) block_outline_view c.args.outlines.now c.outlines.number blocks
     (each (code_step scope) 0 [] (map block_outline_view c.args.outlines.now))
     b c.in_err-code.field-0.0 (code_in scope c.outlines.number (map view b.code.now))
-    (λ code. blocks ++ (record { entry = filled scope.registers (map register_kind_view b.entry.items); repeat = None; code = code }) ∷ [])
+    (λ code. blocks ++ (record { entry = filled scope.registers (map register_kind_view b.entry.items); repeat = b.repeat; code = code }) ∷ [])
     c.outlines-test.true c.index-outlines-number.is refl c.in_err-code.ensures.read c.outlines.invariant.read)
 
 pub outlines-preserved : goal.outlines-preserved
@@ -31,19 +31,19 @@ outlines-preserved c =
     let scope = scope_view c.args.scope.now in
     let b = c.index-outlines-number.result in
     let blocks = map block_view c.outlines.blocks.items in
-    let whole : machine.Block = record { entry = filled scope.registers (map register_kind_view b.entry.items); repeat = None; code = map instruction_view c.in_ok-code.code.items } in
+    let whole : machine.Block = record { entry = filled scope.registers (map register_kind_view b.entry.items); repeat = b.repeat; code = map instruction_view c.in_ok-code.code.items } in
     let kinds : map register_kind_view c.in_ok-entry.entry.items ≡ filled scope.registers (map register_kind_view b.entry.items) =
     c.in_ok-entry.ensures ∙ ap (λ ks. filled scope.registers (map register_kind_view ks)) c.as_slice.ensures.value in
-    let made = ap (λ ks. blocks ++ (record { entry = ks; repeat = None; code = map instruction_view c.in_ok-code.code.items }) ∷ []) kinds in
+    let made = ap (λ ks. blocks ++ (record { entry = ks; repeat = b.repeat; code = map instruction_view c.in_ok-code.code.items }) ∷ []) kinds in
     record {
-      read = rw (pushed block_view c.outlines.blocks.items c.push.new.self.items (record { entry = c.in_ok-entry.entry; repeat = None; code = c.in_ok-code.code }) c.in_ok-push.ensures.items, made)
+      read = rw (pushed block_view c.outlines.blocks.items c.push.new.self.items (record { entry = c.in_ok-entry.entry; repeat = b.repeat; code = c.in_ok-code.code }) c.in_ok-push.ensures.items, made)
           (adds (code_step scope) block_outline_view c.args.outlines.now c.outlines.number blocks
           (each (code_step scope) 0 [] (map block_outline_view c.args.outlines.now))
           b (map instruction_view c.in_ok-code.code.items) (code_in scope c.outlines.number (map view b.code.now))
-          (λ code. blocks ++ (record { entry = filled scope.registers (map register_kind_view b.entry.items); repeat = None; code = code }) ∷ [])
+          (λ code. blocks ++ (record { entry = filled scope.registers (map register_kind_view b.entry.items); repeat = b.repeat; code = code }) ∷ [])
           c.outlines-test.true c.index-outlines-number.is refl c.in_ok-code.ensures.read c.outlines.invariant.read);
       known = subst (λ (bs : List Block). All (λ b. HasKnownCode c.args.scope.now.types.now b) bs) (sym c.in_ok-push.ensures.items)
-          (All-push (λ b. HasKnownCode c.args.scope.now.types.now b) c.outlines.blocks.items (record { entry = c.in_ok-entry.entry; repeat = None; code = c.in_ok-code.code })
+          (All-push (λ b. HasKnownCode c.args.scope.now.types.now b) c.outlines.blocks.items (record { entry = c.in_ok-entry.entry; repeat = b.repeat; code = c.in_ok-code.code })
           c.outlines.invariant.known c.in_ok-code.ensures.known);
     }
 

@@ -1,0 +1,7 @@
+use Rattle.std.proofs.Common.{◌≡◌, map}
+use Rattle.ui_machine.specs.Seq.{listed}
+use Rattle.definition_graph.specs.Paired.{paired_at}
+use Rattle.definition_graph.proofs.paired_properties.paired_places.Given as goal
+
+abbrev pub invariant-loop-place : goal.invariant-loop-place
+invariant-loop-place l = map (λ v. v.items) l.places.items ≡ listed (paired_at l.lookups l.numbers l.others) l.place

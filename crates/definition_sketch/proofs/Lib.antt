@@ -1,0 +1,5 @@
+mod GraphChannels
+mod NoFaults
+mod PairEnds
+mod Sketched
+mod Starts

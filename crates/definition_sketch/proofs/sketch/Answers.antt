@@ -1,0 +1,36 @@
+use Rattle.std.proofs.Common.{◌∙◌, ap, subst, List, Option, ℕ, length, map}
+use Rattle.ui_machine.specs.Seq.{listed}
+use Rattle.law_typing.specs.Graph.{pairs_of}
+use Rattle.law_typing.specs.Graph.Channels.{Channel, channels}
+use Rattle.graph_sketches.specs.Sketches.{Sketch}
+use Rattle.graph_sketches.specs.View.{block_view, channel_view, start_view}
+use Rattle.definition_graph.specs.Paired.{ArePaired, paired_at}
+use Rattle.raised_channels.specs.Connected.{programs_of}
+use Rattle.raised_channels.specs.Raised.{AreSketched}
+use Rattle.started_channels.specs.SketchedCode.{ArePrograms}
+use Rattle.started_channels.specs.Tables.{AreOfSome}
+use Rattle.definition_sketch.proofs.NoFaults.{no_pair_faults}
+use Rattle.definition_sketch.proofs.Sketched.{sketch_right}
+use Rattle.definition_sketch.proofs.sketch.Goals as goal
+
+pub returns : goal.returns
+returns c none =
+    let d = c.args.lookups.now in
+    let no = no_pair_faults d none in
+    let paired = c.in_ok-paired.paired in
+    let raised = c.in_ok-raised.raised in
+    let sketched = c.in_ok-sketched.sketched in
+    let ks = map channel_view raised.channels.items in
+    let groups = programs_of raised.groups.items in
+    let starts = map start_view sketched.starts.items in
+    let programs = map (λ v. map block_view v.items) sketched.programs.items in
+    let places = map (λ v. v.items) c.in_ok-places.places.items in
+    let s : Sketch = record { channels = ks; groups = groups; programs = programs; starts = starts; paired = places } in
+    sketch_right d s paired no.bindings no.pairs
+    (subst (λ (cs : List Channel). ArePaired cs (pairs_of d.bindings) paired.firsts.items paired.others.items) c.requires c.in_ok-paired.ensures)
+    (subst (λ (cs : List Channel). AreSketched d cs paired groups ks) c.requires c.in_ok-raised.ensures)
+    (subst (λ (cs : List Channel). ArePrograms d cs starts programs d.programs) c.requires c.in_ok-sketched.ensures.programs)
+    (subst (λ (cs : List Channel). AreOfSome d cs starts) c.requires c.in_ok-sketched.ensures.each)
+    (c.in_ok-places.ensures
+    ∙ (ap (λ (cs : List Channel). listed (paired_at d cs c.as_slice.result.now) (length d.places)) c.requires
+    ∙ ap (λ (os : List (Option ℕ)). listed (paired_at d (channels d) os) (length d.places)) c.as_slice.ensures.value))

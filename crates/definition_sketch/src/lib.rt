@@ -1,0 +1,43 @@
+//! The graph of a definition by numbers: what runs at each channel, and what programs may start.
+#![tactic(auto)]
+
+ghost use Rattle.std.specs.Prelude.{◌≡◌, None, IfOk};
+ghost use Rattle.law_judging.specs.FirstFaults.{first_fault};
+ghost use Rattle.law_typing.specs.Graph.{graph};
+ghost use Rattle.law_typing.specs.Graph.Channels.{channels};
+ghost use Rattle.graph_sketches.specs.Sketches.{IsSketch};
+ghost use Rattle.graph_sketches.specs.View.{sketch_view};
+
+use definition_graph::{ChannelNumbers, paired_numbers, paired_places};
+use graph_sketches::Sketch;
+use operand_types::Lookups;
+use raised_channels::raised_channels;
+use started_channels::sketched_programs;
+use std::alloc::{AllocError, Global};
+
+/// The graph of a definition by the numbers of its channels. It is right where the definition breaks no rule of instructions, handlers, bindings
+/// and pairs: only the pairs need that.
+///
+/// # Errors
+///
+/// `AllocError` where no memory is found.
+pub fn sketch(
+    alloc: Global,
+    lookups: &Lookups<'_>,
+    numbers: &ChannelNumbers,
+) -> Result<Sketch, AllocError>
+    requires { numbers.now ≡ channels lookups.now }
+    ensures { IfOk result (λ s. first_fault lookups.now ≡ None → IsSketch (graph lookups.now) (sketch_view s)) }
+{
+    let paired = paired_numbers(alloc, lookups, numbers)?;
+    let places = paired_places(alloc, lookups, numbers, paired.others.as_slice())?;
+    let raised = raised_channels(alloc, lookups, numbers, &paired)?;
+    let sketched = sketched_programs(alloc, lookups, numbers)?;
+    Ok(Sketch {
+        channels: raised.channels,
+        groups: raised.groups,
+        programs: sketched.programs,
+        starts: sketched.starts,
+        paired: places,
+    })
+}

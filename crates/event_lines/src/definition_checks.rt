@@ -1,0 +1,92 @@
+//! A whole check: a definition in, its report or the one line of its refusal and a status out.
+
+ghost use Rattle.std.specs.Prelude.{◌≡◌, ◌≢◌, ℕ, List, Ok, Err, true, false};
+ghost use Rattle.law_typing.specs.Verdict.Accepted.{Accepted};
+ghost use Rattle.builder_defs.specs.Denoted.{denoted};
+ghost use Rattle.builder_defs.specs.Refusals.{refusal};
+ghost use Rattle.verified.specs.Lines.{report_of};
+ghost use Rattle.event_lines.specs.CheckView.{IsJudged};
+ghost use Rattle.event_lines.specs.Checks.{Checked, IsReported};
+ghost use Rattle.event_lines.specs.Writing.{IsMarked};
+
+use crate::devices::Writer;
+use crate::whole_runs::{refuse, refuse_for_memory};
+use builder_defs::{Definition, DefinitionFault, ReadError, read_definition};
+use std::alloc::Global;
+use ui_verifier::{VerifyError, verify};
+use verified::{ReportFault, Verified};
+
+/// What the bytes of a definition were judged to be.
+#[derive(Drop)]
+pub enum Judgement {
+    /// Reading or the verdict refuses them: the fault as it is printed.
+    Refused(String),
+    /// No memory was found.
+    Unjudged,
+    /// The definition is accepted.
+    Accepted(Verified),
+}
+
+/// Judges a definition and writes what it came to: the report where it is accepted, else the one line of its refusal. It answers the
+/// status: 0; 1 where the definition is refused; 3 where memory was wanted; 4 where a write failed. Nothing is run. Where memory was
+/// wanted before the report the line `refused: OutOfMemory` is written; within it the report ends after whole lines.
+pub fn check<W: Writer>(alloc: Global, definition: &[u8], writer: &mut W) -> u8
+    requires writer { W.failed writer.old ≡ false }
+    ensures checked { Checked definition.now result (W.failed writer.new) (W.sent writer.old).bytes (W.sent writer.new).bytes }
+    ensures failed { result ≡ 4 → W.failed writer.new ≡ true }
+    ensures works { result ≢ 4 → W.failed writer.new ≡ false }
+{
+    match judge(alloc, definition) {
+        Judgement::Refused(text) => refuse(writer, &text),
+        Judgement::Unjudged => refuse_for_memory(writer),
+        Judgement::Accepted(verified) => report(alloc, &verified, writer),
+    }
+}
+
+// Reads a definition and verifies it.
+fn judge(alloc: Global, bytes: &[u8]) -> Judgement
+    ensures { IsJudged bytes.now result }
+{
+    match read_definition(alloc, bytes) {
+        Ok(definition) => return verdict(alloc, definition),
+        Err(ReadError::OutOfMemory) => return Judgement::Unjudged,
+        Err(ReadError::Refused(fault)) => return unread(alloc, &fault),
+    }
+}
+
+// The judgement of bytes that denote no definition.
+fn unread(alloc: Global, fault: &DefinitionFault) -> Judgement
+    ensures { (bytes : List ℕ) → denoted bytes ≡ Err (refusal fault.now) → IsJudged bytes result }
+{
+    match fault.text(alloc) {
+        Ok(text) => return Judgement::Refused(text),
+        Err(_) => return Judgement::Unjudged,
+    }
+}
+
+// The judgement of a definition.
+fn verdict(alloc: Global, definition: Definition) -> Judgement
+    ensures { (bytes : List ℕ) → denoted bytes ≡ Ok definition → IsJudged bytes result }
+{
+    match verify(alloc, definition) {
+        Ok(verified) => return Judgement::Accepted(verified),
+        Err(VerifyError::OutOfMemory) => return Judgement::Unjudged,
+        Err(VerifyError::Refused(refusal)) => return Judgement::Refused(refusal.text),
+    }
+}
+
+// Writes the report, and answers the status.
+fn report<W: Writer>(alloc: Global, verified: &Verified, writer: &mut W) -> u8
+    requires works { W.failed writer.old ≡ false }
+    ensures accepted { Accepted verified.now }
+    ensures reports { (a : Accepted verified.now) → IsReported (report_of verified.now a) result (W.failed writer.new) (W.sent writer.old).bytes (W.sent writer.new).bytes }
+    ensures marks { IsMarked result (W.failed writer.new) }
+{
+    // By this a verified definition is known to be accepted.
+    let _ = verified.definition();
+    match writer.write_report(alloc, verified) {
+        Ok(()) => 0,
+        Err(ReportFault::OutOfMemory) => 3,
+        Err(ReportFault::WriteFault) => 4,
+    }
+}

@@ -1,0 +1,22 @@
+use Rattle.std.proofs.Common.{◌≡◌, ◌∙◌, sym, ap, ◌<◌, ◌+◌, max, drop, length, arith}
+use Rattle.law_typing.specs.Graph.Tables.{greatest}
+use Rattle.definition_graph.specs.ChannelView.{channel_of, channels_of}
+use Rattle.operand_types.proofs.MappedLists.{from_end}
+use Rattle.graph_bounds.proofs.Sums.{from_got, most_ends, most_goes_on}
+use Rattle.graph_bounds.proofs.by_channel.greatest_of.Goals as goal
+
+pub loop-number-preserved : goal.loop-number-preserved
+loop-number-preserved c = λ f gives.
+    let n = c.loop-number.number in
+    let x = c.channel_at.result in
+    let parts = from_got (channels_of c.args.all.now) n (channel_of x) c.channel_at.ensures in
+    let e : c.max-most.result ≡ max c.loop-number.most c.value_of.result = omega (arith, c.max-most.ensures) in
+    ap (λ m. max m (greatest f (drop (n + 1) (channels_of c.args.all.now)))) (e ∙ ap (λ m. max c.loop-number.most m) (c.value_of.ensures f gives))
+    ∙ (most_goes_on c.loop-number.most (f (channel_of x)) (greatest f (drop (n + 1) (channels_of c.args.all.now)))
+    ∙ (ap (λ cs. max c.loop-number.most (greatest f cs)) (sym parts) ∙ c.loop-number.invariant f gives))
+
+pub returns : goal.returns
+returns c = λ f gives.
+    most_ends c.loop-number.most
+    ∙ (ap (λ cs. max c.loop-number.most (greatest f cs)) (sym (from_end channel_of c.args.all.now c.loop-number.number c.loop-number-test.false))
+    ∙ c.loop-number.invariant f gives)

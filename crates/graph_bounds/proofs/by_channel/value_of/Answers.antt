@@ -1,0 +1,12 @@
+use Rattle.std.proofs.Common.{◌≡◌, ◌∙◌, sym, ap, subst, slice_index_or, arith}
+use Rattle.graph_bounds.specs.ByChannel.{Gives}
+use Rattle.graph_bounds.proofs.Sums.{value_at}
+use Rattle.definition_graph.specs.ChannelView.{channel_of}
+use Rattle.graph_bounds.proofs.by_channel.value_of.Goals as goal
+
+pub returns-in-Some : goal.returns-in-Some
+returns-in-Some c = λ f gives.
+    value_at f c.args.channels.now c.args.values.now c.in-Some.number (channel_of c.args.channel.now) gives.same c.in-Some.ensures.found
+
+pub returns-in-None : goal.returns-in-None
+returns-in-None c = λ f gives. sym (gives.none (channel_of c.args.channel.now) c.in-None.ensures.none)

@@ -1,0 +1,2 @@
+pub mod ByChannel
+pub mod NamedSources

@@ -1,0 +1,116 @@
+//! The bound of the build, and the frames that makings need.
+
+ghost use Rattle.std.specs.Prelude.{◌≡◌, ◌+◌, ℕ, length, IfOk};
+ghost use Rattle.law_typing.specs.Graph.{makings_from};
+ghost use Rattle.law_typing.specs.Graph.Channels as law;
+ghost use Rattle.law_typing.specs.Laws.Capped.{capped};
+ghost use Rattle.graph_bounds.specs.ByChannel.{Gives, GivesCapped, build_cost, makings_cost, makings_depth, making_cost_at, making_depth_at};
+
+use crate::by_channel::{capped_sum, greatest_of, total_of, transfers_of};
+use definition_graph::{ChannelNumbers, created, forwards, making};
+use operand_types::Lookups;
+use std::alloc::{AllocError, Global};
+use ui_machine::Place;
+
+// What the making of a place's object costs; nothing is built of a prototype.
+fn making_cost(
+    alloc: Global,
+    lookups: &Lookups<'_>,
+    channels: &ChannelNumbers,
+    values: &[u64],
+    place: Place,
+) -> Result<u64, AllocError>
+    requires { length values.now ≡ length channels.now }
+    ensures { IfOk result (λ cost. (f : law.Channel → ℕ) → GivesCapped channels.now values.now f → cost ≡ capped (making_cost_at lookups.now f place.0)) }
+{
+    let Some(is_prototype) = lookups.is_prototype(place) else {
+        return Ok(0);
+    };
+    if is_prototype {
+        return Ok(0);
+    }
+    let raised = making(alloc, lookups, place)?;
+    Ok(total_of(channels, values, raised.as_slice()))
+}
+
+// What all makings of the build cost.
+fn makings_cost(
+    alloc: Global,
+    lookups: &Lookups<'_>,
+    channels: &ChannelNumbers,
+    values: &[u64],
+) -> Result<u64, AllocError>
+    requires { length values.now ≡ length channels.now }
+    ensures { IfOk result (λ cost. (f : law.Channel → ℕ) → GivesCapped channels.now values.now f → cost ≡ capped (makings_cost lookups.now f)) }
+{
+    let mut sum = 0;
+    for number in 0..lookups.definition().place_count() {
+        let cost = making_cost(alloc, lookups, channels, values, Place(number as u16))?;
+        sum = capped_sum(sum, cost);
+    }
+    Ok(sum)
+}
+
+/// The bound of the build, one above the greatest bound at most: its makings, its forward values, its first transfers, and a finalisation for
+/// each of so many objects. The values are the costs of the channels' nodes.
+///
+/// # Errors
+///
+/// `AllocError` where no memory is found.
+pub fn build_bound(
+    alloc: Global,
+    lookups: &Lookups<'_>,
+    channels: &ChannelNumbers,
+    values: &[u64],
+    objects: u32,
+) -> Result<u64, AllocError>
+    requires { length values.now ≡ length channels.now }
+    ensures { IfOk result (λ bound. (f : law.Channel → ℕ) → GivesCapped channels.now values.now f → bound ≡ capped (build_cost lookups.now f + objects)) }
+{
+    let makings = makings_cost(alloc, lookups, channels, values)?;
+    let forward = forwards(alloc, lookups)?;
+    let made = capped_sum(makings, total_of(channels, values, forward.as_slice()));
+    let targets = created(alloc, lookups.definition())?;
+    let built = capped_sum(made, transfers_of(channels, values, targets.as_slice()));
+    Ok(capped_sum(built, u64::from(objects)))
+}
+
+// The frames that the making of a place's object needs.
+fn making_depth(
+    alloc: Global,
+    lookups: &Lookups<'_>,
+    channels: &ChannelNumbers,
+    values: &[u64],
+    place: Place,
+) -> Result<u64, AllocError>
+    requires { length values.now ≡ length channels.now }
+    ensures { IfOk result (λ depth. (f : law.Channel → ℕ) → Gives channels.now values.now f → depth ≡ making_depth_at lookups.now f place.0) }
+{
+    let raised = making(alloc, lookups, place)?;
+    let Some(depth) = greatest_of(channels, values, raised.as_slice()).checked_add(1) else {
+        return Err(AllocError);
+    };
+    Ok(depth)
+}
+
+/// The most frames that a making needs. The values are the depths of the channels.
+///
+/// # Errors
+///
+/// `AllocError` where no memory is found.
+pub fn makings_depth(
+    alloc: Global,
+    lookups: &Lookups<'_>,
+    channels: &ChannelNumbers,
+    values: &[u64],
+) -> Result<u64, AllocError>
+    requires { length values.now ≡ length channels.now }
+    ensures { IfOk result (λ depth. (f : law.Channel → ℕ) → Gives channels.now values.now f → depth ≡ makings_depth lookups.now f) }
+{
+    let mut most: u64 = 0;
+    for number in 0..lookups.definition().place_count() {
+        let depth = making_depth(alloc, lookups, channels, values, Place(number as u16))?;
+        most = most.max(depth);
+    }
+    Ok(most)
+}

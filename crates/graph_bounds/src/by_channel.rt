@@ -1,0 +1,79 @@
+//! Numbers by channel: sums and greatest numbers over some channels.
+
+ghost use Rattle.std.specs.Prelude.{◌≡◌, ◌+◌, ◌<◌, ℕ, Some, length, slice_get};
+ghost use Rattle.law_typing.specs.Graph.Channels as law;
+ghost use Rattle.law_typing.specs.Graph.Tables.{greatest};
+ghost use Rattle.law_typing.specs.Laws.Capped.{capped};
+ghost use Rattle.ui_machine.specs.Seq.{total};
+ghost use Rattle.definition_graph.specs.ChannelView.{channel_of, channels_of};
+ghost use Rattle.graph_bounds.specs.ByChannel.{Gives, GivesCapped, transfers_cost};
+
+use definition_graph::ChannelNumbers;
+use ui_machine::Channel;
+
+// One above the greatest bound.
+const MOST: u128 = 1_000_000_000_001;
+
+/// The sum of two costs, one above the greatest bound at most.
+pub fn capped_sum(a: u64, b: u64) -> u64
+    ensures { result ≡ capped (a + b) }
+{
+    MOST.min(a as u128 + b as u128) as u64
+}
+
+// One of some channels.
+fn channel_at(all: &[Channel], number: usize) -> Channel
+    requires { number < length all.now }
+    ensures { slice_get (channels_of all.now) number ≡ Some (channel_of result) }
+{
+    all[number]
+}
+
+// The number of a channel; a channel that is not there has 0.
+fn value_of(channels: &ChannelNumbers, values: &[u64], channel: &Channel) -> u64
+    requires { length values.now ≡ length channels.now }
+    ensures { (f : law.Channel → ℕ) → Gives channels.now values.now f → result ≡ f (channel_of channel.now) }
+{
+    match channels.number(channel) {
+        Some(number) => values[number as usize],
+        None => 0,
+    }
+}
+
+/// The sum of the costs of some channels, one above the greatest bound at most.
+pub fn total_of(channels: &ChannelNumbers, values: &[u64], all: &[Channel]) -> u64
+    requires { length values.now ≡ length channels.now }
+    ensures { (f : law.Channel → ℕ) → GivesCapped channels.now values.now f → result ≡ capped (total f (channels_of all.now)) }
+{
+    let mut sum = 0;
+    for number in 0..all.len() {
+        let cost = value_of(channels, values, &channel_at(all, number));
+        sum = capped_sum(sum, cost);
+    }
+    sum
+}
+
+/// The same with one more for each channel: a transfer that leads to it.
+pub fn transfers_of(channels: &ChannelNumbers, values: &[u64], all: &[Channel]) -> u64
+    requires { length values.now ≡ length channels.now }
+    ensures { (f : law.Channel → ℕ) → GivesCapped channels.now values.now f → result ≡ capped (transfers_cost f (channels_of all.now)) }
+{
+    let mut sum = 0;
+    for number in 0..all.len() {
+        let cost = value_of(channels, values, &channel_at(all, number));
+        sum = capped_sum(sum, capped_sum(1, cost));
+    }
+    sum
+}
+
+/// The greatest number of some channels, 0 of none.
+pub fn greatest_of(channels: &ChannelNumbers, values: &[u64], all: &[Channel]) -> u64
+    requires { length values.now ≡ length channels.now }
+    ensures { (f : law.Channel → ℕ) → Gives channels.now values.now f → result ≡ greatest f (channels_of all.now) }
+{
+    let mut most: u64 = 0;
+    for number in 0..all.len() {
+        most = most.max(value_of(channels, values, &channel_at(all, number)));
+    }
+    most
+}

@@ -1,0 +1,9 @@
+pub mod Lists
+pub mod Edges
+pub mod Rows
+pub mod Regions
+pub mod BlockRegions
+pub mod LaidNodes
+pub mod CycleParts
+pub mod TurnedCycles
+pub mod ReckonedGraphs

@@ -1,0 +1,26 @@
+use Rattle.std.proofs.Common.{◌≡◌, ◌<◌, ◌+◌, ◌∙◌, ap, drop, map, length, arith}
+use Rattle.graph_sketches.specs.View.{block_view, channel_view, sketch_view, start_view}
+use Rattle.graph_numbers.specs.Columns.{with_node, with_nodes}
+use Rattle.graph_numbers.specs.Laid.{numbered}
+use Rattle.graph_numbers.proofs.Lists.{from_end, from_entry}
+use Rattle.graph_numbers.proofs.Rows.{all_laid, lays}
+use Rattle.graph_numbers.specs.Laid.{channel_node}
+use Rattle.graph_numbers.proofs.channel_nodes.add_channel_parts.Goals as goal
+
+pub loop-number-preserved : goal.loop-number-preserved
+loop-number-preserved c =
+    let n = c.loop-number.number in
+    let xs = map (channel_view) c.as_slice-channels.result.now in
+    let f = channel_node (sketch_view c.args.sketch.now) c.args.handlers c.args.part in
+    let x = c.index-channels-number.result in
+    let within : n < length c.as_slice-channels.result.now = omega (arith, c.loop-number-test.true) in
+    lays c.loop-number.nodes c.add_part.new.nodes f n (drop n xs) (drop (n + 1) xs) (channel_view x) (with_nodes c.args.nodes.now (numbered f 0 xs))
+    (c.in_ok-add_part.ensures) (from_entry (channel_view) c.as_slice-channels.result.now n x within c.index-channels-number.is) c.loop-number.invariant
+
+pub returns : goal.returns
+returns c =
+    let xs = map (channel_view) c.as_slice-channels.result.now in
+    let f = channel_node (sketch_view c.args.sketch.now) c.args.handlers c.args.part in
+    all_laid c.loop-number.nodes f c.loop-number.number (drop c.loop-number.number xs) (with_nodes c.args.nodes.now (numbered f 0 xs))
+    (from_end (channel_view) c.as_slice-channels.result.now c.loop-number.number c.loop-number-test.false) c.loop-number.invariant
+    ∙ ap (λ ys. with_nodes c.args.nodes.now (numbered f 0 (map (channel_view) ys))) c.as_slice-channels.ensures.value

@@ -1,0 +1,17 @@
+use Rattle.std.proofs.Common.{◌≡◌, ◌∙◌, sym, refl, ap, ◌+◌, ◌∷◌, [], ◌++◌, cond, map, length, suc}
+use Rattle.graph_sketches.specs.Numbered.{end_of, own}
+use Rattle.graph_sketches.specs.View.{block_view, channel_view, sketch_view, start_view}
+use Rattle.graph_numbers.specs.Columns.{linked}
+use Rattle.graph_numbers.specs.Counts.{Counts, at, at_in}
+use Rattle.graph_numbers.proofs.Edges.{added_there, built, built_alone, linked_none, then_linked, there_is}
+use Rattle.graph_numbers.proofs.channel_nodes.link_ends.Goals as goal
+
+pub link_other-requires-clause-node : goal.link_other-requires-clause-node
+link_other-requires-clause-node c = there_is c.args.nodes.now c.link.new.self (c.own.result ∷ []) c.in_ok-link.ensures c.requires.node
+
+pub returns : goal.returns
+returns c =
+    let s = sketch_view c.args.sketch.now in
+    let at_own = c.own.ensures ∙ ap (λ (k : Counts). at k (own c.args.number)) c.requires.counted in
+    then_linked c.args.nodes.now c.link.new.self c.link_other.new.nodes (at_in s (own c.args.number) ∷ []) (end_of (at_in s) c.args.other)
+    (c.in_ok-link.ensures ∙ ap (λ x. linked c.args.nodes.now (x ∷ [])) at_own) c.in_ok-link_other.ensures

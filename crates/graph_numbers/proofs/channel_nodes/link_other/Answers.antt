@@ -1,0 +1,12 @@
+use Rattle.std.proofs.Common.{◌≡◌, ◌∙◌, sym, refl, ap, ◌+◌, ◌*◌, ◌-◌, ◌<◌, ◌∷◌, [], ◌++◌, true, false, cond, not, map, length, take, drop, suc, None, Some, slice_index_or, arith}
+use Rattle.graph_sketches.specs.Numbered.{end_of}
+use Rattle.graph_sketches.specs.View.{block_view, channel_view, sketch_view, start_view}
+use Rattle.graph_numbers.specs.Columns.{linked}
+use Rattle.graph_numbers.specs.Counts.{Counts, at, at_in}
+use Rattle.graph_numbers.proofs.Edges.{added_there, built, built_alone, linked_none, then_linked, there_is}
+use Rattle.graph_numbers.proofs.channel_nodes.link_other.Goals as goal
+
+pub returns-in-None : goal.returns-in-None
+returns-in-None c =
+    let s = sketch_view c.args.sketch.now in
+    sym (linked_none c.args.nodes.now) ∙ ap (λ o. linked c.args.nodes.now (end_of (at_in s) o)) (sym c.in-None.is)

@@ -1,0 +1,121 @@
+//! Cycles of nodes, as cycles of channels.
+
+ghost use Rattle.std.specs.Prelude.{◌≡◌, ◌++◌, ◌+◌, ◌<◌, ◌≤◌, ◌∷◌, ℕ, List, drop, length, take, slice_index_or, IfOk, IfNone, IfSome};
+ghost use Rattle.law_typing.specs.Graph.{Graph};
+ghost use Rattle.law_numbering.specs.Cycles.{links_after, links_of};
+ghost use Rattle.graph_sketches.specs.Numbered.{Part};
+ghost use Rattle.graph_sketches.specs.Sketches.{Sketch};
+ghost use Rattle.graph_numbers.specs.Counts.{counts_of};
+ghost use Rattle.graph_numbers.specs.Laid.{laid};
+ghost use Rattle.graph_numbers.specs.Links.{Describes, link_view, links_view, part_at, parts_at};
+
+use crate::layouts::Layout;
+use std::alloc::{AllocError, Global};
+
+/// A channel of a cycle, and what leads from it to the next one.
+#[derive(Clone, Copy, Debug, PartialEq, Eq)]
+pub struct SketchedLink {
+    /// The number of the channel.
+    pub from: usize,
+    /// The program that starts the next one; a binding leads to it where there is none.
+    pub by: Option<usize>,
+}
+
+/// What a node is for.
+#[derive(Clone, Copy, Debug, PartialEq, Eq)]
+pub enum NodePart {
+    Channel(usize),
+    Program(usize),
+    Other,
+}
+
+// What a node is for.
+fn part_of(layout: &Layout, node: usize) -> NodePart
+    ensures { (s : Sketch) (handlers : ℕ) → layout.now ≡ counts_of s → Describes result (part_at (laid s handlers) node) }
+{
+    if node < layout.channel_count() {
+        return NodePart::Channel(node);
+    }
+    let begin = 4 * layout.channel_count() as u128 + layout.group_count() as u128;
+    let node = node as u128;
+    if node >= begin && node - begin < layout.program_count() as u128 {
+        return NodePart::Program((node - begin) as usize);
+    }
+    NodePart::Other
+}
+
+// What leads on from a link, where one more node of the path is for this: a channel begins the next one.
+fn next_link(
+    links: &mut Vec<SketchedLink>,
+    last: SketchedLink,
+    part: NodePart,
+) -> Result<SketchedLink, AllocError>
+    ensures { IfOk result (λ next. (g : Graph) (x : Part) (more : List Part) → Describes part x
+        → links_view g links.new.items ++ links_after g (link_view g next) more ≡ links_view g links.old.items ++ links_after g (link_view g last) (x ∷ more)) }
+{
+    match part {
+        NodePart::Channel(from) => {
+            links.push(last)?;
+            Ok(SketchedLink { from, by: None })
+        }
+        NodePart::Program(program) => Ok(SketchedLink {
+            from: last.from,
+            by: Some(program),
+        }),
+        NodePart::Other => Ok(last),
+    }
+}
+
+/// The links of a path of nodes that begins with a channel.
+///
+/// # Errors
+///
+/// `AllocError` where no memory is found.
+pub fn links_of(
+    alloc: Global,
+    layout: &Layout,
+    channel: usize,
+    nodes: &[usize],
+) -> Result<Vec<SketchedLink>, AllocError>
+    ensures { IfOk result (λ links. (g : Graph) (s : Sketch) (handlers : ℕ) → layout.now ≡ counts_of s
+        → links_view g links.items ≡ links_of g channel (parts_at (laid s handlers) nodes.now)) }
+{
+    let mut links = Vec::new(alloc);
+    let mut last = SketchedLink {
+        from: channel,
+        by: None,
+    };
+    for number in 0..nodes.len() {
+        last = next_link(&mut links, last, part_of(layout, nodes[number]))?;
+    }
+    links.push(last)?;
+    Ok(links)
+}
+
+/// The nodes of a cycle behind one of them, up to that one again.
+///
+/// # Errors
+///
+/// `AllocError` where no memory is found.
+pub fn rest_of(alloc: Global, cycle: &[usize], first: usize) -> Result<Vec<usize>, AllocError>
+    requires { first < length cycle.now }
+    ensures { IfOk result (λ nodes. nodes.items ≡ drop (first + 1) cycle.now ++ take first cycle.now) }
+{
+    let mut nodes = Vec::new(alloc);
+    nodes.extend_from_slice(&cycle[first + 1..])?;
+    nodes.extend_from_slice(&cycle[..first])?;
+    Ok(nodes)
+}
+
+/// Where the first channel of a cycle of nodes is.
+pub fn first_channel(layout: &Layout, cycle: &[usize]) -> Option<usize>
+    ensures found { IfSome result (λ i. (i < length cycle.now) × (slice_index_or cycle.now i 0 < layout.now.channels)) }
+    ensures none { IfNone result ((i : ℕ) → i < length cycle.now → layout.now.channels ≤ slice_index_or cycle.now i 0) }
+{
+    for number in 0..cycle.len() {
+        if cycle[number] < layout.channel_count() {
+            return Some(number);
+        }
+    }
+    None
+}

@@ -1,0 +1,20 @@
+//! The ranks, costs and depths of a definition's graph, from its sketch; or a cycle of it.
+//!
+//! Each part of a sketch becomes a node: a channel as it is raised, its emission, a program, a block, a start. A node depends on those that it may
+//! begin. The nodes are put in order, and numbers are reckoned in one pass over it.
+#![tactic(auto)]
+
+mod block_nodes;
+mod channel_nodes;
+mod cycle_links;
+mod layouts;
+mod links;
+mod node_values;
+mod nodes;
+mod program_nodes;
+mod reckonings;
+
+pub use cycle_links::SketchedLink;
+pub use layouts::Layout;
+pub use node_values::{channel_values, program_value};
+pub use reckonings::{NodeNumbers, Reckoned, reckon};

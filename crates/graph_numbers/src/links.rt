@@ -1,0 +1,191 @@
+//! Edges from the node that was added last, for each entry of a list.
+
+ghost use Rattle.std.specs.Prelude.{◌≡◌, ◌<◌, ◌+◌, ◌-◌, ◌∷◌, [], suc, cond, length, map, slice_get, OnOk};
+ghost use Rattle.ui_machine.specs.Seq.{listed};
+ghost use Rattle.graph_sketches.specs.Numbered.{block, first_of, group, next_blocks, nodes_of, place, programs_of, start};
+ghost use Rattle.graph_sketches.specs.Pointwise.{inside};
+ghost use Rattle.graph_sketches.specs.View.{sketch_view};
+ghost use Rattle.graph_numbers.specs.Columns.{linked};
+ghost use Rattle.graph_numbers.specs.Counts.{at_in, counts_of};
+
+use crate::layouts::Layout;
+use crate::nodes::Nodes;
+use graph_sketches::Sketch;
+use std::alloc::AllocError;
+use ui_machine::ProgramId;
+
+// The first end of the pair of a channel, or the channel itself.
+fn first_of(sketch: &Sketch, channel: u32) -> usize
+    ensures { result ≡ first_of (slice_get (sketch_view sketch.now).channels channel) channel }
+{
+    match sketch.channels.get(channel as usize) {
+        Some(found) => found.first as usize,
+        None => channel as usize,
+    }
+}
+
+/// An edge, where it leads to what is there.
+pub fn link_if(nodes: &mut Nodes, is_there: bool, to: u128) -> Result<(), AllocError>
+    requires { 0 < length nodes.old.graph }
+    ensures { OnOk result (nodes.new ≡ linked nodes.old (cond is_there (to ∷ []) [])) }
+{
+    if is_there {
+        return nodes.link(to);
+    }
+    Ok(())
+}
+
+/// The programs that are there.
+pub fn link_programs(
+    nodes: &mut Nodes,
+    sketch: &Sketch,
+    layout: &Layout,
+    programs: &[ProgramId],
+) -> Result<(), AllocError>
+    requires counted { layout.now ≡ counts_of (sketch_view sketch.now) }
+    requires node { 0 < length nodes.old.graph }
+    ensures { OnOk result (nodes.new ≡ linked nodes.old (programs_of (sketch_view sketch.now) (at_in (sketch_view sketch.now)) programs.now)) }
+{
+    for number in 0..programs.len() {
+        let program = programs[number];
+        let is_there = (program as usize) < layout.program_count();
+        link_if(nodes, is_there, layout.program(program))?;
+    }
+    // For the proof: the layout is that of the sketch.
+    let _ = sketch;
+    Ok(())
+}
+
+/// The nodes of channels.
+pub fn link_channels(
+    nodes: &mut Nodes,
+    sketch: &Sketch,
+    layout: &Layout,
+    channels: &[u32],
+) -> Result<(), AllocError>
+    requires counted { layout.now ≡ counts_of (sketch_view sketch.now) }
+    requires node { 0 < length nodes.old.graph }
+    ensures { OnOk result (nodes.new ≡ linked nodes.old (nodes_of (sketch_view sketch.now) (at_in (sketch_view sketch.now)) channels.now)) }
+{
+    for number in 0..channels.len() {
+        let first = first_of(sketch, channels[number]);
+        nodes.link(layout.whole(first))?;
+    }
+    Ok(())
+}
+
+/// The groups that are there.
+pub fn link_groups(
+    nodes: &mut Nodes,
+    sketch: &Sketch,
+    layout: &Layout,
+    groups: &[u32],
+) -> Result<(), AllocError>
+    requires counted { layout.now ≡ counts_of (sketch_view sketch.now) }
+    requires node { 0 < length nodes.old.graph }
+    ensures { OnOk result (nodes.new ≡ linked nodes.old (map (λ g. at_in (sketch_view sketch.now) (group g)) (inside (length (sketch_view sketch.now).groups) groups.now))) }
+{
+    for number in 0..groups.len() {
+        let one = groups[number] as usize;
+        let is_there = one < layout.group_count();
+        link_if(nodes, is_there, layout.group(one))?;
+    }
+    // For the proof: the layout is that of the sketch.
+    let _ = sketch;
+    Ok(())
+}
+
+/// The places that are there.
+pub fn link_places(
+    nodes: &mut Nodes,
+    sketch: &Sketch,
+    layout: &Layout,
+    places: &[u32],
+) -> Result<(), AllocError>
+    requires counted { layout.now ≡ counts_of (sketch_view sketch.now) }
+    requires node { 0 < length nodes.old.graph }
+    ensures { OnOk result (nodes.new ≡ linked nodes.old (map (λ p. at_in (sketch_view sketch.now) (place p)) (inside (length (sketch_view sketch.now).paired) places.now))) }
+{
+    for number in 0..places.len() {
+        let one = places[number] as usize;
+        let is_there = one < layout.place_count();
+        link_if(nodes, is_there, layout.place(one))?;
+    }
+    // For the proof: the layout is that of the sketch.
+    let _ = sketch;
+    Ok(())
+}
+
+/// The starts that are there.
+pub fn link_starts(
+    nodes: &mut Nodes,
+    sketch: &Sketch,
+    layout: &Layout,
+    starts: &[u32],
+) -> Result<(), AllocError>
+    requires counted { layout.now ≡ counts_of (sketch_view sketch.now) }
+    requires node { 0 < length nodes.old.graph }
+    ensures { OnOk result (nodes.new ≡ linked nodes.old (map (λ s. at_in (sketch_view sketch.now) (start s)) (inside (length (sketch_view sketch.now).starts) starts.now))) }
+{
+    for number in 0..starts.len() {
+        let one = starts[number] as usize;
+        let is_there = one < layout.start_count();
+        link_if(nodes, is_there, layout.start(one))?;
+    }
+    // For the proof: the layout is that of the sketch.
+    let _ = sketch;
+    Ok(())
+}
+
+/// As many blocks of a program.
+pub fn link_blocks(
+    nodes: &mut Nodes,
+    sketch: &Sketch,
+    layout: &Layout,
+    program: usize,
+    count: usize,
+) -> Result<(), AllocError>
+    requires counted { layout.now ≡ counts_of (sketch_view sketch.now) }
+    requires node { 0 < length nodes.old.graph }
+    ensures { OnOk result (nodes.new ≡ linked nodes.old (listed (λ b. at_in (sketch_view sketch.now) (block program b)) count)) }
+{
+    for number in 0..count {
+        nodes.link(layout.block(program, number))?;
+    }
+    // For the proof: the layout is that of the sketch.
+    let _ = sketch;
+    Ok(())
+}
+
+// A block that comes after one, or the next one.
+fn later(after: usize, to: usize) -> usize
+    requires { after < usize.MAX }
+    ensures { result ≡ suc after + (to - suc after) }
+{
+    to.max(after + 1)
+}
+
+/// Those of some blocks of a program that come after one, where it has so many.
+pub fn link_next(
+    nodes: &mut Nodes,
+    sketch: &Sketch,
+    layout: &Layout,
+    program: usize,
+    count: usize,
+    after: usize,
+    next: &[usize],
+) -> Result<(), AllocError>
+    requires counted { layout.now ≡ counts_of (sketch_view sketch.now) }
+    requires node { 0 < length nodes.old.graph }
+    requires there { after < count }
+    ensures { OnOk result (nodes.new ≡ linked nodes.old (next_blocks (at_in (sketch_view sketch.now)) program count after next.now)) }
+{
+    for number in 0..next.len() {
+        let to = later(after, next[number]);
+        let is_there = to < count;
+        link_if(nodes, is_there, layout.block(program, to))?;
+    }
+    // For the proof: the layout is that of the sketch.
+    let _ = sketch;
+    Ok(())
+}

@@ -1,0 +1,198 @@
+//! Ranks, costs and depths, reckoned node by node.
+
+ghost use Rattle.std.specs.Prelude.{◌≡◌, ◌<◌, ◌*◌, ℕ, length, slice_index_or, IfOk, OnOk};
+ghost use Rattle.dependency_order.specs.Graphs.{IsOrder};
+ghost use Rattle.law_typing.specs.Graph.{Graph};
+ghost use Rattle.graph_sketches.specs.Sketches.{IsSketch};
+ghost use Rattle.graph_numbers.specs.Reckonings.{AreNodeNumbers, Reckons, most_depth};
+ghost use Rattle.graph_numbers.specs.Links.{ComesOfCycle};
+ghost use Rattle.graph_sketches.specs.View.{sketch_view};
+ghost use Rattle.graph_numbers.specs.Columns.{no_columns, with_nodes};
+ghost use Rattle.graph_numbers.specs.Counts.{counts_of};
+ghost use Rattle.graph_numbers.specs.Laid.{all_of_blocks, all_of_channels, all_of_programs, laid};
+
+use crate::block_nodes::{BlockPart, add_block_parts};
+use crate::channel_nodes::{ChannelPart, add_channel_parts};
+use crate::cycle_links::{SketchedLink, first_channel, links_of, rest_of};
+use crate::layouts::Layout;
+use crate::nodes::Nodes;
+use crate::program_nodes::{ProgramPart, add_groups, add_places, add_programs, add_starts};
+use dependency_order::{Sorted, sort};
+use graph_sketches::Sketch;
+use std::alloc::{AllocError, Global};
+
+// The nodes of channels.
+fn add_channels(
+    nodes: &mut Nodes,
+    sketch: &Sketch,
+    layout: &Layout,
+    handlers: u32,
+) -> Result<(), AllocError>
+    requires counted { layout.now ≡ counts_of (sketch_view sketch.now) }
+    ensures { OnOk result (nodes.new ≡ with_nodes nodes.old (all_of_channels (sketch_view sketch.now) handlers)) }
+{
+    add_channel_parts(nodes, sketch, layout, handlers, ChannelPart::Whole)?;
+    add_channel_parts(nodes, sketch, layout, handlers, ChannelPart::Own)?;
+    add_channel_parts(nodes, sketch, layout, handlers, ChannelPart::Stages)?;
+    add_channel_parts(nodes, sketch, layout, handlers, ChannelPart::Connected)?;
+    Ok(())
+}
+
+// The nodes of groups, programs, places and starts.
+fn add_others(nodes: &mut Nodes, sketch: &Sketch, layout: &Layout) -> Result<(), AllocError>
+    requires counted { layout.now ≡ counts_of (sketch_view sketch.now) }
+    ensures { OnOk result (nodes.new ≡ with_nodes nodes.old (all_of_programs (sketch_view sketch.now))) }
+{
+    add_groups(nodes, sketch, layout)?;
+    add_programs(nodes, sketch, layout, ProgramPart::Program)?;
+    add_programs(nodes, sketch, layout, ProgramPart::Blocks)?;
+    add_places(nodes, sketch, layout)?;
+    add_starts(nodes, sketch, layout)?;
+    Ok(())
+}
+
+// The nodes of blocks.
+fn add_blocks(nodes: &mut Nodes, sketch: &Sketch, layout: &Layout) -> Result<(), AllocError>
+    requires counted { layout.now ≡ counts_of (sketch_view sketch.now) }
+    ensures { OnOk result (nodes.new ≡ with_nodes nodes.old (all_of_blocks (sketch_view sketch.now))) }
+{
+    add_block_parts(nodes, sketch, layout, BlockPart::Block)?;
+    add_block_parts(nodes, sketch, layout, BlockPart::Passes)?;
+    add_block_parts(nodes, sketch, layout, BlockPart::Next)?;
+    Ok(())
+}
+
+// All nodes of a sketch, where so many handlers may be connected by bytecode.
+fn nodes_of(
+    alloc: Global,
+    sketch: &Sketch,
+    layout: &Layout,
+    handlers: u32,
+) -> Result<Nodes, AllocError>
+    requires counted { layout.now ≡ counts_of (sketch_view sketch.now) }
+    ensures { IfOk result (λ nodes. nodes ≡ with_nodes no_columns (laid (sketch_view sketch.now) handlers)) }
+{
+    let mut nodes = Nodes::new(alloc);
+    add_channels(&mut nodes, sketch, layout, handlers)?;
+    add_others(&mut nodes, sketch, layout)?;
+    add_blocks(&mut nodes, sketch, layout)?;
+    Ok(nodes)
+}
+
+// The most of a cost: one above the greatest bound.
+const MOST_COST: u64 = 1_000_000_000_001;
+
+// More than any depth.
+const MOST_DEPTH: u64 = 1_099_511_627_776;
+
+// More nodes than there can be.
+const MOST_NODES: usize = 1 << 36;
+
+/// The numbers of the nodes of a graph without a cycle.
+#[derive(Debug, Drop)]
+pub struct NodeNumbers {
+    /// What each costs, one above the greatest bound at most.
+    pub costs: Vec<u64>,
+    /// How many frames each may need.
+    pub depths: Vec<u64>,
+    /// How many nodes of channels come before each on the longest chain.
+    pub ranks: Vec<u64>,
+}
+
+// The numbers of nodes in their order.
+fn numbers_of(alloc: Global, nodes: &Nodes, order: &[usize]) -> Result<NodeNumbers, AllocError>
+    requires costs { length nodes.now.costs ≡ length nodes.now.graph }
+    requires depths { length nodes.now.depths ≡ length nodes.now.graph }
+    requires counts { length nodes.now.counts ≡ length nodes.now.graph }
+    requires order { IsOrder nodes.now.graph order.now }
+    ensures { IfOk result (λ numbers. AreNodeNumbers nodes.now numbers) }
+{
+    let costs = node_numbers::numbers(
+        alloc,
+        nodes.costs.as_slice(),
+        &nodes.dependencies,
+        order,
+        MOST_COST,
+    )?;
+    let depths = node_numbers::numbers(
+        alloc,
+        nodes.depths.as_slice(),
+        &nodes.dependencies,
+        order,
+        MOST_DEPTH,
+    )?;
+    let ranks = node_numbers::ranks(alloc, nodes.counts.as_slice(), &nodes.dependencies, order)?;
+    Ok(NodeNumbers {
+        costs,
+        depths,
+        ranks,
+    })
+}
+
+/// What is reckoned of a graph.
+#[derive(Debug, Drop)]
+pub enum Reckoned {
+    Numbers(NodeNumbers),
+    /// Channels that each lead to the next one, and the last to the first; none is there twice.
+    Cycle(Vec<SketchedLink>),
+}
+
+// The numbers of a graph without a cycle, if there are fewer nodes than this.
+fn reckon_order(alloc: Global, nodes: &Nodes, order: &[usize]) -> Result<NodeNumbers, AllocError>
+    requires costs { length nodes.now.costs ≡ length nodes.now.graph }
+    requires depths { length nodes.now.depths ≡ length nodes.now.graph }
+    requires counts { length nodes.now.counts ≡ length nodes.now.graph }
+    requires order { IsOrder nodes.now.graph order.now }
+    ensures { IfOk result (λ numbers. AreNodeNumbers nodes.now numbers × (2 * length nodes.now.graph < most_depth)) }
+{
+    if nodes.dependencies.node_count() >= MOST_NODES {
+        return Err(AllocError);
+    }
+    numbers_of(alloc, nodes, order)
+}
+
+// The cycle from the node of a channel on.
+fn reckon_cycle(
+    alloc: Global,
+    layout: &Layout,
+    cycle: &[usize],
+) -> Result<Vec<SketchedLink>, AllocError>
+    requires channel { (i : ℕ) × (i < length cycle.now) × (slice_index_or cycle.now i 0 < layout.now.channels) }
+    ensures { IfOk result (λ links. ComesOfCycle layout.now cycle.now links.items) }
+{
+    let Some(first) = first_channel(layout, cycle) else {
+        unreachable!();
+    };
+    let rest = rest_of(alloc, cycle, first)?;
+    let links = links_of(alloc, layout, cycle[first], rest.as_slice())?;
+    Ok(links)
+}
+
+/// The numbers of the nodes of a sketch, where so many handlers may be connected by bytecode; or a cycle of its channels.
+///
+/// # Errors
+///
+/// `AllocError` where no memory is found, or there are 2^32 nodes or more.
+pub fn reckon(
+    alloc: Global,
+    sketch: &Sketch,
+    layout: &Layout,
+    handlers: u32,
+) -> Result<Reckoned, AllocError>
+    requires counted { layout.now ≡ counts_of (sketch_view sketch.now) }
+    requires sketched { (g : Graph) × IsSketch g (sketch_view sketch.now) }
+    ensures { IfOk result (λ reckoned. (g : Graph) → IsSketch g (sketch_view sketch.now) → g.most_handlers ≡ handlers
+        → Reckons g (sketch_view sketch.now) reckoned) }
+{
+    let nodes = nodes_of(alloc, sketch, layout, handlers)?;
+    match sort(alloc, &nodes.dependencies)? {
+        Sorted::Order(order) => {
+            let numbers = reckon_order(alloc, &nodes, order.as_slice())?;
+            Ok(Reckoned::Numbers(numbers))
+        }
+        Sorted::Cycle(cycle) => {
+            let links = reckon_cycle(alloc, layout, cycle.as_slice())?;
+            Ok(Reckoned::Cycle(links))
+        }
+    }
+}

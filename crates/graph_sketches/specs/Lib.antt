@@ -1,0 +1,4 @@
+pub mod Pointwise
+pub mod Sketches
+pub mod Numbered
+pub mod View

@@ -1,0 +1,10 @@
+pub mod SketchLists
+pub mod SketchParts
+pub mod CostNumbers
+pub mod OrderBounds
+pub mod DepthNumbers
+pub mod Members
+pub mod PartEdges
+pub mod RankNumbers
+pub mod CycleChannels
+pub mod CycleLinks

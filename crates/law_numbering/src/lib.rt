@@ -1,0 +1,31 @@
+//! The law over numbered graphs: numbers that are reckoned node by node are the ranks, costs and depths of a definition's graph, and a cycle of
+//! nodes is a cycle of its channels.
+#![tactic(auto)]
+
+ghost use Rattle.law_numbering.specs.Cycles.{CyclesAreTold, CyclesHaveChannels};
+ghost use Rattle.law_numbering.specs.Tables.{ChainsAreRanks, CostsAreSolved, DepthsAreSolved};
+
+/// Where a graph is sketched by numbers, and the sketch is a graph of nodes, what solves the nodes' rules of costs is the graph's costs, capped.
+pub fn costs()
+    ensures solved { CostsAreSolved }
+{}
+
+/// And what solves their rules of depths is the graph's depths.
+pub fn depths()
+    ensures solved { DepthsAreSolved }
+{}
+
+/// And the longest chains of nodes of channels are the graph's ranks.
+pub fn ranks()
+    ensures solved { ChainsAreRanks }
+{}
+
+/// Each cycle of nodes has the node of a channel.
+pub fn cycle_channels()
+    ensures present { CyclesHaveChannels }
+{}
+
+/// A cycle of nodes, from that of a channel on, is one of channels, with what leads from each to the next; no channel is twice in it.
+pub fn cycle_links()
+    ensures told { CyclesAreTold }
+{}

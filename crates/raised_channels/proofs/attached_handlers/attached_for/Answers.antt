@@ -1,0 +1,30 @@
+use Rattle.std.proofs.Common.{◌∙◌, sym, ap, ◌≤◌, ◌<◌, List, length, map, slice_get, arith}
+use Rattle.law_typing.specs.Graph.{attached_for}
+use Rattle.law_typing.specs.Graph.Channels.{of_class}
+use Rattle.definition_graph.specs.ChannelView.{channel_of}
+use Rattle.raised_channels.specs.Attached.{handler_view}
+use Rattle.raised_channels.specs.Meanings.{meant}
+use Rattle.raised_channels.specs.declared.attached_handlers.AttachedHandler.{AttachedHandler}
+use Rattle.raised_channels.proofs.MeantLists.{attached_at, attached_here, attached_length, got, no_class}
+use Rattle.raised_channels.proofs.attached_handlers.attached_for.Goals as goal
+
+pub returns-then-place-lists : goal.returns-then-place-lists
+returns-then-place-lists c =
+    let d = c.args.lookups.now in
+    let channel = c.args.channel.now in
+    let len = attached_length d c.args.lists.now c.requires in
+    let behind : length d.places ≤ channel.place.0 = omega (arith, len, c.from-place.ensures) in
+    c.new.ensures.items ∙ sym (ap (of_class (attached_for d (channel_of channel))) (no_class d channel.place.0 behind))
+
+pub returns : goal.returns
+returns c =
+    let d = c.args.lookups.now in
+    let channel = c.args.channel.now in
+    let place = c.from-place.result in
+    let v = c.index-lists-place.result in
+    let within : place < length c.args.lists.now = omega arith in
+    c.in_ok-programs.ensures
+    ∙ (ap (λ (xs : List AttachedHandler). meant (channel_of channel) (map handler_view xs)) c.as_slice.ensures.value
+    ∙ (ap (meant (channel_of channel))
+    (attached_at d c.args.lists.now channel.place.0 v c.requires (ap (slice_get c.args.lists.now) (sym c.from-place.ensures) ∙ got c.args.lists.now place v within c.index-lists-place.is))
+    ∙ attached_here d channel))

@@ -1,0 +1,137 @@
+//! The handlers that objects name for themselves, and what they are for.
+
+ghost use Rattle.std.specs.Prelude.{◌≡◌, ◌++◌, ◌<◌, ◌∷◌, [], Some, length, map, slice_get, IfOk, OnOk};
+ghost use Rattle.ui_machine.specs.Definition.Lookups.{place_at};
+ghost use Rattle.definition_format.specs.Meaning.{attached_view};
+ghost use Rattle.law_typing.specs.Graph.{attached_for, attached_to};
+ghost use Rattle.law_typing.specs.Graph.Channels.{of_class};
+ghost use Rattle.law_typing.specs.Rules.RegisterKinds.{class_at};
+ghost use Rattle.definition_graph.specs.ChannelView.{channel_of};
+ghost use Rattle.raised_channels.specs.Attached.{AreAttached, handler_view};
+ghost use Rattle.raised_channels.specs.Meanings.{attached_in, attached_meanings, meant};
+
+use crate::meanings::{Meaning, is_meant, meaning_of};
+use definition_format::Attached;
+use operand_types::Lookups;
+use std::alloc::{AllocError, Global};
+use type_tree::TypeId;
+use ui_machine::{Channel, Place, ProgramId};
+
+/// A handler of an object, and what it is for.
+#[derive(Clone, Copy, Debug, Drop)]
+pub struct AttachedHandler {
+    pub program: ProgramId,
+    pub meaning: Meaning,
+}
+
+// The handlers of an object of a class.
+fn handlers_in(
+    alloc: Global,
+    lookups: &Lookups<'_>,
+    class: TypeId,
+    signals: &[Attached],
+) -> Result<Vec<AttachedHandler>, AllocError>
+    ensures { IfOk result (λ handlers. map handler_view handlers.items ≡ attached_in lookups.now class (map attached_view signals.now)) }
+{
+    let mut handlers = Vec::new(alloc);
+    for number in 0..signals.len() {
+        let attached = &signals[number];
+        let program = attached.program;
+        let meaning = meaning_of(lookups, class, attached.signal.as_str(), &attached.detail);
+        handlers.push(AttachedHandler { program, meaning })?;
+    }
+    Ok(handlers)
+}
+
+// The handlers of a place.
+fn handlers_at(
+    alloc: Global,
+    lookups: &Lookups<'_>,
+    place: Place,
+) -> Result<Vec<AttachedHandler>, AllocError>
+    ensures { IfOk result (λ handlers. map handler_view handlers.items ≡ attached_meanings lookups.now place.0) }
+{
+    let Some(entry) = lookups.definition().object(usize::from(place.0)) else {
+        return Ok(Vec::new(alloc));
+    };
+    handlers_in(alloc, lookups, entry.class, entry.signals)
+}
+
+/// The handlers of all places.
+///
+/// # Errors
+///
+/// `AllocError` where no memory is found.
+pub fn attached_handlers(
+    alloc: Global,
+    lookups: &Lookups<'_>,
+) -> Result<Vec<Vec<AttachedHandler>>, AllocError>
+    ensures { IfOk result (λ lists. AreAttached lookups.now lists.items) }
+{
+    let mut lists = Vec::new(alloc);
+    for place in 0..lookups.definition().place_count() {
+        let handlers = handlers_at(alloc, lookups, Place(place as u16))?;
+        lists.push(handlers)?;
+    }
+    Ok(lists)
+}
+
+// One of some handlers.
+fn handler_at(handlers: &[AttachedHandler], number: usize) -> AttachedHandler
+    requires { number < length handlers.now }
+    ensures { Some (handler_view result) ≡ slice_get (map handler_view handlers.now) number }
+{
+    handlers[number]
+}
+
+// The program of a handler, where it is for the channel.
+fn add_program(
+    programs: &mut Vec<ProgramId>,
+    handler: &AttachedHandler,
+    channel: &Channel,
+) -> Result<(), AllocError>
+    ensures { OnOk result (programs.new.items ≡ programs.old.items ++ meant (channel_of channel.now) (handler_view handler.now ∷ [])) }
+{
+    if !is_meant(channel, &handler.meaning) {
+        return Ok(());
+    }
+    programs.push(handler.program)?;
+    Ok(())
+}
+
+// The programs of those that are for a channel.
+fn programs_for(
+    alloc: Global,
+    handlers: &[AttachedHandler],
+    channel: &Channel,
+) -> Result<Vec<ProgramId>, AllocError>
+    ensures { IfOk result (λ programs. programs.items ≡ meant (channel_of channel.now) (map handler_view handlers.now)) }
+{
+    let mut programs = Vec::new(alloc);
+    for number in 0..handlers.len() {
+        add_program(&mut programs, &handler_at(handlers, number), channel)?;
+    }
+    Ok(programs)
+}
+
+/// The programs that a channel's object names for it.
+///
+/// # Errors
+///
+/// `AllocError` where no memory is found.
+pub fn attached_for(
+    alloc: Global,
+    lookups: &Lookups<'_>,
+    lists: &[Vec<AttachedHandler>],
+    channel: &Channel,
+) -> Result<Vec<ProgramId>, AllocError>
+    requires { AreAttached lookups.now lists.now }
+    ensures { IfOk result (λ programs. programs.items ≡ of_class (attached_for lookups.now (channel_of channel.now)) (class_at lookups.now channel.now.place.0)) }
+{
+    let place = usize::from(channel.place.0);
+    if place >= lists.len() {
+        return Ok(Vec::new(alloc));
+    }
+    let programs = programs_for(alloc, lists[place].as_slice(), channel)?;
+    Ok(programs)
+}

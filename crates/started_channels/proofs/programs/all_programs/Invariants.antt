@@ -1,0 +1,11 @@
+use Rattle.std.proofs.Common.{map, take}
+use Rattle.graph_sketches.specs.View.{block_view as sketched_view}
+use Rattle.started_channels.specs.SketchedCode.{ArePrograms}
+use Rattle.started_channels.specs.Tables.{IsTable, starts_in}
+use Rattle.started_channels.proofs.programs.all_programs.Given as goal
+
+abbrev pub invariant-loop-number : goal.invariant-loop-number
+invariant-loop-number l = record {
+  table : IsTable l.lookups l.numbers l.starts;
+  programs : ArePrograms l.lookups l.numbers (starts_in l.starts) (map (λ v. map sketched_view v.items) l.programs.items) (take l.number l.lookups.programs);
+}

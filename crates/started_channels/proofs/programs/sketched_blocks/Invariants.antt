@@ -1,0 +1,13 @@
+use Rattle.std.proofs.Common.{map, take}
+use Rattle.bytecode.specs.View.{block_view, program_view}
+use Rattle.graph_sketches.specs.Pointwise.{Pointwise}
+use Rattle.graph_sketches.specs.View.{block_view as sketched_view}
+use Rattle.started_channels.specs.SketchedCode.{IsBlock}
+use Rattle.started_channels.specs.Tables.{GoesOn, starts_in}
+use Rattle.started_channels.proofs.programs.sketched_blocks.Given as goal
+
+abbrev pub invariant-loop-number : goal.invariant-loop-number
+invariant-loop-number l = record {
+  goes_on : GoesOn l.lookups l.numbers l.initial.starts l.starts;
+  blocks : Pointwise (IsBlock l.lookups l.numbers (starts_in l.starts) (program_view l.program)) (map sketched_view l.blocks.items) (map block_view (take l.number l.program.blocks.items));
+}

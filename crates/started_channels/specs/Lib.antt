@@ -1,0 +1,4 @@
+pub mod Covering
+pub mod SketchedCode
+pub mod Tables
+pub mod Triggers

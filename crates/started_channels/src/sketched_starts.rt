@@ -1,0 +1,111 @@
+//! What triggers may start, kept once for those with the same key.
+
+ghost use Rattle.std.specs.Prelude.{◌≡◌, Some, slice_get, IfOk};
+ghost use Rattle.started_channels.specs.Tables.{GoesOn, IsTable, starts_in};
+ghost use Rattle.started_channels.specs.Triggers.{key_for, start_for, trigger_view};
+
+use crate::keys::{Key, key_for};
+use crate::starts::start_for;
+use crate::triggers::Trigger;
+use definition_graph::ChannelNumbers;
+use graph_sketches::SketchedStart;
+use operand_types::Lookups;
+use std::alloc::{AllocError, Global};
+use std::collections::BTreeMap;
+
+// No definition has more starts.
+const MOST_STARTS: usize = 4294967295;
+
+/// Starts, and the number of the start of each key that was met.
+#[derive(Drop)]
+pub struct SketchedStarts {
+    pub starts: Vec<SketchedStart>,
+    pub numbers: BTreeMap<(u16, u16, u16), u32>,
+}
+
+impl SketchedStarts {
+    /// No starts but that of what starts nothing, which has the number 0.
+    pub fn new(
+        alloc: Global,
+        lookups: &Lookups<'_>,
+        numbers: &ChannelNumbers,
+    ) -> Result<SketchedStarts, AllocError>
+        ensures { IfOk result (λ s. IsTable lookups.now numbers.now s) }
+    {
+        let mut starts = Vec::new(alloc);
+        starts.push(SketchedStart::Nothing)?;
+        Ok(SketchedStarts {
+            starts,
+            numbers: BTreeMap::new(alloc),
+        })
+    }
+
+    // One more start, and its number.
+    fn add(
+        &mut self,
+        alloc: Global,
+        lookups: &Lookups<'_>,
+        numbers: &ChannelNumbers,
+        trigger: &Trigger<'_>,
+    ) -> Result<u32, AllocError>
+        requires { IsTable lookups.now numbers.now self.old }
+        ensures goes_on { IfOk result (λ n. GoesOn lookups.now numbers.now self.old self.new) }
+        ensures start { IfOk result (λ n. slice_get (starts_in self.new) n ≡ Some (start_for lookups.now numbers.now (trigger_view trigger.now))) }
+        ensures numbers { IfOk result (λ n. self.new.numbers ≡ self.old.numbers) }
+    {
+        let start = start_for(alloc, lookups, numbers, trigger)?;
+        let number = self.starts.len();
+        if number > MOST_STARTS {
+            return Err(AllocError);
+        }
+        self.starts.push(start)?;
+        Ok(number as u32)
+    }
+
+    // The number of the start of a trigger with a key.
+    fn number_of(
+        &mut self,
+        alloc: Global,
+        lookups: &Lookups<'_>,
+        numbers: &ChannelNumbers,
+        trigger: &Trigger<'_>,
+        key: Key,
+    ) -> Result<u32, AllocError>
+        requires table { IsTable lookups.now numbers.now self.old }
+        requires key { key_for lookups.now (trigger_view trigger.now) ≡ Some key }
+        ensures goes_on { IfOk result (λ n. GoesOn lookups.now numbers.now self.old self.new) }
+        ensures start { IfOk result (λ n. slice_get (starts_in self.new) n ≡ Some (start_for lookups.now numbers.now (trigger_view trigger.now))) }
+    {
+        if let Some(number) = self.numbers.get(&key) {
+            return Ok(*number);
+        }
+        let number = self.add(alloc, lookups, numbers, trigger)?;
+        self.numbers.insert(key, number)?;
+        Ok(number)
+    }
+
+    /// The number of the start of a trigger.
+    ///
+    /// # Errors
+    ///
+    /// `AllocError` where no memory is found.
+    pub fn number(
+        &mut self,
+        alloc: Global,
+        lookups: &Lookups<'_>,
+        numbers: &ChannelNumbers,
+        trigger: &Trigger<'_>,
+    ) -> Result<u32, AllocError>
+        requires { IsTable lookups.now numbers.now self.old }
+        ensures goes_on { IfOk result (λ n. GoesOn lookups.now numbers.now self.old self.new) }
+        ensures start { IfOk result (λ n. slice_get (starts_in self.new) n ≡ Some (start_for lookups.now numbers.now (trigger_view trigger.now))) }
+    {
+        if matches!(*trigger, Trigger::Idle) {
+            return Ok(0);
+        }
+        match key_for(lookups, trigger) {
+            Some(key) => self.number_of(alloc, lookups, numbers, trigger, key),
+            None => self.add(alloc, lookups, numbers, trigger),
+        }
+    }
+}

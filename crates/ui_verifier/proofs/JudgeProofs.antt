@@ -1,0 +1,84 @@
+-- A definition that breaks no rule is judged by the numbers that are told of it.
+use Rattle.std.proofs.Common.{◌≡◌, inl, inr, refl, sym, ap, subst, ◌∙◌, ℕ, ◌+◌, ◌≤◌, min, true, map, None, arith}
+use Rattle.ui_machine.specs.Definition.{Definition}
+use Rattle.law_typing.specs.Graph.{Raised, connections, graph}
+use Rattle.law_typing.specs.Graph.Channels.{Channel, Entry, channels}
+use Rattle.law_typing.specs.Graph.Channels as entries
+use Rattle.law_typing.specs.Graph.Costs.{bound}
+use Rattle.law_typing.specs.Graph.Depths.{depth}
+use Rattle.law_typing.specs.Graph.Ranks.{node}
+use Rattle.law_typing.specs.Graph.Tables.{Table, Tables, entry}
+use Rattle.law_typing.specs.Laws.{IsIn}
+use Rattle.law_typing.specs.Laws.Capped.{capped}
+use Rattle.law_typing.specs.Rules.Sites.{sites}
+use Rattle.law_typing.specs.Verdict.{most_bound, told, too_large}
+use Rattle.law_typing.specs.Verdict.Accepted.{Accepted}
+use Rattle.law_typing.specs.Verdict.Inherits.{inherits}
+use Rattle.law_typing.proofs.EdgeProofs.{append_left, append_right}
+use Rattle.law_typing.proofs.Lists.{each_in, map_in}
+use Rattle.law_typing.proofs.OneSolutionProofs.{map_same}
+use Rattle.law_judging.specs.CappedNumbers.{AreNumbers, IsReckoned}
+use Rattle.law_judging.specs.FirstFaults.{first_fault}
+use Rattle.law_judging.proofs.ReckonProofs.{reckoned_is_accepted, reckoned_is_judged}
+use Rattle.graph_sketches.specs.Sketches.{IsSketch, Sketch}
+use Rattle.graph_numbers.specs.Reckonings.{AreGraphNumbers}
+use Rattle.graph_numbers.specs.declared.reckonings.NodeNumbers.{NodeNumbers}
+use Rattle.verified.specs.Told.{AreNumbersOf}
+use Rattle.verified.specs.declared.numbers.Numbers.{Numbers}
+use Rattle.ui_verifier.specs.Bounds.{AreCapped}
+use Rattle.ui_verifier.specs.Verdicts.{AreAccepted}
+use Rattle.ui_verifier.proofs.LargeProofs.{raised_entries}
+use Rattle.ui_verifier.proofs.ToldNumbers.{by_cost, by_depth, by_rank}
+
+-- the numbers of nodes are those that are reckoned of the definition
+pub reckoned : (d : Definition) (s : Sketch) (n : NodeNumbers) (sketch : IsSketch (graph d) s) (numbers : AreGraphNumbers (graph d) s n) → first_fault d ≡ None →
+    IsReckoned d (by_rank d s n sketch numbers) (by_cost d s n sketch numbers) (by_depth d s n sketch numbers)
+reckoned d s n sketch numbers lawful = record {
+  lawful = lawful;
+  ranking = numbers.ranks;
+  solves_costs = numbers.costs;
+  solves_depths = numbers.depths;
+}
+
+small_capped : (b m : ℕ) → b ≤ m → min b (1 + m) ≡ b
+small_capped b m low = omega (arith, low)
+
+module _ (d : Definition) (n : Numbers) (r : Table) (t p : Tables) (known : IsReckoned d r t p) (are : AreCapped d n r t p)
+    (none : too_large (graph d) t ≡ None) (inherited : inherits d ≡ true) where
+  abbrev a : Accepted d
+  a = (reckoned_is_accepted d r t p inherited known none).0
+
+  same : AreNumbers d r t p a
+  same = (reckoned_is_accepted d r t p inherited known none).1
+
+  same_bound : (e : Entry) → IsIn e (told (graph d)) → capped (bound (graph d) t e) ≡ bound (graph d) a.weighed.costs e
+  same_bound e there =
+      let low = each_in (λ (x : Entry). bound (graph d) a.weighed.costs x ≤ most_bound) (told (graph d)) a.weighed.bounded e there in
+      ap capped (sym (same.same_bounds e there)) ∙ small_capped (bound (graph d) a.weighed.costs e) most_bound low
+
+  channel_told : (c : Channel) → IsIn c (channels d) → IsIn (entries.at c) (told (graph d))
+  channel_told c there =
+      inr (append_left (map (λ (x : Raised). entries.at x.channel) (graph d).raised) (map entries.source (graph d).sources) (entries.at c)
+      (subst (IsIn (entries.at c)) (sym (raised_entries d (connections d (sites d)) (channels d))) (map_in entries.at (channels d) c there)))
+
+  source_told : (program : ℕ) → IsIn program (graph d).sources → IsIn (entries.source program) (told (graph d))
+  source_told program there =
+      inr (append_right (map (λ (x : Raised). entries.at x.channel) (graph d).raised) (map entries.source (graph d).sources) (entries.source program)
+      (map_in entries.source (graph d).sources program there))
+
+  numbers_told : AreNumbersOf d n a
+  numbers_told = record {
+    ranks = are.ranks ∙ ap (λ (x : Table). map (λ (c : Channel). entry x (node (graph d) c)) (channels d)) (sym same.same_ranks);
+    bounds = are.bounds
+        ∙ map_same (λ (c : Channel). capped (bound (graph d) t (entries.at c))) (λ (c : Channel). bound (graph d) a.weighed.costs (entries.at c)) (channels d)
+        (λ c there. same_bound (entries.at c) (channel_told c there));
+    build = are.build ∙ same_bound entries.build (inl refl);
+    sources = are.sources
+        ∙ map_same {B = ℕ × ℕ} (λ (q : ℕ). (q, capped (bound (graph d) t (entries.source q)))) (λ (q : ℕ). (q, bound (graph d) a.weighed.costs (entries.source q)))
+        (graph d).sources
+        (λ q there. ap (λ k. (q, k)) (same_bound (entries.source q) (source_told q there)));
+    depth = are.depth ∙ ap (depth (graph d)) (sym same.same_depths);
+  }
+
+  pub accepted : AreAccepted d n
+  accepted = ((a, numbers_told), reckoned_is_judged d r t p known none)

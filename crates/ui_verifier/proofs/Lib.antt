@@ -1,0 +1,5 @@
+pub mod CycleProofs
+pub mod JudgeProofs
+pub mod LargeProofs
+pub mod LinkTexts
+pub mod ToldNumbers

@@ -1,0 +1,5 @@
+pub mod Bounds
+pub mod Cycles
+pub mod Large
+pub mod Texts
+pub mod Verdicts

@@ -1,0 +1,185 @@
+//! The numbers that are told of a definition.
+
+ghost use Rattle.std.specs.Prelude.{◌≡◌, ◌+◌, ℕ, length, map, max, IfOk};
+ghost use Rattle.ui_machine.specs.Seq.{listed};
+ghost use Rattle.law_typing.specs.Graph.{graph};
+ghost use Rattle.law_typing.specs.Graph.Channels as law;
+ghost use Rattle.graph_bounds.specs.ByChannel.{Gives, makings_depth};
+ghost use Rattle.law_typing.specs.Graph.Tables.{greatest};
+ghost use Rattle.law_typing.specs.Laws.Capped.{capped};
+ghost use Rattle.law_numbering.specs.Tables.{cost_tables, depth_tables, rank_table};
+ghost use Rattle.node_numbers.specs.Numbers.{of_node};
+ghost use Rattle.graph_sketches.specs.Numbered as part;
+ghost use Rattle.graph_sketches.specs.Sketches.{IsSketch};
+ghost use Rattle.graph_sketches.specs.View.{sketch_view};
+ghost use Rattle.graph_numbers.specs.Counts.{at, at_in, counts_of};
+ghost use Rattle.graph_numbers.specs.Reckonings.{AreGraphNumbers};
+ghost use Rattle.verified.specs.Told.{source_view};
+ghost use Rattle.ui_verifier.specs.Bounds.{AreCapped, with_objects};
+
+use definition_graph::ChannelNumbers;
+use graph_bounds::{build_bound, capped_sum, makings_depth, source_programs};
+use graph_numbers::{Layout, NodeNumbers, channel_values, program_value};
+use graph_sketches::Sketch;
+use operand_types::Lookups;
+use std::alloc::{AllocError, Global};
+use ui_machine::ProgramId;
+use verified::{Numbers, SourceBound};
+
+// Costs, each with a finalisation for each of so many objects.
+fn bounds_of(alloc: Global, costs: &[u64], objects: u32) -> Result<Vec<u64>, AllocError>
+    ensures { IfOk result (λ bounds. bounds.items ≡ with_objects objects costs.now) }
+{
+    let mut bounds = Vec::new(alloc);
+    for cost in costs {
+        bounds.push(capped_sum(*cost, u64::from(objects)))?;
+    }
+    Ok(bounds)
+}
+
+// Ranks as shorter numbers; there are fewer than 2^32 channels.
+fn ranks_of(alloc: Global, values: &[u64]) -> Result<Vec<u32>, AllocError>
+    ensures { IfOk result (λ ranks. ranks.items ≡ values.now) }
+{
+    let mut ranks = Vec::new(alloc);
+    for value in values {
+        let Ok(rank) = u32::try_from(*value) else {
+            return Err(AllocError);
+        };
+        ranks.push(rank)?;
+    }
+    Ok(ranks)
+}
+
+// The bound of a source's program.
+fn source_bound(layout: &Layout, costs: &[u64], objects: u32, program: ProgramId) -> SourceBound
+    ensures { source_view result ≡ (program, capped (of_node costs.now (at layout.now (part.program program)) + objects)) }
+{
+    let cost = program_value(layout, costs, program);
+    SourceBound {
+        program,
+        bound: capped_sum(cost, u64::from(objects)),
+    }
+}
+
+// The bounds of some programs.
+fn source_bounds(
+    alloc: Global,
+    layout: &Layout,
+    costs: &[u64],
+    objects: u32,
+    programs: &[ProgramId],
+) -> Result<Vec<SourceBound>, AllocError>
+    ensures { IfOk result (λ bounds. map source_view bounds.items
+        ≡ map (λ (p : ℕ). (p, capped (of_node costs.now (at layout.now (part.program p)) + objects))) programs.now) }
+{
+    let mut bounds = Vec::new(alloc);
+    for program in programs {
+        bounds.push(source_bound(layout, costs, objects, *program))?;
+    }
+    Ok(bounds)
+}
+
+// The greatest of some numbers, 0 of none.
+fn greatest(values: &[u64]) -> u64
+    ensures { result ≡ greatest (λ (n : ℕ). n) values.now }
+{
+    let mut most: u64 = 0;
+    for value in values {
+        most = most.max(*value);
+    }
+    most
+}
+
+// The numbers of the programs' nodes.
+fn program_values(
+    alloc: Global,
+    lookups: &Lookups<'_>,
+    layout: &Layout,
+    values: &[u64],
+) -> Result<Vec<u64>, AllocError>
+    ensures { IfOk result (λ numbers. numbers.items ≡ listed (λ p. of_node values.now (at layout.now (part.program p))) (length lookups.now.programs)) }
+{
+    let mut numbers = Vec::new(alloc);
+    for number in 0..lookups.most_programs() {
+        let Some(_program) = lookups.program(number) else {
+            return Ok(numbers);
+        };
+        numbers.push(program_value(layout, values, number))?;
+    }
+    Ok(numbers)
+}
+
+// The most frames of any configuration, from the depths of channels and of programs.
+fn depth_of(
+    alloc: Global,
+    lookups: &Lookups<'_>,
+    channels: &ChannelNumbers,
+    values: &[u64],
+    programs: &[u64],
+) -> Result<u32, AllocError>
+    requires { length values.now ≡ length channels.now }
+    ensures { IfOk result (λ depth. (f : law.Channel → ℕ) → Gives channels.now values.now f
+        → depth ≡ max (greatest (λ (n : ℕ). n) values.now) (max (greatest (λ (n : ℕ). n) programs.now) (makings_depth lookups.now f))) }
+{
+    let makings = makings_depth(alloc, lookups, channels, values)?;
+    let most = greatest(values).max(greatest(programs).max(makings));
+    let Ok(depth) = u32::try_from(most) else {
+        return Err(AllocError);
+    };
+    Ok(depth)
+}
+
+/// The numbers that are told of a definition, each bound one above the greatest at most.
+///
+/// # Errors
+///
+/// `AllocError` where no memory is found, or a number is 2^32 or more.
+pub(crate) fn told_numbers(
+    alloc: Global,
+    lookups: &Lookups<'_>,
+    channels: &ChannelNumbers,
+    sketch: &Sketch,
+    layout: &Layout,
+    nodes: &NodeNumbers,
+) -> Result<Numbers, AllocError>
+    requires known { channels.now ≡ law.channels lookups.now }
+    requires counted { layout.now ≡ counts_of (sketch_view sketch.now) }
+    requires sketched { IsSketch (graph lookups.now) (sketch_view sketch.now) }
+    requires reckoned { AreGraphNumbers (graph lookups.now) (sketch_view sketch.now) nodes.now }
+    ensures { IfOk result (λ numbers. AreCapped lookups.now numbers
+        (rank_table (graph lookups.now) (sketch_view sketch.now) (at_in (sketch_view sketch.now)) nodes.now.ranks.items)
+        (cost_tables (graph lookups.now) (at_in (sketch_view sketch.now)) nodes.now.costs.items)
+        (depth_tables (graph lookups.now) (sketch_view sketch.now) (at_in (sketch_view sketch.now)) nodes.now.depths.items)) }
+{
+    let objects = lookups.definition().limits().objects;
+    let costs = channel_values(alloc, sketch, layout, nodes.costs.as_slice())?;
+    let ranks = channel_values(alloc, sketch, layout, nodes.ranks.as_slice())?;
+    let depths = channel_values(alloc, sketch, layout, nodes.depths.as_slice())?;
+    let programs = program_values(alloc, lookups, layout, nodes.depths.as_slice())?;
+    let named = source_programs(alloc, lookups)?;
+    let ranks = ranks_of(alloc, ranks.as_slice())?;
+    let bounds = bounds_of(alloc, costs.as_slice(), objects)?;
+    let build = build_bound(alloc, lookups, channels, costs.as_slice(), objects)?;
+    let sources = source_bounds(
+        alloc,
+        layout,
+        nodes.costs.as_slice(),
+        objects,
+        named.as_slice(),
+    )?;
+    let depth = depth_of(
+        alloc,
+        lookups,
+        channels,
+        depths.as_slice(),
+        programs.as_slice(),
+    )?;
+    Ok(Numbers {
+        ranks,
+        bounds,
+        build,
+        sources,
+        depth,
+    })
+}

@@ -1,0 +1,138 @@
+//! Cycles of channels, each from its first channel in the report.
+
+ghost use Rattle.std.specs.Prelude.{◌≡◌, ◌≤◌, ◌++◌, ℕ, Some, drop, length, map, slice_get, take, IfOk};
+ghost use Rattle.law_typing.specs.Graph.{Graph};
+ghost use Rattle.graph_sketches.specs.Sketches.{channels_in};
+ghost use Rattle.graph_numbers.specs.Links.{links_view};
+ghost use Rattle.graph_numbers.specs.Reckonings.{IsCycleOnce};
+ghost use Rattle.law_numbering.specs.Cycles.{channel_numbered};
+ghost use Rattle.law_typing.specs.Verdict.Judges.{IsToldCycle};
+ghost use Rattle.graph_numbers.specs.Links as sketched;
+ghost use Rattle.definition_graph.specs.ChannelView.{channel_of};
+ghost use Rattle.ui_verifier.specs.Cycles.{IsFirst, line_among, lines};
+ghost use Rattle.ui_verifier.specs.Verdicts.{link_view};
+
+use crate::faults::CycleLink;
+use definition_graph::ChannelNumbers;
+use graph_numbers::SketchedLink;
+use std::alloc::{AllocError, Global};
+use ui_machine::{Channel, Member, Place, ProgramId};
+
+// The program of a link by its shorter number; there are fewer than 2^16 programs.
+fn program_of(by: Option<usize>) -> Result<Option<ProgramId>, AllocError>
+    ensures { IfOk result (λ program. program ≡ by) }
+{
+    let Some(by) = by else {
+        return Ok(None);
+    };
+    let Ok(program) = u16::try_from(by) else {
+        return Err(AllocError);
+    };
+    Ok(Some(program))
+}
+
+// The channel of a number, the first construction where there is none.
+fn channel_at(channels: &ChannelNumbers, number: usize) -> Channel
+    ensures { (g : Graph) → channels.now ≡ channels_in g → channel_of result ≡ channel_numbered g number }
+{
+    if number < channels.count() {
+        return channels.channel(number);
+    }
+    Channel {
+        place: Place(0),
+        member: Member::Constructed,
+    }
+}
+
+// A link of a cycle with its channel.
+fn cycle_link(channels: &ChannelNumbers, link: SketchedLink) -> Result<CycleLink, AllocError>
+    ensures { IfOk result (λ l. (g : Graph) → channels.now ≡ channels_in g → link_view l ≡ sketched.link_view g link) }
+{
+    let by = program_of(link.by)?;
+    let from = channel_at(channels, link.from);
+    Ok(CycleLink { from, by })
+}
+
+// The links of a cycle with their channels.
+fn cycle_links(
+    alloc: Global,
+    channels: &ChannelNumbers,
+    links: &[SketchedLink],
+) -> Result<Vec<CycleLink>, AllocError>
+    ensures { IfOk result (λ all. (g : Graph) → channels.now ≡ channels_in g → map link_view all.items ≡ links_view g links.now) }
+{
+    let mut all = Vec::new(alloc);
+    for link in links {
+        all.push(cycle_link(channels, *link)?)?;
+    }
+    Ok(all)
+}
+
+// How many channels the report has before this one.
+fn line_of(channels: &ChannelNumbers, channel: &Channel) -> usize
+    ensures { result ≡ line_among channels.now (channel_of channel.now) }
+{
+    match channels.number(channel) {
+        Some(number) => number as usize,
+        None => channels.count(),
+    }
+}
+
+// The lines of links' channels in the report.
+fn lines_of(
+    alloc: Global,
+    channels: &ChannelNumbers,
+    links: &[CycleLink],
+) -> Result<Vec<usize>, AllocError>
+    ensures { IfOk result (λ all. all.items ≡ lines channels.now links.now) }
+{
+    let mut all = Vec::new(alloc);
+    for link in links {
+        all.push(line_of(channels, &link.from))?;
+    }
+    Ok(all)
+}
+
+// The number of the first of the least of some numbers, 0 of none.
+fn least(values: &[usize]) -> usize
+    ensures { IsFirst values.now result }
+{
+    let mut first = 0;
+    for number in 0..values.len() {
+        if values[number] < values[first] {
+            first = number;
+        }
+    }
+    first
+}
+
+// Links with those before a number behind the others.
+fn turned(alloc: Global, links: &[CycleLink], first: usize) -> Result<Vec<CycleLink>, AllocError>
+    requires { first ≤ length links.now }
+    ensures { IfOk result (λ all. all.items ≡ drop first links.now ++ take first links.now) }
+{
+    let mut all = Vec::new(alloc);
+    all.extend_from_slice(&links[first..])?;
+    all.extend_from_slice(&links[..first])?;
+    Ok(all)
+}
+
+/// A cycle from its first channel in the report.
+///
+/// # Errors
+///
+/// `AllocError` where no memory is found, or a program's number is 2^16 or more.
+pub(crate) fn cycle_from_first(
+    alloc: Global,
+    channels: &ChannelNumbers,
+    links: &[SketchedLink],
+) -> Result<Vec<CycleLink>, AllocError>
+    ensures { IfOk result (λ all. (g : Graph) → channels.now ≡ channels_in g → IsCycleOnce g (links_view g links.now)
+        → IsToldCycle g (map link_view all.items)) }
+{
+    let all = cycle_links(alloc, channels, links)?;
+    let lines = lines_of(alloc, channels, all.as_slice())?;
+    let first = least(lines.as_slice());
+    let told = turned(alloc, all.as_slice(), first)?;
+    Ok(told)
+}

@@ -1,0 +1,183 @@
+//! Verification.
+
+ghost use Rattle.std.specs.Prelude.{◌≡◌, None, Some, IfOk};
+ghost use Rattle.ui_machine.specs.Definition as machine;
+ghost use Rattle.law_judging.specs.FirstFaults.{first_fault};
+ghost use Rattle.law_typing.specs.Graph.{graph};
+ghost use Rattle.law_typing.specs.Graph.Channels as law;
+ghost use Rattle.law_typing.specs.Rules.Faults.{bound_too_large, cycle};
+ghost use Rattle.law_typing.specs.Verdict.Judges.{IsToldCycle, Judges};
+ghost use Rattle.definition_format.specs.Origin.{IsDenoted};
+ghost use Rattle.graph_numbers.specs.Counts.{counts_of};
+ghost use Rattle.graph_numbers.specs.Reckonings.{AreGraphNumbers, IsCycleOnce};
+ghost use Rattle.graph_numbers.specs.Links.{links_view};
+ghost use Rattle.graph_sketches.specs.Sketches.{IsSketch};
+ghost use Rattle.graph_sketches.specs.View.{sketch_view};
+ghost use Rattle.rule_faults.specs.Faults as rules;
+ghost use Rattle.verified.specs.Entries.{entry_of};
+ghost use Rattle.ui_verifier.specs.Verdicts.{AreAccepted, IsJudged, IsRefusal, Verifies};
+
+use crate::bounds::told_numbers;
+use crate::cycles::cycle_from_first;
+use crate::faults::{Refusal, VerifyError, VerifyFault};
+use crate::large_bounds::too_large;
+use crate::texts::{bound_text, cycle_text};
+use definition_graph::ChannelNumbers;
+use definition_sketch::sketch;
+use definitions::Definition;
+use graph_numbers::{Layout, NodeNumbers, Reckoned, SketchedLink, reckon};
+use graph_sketches::Sketch;
+use operand_types::Lookups;
+use rule_faults::{RuleFault, fault_text, rule_fault};
+use std::alloc::{AllocError, Global};
+use ui_machine::Entry;
+use verified::{Numbers, Verified};
+
+// What a definition that breaks no rule is judged to be.
+#[derive(Debug, Drop)]
+enum Judgement {
+    Accepted(Numbers),
+    Refused(Refusal),
+}
+
+// The refusal for a broken rule.
+fn rule_refusal(
+    alloc: Global,
+    definition: &Definition,
+    fault: RuleFault,
+) -> Result<Refusal, AllocError>
+    requires { Judges definition.now (Some (rules.fault_view fault)) }
+    ensures { IfOk result (λ r. IsRefusal definition.now r) }
+{
+    let text = fault_text(alloc, definition, &fault)?;
+    Ok(Refusal {
+        fault: VerifyFault::Rule(fault),
+        text,
+    })
+}
+
+// The refusal for a cycle.
+fn cycle_refusal(
+    alloc: Global,
+    definition: &Definition,
+    channels: &ChannelNumbers,
+    links: &[SketchedLink],
+) -> Result<Refusal, AllocError>
+    requires known { channels.now ≡ law.channels definition.now }
+    requires lawful { first_fault definition.now ≡ None }
+    requires cycle { IsCycleOnce (graph definition.now) (links_view (graph definition.now) links.now) }
+    ensures { IfOk result (λ r. IsRefusal definition.now r) }
+{
+    let links = cycle_from_first(alloc, channels, links)?;
+    let text = cycle_text(alloc, definition, links.as_slice())?;
+    Ok(Refusal {
+        fault: VerifyFault::Cycle(links),
+        text,
+    })
+}
+
+// The refusal for a bound that is too large.
+fn bound_refusal(
+    alloc: Global,
+    definition: &Definition,
+    entry: Entry,
+) -> Result<Refusal, AllocError>
+    requires { Judges definition.now (Some (bound_too_large (entry_of entry))) }
+    ensures { IfOk result (λ r. IsRefusal definition.now r) }
+{
+    let text = bound_text(alloc, definition, entry)?;
+    Ok(Refusal {
+        fault: VerifyFault::BoundTooLarge(entry),
+        text,
+    })
+}
+
+// The judgement by the numbers of the graph's nodes.
+fn judge_numbers(
+    alloc: Global,
+    lookups: &Lookups<'_>,
+    channels: &ChannelNumbers,
+    sketch: &Sketch,
+    layout: &Layout,
+    nodes: &NodeNumbers,
+) -> Result<Judgement, AllocError>
+    requires known { channels.now ≡ law.channels lookups.now }
+    requires read { IsDenoted lookups.now }
+    requires lawful { first_fault lookups.now ≡ None }
+    requires counted { layout.now ≡ counts_of (sketch_view sketch.now) }
+    requires sketched { IsSketch (graph lookups.now) (sketch_view sketch.now) }
+    requires reckoned { AreGraphNumbers (graph lookups.now) (sketch_view sketch.now) nodes.now }
+    ensures { IfOk result (λ j. IsJudged lookups.now j) }
+{
+    let numbers = told_numbers(alloc, lookups, channels, sketch, layout, nodes)?;
+    match too_large(&numbers, channels) {
+        Some(entry) => {
+            let refusal = bound_refusal(alloc, lookups.definition(), entry)?;
+            Ok(Judgement::Refused(refusal))
+        }
+        None => Ok(Judgement::Accepted(numbers)),
+    }
+}
+
+// The judgement of a definition that breaks no rule, by the sketch of its graph.
+fn judge_sketch(
+    alloc: Global,
+    lookups: &Lookups<'_>,
+    channels: &ChannelNumbers,
+    sketch: &Sketch,
+) -> Result<Judgement, AllocError>
+    requires known { channels.now ≡ law.channels lookups.now }
+    requires read { IsDenoted lookups.now }
+    requires lawful { first_fault lookups.now ≡ None }
+    requires sketched { IsSketch (graph lookups.now) (sketch_view sketch.now) }
+    ensures { IfOk result (λ j. IsJudged lookups.now j) }
+{
+    let definition = lookups.definition();
+    let layout = Layout::new(alloc, sketch)?;
+    match reckon(alloc, sketch, &layout, definition.limits().handlers)? {
+        Reckoned::Numbers(nodes) => {
+            judge_numbers(alloc, lookups, channels, sketch, &layout, &nodes)
+        }
+        Reckoned::Cycle(links) => {
+            let refusal = cycle_refusal(alloc, definition, channels, links.as_slice())?;
+            Ok(Judgement::Refused(refusal))
+        }
+    }
+}
+
+// The channels of a definition that breaks no rule, and its judgement.
+fn judge_lawful(
+    alloc: Global,
+    definition: &Definition,
+) -> Result<(ChannelNumbers, Judgement), AllocError>
+    requires { first_fault definition.now ≡ None }
+    ensures { IfOk result (λ r. (r.0 ≡ law.channels definition.now) × IsJudged definition.now r.1) }
+{
+    let lookups = Lookups::new(alloc, definition)?;
+    let channels = ChannelNumbers::new(alloc, &lookups)?;
+    let sketch = sketch(alloc, &lookups, &channels)?;
+    let _types = definition.types();
+    let judgement = judge_sketch(alloc, &lookups, &channels, &sketch)?;
+    Ok((channels, judgement))
+}
+
+/// Judges a definition: whether each program is typed, each handler and binding fits, no channel may raise itself again, and no dispatch may take
+/// more than 10^12 steps.
+///
+/// # Errors
+///
+/// `Refused` with the first rule that is broken, in the order of the rules and of the document; or, where none is, with a cycle of channels from
+/// its first one in the report; or else with the first entry of the report whose bound is too large. `OutOfMemory` where no memory is found.
+pub fn verify(alloc: Global, definition: Definition) -> Result<Verified, VerifyError>
+    ensures { Verifies definition result }
+{
+    if let Some(fault) = rule_fault(alloc, &definition)? {
+        let refusal = rule_refusal(alloc, &definition, fault)?;
+        return Err(VerifyError::Refused(refusal));
+    }
+    let (channels, judgement) = judge_lawful(alloc, &definition)?;
+    match judgement {
+        Judgement::Accepted(numbers) => Ok(Verified::new(definition, channels, numbers)),
+        Judgement::Refused(refusal) => Err(VerifyError::Refused(refusal)),
+    }
+}

@@ -1,0 +1,13 @@
+use Rattle.std.proofs.Common.{take, ◌≡◌, false}
+use Rattle.std.specs.Io.KnownBytes.{Appends}
+use Rattle.law_typing.specs.Verdict.Accepted.{Accepted}
+use Rattle.verified.specs.Lines.{source_lines}
+use Rattle.verified.specs.Writing.{lines_text}
+use Rattle.verified.proofs.verified.Verified.report_sources.Given as goal
+
+abbrev pub invariant-loop-source : goal.invariant-loop-source
+invariant-loop-source g l = record {
+  came : (a : Accepted l.self) →
+      Appends (g.W.Sink.taken l.fn.writer) (g.W.Sink.taken l.writer) (lines_text (take l.source-index (source_lines l.self a)));
+  works : g.W.Sink.failed l.writer ≡ false;
+}

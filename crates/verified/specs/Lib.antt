@@ -1,0 +1,4 @@
+pub mod Told
+pub mod Entries
+pub mod Lines
+pub mod Writing

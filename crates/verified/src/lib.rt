@@ -1,0 +1,14 @@
+//! A definition that was verified, with the numbers that its verification gave, and the report of them.
+#![tactic(auto)]
+
+mod faults;
+mod numbers;
+mod reports;
+mod texts;
+mod verified;
+mod writing;
+
+pub use faults::ReportFault;
+pub use numbers::{Numbers, SourceBound};
+pub use texts::{channel_text, program_name};
+pub use verified::Verified;
