@@ -2,3 +2,4 @@ pub mod Words
 pub mod EachOf
 pub mod CodeNames
 pub mod Whole
+mod EventsRead

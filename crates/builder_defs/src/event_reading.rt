@@ -9,6 +9,7 @@ ghost use Rattle.ui_machine.specs.Definition.Lookups.{spec_of};
 ghost use Rattle.definition_format.specs.Meaning.{event_of, given_view, class_at};
 ghost use Rattle.definition_format.specs.Denoted.Given.{reference};
 ghost use Rattle.param_specs.specs.View.{spec_view};
+ghost use Rattle.law_sessions.specs.Sessions.{EventRead};
 ghost use Rattle.definition_format.specs.EventMeaning.{Gives, event_denoted, event_meant, line_value, has_one_member, words_of_set, words_of_get, set_event, get_event, release_event, moment_if, turn_event, target, object_of, object_named, is_of_kind, object_given, given_by, readable, writable, or_value_fault};
 
 use crate::emit_reading::emit_in;
@@ -29,10 +30,24 @@ pub const MAX_LINE_BYTES: usize = 65_536;
 /// The last moment of a turn.
 pub const MAX_MOMENT: u64 = 9_007_199_254_740_992;
 
-/// Reads an event of a definition. A fault is the first one in the order of `EventFault`.
-#[tactic(auto, unfolding(definition_format::specs::EventMeaning::event_denoted))]
+/// Reads an event of a definition. What it names is there and may be asked so, and its values fit: a session of the definition takes it.
+///
+/// # Errors
+///
+/// `Refused` with the first fault in the order of `EventFault`, and `OutOfMemory`.
 pub fn read_event(alloc: Global, definition: &Definition, bytes: &[u8]) -> Result<Event, EventError>
     ensures exact { Gives event_of result (event_denoted definition.now bytes.now) }
+    ensures read { IfOk result (λ event. EventRead definition.now (event_of event)) }
+{
+    // For the proof: some bytes denote the definition.
+    let _types = definition.types();
+    event_of_line(alloc, definition, bytes)
+}
+
+// The event that a line denotes.
+#[tactic(auto, unfolding(definition_format::specs::EventMeaning::event_denoted))]
+fn event_of_line(alloc: Global, definition: &Definition, bytes: &[u8]) -> Result<Event, EventError>
+    ensures { Gives event_of result (event_denoted definition.now bytes.now) }
 {
     let value = parsed_line(alloc, bytes)?;
     let event = event_in(alloc, definition, &value)?;

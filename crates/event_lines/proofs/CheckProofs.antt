@@ -4,21 +4,21 @@ use Rattle.std.specs.Prelude.{string_bytes, ◌⊎◌}
 use Rattle.ui_machine.specs.Definition.{Definition}
 use Rattle.law_typing.specs.Rules.Faults.{Fault}
 use Rattle.law_typing.specs.Verdict.Accepted.{Accepted}
-use Rattle.law_typing.specs.Verdict.FaultText.{fault_text, refused_line}
+use Rattle.law_typing.specs.Verdict.FaultText.{fault_text}
 use Rattle.law_typing.specs.Verdict.Judges.{Judges}
 use Rattle.verified.specs.Lines.{report_of}
 use Rattle.builder_defs.specs.Denoted.{denoted}
 use Rattle.event_lines.specs.Checks.{Checked, IsSaid, IsReported, refused, unjudged, rejected, accepted}
 use Rattle.event_lines.specs.CheckView.{IsUnread, IsRejected}
-use Rattle.event_lines.specs.Opening.{Concludes}
+use Rattle.event_lines.specs.Opening.{Concludes, rejected_text}
 use Rattle.event_lines.specs.Texts.{joined, nothing_begun}
 use Rattle.event_lines.specs.Writing.{Sent, Sends}
 
 -- the one line of a refusal
-abbrev line_of : List ℕ → List ℕ
+abbrev pub line_of : List ℕ → List ℕ
 line_of text = joined (codes "refused: " ∷ text ∷ codes "\n" ∷ [])
 
-line_is : (d : Definition) (fault : Fault) → line_of (fault_text d fault) ≡ refused_line d fault ++ codes "\n"
+pub line_is : (d : Definition) (fault : Fault) → line_of (fault_text d fault) ≡ rejected_text d fault
 line_is d fault = refl
 
 module _ (bytes : List ℕ) (a c : Sent) (status : ℕ) (torn : Bool) where

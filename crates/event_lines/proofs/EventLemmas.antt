@@ -32,7 +32,7 @@ since old new = drop (length old.world.transcript) new.world.transcript
 
 module _ (old : SessionState) (line : List ℕ) where
   pub unread : (error : EventError) → Fails error (event_denoted old.definition line) → event_replies old line (outcome_of {T = Unit {0}} (Err (reading_fault error)) (since old old)) old
-  unread errors.OutOfMemory fails = inr (refl, drop_all old.world.transcript, refl)
+  unread errors.OutOfMemory fails = inr (drop_all old.world.transcript, refl)
   unread (errors.Refused fault) fails = (inl (record { refusal = event_refusal fault; denotes = fails }, refl), refl)
 
   module _ (event : Event) (denotes : event_denoted old.definition line ≡ Ok event) (new : SessionState) (longer : IsPrefix old.world.transcript new.world.transcript) where
@@ -68,22 +68,18 @@ module _ (old : SessionState) (line : List ℕ) where
         on (Some gone) ends.ClockBack why h = cc h.0
         on (Some gone) ends.Stopped why h = cc h.0
         on (Some gone) ends.OutOfMemory why h = cc h.0
-        on (Some gone) (ends.Stuck arm) why h = cc h.0
         on (Some clock_back) ends.ClockBack why h = (inr (record { event = event; why = clock_back; denotes = denotes; refuses = why }, refl), h.1)
         on (Some clock_back) ends.Released why h = cc h.0
         on (Some clock_back) ends.Stopped why h = cc h.0
         on (Some clock_back) ends.OutOfMemory why h = cc h.0
-        on (Some clock_back) (ends.Stuck arm) why h = cc h.0
-        on None ends.OutOfMemory why h = inl (record { event = event; denotes = denotes; halts = h.halts; shows = shows; definition = h.definition; stops = h.stops })
-        on None (ends.Stuck arm) why h = inl (record { event = event; denotes = denotes; halts = h.halts; shows = shows; definition = h.definition; stops = h.stops })
+        on None ends.OutOfMemory why h = inl (record { event = event; denotes = denotes; breaks_off = h.breaks_off; shows = shows; definition = h.definition; stops = h.stops })
         on None ends.Stopped why h = absurd h
         on None ends.ClockBack why h = absurd h
         on None ends.Released why h = absurd h
 
         by : (b : Bool) (fault : SessionFault) → AnswersEvent b (Err fault) old event new → event_replies old line (outcome_of {T = Unit {0}} (Err (dispatch_fault fault)) (since old new)) new
-        by true ends.Stopped h = inr (refl, ap (since old) h.1 ∙ drop_all old.world.transcript, h.1)
+        by true ends.Stopped h = inr (ap (since old) h.1 ∙ drop_all old.world.transcript, h.1)
         by true ends.OutOfMemory h = cc h.0
-        by true (ends.Stuck arm) h = cc h.0
         by true ends.ClockBack h = cc h.0
         by true ends.Released h = cc h.0
         by false fault h = on (refusal old.world event) fault refl h

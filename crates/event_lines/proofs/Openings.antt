@@ -2,7 +2,6 @@
 use Rattle.std.proofs.Common.{◌≡◌, ℕ, ◌+◌, ◌-◌, ◌/◌, Bool, true, false, List, [], ◌∷◌, ◌++◌, take, length, length-append, arith, append_assoc, append-nil, codes, String, Global, Option, Some, None, Result, Ok, Err, refl, sym, ap, subst, ◌∙◌, inl, inr}
 use Rattle.std.specs.Prelude.{IfSome, string_bytes, ◌⊎◌}
 use Rattle.std.proofs.KnownBytes.{Appends-trans}
-use Rattle.ui_machine.specs.declared.arm.Halt.{Halt}
 use Rattle.ui_machine.specs.declared.arm.Halt.TheVariants as halts
 use Rattle.ui_machine.specs.Definition.{Definition}
 use Rattle.ui_machine.specs.Runs.{of_build, Carries, Halts}
@@ -10,55 +9,50 @@ use Rattle.builder_defs.specs.Denoted.{denoted}
 use Rattle.ui_engine.specs.declared.dispatch.Reply.{Reply}
 use Rattle.ui_engine.specs.declared.session.SessionFault.{SessionFault}
 use Rattle.ui_engine.specs.declared.session.SessionFault.TheVariants as faults
-use Rattle.ui_engine.specs.SessionView.{SessionState, without_lines, building, tally_of, Comes, Breaks}
+use Rattle.ui_engine.specs.SessionView.{SessionState, without_lines, building, tally_of, Comes}
 use Rattle.builder_defs.specs.Refusals.{Refusal}
 use Rattle.builder_defs.specs.FaultText.{refusal_text}
 use Rattle.event_lines.specs.declared.opening.Opening.TheVariants as code
-use Rattle.event_lines.specs.OpeningView.{IsOpening, Opened, halt_of}
+use Rattle.event_lines.specs.OpeningView.{IsOpening, Opened}
+use Rattle.event_lines.specs.CheckView.{IsUnread, IsRejected}
 use Rattle.event_lines.specs.Texts.{joined, lines_text, nothing_begun, build_stopped}
 use Rattle.event_lines.specs.EventFileRun.{EventFileRun, InStep, text_from}
 use Rattle.event_lines.specs.Events.{event_replies}
 use Rattle.event_lines.proofs.Runs.{few_writes, few_after}
+use Rattle.event_lines.proofs.CheckProofs.{line_is, line_of}
 use Rattle.event_lines.proofs.RunOver.{runs_over}
 use Rattle.event_lines.specs.Writing.{Sent, Passes, Tears, Finishes, Sends}
 use Rattle.ui_machine.specs.Prefix.{IsPrefix}
 use Rattle.event_lines.specs.Lines.{lines_of}
-use Rattle.event_lines.specs.Opening.{Opening, refused, unbegun, built, stopped, Opens, Concludes, Plays, Proceeds, Ran}
+use Rattle.event_lines.specs.Opening.{Opening, refused, rejected, unbegun, built, stopped, IsTaken, Opens, Concludes, Plays, Proceeds, Ran}
 
-module _ (bytes : List ℕ) (d : Definition) (s : SessionState) (denotes : denoted bytes ≡ Ok d) where
-  pub opens_built : (build : Result Reply SessionFault) → Comes build (building d) d s → halt_of build ≡ None → Opens bytes (built s)
-  opens_built (Ok reply) comes none = (
-    denotes ∙ ap Ok (sym comes.definition),
+module _ (bytes : List ℕ) (d : Definition) (s : SessionState) (taken : IsTaken bytes d) where
+  pub opens_built : (reply : Reply) → Comes (Ok reply) (building d) d s → Opens bytes (built s)
+  opens_built reply comes = (
+    subst (λ (e : Definition). IsTaken bytes e) (sym comes.definition) taken,
     record {
       tally = tally_of reply;
       carries = subst (λ (e : Definition). Carries e (of_build e []) [] (tally_of reply) s.world) (sym comes.definition) comes.leads;
       goes_on = comes.goes_on;
     },
   )
-  opens_built (Err faults.OutOfMemory) comes none = cc none
-  opens_built (Err (faults.Stuck arm)) comes none = cc none
-  opens_built (Err faults.Stopped) comes none = absurd comes
-  opens_built (Err faults.ClockBack) comes none = absurd comes
-  opens_built (Err faults.Released) comes none = absurd comes
 
-  broken : (halt found : Halt) → Some found ≡ Some halt → Breaks found (building d) d s → Opens bytes (stopped s halt)
-  broken halt found same breaks =
-      let is : found ≡ halt = cc same in (
-        denotes ∙ ap Ok (sym breaks.definition),
-        record {
-          halts = subst (λ (h : Halt). Halts s.definition [] (of_build s.definition []) h s.world.transcript) is
-              (subst (λ (e : Definition). Halts e [] (of_build e []) found s.world.transcript) (sym breaks.definition) breaks.halts);
-          stops = breaks.stops;
-        },
-      )
+  pub opens_stopped : (fault : SessionFault) → Comes (Err fault) (building d) d s → Opens bytes (stopped s)
+  opens_stopped faults.OutOfMemory comes = (
+    subst (λ (e : Definition). IsTaken bytes e) (sym comes.definition) taken,
+    record {
+      breaks_off = subst (λ (e : Definition). Halts e [] (of_build e []) halts.OutOfMemory s.world.transcript) (sym comes.definition) comes.breaks_off;
+      stops = comes.stops;
+    },
+  )
+  opens_stopped faults.Stopped comes = absurd comes
+  opens_stopped faults.ClockBack comes = absurd comes
+  opens_stopped faults.Released comes = absurd comes
 
-  pub opens_stopped : (halt : Halt) (build : Result Reply SessionFault) → Comes build (building d) d s → halt_of build ≡ Some halt → Opens bytes (stopped s halt)
-  opens_stopped halt (Ok reply) comes some = cc some
-  opens_stopped halt (Err faults.OutOfMemory) comes some = broken halt halts.OutOfMemory some comes
-  opens_stopped halt (Err (faults.Stuck arm)) comes some = broken halt (halts.Stuck arm) some comes
-  opens_stopped halt (Err faults.Stopped) comes some = absurd comes
-  opens_stopped halt (Err faults.ClockBack) comes some = absurd comes
-  opens_stopped halt (Err faults.Released) comes some = absurd comes
+-- the opening of what is not accepted
+pub opens_refused : (bytes : List ℕ) (text : String Global) → IsUnread bytes (string_bytes text) ⊎ IsRejected bytes (string_bytes text) → Opened bytes (code.Refused text)
+opens_refused bytes text (inl (refusal, denotes, is)) = record { opening = refused refusal; is = is; opens = denotes }
+opens_refused bytes text (inr (d, fault, denotes, judged, is)) = record { opening = rejected d fault; is = is; opens = (denotes, judged) }
 
 -- ** what is written
 
@@ -132,7 +126,7 @@ module _ (s : SessionState) (lines : List (List ℕ)) (status : ℕ) (torn : Boo
       order = by file_run.order;
       heard = file_run.heard;
     };
-    run = λ stands. runs_over s lines file_run.outcomes new stands file_run.told;
+    run = λ bytes taken stands. runs_over s lines file_run.outcomes new bytes taken stands file_run.told;
   }
     where
       by : unread ⊎ InStep left file_run.outcomes first last text → unread ⊎ InStep build file_run.outcomes first last (moved ++ text)
@@ -169,7 +163,7 @@ module _ (s : SessionState) (torn : Bool) (unread : Type 0) (first last : Option
             order = inl un;
             heard = λ _ fine. cc (failed, fine);
           };
-          run = λ stands. runs_over s (lines_of input.0) [] (without_lines s) stands refl;
+          run = λ bytes taken stands. runs_over s (lines_of input.0) [] (without_lines s) bytes taken stands refl;
         },
         record { appends = h.appends; few = few_writes r r' a.writes b.writes (length h.moved) (omega (arith, same)) (omega (arith, h.full, same)) },
       )
@@ -192,24 +186,19 @@ module _ (s : SessionState) (torn : Bool) (unread : Type 0) (first last : Option
 
 -- ** which opening the code's is
 
-open_stopped : (bytes : List ℕ) (session : SessionState) (halt : Halt) (opening : Opening) → IsOpening (code.Stopped session halt) opening → Opens bytes opening → Opens bytes (stopped session halt)
-open_stopped bytes session halt (refused r) is opens = absurd is
-open_stopped bytes session halt unbegun is opens = absurd is
-open_stopped bytes session halt (stopped s h) is opens = rw (is.0, is.1) opens
-open_stopped bytes session halt (built s) is opens = absurd is
+open_stopped : (bytes : List ℕ) (session : SessionState) (opening : Opening) → IsOpening (code.Stopped session) opening → Opens bytes opening → Opens bytes (stopped session)
+open_stopped bytes session (refused r) is opens = absurd is
+open_stopped bytes session (rejected d fault) is opens = absurd is
+open_stopped bytes session unbegun is opens = absurd is
+open_stopped bytes session (stopped s) is opens = rw is opens
+open_stopped bytes session (built s) is opens = absurd is
 
 open_built : (bytes : List ℕ) (session : SessionState) (opening : Opening) → IsOpening (code.Built session) opening → Opens bytes opening → Opens bytes (built session)
 open_built bytes session (refused r) is opens = absurd is
+open_built bytes session (rejected d fault) is opens = absurd is
 open_built bytes session unbegun is opens = absurd is
-open_built bytes session (stopped s h) is opens = absurd is
+open_built bytes session (stopped s) is opens = absurd is
 open_built bytes session (built s) is opens = rw is opens
-
-open_refused : (bytes : List ℕ) (text : String Global) (opening : Opening) → IsOpening (code.Refused text) opening → Opens bytes opening
-    → (r : Refusal) × (denoted bytes ≡ Err r) × (string_bytes text ≡ refusal_text r)
-open_refused bytes text (refused r) is opens = (r, opens, is)
-open_refused bytes text unbegun is opens = absurd is
-open_refused bytes text (stopped s h) is opens = absurd is
-open_refused bytes text (built s) is opens = absurd is
 
 module _ (bytes : List ℕ) (first last : Option (List ℕ)) (r r' : ℕ) (a c : Sent) (status : ℕ) (torn : Bool) (unread : Type 0) where
   abbrev pub IsWritten : List ℕ → ℕ → Type 0
@@ -218,22 +207,32 @@ module _ (bytes : List ℕ) (first last : Option (List ℕ)) (r r' : ℕ) (a c :
   abbrev pub RanOver : Type 0
   RanOver = (input : List ℕ) × IfSome first (λ known. known ≡ input) × (text : List ℕ) × Ran bytes (lines_of input) status torn unread first last text × Sends r r' a c text
 
-  pub ran_stopped : (session : SessionState) (halt : Halt) → Opened bytes (code.Stopped session halt) → unread → IsWritten (lines_text session.world.transcript ++ build_stopped halt) 3 → RanOver
-  ran_stopped session halt o un w =
+  pub ran_stopped : (session : SessionState) → Opened bytes (code.Stopped session) → unread → IsWritten (lines_text session.world.transcript ++ build_stopped) 3 → RanOver
+  ran_stopped session o un w =
       let input = any_bytes first in
-      (input.0, input.1, w.0, record { opening = stopped session halt; opens = open_stopped bytes session halt o.opening o.is o.opens; proceeds = (un, w.1) }, sends_more r r' a c w.0 w.2)
+      (input.0, input.1, w.0, record { opening = stopped session; opens = open_stopped bytes session o.opening o.is o.opens; proceeds = (un, w.1) }, sends_more r r' a c w.0 w.2)
 
   pub ran_unbegun : unread → IsWritten nothing_begun 3 → RanOver
   ran_unbegun un w =
       let input = any_bytes first in
       (input.0, input.1, w.0, record { opening = unbegun; opens = tt; proceeds = (un, w.1) }, sends_more r r' a c w.0 w.2)
 
-  pub ran_refused : (text : String Global) → Opened bytes (code.Refused text) → unread → IsWritten (joined (codes "refused: " ∷ string_bytes text ∷ codes "\n" ∷ [])) 1 → RanOver
-  ran_refused text o un w =
-      let denied = open_refused bytes text o.opening o.is o.opens in
-      let concludes = rw denied.2 at w.1 in
-      let input = any_bytes first in
-      (input.0, input.1, w.0, record { opening = refused denied.0; opens = denied.1; proceeds = (un, concludes) }, sends_more r r' a c w.0 w.2)
+  pub ran_refused : (text : String Global) → Opened bytes (code.Refused text) → unread → IsWritten (line_of (string_bytes text)) 1 → RanOver
+  ran_refused text o un w = by o.opening o.is o.opens
+    where
+      input : (input : List ℕ) × IfSome first (λ known. known ≡ input)
+      input = any_bytes first
+
+      by : (opening : Opening) → IsOpening (code.Refused text) opening → Opens bytes opening → RanOver
+      by (refused refusal) is opens =
+          let written = subst (λ t. IsWritten (line_of t) 1) is w in
+          (input.0, input.1, written.0, record { opening = refused refusal; opens = opens; proceeds = (un, written.1) }, sends_more r r' a c written.0 written.2)
+      by (rejected d fault) is opens =
+          let written = subst (λ t. IsWritten t 1) (line_is d fault) (subst (λ t. IsWritten (line_of t) 1) is w) in
+          (input.0, input.1, written.0, record { opening = rejected d fault; opens = opens; proceeds = (un, written.1) }, sends_more r r' a c written.0 written.2)
+      by unbegun is opens = absurd is
+      by (stopped s) is opens = absurd is
+      by (built s) is opens = absurd is
 
   pub ran_built : (session : SessionState) → Opened bytes (code.Built session)
       → (input : List ℕ) × IfSome first (λ known. known ≡ input) × (text : List ℕ) × Proceeds (built session) (lines_of input) status torn unread first last text × Sends r r' a c text → RanOver

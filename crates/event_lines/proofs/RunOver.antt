@@ -1,19 +1,26 @@
 -- What the lines of an event file come to is a run of the machine.
-use Rattle.std.proofs.Common.{◌≡◌, ℕ, ◌+◌, true, List, [], ◌∷◌, ◌++◌, Ok, Err, refl, sym, ap, subst, ◌∙◌, append_assoc, append-nil, inl, inr}
+use Rattle.std.proofs.Common.{◌≡◌, ℕ, ◌+◌, true, List, [], ◌∷◌, ◌++◌, Result, Ok, Err, refl, sym, ap, subst, ◌∙◌, append_assoc, append-nil, inl, inr}
 use Rattle.std.specs.Prelude.{◌⊎◌}
+use Rattle.ui_machine.specs.declared.arm.Halt.TheVariants as halts
 use Rattle.ui_machine.specs.Definition.{Definition}
 use Rattle.ui_machine.specs.State.Tasks.{Event}
 use Rattle.ui_machine.specs.State.Config.{World}
 use Rattle.ui_machine.specs.Runs.{Tally, no_dispatch, tallied, Comes, Serves, ServesAll, HaltsIn}
 use Rattle.machine_laws.specs.FrontLaws.{fronted}
 use Rattle.machine_laws.proofs.FrontRuns.{event_appends, event_halt_appends}
-use Rattle.builder_defs.specs.EventMeaning.{event_denoted}
+use Rattle.builder_defs.specs.Denoted.{denoted}
+use Rattle.builder_defs.specs.EventMeaning.{EventRefusal, event_denoted}
+use Rattle.law_typing.specs.Verdict.Accepted.{Each}
+use Rattle.law_typing.proofs.Lists.{each_append}
+use Rattle.law_sessions.specs.Sessions.{EventRead}
+use Rattle.law_sessions.proofs.SessionProofs.{never_stuck}
+use Rattle.law_reading.proofs.Whole.{events_read, well_read}
 use Rattle.ui_engine.specs.SessionView.{SessionState, without_lines}
 use Rattle.event_lines.specs.EventFileRun as file_run
 use Rattle.event_lines.specs.EventFileRun.{Outcome, said, refused, cut_off, stopped, LineSort, too_many, too_long, skipped, sort_of_line, ends, Meets, LineComesTo, LinesComeTo}
 use Rattle.event_lines.specs.Events.{event_replies}
-use Rattle.event_lines.specs.RunOver.{event_of_line, event_served, events_served, said_of, said_in, HaltsNext, RunsOver}
-use Rattle.event_lines.specs.Opening.{IsBuilt}
+use Rattle.event_lines.specs.RunOver.{event_of_line, event_served, events_served, said_of, said_in, BreaksOffNext, RunsOver}
+use Rattle.event_lines.specs.Opening.{IsBuilt, IsTaken}
 
 -- what some lines came to from a world: these events were served, and perhaps one more halted; and what was said of them
 pub record Served (d : Definition) (w : World) (events : List Event) (lines : List (List ℕ)) (new : World) : Type 0 where
@@ -21,14 +28,14 @@ pub record Served (d : Definition) (w : World) (events : List Event) (lines : Li
   pub last : World
   pub serves : ServesAll d events [] w tally last
   pub front : List (List ℕ)
-  pub after : (last ≡ fronted front new) ⊎ HaltsNext d last (fronted front new)
+  pub after : (last ≡ fronted front new) ⊎ BreaksOffNext d last (fronted front new)
   pub shows : front ++ new.transcript ≡ w.transcript ++ lines
 
 -- what one line came to: no event that was served, or one; and whether the session goes on
 pub data Line (d : Definition) (old : World) (events : List Event) (mid : World) (outcome : Outcome) : Type 0 where
   no_event : events ≡ [] → mid ≡ old → Line d old events mid outcome
   one_event : (event : Event) (tally : Tally) → events ≡ event ∷ [] → Serves d event [] old tally mid → Line d old events mid outcome
-  halting : events ≡ [] → HaltsNext d old mid → ends outcome ≡ true → Line d old events mid outcome
+  halting : events ≡ [] → BreaksOffNext d old mid → ends outcome ≡ true → Line d old events mid outcome
 
 -- a line's world, what was said of it, and that its session runs the definition
 pub record Lined (d : Definition) (old : SessionState) (n : ℕ) (line : List ℕ) (outcome : Outcome) (mid : SessionState) : Type 0 where
@@ -75,12 +82,12 @@ module _ (d : Definition) where
     definition = ap (λ (s : SessionState). s.definition) same ∙ is;
   }
   replied old mid n line (cut_off r) is event never = absurd never
-  replied old mid n line (stopped halt lines) is event (inl h) = record {
-    came = halting refl (record { event = h.event; halt = halt; halts = subst (λ (e : Definition). HaltsIn e h.event [] old.world halt mid.world.transcript) is h.halts }) refl;
+  replied old mid n line (stopped lines) is event (inl h) = record {
+    came = halting refl (record { event = h.event; breaks_off = subst (λ (e : Definition). HaltsIn e h.event [] old.world halts.OutOfMemory mid.world.transcript) is h.breaks_off }) refl;
     says = h.shows;
     definition = h.definition ∙ is;
   }
-  replied old mid n line (stopped halt lines) is event (inr wants) = untouched old mid n line (stopped halt lines) is refl wants.1 wants.2
+  replied old mid n line (stopped lines) is event (inr wants) = untouched old mid n line (stopped lines) is refl wants.0 wants.1
 
   unserved : (n : ℕ) (line : List ℕ) (outcome found : Outcome) → outcome ≡ found → event_served d n line found ≡ [] → event_served d n line outcome ≡ []
   unserved n line outcome found same none = ap (event_served d n line) same ∙ none
@@ -100,7 +107,7 @@ module _ (d : Definition) where
   behind front w mid events outcome (no_event none same) = no_event none (ap (fronted front) same)
   behind front w mid events outcome (one_event event tally one serves) = one_event event tally one (event_appends d event front [] w tally mid serves)
   behind front w mid events outcome (halting none h ending) =
-      halting none (record { event = h.event; halt = h.halt; halts = event_halt_appends front d h.event [] w h.halt mid.transcript h.halts }) ending
+      halting none (record { event = h.event; breaks_off = event_halt_appends front d h.event [] w halts.OutOfMemory mid.transcript h.breaks_off }) ending
 
   -- one line, and what the others came to after it; all was said so far
   on : (w mid new : World) (first later : List Event) (lines more : List (List ℕ)) (outcome : Outcome) → Line d w first mid outcome → mid.transcript ≡ w.transcript ++ lines
@@ -138,7 +145,7 @@ module _ (d : Definition) where
             last = w;
             serves = record { replied = refl; counts = refl; same = refl };
             front = last.2;
-            after = inr (subst (HaltsNext d w) (sym last.3) h);
+            after = inr (subst (BreaksOffNext d w) (sym last.3) h);
             shows = none_said;
           }))
 
@@ -171,16 +178,41 @@ module _ (d : Definition) where
       (subst (λ (w : World). Served d w (events_served d (n + 1) lines outcomes) (said_in outcomes) new.world) (all_in_front front mid.world)
       (served outcomes (n + 1) lines (front ++ mid.world.transcript) (without_lines mid) new one.definition come.3))
 
--- the build and the lines of the events are a run of the machine
-pub runs_over : (s : SessionState) (lines : List (List ℕ)) (outcomes : List Outcome) (new : SessionState) → IsBuilt s → LinesComeTo event_replies without_lines (without_lines s) 1 lines outcomes new
+-- the events that lines come to are such as the laws of runs take
+module _ (bytes : List ℕ) (d : Definition) (denotes : denoted bytes ≡ Ok d) where
+  read_one : (sort : LineSort) (line : List ℕ) (found : Result Event EventRefusal) → event_denoted d line ≡ found → Each (EventRead d) (event_of_line sort found)
+  read_one too_many line found is = tt
+  read_one too_long line found is = tt
+  read_one skipped line found is = tt
+  read_one file_run.event line (Ok event) is = (events_read bytes d denotes line event is, tt)
+  read_one file_run.event line (Err refusal) is = tt
+
+  read_at : (n : ℕ) (line : List ℕ) (outcome : Outcome) → Each (EventRead d) (event_served d n line outcome)
+  read_at n line (said lines) = read_one (sort_of_line n line) line (event_denoted d line) refl
+  read_at n line (refused r) = read_one (sort_of_line n line) line (event_denoted d line) refl
+  read_at n line (cut_off r) = tt
+  read_at n line (stopped lines) = tt
+
+  all_read : (n : ℕ) (lines : List (List ℕ)) (outcomes : List Outcome) → Each (EventRead d) (events_served d n lines outcomes)
+  all_read n lines [] = tt
+  all_read n [] (outcome ∷ outcomes) = tt
+  all_read n (line ∷ lines) (outcome ∷ outcomes) =
+      each_append (EventRead d) (event_served d n line outcome) (events_served d (n + 1) lines outcomes) (read_at n line outcome) (all_read (n + 1) lines outcomes)
+
+-- the build and the lines of the events are a run of the machine, each dispatch of which keeps what is promised
+pub runs_over : (s : SessionState) (lines : List (List ℕ)) (outcomes : List Outcome) (new : SessionState) (bytes : List ℕ) → IsTaken bytes s.definition → IsBuilt s → LinesComeTo event_replies without_lines (without_lines s) 1 lines outcomes new
     → RunsOver s lines outcomes new
-runs_over s lines outcomes new built come =
+runs_over s lines outcomes new bytes taken built come =
     let events = subst (λ (w : World). Served s.definition w (events_served s.definition 1 lines outcomes) (said_in outcomes) new.world) (all_in_front [] s.world)
     (served s.definition outcomes 1 lines s.world.transcript (without_lines s) new refl come) in
     record {
       tally = tallied built.tally events.tally;
       last = events.last;
       run = record { first = []; later = []; mid = s.world; first_tally = built.tally; later_tally = events.tally; replied = refl; counts = refl; begins = built.carries; goes_on = events.serves };
+      accepted = taken.accepted;
+      keeps = λ x.
+          never_stuck s.definition (well_read bytes s.definition taken.denoted) taken.accepted [] taken.ready (events_served s.definition 1 lines outcomes)
+          (all_read bytes s.definition taken.denoted 1 lines outcomes) x;
       front = events.front;
       after = events.after;
       shows = events.shows;

@@ -444,7 +444,7 @@ pub status_is_no_fault : (status : ℕ) (o : Outcome) → status ≢ 4 → statu
 status_is_no_fault status (said lines) h = h
 status_is_no_fault status (refused refusal) h = λ e. absurd (omega arith)
 status_is_no_fault status (cut_off refusal) h = λ e. absurd (omega arith)
-status_is_no_fault status (stopped halt lines) h = λ e. absurd (omega arith)
+status_is_no_fault status (stopped lines) h = λ e. absurd (omega arith)
 
 -- the lines that were said since
 pub said_since : {X : Type 0} (f : X → List ℕ) (before after : List X) (now new : List (List ℕ)) → map f before ≡ now → map f after ≡ new

@@ -1,17 +1,16 @@
 -- What a check of a definition comes to, and what is written of it.
-use Rattle.std.specs.Prelude.{◌≡◌, ◌⊎◌, ℕ, Bool, true, false, List, ◌++◌, codes, Option, None, Some, Ok, Err}
+use Rattle.std.specs.Prelude.{◌≡◌, ◌⊎◌, ℕ, Bool, true, false, List, Option, None, Some, Ok, Err}
 use Rattle.std.specs.Io.KnownBytes.{Appends}
 use Rattle.ui_machine.specs.Definition.{Definition}
 use Rattle.law_typing.specs.Rules.Faults.{Fault}
 use Rattle.law_typing.specs.Verdict.Accepted.{Accepted}
-use Rattle.law_typing.specs.Verdict.FaultText.{refused_line}
 use Rattle.law_typing.specs.Verdict.Judges.{Judges}
 use Rattle.builder_defs.specs.Refusals.{Refusal}
 use Rattle.builder_defs.specs.Denoted.{denoted}
 use Rattle.verified.specs.Lines.{report_of}
 use Rattle.verified.specs.Writing.{AppendsLines, lines_text}
 use Rattle.event_lines.specs.Texts.{definition_refused, nothing_begun}
-use Rattle.event_lines.specs.Opening.{Concludes}
+use Rattle.event_lines.specs.Opening.{Concludes, rejected_text}
 
 pub data Check : Type 0 where
   refused : Refusal → Check  -- the definition's bytes denote none
@@ -40,7 +39,7 @@ IsReported lines status torn old new =
 abbrev pub Shows : Check → ℕ → Bool → Option (List ℕ) → Option (List ℕ) → Type 0
 Shows (refused refusal) status torn old new = IsSaid (definition_refused refusal) 1 status torn old new
 Shows unjudged status torn old new = IsSaid nothing_begun 3 status torn old new
-Shows (rejected d fault) status torn old new = IsSaid (refused_line d fault ++ codes "\n") 1 status torn old new
+Shows (rejected d fault) status torn old new = IsSaid (rejected_text d fault) 1 status torn old new
 Shows (accepted d) status torn old new = Accepted d × ((a : Accepted d) → IsReported (report_of d a) status torn old new)
 
 -- a check of these bytes with this status, whose writer failed or not, and had taken the first bytes before and the last after it

@@ -1,8 +1,6 @@
 -- What a run over the lines of a text may come to.
 use Rattle.std.specs.Prelude.{min, ◌≡◌, ◌≢◌, ◌≤◌, ℕ, ◌+◌, ◌⊎◌, Bool, true, false, ◌||◌, List, [], ◌∷◌, ◌++◌, length, take, fold, nat_lt, nat_eq, if◌then◌else◌, Option}
 use Rattle.std.specs.List.{list_all, list_any}
-use Rattle.ui_machine.specs.declared.arm.Halt.{Halt}
-use Rattle.ui_machine.specs.declared.arm.Halt.TheVariants as halts
 use Rattle.ui_machine.specs.Limits.{most_line_bytes, most_lines}
 use Rattle.ui_machine.specs.Prefix.{IsPrefix}
 use Rattle.event_lines.specs.declared.refusal.LineRefusal.{LineRefusal}
@@ -16,14 +14,14 @@ pub data Outcome : Type 0 where
   said : List (List ℕ) → Outcome  -- these lines; none for a line of blanks
   refused : LineRefusal → Outcome  -- by this refusal, and the run goes on
   cut_off : LineRefusal → Outcome  -- by this refusal, and the run ends
-  stopped : Halt → List (List ℕ) → Outcome  -- these lines, and then the run stops
+  stopped : List (List ℕ) → Outcome  -- these lines, and then no memory is found and the run ends
 
 -- what is written for the line numbered n
 abbrev pub text_at : ℕ → Outcome → List ℕ
 text_at n (said lines) = lines_text lines
 text_at n (refused refusal) = refused_line n refusal
 text_at n (cut_off refusal) = refused_line n refusal
-text_at n (stopped halt lines) = lines_text lines ++ stopped_line n halt
+text_at n (stopped lines) = lines_text lines ++ stopped_line n
 
 -- what is written for these lines, the first of them numbered n
 abbrev pub text_from : ℕ → List Outcome → List ℕ
@@ -34,14 +32,14 @@ abbrev pub ends : Outcome → Bool
 ends (said lines) = false
 ends (refused refusal) = false
 ends (cut_off refusal) = true
-ends (stopped halt lines) = true
+ends (stopped lines) = true
 
 -- the status after a line, from the one before it
 abbrev pub status_after : ℕ → Outcome → ℕ
 status_after status (said lines) = status
 status_after status (refused refusal) = 5
 status_after status (cut_off refusal) = 5
-status_after status (stopped halt lines) = 3
+status_after status (stopped lines) = 3
 
 abbrev pub status_of : List Outcome → ℕ
 status_of outcomes = fold status_after 0 outcomes
@@ -79,7 +77,7 @@ Meets replies event old line outcome new = replies old line outcome new
 
 -- the line numbered n may come to this outcome: its sort's, or want of memory before that
 abbrev pub LineComesTo : {S : Type 0} → Replies S → S → ℕ → List ℕ → Outcome → S → Type 0
-LineComesTo replies old n line outcome new = Meets replies (sort_of_line n line) old line outcome new ⊎ ((outcome ≡ stopped halts.OutOfMemory []) × (new ≡ old))
+LineComesTo replies old n line outcome new = Meets replies (sort_of_line n line) old line outcome new ⊎ ((outcome ≡ stopped []) × (new ≡ old))
 
 -- the first of these lines, the first of all numbered n, come to these outcomes, one after the other, and none comes after an end; what
 -- was said of a line is forgotten before the next

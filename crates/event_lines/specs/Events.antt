@@ -1,6 +1,5 @@
 -- What an event line may come to in a session.
 use Rattle.std.specs.Prelude.{◌≡◌, ◌⊎◌, ℕ, true, false, List, [], ◌++◌, Some, Ok, Err}
-use Rattle.ui_machine.specs.declared.arm.Halt.{Halt}
 use Rattle.ui_machine.specs.declared.arm.Halt.TheVariants as halts
 use Rattle.ui_machine.specs.State.Tasks.{Event}
 use Rattle.ui_machine.specs.Rules.Events.{Refusal, refusal}
@@ -21,11 +20,11 @@ pub record Says (old : SessionState) (line : List ℕ) (lines : List (List ℕ))
   pub definition : new.definition ≡ old.definition
   pub goes_on : new.stopped ≡ false
 
--- the line is an event, whose dispatch says these lines and halts, and the session stops with it
-pub record Halting (old : SessionState) (line : List ℕ) (halt : Halt) (lines : List (List ℕ)) (new : SessionState) : Type 0 where
+-- the line is an event, whose dispatch says these lines, and then no memory is found, and the session stops with it
+pub record BrokenOff (old : SessionState) (line : List ℕ) (lines : List (List ℕ)) (new : SessionState) : Type 0 where
   pub event : Event
   pub denotes : event_denoted old.definition line ≡ Ok event
-  pub halts : HaltsIn old.definition event [] old.world halt new.world.transcript
+  pub breaks_off : HaltsIn old.definition event [] old.world halts.OutOfMemory new.world.transcript
   pub shows : new.world.transcript ≡ old.world.transcript ++ lines
   pub definition : new.definition ≡ old.definition
   pub stops : new.stopped ≡ true
@@ -51,4 +50,4 @@ abbrev pub event_replies : Replies SessionState
 event_replies old line (said lines) new = Says old line lines new
 event_replies old line (refused r) new = IsRefused old line r × (new ≡ old)
 event_replies old line (cut_off r) new = ⊥
-event_replies old line (stopped halt lines) new = Halting old line halt lines new ⊎ ((halt ≡ halts.OutOfMemory) × (lines ≡ []) × (new ≡ old))
+event_replies old line (stopped lines) new = BrokenOff old line lines new ⊎ ((lines ≡ []) × (new ≡ old))

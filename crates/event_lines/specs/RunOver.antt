@@ -1,11 +1,14 @@
 -- The run of the machine that the lines of an event file come to.
 use Rattle.std.specs.Prelude.{◌≡◌, ◌⊎◌, ℕ, ◌+◌, List, [], ◌∷◌, ◌++◌, Result, Ok, Err}
-use Rattle.ui_machine.specs.declared.arm.Halt.{Halt}
+use Rattle.ui_machine.specs.declared.arm.Halt.TheVariants as halts
 use Rattle.ui_machine.specs.Definition.{Definition}
 use Rattle.ui_machine.specs.State.Tasks.{Event}
 use Rattle.ui_machine.specs.State.Config.{World}
 use Rattle.ui_machine.specs.Runs.{Tally, IsRun, HaltsIn}
 use Rattle.machine_laws.specs.FrontLaws.{fronted}
+use Rattle.law_typing.specs.Verdict.Accepted.{Accepted}
+use Rattle.law_sessions.specs.Dispatches.{Keeps}
+use Rattle.law_sessions.specs.Sessions.{Dispatch, beginning_of, entry_to}
 use Rattle.builder_defs.specs.EventMeaning.{EventRefusal, event_denoted}
 use Rattle.ui_engine.specs.SessionView.{SessionState}
 use Rattle.event_lines.specs.EventFileRun as file_run
@@ -24,7 +27,7 @@ abbrev pub event_served : Definition → ℕ → List ℕ → Outcome → List E
 event_served d n line (said lines) = event_of_line (sort_of_line n line) (event_denoted d line)
 event_served d n line (refused r) = event_of_line (sort_of_line n line) (event_denoted d line)
 event_served d n line (cut_off r) = []
-event_served d n line (stopped halt lines) = []
+event_served d n line (stopped lines) = []
 
 -- the events that the first of these lines came to, the first of all numbered n
 abbrev pub events_served : Definition → ℕ → List (List ℕ) → List Outcome → List Event
@@ -37,25 +40,27 @@ abbrev pub said_of : Outcome → List (List ℕ)
 said_of (said lines) = lines
 said_of (refused r) = []
 said_of (cut_off r) = []
-said_of (stopped halt lines) = lines
+said_of (stopped lines) = lines
 
 -- all of them, in order
 abbrev pub said_in : List Outcome → List (List ℕ)
 said_in [] = []
 said_in (outcome ∷ outcomes) = said_of outcome ++ said_in outcomes
 
--- one more event halts
-pub record HaltsNext (d : Definition) (w new : World) : Type 0 where
+-- in one more event no memory is found
+pub record BreaksOffNext (d : Definition) (w new : World) : Type 0 where
   pub event : Event
-  pub halt : Halt
-  pub halts : HaltsIn d event [] w halt new.transcript
+  pub breaks_off : HaltsIn d event [] w halts.OutOfMemory new.transcript
 
 -- The build of a session and the events that were served are a run of the machine; where the session stopped in an event, that one
--- halted after it. The session has forgotten the lines in front of its own: with them its lines are all that were said.
+-- broke off after it. The definition is accepted, and no dispatch of the run is ever stuck: each keeps what is promised of it, its bound
+-- among that. The session has forgotten the lines in front of its own: with them its lines are all that were said.
 pub record RunsOver (s : SessionState) (lines : List (List ℕ)) (outcomes : List Outcome) (new : SessionState) : Type 0 where
   pub tally : Tally
   pub last : World
   pub run : IsRun s.definition [] (events_served s.definition 1 lines outcomes) [] tally last
+  pub accepted : Accepted s.definition
+  pub keeps : (x : Dispatch s.definition [] (events_served s.definition 1 lines outcomes)) → Keeps s.definition accepted (entry_to x) (beginning_of x)
   pub front : List (List ℕ)
-  pub after : (last ≡ fronted front new.world) ⊎ HaltsNext s.definition last (fronted front new.world)
+  pub after : (last ≡ fronted front new.world) ⊎ BreaksOffNext s.definition last (fronted front new.world)
   pub shows : front ++ new.world.transcript ≡ s.world.transcript ++ said_in outcomes

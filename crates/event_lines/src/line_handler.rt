@@ -8,15 +8,14 @@ use crate::refusal::LineRefusal;
 use builder_defs::{EventError, read_event};
 use std::alloc::Global;
 use ui_engine::{Session, SessionFault};
-use ui_machine::Halt;
 
 /// Why an event line was not carried out to its end.
 #[derive(Clone, Copy, Debug, PartialEq, Eq)]
 pub enum LineFault {
     /// It is refused, and the run goes on.
     Refused(LineRefusal),
-    /// The run ends there.
-    Stopped(Halt),
+    /// No memory was found, and the run ends there.
+    Stopped,
 }
 
 impl From<EventError> for LineFault {
@@ -27,7 +26,7 @@ impl From<EventError> for LineFault {
 
     fn from(error: EventError) -> LineFault {
         match error {
-            EventError::OutOfMemory => LineFault::Stopped(Halt::OutOfMemory),
+            EventError::OutOfMemory => LineFault::Stopped,
             EventError::Refused(fault) => LineFault::Refused(LineRefusal::from(fault)),
         }
     }
@@ -42,10 +41,7 @@ impl From<SessionFault> for LineFault {
     // A session that has stopped carries nothing out, as if it found no memory for it.
     fn from(fault: SessionFault) -> LineFault {
         match fault {
-            SessionFault::OutOfMemory | SessionFault::Stopped => {
-                LineFault::Stopped(Halt::OutOfMemory)
-            }
-            SessionFault::Stuck(arm) => LineFault::Stopped(Halt::Stuck(arm)),
+            SessionFault::OutOfMemory | SessionFault::Stopped => LineFault::Stopped,
             SessionFault::ClockBack => LineFault::Refused(LineRefusal::ClockBack),
             SessionFault::Released => LineFault::Refused(LineRefusal::Released),
         }
@@ -96,7 +92,8 @@ impl LineHandler for Session {
     }
 
     fn handle(&mut self, alloc: Global, line: &[u8]) -> Result<(), LineFault> {
-        let event = read_event(alloc, self.definition(), line)?;
+        let definition = self.definition();
+        let event = read_event(alloc, definition, line)?;
         self.dispatch(event)?;
         Ok(())
     }

@@ -11,7 +11,6 @@ use crate::line_handler::{LineFault, LineHandler};
 use crate::line_reader::Found;
 use crate::refusal::LineRefusal;
 use std::alloc::Global;
-use ui_machine::Halt;
 
 /// What a line came to, beside the lines that were said.
 #[derive(Clone, Copy, Debug, PartialEq, Eq)]
@@ -20,8 +19,8 @@ pub enum LineOutcome {
     Refused(LineRefusal),
     /// It was refused, and the run ends.
     CutOff(LineRefusal),
-    /// The run ends within it.
-    Stopped(Halt),
+    /// No memory was found for it, and the run ends.
+    Stopped,
 }
 
 impl LineOutcome {
@@ -31,7 +30,7 @@ impl LineOutcome {
     {
         match self {
             LineOutcome::Said | LineOutcome::Refused(_) => false,
-            LineOutcome::CutOff(_) | LineOutcome::Stopped(_) => true,
+            LineOutcome::CutOff(_) | LineOutcome::Stopped => true,
         }
     }
 
@@ -42,7 +41,7 @@ impl LineOutcome {
         match self {
             LineOutcome::Said => status,
             LineOutcome::Refused(_) | LineOutcome::CutOff(_) => 5,
-            LineOutcome::Stopped(_) => 3,
+            LineOutcome::Stopped => 3,
         }
     }
 }
@@ -68,7 +67,7 @@ pub fn handle_line<L: LineHandler>(
     ensures goes_on { (said : List (List ℕ)) → ends (outcome_with result said) ≡ false → (number ≤ most_lines) × (found ≡ Found.Whole) }
 {
     if found == Found::NoMemory {
-        return LineOutcome::Stopped(Halt::OutOfMemory);
+        return LineOutcome::Stopped;
     }
     if number > MAX_LINES {
         return LineOutcome::CutOff(LineRefusal::TooMany);
@@ -82,6 +81,6 @@ pub fn handle_line<L: LineHandler>(
     match handler.handle(alloc, buffer) {
         Ok(()) => return LineOutcome::Said,
         Err(LineFault::Refused(refusal)) => return LineOutcome::Refused(refusal),
-        Err(LineFault::Stopped(halt)) => return LineOutcome::Stopped(halt),
+        Err(LineFault::Stopped) => return LineOutcome::Stopped,
     }
 }

@@ -1,75 +1,51 @@
-//! How a run opens: the definition is read and built.
+//! How a run opens: the definition is read, verified and built.
 
-ghost use Rattle.std.specs.Prelude.{◌≡◌, ℕ, List, Ok, Err};
-ghost use Rattle.builder_defs.specs.Refusals.{refusal};
+ghost use Rattle.std.specs.Prelude.{◌≡◌, ℕ, List, None, Ok};
+ghost use Rattle.law_typing.specs.Verdict.Judges.{Judges};
 ghost use Rattle.builder_defs.specs.Denoted.{denoted};
-ghost use Rattle.event_lines.specs.OpeningView.{Opened, halt_of};
+ghost use Rattle.event_lines.specs.OpeningView.{Opened};
 
-use builder_defs::{Definition, DefinitionFault, ReadError, read_definition};
+use crate::definition_checks::{Judgement, judge};
 use std::alloc::Global;
-use ui_engine::{Reply, Session, SessionFault, Started};
-use ui_machine::Halt;
+use ui_engine::{Session, Started};
+use verified::Verified;
 
 /// What the bytes of a definition came to.
 #[derive(Drop)]
 pub enum Opening {
-    /// They denote none: the name of the fault and its fields.
+    /// Reading or the verdict refuses them: the name of the fault and its fields.
     Refused(String),
     /// No memory was found before the build.
     Unbegun,
-    /// The build stopped.
-    Stopped(Session, Halt),
-    /// The definition stands.
+    /// No memory was found in the build.
+    Stopped(Session),
+    /// The definition is built.
     Built(Session),
 }
 
-/// Reads a definition and builds it.
+/// Reads a definition, verifies it and builds it.
 pub fn open(alloc: Global, bytes: &[u8]) -> Opening
     ensures { Opened bytes.now result }
 {
-    match read_definition(alloc, bytes) {
-        Ok(definition) => return build(alloc, definition),
-        Err(ReadError::OutOfMemory) => return Opening::Unbegun,
-        Err(ReadError::Refused(fault)) => return refused(alloc, &fault),
+    match judge(alloc, bytes) {
+        Judgement::Refused(text) => return Opening::Refused(text),
+        Judgement::Unjudged => return Opening::Unbegun,
+        Judgement::Accepted(verified) => return build(alloc, verified),
     }
 }
 
-// The refusal of a definition's bytes.
-fn refused(alloc: Global, fault: &DefinitionFault) -> Opening
-    ensures { (bytes : List ℕ) → denoted bytes ≡ Err (refusal fault.now) → Opened bytes result }
+// Builds a verified definition.
+fn build(alloc: Global, verified: Verified) -> Opening
+    ensures { (bytes : List ℕ) → denoted bytes ≡ Ok verified → Judges verified None → Opened bytes result }
 {
-    match fault.text(alloc) {
-        Ok(text) => return Opening::Refused(text),
-        Err(_) => return Opening::Unbegun,
-    }
-}
-
-// Builds a definition.
-fn build(alloc: Global, definition: Definition) -> Opening
-    ensures { (bytes : List ℕ) → denoted bytes ≡ Ok definition → Opened bytes result }
-{
-    let Ok(started) = Session::start(alloc, definition) else {
+    // For the proof: a verified definition is accepted, and wants no peers.
+    let _types = verified.definition().types();
+    let Ok(started) = Session::start(alloc, verified) else {
         return Opening::Unbegun;
     };
     let Started { session, build } = started;
-    match halt_of(&build) {
-        None => Opening::Built(session),
-        Some(halt) => Opening::Stopped(session, halt),
-    }
-}
-
-// What a build stopped by, if it did.
-fn halt_of(build: &Result<Reply, SessionFault>) -> Option<Halt>
-    ensures { result ≡ halt_of build.now }
-{
     match build {
-        Ok(_) => None,
-        Err(SessionFault::Stuck(arm)) => Some(Halt::Stuck(*arm)),
-        Err(
-            SessionFault::OutOfMemory
-            | SessionFault::Stopped
-            | SessionFault::ClockBack
-            | SessionFault::Released,
-        ) => Some(Halt::OutOfMemory),
+        Ok(_) => return Opening::Built(session),
+        Err(_) => return Opening::Stopped(session),
     }
 }

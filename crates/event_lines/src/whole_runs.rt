@@ -11,14 +11,14 @@ use crate::devices::{Reader, Writer};
 use crate::event_file::handle_lines;
 use crate::gather::Gather;
 use crate::opening::{Opening, open};
-use crate::writing::{put_lines, put_parts, stop_name};
+use crate::writing::{put_lines, put_parts};
 use std::alloc::Global;
 use ui_engine::Session;
-use ui_machine::{DeviceFault, Halt};
+use ui_machine::DeviceFault;
 
-/// Runs a definition over the event lines of a reader, writes the transcript as it grows, and answers the status: 0; 1 where the
-/// definition is refused; 3 where memory was wanted; 4 where a device failed; 5 where a line was refused. The first of 1, 3 and 4 ends
-/// the run. All that was said is written before anything is read. Where the build does not stand nothing is read.
+/// Verifies a definition and runs it over the event lines of a reader, writes the transcript as it grows, and answers the status: 0; 1 where
+/// the definition is refused; 3 where memory was wanted; 4 where a device failed; 5 where a line was refused. The first of 1, 3 and 4 ends
+/// the run. All that was said is written before anything is read. Nothing is read where the definition is refused or not built.
 pub fn run<R: Reader, W: Writer>(
     alloc: Global,
     definition: &[u8],
@@ -39,7 +39,7 @@ pub fn run<R: Reader, W: Writer>(
     match open(alloc, definition) {
         Opening::Refused(text) => refuse(writer, &text),
         Opening::Unbegun => refuse_for_memory(writer),
-        Opening::Stopped(session, halt) => stop(writer, &session, halt),
+        Opening::Stopped(session) => stop(writer, &session),
         Opening::Built(session) => play(alloc, session, reader, writer),
     }
 }
@@ -72,13 +72,13 @@ pub(crate) fn refuse_for_memory<W: Writer>(writer: &mut W) -> u8
 }
 
 // The lines of a build that stopped.
-fn stop<W: Writer>(writer: &mut W, session: &Session, halt: Halt) -> u8
+fn stop<W: Writer>(writer: &mut W, session: &Session) -> u8
     requires works { W.failed writer.old ≡ false }
-    ensures concludes { (out : List ℕ) × Concludes (lines_text session.now.world.transcript ++ build_stopped halt) 3 result (W.failed writer.new) out × Sends 0 0 (W.sent writer.old) (W.sent writer.new) out }
+    ensures concludes { (out : List ℕ) × Concludes (lines_text session.now.world.transcript ++ build_stopped) 3 result (W.failed writer.new) out × Sends 0 0 (W.sent writer.old) (W.sent writer.new) out }
     ensures marks { IsMarked result (W.failed writer.new) }
 {
     let mut gather = Gather::new();
-    let Ok(()) = put_build(&mut gather, writer, session, halt) else {
+    let Ok(()) = put_build(&mut gather, writer, session) else {
         return 4;
     };
     gather.finish(writer, 3)
@@ -88,29 +88,15 @@ fn put_build<W: Writer>(
     gather: &mut Gather,
     writer: &mut W,
     session: &Session,
-    halt: Halt,
 ) -> Result<(), DeviceFault>
     requires works { W.failed writer.old ≡ false }
-    ensures puts { Puts result (W.sent writer.old) gather.old (W.sent writer.new) gather.new (lines_text session.now.world.transcript ++ build_stopped halt) }
+    ensures puts { Puts result (W.sent writer.old) gather.old (W.sent writer.new) gather.new (lines_text session.now.world.transcript ++ build_stopped) }
     ensures marks { MatchResult result (λ _. W.failed writer.new ≡ false) (λ _. W.failed writer.new ≡ true) }
 {
     let Ok(()) = put_lines(gather, writer, session.transcript()) else {
         return Err(DeviceFault);
     };
-    put_build_stopped(gather, writer, halt)
-}
-
-fn put_build_stopped<W: Writer>(
-    gather: &mut Gather,
-    writer: &mut W,
-    halt: Halt,
-) -> Result<(), DeviceFault>
-    requires works { W.failed writer.old ≡ false }
-    ensures puts { Puts result (W.sent writer.old) gather.old (W.sent writer.new) gather.new (build_stopped halt) }
-    ensures marks { MatchResult result (λ _. W.failed writer.new ≡ false) (λ _. W.failed writer.new ≡ true) }
-{
-    let name = stop_name(halt).as_bytes();
-    put_parts(gather, writer, &[b"build stopped: ", name, b"\n"])
+    gather.put(writer, b"build stopped: OutOfMemory\n")
 }
 
 // The lines of the build, and those of the events.

@@ -2,7 +2,7 @@
 
 ghost use Rattle.std.specs.Prelude.{◌≡◌, true, List, map, flat_map, MatchResult, string_bytes, false};
 ghost use Rattle.event_lines.specs.Writing.{Puts};
-ghost use Rattle.event_lines.specs.Texts.{joined, lines_text, refused_line, stopped_line, stop_name};
+ghost use Rattle.event_lines.specs.Texts.{joined, lines_text, refused_line, stopped_line};
 ghost use Rattle.event_lines.specs.EventFileRun.{text_at};
 ghost use Rattle.event_lines.specs.LineOutcome.{outcome_with};
 
@@ -11,7 +11,7 @@ use crate::gather::Gather;
 use crate::line_outcome::LineOutcome;
 use crate::refusal::LineRefusal;
 use itoa::Buffer;
-use ui_machine::{Arm, DeviceFault, Halt};
+use ui_machine::DeviceFault;
 
 /// Says texts one after the other.
 pub fn put_parts<W: Writer>(
@@ -49,28 +49,6 @@ pub fn put_lines<W: Writer>(
     Ok(())
 }
 
-/// The name of what a run stopped by.
-pub fn stop_name(halt: Halt) -> &'static str
-    ensures { result.now ≡ stop_name halt }
-{
-    match halt {
-        Halt::OutOfMemory => "OutOfMemory",
-        Halt::Stuck(Arm::Register) => "F1",
-        Halt::Stuck(Arm::Value) => "F2",
-        Halt::Stuck(Arm::ConstructOnly) => "F3",
-        Halt::Stuck(Arm::Flags) => "F4",
-        Halt::Stuck(Arm::Operand) => "F5",
-        Halt::Stuck(Arm::Argument) => "F6",
-        Halt::Stuck(Arm::Parameters) => "F7",
-        Halt::Stuck(Arm::Freeze) => "F8",
-        Halt::Stuck(Arm::Call) => "F9",
-        Halt::Stuck(Arm::Code) => "F10",
-        Halt::Stuck(Arm::Result) => "F11",
-        Halt::Stuck(Arm::Abstract) => "F12",
-        Halt::Stuck(Arm::Steps) => "F13",
-    }
-}
-
 fn put_refused<W: Writer>(
     gather: &mut Gather,
     writer: &mut W,
@@ -100,10 +78,9 @@ fn put_stopped<W: Writer>(
     gather: &mut Gather,
     writer: &mut W,
     number: u64,
-    halt: Halt,
 ) -> Result<(), DeviceFault>
     requires works { W.failed writer.old ≡ false }
-    ensures puts { Puts result (W.sent writer.old) gather.old (W.sent writer.new) gather.new (stopped_line number halt) }
+    ensures puts { Puts result (W.sent writer.old) gather.old (W.sent writer.new) gather.new (stopped_line number) }
     ensures marks { MatchResult result (λ _. W.failed writer.new ≡ false) (λ _. W.failed writer.new ≡ true) }
 {
     let mut digits = Buffer::new();
@@ -111,13 +88,7 @@ fn put_stopped<W: Writer>(
     put_parts(
         gather,
         writer,
-        &[
-            b"line ",
-            number,
-            b" stopped: ",
-            stop_name(halt).as_bytes(),
-            b"\n",
-        ],
+        &[b"line ", number, b" stopped: OutOfMemory\n"],
     )
 }
 
@@ -137,11 +108,11 @@ pub fn put_outcome<W: Writer>(
         LineOutcome::Said => put_lines(gather, writer, lines),
         LineOutcome::Refused(refusal) => put_refused(gather, writer, number, refusal),
         LineOutcome::CutOff(refusal) => put_refused(gather, writer, number, refusal),
-        LineOutcome::Stopped(halt) => {
+        LineOutcome::Stopped => {
             let Ok(()) = put_lines(gather, writer, lines) else {
                 return Err(DeviceFault);
             };
-            put_stopped(gather, writer, number, halt)
+            put_stopped(gather, writer, number)
         }
     }
 }

@@ -1,5 +1,5 @@
 -- A request that names no released object is served by one dispatch, and each other is refused.
-use Rattle.std.proofs.Common.{◌≡◌, Bool, true, false, [], Option, Some, None, Result, Ok, Err, refl, sym, ap, subst}
+use Rattle.std.proofs.Common.{◌≡◌, Bool, true, false, [], Option, Some, None, Result, Ok, Err, refl, sym, ap, subst, ◌∙◌}
 use Rattle.ui_machine.specs.Definition.{Definition}
 use Rattle.ui_machine.specs.Rules.Events.{names_released, Refusal, gone, refusal}
 use Rattle.ui_machine.specs.Runs as runs
@@ -25,8 +25,7 @@ module _ (d : Definition) (w : World) (r : Request) where
     definition = ends.definition;
     goes_on = ends.goes_on;
   }
-  serves none (Err faults.OutOfMemory) new breaks = record { halts = breaks.halts; definition = breaks.definition; stops = breaks.stops }
-  serves none (Err (faults.Stuck arm)) new breaks = record { halts = breaks.halts; definition = breaks.definition; stops = breaks.stops }
+  serves none (Err faults.OutOfMemory) new breaks = record { breaks_off = breaks.breaks_off; definition = breaks.definition; stops = breaks.stops }
   serves none (Err faults.Stopped) new never = absurd never
   serves none (Err faults.ClockBack) new never = absurd never
   serves none (Err faults.Released) new never = absurd never
@@ -46,3 +45,9 @@ module _ (old : SessionState) (r : code.Request) where
   refuses names =
       subst (λ (why : Option Refusal). AnswersBy why (Err faults.Released) old (config.request (request_of r)) old)
       (sym (refused_by old.definition old.world (request_of r) true names)) (refl, refl)
+
+-- a request that names what was released is not let through
+pub refused_apart : (old : SessionState) (r : Request) → names_released old.world r ≡ true → refusal old.world (config.request r) ≡ None → ⊥
+refused_apart old r names none =
+    let some : ◌≡◌ {A = Option Refusal} (Some gone) None = sym (refused_by old.definition old.world r true names) ∙ none in
+    cc some

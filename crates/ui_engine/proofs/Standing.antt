@@ -4,15 +4,14 @@ use Rattle.std.proofs.Common.{◌≡◌, ◌∙◌, refl, sym, ap, subst, ℕ, B
 use Rattle.std.specs.Prelude.{IfOk, slice_get, ◌||◌}
 use Rattle.ui_machine.specs.declared.arm.Arm.{Arm}
 use Rattle.ui_machine.specs.declared.arm.Arm.TheVariants as arms
-use Rattle.ui_machine.specs.declared.arm.Halt.{Halt}
 use Rattle.ui_machine.specs.declared.arm.Halt.TheVariants as halts
 use Rattle.ui_machine.specs.Definition.{Definition}
-use Rattle.ui_machine.specs.Outcome.{Answer, Stops, known}
+use Rattle.ui_machine.specs.Outcome.{Answer, known}
 use Rattle.ui_machine.specs.Rules.Accumulation.{given_to, running_handler}
 use Rattle.ui_machine.specs.Rules.Build.{building_binding, first_transfer, held_object, new_binding, with_binding}
 use Rattle.ui_machine.specs.Rules.Programs.{program_before}
 use Rattle.ui_machine.specs.Rules.Sets.{is_disposed}
-use Rattle.ui_machine.specs.Runs.{Halts, HaltsAt, HasEnded, Reaches}
+use Rattle.ui_machine.specs.Runs.{Halts, HasEnded, Reaches}
 use Rattle.ui_machine.specs.Rules.Transfers.{transfer_for}
 use Rattle.ui_machine.specs.State.Bindings.{Binding, binding_of}
 use Rattle.ui_machine.specs.State.Config.{Config, Started, World, starts}
@@ -27,7 +26,9 @@ use Rattle.machine_laws.proofs.GoneProofs.{pruned_again, question_does_without, 
 use Rattle.machine_laws.proofs.KeptSteps.{steps_keep_gone}
 use Rattle.signal_core.specs.Laws.{is_passed_over}
 use Rattle.engine_world.specs.Standing.{Arrives, Breaks, Follows, entries_due, gone_handlers, makes_no_transfer, with_first, without_gone}
-use Rattle.ui_engine.specs.Stepping.{NoneUnheld}
+use Rattle.law_sessions.specs.Dispatches.{IsUnstuck}
+use Rattle.law_sessions.proofs.SafeProofs.{safe_stays}
+use Rattle.ui_engine.specs.Stepping.{ComesOfSafe, IsSafe, NoneUnheld}
 use Rattle.engine_world.proofs.Gone.{first_stands, handlers_are_gone, with_first_stays}
 use Rattle.engine_world.proofs.Floats.{bind_ok, if_ok_at}
 use Rattle.ui_engine.proofs.Reaching.{halts_on, reaches_here, reaches_on, reaches_once}
@@ -182,12 +183,14 @@ module _ (d : Definition) where
               ∙ ap (pruned_at (gone_handlers x.world)) to.2;
         }
 
-    halts_by : (arm : Arm) → (next_unheld (mentions d m) m.world.objects ≡ None → is_next (gone_handlers m.world) m.agenda ≡ false) → question d c ≡ None → step d None c ≡ Err arm → HaltsAt d m (halts.Stuck arm)
-    halts_by arm apart asks is = record {
-      reply = None;
-      asks = asks_so ∙ asks;
-      stuck = stuck (pruned_at (gone_handlers m.world)) (step d None m) arm (sym (steps_so apart) ∙ is);
-    }
+    -- where the machine is not stuck, neither is the engine
+    not_stuck : IsUnstuck d m → (arm : Arm) → (next_unheld (mentions d m) m.world.objects ≡ None → is_next (gone_handlers m.world) m.agenda ≡ false) → question d c ≡ None → step d None c ≡ Err arm → ⊥
+    not_stuck free arm apart asks is =
+        free arm (record {
+          reply = None;
+          asks = asks_so ∙ asks;
+          stuck = stuck (pruned_at (gone_handlers m.world)) (step d None m) arm (sym (steps_so apart) ∙ is);
+        }) tt
 
   -- where nothing is to be finalised the first task comes first
   module _ (c : Config) (none : NoneUnheld d c) where
@@ -217,19 +220,11 @@ module _ (d : Definition) where
           record { at = next.at; reached = reaches_on d (first_on m stands) next.reached; stands = next.stands ∙ shows };
     }
 
-    pub first_breaks : (halt : Halt) (shown : List (List ℕ)) → asked_first c.world c.agenda ≡ None → Stops halt (act d c.world None (with_first c.world c.agenda) c.counted)
-        → shown ≡ c.world.transcript → Breaks d c halt shown
-    first_breaks halts.OutOfMemory shown asks is same = record {
-      halts = λ m stands. record { at = m; reached = reaches_here d m; stops = tt; lines = ap (λ (w : World). w.transcript) (same_world c m stands) ∙ sym same };
-    }
-    first_breaks (halts.Stuck arm) shown asks is same = record {
-      halts = λ m stands. record {
-        at = at_first m;
-        reached = first_on m stands;
-        stops = halts_by (at_first c) (at_first m) (first_shows m stands) arm (λ _. first_apart m) (asks_first asks) (acts_first ∙ is);
-        lines = ap (λ (w : World). w.transcript) (same_world c m stands) ∙ sym same;
-      };
-    }
+    -- from where no run is stuck the first task can act
+    pub first_acts : ComesOfSafe d c → (arm : Arm) → asked_first c.world c.agenda ≡ None → act d c.world None (with_first c.world c.agenda) c.counted ≡ Err arm → ⊥
+    first_acts safe arm asks is =
+        let m = safe.at in
+        not_stuck (at_first c) (at_first m) (first_shows m safe.is) (safe.safe.safe.unstuck [] tt (at_first m) (first_on m safe.is)) arm (λ _. first_apart m) (asks_first asks) (acts_first ∙ is)
 
   -- where an object is finalised nothing else is done
   module _ (c : Config) (id : ℕ) (unheld : next_unheld (mentions d c) c.world.objects ≡ Some id) where
@@ -249,18 +244,17 @@ module _ (d : Definition) where
           record { at = next.at; reached = next.reached; stands = next.stands ∙ shows };
     }
 
-    pub last_breaks : (halt : Halt) (shown : List (List ℕ)) → Stops halt (step d None c) → shown ≡ c.world.transcript → Breaks d c halt shown
-    last_breaks halts.OutOfMemory shown is same = record {
-      halts = λ m stands. record { at = m; reached = reaches_here d m; stops = tt; lines = ap (λ (w : World). w.transcript) (same_world c m stands) ∙ sym same };
-    }
-    last_breaks (halts.Stuck arm) shown is same = record {
-      halts = λ m stands. record {
-        at = m;
-        reached = reaches_here d m;
-        stops = halts_by c m stands arm (not_none m stands) asks_nothing is;
-        lines = ap (λ (w : World). w.transcript) (same_world c m stands) ∙ sym same;
-      };
-    }
+    -- from where no run is stuck it can be finalised
+    pub last_acts : ComesOfSafe d c → (arm : Arm) → step d None c ≡ Err arm → ⊥
+    last_acts safe arm is =
+        let m = safe.at in
+        not_stuck c m safe.is (safe.safe.safe.unstuck [] tt m (reaches_here d m)) arm (not_none m safe.is) asks_nothing is
+
+  -- no memory is found here
+  pub cut_off : (c : Config) (shown : List (List ℕ)) → shown ≡ c.world.transcript → Breaks d c halts.OutOfMemory shown
+  cut_off c shown same = record {
+    halts = λ m stands. record { at = m; reached = reaches_here d m; stops = tt; lines = ap (λ (w : World). w.transcript) (same_world c m stands) ∙ sym same };
+  }
 
   -- ** runs
 
@@ -276,7 +270,17 @@ module _ (d : Definition) where
         record { at = later.at; reached = reaches_on d first.reached later.reached; stands = later.stands };
   }
 
-  pub breaks_on : {c m : Config} {halt : Halt} {shown : List (List ℕ)} → Follows d c m → Breaks d m halt shown → Breaks d c halt shown
+  -- what safe configurations lead to is safe
+  pub safe_on : {c e : Config} → ComesOfSafe d c → Follows d c e → ComesOfSafe d e
+  safe_on from follows =
+      let there = follows.arrives from.at from.is in
+      record {
+        at = there.at;
+        safe = record { most = from.safe.most; safe = safe_stays d from.safe.most from.at from.safe.safe [] tt there.at there.reached };
+        is = there.stands;
+      }
+
+  pub breaks_on : {c m : Config} {shown : List (List ℕ)} → Follows d c m → Breaks d m halts.OutOfMemory shown → Breaks d c halts.OutOfMemory shown
   breaks_on p q = record {
     halts = λ x stands.
         let first = p.arrives x stands in
@@ -297,8 +301,12 @@ module _ (d : Definition) where
       no_tasks f [] none = refl
       no_tasks f (t ∷ ts) none = absurd (cc none)
 
-  pub breaks_there : (c : Config) (halt : Halt) (shown : List (List ℕ)) → without_gone c ≡ c → Breaks d c halt shown → Halts d [] c halt shown
-  breaks_there c halt shown whole breaks = breaks.halts c whole
+  pub breaks_there : (c : Config) (shown : List (List ℕ)) → without_gone c ≡ c → Breaks d c halts.OutOfMemory shown → Halts d [] c halts.OutOfMemory shown
+  breaks_there c shown whole breaks = breaks.halts c whole
 
-  pub halts_from : {c e : Config} {halt : Halt} {shown : List (List ℕ)} → c ≡ e → Halts d [] c halt shown → Halts d [] e halt shown
-  halts_from {c} {e} {halt} {shown} same h = subst (λ (x : Config). Halts d [] x halt shown) same h
+  pub halts_from : {c e : Config} {shown : List (List ℕ)} → c ≡ e → Halts d [] c halts.OutOfMemory shown → Halts d [] e halts.OutOfMemory shown
+  halts_from {c} {e} {shown} same h = subst (λ (x : Config). Halts d [] x halts.OutOfMemory shown) same h
+
+  -- a safe configuration is that of an engine which has no turns of handlers that are gone
+  pub safe_there : {c e : Config} → e ≡ c → without_gone e ≡ e → IsSafe d c → ComesOfSafe d e
+  safe_there {c} {e} same whole safe = record { at = e; safe = subst (λ (x : Config). IsSafe d x) (sym same) safe; is = whole }

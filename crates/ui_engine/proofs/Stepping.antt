@@ -1,14 +1,13 @@
 -- Where nothing is to be finalised, the machine's step is the first task's; else it is the finalisation.
 use Rattle.std.proofs.Common.{◌≡◌, ℕ, ◌≤◌, Bool, true, false, cond, map, [], length, suc, ◌<◌, List, ◌∷◌, Some, None, arith, Result, Ok, Err, refl, sym, ap, subst, ◌∙◌}
-use Rattle.std.specs.Prelude.{IfOk, OnErr}
 use Rattle.std.specs.List.{filter}
+use Rattle.ui_machine.specs.declared.arm.Arm.{Arm}
 use Rattle.ui_machine.specs.declared.arm.Halt.{Halt}
 use Rattle.ui_machine.specs.Definition.{Definition}
 use Rattle.ui_machine.specs.State.Handlers.{Handler}
 use Rattle.ui_machine.specs.State.Tasks.{Answering, Beginning, Building, Calling, Handling, Constructing, Due, Emitting, Notifying, PlanEntry, Running, Setting, Task, Thawing, Transferring, Unsetting}
 use Rattle.machine_laws.specs.GoneLaws.{Gone, pruned, stays}
 use Rattle.ui_machine.specs.State.Config.{World, Config, sunk}
-use Rattle.ui_machine.specs.Outcome.{Stops}
 use Rattle.ui_machine.specs.State.References.{mentions, next_unheld}
 use Rattle.ui_machine.specs.Seq.{total}
 use Rattle.engine_world.specs.Measure.{weight, waiting, work}
@@ -21,12 +20,15 @@ use Rattle.engine_world.specs.declared.engine.StepKind.TheVariants as mades
 use Rattle.engine_world.specs.TaskView.{task_of, tasks_of}
 use Rattle.engine_world.specs.EngineView.{IsOfKind}
 use Rattle.ui_machine.specs.Prefix.{IsPrefix}
-use Rattle.ui_machine.proofs.Prefixes.{prefix_by}
-use Rattle.engine_world.specs.Standing.{Breaks, Follows, GoesWithoutGone, gone_handlers, past_turns, with_first, without_gone}
-use Rattle.ui_engine.specs.Stepping.{NoneUnheld, Stepped}
-use Rattle.ui_engine.proofs.Standing.{first_breaks, first_follows, last_breaks, last_follows}
+use Rattle.engine_world.specs.Standing.{Follows, GoesWithoutGone, gone_handlers, past_turns, with_first, without_gone}
+use Rattle.ui_engine.specs.Stepping.{ComesOfSafe, NoneUnheld, Stepped}
+use Rattle.ui_engine.proofs.Standing.{first_acts, first_follows, last_acts, last_follows}
 use Rattle.engine_world.proofs.Floats.{if_ok_at, first_gone}
 use Rattle.ui_engine.proofs.Acts.{Passes, acted}
+
+-- an answer of code that may halt
+abbrev as_ok : {X : Type 0} → X → Result X Halt
+as_ok x = Ok x
 
 -- no task of the engine asks a peer
 asks_none : (d : Definition) (hs : List Handler) (w : World) (task : code.Task) (rest : List Task) → asked_first w (task_of d hs task ∷ rest) ≡ None
@@ -96,22 +98,28 @@ module _ (d : Definition) (hs : List Handler) (c e : Config) (none : NoneUnheld 
   less : (x : Config) → without_gone x ≡ e → work d e ≤ work d x
   less x shows = subst (λ (y : Config). work d y ≤ work d x) shows (let fewer = pruned_weighs d (gone_handlers x.world) x.agenda in omega (arith, fewer))
 
-  pub first_stepped : (result : Result StepKind Halt) → GoesWithoutGone result (act d c.world None (past_turns c.world (task_of d hs task) ∷ tasks_of d hs s) c.counted) e → IfOk result (λ made. IsOfKind made (task_of d hs task)) → OnErr result (e.world.transcript ≡ c.world.transcript) → Stepped result d c e
-  first_stepped (Ok mades.Nothing) goes made quiet = absurd made
-  first_stepped (Ok mades.Uncounted) goes made quiet =
+  -- what the first task did
+  abbrev pub ActsSo : StepKind → Type 0
+  ActsSo made = GoesWithoutGone (as_ok made) (act d c.world None (past_turns c.world (task_of d hs task) ∷ tasks_of d hs s) c.counted) e
+
+  pub first_stepped : (made : StepKind) → ActsSo made → IsOfKind made (task_of d hs task) → Stepped (Ok made) d c e
+  first_stepped mades.Nothing goes made = absurd made
+  first_stepped mades.Uncounted goes made =
       let p = passes goes.0 goes.1 in
       let now = ap (λ (x : Config). x.counted) goes.2 in
       let falls : work d goes.0 < work d c = rw first (p.falls made) in
       (follows goes.0 goes.1 goes.2, (let l = less goes.0 goes.2 in omega (arith, l, falls)), sym now ∙ p.stays made)
-  first_stepped (Ok mades.Counted) goes made quiet =
+  first_stepped mades.Counted goes made =
       let p = passes goes.0 goes.1 in
       let now = ap (λ (x : Config). x.counted) goes.2 in
       (follows goes.0 goes.1 goes.2, (p.counts made).0, sym now ∙ (p.counts made).1)
-  first_stepped (Err halt) goes made quiet = first_breaks d c none halt e.world.transcript asks (subst (Stops halt) (sym acts) goes) quiet
 
-  pub first_grows : (result : Result StepKind Halt) → GoesWithoutGone result (act d c.world None (past_turns c.world (task_of d hs task) ∷ tasks_of d hs s) c.counted) e → OnErr result (e.world.transcript ≡ c.world.transcript) → IsPrefix c.world.transcript e.world.transcript
-  first_grows (Ok made) goes quiet = subst (λ (y : Config). IsPrefix c.world.transcript y.world.transcript) goes.2 (passes goes.0 goes.1).grows
-  first_grows (Err halt) goes quiet = prefix_by quiet
+  pub first_grows : (made : StepKind) → ActsSo made → IsPrefix c.world.transcript e.world.transcript
+  first_grows made goes = subst (λ (y : Config). IsPrefix c.world.transcript y.world.transcript) goes.2 (passes goes.0 goes.1).grows
+
+  -- it is not stuck
+  pub first_can : ComesOfSafe d c → (arm : Arm) → act d c.world None (past_turns c.world (task_of d hs task) ∷ tasks_of d hs s) c.counted ≡ Err arm → ⊥
+  first_can safe arm is = first_acts d c none safe arm asks (acts ∙ is)
 
 -- the step that finalises an object
 module _ (d : Definition) (c : Config) (id : ℕ) (unheld : next_unheld (mentions d c) c.world.objects ≡ Some id) where
@@ -122,8 +130,8 @@ module _ (d : Definition) (c : Config) (id : ℕ) (unheld : next_unheld (mention
       → (c.counted < most_steps) × (e.counted ≡ suc c.counted) → Stepped (Ok mades.Counted) d c e
   finalise_stepped e x leads shows counts = (last_follows d c id unheld x e (finalises ∙ leads) shows, counts.0, counts.1)
 
-  pub finalise_breaks : (halt : Halt) (shown : List (List ℕ)) → Stops halt (counted c.agenda c.counted (finalising d c.world id)) → shown ≡ c.world.transcript → Breaks d c halt shown
-  finalise_breaks halt shown stops same = last_breaks d c id unheld halt shown (subst (Stops halt) (sym finalises) stops) same
+  pub finalise_can : ComesOfSafe d c → (arm : Arm) → counted c.agenda c.counted (finalising d c.world id) ≡ Err arm → ⊥
+  finalise_can safe arm is = last_acts d c id unheld safe arm (finalises ∙ is)
 
 -- where nothing is left to do, what has floated longest floats no longer
 module _ (d : Definition) (c e : Config) (none : NoneUnheld d c) (idle : c.agenda ≡ []) (id : ℕ) (ids : List ℕ) (floats : c.world.floating ≡ id ∷ ids) where

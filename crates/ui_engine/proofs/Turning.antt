@@ -2,7 +2,6 @@
 use Rattle.std.proofs.Common.{◌≡◌, ◌<◌, ◌+◌, ℕ, Bool, true, false, cond, nat_eq, nat_lt, List, [], ◌∷◌, ◌++◌, length, option_map, is_some, Option, None, Some, Result, Ok, Err, refl, sym, ap, subst, ◌∙◌, append_assoc, append-nil, length-append, arith}
 use Rattle.std.specs.Option.{option_or}
 use Rattle.std.proofs.lemmas.Bool.Decides.{nat_tests}
-use Rattle.ui_machine.specs.declared.arm.Halt.{Halt}
 use Rattle.ui_machine.specs.declared.arm.Halt.TheVariants as halts
 use Rattle.ui_machine.specs.Definition.{Definition}
 use Rattle.ui_machine.specs.Rules.Events.{Refusal, clock_back, refusal}
@@ -27,7 +26,7 @@ use Rattle.ui_engine.specs.declared.dispatch.Reply.{Reply}
 use Rattle.ui_engine.specs.declared.session.SessionFault.{SessionFault}
 use Rattle.ui_engine.specs.declared.session.SessionFault.TheVariants as faults
 use Rattle.ui_engine.specs.SessionView.{AnswersBy, Comes, SessionState, serving, tally_of}
-use Rattle.ui_engine.specs.TurnView.{RunSoFar, SourceHalts, TurnBegins, running_sources}
+use Rattle.ui_engine.specs.TurnView.{RunSoFar, SourceBreaksOff, TurnBegins, running_sources}
 
 -- ** runs of sources
 
@@ -193,9 +192,9 @@ module _ (d : Definition) (numbers left : List ℕ) (w v : World) (reply : Reply
       runs_one = rw n.there (record { steps = one.steps; counts = refl; dispatches = dispatches })
 
   -- or halts
-  pub next_halts : (s : Source) → NextIs v.sources left s → (halt : Halt) (shown : List (List ℕ)) → Halts d [] (beginning v (tasks.Due s.number)) halt shown
-      → SourceHalts d numbers w halt shown
-  next_halts s n halt shown halts = record {
+  pub next_breaks_off : (s : Source) → NextIs v.sources left s → (shown : List (List ℕ)) → Halts d [] (beginning v (tasks.Due s.number)) halts.OutOfMemory shown
+      → SourceBreaksOff d numbers w shown
+  next_breaks_off s n shown breaks_off = record {
     done = so.done ++ n.skipped;
     number = s.number;
     more = numbers_after v.sources left;
@@ -204,7 +203,7 @@ module _ (d : Definition) (numbers left : List ℕ) (w v : World) (reply : Reply
     tally = tally_of reply;
     runs = past s n;
     stands = rw n.there refl;
-    halts = halts;
+    breaks_off = breaks_off;
   }
 
   -- where none is next, all have run
@@ -234,7 +233,7 @@ module _ (old : SessionState) (moment : ℕ) where
       → AnswersBy (refusal old.world (turn moment)) (Err faults.OutOfMemory) old (turn moment) new
   turn_stops is new lines definition stops =
       subst (λ (why : Option Refusal). AnswersBy why (Err faults.OutOfMemory) old (turn moment) new) (sym (refused_by false is)) (record {
-        halts = at_its_beginning (record { memory = refl; asked = refl; lines = lines });
+        breaks_off = at_its_beginning (record { memory = refl; asked = refl; lines = lines });
         definition = definition;
         stops = stops;
       })
@@ -245,8 +244,8 @@ module _ (old : SessionState) (moment : ℕ) where
   turn_answers is numbers w begins result new comes =
       subst (λ (why : Option Refusal). AnswersBy why result old (turn moment) new) (sym (refused_by false is)) (by result comes)
     where
-      halting : (halt : Halt) (shown : List (List ℕ)) → SourceHalts old.definition numbers w halt shown → TurnIsCut old.definition moment [] old.world halt shown
-      halting halt shown h = at_a_source (record {
+      halting : (shown : List (List ℕ)) → SourceBreaksOff old.definition numbers w shown → TurnIsCut old.definition moment [] old.world halts.OutOfMemory shown
+      halting shown h = at_a_source (record {
         done = h.done;
         number = h.number;
         more = h.more;
@@ -258,7 +257,7 @@ module _ (old : SessionState) (moment : ℕ) where
         tally = h.tally;
         runs = subst (λ (x : World). RunsSources old.definition h.done [] x h.tally h.mid) begins.world h.runs;
         stands = h.stands;
-        halts = h.halts;
+        halts = h.breaks_off;
       })
 
       by : (result : Result Reply SessionFault) → Comes result (running_sources old.definition numbers w) old.definition new
@@ -270,8 +269,7 @@ module _ (old : SessionState) (moment : ℕ) where
         definition = ends.definition;
         goes_on = ends.goes_on;
       }
-      by (Err faults.OutOfMemory) breaks = record { halts = halting halts.OutOfMemory _ breaks.halts; definition = breaks.definition; stops = breaks.stops }
-      by (Err (faults.Stuck arm)) breaks = record { halts = halting (halts.Stuck arm) _ breaks.halts; definition = breaks.definition; stops = breaks.stops }
+      by (Err faults.OutOfMemory) breaks = record { breaks_off = halting _ breaks.breaks_off; definition = breaks.definition; stops = breaks.stops }
       by (Err faults.Stopped) never = absurd never
       by (Err faults.ClockBack) never = absurd never
       by (Err faults.Released) never = absurd never

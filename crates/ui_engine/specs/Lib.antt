@@ -1,3 +1,4 @@
+pub mod Promises
 pub mod Stepping
 pub mod SessionView
 pub mod TurnView

@@ -1,6 +1,5 @@
 -- What a session stands at, and what it answers.
 use Rattle.std.specs.Prelude.{◌≡◌, ℕ, Bool, true, false, List, [], Option, Some, None, option_map, Result, Ok, Err}
-use Rattle.ui_machine.specs.declared.arm.Halt.{Halt}
 use Rattle.ui_machine.specs.declared.arm.Halt.TheVariants as halts
 use Rattle.ui_machine.specs.Definition.{Definition}
 use Rattle.ui_machine.specs.State.Tasks.{Event}
@@ -22,23 +21,19 @@ pub record SessionState : Type 0 where
 abbrev pub without_lines : SessionState → SessionState
 without_lines s = record s { world = record s.world { transcript = [] } }
 
--- the fault that stops a session where the engine halts
-abbrev pub fault_of : Halt → SessionFault
-fault_of halts.OutOfMemory = faults.OutOfMemory
-fault_of (halts.Stuck arm) = faults.Stuck arm
-
 -- what a reply counts
 abbrev pub tally_of : Reply → Tally
 tally_of reply = record { dispatches = reply.dispatches; steps = reply.steps }
 
--- what a call may come to: a part of a run with these counts that leads to a world, or one that halts and has shown these lines
+-- What a call may come to: a part of a run with these counts that leads to a world; or a part of one that has shown these lines, and then
+-- no memory is found.
 pub record Ways : Type 1 where
   pub to : Tally → World → Type 0
-  pub halts : Halt → List (List ℕ) → Type 0
+  pub breaks_off : List (List ℕ) → Type 0
 
 -- one dispatch from a configuration
 abbrev pub carrying_out : Definition → Config → Ways
-carrying_out d c = record { to = Carries d c []; halts = Halts d [] c }
+carrying_out d c = record { to = Carries d c []; breaks_off = Halts d [] c halts.OutOfMemory }
 
 -- the build of a definition
 abbrev pub building : Definition → Ways
@@ -46,7 +41,7 @@ building d = carrying_out d (of_build d [])
 
 -- an event, from a world
 abbrev pub serving : Definition → World → Event → Ways
-serving d w event = record { to = Serves d event [] w; halts = HaltsIn d event [] w }
+serving d w event = record { to = Serves d event [] w; breaks_off = HaltsIn d event [] w halts.OutOfMemory }
 
 -- the part of the run came to its end, with the value that it told
 pub record Ends (reply : Reply) (ways : Ways) (d : Definition) (new : SessionState) : Type 0 where
@@ -55,17 +50,16 @@ pub record Ends (reply : Reply) (ways : Ways) (d : Definition) (new : SessionSta
   pub definition : new.definition ≡ d
   pub goes_on : new.stopped ≡ false
 
--- it halted, and the session stopped with it
-pub record Breaks (halt : Halt) (ways : Ways) (d : Definition) (new : SessionState) : Type 0 where
-  pub halts : ways.halts halt new.world.transcript
+-- it broke off, and the session stopped with it
+pub record BreaksOff (ways : Ways) (d : Definition) (new : SessionState) : Type 0 where
+  pub breaks_off : ways.breaks_off new.world.transcript
   pub definition : new.definition ≡ d
   pub stops : new.stopped ≡ true
 
 -- what comes of a call, in a session that has not stopped
 abbrev pub Comes : Result Reply SessionFault → Ways → Definition → SessionState → Type 0
 Comes (Ok reply) ways d new = Ends reply ways d new
-Comes (Err faults.OutOfMemory) ways d new = Breaks halts.OutOfMemory ways d new
-Comes (Err (faults.Stuck arm)) ways d new = Breaks (halts.Stuck arm) ways d new
+Comes (Err faults.OutOfMemory) ways d new = BreaksOff ways d new
 Comes (Err faults.Stopped) ways d new = ⊥
 Comes (Err faults.ClockBack) ways d new = ⊥
 Comes (Err faults.Released) ways d new = ⊥

@@ -1,6 +1,7 @@
 -- What a turn of the main loop comes to.
 use Rattle.std.specs.Prelude.{◌≡◌, ◌≤◌, ◌+◌, ◌*◌, ℕ, IsSome, List, [], ◌∷◌, ◌++◌, length, option_map, Result, Ok, Err}
-use Rattle.ui_machine.specs.declared.arm.Halt.{Halt}
+use Rattle.std.specs.declared.alloc.AllocError.{AllocError}
+use Rattle.ui_machine.specs.declared.arm.Halt.TheVariants as halts
 use Rattle.ui_machine.specs.Definition.{Definition}
 use Rattle.ui_machine.specs.Rules.MainLoop.{ready_at, turned}
 use Rattle.ui_machine.specs.Runs.{Halts, RunsSources, Tally, beginning}
@@ -12,8 +13,8 @@ use Rattle.g_values.specs.View.{value_view}
 use Rattle.ui_engine.specs.declared.dispatch.Reply.{Reply}
 use Rattle.ui_engine.specs.SessionView.{Ways, tally_of}
 
--- from a world the first of these sources run, and then the dispatch of the next one halts
-pub record SourceHalts (d : Definition) (numbers : List ℕ) (w : World) (halt : Halt) (shown : List (List ℕ)) : Type 0 where
+-- from a world the first of these sources run, and in the dispatch of the next one no memory is found
+pub record SourceBreaksOff (d : Definition) (numbers : List ℕ) (w : World) (shown : List (List ℕ)) : Type 0 where
   pub done : List ℕ
   pub number : ℕ
   pub more : List ℕ
@@ -22,12 +23,12 @@ pub record SourceHalts (d : Definition) (numbers : List ℕ) (w : World) (halt :
   pub tally : Tally
   pub runs : RunsSources d done [] w tally mid
   pub stands : IsSome (source_of number mid.sources)
-  pub halts : Halts d [] (beginning mid (Due number)) halt shown
+  pub breaks_off : Halts d [] (beginning mid (Due number)) halts.OutOfMemory shown
 
--- all of these sources run, or the dispatch of one halts
-abbrev pub RanSources : Result Reply Halt → Definition → List ℕ → World → World → Type 0
+-- all of these sources run, or the dispatch of one breaks off
+abbrev pub RanSources : Result Reply AllocError → Definition → List ℕ → World → World → Type 0
 RanSources (Ok reply) d numbers w new = RunsSources d numbers [] w (tally_of reply) new × (option_map value_view reply.result ≡ new.result)
-RanSources (Err halt) d numbers w new = SourceHalts d numbers w halt new.transcript
+RanSources (Err _) d numbers w new = SourceBreaksOff d numbers w new.transcript
 
 -- the first of these sources have run so far, and these are left
 pub record RunSoFar (d : Definition) (numbers left : List ℕ) (w : World) (reply : Reply) (now : World) : Type 0 where
@@ -49,4 +50,4 @@ pub record TurnBegins (d : Definition) (moment : ℕ) (w : World) (numbers : Lis
 
 -- the sources of a turn that has begun, from a world
 abbrev pub running_sources : Definition → List ℕ → World → Ways
-running_sources d numbers w = record { to = RunsSources d numbers [] w; halts = SourceHalts d numbers w }
+running_sources d numbers w = record { to = RunsSources d numbers [] w; breaks_off = SourceBreaksOff d numbers w }

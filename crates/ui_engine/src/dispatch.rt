@@ -10,7 +10,7 @@ ghost use Rattle.engine_world.specs.TaskView.{task_in, agenda_of};
 ghost use Rattle.engine_world.specs.EngineView.{config_of};
 ghost use Rattle.ui_machine.specs.Prefix.{IsPrefix};
 ghost use Rattle.engine_world.specs.Counting.{KeepsCounts};
-ghost use Rattle.ui_engine.specs.Stepping.{Carried, IsAtRest};
+ghost use Rattle.ui_engine.specs.Stepping.{Carried, IsAtRest, IsSafe};
 
 pub(crate) mod runs;
 
@@ -22,7 +22,6 @@ use engine_world::references::push_task;
 use engine_world::task::Task;
 use g_values::Value;
 use std::alloc::AllocError;
-use ui_machine::Halt;
 
 /// What a dispatch led to.
 #[derive(Drop)]
@@ -65,14 +64,19 @@ pub fn announce(engine: &mut Engine) -> Result<(), AllocError>
     engine.world.say(line)
 }
 
-/// Carries out a task with all that it leads to, and tells of its end.
+/// Carries out a task with all that it leads to, and says the line of its end. No run of the machine from there may be stuck.
+///
+/// # Errors
+///
+/// `AllocError` if no memory is found: the transcript is as far as the dispatch came.
 pub(crate) fn dispatch(
     engine: &mut Engine,
     definition: &Definition,
     task: Task,
-) -> Result<Reply, Halt>
+) -> Result<Reply, AllocError>
     requires rests { IsAtRest definition.now engine.now }
     requires begun { TakesKnownHandlers engine.now.world.handlers.last task }
+    requires safe { IsSafe definition.now (beginning (world_of engine.now.world) (task_in definition.now engine.now task)) }
     ensures rests { OnOk result (IsAtRest definition.now engine.new) }
     ensures carried { Carried result definition.now (beginning (world_of engine.old.world) (task_in definition.now engine.old task)) (world_of engine.new.world) }
     ensures few { IfOk result (λ reply. reply.steps ≤ most_steps) }

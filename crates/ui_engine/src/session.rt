@@ -1,15 +1,22 @@
-//! A session: a definition, and what stands while its events come.
+//! A session: a verified definition, and what stands while its events come.
 
 ghost use Rattle.std.specs.Prelude.{◌≡◌, ◌≤◌, [], None, length, map, string_bytes, IfOk, IfErr, false};
-ghost use Rattle.ui_machine.specs.Runs.{beginning};
+ghost use Rattle.ui_machine.specs.Output.Lines as lines;
+ghost use Rattle.ui_machine.specs.Runs.{beginning, first_world};
+ghost use Rattle.ui_machine.specs.State.Config.{said};
 ghost use Rattle.definition_format.specs.Meaning.{event_of, request_of};
 ghost use Rattle.ui_machine.specs.Prefix.{IsPrefix};
+ghost use Rattle.ui_machine.specs.Rules.Build.{forward_items};
 ghost use Rattle.ui_machine.specs.Rules.Events.{refusal};
 ghost use Rattle.ui_machine.specs.State.Tasks as config;
+ghost use Rattle.law_typing.specs.Good.Requests.{RequestRead};
+ghost use Rattle.law_sessions.specs.Sessions.{EventRead};
+ghost use Rattle.engine_world.specs.TaskView.{item_of};
+ghost use Rattle.engine_world.specs.View.{world_of};
+ghost use Rattle.ui_engine.specs.Promises.{BuildKeeps, EventKeeps};
+ghost use Rattle.ui_engine.specs.SessionView.{AnswersBy, AnswersEvent, Comes, building, without_lines};
+ghost use Rattle.ui_engine.specs.Stepping.{IsAtRest};
 ghost use Rattle.ui_engine.specs.TurnView.{running_sources};
-ghost use Rattle.engine_world.specs.KnownHandlers.{TakesKnownHandlers};
-ghost use Rattle.engine_world.specs.TaskView.{task_of};
-ghost use Rattle.ui_engine.specs.SessionView.{AnswersBy, AnswersEvent, Comes, building, carrying_out, without_lines};
 
 use crate::dispatch::{Reply, announce, dispatch};
 use crate::turns::{begin_turn, run_sources};
@@ -18,12 +25,12 @@ use definitions::Definition;
 use engine_tasks::forward_references::forward_references;
 use engine_world::engine::Engine;
 use engine_world::places::FIRST_PLACE;
-use engine_world::task::Task;
+use engine_world::task::{ForwardReferences, Task};
 use engine_world::weak_slots::weak_slots;
 use main_context::{Batch, TurnError};
-use std::alloc::Global;
+use std::alloc::{AllocError, Global};
 use std::marker::Model;
-use ui_machine::{Arm, Halt};
+use verified::Verified;
 
 /// Why an event was not carried out to its end.
 #[derive(Clone, Copy, Debug, PartialEq, Eq)]
@@ -36,44 +43,40 @@ pub enum SessionFault {
     ClockBack,
     /// The event names an object that was released. Nothing has changed.
     Released,
-    /// The machine is stuck there. The session has stopped.
-    Stuck(Arm),
 }
 
-impl From<Halt> for SessionFault {
-    ghost use Rattle.engine_world.specs.TaskView.{task_of};
-    ghost use Rattle.ui_engine.specs.SessionView.{fault_of};
+impl From<AllocError> for SessionFault {
+    ghost use Rattle.std.specs.Prelude.{◌≡◌};
+    ghost use Rattle.ui_engine.specs.declared.session.SessionFault.TheVariants as faults;
 
-    ghost from_gives = { λ halt fault. fault ≡ fault_of halt };
+    ghost from_gives = { λ _ fault. fault ≡ faults.OutOfMemory };
 
-    fn from(halt: Halt) -> SessionFault {
-        match halt {
-            Halt::OutOfMemory => SessionFault::OutOfMemory,
-            Halt::Stuck(arm) => SessionFault::Stuck(arm),
-        }
+    fn from(_error: AllocError) -> SessionFault {
+        SessionFault::OutOfMemory
     }
 }
 
-/// What runs a definition. Where it has not stopped, each object is counted as often as it is mentioned, and nothing is left to do.
+/// What runs a verified definition. Where it has not stopped, each object is counted as often as it is mentioned, and nothing is left to do;
+/// and no event that is read against the definition can leave the machine stuck.
 #[derive(Drop)]
 pub struct Session {
-    definition: Definition,
+    verified: Verified,
     engine: Engine,
     stopped: bool,
 }
 
 impl Model for Session {
-    ghost use Rattle.std.specs.Prelude.{◌≡◌, false, []};
-    ghost use Rattle.engine_world.specs.TaskView.{task_of};
+    ghost use Rattle.std.specs.Prelude.{◌≡◌, false};
     ghost use Rattle.ui_engine.specs.SessionView.{SessionState};
     ghost use Rattle.engine_world.specs.View.{world_of};
+    ghost use Rattle.ui_engine.specs.Promises.{Rests};
     ghost use Rattle.ui_engine.specs.Stepping.{IsAtRest};
 
     ghost Value = { SessionState };
 
-    ghost view = { λ s. record { definition = s.definition; world = world_of s.engine.world; stopped = s.stopped } };
+    ghost view = { λ s. record { definition = s.verified; world = world_of s.engine.world; stopped = s.stopped } };
 
-    ghost invariant = { λ s. s.stopped ≡ false → IsAtRest s.definition s.engine };
+    ghost invariant = { λ s. s.stopped ≡ false → IsAtRest s.verified s.engine × Rests s.verified (world_of s.engine.world) };
 }
 
 /// A session whose definition was built, or whose build stopped it.
@@ -94,7 +97,7 @@ pub enum StartFault {
 #[derive(Drop)]
 pub struct Refused {
     pub fault: StartFault,
-    pub definition: Definition,
+    pub verified: Verified,
 }
 
 /// What is left of a session.
@@ -103,53 +106,91 @@ pub struct Finished {
     pub transcript: Vec<String>,
 }
 
+// An engine that has built nothing, and has said the line with which the build begins.
+fn first_engine(alloc: Global, definition: &Definition) -> Result<Engine, AllocError>
+    ensures rests { IfOk result (IsAtRest definition.now) }
+    ensures world { IfOk result (λ engine. world_of engine.world ≡ said definition.now (first_world definition.now []) lines.build) }
+{
+    let weak = weak_slots(alloc, definition)?;
+    let mut engine = Engine::new(alloc, weak, definition.limits());
+    announce(&mut engine)?;
+    Ok(engine)
+}
+
+// Builds the objects of a verified definition, by an engine that has built nothing.
+fn build(verified: Verified, mut engine: Engine, forwards: ForwardReferences) -> Started
+    requires rests { IsAtRest verified engine }
+    requires world { world_of engine.world ≡ said verified (first_world verified []) lines.build }
+    requires forwards { map item_of forwards ≡ forward_items 0 verified.places }
+    ensures built { Comes result.build (building verified) verified result.session }
+{
+    let definition = verified.definition();
+    // For the proof: some bytes denote the definition.
+    let _types = definition.types();
+    let task = Task::Building {
+        place: FIRST_PLACE,
+        forwards,
+    };
+    match dispatch(&mut engine, definition, task) {
+        Ok(reply) => Started {
+            session: Session {
+                verified,
+                engine,
+                stopped: false,
+            },
+            build: Ok(reply),
+        },
+        Err(error) => Started {
+            session: Session {
+                verified,
+                engine,
+                stopped: true,
+            },
+            build: Err(SessionFault::from(error)),
+        },
+    }
+}
+
 impl Session {
-    /// Builds a definition's objects.
-    pub fn start(alloc: Global, definition: Definition) -> Result<Started, Refused>
-        ensures built { IfOk result (λ started. Comes started.build (building definition) definition started.session) }
-        ensures refused { IfErr result (λ refused. refused.definition ≡ definition) }
+    /// Builds the objects of a verified definition. The build never leaves the machine stuck, and counts no more steps than the report says.
+    ///
+    /// # Errors
+    ///
+    /// `Refused`, with the definition, if no memory is found before the build.
+    pub fn start(alloc: Global, verified: Verified) -> Result<Started, Refused>
+        ensures built { IfOk result (λ started. Comes started.build (building verified) verified started.session) }
+        ensures keeps { BuildKeeps verified }
+        ensures refused { IfErr result (λ refused. refused.verified ≡ verified) }
     {
-        // For the proof: what is known of a definition's types.
+        let definition = verified.definition();
+        // For the proof: some bytes denote the definition.
         let _types = definition.types();
-        let Ok(weak) = weak_slots(alloc, &definition) else {
+        let Ok(engine) = first_engine(alloc, definition) else {
             return Err(Refused {
                 fault: StartFault::OutOfMemory,
-                definition,
+                verified,
             });
         };
-        let mut engine = Engine::new(alloc, weak, definition.limits());
-        let Ok(()) = announce(&mut engine) else {
+        let Ok(forwards) = forward_references(alloc, definition) else {
             return Err(Refused {
                 fault: StartFault::OutOfMemory,
-                definition,
+                verified,
             });
         };
-        let Ok(forwards) = forward_references(alloc, &definition) else {
-            return Err(Refused {
-                fault: StartFault::OutOfMemory,
-                definition,
-            });
-        };
-        let mut session = Session {
-            definition,
-            engine,
-            stopped: false,
-        };
-        let build = session.run_task(Task::Building {
-            place: FIRST_PLACE,
-            forwards,
-        });
-        Ok(Started { session, build })
+        Ok(build(verified, engine, forwards))
     }
 
-    /// Carries out an event with all that it leads to.
+    /// Carries out an event with all that it leads to. The event has to be one that was read against the session's definition. It never leaves
+    /// the machine stuck, and each of its dispatches counts no more steps than the report says of what it begins with.
     ///
     /// # Errors
     ///
     /// `Stopped` if the session has stopped. Then `Released` if the event names an object that was released, and `ClockBack` if it is a turn of
-    /// a moment before the latest one: the session stays as it was. Else `OutOfMemory` or `Stuck`, which stop the session.
+    /// a moment before the latest one: the session stays as it was. Else `OutOfMemory` if no memory is found, which stops the session.
     pub fn dispatch(&mut self, event: Event) -> Result<Reply, SessionFault>
+        requires read { EventRead self.now.definition (event_of event) }
         ensures answers { AnswersEvent self.old.stopped result self.old (event_of event) self.new }
+        ensures keeps { self.old.stopped ≡ false → refusal self.old.world (event_of event) ≡ None → EventKeeps self.old.definition self.old.world (event_of event) }
         // It only adds lines.
         ensures grows { IsPrefix self.old.world.transcript self.new.world.transcript }
     {
@@ -165,23 +206,39 @@ impl Session {
     // Carries out a request, unless it names an object that was released.
     fn serve(&mut self, request: Request) -> Result<Reply, SessionFault>
         requires goes_on { self.now.stopped ≡ false }
+        requires read { RequestRead self.now.definition (request_of request) }
         ensures answers { AnswersBy (refusal self.old.world (config.request (request_of request))) result self.old (config.request (request_of request)) self.new }
+        ensures keeps { refusal self.old.world (config.request (request_of request)) ≡ None → EventKeeps self.old.definition self.old.world (config.request (request_of request)) }
         ensures grows { IsPrefix self.old.world.transcript self.new.world.transcript }
     {
         if self.engine.world.names_released(&request) {
             return Err(SessionFault::Released);
         }
-        self.run_task(Task::Handling(request))
+        let definition = self.verified.definition();
+        // For the proof: some bytes denote the definition.
+        let _types = definition.types();
+        let task = Task::Handling(request);
+        match dispatch(&mut self.engine, definition, task) {
+            Ok(reply) => return Ok(reply),
+            Err(error) => {
+                self.stopped = true;
+                return Err(SessionFault::from(error));
+            }
+        }
     }
 
-    // A turn of the main loop: the sources that are ready and have the least priority number run, each in a dispatch of its own. Where one
-    // halts the session stops.
+    // A turn of the main loop: the sources that are ready and have the least priority number run, each in a dispatch of its own. Where no
+    // memory is found the session stops.
     fn turn(&mut self, moment: u64) -> Result<Reply, SessionFault>
         requires goes_on { self.now.stopped ≡ false }
         ensures answers { AnswersBy (refusal self.old.world (config.turn moment)) result self.old (config.turn moment) self.new }
+        ensures keeps { refusal self.old.world (config.turn moment) ≡ None → EventKeeps self.old.definition self.old.world (config.turn moment) }
         ensures grows { IsPrefix self.old.world.transcript self.new.world.transcript }
     {
-        match begin_turn(&mut self.engine, &self.definition, moment) {
+        let definition = self.verified.definition();
+        // For the proof: some bytes denote the definition.
+        let _types = definition.types();
+        match begin_turn(&mut self.engine, definition, moment) {
             Ok(batch) => self.run_batch(batch),
             Err(TurnError::ClockBack) => Err(SessionFault::ClockBack),
             Err(TurnError::OutOfMemory) => {
@@ -199,27 +256,11 @@ impl Session {
         ensures comes { Comes result (running_sources self.old.definition batch self.old.world) self.old.definition self.new }
         ensures grows { IsPrefix self.old.world.transcript self.new.world.transcript }
     {
-        match run_sources(&mut self.engine, &self.definition, batch) {
+        match run_sources(&mut self.engine, self.verified.definition(), batch) {
             Ok(reply) => return Ok(reply),
-            Err(halt) => {
+            Err(error) => {
                 self.stopped = true;
-                return Err(SessionFault::from(halt));
-            }
-        }
-    }
-
-    // Carries out a task with all that it leads to. Where that halts the session stops.
-    fn run_task(&mut self, task: Task) -> Result<Reply, SessionFault>
-        requires goes_on { self.now.stopped ≡ false }
-        requires begun { TakesKnownHandlers self.now.world.last_handler task }
-        ensures comes { Comes result (carrying_out self.old.definition (beginning self.old.world (task_of self.old.definition self.old.world.handlers task))) self.old.definition self.new }
-        ensures grows { IsPrefix self.old.world.transcript self.new.world.transcript }
-    {
-        match dispatch(&mut self.engine, &self.definition, task) {
-            Ok(reply) => return Ok(reply),
-            Err(halt) => {
-                self.stopped = true;
-                return Err(SessionFault::from(halt));
+                return Err(SessionFault::from(error));
             }
         }
     }
@@ -228,7 +269,7 @@ impl Session {
     pub fn definition(&self) -> &Definition
         ensures { result.now ≡ self.now.definition }
     {
-        &self.definition
+        self.verified.definition()
     }
 
     /// The lines that were said since the last call of `forget`, without their LF.

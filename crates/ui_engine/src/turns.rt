@@ -3,6 +3,8 @@
 ghost use Rattle.std.specs.Prelude.{◌≡◌, ◌<◌, ◌≤◌, ◌↔◌, None, IfOk, OnErr, OnOk, length};
 ghost use Rattle.ui_machine.specs.Prefix.{IsPrefix};
 ghost use Rattle.engine_world.specs.View.{world_of};
+ghost use Rattle.law_typing.specs.Verdict.Accepted.{Accepted};
+ghost use Rattle.ui_engine.specs.Promises.{Rests};
 ghost use Rattle.ui_engine.specs.Stepping.{IsAtRest};
 ghost use Rattle.ui_engine.specs.TurnView.{IsSmall, RanSources, TurnBegins};
 
@@ -12,7 +14,7 @@ use engine_world::engine::Engine;
 use engine_world::lines::Line;
 use engine_world::task::Task;
 use main_context::{Batch, TurnError};
-use ui_machine::Halt;
+use std::alloc::AllocError;
 
 /// Begins a turn at a moment: takes the sources that are to run, and says its line.
 ///
@@ -40,18 +42,27 @@ pub(crate) fn begin_turn(
 }
 
 /// Runs the sources of a batch, each in a dispatch of its own. One that was removed since is passed over.
+///
+/// # Errors
+///
+/// `AllocError` if no memory is found in one of these dispatches.
 pub(crate) fn run_sources(
     engine: &mut Engine,
     definition: &Definition,
     mut batch: Batch,
-) -> Result<Reply, Halt>
+) -> Result<Reply, AllocError>
+    requires accepted { Accepted definition.now }
     requires rests { IsAtRest definition.now engine.now }
+    requires resting { Rests definition.now (world_of engine.now.world) }
     requires fresh { (world_of engine.now.world).result ≡ None }
     requires few { length batch ≤ 256 }
     ensures rests { OnOk result (IsAtRest definition.now engine.new) }
+    ensures resting { OnOk result (Rests definition.now (world_of engine.new.world)) }
     ensures ran { RanSources result definition.now batch (world_of engine.old.world) (world_of engine.new.world) }
     ensures grows { IsPrefix (world_of engine.old.world).transcript (world_of engine.new.world).transcript }
 {
+    // For the proof: some bytes denote the definition.
+    let _types = definition.types();
     let mut reply = Reply {
         result: None,
         dispatches: 0,

@@ -1,18 +1,35 @@
-use Rattle.std.proofs.Common.{refl, sym, ◌∙◌}
+use Rattle.std.proofs.Common.{Ok, Err, Result, refl, subst}
+use Rattle.ui_machine.specs.Definition.{Definition}
+use Rattle.definition_format.specs.Meaning.{IsBasic}
+use Rattle.ui_engine.specs.declared.dispatch.Reply.{Reply}
+use Rattle.ui_engine.specs.declared.session.SessionFault.{SessionFault}
+use Rattle.ui_engine.specs.SessionView.{Comes, building}
+use Rattle.ui_engine.proofs.Keeping.{none_needed}
 use Rattle.event_lines.specs.Opening as openings
+use Rattle.event_lines.specs.Opening.{IsTaken}
 use Rattle.event_lines.proofs.Openings.{opens_built, opens_stopped}
 use Rattle.event_lines.proofs.opening.build.Goals as goal
 
-pub returns-in-None : goal.returns-in-None
-returns-in-None c bytes denotes = record {
-  opening = openings.built c.in-Ok.started.session;
-  is = refl;
-  opens = opens_built bytes c.args.definition c.in-Ok.started.session denotes c.in-Ok.started.build c.in-Ok.ensures.built (sym c.halt_of.ensures ∙ c.in-None.is);
-}
+pub returns-in-Ok-build : goal.returns-in-Ok-build
+returns-in-Ok-build c bytes denotes judged =
+    let d = c.args.verified in
+    let basic = subst (λ (e : Definition). IsBasic e) c.definition.ensures.same c.types-types.ensures.basic in
+    let taken : IsTaken bytes d = record { denoted = denotes; judged = judged; accepted = c.definition.ensures.accepted; ready = none_needed d basic } in
+    let s = c.in-Ok.started.session in
+    record {
+      opening = openings.built s;
+      is = refl;
+      opens = opens_built bytes d s taken c.in-Ok-build.field-0 (subst (λ (b : Result Reply SessionFault). Comes b (building d) d s) c.in-Ok-build.is c.in-Ok.ensures.built);
+    }
 
-pub returns : goal.returns
-returns c bytes denotes = record {
-  opening = openings.stopped c.in-Ok.started.session c.in-Some.halt;
-  is = (refl, refl);
-  opens = opens_stopped bytes c.args.definition c.in-Ok.started.session denotes c.in-Some.halt c.in-Ok.started.build c.in-Ok.ensures.built (sym c.halt_of.ensures ∙ c.in-Some.is);
-}
+pub returns-in-Err : goal.returns-in-Err
+returns-in-Err c bytes denotes judged =
+    let d = c.args.verified in
+    let basic = subst (λ (e : Definition). IsBasic e) c.definition.ensures.same c.types-types.ensures.basic in
+    let taken : IsTaken bytes d = record { denoted = denotes; judged = judged; accepted = c.definition.ensures.accepted; ready = none_needed d basic } in
+    let s = c.in-Ok.started.session in
+    record {
+      opening = openings.stopped s;
+      is = refl;
+      opens = opens_stopped bytes d s taken c.in-Err.field-0 (subst (λ (b : Result Reply SessionFault). Comes b (building d) d s) c.in-Err.is c.in-Ok.ensures.built);
+    }

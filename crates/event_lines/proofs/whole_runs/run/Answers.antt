@@ -4,7 +4,7 @@ use Rattle.event_lines.proofs.whole_runs.run.Goals as goal
 
 pub returns-in-Stopped-clause-ran : goal.returns-in-Stopped-clause-ran
 returns-in-Stopped-clause-ran g c =
-    ran_stopped c.args.definition.now _ _ _ _ _ _ _ _ _ c.in-Stopped.session c.in-Stopped.halt c.in-Stopped.ensures refl c.stop.ensures.concludes
+    ran_stopped c.args.definition.now _ _ _ _ _ _ _ _ _ c.in-Stopped.session c.in-Stopped.ensures refl c.stop.ensures.concludes
 
 pub returns-in-Unbegun-clause-ran : goal.returns-in-Unbegun-clause-ran
 returns-in-Unbegun-clause-ran g c = ran_unbegun c.args.definition.now _ _ _ _ _ _ _ _ _ refl c.refuse_for_memory.ensures.concludes

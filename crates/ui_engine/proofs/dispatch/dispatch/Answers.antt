@@ -10,7 +10,7 @@ use Rattle.engine_world.specs.Counting.{nothing}
 use Rattle.engine_world.proofs.Counts.{keeps_said}
 use Rattle.ui_machine.proofs.Prefixes.{prefix_by, prefix_on}
 use Rattle.ui_engine.proofs.Reaching.{reaches_here}
-use Rattle.ui_engine.proofs.Standing.{breaks_there, ends_there, halts_from}
+use Rattle.ui_engine.proofs.Standing.{breaks_there, ends_there, halts_from, safe_there}
 use Rattle.engine_instructions.proofs.Whole.{engine_whole}
 use Rattle.ui_engine.proofs.dispatch.dispatch.Goals as goal
 
@@ -19,14 +19,14 @@ returns-in_err-begin_dispatch-clause-carried c =
     let p = err_from_is_err_and c.from_residual.result c.from_residual.ensures.1 in
     let d = c.args.definition.now in
     let start = beginning (world_of c.args.engine.now.world) (task_in d c.args.engine.now c.args.task) in
-    rw (p.1, p.2) (record { at = start; reached = reaches_here d start; stops = tt; lines = sym c.in_err-begin_dispatch.ensures.err })
+    rw p.1 (record { at = start; reached = reaches_here d start; stops = tt; lines = sym c.in_err-begin_dispatch.ensures.err })
 
 pub returns-in_err-run-clause-carried : goal.returns-in_err-run-clause-carried
 returns-in_err-run-clause-carried c =
     let p = err_from_is_err_and c.from_residual-in_err-run.result c.from_residual-in_err-run.ensures.1 in
     let d = c.args.definition.now in
-    let breaks = breaks_there d (config_of d c.begin_dispatch.new.engine) _ _ (engine_whole d c.begin_dispatch.new.engine) c.in_err-run.ensures.ran in
-    rw (p.1, p.2) (halts_from d c.in_ok-begin_dispatch.ensures.ok breaks)
+    let breaks = breaks_there d (config_of d c.begin_dispatch.new.engine) _ (engine_whole d c.begin_dispatch.new.engine) c.in_err-run.ensures.ran in
+    rw p.1 (halts_from d c.in_ok-begin_dispatch.ensures.ok breaks)
 
 pub returns-in_err-result-clause-carried : goal.returns-in_err-result-clause-carried
 returns-in_err-result-clause-carried c =
@@ -34,7 +34,7 @@ returns-in_err-result-clause-carried c =
     let d = c.args.definition.now in
     let e = config_of d c.run.new.engine in
     let reached = subst (λ (from : Config). Reaches d [] from e) c.in_ok-begin_dispatch.ensures.ok (ends_there d (config_of d c.begin_dispatch.new.engine) e (engine_whole d c.begin_dispatch.new.engine) c.in_ok-run.ensures.ran.0 c.in_ok-run.ensures.ran.1) in
-    rw (p.1, p.2) (record { at = e; reached = reached; stops = tt; lines = refl })
+    rw p.1 (record { at = e; reached = reached; stops = tt; lines = refl })
 
 pub returns-in_err-line-clause-carried : goal.returns-in_err-line-clause-carried
 returns-in_err-line-clause-carried c =
@@ -42,7 +42,7 @@ returns-in_err-line-clause-carried c =
     let d = c.args.definition.now in
     let e = config_of d c.run.new.engine in
     let reached = subst (λ (from : Config). Reaches d [] from e) c.in_ok-begin_dispatch.ensures.ok (ends_there d (config_of d c.begin_dispatch.new.engine) e (engine_whole d c.begin_dispatch.new.engine) c.in_ok-run.ensures.ran.0 c.in_ok-run.ensures.ran.1) in
-    rw (p.1, p.2) (record { at = e; reached = reached; stops = tt; lines = refl })
+    rw p.1 (record { at = e; reached = reached; stops = tt; lines = refl })
 
 pub returns-in_err-say-clause-carried : goal.returns-in_err-say-clause-carried
 returns-in_err-say-clause-carried c =
@@ -50,7 +50,7 @@ returns-in_err-say-clause-carried c =
     let d = c.args.definition.now in
     let e = config_of d c.run.new.engine in
     let reached = subst (λ (from : Config). Reaches d [] from e) c.in_ok-begin_dispatch.ensures.ok (ends_there d (config_of d c.begin_dispatch.new.engine) e (engine_whole d c.begin_dispatch.new.engine) c.in_ok-run.ensures.ran.0 c.in_ok-run.ensures.ran.1) in
-    rw (p.1, p.2) (record { at = e; reached = reached; stops = tt; lines = sym (ap (λ (w : World). w.transcript) c.in_err-say.ensures.err) })
+    rw p.1 (record { at = e; reached = reached; stops = tt; lines = sym (ap (λ (w : World). w.transcript) c.in_err-say.ensures.err) })
 
 pub returns-clause-carried : goal.returns-clause-carried
 returns-clause-carried c =
@@ -65,8 +65,8 @@ returns-clause-carried c =
       refl,
     )
 
-pub run-requires : goal.run-requires
-run-requires c = record { counted = c.in_ok-begin_dispatch.ensures.counted.at nothing c.requires.rests.counts }
+pub run-requires-clause-counted : goal.run-requires-clause-counted
+run-requires-clause-counted c = c.in_ok-begin_dispatch.ensures.counted.at nothing c.requires.rests.counts
 
 pub returns-clause-rests : goal.returns-clause-rests
 returns-clause-rests c =
@@ -87,3 +87,8 @@ pub returns-clause-few : goal.returns-clause-few
 returns-clause-few c =
     let none : c.begin_dispatch.new.engine.counted ≡ 0 = ap (λ (e : Config). e.counted) c.in_ok-begin_dispatch.ensures.ok in
     c.in_ok-run.ensures.few (omega (arith, none))
+
+pub run-requires-clause-safe : goal.run-requires-clause-safe
+run-requires-clause-safe c =
+    let d = c.args.definition.now in
+    safe_there d c.in_ok-begin_dispatch.ensures.ok (engine_whole d c.begin_dispatch.new.engine) c.requires.safe

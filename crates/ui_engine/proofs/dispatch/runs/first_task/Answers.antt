@@ -1,5 +1,4 @@
-use Rattle.std.proofs.Common.{Ok, Err, ◌∙◌, sym, subst, arith}
-use Rattle.std.proofs.lemmas.Result.{err_from_is_err_and}
+use Rattle.std.proofs.Common.{Ok, ◌∙◌, sym, subst, arith}
 use Rattle.ui_machine.specs.State.Config.{Config}
 use Rattle.engine_world.specs.Counting.{in_subject}
 use Rattle.std.proofs.Common.{List}
@@ -8,7 +7,9 @@ use Rattle.ui_engine.specs.Stepping.{NoneUnheld, Stepped}
 use Rattle.engine_world.specs.TaskView.{task_in}
 use Rattle.engine_world.specs.EngineView.{config_of}
 use Rattle.engine_world.proofs.Counts.{config_same, taken_off, given_back, same_tasks}
-use Rattle.ui_engine.proofs.Stepping.{first_stepped, first_grows}
+use Rattle.engine_world.specs.View.{world_of}
+use Rattle.ui_engine.proofs.Standing.{cut_off}
+use Rattle.ui_engine.proofs.Stepping.{first_can, first_stepped, first_grows}
 use Rattle.ui_engine.proofs.dispatch.runs.first_task.Goals as goal
 
 pub sink_first_floating-requires-clause-none : goal.sink_first_floating-requires-clause-none
@@ -33,13 +34,17 @@ returns-in_default-clause-stepped c =
     subst (λ (ts : List Task). Stepped (Ok c.sink_first_floating.result) d (record (config_of d c.args.engine.now) { agenda = ts }) (config_of d c.sink_first_floating.new.engine)) (none.1 ∙ sym none.0)
     c.sink_first_floating.ensures.stepped
 
-pub returns-in_err-made-clause-stepped : goal.returns-in_err-made-clause-stepped
-returns-in_err-made-clause-stepped c =
-    let p = err_from_is_err_and c.from_residual.result c.from_residual.ensures.1 in
+pub returns-in-Err-OutOfMemory-clause-stepped : goal.returns-in-Err-OutOfMemory-clause-stepped
+returns-in-Err-OutOfMemory-clause-stepped c =
     let d = c.args.definition.now in
-    rw (p.1, p.2)
-    (first_stepped d c.args.engine.now.world.handlers.handlers (config_of d c.args.engine.now) (config_of d c.act.new.engine) c.requires.none c.in-Some.task c.pop.new.self (c.in-Some.ensures.tasks d c.args.engine.now.world.handlers.handlers)
-    (Err _) c.in_err-made.ensures.step tt c.in_err-made.ensures.quiet)
+    cut_off d (config_of d c.args.engine.now) (world_of c.act.new.engine.world).transcript c.in-Err-OutOfMemory.ensures.quiet
+
+pub unreachable-requires : goal.unreachable-requires
+unreachable-requires c =
+    let d = c.args.definition.now in
+    let stuck = rw c.in-Err-Stuck.field-0-is at c.in-Err-Stuck.ensures.step in
+    first_can d c.args.engine.now.world.handlers.handlers (config_of d c.args.engine.now) (config_of d c.act.new.engine) c.requires.none c.in-Some.task c.pop.new.self (c.in-Some.ensures.tasks d c.args.engine.now.world.handlers.handlers)
+    c.requires.safe c.in-Err-Stuck.field-0-0 stuck
 
 pub act-requires : goal.act-requires
 act-requires c = record {
@@ -54,7 +59,7 @@ pub let_go_any-requires : goal.let_go_any-requires
 let_go_any-requires c = record {
   held = λ o.
       let d = c.args.definition.now in
-      omega (arith, c.in_ok-made.ensures.counted.exact o, c.object-held.ensures d c.args.engine.now.world.handlers.handlers o);
+      omega (arith, c.in-Ok.ensures.counted.exact o, c.object-held.ensures d c.args.engine.now.world.handlers.handlers o);
 }
 
 pub returns-clause-counted : goal.returns-clause-counted
@@ -62,17 +67,17 @@ returns-clause-counted c =
     let d = c.args.definition.now in
     let t = task_in d c.args.engine.now c.in-Some.task in
     given_back d c.act.new.engine c.let_go_any.new.table (λ o. in_subject o t) c.let_go_any.ensures.only
-    (λ o. omega (arith, c.let_go_any.ensures.counts o, c.object-held.ensures d c.args.engine.now.world.handlers.handlers o)) c.in_ok-made.ensures.counted
+    (λ o. omega (arith, c.let_go_any.ensures.counts o, c.object-held.ensures d c.args.engine.now.world.handlers.handlers o)) c.in-Ok.ensures.counted
 
 pub returns-clause-stepped : goal.returns-clause-stepped
 returns-clause-stepped c =
     let d = c.args.definition.now in
-    subst (λ (e : Config). Stepped (Ok c.in_ok-made.made) d (config_of d c.args.engine.now) e) (sym (config_same d c.act.new.engine c.let_go_any.new.table c.let_go_any.ensures.only))
+    subst (λ (e : Config). Stepped (Ok c.in-Ok.made) d (config_of d c.args.engine.now) e) (sym (config_same d c.act.new.engine c.let_go_any.new.table c.let_go_any.ensures.only))
     (first_stepped d c.args.engine.now.world.handlers.handlers (config_of d c.args.engine.now) (config_of d c.act.new.engine) c.requires.none c.in-Some.task c.pop.new.self (c.in-Some.ensures.tasks d c.args.engine.now.world.handlers.handlers)
-    (Ok c.in_ok-made.made) c.in_ok-made.ensures.step c.in_ok-made.ensures.made tt)
+    c.in-Ok.made c.in-Ok.ensures.step c.in-Ok.ensures.made)
 
 pub returns-clause-grows : goal.returns-clause-grows
 returns-clause-grows c =
     let d = c.args.definition.now in
     first_grows d c.args.engine.now.world.handlers.handlers (config_of d c.args.engine.now) (config_of d c.act.new.engine) c.requires.none c.in-Some.task c.pop.new.self (c.in-Some.ensures.tasks d c.args.engine.now.world.handlers.handlers)
-    (Ok c.in_ok-made.made) c.in_ok-made.ensures.step tt
+    c.in-Ok.made c.in-Ok.ensures.step

@@ -1,5 +1,4 @@
 use Rattle.std.proofs.Common.{◌≡◌, List, Some, None, ap, sym, ◌∙◌}
-use Rattle.std.proofs.lemmas.Result.{err_from_is_err_and}
 use Rattle.ui_machine.specs.State.References.{mentions, next_unheld}
 use Rattle.ui_machine.specs.State.Tasks.{Task}
 use Rattle.instances.specs.Store.{id_of, count_of}
@@ -8,7 +7,8 @@ use Rattle.engine_world.specs.EngineView.{config_of}
 use Rattle.engine_world.specs.TaskView.{agenda_of}
 use Rattle.engine_world.specs.View.{world_of}
 use Rattle.engine_world.proofs.Counts.{finds_mentioned}
-use Rattle.ui_engine.proofs.Stepping.{finalise_stepped, finalise_breaks}
+use Rattle.ui_engine.proofs.Standing.{cut_off}
+use Rattle.ui_engine.proofs.Stepping.{finalise_can, finalise_stepped}
 use Rattle.ui_engine.proofs.dispatch.runs.step.Goals as goal
 
 pub first_task-requires-clause-none : goal.first_task-requires-clause-none
@@ -18,11 +18,11 @@ first_task-requires-clause-none c =
     let none : next_unheld (count_of e.world.table.counts) e.world.table.objects ≡ None = sym c.next_unheld.ensures.found ∙ ap id_of c.in_default.is in
     sym (finds_mentioned d e c.requires.counted) ∙ none
 
-pub returns-clause-counted : goal.returns-clause-counted
-returns-clause-counted c = c.in_ok-finalise.ensures.counted.at nothing c.requires.counted
+pub returns-in-Ok-clause-counted : goal.returns-in-Ok-clause-counted
+returns-in-Ok-clause-counted c = c.in-Ok.ensures.counted.at nothing c.requires.counted
 
-pub returns-clause-stepped : goal.returns-clause-stepped
-returns-clause-stepped c =
+pub returns-in-Ok-clause-stepped : goal.returns-in-Ok-clause-stepped
+returns-in-Ok-clause-stepped c =
     let d = c.args.definition.now in
     let e = c.args.engine.now in
     let new = c.finalise.new.engine in
@@ -30,16 +30,20 @@ returns-clause-stepped c =
     let one : next_unheld (count_of e.world.table.counts) e.world.table.objects ≡ Some id = sym c.next_unheld.ensures.found ∙ ap id_of c.in-Some.is in
     let unheld : next_unheld (mentions d (config_of d e)) e.world.table.objects ≡ Some id = sym (finds_mentioned d e c.requires.counted) ∙ one in
     let rest = agenda_of d e in
-    finalise_stepped d (config_of d e) id unheld (config_of d new) (record { world = world_of new.world; agenda = rest; counted = new.counted }) (c.in_ok-finalise.ensures.step rest)
-    (ap (λ (ts : List Task). record (config_of d new) { agenda = ts }) (sym c.in_ok-finalise.ensures.agenda)) c.in_ok-finalise.ensures.counts
+    finalise_stepped d (config_of d e) id unheld (config_of d new) (record { world = world_of new.world; agenda = rest; counted = new.counted }) (c.in-Ok.ensures.step rest)
+    (ap (λ (ts : List Task). record (config_of d new) { agenda = ts }) (sym c.in-Ok.ensures.agenda)) c.in-Ok.ensures.counts
 
-pub returns-in_err-finalise-clause-stepped : goal.returns-in_err-finalise-clause-stepped
-returns-in_err-finalise-clause-stepped c =
-    let p = err_from_is_err_and c.from_residual.result c.from_residual.ensures.1 in
+pub returns-in-Err-OutOfMemory-clause-stepped : goal.returns-in-Err-OutOfMemory-clause-stepped
+returns-in-Err-OutOfMemory-clause-stepped c =
+    let d = c.args.definition.now in
+    cut_off d (config_of d c.args.engine.now) (world_of c.finalise.new.engine.world).transcript c.in-Err-OutOfMemory.ensures.quiet
+
+pub unreachable-requires : goal.unreachable-requires
+unreachable-requires c =
     let d = c.args.definition.now in
     let e = c.args.engine.now in
     let id = c.in-Some.object.0 in
     let one : next_unheld (count_of e.world.table.counts) e.world.table.objects ≡ Some id = sym c.next_unheld.ensures.found ∙ ap id_of c.in-Some.is in
     let unheld : next_unheld (mentions d (config_of d e)) e.world.table.objects ≡ Some id = sym (finds_mentioned d e c.requires.counted) ∙ one in
-    rw (p.1, p.2)
-    (finalise_breaks d (config_of d e) id unheld c.in_err-finalise.field-0.0 (world_of c.finalise.new.engine.world).transcript (c.in_err-finalise.ensures.step (agenda_of d e)) c.in_err-finalise.ensures.quiet)
+    let stuck = rw c.in-Err-Stuck.field-0-is at (c.in-Err-Stuck.ensures.step (agenda_of d e)) in
+    finalise_can d (config_of d e) id unheld c.requires.safe c.in-Err-Stuck.field-0-0 stuck
