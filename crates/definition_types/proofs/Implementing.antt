@@ -1,16 +1,11 @@
 -- The interfaces of a class, read beside tables of properties and signals.
-use Rattle.std.proofs.Common.{◌≡◌, ◌∙◌, ℕ, nat_eq, false, List, [], ◌∷◌, length, map, codes, Bool, ◌||◌, Option, option_map, Result, Ok, refl, sym, ap}
-use Rattle.std.specs.List.{list_any}
+use Rattle.std.proofs.Common.{◌≡◌, ◌∙◌, ℕ, nat_eq, false, List, [], ◌∷◌, length, map, codes, Option, option_map, Result, Ok, refl, sym, ap}
 use Rattle.serde_json.specs.Data.{Data, Items}
 use Rattle.serde_json.specs.declared.value.Value.{Value}
 use Rattle.serde_json.specs.View.{items_view}
 use Rattle.ui_machine.specs.Outcome.{◌>>=◌}
 use Rattle.ui_machine.specs.Definition.Properties.{Spec}
 use Rattle.param_specs.specs.Table.{own_of, specs_of}
-use Rattle.signal_core.specs.Sources.{declared_of, signals_of}
-use Rattle.signal_core.specs.Sources as declared
-use Rattle.signal_core.specs.SignalView.{signal_view}
-use Rattle.signal_core.specs.declared.signal.Signal.{Signal}
 use Rattle.definition_format.specs.declared.faults.SpecCause.{SpecCause}
 use Rattle.definition_format.specs.Causes.{property_cause}
 use Rattle.definition_format.specs.Refusals.{Refusal, bad_spec, refused_if}
@@ -18,10 +13,10 @@ use Rattle.definition_format.specs.Document.{under, entries_at, each, at_entry}
 use Rattle.definition_format.specs.Denoted.Entries.{TypeNames}
 use Rattle.definition_format.specs.Denoted.Overrides.{Own, own_ahead, override_cause}
 use Rattle.definition_format.specs.Denoted.Drafts.{Draft}
-use Rattle.definition_format.specs.Denoted.Brought.{is_again, own_signals_ahead}
+use Rattle.definition_format.specs.Denoted.Brought.{own_signals_ahead}
 use Rattle.definition_format.specs.Denoted.Implements as pure
 use Rattle.definition_format.specs.Denoted.Implements.{named_at, heir_with, heir_at, brings_again, check_overrides, implemented_at, implements_listed, implements_of, implements_at}
-use Rattle.definition_types.specs.OverrideView.{own_view, names_of, heir_of}
+use Rattle.definition_types.specs.OverrideView.{own_view, heir_of}
 use Rattle.definition_types.specs.declared.overrides.Heir.{Heir}
 use Rattle.definition_format.proofs.Installing.{specs_of-is}
 
@@ -32,19 +27,6 @@ pub overrides_are : (path : List ℕ) (heir : Heir) (i : ℕ) (found cause : Opt
 overrides_are path heir i found cause is h =
     ap (λ (specs : List Spec). refused_if (bad_spec path) (override_cause specs (map own_view heir.own.now.entries) (own_of heir.specs.now i))) (sym (specs_of-is heir.types.now heir.specs.now heir.parent))
     ∙ ap (refused_if (bad_spec path)) (sym h ∙ ap (option_map property_cause) is)
-
-any_map : {A B : Type 0} (test : B → Bool) (of : A → B) (xs : List A) → list_any (λ x. test (of x)) xs ≡ list_any test (map of xs)
-any_map test of [] = refl
-any_map test of (x ∷ xs) = ap (λ b. test (of x) || b) (any_map test of xs)
-
--- what an interface brings again
-pub brings_are : (heir : Heir) (i : ℕ) (implemented : List ℕ) (own : List Signal) → map signal_view own ≡ declared.own_of heir.signals.now.signals i
-    → list_any (λ s. is_again (signals_of heir.types.now heir.signals.now.signals) (names_of heir.own_signals.now.entries) (heir.parent ∷ implemented) (signal_view s)) own
-    ≡ brings_again (heir_of heir) i implemented
-unfolding declared_of
-brings_are heir i implemented own same =
-    any_map (is_again (signals_of heir.types.now heir.signals.now.signals) (names_of heir.own_signals.now.entries) (heir.parent ∷ implemented)) signal_view own
-    ∙ ap (list_any (is_again (signals_of heir.types.now heir.signals.now.signals) (names_of heir.own_signals.now.entries) (heir.parent ∷ implemented))) same
 
 module _ (path : List ℕ) (names : TypeNames) (draft : Draft) (parent : ℕ) (d : Data) where
   heir_is : (named : List ℕ) (own : List Own) (signals : List (List ℕ)) → own_ahead path draft.types names draft.own parent d ≡ Ok own → own_signals_ahead path d ≡ Ok signals

@@ -1,2 +1,4 @@
 pub mod OverrideView
 pub mod EnumDrafts
+pub mod HandlerDrafts
+pub mod ImplementDrafts

@@ -1,4 +1,4 @@
-use Rattle.std.proofs.Common.{◌≡◌, ◌∙◌, ap, sym, [], Ok, List}
+use Rattle.std.proofs.Common.{◌∙◌, ap, sym, [], Ok, List}
 use Rattle.std.proofs.lemmas.Result.{err_from_is_err_and}
 use Rattle.serde_json.specs.View.{items_view}
 use Rattle.ui_machine.specs.Definition.Types.{Member}
