@@ -6,11 +6,7 @@ use Rattle.definition_format.specs.declared.faults.ReadError.{ReadError}
 use Rattle.definition_format.specs.declared.faults.ReadError.TheVariants as errors
 use Rattle.definition_format.specs.Refusals.{Refusal, Fails, Leads, refusal}
 use Rattle.definition_format.specs.Document.{nth, each, at_entry}
-
--- what was read, as a draft has it
-abbrev pub drafted : {S T : Type 0} → (S → T) → Result S Refusal → Result T Refusal
-drafted draft (Ok s) = Ok (draft s)
-drafted draft (Err e) = Err e
+use Rattle.definition_types.specs.Drafted.{drafted}
 
 -- a part of a reading that is the same, and what follows it
 pub through : {A S T : Type 0} (draft : S → T) (r : Result A Refusal) (f : A → Result T Refusal) (g : A → Result S Refusal)
@@ -48,3 +44,7 @@ pub leads_from : {S T : Type 0} (draft : S → T) (of : T → S) → ((s : S) �
     → Leads r (drafted draft read) t → Leads r read (of t)
 leads_from draft of back (Ok u) read t h = read_from draft of back read t h
 leads_from draft of back (Err e) read t h = fails_from draft e read h
+
+pub was_read : {S T : Type 0} (draft : S → T) (r : Result S Refusal) (t : T) → drafted draft r ≡ Ok t → (s : S) × (r ≡ Ok s) × (draft s ≡ t)
+was_read draft (Ok s) t h = let same : draft s ≡ t = cc h in (s, refl, same)
+was_read draft (Err e) t h = absurd (cc h)

@@ -12,7 +12,8 @@ use Rattle.ui_machine.specs.Rules.Transform.{least, greatest, has_number}
 use Rattle.definition_format.specs.Document.{nth, each, at_entry}
 use Rattle.definition_format.specs.Denoted.Enums.{parts_at, name_at, number_at, unless_there, has_name, member_with, enum_member_at}
 use Rattle.definition_types.specs.EnumDrafts.{EnumParts, parts_of, with_member, enum_part_at}
-use Rattle.definition_types.proofs.Drafting.{drafted, through, each_drafted}
+use Rattle.definition_types.specs.Drafted.{drafted}
+use Rattle.definition_types.proofs.Drafting.{through, each_drafted}
 
 -- parts that are the same one by one
 pub same_parts : (ms ns : List Member) (a b : List ℕ → Bool) (x y : ℤ → Bool) → ms ≡ ns → ((name : List ℕ) → a name ≡ b name) → ((n : ℤ) → x n ≡ y n) →

@@ -13,7 +13,8 @@ use Rattle.definition_format.specs.Document.{each, at_entry}
 use Rattle.definition_format.specs.Denoted.Entries.{ProgramNames}
 use Rattle.definition_format.specs.Denoted.ClassHandlers.{add_handler, class_handler_in, class_handler_at}
 use Rattle.definition_types.specs.HandlerDrafts.{HandlerParts, parts_of, with_handler, handler_part_in, handler_part_at}
-use Rattle.definition_types.proofs.Drafting.{drafted, through, each_drafted}
+use Rattle.definition_types.specs.Drafted.{drafted}
+use Rattle.definition_types.proofs.Drafting.{through, each_drafted}
 
 -- the names with that of a class handler behind the others
 pub named_more : (hs : List ClassHandler) (h : ClassHandler) (name : List ℕ)

@@ -27,7 +27,9 @@ use Rattle.definition_format.specs.Denoted.Implements.{Heir, check_brought, chec
 use Rattle.definition_types.specs.ImplementDrafts.{ImplementParts, parts_of, with_interface, is_again_in, brings_again_in, check_brought_in, newly_implemented_in, implemented_once_in, implement_part_at, has_name}
 use Rattle.definition_types.specs.OverrideView.{names_of, heir_of}
 use Rattle.definition_types.specs.declared.overrides.Heir as heirs
-use Rattle.definition_types.proofs.Drafting.{drafted, through, each_drafted}
+use Rattle.definition_types.specs.Drafted.{drafted}
+use Rattle.definition_types.proofs.NamesAhead.{any_map}
+use Rattle.definition_types.proofs.Drafting.{through, each_drafted}
 
 -- ** names
 
@@ -159,15 +161,11 @@ once_added path heir i p q new brought required overridden is =
     ∙ ap (λ (r : Result (Unit {0}) Refusal). r >>= λ overridden. Ok (with_interface (signals_by (heir_of heir).types (heir_of heir).signals) i p)) overridden
     ∙ ap (λ (x : ImplementParts). Ok x) (sym is)
 
-any_map : {A B : Type 0} (test : B → Bool) (of : A → B) (xs : List A) → list_any (λ x. test (of x)) xs ≡ list_any test (map of xs)
-any_map test of [] = refl
-any_map test of (x ∷ xs) = ap (λ b. test (of x) || b) (any_map test of xs)
-
 -- what an interface brings again
 pub brings_are : (heir : heirs.Heir) (i : ℕ) (has : List ℕ → Bool) (own : List code.Signal) → map signal_view own ≡ declared.own_of heir.signals.now.signals i
-    → list_any (λ s. is_again_in (signals_of heir.types.now heir.signals.now.signals) (names_of heir.own_signals.now.entries) heir.parent has (signal_view s)) own
+    → list_any (λ s. is_again_in (signals_of heir.types.now heir.signals.now.signals) (names_of heir.own_signals.now.keys) heir.parent has (signal_view s)) own
     ≡ brings_again_in (heir_of heir) i has
 unfolding declared_of
 brings_are heir i has own same =
-    any_map (is_again_in (signals_of heir.types.now heir.signals.now.signals) (names_of heir.own_signals.now.entries) heir.parent has) signal_view own
-    ∙ ap (list_any (is_again_in (signals_of heir.types.now heir.signals.now.signals) (names_of heir.own_signals.now.entries) heir.parent has)) same
+    any_map (is_again_in (signals_of heir.types.now heir.signals.now.signals) (names_of heir.own_signals.now.keys) heir.parent has) signal_view own
+    ∙ ap (list_any (is_again_in (signals_of heir.types.now heir.signals.now.signals) (names_of heir.own_signals.now.keys) heir.parent has)) same

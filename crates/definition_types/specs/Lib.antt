@@ -2,3 +2,5 @@ pub mod OverrideView
 pub mod EnumDrafts
 pub mod HandlerDrafts
 pub mod ImplementDrafts
+pub mod Drafted
+pub mod OwnParts

@@ -142,7 +142,7 @@ fn check_overrides(part: Part<'_>, heir: &Heir<'_>, interface: TypeId) -> Result
 
 // Whether a signal of an interface has the name of one that the class's parent or one of the interfaces so far has.
 fn is_again(heir: &Heir<'_>, implemented: &ImplementDraft<'_>, signal: &Signal) -> bool
-    ensures { result ≡ is_again_in (signals_of heir.now.types.now heir.now.signals.now.signals) (names_of heir.now.own_signals.now.entries) heir.now.parent (λ name. has_name implemented.now.names name) (signal_view signal.now) }
+    ensures { result ≡ is_again_in (signals_of heir.now.types.now heir.now.signals.now.signals) (names_of heir.now.own_signals.now.keys) heir.now.parent (λ name. has_name implemented.now.names name) (signal_view signal.now) }
 {
     let name = signal.name.as_str();
     !has_own_signal(heir.own_signals, name)
@@ -151,7 +151,7 @@ fn is_again(heir: &Heir<'_>, implemented: &ImplementDraft<'_>, signal: &Signal) 
 
 // The same of one of some signals.
 fn any_again(heir: &Heir<'_>, implemented: &ImplementDraft<'_>, signals: &[Signal]) -> bool
-    ensures { result ≡ list_any (λ s. is_again_in (signals_of heir.now.types.now heir.now.signals.now.signals) (names_of heir.now.own_signals.now.entries) heir.now.parent (λ name. has_name implemented.now.names name) (signal_view s)) signals.now }
+    ensures { result ≡ list_any (λ s. is_again_in (signals_of heir.now.types.now heir.now.signals.now.signals) (names_of heir.now.own_signals.now.keys) heir.now.parent (λ name. has_name implemented.now.names name) (signal_view s)) signals.now }
 {
     signals
         .iter()
