@@ -160,6 +160,7 @@ fn read_class_handlers(
 {
     let named = names_of(list.alloc, signals.own_handlers(t))?;
     let reader = ClassHandlerEntries { programs, t };
+    // The draft has the table meanwhile. It comes back also where an entry is at fault.
     let mut draft = HandlerDraft {
         signals: mem::replace(signals, SignalTable::new(list.alloc)),
         named,
