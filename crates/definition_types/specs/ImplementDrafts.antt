@@ -29,7 +29,7 @@ parts_of signals ts = record { types = ts; has = λ name. list_any (λ t. is_som
 abbrev pub with_interface : (ℕ → List Signal) → ℕ → ImplementParts → ImplementParts
 with_interface signals i p = record { types = p.types ++ i ∷ []; has = λ name. p.has name || is_some (place_named (λ s. s.name) (signals i) name) }
 
--- whether the parent has the signal's name, or it is among the names that were brought; where the class itself declares the name, that is told there
+-- whether the parent has the signal's name, or it is among the names that were brought; a name that the class declares itself is looked at where it declares it
 abbrev pub is_again_in : (ℕ → List Signal) → List (List ℕ) → ℕ → (List ℕ → Bool) → Signal → Bool
 is_again_in signals own parent has s = not (list_any (bytes_eq s.name) own) && (is_some (number_named (signals parent) s.name) || has (canonical s.name))
 
